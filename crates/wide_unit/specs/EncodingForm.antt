@@ -1,0 +1,39 @@
+-- The encoding forms of the Unicode Standard, section 3.9: how a scalar value is written in code units.
+use Rattle.std.specs.Prelude.{◌≡◌, ◌≢◌, ℕ, ◌+◌, ◌-◌, ◌/◌, ◌%◌, ◌<◌, ◌≤◌, ◌^◌, nat_lt, if◌then◌else◌, List, [], ◌∷◌}
+use Rattle.std.specs.Char.{IsScalar}
+use Rattle.std.specs.List.{flat_map}
+
+pub data EncodingForm : Type 0 where
+  Utf16 : EncodingForm
+  Utf32 : EncodingForm
+
+-- the code unit sequence of a scalar value: in UTF-16 by Table 3-5, in UTF-32 the value itself
+abbrev pub code_units : EncodingForm → ℕ → List ℕ
+code_units Utf16 c = if nat_lt c 0x1_0000 then c ∷ [] else (0xD800 + (c - 0x1_0000) / 0x400) ∷ (0xDC00 + (c - 0x1_0000) % 0x400) ∷ []
+code_units Utf32 c = c ∷ []
+
+-- the code unit sequence of a list of scalar values
+abbrev pub encode : EncodingForm → List ℕ → List ℕ
+encode form cs = flat_map (code_units form) cs
+
+-- the numbers that code units are
+abbrev pub IsCodeUnit : EncodingForm → ℕ → Type 0
+IsCodeUnit Utf16 u = u < 2 ^ 16
+IsCodeUnit Utf32 u = u < 2 ^ 32
+
+-- the surrogate code units (section 3.8), of which UTF-32 has none
+abbrev pub IsHighSurrogate : EncodingForm → ℕ → Type 0
+IsHighSurrogate Utf16 u = (0xD800 ≤ u) × (u ≤ 0xDBFF)
+IsHighSurrogate Utf32 u = ⊥
+
+abbrev pub IsLowSurrogate : EncodingForm → ℕ → Type 0
+IsLowSurrogate Utf16 u = (0xDC00 ≤ u) × (u ≤ 0xDFFF)
+IsLowSurrogate Utf32 u = ⊥
+
+-- the unit alone is the code unit sequence of no scalar value
+abbrev pub IsFault : EncodingForm → ℕ → Type 0
+IsFault form u = (c : ℕ) → IsScalar c → code_units form c ≢ u ∷ []
+
+-- the two units are the code unit sequence of a scalar value
+abbrev pub IsPair : EncodingForm → ℕ → ℕ → Type 0
+IsPair form h l = (c : ℕ) × IsScalar c × (code_units form c ≡ h ∷ l ∷ [])

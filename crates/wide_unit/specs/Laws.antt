@@ -1,0 +1,6 @@
+-- Proofs that contracts and definitions of this crate cite, and the laws that crates above cite.
+pub mod Forms
+pub mod Chains
+pub mod Items
+pub mod Ends
+pub mod Boundaries

@@ -1,0 +1,55 @@
+-- The laws of the definitions, each the contract of a function of the crate.
+use Rattle.std.specs.Prelude.{◌≡◌, ◌≢◌, ℕ, ◌+◌, ◌<◌, ◌≤◌, ◌↔◌, ◌⊎◌, List, [], ◌∷◌, ◌++◌, map, length, slice_index}
+use Rattle.std.specs.Char.{IsScalar, encode_utf8}
+use Rattle.std.specs.List.{All}
+use Rattle.wide_unit.specs.EncodingForm.{EncodingForm, Utf16, Utf32, encode, IsCodeUnit, IsLowSurrogate}
+use Rattle.wide_unit.specs.Segmentation.{Item, Char, Fault, IsSegmentation, IsSegmentation16, IsSegmentation32, IsLooseSegmentation}
+use Rattle.wide_unit.specs.Items.{items, chars, IsWellFormed, IsBoundary, IsFirstFault}
+use Rattle.wide_unit.specs.Utf8.{utf8_bytes}
+
+-- each list of units has a segmentation, which is `items`
+abbrev pub SegmentationExists : Type 0
+SegmentationExists = (form : EncodingForm) (units : List ℕ) → IsSegmentation form (items form units) units
+
+-- and no other
+abbrev pub SegmentationIsUnique : Type 0
+SegmentationIsUnique = (form : EncodingForm) (units : List ℕ) (other : List Item) → IsSegmentation form other units → other ≡ items form units
+
+-- on code units a segmentation is one in the standard's own words
+abbrev pub SegmentationIsLiteral16 : Type 0
+SegmentationIsLiteral16 = (is : List Item) (units : List ℕ) → All (IsCodeUnit Utf16) units → IsSegmentation Utf16 is units ↔ IsSegmentation16 is units
+
+abbrev pub SegmentationIsLiteral32 : Type 0
+SegmentationIsLiteral32 = (is : List Item) (units : List ℕ) → IsSegmentation Utf32 is units ↔ IsSegmentation32 is units
+
+-- without the clause on neighbouring faults, one pair of surrogates has two
+abbrev pub LooseSegmentationsDiffer : Type 0
+LooseSegmentationsDiffer =
+    (one other : List Item) × IsLooseSegmentation Utf16 one (0xD83D ∷ 0xDE00 ∷ []) × IsLooseSegmentation Utf16 other (0xD83D ∷ 0xDE00 ∷ []) × (one ≢ other)
+
+-- the items of joined lists are the joined items, where the first or the second is well formed
+abbrev pub ItemsJoinAfter : Type 0
+ItemsJoinAfter = (form : EncodingForm) (a b : List ℕ) → IsWellFormed form a → items form (a ++ b) ≡ items form a ++ items form b
+
+abbrev pub ItemsJoinBefore : Type 0
+ItemsJoinBefore = (form : EncodingForm) (a b : List ℕ) → IsWellFormed form b → items form (a ++ b) ≡ items form a ++ items form b
+
+-- the encoding of characters is well formed, and decodes to them
+abbrev pub EncodingIsWellFormed : Type 0
+EncodingIsWellFormed = (form : EncodingForm) (cs : List ℕ) → All IsScalar cs → IsWellFormed form (encode form cs)
+
+abbrev pub EncodingDecodes : Type 0
+EncodingDecodes = (form : EncodingForm) (cs : List ℕ) → All IsScalar cs → items form (encode form cs) ≡ map Char cs
+
+-- in well-formed units a place is a boundary exactly where it is the end, or no low surrogate stands there
+abbrev pub BoundariesAreSeen : Type 0
+BoundariesAreSeen = (form : EncodingForm) (us : List ℕ) (place : ℕ) → IsWellFormed form us → place ≤ length us
+    → IsBoundary form us place ↔ ((place ≡ length us) ⊎ (¬ (IsLowSurrogate form (slice_index us place))))
+
+-- well-formed units are equal exactly where their characters are
+abbrev pub EqualCharacters : Type 0
+EqualCharacters = (form : EncodingForm) (us vs : List ℕ) → IsWellFormed form us → IsWellFormed form vs → (us ≡ vs) ↔ (chars form us ≡ chars form vs)
+
+-- the bytes of Table 3-6 are those that std writes
+abbrev pub Utf8IsStds : Type 0
+Utf8IsStds = (c : ℕ) → utf8_bytes c ≡ encode_utf8 c

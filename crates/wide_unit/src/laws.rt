@@ -1,0 +1,65 @@
+//! The laws of segmentation and encoding. Each is a function that does nothing, whose contract is the law.
+ghost use Rattle.std.specs.Prelude.{◌≡◌, ◌∷◌, []};
+ghost use Rattle.wide_unit.specs.EncodingForm.{Utf16, Utf32};
+ghost use Rattle.wide_unit.specs.Segmentation.{Char, Fault};
+ghost use Rattle.wide_unit.specs.Items.{items, IsFirstFault};
+ghost use Rattle.wide_unit.specs.Statements.{SegmentationExists, SegmentationIsUnique, SegmentationIsLiteral16, SegmentationIsLiteral32, LooseSegmentationsDiffer, ItemsJoinAfter, ItemsJoinBefore, EncodingIsWellFormed, EncodingDecodes, BoundariesAreSeen, EqualCharacters, Utf8IsStds};
+
+/// Each list of code units has exactly one segmentation (Unicode Standard, section 3.9).
+pub fn one_segmentation()
+    ensures exists { SegmentationExists }
+    ensures unique { SegmentationIsUnique }
+{}
+
+/// On code units a segmentation is one in the standard's own words: in UTF-16 its faults are
+/// surrogates of which no high one stands right before a low one, in UTF-32 they are no scalar values.
+pub fn segmentations_by_form()
+    ensures utf16 { SegmentationIsLiteral16 }
+    ensures utf32 { SegmentationIsLiteral32 }
+{}
+
+/// The clause on neighbouring faults is needed: without it a surrogate pair has two segmentations.
+pub fn neighbours_matter()
+    ensures { LooseSegmentationsDiffer }
+{}
+
+/// The items of joined lists are the joined items, where one of the two is well formed.
+pub fn joined_items()
+    ensures after { ItemsJoinAfter }
+    ensures before { ItemsJoinBefore }
+{}
+
+/// The encoding of characters is well formed and decodes to them.
+pub fn encoded_characters()
+    ensures well_formed { EncodingIsWellFormed }
+    ensures decodes { EncodingDecodes }
+{}
+
+/// In well-formed units a place is a boundary exactly where it is the end, or no low surrogate stands there.
+pub fn boundaries()
+    ensures { BoundariesAreSeen }
+{}
+
+/// Well-formed units are equal exactly where their characters are.
+pub fn equal_characters()
+    ensures { EqualCharacters }
+{}
+
+/// The UTF-8 bytes of Table 3-6 are those that the standard library writes.
+pub fn utf8_of_characters()
+    ensures { Utf8IsStds }
+{}
+
+/// Worked lists: what the definitions say of a pair, of a pair the wrong way round, of no units, and of
+/// 32-bit units that look like a pair.
+pub fn worked_items()
+    ensures pair { items Utf16 (0xD83D ∷ 0xDE00 ∷ []) ≡ Char 0x1_F600 ∷ [] }
+    ensures reversed { items Utf16 (0xDE00 ∷ 0xD83D ∷ []) ≡ Fault 0xDE00 ∷ Fault 0xD83D ∷ [] }
+    ensures empty { items Utf16 [] ≡ [] }
+    ensures utf32 { items Utf32 (0xD800 ∷ 0xDC00 ∷ 0x11_0000 ∷ 0x10_FFFF ∷ []) ≡ Fault 0xD800 ∷ Fault 0xDC00 ∷ Fault 0x11_0000 ∷ Char 0x10_FFFF ∷ [] }
+{}
+
+/// The index of a first fault counts units: a pair before it counts twice.
+pub fn worked_fault()
+    ensures { IsFirstFault Utf16 (0xD83D ∷ 0xDE00 ∷ 0xD800 ∷ []) 2 0xD800 }
+{}

@@ -1,0 +1,11 @@
+//! Code units of UTF-16 and UTF-32, and what a list of them means.
+//!
+//! `specs/` has the definitions of the Unicode Standard, chapter 3, that the whole library speaks of: encoding
+//! forms, the one segmentation of a list of units into characters and faults, well-formed units. The functions of
+//! [`laws`] have the laws of these definitions as their contracts.
+#![tactic(auto)]
+
+pub mod laws;
+mod unit;
+
+pub use unit::Unit;

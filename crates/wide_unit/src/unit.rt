@@ -1,0 +1,191 @@
+//! The code units of UTF-16 and of UTF-32.
+ghost use Rattle.std.specs.Prelude.{◌≡◌, ◌≢◌, ℕ, ◌↔◌, ◌∷◌, [], List, IsTrue, MatchOption, length, refl};
+ghost use Rattle.std.specs.Char.{IsScalar};
+ghost use Rattle.wide_unit.specs.EncodingForm.{EncodingForm, Utf16, Utf32, code_units, IsFault, IsPair, IsCodeUnit, IsHighSurrogate, IsLowSurrogate};
+ghost use Rattle.wide_unit.specs.Segmentation.{Item, Char, IsSegmentation};
+ghost use Rattle.wide_unit.specs.Items.{items};
+ghost use Rattle.wide_unit.specs.Unit.{numbers_of};
+ghost use Rattle.wide_unit.specs.Laws.Forms.{code_units-no_low_first};
+ghost use Rattle.wide_unit.specs.Laws.Items.{items-code_units, segmentation-unique};
+
+/// A code unit: `u16` for UTF-16, `u32` for UTF-32 (Unicode Standard, section 3.9).
+///
+/// The trait is this port's own. No call takes memory or fails.
+pub trait Unit: Copy {
+    // The encoding form whose units these are.
+    ghost form: { EncodingForm };
+
+    // The number that a unit is.
+    ghost number: { Self → ℕ };
+
+    ghost NUL: { Self };
+
+    /// The unit whose number is 0.
+    const NUL: Self;
+
+    /// How many units the character takes: 1 or 2 in UTF-16, 1 in UTF-32.
+    fn char_len(c: char) -> usize
+        ensures { result ≡ length (code_units form c) };
+
+    /// The character's first unit, and its second where it has one.
+    fn encode_char(c: char) -> (Self, Option<Self>)
+        ensures { numbers_of number result.0 result.1 ≡ code_units form c };
+
+    /// Whether the unit is a high surrogate, D800 to DBFF. No 32-bit unit is.
+    fn is_high(self) -> bool
+        ensures { IsTrue result ↔ IsHighSurrogate form (number self) };
+
+    /// Whether the unit is a low surrogate, DC00 to DFFF. No 32-bit unit is.
+    fn is_low(self) -> bool
+        ensures { IsTrue result ↔ IsLowSurrogate form (number self) };
+
+    /// The character that the unit alone is, where there is one.
+    fn as_scalar(self) -> Option<char>
+        ensures { MatchOption result (IsFault form (number self)) (λ c. IsScalar c × (code_units form c ≡ number self ∷ [])) };
+
+    /// The character that the unit and the one after it are, where they are a surrogate pair.
+    fn pair_scalar(self, low: Self) -> Option<char>
+        ensures { MatchOption result (¬ (IsPair form (number self) (number low))) (λ c. IsScalar c × (code_units form c ≡ number self ∷ number low ∷ [])) };
+
+    /// True of every unit: calling it tells a contract that the number is at most FFFF, or FFFFFFFF in UTF-32.
+    fn in_range(self) -> bool
+        ensures answer { IsTrue result }
+        ensures range { IsCodeUnit form (number self) };
+
+    // NUL is the number 0.
+    ghost nul_is_zero: { number NUL ≡ 0 };
+
+    // Equal numbers are equal units.
+    ghost same: { (x y : Self) → number x ≡ number y → x ≡ y };
+
+    // A character's units read back as that character alone.
+    ghost reads_back: { (c : ℕ) → IsScalar c → items form (code_units form c) ≡ Char c ∷ [] };
+
+    // A list of units has one segmentation.
+    ghost one_segmentation: { (is js : List Item) (us : List ℕ) → IsSegmentation form is us → IsSegmentation form js us → is ≡ js };
+
+    // No character begins with a low surrogate.
+    ghost no_low_first: { (c l : ℕ) (rest : List ℕ) → IsScalar c → IsLowSurrogate form l → code_units form c ≢ l ∷ rest };
+}
+
+impl Unit for u16 {
+    ghost form = { Utf16 };
+
+    ghost number = { λ u. u };
+
+    ghost NUL = { 0 };
+
+    ghost nul_is_zero = { refl };
+
+    ghost same = { λ x y e. e };
+
+    ghost reads_back = { items-code_units Utf16 };
+
+    ghost one_segmentation = { segmentation-unique Utf16 };
+
+    ghost no_low_first = { code_units-no_low_first Utf16 };
+
+    const NUL: u16 = 0;
+
+    #[inline]
+    fn char_len(c: char) -> usize {
+        if (c as u32) < 0x1_0000 { 1 } else { 2 }
+    }
+
+    #[inline]
+    fn encode_char(c: char) -> (u16, Option<u16>) {
+        let code = c as u32;
+        if code < 0x1_0000 {
+            return (code as u16, None);
+        }
+        let over = code - 0x1_0000;
+        (
+            (0xD800 + over / 0x400) as u16,
+            Some((0xDC00 + over % 0x400) as u16),
+        )
+    }
+
+    #[inline]
+    fn is_high(self) -> bool {
+        0xD800 <= self && self <= 0xDBFF
+    }
+
+    #[inline]
+    fn is_low(self) -> bool {
+        0xDC00 <= self && self <= 0xDFFF
+    }
+
+    #[inline]
+    fn as_scalar(self) -> Option<char> {
+        char::from_u32(self as u32)
+    }
+
+    #[inline]
+    fn pair_scalar(self, low: u16) -> Option<char> {
+        if self.is_high() && low.is_low() {
+            let over = (self as u32 - 0xD800) * 0x400 + (low as u32 - 0xDC00);
+            return char::from_u32(0x1_0000 + over);
+        }
+        None
+    }
+
+    #[inline]
+    fn in_range(self) -> bool {
+        true
+    }
+}
+
+impl Unit for u32 {
+    ghost form = { Utf32 };
+
+    ghost number = { λ u. u };
+
+    ghost NUL = { 0 };
+
+    ghost nul_is_zero = { refl };
+
+    ghost same = { λ x y e. e };
+
+    ghost reads_back = { items-code_units Utf32 };
+
+    ghost one_segmentation = { segmentation-unique Utf32 };
+
+    ghost no_low_first = { code_units-no_low_first Utf32 };
+
+    const NUL: u32 = 0;
+
+    #[inline]
+    fn char_len(_c: char) -> usize {
+        1
+    }
+
+    #[inline]
+    fn encode_char(c: char) -> (u32, Option<u32>) {
+        (c as u32, None)
+    }
+
+    #[inline]
+    fn is_high(self) -> bool {
+        false
+    }
+
+    #[inline]
+    fn is_low(self) -> bool {
+        false
+    }
+
+    #[inline]
+    fn as_scalar(self) -> Option<char> {
+        char::from_u32(self)
+    }
+
+    #[inline]
+    fn pair_scalar(self, _low: u32) -> Option<char> {
+        None
+    }
+
+    #[inline]
+    fn in_range(self) -> bool {
+        true
+    }
+}
