@@ -11,3 +11,7 @@ numbers_of number u (Some v) = number u ∷ number v ∷ []
 abbrev pub item_of : {C : Type 0} → (C → ℕ) → Result ℕ C → Item
 item_of number (Ok c) = Char c
 item_of number (Err u) = Fault (number u)
+
+-- the item of an answer that tells a fault by its number
+abbrev pub told_item : Result ℕ ℕ → Item
+told_item r = item_of (λ u. u) r

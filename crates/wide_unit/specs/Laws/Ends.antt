@@ -120,3 +120,23 @@ items-back_high form us u high = items-back_fault form us u (IsFault-high form u
 
 pub items-back_low : (form : EncodingForm) (us : List ℕ) (u : ℕ) → IsLowSurrogate form u → ((front : List ℕ) (h : ℕ) → us ≡ front ++ h ∷ [] → ¬ (IsHighSurrogate form h)) → items form (us ++ u ∷ []) ≡ items form us ++ Fault u ∷ []
 items-back_low form us u low apart = items-back_fault form us u (IsFault-low form u low) (λ front h e pair. apart front h e (IsPair-parts form h u pair).0)
+
+-- What a decoder takes, by the first one or two units to come, or by the last: the items of `us` by those of the `rest`.
+module _ (form : EncodingForm) (us rest : List ℕ) where
+  pub items-first_char : (u c : ℕ) → us ≡ u ∷ rest → IsScalar c → code_units form c ≡ u ∷ [] → items form us ≡ Char c ∷ items form rest
+  items-first_char u c split hc e = ap (λ xs. items form xs) (split ∙ ap (λ xs. xs ++ rest) (sym e)) ∙ items-front_char form c rest hc
+
+  pub items-first_pair : (h l c : ℕ) → us ≡ h ∷ l ∷ rest → IsScalar c → code_units form c ≡ h ∷ l ∷ [] → items form us ≡ Char c ∷ items form rest
+  items-first_pair h l c split hc e = ap (λ xs. items form xs) (split ∙ ap (λ xs. xs ++ rest) (sym e)) ∙ items-front_char form c rest hc
+
+  pub items-first_fault : (u : ℕ) → us ≡ u ∷ rest → IsFault form u → ((l : ℕ) (back : List ℕ) → rest ≡ l ∷ back → ¬ (IsPair form u l)) → items form us ≡ Fault u ∷ items form rest
+  items-first_fault u split hu apart = ap (λ xs. items form xs) split ∙ items-front_fault form u rest hu apart
+
+  pub items-last_char : (u c : ℕ) → us ≡ rest ++ u ∷ [] → IsScalar c → code_units form c ≡ u ∷ [] → items form us ≡ items form rest ++ Char c ∷ []
+  items-last_char u c split hc e = ap (λ xs. items form xs) (split ∙ ap (λ xs. rest ++ xs) (sym e)) ∙ items-back_char form rest c hc
+
+  pub items-last_pair : (h l c : ℕ) → us ≡ rest ++ h ∷ l ∷ [] → IsScalar c → code_units form c ≡ h ∷ l ∷ [] → items form us ≡ items form rest ++ Char c ∷ []
+  items-last_pair h l c split hc e = ap (λ xs. items form xs) (split ∙ ap (λ xs. rest ++ xs) (sym e)) ∙ items-back_char form rest c hc
+
+  pub items-last_fault : (u : ℕ) → us ≡ rest ++ u ∷ [] → IsFault form u → ((front : List ℕ) (h : ℕ) → rest ≡ front ++ h ∷ [] → ¬ (IsPair form h u)) → items form us ≡ items form rest ++ Fault u ∷ []
+  items-last_fault u split hu apart = ap (λ xs. items form xs) split ∙ items-back_fault form rest u hu apart

@@ -1,0 +1,151 @@
+//! The decoder of UTF-16.
+ghost use Rattle.std.specs.Prelude.{◌≡◌, ◌≤◌, ◌/◌, ℕ, List, IfNone, None};
+ghost use Rattle.std.specs.Iterator.{MakesProgress};
+ghost use Rattle.wide_unit.specs.EncodingForm.{Utf16};
+ghost use Rattle.wide_unit.specs.Items.{items};
+ghost use Rattle.wide_unit.specs.Unit.{told_item};
+ghost use Rattle.wide_iter.specs.Over.{FirstOver, LastOver, IsUnit16};
+ghost use Rattle.wide_iter.specs.Decoder16.{source_of, front_hand, back_hand, units_left, items_left, CanAsk, decoder_count, IsSpent, IsNew, held, upper_with};
+
+use wide_error::DecodeUtf16Error;
+use wide_unit::Unit;
+
+/// An iterator over the characters of UTF-16 units, and over the units that belong to none
+/// (Unicode Standard, section 3.9).
+///
+/// It gives each character of the source as `Ok`, and each unpaired surrogate as an `Err` that has the unit, from
+/// both ends where the source has both. It stays ended, and asks a source that has ended no more. It takes no memory.
+/// Made by [`decode_utf16`].
+#[derive(Debug, Drop)]
+pub struct DecodeUtf16<I> {
+    source: I,
+    // Whether the source has answered its end.
+    ended: bool,
+    // A unit that was read to look past a surrogate, at each end.
+    front: Option<u16>,
+    back: Option<u16>,
+}
+
+/// A decoder of the units that `units` gives.
+pub fn decode_utf16<U: IntoIterator<Item = u16>>(units: U) -> DecodeUtf16<U::IntoIter>
+    ensures source { U.into_iter_gives units (source_of result) }
+    ensures new { IsNew result }
+    ensures items { (rest : U.IntoIter → List ℕ) → items_left rest result ≡ items Utf16 (rest (source_of result)) }
+{
+    DecodeUtf16 {
+        source: units.into_iter(),
+        ended: false,
+        front: None,
+        back: None,
+    }
+}
+
+impl<I> DecodeUtf16<I> {
+    // How many units are in hand.
+    fn held(&self) -> usize
+        ensures value { result ≡ held self.now }
+        ensures bound { result ≤ 2 }
+    {
+        usize::from(self.front.is_some()) + usize::from(self.back.is_some())
+    }
+}
+
+impl<I: Iterator<Item = u16>> DecodeUtf16<I> {
+    // The first unit to come.
+    fn take_front(&mut self) -> Option<u16>
+        requires { CanAsk I.can_next self.old }
+        ensures steps { FirstOver IsUnit16 I.next_gives (λ u. u) units_left self.old result self.new }
+        ensures goes { MakesProgress (CanAsk I.can_next) (decoder_count I.remaining) self.old result self.new }
+        ensures hand { front_hand self.new ≡ None }
+        ensures ends { IfNone result (IsSpent self.new) }
+    {
+        if let Some(unit) = self.front.take() {
+            return Some(unit);
+        }
+        if !self.ended {
+            if let Some(unit) = self.source.next() {
+                return Some(unit);
+            }
+            self.ended = true;
+        }
+        self.back.take()
+    }
+}
+
+impl<I: DoubleEndedIterator<Item = u16>> DecodeUtf16<I> {
+    // The last unit to come.
+    fn take_back(&mut self) -> Option<u16>
+        requires { CanAsk I.can_next_back self.old }
+        ensures steps { LastOver IsUnit16 I.next_back_gives (λ u. u) units_left self.old result self.new }
+        ensures goes { MakesProgress (CanAsk I.can_next_back) (decoder_count I.remaining) self.old result self.new }
+        ensures hand { back_hand self.new ≡ None }
+        ensures ends { IfNone result (IsSpent self.new) }
+    {
+        if let Some(unit) = self.back.take() {
+            return Some(unit);
+        }
+        if !self.ended {
+            if let Some(unit) = self.source.next_back() {
+                return Some(unit);
+            }
+            self.ended = true;
+        }
+        self.front.take()
+    }
+}
+
+impl<I: Iterator<Item = u16>> Iterator for DecodeUtf16<I> {
+    type Item = Result<char, DecodeUtf16Error>;
+
+    ghost can_next = { CanAsk I.can_next };
+
+    ghost next_gives = { FirstOver IsUnit16 I.next_gives told_item items_left };
+
+    ghost remaining = { decoder_count I.remaining };
+
+    #[inline]
+    fn next(&mut self) -> Option<Result<char, DecodeUtf16Error>> {
+        let first = self.take_front()?;
+        if let Some(c) = first.as_scalar() {
+            return Some(Ok(c));
+        }
+        // A low surrogate is a fault whatever follows it.
+        if !first.is_high() {
+            return Some(Err(DecodeUtf16Error::new(first)));
+        }
+        let Some(second) = self.take_front() else {
+            return Some(Err(DecodeUtf16Error::new(first)));
+        };
+        if let Some(c) = first.pair_scalar(second) {
+            return Some(Ok(c));
+        }
+        self.front = Some(second);
+        Some(Err(DecodeUtf16Error::new(first)))
+    }
+}
+
+impl<I: DoubleEndedIterator<Item = u16>> DoubleEndedIterator for DecodeUtf16<I> {
+    ghost can_next_back = { CanAsk I.can_next_back };
+
+    ghost next_back_gives = { LastOver IsUnit16 I.next_back_gives told_item items_left };
+
+    #[inline]
+    fn next_back(&mut self) -> Option<Result<char, DecodeUtf16Error>> {
+        let last = self.take_back()?;
+        if let Some(c) = last.as_scalar() {
+            return Some(Ok(c));
+        }
+        // A high surrogate is a fault whatever stands before it.
+        if !last.is_low() {
+            return Some(Err(DecodeUtf16Error::new(last)));
+        }
+        let Some(before) = self.take_back() else {
+            return Some(Err(DecodeUtf16Error::new(last)));
+        };
+        if let Some(c) = before.pair_scalar(last) {
+            return Some(Ok(c));
+        }
+        self.back = Some(before);
+        Some(Err(DecodeUtf16Error::new(last)))
+    }
+}
