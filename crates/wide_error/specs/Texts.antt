@@ -1,0 +1,19 @@
+-- What `{}` prints of each error: a unit in lower-case hexadecimal and an index in decimal, neither padded.
+use Rattle.std.specs.Prelude.{ℕ, List, ◌++◌, codes, false}
+use Rattle.std.specs.Fmt.{digits, decimal}
+use Rattle.wide_error.specs.declared.error.TranscodeError.{TranscodeError}
+use Rattle.wide_error.specs.declared.error.TranscodeError.TheVariants.{Utf16, OutOfMemory, OddLength, Read, Write}
+
+abbrev pub unpaired_surrogate_text : ℕ → List ℕ
+unpaired_surrogate_text unit = codes "unpaired surrogate found: " ++ digits 16 false unit
+
+abbrev pub out_of_memory_text : List ℕ
+out_of_memory_text = codes "out of memory"
+
+abbrev pub transcode_error_text : TranscodeError → List ℕ
+transcode_error_text (Utf16 index unit) =
+    codes "unpaired UTF-16 surrogate " ++ (digits 16 false unit ++ (codes " at index " ++ decimal index))
+transcode_error_text OutOfMemory = out_of_memory_text
+transcode_error_text OddLength = codes "file not encoded as UTF-16"
+transcode_error_text Read = codes "read fault"
+transcode_error_text Write = codes "write fault"
