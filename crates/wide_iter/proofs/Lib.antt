@@ -1,2 +1,5 @@
 pub mod Steps
 pub mod Hands
+pub mod Sources
+pub mod Turns
+pub mod Runs

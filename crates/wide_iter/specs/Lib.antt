@@ -1,2 +1,3 @@
+pub mod Answers
 pub mod Over
 pub mod Decoder16

@@ -2,5 +2,7 @@
 #![tactic(auto)]
 
 mod decode16;
+mod ends;
 
 pub use decode16::{DecodeUtf16, decode_utf16};
+pub use ends::{End, read_ends16};

@@ -1,0 +1,13 @@
+-- What calls from both ends of a list are answered.
+use Rattle.std.specs.Prelude.{ℕ, ◌+◌, ◌-◌, nat_lt, List, [], ◌∷◌, length, slice_get, Option, None, if◌then◌else◌}
+use Rattle.wide_iter.specs.declared.ends.End.{End}
+use Rattle.wide_iter.specs.declared.ends.End.TheVariants.{Front, Back}
+
+-- After `f` calls from the front and `k` from the back: a call that as many or more calls precede as the list is long is answered none.
+abbrev pub answers_after : {A : Type 0} → List A → ℕ → ℕ → List End → List (Option A)
+answers_after l f k [] = []
+answers_after l f k (Front ∷ ends) = (if nat_lt (f + k) (length l) then slice_get l f else None) ∷ answers_after l (f + 1) k ends
+answers_after l f k (Back ∷ ends) = (if nat_lt (f + k) (length l) then slice_get l (length l - 1 - k) else None) ∷ answers_after l f (k + 1) ends
+
+abbrev pub answers : {A : Type 0} → List A → List End → List (Option A)
+answers l ends = answers_after l 0 0 ends

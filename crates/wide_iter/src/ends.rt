@@ -1,0 +1,43 @@
+//! Reading from both ends, by a list of calls.
+ghost use Rattle.std.specs.Prelude.{◌≡◌, map, IfOk};
+ghost use Rattle.std.specs.Option.{option_map};
+ghost use Rattle.wide_unit.specs.EncodingForm.{Utf16};
+ghost use Rattle.wide_unit.specs.Items.{items};
+ghost use Rattle.wide_unit.specs.Unit.{told_item};
+ghost use Rattle.wide_iter.specs.Answers.{answers};
+
+use crate::decode16::decode_utf16;
+use std::alloc::Allocator;
+use wide_error::{DecodeUtf16Error, OutOfMemory};
+
+/// An end of a list that an item is asked of.
+#[derive(Clone, Copy, Debug, PartialEq, Eq)]
+pub enum End {
+    /// The first item that is left.
+    Front,
+    /// The last item that is left.
+    Back,
+}
+
+/// What a decoder of `units` answers to the calls of `ends`, one answer for each call, in order
+/// (Unicode Standard, section 3.9).
+///
+/// Memory for the answers is asked for once; where it is refused, the answer is [`OutOfMemory`].
+pub fn read_ends16<A: Allocator>(
+    alloc: A,
+    units: &[u16],
+    ends: &[End],
+) -> Result<Vec<Option<Result<char, DecodeUtf16Error>>, A>, OutOfMemory>
+    ensures { IfOk result (λ v. map (option_map told_item) v.items ≡ answers (items Utf16 units.now) ends.now) }
+{
+    let mut given = Vec::with_capacity(alloc, ends.len())?;
+    let mut decoder = decode_utf16(units.iter().copied());
+    for end in ends {
+        let answer = match end {
+            End::Front => decoder.next(),
+            End::Back => decoder.next_back(),
+        };
+        given.push(answer)?;
+    }
+    Ok(given)
+}
