@@ -4,3 +4,4 @@ pub mod Chains
 pub mod Items
 pub mod Ends
 pub mod Boundaries
+pub mod Utf8
