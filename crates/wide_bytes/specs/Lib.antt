@@ -1,2 +1,5 @@
 pub mod Bytes
+pub mod Devices
+pub mod FromRead
+pub mod FromWrite
 pub mod UnitsOfBytes
