@@ -2,7 +2,9 @@
 #![tactic(auto)]
 
 mod devices;
+mod fault;
 mod laws;
+mod moving;
 mod order;
 mod units;
 
