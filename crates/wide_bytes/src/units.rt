@@ -1,0 +1,92 @@
+//! The UTF-16 code units of bytes, read one by one.
+
+ghost use Rattle.std.specs.Prelude.{◌≡◌, ◌-◌, [], ◌∷◌, length, take, nat_eq, if◌then◌else◌};
+ghost use Rattle.std.specs.List.{ends_with};
+ghost use Rattle.wide_bytes.specs.Bytes.{unit_in, units_of_bytes, without_mark};
+ghost use Rattle.wide_bytes.specs.UnitsOfBytes.{units_left};
+
+use super::order::{BoM, byte_order};
+
+/// The code units of the whole pairs of `bytes`.
+#[derive(Clone, Copy, Debug)]
+pub(crate) struct UnitsOfBytes<'a> {
+    order: BoM,
+    bytes: &'a [u8],
+}
+
+// The code unit of two bytes.
+#[inline(always)]
+fn unit_in(order: BoM, first: u8, second: u8) -> u16
+    ensures { result ≡ unit_in order first second }
+{
+    let (first, second) = (u16::from(first), u16::from(second));
+    match order {
+        BoM::Little => first + 0x100 * second,
+        BoM::Big => 0x100 * first + second,
+    }
+}
+
+impl Iterator for UnitsOfBytes<'_> {
+    ghost use Rattle.std.specs.Iterator.{YieldsFirst, item_count};
+
+    type Item = u16;
+
+    ghost next_gives = { YieldsFirst units_left };
+
+    ghost remaining = { item_count units_left };
+
+    #[inline(always)]
+    fn next(&mut self) -> Option<u16> {
+        let [first, second, rest @ ..] = self.bytes else {
+            return None;
+        };
+        let unit = unit_in(self.order, *first, *second);
+        self.bytes = rest;
+        Some(unit)
+    }
+
+    fn size_hint(&self) -> (usize, Option<usize>) {
+        let len = self.bytes.len() / 2;
+        (len, Some(len))
+    }
+}
+
+// The bytes behind the mark.
+fn without_mark(bytes: &[u8]) -> &[u8]
+    ensures { result.now ≡ without_mark bytes.now }
+{
+    if byte_order(bytes).is_some() {
+        &bytes[2..]
+    } else {
+        bytes
+    }
+}
+
+// The bytes before two last zeros.
+fn without_zero_pair(bytes: &[u8]) -> &[u8]
+    ensures { result.now ≡ (if ends_with nat_eq bytes.now (0 ∷ 0 ∷ []) then take (length bytes.now - 2) bytes.now else bytes.now) }
+{
+    if bytes.ends_with(&[0, 0]) {
+        &bytes[..bytes.len() - 2]
+    } else {
+        bytes
+    }
+}
+
+/// The code units that `bytes` mean: without the mark, and where the number of bytes is even without one last zero unit.
+pub(crate) fn units(bytes: &[u8]) -> UnitsOfBytes<'_>
+    ensures { units_left result ≡ units_of_bytes bytes.now }
+{
+    let order = byte_order(bytes).unwrap_or(BoM::Little);
+    let pairs = without_mark(bytes);
+    if bytes.len() % 2 == 0 {
+        return UnitsOfBytes {
+            order,
+            bytes: without_zero_pair(pairs),
+        };
+    }
+    UnitsOfBytes {
+        order,
+        bytes: pairs,
+    }
+}
