@@ -1,5 +1,5 @@
 -- The code units of pairs of bytes, from the front and at the end.
-use Rattle.std.proofs.Common.{◌≡◌, ◌≢◌, ℕ, zero, suc, ◌+◌, ◌-◌, ◌*◌, ◌/◌, ◌%◌, ◌<◌, ◌≤◌, true, false, eqb, cond, List, [], ◌∷◌, ◌++◌, length, get_or, take, drop, refl, sym, ap, ◌∙◌, subst, arith, length-append, length-take-le, drop-cons, ne_eqb}
+use Rattle.std.proofs.Common.{◌≡◌, ◌≢◌, ℕ, zero, suc, ◌+◌, ◌-◌, ◌*◌, ◌/◌, ◌%◌, ◌<◌, ◌≤◌, true, false, eqb, cond, List, [], ◌∷◌, ◌++◌, length, get_or, take, drop, refl, sym, ap, ◌∙◌, subst, arith, length-append, length-drop, length-take-le, drop-cons, ne_eqb}
 use Rattle.std.proofs.Math.Seq.{drop-append_seam, take-append_seam}
 use Rattle.std.proofs.lemmas.List.{take-append-drop, drop_all, take_all}
 use Rattle.std.specs.Prelude.{nat_eq, ◌&&◌, is_some}
@@ -116,3 +116,18 @@ units_of_odd bytes pairs order odd in_order behind =
     let one : length bytes % 2 ≡ 1 = omega arith in
     let half : is_odd bytes ≡ true = ap (λ n. eqb n 1) one in
     rw (half, behind, in_order) refl
+
+-- ---- how many
+
+length-dropped : (units : List ℕ) → length (without_last_zero units) ≤ length units
+length-dropped units = elim (ends_with nat_eq units (0 ∷ [])) as (λ t. length (cond t (take (length units - 1) units) units) ≤ length units) [ true ↦ omega (arith, length-take-le (length units - 1) units (omega arith)) | false ↦ omega arith ]
+
+length-unmarked : (bytes : List ℕ) → length (without_mark bytes) ≤ length bytes
+length-unmarked bytes = elim (is_some (mark_of bytes)) as (λ t. length (cond t (drop 2 bytes) bytes) ≤ length bytes) [ true ↦ omega (arith, length-drop 2 bytes) | false ↦ omega arith ]
+
+pub length-units_of_bytes : (bytes : List ℕ) → length (units_of_bytes bytes) ≤ length bytes
+unfolding units_of_bytes
+length-units_of_bytes bytes =
+    let units = units_in (order_of bytes) (without_mark bytes) in
+    let whole : length units ≤ length bytes = omega (arith, length-units_in (order_of bytes) (without_mark bytes), length-unmarked bytes) in
+    elim (is_odd bytes) as (λ t. length (cond t units (without_last_zero units)) ≤ length bytes) [ true ↦ whole | false ↦ omega (arith, length-dropped units, whole) ]

@@ -1,5 +1,5 @@
 -- What bytes mean as UTF-16 code units: byte order, byte order mark and the whole pairs of bytes.
--- The Unicode Standard, section 3.10 (D96 to D98, the encoding schemes UTF-16BE, UTF-16LE and UTF-16) and section 23.8 (the byte order mark).
+-- The Unicode Standard, section 3.10 (encoding schemes) and section 23.8 (the byte order mark).
 use Rattle.std.specs.Prelude.{ℕ, ◌+◌, ◌-◌, ◌*◌, ◌%◌, ◌==◌, Bool, List, [], ◌∷◌, length, take, drop, Option, Some, None, is_some, unwrap_or, nat_eq, if◌then◌else◌}
 use Rattle.std.specs.List.{starts_with, ends_with}
 use Rattle.wide_bytes.specs.declared.order.BoM.{BoM}
@@ -20,7 +20,7 @@ order_of bytes = unwrap_or (mark_of bytes) Little
 abbrev pub without_mark : List ℕ → List ℕ
 without_mark bytes = if is_some (mark_of bytes) then drop 2 bytes else bytes
 
--- the code unit of two bytes (section 3.10, D96 and D97)
+-- the code unit of two bytes (section 3.10)
 abbrev pub unit_in : BoM → ℕ → ℕ → ℕ
 unit_in Big a b = 0x100 * a + b
 unit_in Little a b = a + 0x100 * b

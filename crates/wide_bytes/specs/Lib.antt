@@ -4,3 +4,4 @@ pub mod FromRead
 pub mod FromWrite
 pub mod Run
 pub mod UnitsOfBytes
+pub mod Transcoded

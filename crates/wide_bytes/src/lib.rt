@@ -1,12 +1,17 @@
-//! Bytes in and out: byte order and byte order mark, bytes as UTF-16 code units, and the devices that give and take bytes.
+//! UTF-16 in bytes: byte order and byte order mark, devices that give and take bytes, and [`transcode`], which writes
+//! the UTF-8 text of a source of UTF-16 into a sink.
 #![tactic(auto)]
 
 mod devices;
-mod fault;
-mod laws;
+pub mod laws;
+mod mode;
 mod moving;
 mod order;
+mod text;
+mod transcoding;
 mod units;
 
 pub use devices::{ByteSink, ByteSource, FromRead, FromWrite};
+pub use mode::Mode;
 pub use order::{BoM, byte_order};
+pub use transcoding::transcode;

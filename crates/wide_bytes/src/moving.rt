@@ -6,9 +6,9 @@ ghost use Rattle.wide_bytes.specs.Devices.{take_fails, take_ends};
 ghost use Rattle.wide_bytes.specs.Run.{TakeEnds, PutOf};
 
 use super::devices::{ByteSink, ByteSource};
-use super::fault::TranscodeError;
 use std::alloc::AllocError;
 use std::io;
+use wide_error::TranscodeError;
 
 // The room of the first take, in bytes.
 const FIRST_ROOM: usize = 0x2000;

@@ -1,0 +1,66 @@
+//! UTF-16 bytes in, UTF-8 bytes out.
+
+ghost use Rattle.std.specs.Prelude.{◌≡◌, ℕ, List, false};
+ghost use Rattle.wide_bytes.specs.Run.{AtEnd, Ends, Moves, fails_to_read, fails_to_write};
+ghost use Rattle.wide_bytes.specs.Transcoded.{transcoded};
+
+use crate::devices::{ByteSink, ByteSource};
+use crate::mode::Mode;
+use crate::moving::{put_all, take_all};
+use crate::text::push_characters;
+use std::alloc::Global;
+use wide_error::TranscodeError;
+
+/// Reads UTF-16 bytes from the source to its end and writes their text into the sink, in UTF-8
+/// (Unicode Standard, sections 3.9 and 3.10).
+///
+/// A byte order mark at the front tells the byte order and is dropped; without one the order is little endian. One
+/// zero unit at the end is dropped, where the number of bytes is even. In [`Mode::Strict`] the characters before the
+/// first fault are written.
+///
+/// The source must not have failed or ended, and the sink must not have failed. No read or write that failed is tried
+/// again, and the sink isn't flushed.
+///
+/// # Errors
+///
+/// - [`TranscodeError::Utf16`]: the first fault, its index counted in units after the mark. The text before it is
+///   written. It comes before `OddLength`.
+/// - [`TranscodeError::OddLength`]: the number of bytes is odd. The text of the whole units is written.
+/// - [`TranscodeError::Read`] and [`TranscodeError::Write`]: the source, or the sink, failed in this call. What was
+///   written is a beginning of the text of the bytes that were read.
+/// - [`TranscodeError::OutOfMemory`]: memory was refused; what was written is a beginning of the text.
+pub fn transcode<S: ByteSource, K: ByteSink>(
+    alloc: Global,
+    source: &mut S,
+    sink: &mut K,
+    mode: Mode,
+) -> Result<(), TranscodeError>
+    requires source_sound { S.has_failed source.old ≡ false }
+    requires source_open { S.has_ended source.old ≡ false }
+    requires sink_sound { K.has_failed sink.old ≡ false }
+
+    // The bytes that went in, those that came out, and how it ended.
+    ensures run { (bytes written : List ℕ)
+        × Moves (S.left source.old) (S.left source.new) (K.held sink.old) (K.held sink.new) bytes written
+        × Ends result (S.has_ended source.new) (transcoded mode) bytes written }
+    ensures at_end { AtEnd result (S.left source.new) }
+
+    // A device has failed exactly where its fault is the answer.
+    ensures source_failed { S.has_failed source.new ≡ fails_to_read result }
+    ensures sink_failed { K.has_failed sink.new ≡ fails_to_write result }
+{
+    let mut bytes = Vec::new(alloc);
+    take_all(source, &mut bytes)?;
+    let mut text = String::new(alloc);
+    let fault = match mode {
+        Mode::Strict => push_characters(&mut text, &bytes)?,
+    };
+    put_all(sink, text.as_bytes())?;
+    if let Some((index, unit)) = fault {
+        return Err(TranscodeError::Utf16 { index, unit });
+    }
+    if bytes.len() % 2 == 1 {
+        return Err(TranscodeError::OddLength);
+    }
+    Ok(())
+}
