@@ -13,5 +13,6 @@ mod units;
 
 pub use devices::{ByteSink, ByteSource, FromRead, FromWrite};
 pub use mode::Mode;
+pub use moving::put_all;
 pub use order::{BoM, byte_order};
 pub use transcoding::transcode;

@@ -70,8 +70,11 @@ pub(crate) fn take_all<S: ByteSource>(
     }
 }
 
-/// Puts the whole text; a put that fails isn't tried again.
-pub(crate) fn put_all<K: ByteSink>(sink: &mut K, text: &[u8]) -> Result<(), TranscodeError>
+/// Puts all of the bytes into the sink, by as many calls as it needs.
+///
+/// The sink must not have failed. A call that fails is not tried again: the answer is then
+/// [`TranscodeError::Write`], and a beginning of the bytes was put. There is no other error.
+pub fn put_all<K: ByteSink>(sink: &mut K, text: &[u8]) -> Result<(), TranscodeError>
     requires { K.has_failed sink.old ≡ false }
     ensures { PutOf (K.held sink.old) (K.held sink.new) (K.has_failed sink.new) result text.now }
 {
