@@ -1,7 +1,6 @@
 //! The program, over any devices.
 
-ghost use Rattle.std.specs.Prelude.{◌≡◌, ◌≤◌, ℕ, List, Result, false};
-ghost use Rattle.std.specs.Io.KnownBytes.{Keeps};
+ghost use Rattle.std.specs.Prelude.{◌≡◌, ◌↔◌, ℕ, List, Result, IsSome, false};
 ghost use Rattle.wide_error.specs.declared.error.TranscodeError.{TranscodeError};
 ghost use Rattle.wide_bytes.specs.Run.{Ends, Moves};
 ghost use Rattle.wide_bytes.specs.Transcoded.{transcoded};
@@ -14,7 +13,11 @@ use std::fmt::Write;
 use wide_bytes::{ByteSink, ByteSource, Mode, put_all, transcode};
 use wide_error::TranscodeError;
 
-const USAGE: &str = "usage: widetext utf8 [--lossy] | ends UNITS CALLS | edit TEXT EDIT..";
+/// What is printed at wrong words.
+pub const USAGE: &str = "usage: widetext utf8 [--lossy] | ends UNITS CALLS | edit TEXT EDIT..";
+
+/// The status at wrong words.
+pub const WRONG_USAGE: u8 = 2;
 
 /// What the words ask for.
 enum Request {
@@ -22,7 +25,9 @@ enum Request {
 }
 
 // What the words ask for, where they are in order.
-fn request(words: &[String]) -> Option<Request> {
+fn parse_words(words: &[String]) -> Option<Request>
+    ensures { IsSome result ↔ AsksForUtf8 words.now }
+{
     match words {
         [word] if word.as_str() == "utf8" => Some(Request::Utf8),
         _ => None,
@@ -30,6 +35,7 @@ fn request(words: &[String]) -> Option<Request> {
 }
 
 // A sink as something to print on; what can't be written is lost.
+#[derive(Drop)]
 struct Printer<'a, F> {
     sink: &'a mut F,
 }
@@ -43,8 +49,8 @@ impl<F: ByteSink> fmt::Write for Printer<'_, F> {
     }
 }
 
-// A line on `faults`. One that can't be written changes nothing.
-fn report<F: ByteSink>(faults: &mut F, text: &impl fmt::Display) {
+/// Writes a line on `faults`. One that can't be written changes nothing.
+pub fn report<F: ByteSink>(faults: &mut F, text: &impl fmt::Display) {
     let mut printer = Printer { sink: faults };
     let _ = writeln!(printer, "{text}");
 }
@@ -65,10 +71,21 @@ pub fn command<S: ByteSource, K: ByteSink, F: ByteSink>(
     requires source_open { S.has_ended source.old ≡ false }
     requires sink_sound { K.has_failed sink.old ≡ false }
     requires faults_sound { F.has_failed faults.old ≡ false }
+
+    // The words `utf8`: the status is that of one run of `transcode`.
+    ensures utf8 { AsksForUtf8 words.now → (answer : Result (Unit {0}) TranscodeError) × (bytes : List ℕ) × (written : List ℕ)
+        × Moves (S.left source.old) (S.left source.new) (K.held sink.old) (K.held sink.new) bytes written
+        × Ends answer (S.has_ended source.new) (transcoded Strict) bytes written
+        × (result ≡ status_of answer) }
+
+    // All other words: nothing is read, and nothing written but the usage.
+    ensures usage { ¬ (AsksForUtf8 words.now) → result ≡ 2 }
+    ensures usage_reads_nothing { ¬ (AsksForUtf8 words.now) → source.new ≡ source.old }
+    ensures usage_writes_nothing { ¬ (AsksForUtf8 words.now) → sink.new ≡ sink.old }
 {
-    let Some(request) = request(words) else {
+    let Some(request) = parse_words(words) else {
         report(faults, &USAGE);
-        return 2;
+        return WRONG_USAGE;
     };
     let answer = match request {
         Request::Utf8 => transcode(alloc, source, sink, Mode::Strict),

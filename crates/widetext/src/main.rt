@@ -1,13 +1,14 @@
-//! The program `widetext`: UTF-16 at the command line.
+//! The program `widetext`: UTF-16 text at the command line.
 #![tactic(auto)]
 
 mod command;
 
-use command::command;
+use command::{USAGE, WRONG_USAGE, command, report};
 use std::io::{ErrorKind, Write};
 use std::process::ExitCode;
 use std::{env, io};
 use wide_bytes::{FromRead, FromWrite};
+use wide_error::{OutOfMemory, TranscodeError};
 
 // The words after the program's name.
 fn gather(rt: &HostRuntime) -> io::Result<Vec<String>> {
@@ -18,21 +19,31 @@ fn gather(rt: &HostRuntime) -> io::Result<Vec<String>> {
     Ok(words)
 }
 
-fn main(rt: HostRuntime) -> ExitCode {
-    let words = match gather(&rt) {
+// Runs the command on the standard streams, and answers its status.
+fn run(rt: &HostRuntime) -> u8 {
+    let mut faults = FromWrite::new(rt.stderr());
+    let words = match gather(rt) {
         Ok(words) => words,
+        // A word is no UTF-8.
+        Err(error) if error.kind() == ErrorKind::InvalidData => {
+            report(&mut faults, &USAGE);
+            return WRONG_USAGE;
+        }
         Err(_) => {
-            let _ = rt.stderr().write_all(b"out of memory\n");
-            return ExitCode::from(1);
+            report(&mut faults, &OutOfMemory);
+            return 1;
         }
     };
     let mut source = FromRead::new(rt.stdin());
     let mut sink = FromWrite::new(rt.stdout());
-    let mut faults = FromWrite::new(rt.stderr());
     let status = command(rt.alloc(), &words, &mut source, &mut sink, &mut faults);
     if rt.stdout().flush().is_err() && status == 0 {
-        let _ = rt.stderr().write_all(b"write fault\n");
-        return ExitCode::from(1);
+        report(&mut faults, &TranscodeError::Write);
+        return 1;
     }
-    ExitCode::from(status)
+    status
+}
+
+fn main(rt: HostRuntime) -> ExitCode {
+    ExitCode::from(run(&rt))
 }
