@@ -98,3 +98,6 @@ pub fn command<S: ByteSource, K: ByteSink, F: ByteSink>(
         }
     }
 }
+
+#[cfg(test)]
+mod tests;
