@@ -1,0 +1,11 @@
+//! Wide strings: text in units of 16 or 32 bits, UTF-16 and UTF-32, well formed or not.
+//!
+//! A port of Rust's crate of this name, under the same paths. Each module is a crate of its own, which this one
+//! re-exports; it has no code.
+#![tactic(auto)]
+
+pub use wide_bytes as bytes;
+pub use wide_error as error;
+pub use wide_iter as iter;
+pub use wide_iter::decode_utf16;
+pub use wide_unit as unit;
