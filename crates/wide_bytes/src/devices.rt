@@ -159,14 +159,10 @@ impl<W: Write> ByteSink for FromWrite<W> {
 
     fn put(&mut self, bytes: &[u8]) -> io::Result<usize> {
         let answer = self.writer.write(bytes);
-        match &answer {
-            Ok(n) => {
-                if *n == 0 && !bytes.is_empty() {
-                    self.failed = true;
-                }
-            }
-            Err(_) => self.failed = true,
-        }
+        self.failed |= match &answer {
+            Ok(n) => *n == 0 && !bytes.is_empty(),
+            Err(_) => true,
+        };
         answer
     }
 

@@ -1,6 +1,6 @@
 //! The UTF-16 code units of bytes, read one by one.
 
-ghost use Rattle.std.specs.Prelude.{◌≡◌, ◌-◌, [], ◌∷◌, length, take, nat_eq, if◌then◌else◌};
+ghost use Rattle.std.specs.Prelude.{◌≡◌, ◌-◌, [], ◌∷◌, length, take, nat_eq, IfSome, if◌then◌else◌};
 ghost use Rattle.std.specs.List.{ends_with};
 ghost use Rattle.wide_bytes.specs.Bytes.{unit_in, units_of_bytes, without_mark};
 ghost use Rattle.wide_bytes.specs.UnitsOfBytes.{units_left};
@@ -27,7 +27,8 @@ fn unit_in(order: BoM, first: u8, second: u8) -> u16
 }
 
 impl Iterator for UnitsOfBytes<'_> {
-    ghost use Rattle.std.specs.Iterator.{YieldsFirst, item_count};
+    ghost use Rattle.std.specs.Iterator.{YieldsFirst, UpTo, item_count};
+    ghost use Rattle.std.specs.Iterator.SizeHint.{IsWithinCount};
 
     type Item = u16;
 
@@ -45,7 +46,12 @@ impl Iterator for UnitsOfBytes<'_> {
         Some(unit)
     }
 
-    fn size_hint(&self) -> (usize, Option<usize>) {
+    fn size_hint(&self) -> (usize, Option<usize>)
+        ensures lower { IsWithinCount result.0 (item_count units_left self.now) }
+        ensures upper { IfSome result.1 (UpTo (item_count units_left self.now)) }
+        ensures least { result.0 ≡ length (units_left self.now) }
+        ensures most { result.1 ≡ Some (length (units_left self.now)) }
+    {
         let len = self.bytes.len() / 2;
         (len, Some(len))
     }
