@@ -37,7 +37,10 @@ pub fn last_of(units: Vec<u16>) -> Option<Result<char, DecodeUtf16Error>>
 }
 
 /// All items of a slice of units.
-pub fn all_of(alloc: Global, units: &[u16]) -> Result<Vec<Result<char, DecodeUtf16Error>>, AllocError>
+pub fn all_of(
+    alloc: Global,
+    units: &[u16],
+) -> Result<Vec<Result<char, DecodeUtf16Error>>, AllocError>
     ensures { IfOk result (λ v. map told_item v.items ≡ items Utf16 units.now) }
 {
     decode_utf16(units.iter().copied()).collect(alloc)

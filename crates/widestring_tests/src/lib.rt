@@ -1,8 +1,15 @@
 //! Callers of the library, and its tests.
 //!
-//! The callers show what the contracts tell at concrete types; each is proved. The tests have worked rows and printed
-//! texts, and call each public function with ample memory.
+//! The callers show what the contracts tell at concrete types; each is proved. The tests have worked rows, the tables of
+//! the Unicode Standard and printed texts, and call each public function with ample memory.
 #![tactic(auto)]
 
+#[cfg(test)]
+mod bytes_rows;
 pub mod callers;
-
+#[cfg(test)]
+mod error_rows;
+#[cfg(test)]
+mod iter_rows;
+#[cfg(test)]
+mod unit_rows;
