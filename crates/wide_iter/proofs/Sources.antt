@@ -10,12 +10,9 @@ use Rattle.std.specs.declared.slice.Iter.{Iter}
 use Rattle.std.specs.declared.vec.IntoIter.{IntoIter}
 use Rattle.std.specs.Vec.Iter.{into_iter_steps, into_iter_steps_back, into_iter_items}
 use Rattle.wide_iter.specs.Over.{GivesFirst, GivesLast}
+use Rattle.wide_iter.specs.Sources.{copied_rest}
 
 module _ {A : Type 0} where
-  -- a slice's `iter().copied()`
-  abbrev pub copied_rest : Copied (Iter A) → List A
-  copied_rest s = iter_rest (copied_source s)
-
   copied_first : (s t : Copied (Iter A)) (o : Option (Bor A)) → iter_steps (copied_source s) o (copied_source t) → YieldsFirst copied_rest s (option_copied o) t
   copied_first s t None (e, f) = let none = nil_from_length (copied_rest s) e in (none, ap iter_rest f ∙ none)
   copied_first s t (Some x) e = e

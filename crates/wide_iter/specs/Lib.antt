@@ -1,3 +1,4 @@
 pub mod Answers
 pub mod Over
 pub mod Decoder16
+pub mod Sources

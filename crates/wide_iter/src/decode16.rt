@@ -1,12 +1,15 @@
 //! The decoder of UTF-16.
-ghost use Rattle.std.specs.Prelude.{◌≡◌, ◌≤◌, ◌/◌, ℕ, List, IfNone, None};
+ghost use Rattle.std.specs.Prelude.{◌≡◌, ◌≤◌, ◌/◌, ℕ, List, length, IfNone, None, Some};
 ghost use Rattle.std.specs.Iterator.{MakesProgress};
 ghost use Rattle.wide_unit.specs.EncodingForm.{Utf16};
 ghost use Rattle.wide_unit.specs.Items.{items};
 ghost use Rattle.wide_unit.specs.Unit.{told_item};
 ghost use Rattle.wide_iter.specs.Over.{FirstOver, LastOver, IsUnit16};
-ghost use Rattle.wide_iter.specs.Decoder16.{source_of, front_hand, back_hand, units_left, items_left, CanAsk, decoder_count, IsSpent, IsNew, held, upper_with};
+ghost use Rattle.wide_iter.specs.Sources.{copied_rest};
+ghost use Rattle.wide_iter.specs.Decoder16.{source_of, front_hand, back_hand, unasked, units_left, items_left, CanAsk, decoder_count, IsSpent, IsNew, held, upper_with};
 
+use std::iter::Copied;
+use std::slice::Iter;
 use wide_error::DecodeUtf16Error;
 use wide_unit::Unit;
 
@@ -38,6 +41,19 @@ pub fn decode_utf16<U: IntoIterator<Item = u16>>(units: U) -> DecodeUtf16<U::Int
         front: None,
         back: None,
     }
+}
+
+/// The hint of a decoder of UTF-16, by the hint of its source and the number of units in hand: at least an item for two
+/// of the source's units, and at most one for each unit, where that number fits.
+fn decoded_hint(source: (usize, Option<usize>), held: usize) -> (usize, Option<usize>)
+    ensures lower { result.0 ≡ source.0 / 2 }
+    ensures upper { result.1 ≡ upper_with source.1 held }
+{
+    let upper = match source.1 {
+        Some(upper) => upper.checked_add(held),
+        None => None,
+    };
+    (source.0 / 2, upper)
 }
 
 impl<I> DecodeUtf16<I> {
@@ -122,6 +138,13 @@ impl<I: Iterator<Item = u16>> Iterator for DecodeUtf16<I> {
         self.front = Some(second);
         Some(Err(DecodeUtf16Error::new(first)))
     }
+
+    fn size_hint(&self) -> (usize, Option<usize>) {
+        let (lower, upper) = self.source.size_hint();
+        // A source that has ended isn't asked again, whatever it promises.
+        let lower = if self.ended { 0 } else { lower };
+        decoded_hint((lower, upper), self.held())
+    }
 }
 
 impl<I: DoubleEndedIterator<Item = u16>> DoubleEndedIterator for DecodeUtf16<I> {
@@ -147,5 +170,17 @@ impl<I: DoubleEndedIterator<Item = u16>> DoubleEndedIterator for DecodeUtf16<I> 
         }
         self.back = Some(before);
         Some(Err(DecodeUtf16Error::new(last)))
+    }
+}
+
+impl DecodeUtf16<Copied<Iter<'_, u16>>> {
+    /// Exact bounds on the number of items, over the units of a slice: at least one for two units that weren't asked for
+    /// yet, and at most one for each of them and each in hand.
+    pub fn size_hint(&self) -> (usize, Option<usize>)
+        ensures lower { result.0 ≡ length (unasked copied_rest self.now) / 2 }
+        ensures upper { result.1 ≡ upper_with (Some (length (unasked copied_rest self.now))) (held self.now) }
+    {
+        let left = if self.ended { 0 } else { self.source.len() };
+        decoded_hint((left, Some(left)), self.held())
     }
 }

@@ -1,7 +1,8 @@
 use Rattle.std.proofs.Common.{rules, ◌≡◌, ◌∷◌, ◌++◌, []}
 use Rattle.wide_unit.specs.Unit.{told_item}
 use Rattle.wide_iter.proofs.Turns.{turn_front, turn_back}
-use Rattle.wide_iter.proofs.Sources.{copied_rest, copied_gives_first, copied_gives_last}
+use Rattle.wide_iter.specs.Sources.{copied_rest}
+use Rattle.wide_iter.proofs.Sources.{copied_gives_first, copied_gives_last}
 use Rattle.wide_iter.proofs.ends.read_ends16.Goals as goal
 use Rattle.wide_iter.proofs.ends.read_ends16.Goals.{in-Front, in-Back}
 

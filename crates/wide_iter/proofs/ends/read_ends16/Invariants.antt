@@ -4,7 +4,7 @@ use Rattle.wide_unit.specs.EncodingForm.{Utf16}
 use Rattle.wide_unit.specs.Items.{items}
 use Rattle.wide_unit.specs.Unit.{told_item}
 use Rattle.wide_iter.specs.Decoder16.{items_left}
-use Rattle.wide_iter.proofs.Sources.{copied_rest}
+use Rattle.wide_iter.specs.Sources.{copied_rest}
 use Rattle.wide_iter.proofs.Turns.{ReadSoFar}
 use Rattle.wide_iter.proofs.ends.read_ends16.Given as goal
 
