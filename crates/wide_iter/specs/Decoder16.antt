@@ -1,19 +1,18 @@
 -- What is left of a decoder of UTF-16.
-use Rattle.std.specs.Prelude.{◌≡◌, ℕ, ◌+◌, ◌^◌, nat_lt, true, false, Bool, List, [], ◌++◌, Option, Some, None, if◌then◌else◌}
+use Rattle.std.specs.Prelude.{◌≡◌, ℕ, ◌+◌, ◌^◌, nat_lt, true, false, List, ◌++◌, Option, Some, None, if◌then◌else◌}
 use Rattle.std.specs.Option.{option_to_list, option_len}
-use Rattle.std.specs.Iterator.{Count, count_map, count_unless}
+use Rattle.std.specs.Iterator.{Count, count_map}
 use Rattle.wide_unit.specs.EncodingForm.{Utf16}
 use Rattle.wide_unit.specs.Segmentation.{Item}
 use Rattle.wide_unit.specs.Items.{items}
+use Rattle.wide_iter.specs.Source.{has_ended, unasked, CanAsk, source_count}
+use Rattle.wide_iter.specs.declared.source.Source.{Source}
 use Rattle.wide_iter.specs.declared.decode16.DecodeUtf16.{DecodeUtf16}
 
 module _ {I : Type 0} where
-  -- the source, whether it has answered its end, and the unit in hand at each end
-  abbrev pub source_of : DecodeUtf16 I → I
+  -- the source, and the unit in hand at each end
+  abbrev pub source_of : DecodeUtf16 I → Source I
   source_of s = s.source
-
-  abbrev pub has_ended : DecodeUtf16 I → Bool
-  has_ended s = s.ended
 
   abbrev pub front_hand : DecodeUtf16 I → Option ℕ
   front_hand s = s.front
@@ -21,21 +20,17 @@ module _ {I : Type 0} where
   abbrev pub back_hand : DecodeUtf16 I → Option ℕ
   back_hand s = s.back
 
-  -- the units that the source is still to be asked for
-  abbrev pub unasked : (I → List ℕ) → DecodeUtf16 I → List ℕ
-  unasked rest s = if has_ended s then [] else rest (source_of s)
-
   -- the units to come: the one in the front hand, those of the source, the one in the back hand
   abbrev pub units_left : (I → List ℕ) → DecodeUtf16 I → List ℕ
-  units_left rest s = option_to_list (front_hand s) ++ unasked rest s ++ option_to_list (back_hand s)
+  units_left rest s = option_to_list (front_hand s) ++ unasked rest (source_of s) ++ option_to_list (back_hand s)
 
   -- the items to come
   abbrev pub items_left : (I → List ℕ) → DecodeUtf16 I → List Item
   items_left rest s = items Utf16 (units_left rest s)
 
   -- the source may be called, unless it has ended
-  abbrev pub CanAsk : (I → Type 0) → DecodeUtf16 I → Type 0
-  CanAsk can s = has_ended s ≡ false → can (source_of s)
+  abbrev pub CanDecode : (I → Type 0) → DecodeUtf16 I → Type 0
+  CanDecode can s = CanAsk can (source_of s)
 
   -- how many units are in hand
   abbrev pub held : DecodeUtf16 I → ℕ
@@ -43,17 +38,17 @@ module _ {I : Type 0} where
 
   -- no more items come than units are left
   abbrev pub decoder_count : (I → Count) → DecodeUtf16 I → Count
-  decoder_count count s = count_map (λ n. n + held s) (count_unless (has_ended s) (count (source_of s)))
+  decoder_count count s = count_map (λ n. n + held s) (source_count count (source_of s))
 
   -- nothing is to come, in hand or from the source
   pub record IsSpent (s : DecodeUtf16 I) : Type 0 where
-    pub ended : has_ended s ≡ true
+    pub ended : has_ended (source_of s) ≡ true
     pub front : front_hand s ≡ None
     pub back : back_hand s ≡ None
 
   -- nothing is in hand, and the source may be asked
   pub record IsNew (s : DecodeUtf16 I) : Type 0 where
-    pub asked : has_ended s ≡ false
+    pub asked : has_ended (source_of s) ≡ false
     pub front : front_hand s ≡ None
     pub back : back_hand s ≡ None
 

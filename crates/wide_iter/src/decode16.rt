@@ -5,9 +5,11 @@ ghost use Rattle.wide_unit.specs.EncodingForm.{Utf16};
 ghost use Rattle.wide_unit.specs.Items.{items};
 ghost use Rattle.wide_unit.specs.Unit.{told_item};
 ghost use Rattle.wide_iter.specs.Over.{FirstOver, LastOver, IsUnit16};
+ghost use Rattle.wide_iter.specs.Source.{inner_of, unasked};
 ghost use Rattle.wide_iter.specs.Sources.{copied_rest};
-ghost use Rattle.wide_iter.specs.Decoder16.{source_of, front_hand, back_hand, unasked, units_left, items_left, CanAsk, decoder_count, IsSpent, IsNew, held, upper_with};
+ghost use Rattle.wide_iter.specs.Decoder16.{source_of, front_hand, back_hand, units_left, items_left, CanDecode, decoder_count, IsSpent, IsNew, held, upper_with};
 
+use crate::source::Source;
 use std::iter::Copied;
 use std::slice::Iter;
 use wide_error::DecodeUtf16Error;
@@ -21,9 +23,7 @@ use wide_unit::Unit;
 /// Made by [`decode_utf16`].
 #[derive(Debug, Drop)]
 pub struct DecodeUtf16<I> {
-    source: I,
-    // Whether the source has answered its end.
-    ended: bool,
+    source: Source<I>,
     // A unit that was read to look past a surrogate, at each end.
     front: Option<u16>,
     back: Option<u16>,
@@ -31,13 +31,15 @@ pub struct DecodeUtf16<I> {
 
 /// A decoder of the units that `units` gives.
 pub fn decode_utf16<U: IntoIterator<Item = u16>>(units: U) -> DecodeUtf16<U::IntoIter>
-    ensures source { U.into_iter_gives units (source_of result) }
+    ensures source { U.into_iter_gives units (inner_of (source_of result)) }
     ensures new { IsNew result }
-    ensures items { (rest : U.IntoIter → List ℕ) → items_left rest result ≡ items Utf16 (rest (source_of result)) }
+    ensures items { (rest : U.IntoIter → List ℕ) → items_left rest result ≡ items Utf16 (rest (inner_of (source_of result))) }
 {
     DecodeUtf16 {
-        source: units.into_iter(),
-        ended: false,
+        source: Source {
+            inner: units.into_iter(),
+            ended: false,
+        },
         front: None,
         back: None,
     }
@@ -69,20 +71,17 @@ impl<I> DecodeUtf16<I> {
 impl<I: Iterator<Item = u16>> DecodeUtf16<I> {
     // The first unit to come.
     fn take_front(&mut self) -> Option<u16>
-        requires { CanAsk I.can_next self.old }
+        requires { CanDecode I.can_next self.old }
         ensures steps { FirstOver IsUnit16 I.next_gives (λ u. u) units_left self.old result self.new }
-        ensures goes { MakesProgress (CanAsk I.can_next) (decoder_count I.remaining) self.old result self.new }
+        ensures goes { MakesProgress (CanDecode I.can_next) (decoder_count I.remaining) self.old result self.new }
         ensures hand { front_hand self.new ≡ None }
         ensures ends { IfNone result (IsSpent self.new) }
     {
         if let Some(unit) = self.front.take() {
             return Some(unit);
         }
-        if !self.ended {
-            if let Some(unit) = self.source.next() {
-                return Some(unit);
-            }
-            self.ended = true;
+        if let Some(unit) = self.source.next() {
+            return Some(unit);
         }
         self.back.take()
     }
@@ -91,20 +90,17 @@ impl<I: Iterator<Item = u16>> DecodeUtf16<I> {
 impl<I: DoubleEndedIterator<Item = u16>> DecodeUtf16<I> {
     // The last unit to come.
     fn take_back(&mut self) -> Option<u16>
-        requires { CanAsk I.can_next_back self.old }
+        requires { CanDecode I.can_next_back self.old }
         ensures steps { LastOver IsUnit16 I.next_back_gives (λ u. u) units_left self.old result self.new }
-        ensures goes { MakesProgress (CanAsk I.can_next_back) (decoder_count I.remaining) self.old result self.new }
+        ensures goes { MakesProgress (CanDecode I.can_next_back) (decoder_count I.remaining) self.old result self.new }
         ensures hand { back_hand self.new ≡ None }
         ensures ends { IfNone result (IsSpent self.new) }
     {
         if let Some(unit) = self.back.take() {
             return Some(unit);
         }
-        if !self.ended {
-            if let Some(unit) = self.source.next_back() {
-                return Some(unit);
-            }
-            self.ended = true;
+        if let Some(unit) = self.source.next_back() {
+            return Some(unit);
         }
         self.front.take()
     }
@@ -113,7 +109,7 @@ impl<I: DoubleEndedIterator<Item = u16>> DecodeUtf16<I> {
 impl<I: Iterator<Item = u16>> Iterator for DecodeUtf16<I> {
     type Item = Result<char, DecodeUtf16Error>;
 
-    ghost can_next = { CanAsk I.can_next };
+    ghost can_next = { CanDecode I.can_next };
 
     ghost next_gives = { FirstOver IsUnit16 I.next_gives told_item items_left };
 
@@ -140,15 +136,12 @@ impl<I: Iterator<Item = u16>> Iterator for DecodeUtf16<I> {
     }
 
     fn size_hint(&self) -> (usize, Option<usize>) {
-        let (lower, upper) = self.source.size_hint();
-        // A source that has ended isn't asked again, whatever it promises.
-        let lower = if self.ended { 0 } else { lower };
-        decoded_hint((lower, upper), self.held())
+        decoded_hint(self.source.size_hint(), self.held())
     }
 }
 
 impl<I: DoubleEndedIterator<Item = u16>> DoubleEndedIterator for DecodeUtf16<I> {
-    ghost can_next_back = { CanAsk I.can_next_back };
+    ghost can_next_back = { CanDecode I.can_next_back };
 
     ghost next_back_gives = { LastOver IsUnit16 I.next_back_gives told_item items_left };
 
@@ -177,10 +170,10 @@ impl DecodeUtf16<Copied<Iter<'_, u16>>> {
     /// Exact bounds on the number of items, over the units of a slice: at least one for two units that weren't asked for
     /// yet, and at most one for each of them and each in hand.
     pub fn size_hint(&self) -> (usize, Option<usize>)
-        ensures lower { result.0 ≡ length (unasked copied_rest self.now) / 2 }
-        ensures upper { result.1 ≡ upper_with (Some (length (unasked copied_rest self.now))) (held self.now) }
+        ensures lower { result.0 ≡ length (unasked copied_rest (source_of self.now)) / 2 }
+        ensures upper { result.1 ≡ upper_with (Some (length (unasked copied_rest (source_of self.now)))) (held self.now) }
     {
-        let left = if self.ended { 0 } else { self.source.len() };
+        let left = self.source.len();
         decoded_hint((left, Some(left)), self.held())
     }
 }

@@ -1,0 +1,66 @@
+//! A source that stays ended.
+ghost use Rattle.std.specs.Prelude.{◌≡◌, length, IfSome};
+ghost use Rattle.std.specs.Iterator.{MakesProgress, UpTo};
+ghost use Rattle.std.specs.Iterator.SizeHint.{IsWithinCount};
+ghost use Rattle.wide_iter.specs.Source.{CanAsk, source_count, source_steps, unasked};
+ghost use Rattle.wide_iter.specs.Sources.{copied_rest};
+
+use std::iter::Copied;
+use std::slice::Iter;
+
+/// A source that is asked no more once it has answered its end.
+#[derive(Debug, Drop)]
+pub(crate) struct Source<I> {
+    pub(crate) inner: I,
+    pub(crate) ended: bool,
+}
+
+impl<I: Iterator> Source<I> {
+    // The first item to come.
+    pub(crate) fn next(&mut self) -> Option<I::Item>
+        requires { CanAsk I.can_next self.old }
+        ensures steps { source_steps I.next_gives self.old result self.new }
+        ensures goes { MakesProgress (CanAsk I.can_next) (source_count I.remaining) self.old result self.new }
+    {
+        if self.ended {
+            return None;
+        }
+        let item = self.inner.next();
+        self.ended = item.is_none();
+        item
+    }
+
+    // The bounds of the source, of which none is left where it has ended, whatever it promises.
+    pub(crate) fn size_hint(&self) -> (usize, Option<usize>)
+        ensures lower { IsWithinCount result.0 (source_count I.remaining self.now) }
+        ensures upper { IfSome result.1 (UpTo (source_count I.remaining self.now)) }
+    {
+        let (lower, upper) = self.inner.size_hint();
+        (if self.ended { 0 } else { lower }, upper)
+    }
+}
+
+impl<I: DoubleEndedIterator> Source<I> {
+    // The last item to come.
+    pub(crate) fn next_back(&mut self) -> Option<I::Item>
+        requires { CanAsk I.can_next_back self.old }
+        ensures steps { source_steps I.next_back_gives self.old result self.new }
+        ensures goes { MakesProgress (CanAsk I.can_next_back) (source_count I.remaining) self.old result self.new }
+    {
+        if self.ended {
+            return None;
+        }
+        let item = self.inner.next_back();
+        self.ended = item.is_none();
+        item
+    }
+}
+
+impl<A: Copy> Source<Copied<Iter<'_, A>>> {
+    // How many elements of a slice are to come.
+    pub(crate) fn len(&self) -> usize
+        ensures { result ≡ length (unasked copied_rest self.now) }
+    {
+        if self.ended { 0 } else { self.inner.len() }
+    }
+}
