@@ -1,9 +1,11 @@
-//! Decoders of UTF-16 over any source of units, from both ends.
+//! Decoders of UTF-16 and UTF-32 over any source of units, from both ends.
 #![tactic(auto)]
 
 mod decode16;
+mod decode32;
 mod ends;
 mod source;
 
 pub use decode16::{DecodeUtf16, decode_utf16};
+pub use decode32::{DecodeUtf32, decode_utf32};
 pub use ends::{End, read_ends16};
