@@ -4,3 +4,4 @@ pub mod Sources
 pub mod Turns
 pub mod Runs
 pub mod Ended
+pub mod Replaced
