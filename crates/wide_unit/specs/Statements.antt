@@ -5,6 +5,7 @@ use Rattle.std.specs.List.{All}
 use Rattle.wide_unit.specs.EncodingForm.{EncodingForm, Utf16, Utf32, encode, IsCodeUnit, IsLowSurrogate}
 use Rattle.wide_unit.specs.Segmentation.{Item, Char, Fault, IsSegmentation, IsSegmentation16, IsSegmentation32, IsLooseSegmentation}
 use Rattle.wide_unit.specs.Items.{items, chars, IsWellFormed, IsBoundary, IsFirstFault}
+use Rattle.wide_unit.specs.Lossy.{lossy}
 use Rattle.wide_unit.specs.Utf8.{utf8_bytes}
 
 -- each list of units has a segmentation, which is `items`
@@ -33,6 +34,23 @@ ItemsJoinAfter = (form : EncodingForm) (a b : List ℕ) → IsWellFormed form a 
 
 abbrev pub ItemsJoinBefore : Type 0
 ItemsJoinBefore = (form : EncodingForm) (a b : List ℕ) → IsWellFormed form b → items form (a ++ b) ≡ items form a ++ items form b
+
+-- in UTF-32 a unit is a character exactly where it is a scalar value, whatever follows it
+abbrev pub Units32AreItems : Type 0
+Units32AreItems = (u : ℕ) (us : List ℕ) → (IsScalar u → items Utf32 (u ∷ us) ≡ Char u ∷ items Utf32 us) × (¬ (IsScalar u) → items Utf32 (u ∷ us) ≡ Fault u ∷ items Utf32 us)
+
+abbrev pub Items32Join : Type 0
+Items32Join = (a b : List ℕ) → items Utf32 (a ++ b) ≡ items Utf32 a ++ items Utf32 b
+
+abbrev pub Items32Count : Type 0
+Items32Count = (us : List ℕ) → length (items Utf32 us) ≡ length us
+
+-- lossy text is of scalar values, and its encoding is the units themselves where those are well formed
+abbrev pub LossyIsScalars : Type 0
+LossyIsScalars = (form : EncodingForm) (us : List ℕ) → All IsScalar (lossy (items form us))
+
+abbrev pub LossyKeepsWellFormed : Type 0
+LossyKeepsWellFormed = (form : EncodingForm) (us : List ℕ) → IsWellFormed form us → encode form (lossy (items form us)) ≡ us
 
 -- the encoding of characters is well formed, and decodes to them
 abbrev pub EncodingIsWellFormed : Type 0
