@@ -3,7 +3,7 @@ use Rattle.std.proofs.Common.{◌≡◌, ℕ, List, [], ◌∷◌, ◌++◌, sym
 use Rattle.std.specs.Char.{IsScalar}
 use Rattle.std.proofs.lemmas.List.{same_from_push}
 use Rattle.wide_unit.specs.EncodingForm.{EncodingForm, code_units, IsFault, IsPair, IsHighSurrogate, IsLowSurrogate}
-use Rattle.wide_unit.specs.Segmentation.{Item, Char, Fault}
+use Rattle.wide_unit.specs.Segmentation.{Char, Fault}
 use Rattle.wide_unit.specs.Items.{items}
 use Rattle.wide_unit.specs.Laws.Forms.{IsPair-parts}
 use Rattle.wide_unit.specs.Laws.Items.{items-nil}

@@ -3,3 +3,7 @@ pub mod Over
 pub mod Decoder16
 pub mod Source
 pub mod Sources
+pub mod Hints
+pub mod Encoder8
+pub mod Encoder16
+pub mod Encoder32

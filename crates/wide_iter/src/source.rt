@@ -1,6 +1,6 @@
 //! A source that stays ended.
 ghost use Rattle.std.specs.Prelude.{◌≡◌, length, IfSome};
-ghost use Rattle.std.specs.Iterator.{MakesProgress, UpTo};
+ghost use Rattle.std.specs.Iterator.{MakesProgress, UpTo, IsFinite, size};
 ghost use Rattle.std.specs.Iterator.SizeHint.{IsWithinCount};
 ghost use Rattle.wide_iter.specs.Source.{CanAsk, source_count, source_steps, unasked};
 ghost use Rattle.wide_iter.specs.Sources.{copied_rest};
@@ -53,6 +53,19 @@ impl<I: DoubleEndedIterator> Source<I> {
         let item = self.inner.next_back();
         self.ended = item.is_none();
         item
+    }
+}
+
+impl<I: ExactSizeIterator> Source<I> {
+    // How many items are to come.
+    pub(crate) fn exact_len(&self) -> usize
+        ensures finite { IsFinite (source_count I.remaining self.now) }
+        ensures value { result ≡ size (source_count I.remaining self.now) }
+    {
+        if self.ended {
+            return 0;
+        }
+        self.inner.len()
     }
 }
 
