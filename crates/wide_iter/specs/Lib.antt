@@ -5,3 +5,7 @@ pub mod Decoder32
 pub mod Lossy
 pub mod Source
 pub mod Sources
+pub mod Hints
+pub mod Encoder8
+pub mod Encoder16
+pub mod Encoder32

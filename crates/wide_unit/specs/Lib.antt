@@ -1,5 +1,6 @@
 pub mod EncodingForm
 pub mod Utf8
+pub mod CodePoint
 pub mod Segmentation
 pub mod Items
 pub mod Lossy

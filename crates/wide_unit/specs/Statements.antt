@@ -1,12 +1,13 @@
 -- The laws of the definitions, each the contract of a function of the crate.
-use Rattle.std.specs.Prelude.{◌≡◌, ◌≢◌, ℕ, ◌+◌, ◌<◌, ◌≤◌, ◌↔◌, ◌⊎◌, List, [], ◌∷◌, ◌++◌, map, length, slice_index}
+use Rattle.std.specs.Prelude.{◌≡◌, ◌≢◌, ℕ, ◌≤◌, ◌↔◌, ◌⊎◌, List, [], ◌∷◌, ◌++◌, map, length, slice_index, Some, None}
 use Rattle.std.specs.Char.{IsScalar, encode_utf8}
 use Rattle.std.specs.List.{All}
 use Rattle.wide_unit.specs.EncodingForm.{EncodingForm, Utf16, Utf32, encode, IsCodeUnit, IsLowSurrogate}
 use Rattle.wide_unit.specs.Segmentation.{Item, Char, Fault, IsSegmentation, IsSegmentation16, IsSegmentation32, IsLooseSegmentation}
-use Rattle.wide_unit.specs.Items.{items, chars, IsWellFormed, IsBoundary, IsFirstFault}
+use Rattle.wide_unit.specs.Items.{items, chars, IsWellFormed, IsBoundary}
 use Rattle.wide_unit.specs.Lossy.{lossy}
-use Rattle.wide_unit.specs.Utf8.{utf8_bytes}
+use Rattle.wide_unit.specs.Utf8.{utf8_bytes, utf8}
+use Rattle.wide_unit.specs.CodePoint.{code_point_at}
 
 -- each list of units has a segmentation, which is `items`
 abbrev pub SegmentationExists : Type 0
@@ -71,3 +72,10 @@ EqualCharacters = (form : EncodingForm) (us vs : List ℕ) → IsWellFormed form
 -- the bytes of Table 3-6 are those that std writes
 abbrev pub Utf8IsStds : Type 0
 Utf8IsStds = (c : ℕ) → utf8_bytes c ≡ encode_utf8 c
+
+-- bytes of UTF-8 begin with the first character, and the others follow it
+abbrev pub CodePointOfText : Type 0
+CodePointOfText = (c : ℕ) (cs : List ℕ) → IsScalar c → code_point_at (utf8 (c ∷ cs)) ≡ Some (c, utf8 cs)
+
+abbrev pub CodePointOfNone : Type 0
+CodePointOfNone = code_point_at (utf8 []) ≡ None

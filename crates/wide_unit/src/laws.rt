@@ -4,7 +4,7 @@ ghost use Rattle.wide_unit.specs.EncodingForm.{Utf16, Utf32};
 ghost use Rattle.wide_unit.specs.Segmentation.{Char, Fault};
 ghost use Rattle.wide_unit.specs.Items.{items, IsFirstFault};
 ghost use Rattle.wide_unit.specs.Lossy.{lossy};
-ghost use Rattle.wide_unit.specs.Statements.{SegmentationExists, SegmentationIsUnique, SegmentationIsLiteral16, SegmentationIsLiteral32, LooseSegmentationsDiffer, ItemsJoinAfter, ItemsJoinBefore, EncodingIsWellFormed, EncodingDecodes, BoundariesAreSeen, EqualCharacters, Utf8IsStds, Units32AreItems, Items32Join, Items32Count, LossyIsScalars, LossyKeepsWellFormed};
+ghost use Rattle.wide_unit.specs.Statements.{SegmentationExists, SegmentationIsUnique, SegmentationIsLiteral16, SegmentationIsLiteral32, LooseSegmentationsDiffer, ItemsJoinAfter, ItemsJoinBefore, EncodingIsWellFormed, EncodingDecodes, BoundariesAreSeen, EqualCharacters, Utf8IsStds, Units32AreItems, Items32Join, Items32Count, LossyIsScalars, LossyKeepsWellFormed, CodePointOfText, CodePointOfNone};
 
 /// Each list of code units has exactly one segmentation (Unicode Standard, section 3.9).
 pub fn one_segmentation()
@@ -63,6 +63,13 @@ pub fn equal_characters()
 /// The UTF-8 bytes of Table 3-6 are those that the standard library writes.
 pub fn utf8_of_characters()
     ensures { Utf8IsStds }
+{}
+
+/// The code point that the bytes of a text begin with is its first character, and the bytes after it are those of the
+/// rest. An empty text has none.
+pub fn code_points_of_text()
+    ensures text { CodePointOfText }
+    ensures empty { CodePointOfNone }
 {}
 
 /// Worked lists: what the definitions say of a pair, of a pair the wrong way round, of no units, and of
