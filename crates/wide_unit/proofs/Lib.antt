@@ -1,2 +1,4 @@
 pub mod Literal
+pub mod Front
+pub mod Back
 pub mod Lengths

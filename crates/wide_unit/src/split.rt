@@ -1,0 +1,54 @@
+//! The first and the last item of a slice of units.
+ghost use Rattle.std.specs.Prelude.{◌≡◌, ◌+◌, ◌++◌, ◌∷◌, ◌↔◌, [], length, map, IsNone, IfSome};
+ghost use Rattle.wide_unit.specs.Segmentation.{item_units};
+ghost use Rattle.wide_unit.specs.Items.{items};
+ghost use Rattle.wide_unit.specs.Unit.{item_of};
+
+use crate::unit::Unit;
+
+/// The first item of the units, and the units after it: a character, or as an `Err` the unit that belongs to none
+/// (Unicode Standard, section 3.9). None where there are no units. It reads at most two units.
+#[inline]
+pub fn split_first<C: Unit>(units: &[C]) -> Option<(Result<char, C>, &[C])>
+    ensures none { IsNone result ↔ (units.now ≡ []) }
+    ensures some { IfSome result (λ r. items C.form (map C.number units.now) ≡ item_of C.number r.0 ∷ items C.form (map C.number r.1.now)) }
+    ensures shorter { IfSome result (λ r. length r.1.now + length (item_units C.form (item_of C.number r.0)) ≡ length units.now) }
+{
+    match units {
+        [] => None,
+        [first, rest @ ..] => {
+            if let Some(c) = first.as_scalar() {
+                return Some((Ok(c), rest));
+            }
+            if let [second, tail @ ..] = rest {
+                if let Some(c) = first.pair_scalar(*second) {
+                    return Some((Ok(c), tail));
+                }
+            }
+            Some((Err(*first), rest))
+        }
+    }
+}
+
+/// The last item of the units, and the units before it, as [`split_first`].
+#[inline]
+pub fn split_last<C: Unit>(units: &[C]) -> Option<(&[C], Result<char, C>)>
+    ensures none { IsNone result ↔ (units.now ≡ []) }
+    ensures some { IfSome result (λ r. items C.form (map C.number units.now) ≡ items C.form (map C.number r.0.now) ++ item_of C.number r.1 ∷ []) }
+    ensures shorter { IfSome result (λ r. length r.0.now + length (item_units C.form (item_of C.number r.1)) ≡ length units.now) }
+{
+    match units {
+        [] => None,
+        [front @ .., last] => {
+            if let Some(c) = last.as_scalar() {
+                return Some((front, Ok(c)));
+            }
+            if let [head @ .., first] = front {
+                if let Some(c) = first.pair_scalar(*last) {
+                    return Some((head, Ok(c)));
+                }
+            }
+            Some((front, Err(*last)))
+        }
+    }
+}
