@@ -13,9 +13,14 @@ invalid_code_point_text code = codes "invalid UTF-32 code point: " ++ digits 16 
 abbrev pub out_of_memory_text : List ℕ
 out_of_memory_text = codes "out of memory"
 
+abbrev pub utf16_error_text : ℕ → ℕ → List ℕ
+utf16_error_text index unit = codes "unpaired UTF-16 surrogate " ++ (digits 16 false unit ++ (codes " at index " ++ decimal index))
+
+abbrev pub utf32_error_text : ℕ → ℕ → List ℕ
+utf32_error_text index unit = codes "invalid UTF-32 value " ++ (digits 16 false unit ++ (codes " at index " ++ decimal index))
+
 abbrev pub transcode_error_text : TranscodeError → List ℕ
-transcode_error_text (Utf16 index unit) =
-    codes "unpaired UTF-16 surrogate " ++ (digits 16 false unit ++ (codes " at index " ++ decimal index))
+transcode_error_text (Utf16 index unit) = utf16_error_text index unit
 transcode_error_text OutOfMemory = out_of_memory_text
 transcode_error_text OddLength = codes "file not encoded as UTF-16"
 transcode_error_text Read = codes "read fault"

@@ -7,5 +7,7 @@
 #![tactic(auto)]
 
 pub mod error;
+pub mod utf;
 
 pub use error::{DecodeUtf16Error, DecodeUtf32Error, OutOfMemory, TranscodeError};
+pub use utf::{FaultUnit, Utf16Error, Utf32Error, UtfError};

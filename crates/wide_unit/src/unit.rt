@@ -1,5 +1,5 @@
 //! The code units of UTF-16 and of UTF-32.
-ghost use Rattle.std.specs.Prelude.{◌≡◌, ◌≢◌, ℕ, ◌↔◌, ◌∷◌, [], List, IsTrue, MatchOption, length, refl};
+ghost use Rattle.std.specs.Prelude.{◌≡◌, ◌≢◌, ◌≤◌, ℕ, ◌↔◌, ◌∷◌, [], List, IsTrue, MatchOption, length, refl};
 ghost use Rattle.std.specs.Char.{IsScalar};
 ghost use Rattle.wide_unit.specs.EncodingForm.{EncodingForm, Utf16, Utf32, code_units, IsFault, IsPair, IsCodeUnit, IsHighSurrogate, IsLowSurrogate};
 ghost use Rattle.wide_unit.specs.Segmentation.{Item, Char, IsSegmentation};
@@ -23,9 +23,15 @@ pub trait Unit: Copy {
     /// The unit whose number is 0.
     const NUL: Self;
 
+    ghost MAX_CHAR_LEN: { ℕ };
+
+    /// The most units that a character takes: 2 in UTF-16, 1 in UTF-32.
+    const MAX_CHAR_LEN: usize;
+
     /// How many units the character takes: 1 or 2 in UTF-16, 1 in UTF-32.
     fn char_len(c: char) -> usize
-        ensures { result ≡ length (code_units form c) };
+        ensures value { result ≡ length (code_units form c) }
+        ensures bound { result ≤ MAX_CHAR_LEN };
 
     /// The character's first unit, and its second where it has one.
     fn encode_char(c: char) -> (Self, Option<Self>)
@@ -75,6 +81,8 @@ impl Unit for u16 {
 
     ghost NUL = { 0 };
 
+    ghost MAX_CHAR_LEN = { 2 };
+
     ghost nul_is_zero = { refl };
 
     ghost same = { λ x y e. e };
@@ -86,6 +94,8 @@ impl Unit for u16 {
     ghost no_low_first = { code_units-no_low_first Utf16 };
 
     const NUL: u16 = 0;
+
+    const MAX_CHAR_LEN: usize = 2;
 
     #[inline]
     fn char_len(c: char) -> usize {
@@ -142,6 +152,8 @@ impl Unit for u32 {
 
     ghost NUL = { 0 };
 
+    ghost MAX_CHAR_LEN = { 1 };
+
     ghost nul_is_zero = { refl };
 
     ghost same = { λ x y e. e };
@@ -153,6 +165,8 @@ impl Unit for u32 {
     ghost no_low_first = { code_units-no_low_first Utf32 };
 
     const NUL: u32 = 0;
+
+    const MAX_CHAR_LEN: usize = 1;
 
     #[inline]
     fn char_len(_c: char) -> usize {

@@ -1,0 +1,15 @@
+-- What an error of units that are not well formed holds.
+use Rattle.std.specs.Prelude.{ℕ, Option}
+use Rattle.std.specs.declared.vec.Vec.{Vec}
+use Rattle.wide_error.specs.declared.utf.UtfError.{UtfError}
+
+module _ {C A : Type 0} where
+  -- the index of the first fault, its unit, and the vector to hand back
+  abbrev pub index_of : UtfError C A → ℕ
+  index_of e = e.index
+
+  abbrev pub unit_of : UtfError C A → C
+  unit_of e = e.unit
+
+  abbrev pub vec_of : UtfError C A → Option (Vec C A)
+  vec_of e = e.vec
