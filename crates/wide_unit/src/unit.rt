@@ -1,10 +1,11 @@
 //! The code units of UTF-16 and of UTF-32.
-ghost use Rattle.std.specs.Prelude.{◌≡◌, ◌≢◌, ◌≤◌, ℕ, ◌↔◌, ◌∷◌, [], List, IsTrue, MatchOption, length, refl};
+ghost use Rattle.std.specs.Prelude.{◌≡◌, ◌≢◌, ◌≤◌, ◌<◌, ℕ, ◌↔◌, ◌∷◌, [], List, IsTrue, MatchOption, length, refl};
 ghost use Rattle.std.specs.Char.{IsScalar};
 ghost use Rattle.wide_unit.specs.EncodingForm.{EncodingForm, Utf16, Utf32, code_units, IsFault, IsPair, IsCodeUnit, IsHighSurrogate, IsLowSurrogate};
 ghost use Rattle.wide_unit.specs.Segmentation.{Item, Char, IsSegmentation};
 ghost use Rattle.wide_unit.specs.Items.{items};
 ghost use Rattle.wide_unit.specs.Unit.{numbers_of};
+ghost use Rattle.std.proofs.Common.{rules};
 ghost use Rattle.wide_unit.specs.Laws.Forms.{code_units-no_low_first};
 ghost use Rattle.wide_unit.specs.Laws.Items.{items-code_units, segmentation-unique};
 
@@ -58,6 +59,9 @@ pub trait Unit: Copy {
         ensures answer { IsTrue result }
         ensures range { IsCodeUnit form (number self) };
 
+    // Each character takes a unit.
+    ghost takes_units: { 0 < MAX_CHAR_LEN };
+
     // NUL is the number 0.
     ghost nul_is_zero: { number NUL ≡ 0 };
 
@@ -82,6 +86,8 @@ impl Unit for u16 {
     ghost NUL = { 0 };
 
     ghost MAX_CHAR_LEN = { 2 };
+
+    ghost takes_units = { Prim.search rules };
 
     ghost nul_is_zero = { refl };
 
@@ -153,6 +159,8 @@ impl Unit for u32 {
     ghost NUL = { 0 };
 
     ghost MAX_CHAR_LEN = { 1 };
+
+    ghost takes_units = { Prim.search rules };
 
     ghost nul_is_zero = { refl };
 

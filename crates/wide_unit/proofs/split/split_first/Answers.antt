@@ -1,6 +1,7 @@
+use Rattle.std.proofs.lemmas.List.{nil_from_length}
 use Rattle.std.proofs.Common.{◌∷◌, ◌-◌, length, take, drop, arith, ap, ◌∙◌}
 use Rattle.wide_unit.specs.EncodingForm.{IsFault, IsPair}
-use Rattle.wide_unit.proofs.Front.{first_rest, same_first, items-first_char, items-first_pair, items-first_fault}
+use Rattle.wide_unit.proofs.Front.{first_rest, same_first, first_of_nil, items-first_char, items-first_pair, items-first_fault}
 use Rattle.wide_unit.proofs.split.split_first.Goals as goal
 use Rattle.wide_unit.proofs.split.split_first.Goals.{in_default-rest, in-len1-up-rest+in_default-pair_scalar}
 
@@ -32,3 +33,6 @@ returns-after-rest-lt1-clause-some g c =
           let apart : ¬ (IsPair form (number x) (number w.second-item.result)) = w.in_default-pair_scalar.ensures in
           apart (rw (same_first rest y w.second-item.result tail e w.second-item.is) at pair))
     ]
+
+pub returns-in-empty-clause-no_items : goal.returns-in-empty-clause-no_items
+returns-in-empty-clause-no_items g c = first_of_nil g.C.Unit.form g.C.Unit.number c.args.units.now (nil_from_length c.args.units.now (omega arith))

@@ -1,3 +1,5 @@
+use Rattle.wide_unit.proofs.Front.{first_of_nil}
+use Rattle.std.proofs.lemmas.List.{nil_from_length}
 use Rattle.std.proofs.Common.{◌∷◌, [], ◌++◌, ◌-◌, length, take, arith, ap, ◌∙◌, append_assoc}
 use Rattle.std.proofs.lemmas.List.{length_push}
 use Rattle.wide_unit.specs.EncodingForm.{IsFault, IsPair}
@@ -35,3 +37,6 @@ returns-after-front-lt1-clause-some g c =
           let apart : ¬ (IsPair form (number w.first-item.result) (number x)) = w.in_default-pair_scalar.ensures in
           apart (rw (same_last front ys y w.first-item.result e (last_rest front w.first-item.result w.in-len1-up-front.len_at_least w.first-item.is)) at pair))
     ]
+
+pub returns-in-empty-clause-no_items : goal.returns-in-empty-clause-no_items
+returns-in-empty-clause-no_items g c = first_of_nil g.C.Unit.form g.C.Unit.number c.args.units.now (nil_from_length c.args.units.now (omega arith))

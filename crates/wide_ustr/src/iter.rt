@@ -1,0 +1,350 @@
+//! Iterators over the characters of a view, from both ends.
+ghost use Rattle.std.specs.Prelude.{◌≡◌, ◌+◌, ◌/◌, length, Some, IfSome, ⊤};
+ghost use Rattle.std.specs.Iterator.{YieldsFirst, YieldsFirstBy, YieldsLast, YieldsLastBy, at_most, UpTo};
+ghost use Rattle.std.specs.Iterator.SizeHint.{IsWithinCount};
+ghost use Rattle.wide_unit.specs.Unit.{item_of};
+ghost use Rattle.wide_unit.specs.Lossy.{lossy_char as lossy_of};
+ghost use Rattle.wide_ustr.specs.Indexed.{indexed_item, taken_length};
+
+use crate::places::Places;
+use std::alloc::AllocError;
+use std::iter::FusedIterator;
+use wide_error::FaultUnit;
+use wide_unit::{split_first, split_last};
+
+// The character, or U+FFFD in place of a fault.
+fn lossy_char<C: FaultUnit>(item: Result<char, C>) -> char
+    ensures { result ≡ lossy_of (item_of C.number item) }
+{
+    match item {
+        Ok(c) => c,
+        Err(_) => char::REPLACEMENT_CHARACTER,
+    }
+}
+
+// The answer of a strict iterator.
+fn answer<C: FaultUnit>(item: Result<char, C>) -> Result<char, C::Fault>
+    ensures { item_of C.told result ≡ item_of C.number item }
+{
+    match item {
+        Ok(c) => Ok(c),
+        Err(unit) => Err(unit.fault()),
+    }
+}
+
+// The bounds on the characters of units that are all still to come: at least one for as many units as a character takes at
+// most, and at most one for each.
+fn unit_hint<C: FaultUnit>(units: &[C]) -> (usize, Option<usize>)
+    ensures least { result.0 ≡ length units.now / C.MAX_CHAR_LEN }
+    ensures most { result.1 ≡ Some (length units.now) }
+{
+    (units.len() / C::MAX_CHAR_LEN, Some(units.len()))
+}
+
+/// The characters of a view, and as errors the units that belong to none. Made by
+/// [`UStr::chars`](crate::UStr::chars).
+#[derive(Clone, Debug, Drop)]
+pub struct Chars<'a, C> {
+    pub(crate) rest: &'a [C],
+}
+
+/// The characters of a view of 16-bit units.
+pub type CharsUtf16<'a> = Chars<'a, u16>;
+
+/// The characters of a view of 32-bit units.
+pub type CharsUtf32<'a> = Chars<'a, u32>;
+
+impl<C: FaultUnit> Iterator for Chars<'_, C> {
+    ghost use Rattle.wide_ustr.specs.Iter.{items_left, chars_rest};
+
+    type Item = Result<char, C::Fault>;
+
+    ghost next_gives = { YieldsFirstBy (item_of C.told) (items_left C.form C.number) };
+
+    ghost remaining = { λ s. at_most (length (chars_rest s)) };
+
+    #[inline]
+    fn next(&mut self) -> Option<Result<char, C::Fault>> {
+        let (item, rest) = split_first(self.rest)?;
+        self.rest = rest;
+        Some(answer(item))
+    }
+
+    fn size_hint(&self) -> (usize, Option<usize>)
+        ensures lower { IsWithinCount result.0 (at_most (length (chars_rest self.now))) }
+        ensures upper { IfSome result.1 (UpTo (at_most (length (chars_rest self.now)))) }
+        ensures least { result.0 ≡ length (chars_rest self.now) / C.MAX_CHAR_LEN }
+        ensures most { result.1 ≡ Some (length (chars_rest self.now)) }
+    {
+        unit_hint(self.rest)
+    }
+}
+
+impl<C: FaultUnit> DoubleEndedIterator for Chars<'_, C> {
+    ghost use Rattle.wide_ustr.specs.Iter.{items_left};
+
+    ghost next_back_gives = { YieldsLastBy (item_of C.told) (items_left C.form C.number) };
+
+    #[inline]
+    fn next_back(&mut self) -> Option<Result<char, C::Fault>> {
+        let (rest, item) = split_last(self.rest)?;
+        self.rest = rest;
+        Some(answer(item))
+    }
+}
+
+impl ExactSizeIterator for Chars<'_, u32> {
+    fn len(&self) -> usize {
+        self.rest.len()
+    }
+}
+
+impl<C: FaultUnit> FusedIterator for Chars<'_, C> {}
+
+/// The characters of a view, with U+FFFD for each unit that belongs to none. Made by
+/// [`UStr::chars_lossy`](crate::UStr::chars_lossy).
+#[derive(Clone, Debug, Drop)]
+pub struct CharsLossy<'a, C> {
+    pub(crate) rest: &'a [C],
+}
+
+/// The lossy characters of a view of 16-bit units.
+pub type CharsLossyUtf16<'a> = CharsLossy<'a, u16>;
+
+/// The lossy characters of a view of 32-bit units.
+pub type CharsLossyUtf32<'a> = CharsLossy<'a, u32>;
+
+impl<C: FaultUnit> Iterator for CharsLossy<'_, C> {
+    ghost use Rattle.wide_ustr.specs.Iter.{lossy_left, chars_lossy_rest};
+
+    type Item = char;
+
+    ghost next_gives = { YieldsFirst (lossy_left C.form C.number) };
+
+    ghost remaining = { λ s. at_most (length (chars_lossy_rest s)) };
+
+    #[inline]
+    fn next(&mut self) -> Option<char> {
+        let (item, rest) = split_first(self.rest)?;
+        self.rest = rest;
+        Some(lossy_char(item))
+    }
+
+    fn size_hint(&self) -> (usize, Option<usize>)
+        ensures lower { IsWithinCount result.0 (at_most (length (chars_lossy_rest self.now))) }
+        ensures upper { IfSome result.1 (UpTo (at_most (length (chars_lossy_rest self.now)))) }
+        ensures least { result.0 ≡ length (chars_lossy_rest self.now) / C.MAX_CHAR_LEN }
+        ensures most { result.1 ≡ Some (length (chars_lossy_rest self.now)) }
+    {
+        unit_hint(self.rest)
+    }
+}
+
+impl<C: FaultUnit> DoubleEndedIterator for CharsLossy<'_, C> {
+    ghost use Rattle.wide_ustr.specs.Iter.{lossy_left};
+
+    ghost next_back_gives = { YieldsLast (lossy_left C.form C.number) };
+
+    #[inline]
+    fn next_back(&mut self) -> Option<char> {
+        let (rest, item) = split_last(self.rest)?;
+        self.rest = rest;
+        Some(lossy_char(item))
+    }
+}
+
+impl ExactSizeIterator for CharsLossy<'_, u32> {
+    fn len(&self) -> usize {
+        self.rest.len()
+    }
+}
+
+impl<C: FaultUnit> FusedIterator for CharsLossy<'_, C> {}
+
+/// The characters of a view and the units that belong to none, each with the offset, in units, at which it begins. Made by
+/// [`UStr::char_indices`](crate::UStr::char_indices).
+#[derive(Debug, Drop)]
+pub struct CharIndices<'a, C> {
+    places: Places<'a, C>,
+}
+
+/// The characters of a view of 16-bit units, with their offsets.
+pub type CharIndicesUtf16<'a> = CharIndices<'a, u16>;
+
+/// The characters of a view of 32-bit units, with their offsets.
+pub type CharIndicesUtf32<'a> = CharIndices<'a, u32>;
+
+impl<'a, C: FaultUnit> CharIndices<'a, C> {
+    ghost use Rattle.wide_ustr.specs.Iter.{indices_rest, offset_of};
+
+    pub(crate) fn new(units: &'a [C]) -> Self
+        ensures rest { indices_rest result ≡ units.now }
+        ensures offset { offset_of result ≡ 0 }
+    {
+        CharIndices {
+            places: Places {
+                rest: units,
+                offset: 0,
+            },
+        }
+    }
+
+    /// The offset, in units, of the next item from the front: how many units were taken from there.
+    pub fn offset(&self) -> usize
+        ensures { result ≡ offset_of self.now }
+    {
+        self.places.offset
+    }
+}
+
+impl<C: Copy> Clone for CharIndices<'_, C> {
+    ghost is_clone = { λ s r. r ≡ s };
+
+    ghost is_infallible = { λ _. ⊤ };
+
+    /// A copy, with the same list to come.
+    fn clone(&self) -> Result<Self, AllocError> {
+        Ok(CharIndices {
+            places: self.places,
+        })
+    }
+}
+
+impl<C: FaultUnit> Iterator for CharIndices<'_, C> {
+    ghost use Rattle.wide_ustr.specs.Iter.{indices_left, indices_rest, offset_of};
+
+    type Item = (usize, Result<char, C::Fault>);
+
+    ghost next_gives = { λ s r t. YieldsFirstBy (indexed_item C.told) (indices_left C.form C.number) s r t × (offset_of t ≡ offset_of s + taken_length C.told C.form r) };
+
+    ghost remaining = { λ s. at_most (length (indices_rest s)) };
+
+    #[inline]
+    fn next(&mut self) -> Option<(usize, Result<char, C::Fault>)> {
+        let (place, item) = self.places.first()?;
+        Some((place, answer(item)))
+    }
+
+    fn size_hint(&self) -> (usize, Option<usize>)
+        ensures lower { IsWithinCount result.0 (at_most (length (indices_rest self.now))) }
+        ensures upper { IfSome result.1 (UpTo (at_most (length (indices_rest self.now)))) }
+        ensures least { result.0 ≡ length (indices_rest self.now) / C.MAX_CHAR_LEN }
+        ensures most { result.1 ≡ Some (length (indices_rest self.now)) }
+    {
+        unit_hint(self.places.rest)
+    }
+}
+
+impl<C: FaultUnit> DoubleEndedIterator for CharIndices<'_, C> {
+    ghost use Rattle.wide_ustr.specs.Iter.{indices_left, offset_of};
+
+    ghost next_back_gives = { λ s r t. YieldsLastBy (indexed_item C.told) (indices_left C.form C.number) s r t × (offset_of t ≡ offset_of s) };
+
+    #[inline]
+    fn next_back(&mut self) -> Option<(usize, Result<char, C::Fault>)> {
+        let (place, item) = self.places.last()?;
+        Some((place, answer(item)))
+    }
+}
+
+impl ExactSizeIterator for CharIndices<'_, u32> {
+    fn len(&self) -> usize {
+        self.places.rest.len()
+    }
+}
+
+impl<C: FaultUnit> FusedIterator for CharIndices<'_, C> {}
+
+/// The characters of a view, with U+FFFD for each unit that belongs to none, each with the offset, in units, at which it
+/// begins. Made by [`UStr::char_indices_lossy`](crate::UStr::char_indices_lossy).
+#[derive(Debug, Drop)]
+pub struct CharIndicesLossy<'a, C> {
+    places: Places<'a, C>,
+}
+
+/// The lossy characters of a view of 16-bit units, with their offsets.
+pub type CharIndicesLossyUtf16<'a> = CharIndicesLossy<'a, u16>;
+
+/// The lossy characters of a view of 32-bit units, with their offsets.
+pub type CharIndicesLossyUtf32<'a> = CharIndicesLossy<'a, u32>;
+
+impl<'a, C: FaultUnit> CharIndicesLossy<'a, C> {
+    ghost use Rattle.wide_ustr.specs.Iter.{indices_lossy_rest, lossy_offset_of};
+
+    pub(crate) fn new(units: &'a [C]) -> Self
+        ensures rest { indices_lossy_rest result ≡ units.now }
+        ensures offset { lossy_offset_of result ≡ 0 }
+    {
+        CharIndicesLossy {
+            places: Places {
+                rest: units,
+                offset: 0,
+            },
+        }
+    }
+
+    /// The offset, in units, of the next character from the front: how many units were taken from there.
+    pub fn offset(&self) -> usize
+        ensures { result ≡ lossy_offset_of self.now }
+    {
+        self.places.offset
+    }
+}
+
+impl<C: Copy> Clone for CharIndicesLossy<'_, C> {
+    ghost is_clone = { λ s r. r ≡ s };
+
+    ghost is_infallible = { λ _. ⊤ };
+
+    /// A copy, with the same list to come.
+    fn clone(&self) -> Result<Self, AllocError> {
+        Ok(CharIndicesLossy {
+            places: self.places,
+        })
+    }
+}
+
+impl<C: FaultUnit> Iterator for CharIndicesLossy<'_, C> {
+    ghost use Rattle.wide_ustr.specs.Iter.{indices_lossy_left, indices_lossy_rest, lossy_offset_of, given_length};
+
+    type Item = (usize, char);
+
+    ghost next_gives = { λ s r t. YieldsFirst (indices_lossy_left C.form C.number) s r t × (lossy_offset_of t ≡ lossy_offset_of s + given_length C.form r) };
+
+    ghost remaining = { λ s. at_most (length (indices_lossy_rest s)) };
+
+    #[inline]
+    fn next(&mut self) -> Option<(usize, char)> {
+        let (place, item) = self.places.first()?;
+        Some((place, lossy_char(item)))
+    }
+
+    fn size_hint(&self) -> (usize, Option<usize>)
+        ensures lower { IsWithinCount result.0 (at_most (length (indices_lossy_rest self.now))) }
+        ensures upper { IfSome result.1 (UpTo (at_most (length (indices_lossy_rest self.now)))) }
+        ensures least { result.0 ≡ length (indices_lossy_rest self.now) / C.MAX_CHAR_LEN }
+        ensures most { result.1 ≡ Some (length (indices_lossy_rest self.now)) }
+    {
+        unit_hint(self.places.rest)
+    }
+}
+
+impl<C: FaultUnit> DoubleEndedIterator for CharIndicesLossy<'_, C> {
+    ghost use Rattle.wide_ustr.specs.Iter.{indices_lossy_left, lossy_offset_of};
+
+    ghost next_back_gives = { λ s r t. YieldsLast (indices_lossy_left C.form C.number) s r t × (lossy_offset_of t ≡ lossy_offset_of s) };
+
+    #[inline]
+    fn next_back(&mut self) -> Option<(usize, char)> {
+        let (place, item) = self.places.last()?;
+        Some((place, lossy_char(item)))
+    }
+}
+
+impl ExactSizeIterator for CharIndicesLossy<'_, u32> {
+    fn len(&self) -> usize {
+        self.places.rest.len()
+    }
+}
+
+impl<C: FaultUnit> FusedIterator for CharIndicesLossy<'_, C> {}

@@ -1,0 +1,56 @@
+//! Items with their places.
+ghost use Rattle.std.specs.Prelude.{◌≡◌, ◌+◌, ◌<◌, ◌^◌, length, OnSome, ⊤};
+ghost use Rattle.std.specs.Iterator.{YieldsFirstBy, YieldsLastBy};
+ghost use Rattle.wide_ustr.specs.Indexed.{indexed_item, taken_length};
+
+use std::alloc::AllocError;
+use wide_unit::{Unit, split_first, split_last};
+
+/// The units that were not taken yet, and the unit offset at which they begin in the whole.
+#[derive(Debug)]
+pub(crate) struct Places<'a, C> {
+    pub(crate) rest: &'a [C],
+    pub(crate) offset: usize,
+    ghost fits: { offset + length rest.now < 2 ^ 64 },
+}
+
+impl<C: Copy> Clone for Places<'_, C> {
+    ghost is_clone = { λ s r. r ≡ s };
+
+    ghost is_infallible = { λ _. ⊤ };
+
+    fn clone(&self) -> Result<Self, AllocError> {
+        Ok(*self)
+    }
+}
+
+impl<C: Copy> Copy for Places<'_, C> {}
+
+impl<C: Unit> Places<'_, C> {
+    ghost use Rattle.wide_ustr.specs.Iter.{places_left, place_of, places_rest};
+
+    // The first item, and where it begins.
+    pub(crate) fn first(&mut self) -> Option<(usize, Result<char, C>)>
+        ensures steps { YieldsFirstBy (indexed_item C.number) (places_left C.form C.number) self.old result self.new }
+        ensures offset { place_of self.new ≡ place_of self.old + taken_length C.number C.form result }
+        ensures shorter { OnSome result (length (places_rest self.new) < length (places_rest self.old)) }
+    {
+        let (item, rest) = split_first(self.rest)?;
+        let place = self.offset;
+        let taken = self.rest.len() - rest.len();
+        self.rest = rest;
+        self.offset = place + taken;
+        Some((place, item))
+    }
+
+    // The last item, and where it begins.
+    pub(crate) fn last(&mut self) -> Option<(usize, Result<char, C>)>
+        ensures steps { YieldsLastBy (indexed_item C.number) (places_left C.form C.number) self.old result self.new }
+        ensures offset { place_of self.new ≡ place_of self.old }
+        ensures shorter { OnSome result (length (places_rest self.new) < length (places_rest self.old)) }
+    {
+        let (rest, item) = split_last(self.rest)?;
+        self.rest = rest;
+        Some((self.offset + rest.len(), item))
+    }
+}
