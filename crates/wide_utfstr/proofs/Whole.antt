@@ -1,0 +1,29 @@
+-- Characters before a place, and the items from it on.
+use Rattle.std.proofs.Common.{◌≡◌, ℕ, ◌+◌, ◌-◌, List, [], ◌∷◌, ◌++◌, refl, sym, ◌∙◌, ap, arith, length, append_assoc, length-append}
+use Rattle.std.specs.Prelude.{map}
+use Rattle.std.proofs.lemmas.List.{append-nil, map_push}
+use Rattle.wide_unit.specs.EncodingForm.{EncodingForm, encode}
+use Rattle.wide_unit.specs.Segmentation.{Item, Char, Fault, units_of}
+use Rattle.wide_unit.specs.Items.{items, IsWellFormed, IsFirstFault}
+use Rattle.wide_unit.specs.Laws.Items.{IsWellFormed-of_chars, units_of-items, units_of-chars}
+use Rattle.wide_unit.specs.Laws.Boundaries.{units_of-append}
+
+-- so far all are characters
+abbrev pub BeginsWithChars : EncodingForm → List ℕ → List ℕ → Type 0
+BeginsWithChars form us rest = (cs : List ℕ) × (items form us ≡ map Char cs ++ items form rest)
+
+pub chars-none : (form : EncodingForm) (us : List ℕ) → BeginsWithChars form us us
+chars-none form us = ([], refl)
+
+pub chars-end : (form : EncodingForm) (us rest : List ℕ) → BeginsWithChars form us rest → items form rest ≡ [] → IsWellFormed form us
+chars-end form us rest so_far e = IsWellFormed-of_chars form us so_far.0 (so_far.1 ∙ ap (λ is. map Char so_far.0 ++ is) e ∙ append-nil (map Char so_far.0))
+
+pub chars-more : (form : EncodingForm) (us rest tail : List ℕ) (c : ℕ) → BeginsWithChars form us rest → items form rest ≡ Char c ∷ items form tail → BeginsWithChars form us tail
+chars-more form us rest tail c so_far e =
+    (so_far.0 ++ c ∷ [], so_far.1 ∙ ap (λ is. map Char so_far.0 ++ is) e ∙ sym (append_assoc (map Char so_far.0) (Char c ∷ []) (items form tail)) ∙ ap (λ is. is ++ items form tail) (sym (map_push Char so_far.0 c)))
+
+pub chars-fault : (form : EncodingForm) (us rest : List ℕ) (u : ℕ) (after : List Item) → BeginsWithChars form us rest → items form rest ≡ Fault u ∷ after → IsFirstFault form us (length us - length rest) u
+chars-fault form us rest u after so_far e =
+    let joined : us ≡ encode form so_far.0 ++ rest = sym (units_of-items form us) ∙ ap (λ is. units_of form is) so_far.1 ∙ units_of-append form (map Char so_far.0) (items form rest) ∙ ap (λ xs. xs ++ units_of form (items form rest)) (units_of-chars form so_far.0) ∙ ap (λ xs. encode form so_far.0 ++ xs) (units_of-items form rest) in
+    let long : length us ≡ length (encode form so_far.0) + length rest = ap length joined ∙ length-append (encode form so_far.0) rest in
+    record { front = so_far.0; rest = after; split = so_far.1 ∙ ap (λ is. map Char so_far.0 ++ is) e; at = omega arith }

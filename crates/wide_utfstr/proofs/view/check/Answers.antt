@@ -1,0 +1,33 @@
+use Rattle.std.proofs.Common.{◌≡◌, ◌∷◌, map, ap, arith, refl, ◌∙◌}
+use Rattle.std.proofs.lemmas.List.{length-map}
+use Rattle.wide_unit.specs.Items.{items}
+use Rattle.wide_unit.specs.Segmentation.{Char, Fault}
+use Rattle.wide_unit.specs.Unit.{item_of}
+use Rattle.wide_unit.proofs.Front.{first_of_nil}
+use Rattle.wide_utfstr.proofs.Whole.{chars-end, chars-more, chars-fault}
+use Rattle.wide_utfstr.proofs.view.check.Goals as goal
+
+pub returns-in-Err-clause-err : goal.returns-in-Err-clause-err
+returns-in-Err-clause-err g c =
+    let form = g.C.Unit.form in
+    let number = g.C.Unit.number in
+    let us = map number c.args.units.now in
+    let rest = map number c.loop-item.rest.now in
+    let head : items form rest ≡ Fault (number c.in-Err.unit) ∷ items form (map number c.in-Some.tail.now) = c.in-Some.ensures.some ∙ ap (λ r. item_of number r ∷ items form (map number c.in-Some.tail.now)) c.in-Err.is in
+    let at = chars-fault form us rest (number c.in-Err.unit) _ c.loop-item.invariant.1 head in
+    record { front = at.front; rest = at.rest; split = at.split; at = at.at ∙ omega (arith, length-map c.args.units.now number, length-map c.loop-item.rest.now number) }
+
+pub loop-item-preserved : goal.loop-item-preserved
+loop-item-preserved g c =
+    let form = g.C.Unit.form in
+    let number = g.C.Unit.number in
+    let us = map number c.args.units.now in
+    let rest = map number c.loop-item.rest.now in
+    let head : items form rest ≡ Char c.in_default-item.field-0 ∷ items form (map number c.in-Some.tail.now) = c.in-Some.ensures.some ∙ ap (λ r. item_of number r ∷ items form (map number c.in-Some.tail.now)) c.in_default-item.is in
+    (omega (arith, c.in-Some.ensures.shorter), chars-more form us rest _ _ c.loop-item.invariant.1 head)
+
+pub returns-clause-ok : goal.returns-clause-ok
+returns-clause-ok g c =
+    let form = g.C.Unit.form in
+    let number = g.C.Unit.number in
+    chars-end form (map number c.args.units.now) (map number c.loop-item.rest.now) c.loop-item.invariant.1 (first_of_nil form number c.loop-item.rest.now (c.in_default.ensures.none.0 refl))
