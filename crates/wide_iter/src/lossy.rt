@@ -1,6 +1,7 @@
 //! Decoders that give U+FFFD in place of each fault.
 ghost use Rattle.std.specs.Prelude.{◌≡◌, ◌/◌, ℕ, false, List, length, Some};
 ghost use Rattle.std.specs.Option.{option_map};
+ghost use Rattle.std.specs.Iterator.{size};
 ghost use Rattle.wide_unit.specs.EncodingForm.{Utf16, Utf32};
 ghost use Rattle.wide_unit.specs.Items.{items};
 ghost use Rattle.wide_unit.specs.Lossy.{lossy};
@@ -146,11 +147,11 @@ impl<I: ExactSizeIterator<Item = u32>> ExactSizeIterator for DecodeUtf32Lossy<I>
     }
 }
 
-impl DecodeUtf32Lossy<Copied<Iter<'_, u32>>> {
-    /// The number of characters, over the units of a slice: one for each unit that wasn't asked for yet.
+impl<I: ExactSizeIterator<Item = u32>> DecodeUtf32Lossy<I> {
+    /// The number of characters, where the source knows how many units it has left, both as the lower and the upper bound.
     pub fn size_hint(&self) -> (usize, Option<usize>)
-        ensures lower { result.0 ≡ length (unasked copied_rest (source32_of (strict32_of self.now))) }
-        ensures upper { result.1 ≡ Some (length (unasked copied_rest (source32_of (strict32_of self.now)))) }
+        ensures lower { result.0 ≡ size (decoder32_count I.remaining (strict32_of self.now)) }
+        ensures upper { result.1 ≡ Some (size (decoder32_count I.remaining (strict32_of self.now))) }
     {
         let left = self.utf32.len();
         (left, Some(left))

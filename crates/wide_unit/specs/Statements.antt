@@ -1,10 +1,10 @@
 -- The laws of the definitions, each the contract of a function of the crate.
-use Rattle.std.specs.Prelude.{◌≡◌, ◌≢◌, ℕ, ◌+◌, ◌<◌, ◌≤◌, ◌↔◌, ◌⊎◌, List, [], ◌∷◌, ◌++◌, map, length, slice_index}
+use Rattle.std.specs.Prelude.{◌≡◌, ◌≢◌, ℕ, ◌≤◌, ◌↔◌, ◌⊎◌, List, [], ◌∷◌, ◌++◌, map, length, slice_index}
 use Rattle.std.specs.Char.{IsScalar, encode_utf8}
 use Rattle.std.specs.List.{All}
 use Rattle.wide_unit.specs.EncodingForm.{EncodingForm, Utf16, Utf32, encode, IsCodeUnit, IsLowSurrogate}
 use Rattle.wide_unit.specs.Segmentation.{Item, Char, Fault, IsSegmentation, IsSegmentation16, IsSegmentation32, IsLooseSegmentation}
-use Rattle.wide_unit.specs.Items.{items, chars, IsWellFormed, IsBoundary, IsFirstFault}
+use Rattle.wide_unit.specs.Items.{items, chars, IsWellFormed, IsBoundary}
 use Rattle.wide_unit.specs.Lossy.{lossy}
 use Rattle.wide_unit.specs.Utf8.{utf8_bytes}
 

@@ -42,7 +42,7 @@ fn from_both_ends(rt: HostRuntime) -> Result<(), Fail> {
 }
 
 #[test]
-fn numbers_of_items(rt: HostRuntime) {
+fn numbers_of_items(rt: HostRuntime) -> Result<(), Fail> {
     let units: [u32; 3] = [0x41, 0xd800, 0x1_f600];
     let mut decoder = decode_utf32(units.iter().copied());
     assert_eq!(rt; decoder.len(), 3);
@@ -55,11 +55,14 @@ fn numbers_of_items(rt: HostRuntime) {
     assert_eq!(rt; lossy.size_hint(), (3, Some(3)));
     assert_eq!(rt; lossy.next(), Some('A'));
     assert_eq!(rt; lossy.len(), 2);
+    let decoder = decode_utf32(units.to_vec(rt.alloc())?);
+    assert_eq!(rt; decoder.size_hint(), (3, Some(3)));
     let narrow: [u16; 3] = [0xd83d, 0xde00, 0x41];
     let mut lossy = decode_utf16_lossy(narrow.iter().copied());
     assert_eq!(rt; lossy.size_hint(), (1, Some(3)));
     assert_eq!(rt; lossy.next_back(), Some('A'));
     assert_eq!(rt; lossy.size_hint(), (1, Some(2)));
+    Ok(())
 }
 
 #[derive(Drop)]
