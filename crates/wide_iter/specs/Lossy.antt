@@ -16,10 +16,10 @@ lossy_answer (Err e) = 0xFFFD
 module _ {I : Type 0} where
   -- the strict decoder whose items are made lossy
   abbrev pub strict16_of : DecodeUtf16Lossy I → DecodeUtf16 I
-  strict16_of s = s.decoder
+  strict16_of s = s.utf16
 
   abbrev pub strict32_of : DecodeUtf32Lossy I → DecodeUtf32 I
-  strict32_of s = s.decoder
+  strict32_of s = s.utf32
 
   -- the characters to come
   abbrev pub lossy16_left : (I → List ℕ) → DecodeUtf16Lossy I → List ℕ

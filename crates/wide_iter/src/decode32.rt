@@ -1,16 +1,14 @@
 //! The decoder of UTF-32.
-ghost use Rattle.std.specs.Prelude.{◌≡◌, ◌∷◌, [], ℕ, false, List, length, Some};
+ghost use Rattle.std.specs.Prelude.{◌≡◌, ◌∷◌, [], ℕ, false, List, Some};
+ghost use Rattle.std.specs.Iterator.{size};
 ghost use Rattle.wide_unit.specs.EncodingForm.{Utf32};
 ghost use Rattle.wide_unit.specs.Items.{items};
 ghost use Rattle.wide_unit.specs.Unit.{told_item};
 ghost use Rattle.wide_iter.specs.Over.{FirstOver, LastOver, IsUnit32};
-ghost use Rattle.wide_iter.specs.Source.{has_ended, inner_of, unasked};
-ghost use Rattle.wide_iter.specs.Sources.{copied_rest};
+ghost use Rattle.wide_iter.specs.Source.{has_ended, inner_of};
 ghost use Rattle.wide_iter.specs.Decoder32.{source32_of, items32_left, CanDecode32, decoder32_count};
 
 use crate::source::Source;
-use std::iter::Copied;
-use std::slice::Iter;
 use wide_error::DecodeUtf32Error;
 use wide_unit::Unit;
 
@@ -87,11 +85,11 @@ impl<I: ExactSizeIterator<Item = u32>> ExactSizeIterator for DecodeUtf32<I> {
     }
 }
 
-impl DecodeUtf32<Copied<Iter<'_, u32>>> {
-    /// The number of items, over the units of a slice: one for each unit that wasn't asked for yet.
+impl<I: ExactSizeIterator<Item = u32>> DecodeUtf32<I> {
+    /// The number of items, where the source knows how many units it has left, both as the lower and the upper bound.
     pub fn size_hint(&self) -> (usize, Option<usize>)
-        ensures lower { result.0 ≡ length (unasked copied_rest (source32_of self.now)) }
-        ensures upper { result.1 ≡ Some (length (unasked copied_rest (source32_of self.now))) }
+        ensures lower { result.0 ≡ size (decoder32_count I.remaining self.now) }
+        ensures upper { result.1 ≡ Some (size (decoder32_count I.remaining self.now)) }
     {
         let left = self.source.len();
         (left, Some(left))

@@ -1,6 +1,7 @@
 //! Decoders that give U+FFFD in place of each fault.
 ghost use Rattle.std.specs.Prelude.{◌≡◌, ◌/◌, ℕ, false, List, length, Some};
 ghost use Rattle.std.specs.Option.{option_map};
+ghost use Rattle.std.specs.Iterator.{size};
 ghost use Rattle.wide_unit.specs.EncodingForm.{Utf16, Utf32};
 ghost use Rattle.wide_unit.specs.Items.{items};
 ghost use Rattle.wide_unit.specs.Lossy.{lossy};
@@ -23,7 +24,7 @@ use std::slice::Iter;
 /// both, stays ended, and asks a source that has ended no more. It takes no memory. Made by [`decode_utf16_lossy`].
 #[derive(Debug, Drop)]
 pub struct DecodeUtf16Lossy<I> {
-    decoder: DecodeUtf16<I>,
+    utf16: DecodeUtf16<I>,
 }
 
 /// An iterator over the characters of UTF-32 units, with U+FFFD in place of each unit that is none (Unicode Standard,
@@ -34,7 +35,7 @@ pub struct DecodeUtf16Lossy<I> {
 /// no memory. Made by [`decode_utf32_lossy`].
 #[derive(Debug, Drop)]
 pub struct DecodeUtf32Lossy<I> {
-    decoder: DecodeUtf32<I>,
+    utf32: DecodeUtf32<I>,
 }
 
 /// A lossy decoder of the 16-bit units that `units` gives.
@@ -44,7 +45,7 @@ pub fn decode_utf16_lossy<U: IntoIterator<Item = u16>>(units: U) -> DecodeUtf16L
     ensures items { (rest : U.IntoIter → List ℕ) → lossy16_left rest result ≡ lossy (items Utf16 (rest (inner_of (source_of (strict16_of result))))) }
 {
     DecodeUtf16Lossy {
-        decoder: decode_utf16(units),
+        utf16: decode_utf16(units),
     }
 }
 
@@ -55,7 +56,7 @@ pub fn decode_utf32_lossy<U: IntoIterator<Item = u32>>(units: U) -> DecodeUtf32L
     ensures items { (rest : U.IntoIter → List ℕ) → lossy32_left rest result ≡ lossy (items Utf32 (rest (inner_of (source32_of (strict32_of result))))) }
 {
     DecodeUtf32Lossy {
-        decoder: decode_utf32(units),
+        utf32: decode_utf32(units),
     }
 }
 
@@ -80,11 +81,11 @@ impl<I: Iterator<Item = u16>> Iterator for DecodeUtf16Lossy<I> {
 
     #[inline]
     fn next(&mut self) -> Option<char> {
-        or_replacement(self.decoder.next())
+        or_replacement(self.utf16.next())
     }
 
     fn size_hint(&self) -> (usize, Option<usize>) {
-        self.decoder.size_hint()
+        self.utf16.size_hint()
     }
 }
 
@@ -95,7 +96,7 @@ impl<I: DoubleEndedIterator<Item = u16>> DoubleEndedIterator for DecodeUtf16Loss
 
     #[inline]
     fn next_back(&mut self) -> Option<char> {
-        or_replacement(self.decoder.next_back())
+        or_replacement(self.utf16.next_back())
     }
 }
 
@@ -106,7 +107,7 @@ impl DecodeUtf16Lossy<Copied<Iter<'_, u16>>> {
         ensures lower { result.0 ≡ length (unasked copied_rest (source_of (strict16_of self.now))) / 2 }
         ensures upper { result.1 ≡ upper_with (Some (length (unasked copied_rest (source_of (strict16_of self.now))))) (held (strict16_of self.now)) }
     {
-        self.decoder.size_hint()
+        self.utf16.size_hint()
     }
 }
 
@@ -121,11 +122,11 @@ impl<I: Iterator<Item = u32>> Iterator for DecodeUtf32Lossy<I> {
 
     #[inline]
     fn next(&mut self) -> Option<char> {
-        or_replacement(self.decoder.next())
+        or_replacement(self.utf32.next())
     }
 
     fn size_hint(&self) -> (usize, Option<usize>) {
-        self.decoder.size_hint()
+        self.utf32.size_hint()
     }
 }
 
@@ -136,22 +137,23 @@ impl<I: DoubleEndedIterator<Item = u32>> DoubleEndedIterator for DecodeUtf32Loss
 
     #[inline]
     fn next_back(&mut self) -> Option<char> {
-        or_replacement(self.decoder.next_back())
+        or_replacement(self.utf32.next_back())
     }
 }
 
 impl<I: ExactSizeIterator<Item = u32>> ExactSizeIterator for DecodeUtf32Lossy<I> {
     fn len(&self) -> usize {
-        self.decoder.len()
+        self.utf32.len()
     }
 }
 
-impl DecodeUtf32Lossy<Copied<Iter<'_, u32>>> {
-    /// The number of characters, over the units of a slice: one for each unit that wasn't asked for yet.
+impl<I: ExactSizeIterator<Item = u32>> DecodeUtf32Lossy<I> {
+    /// The number of characters, where the source knows how many units it has left, both as the lower and the upper bound.
     pub fn size_hint(&self) -> (usize, Option<usize>)
-        ensures lower { result.0 ≡ length (unasked copied_rest (source32_of (strict32_of self.now))) }
-        ensures upper { result.1 ≡ Some (length (unasked copied_rest (source32_of (strict32_of self.now)))) }
+        ensures lower { result.0 ≡ size (decoder32_count I.remaining (strict32_of self.now)) }
+        ensures upper { result.1 ≡ Some (size (decoder32_count I.remaining (strict32_of self.now))) }
     {
-        self.decoder.size_hint()
+        let left = self.utf32.len();
+        (left, Some(left))
     }
 }

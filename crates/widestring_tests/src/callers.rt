@@ -2,8 +2,9 @@
 ghost use Rattle.std.specs.Prelude.{◌≡◌, ℕ, [], IfOk, MatchOption, List, map, ◌∷◌, ◌++◌};
 ghost use Rattle.std.specs.Iterator.{IsFinite, YieldsFirst, item_count};
 ghost use Rattle.wide_iter.specs.Over.{GivesFirst, IsUnit16};
-ghost use Rattle.wide_unit.specs.EncodingForm.{Utf16};
+ghost use Rattle.wide_unit.specs.EncodingForm.{Utf16, Utf32};
 ghost use Rattle.wide_unit.specs.Items.{items};
+ghost use Rattle.wide_unit.specs.Lossy.{lossy};
 ghost use Rattle.wide_unit.specs.Segmentation.{Item};
 ghost use Rattle.wide_unit.specs.Unit.{told_item};
 ghost use Rattle.widestring_tests.specs.Front.{front_rest};
@@ -12,8 +13,8 @@ ghost use Rattle.wide_bytes.specs.declared.mode.Mode.TheVariants.{Strict};
 
 use std::alloc::{AllocError, Global};
 use widestring::bytes::{FromRead, FromWrite, Mode, transcode};
-use widestring::error::{DecodeUtf16Error, TranscodeError};
-use widestring::iter::decode_utf16;
+use widestring::error::{DecodeUtf16Error, DecodeUtf32Error, TranscodeError};
+use widestring::{decode_utf16, decode_utf16_lossy, decode_utf32, decode_utf32_lossy};
 
 /// The UTF-8 text of UTF-16 bytes, over memory: what was written is the text that the definition gives.
 pub fn text_of(alloc: Global, bytes: &[u8]) -> Result<Vec<u8>, TranscodeError>
@@ -90,4 +91,37 @@ pub fn all_of_front(
     ensures { IfOk result (λ v. map told_item v.items ≡ items Utf16 (front_rest units.entry)) }
 {
     decode_utf16(units).collect(alloc)
+}
+
+/// All items of a slice of 32-bit units.
+pub fn all_of32(
+    alloc: Global,
+    units: &[u32],
+) -> Result<Vec<Result<char, DecodeUtf32Error>>, AllocError>
+    ensures { IfOk result (λ v. map told_item v.items ≡ items Utf32 units.now) }
+{
+    decode_utf32(units.iter().copied()).collect(alloc)
+}
+
+/// The lossy text of a vector of units, which is used up.
+pub fn lossy_of16(alloc: Global, units: Vec<u16>) -> Result<Vec<char>, AllocError>
+    ensures { IfOk result (λ v. v.items ≡ lossy (items Utf16 units.items)) }
+{
+    decode_utf16_lossy(units).collect(alloc)
+}
+
+/// The last character of the lossy text of a slice of 32-bit units.
+pub fn last_lossy_of32(units: &[u32]) -> Option<char>
+    ensures { MatchOption result (lossy (items Utf32 units.now) ≡ []) (λ c. (more : List ℕ) × (lossy (items Utf32 units.now) ≡ more ++ c ∷ [])) }
+{
+    decode_utf32_lossy(units.iter().copied()).next_back()
+}
+
+/// The lossy text of what any source gives.
+pub fn lossy_of<I: Iterator<Item = u16>>(alloc: Global, units: I) -> Result<Vec<char>, AllocError>
+    requires can { I.can_next units }
+    requires ends { IsFinite (I.remaining units) }
+    ensures { (rest : I → List ℕ) → GivesFirst IsUnit16 I.next_gives rest → IfOk result (λ v. v.items ≡ lossy (items Utf16 (rest units))) }
+{
+    decode_utf16_lossy(units).collect(alloc)
 }

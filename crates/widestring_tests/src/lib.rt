@@ -8,6 +8,8 @@
 mod bytes_rows;
 pub mod callers;
 #[cfg(test)]
+mod decode32_rows;
+#[cfg(test)]
 mod error_rows;
 #[cfg(test)]
 mod iter_rows;

@@ -72,11 +72,14 @@ fn laws_are_there(_rt: HostRuntime) -> Result<(), Fail> {
     laws::segmentations_by_form();
     laws::neighbours_matter();
     laws::joined_items();
+    laws::units_of_utf32();
+    laws::lossy_text();
     laws::encoded_characters();
     laws::boundaries();
     laws::equal_characters();
     laws::utf8_of_characters();
     laws::worked_items();
+    laws::worked_lossy();
     laws::worked_fault();
     Ok(())
 }

@@ -5,7 +5,7 @@ use Rattle.wide_unit.specs.Lossy.{lossy}
 use Rattle.wide_unit.specs.Laws.Forms.{high-no_low}
 use Rattle.wide_unit.specs.Laws.Items.{items-nil, items-code_units}
 use Rattle.wide_unit.specs.Laws.Ends.{items-front_char, items-front_high}
-use Rattle.wide_unit.specs.Laws.Utf32.{items32-char, items32-fault}
+use Rattle.wide_unit.specs.Laws.Utf32.{items32-fault}
 use Rattle.wide_unit.proofs.laws.worked_lossy.Goals as goal
 
 pub returns-clause-utf16 : goal.returns-clause-utf16
