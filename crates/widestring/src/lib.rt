@@ -7,5 +7,5 @@
 pub use wide_bytes as bytes;
 pub use wide_error as error;
 pub use wide_iter as iter;
-pub use wide_iter::decode_utf16;
+pub use wide_iter::{decode_utf16, encode_utf8, encode_utf16, encode_utf32};
 pub use wide_unit as unit;

@@ -8,6 +8,9 @@
 mod bytes_rows;
 pub mod callers;
 #[cfg(test)]
+mod encode_rows;
+pub mod encoders;
+#[cfg(test)]
 mod error_rows;
 #[cfg(test)]
 mod iter_rows;
