@@ -7,5 +7,12 @@
 pub use wide_bytes as bytes;
 pub use wide_error as error;
 pub use wide_iter as iter;
-pub use wide_iter::{decode_utf16, decode_utf16_lossy, decode_utf32, decode_utf32_lossy};
+pub use wide_iter::{
+    decode_utf16, decode_utf16_lossy, decode_utf32, decode_utf32_lossy, encode_utf8, encode_utf16,
+    encode_utf32,
+};
 pub use wide_unit as unit;
+pub use wide_ustr as ustr;
+pub use wide_ustr::{U16Str, U32Str, WideChar, WideStr};
+pub use wide_utfstr as utfstr;
+pub use wide_utfstr::{Utf16Str, Utf32Str, WideUtfStr};

@@ -10,6 +10,9 @@ pub mod callers;
 #[cfg(test)]
 mod decode32_rows;
 #[cfg(test)]
+mod encode_rows;
+pub mod encoders;
+#[cfg(test)]
 mod error_rows;
 #[cfg(test)]
 mod iter_rows;

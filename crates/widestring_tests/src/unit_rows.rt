@@ -78,6 +78,7 @@ fn laws_are_there(_rt: HostRuntime) -> Result<(), Fail> {
     laws::boundaries();
     laws::equal_characters();
     laws::utf8_of_characters();
+    laws::code_points_of_text();
     laws::worked_items();
     laws::worked_lossy();
     laws::worked_fault();
