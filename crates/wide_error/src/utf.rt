@@ -14,7 +14,7 @@ use wide_unit::Unit;
 /// The trait is this port's own.
 pub trait FaultUnit: Unit {
     /// The fault.
-    type Fault;
+    type Fault: Copy;
 
     // The number of the unit that the fault has.
     ghost told: { Self.Fault → ℕ };

@@ -20,3 +20,5 @@ mod iter_rows;
 mod readme;
 #[cfg(test)]
 mod unit_rows;
+#[cfg(test)]
+mod view_rows;
