@@ -10,7 +10,7 @@ ghost use Rattle.wide_iter.specs.Sources.{copied_rest};
 ghost use Rattle.wide_iter.specs.Decoder16.{source_of, front_hand, back_hand, units_left, items_left, CanDecode, decoder_count, IsSpent, IsNew, held, upper_with};
 
 use crate::source::Source;
-use std::iter::Copied;
+use std::iter::{Copied, FusedIterator};
 use std::slice::Iter;
 use wide_error::DecodeUtf16Error;
 use wide_unit::Unit;
@@ -177,3 +177,5 @@ impl DecodeUtf16<Copied<Iter<'_, u16>>> {
         decoded_hint((left, Some(left)), self.held())
     }
 }
+
+impl<I: Iterator<Item = u16>> FusedIterator for DecodeUtf16<I> {}

@@ -9,6 +9,7 @@ ghost use Rattle.wide_iter.specs.Source.{has_ended, inner_of};
 ghost use Rattle.wide_iter.specs.Decoder32.{source32_of, items32_left, CanDecode32, decoder32_count};
 
 use crate::source::Source;
+use std::iter::FusedIterator;
 use wide_error::DecodeUtf32Error;
 use wide_unit::Unit;
 
@@ -95,3 +96,5 @@ impl<I: ExactSizeIterator<Item = u32>> DecodeUtf32<I> {
         (left, Some(left))
     }
 }
+
+impl<I: Iterator<Item = u32>> FusedIterator for DecodeUtf32<I> {}

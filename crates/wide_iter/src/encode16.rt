@@ -11,7 +11,7 @@ ghost use Rattle.wide_iter.specs.Encoder16.{source_of, unit_in_hand, units_left,
 
 use crate::hints::encoded_hint;
 use crate::source::Source;
-use std::iter::Copied;
+use std::iter::{Copied, FusedIterator};
 use std::slice::Iter;
 use wide_unit::Unit;
 
@@ -80,3 +80,5 @@ impl EncodeUtf16<Copied<Iter<'_, char>>> {
         encoded_hint((left, Some(left)), 2, usize::from(self.second.is_some()))
     }
 }
+
+impl<I: Iterator<Item = char>> FusedIterator for EncodeUtf16<I> {}

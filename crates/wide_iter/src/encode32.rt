@@ -8,7 +8,7 @@ ghost use Rattle.wide_iter.specs.Sources.{copied_rest};
 ghost use Rattle.wide_iter.specs.Encoder32.{source_of, units_left, CanEncode, encoder_count, IsNew};
 
 use crate::source::Source;
-use std::iter::Copied;
+use std::iter::{Copied, FusedIterator};
 use std::slice::Iter;
 
 /// An iterator over the UTF-32 units of characters, one for each (Unicode Standard, section 3.9).
@@ -83,3 +83,5 @@ impl EncodeUtf32<Copied<Iter<'_, char>>> {
         (left, Some(left))
     }
 }
+
+impl<I: Iterator<Item = char>> FusedIterator for EncodeUtf32<I> {}

@@ -10,7 +10,7 @@ ghost use Rattle.wide_iter.specs.Encoder8.{source_of, held_bytes, bytes_in_hand,
 
 use crate::hints::encoded_hint;
 use crate::source::Source;
-use std::iter::Copied;
+use std::iter::{Copied, FusedIterator};
 use std::slice::Iter;
 
 /// The bytes of a character that are still to come, after its first.
@@ -143,3 +143,5 @@ impl EncodeUtf8<Copied<Iter<'_, char>>> {
         encoded_hint((left, Some(left)), 4, self.held())
     }
 }
+
+impl<I: Iterator<Item = char>> FusedIterator for EncodeUtf8<I> {}

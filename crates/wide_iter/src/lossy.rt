@@ -14,7 +14,7 @@ ghost use Rattle.wide_iter.specs.Lossy.{lossy_answer, strict16_of, strict32_of, 
 
 use crate::decode16::{DecodeUtf16, decode_utf16};
 use crate::decode32::{DecodeUtf32, decode_utf32};
-use std::iter::Copied;
+use std::iter::{Copied, FusedIterator};
 use std::slice::Iter;
 
 /// An iterator over the characters of UTF-16 units, with U+FFFD in place of each unit that belongs to none (Unicode
@@ -157,3 +157,7 @@ impl<I: ExactSizeIterator<Item = u32>> DecodeUtf32Lossy<I> {
         (left, Some(left))
     }
 }
+
+impl<I: Iterator<Item = u16>> FusedIterator for DecodeUtf16Lossy<I> {}
+
+impl<I: Iterator<Item = u32>> FusedIterator for DecodeUtf32Lossy<I> {}
