@@ -1,15 +1,27 @@
 //! The families: what each asks of the library.
-mod hints16;
-mod items16;
 
-use std::alloc::{AllocError, Global};
+// What an iterator answers to a call.
+macro_rules! asked {
+    ($iterator:expr, $end:expr) => {
+        match $end {
+            End::Front => $iterator.next(),
+            End::Back => $iterator.next_back(),
+        }
+    };
+}
+
+mod hints;
+mod items;
+
+use crate::parse::NoAnswer;
+use std::alloc::Global;
 
 /// A family of cases, with a file of its own.
 #[derive(Clone, Copy, Debug, PartialEq, Eq)]
 pub enum Family {
-    /// The items of a decoder of UTF-16, from both ends.
+    /// The items of a decoder of UTF-16.
     Items16,
-    /// The bounds that a decoder of UTF-16 tells, at first and after each call.
+    /// The bounds that a decoder of UTF-16 tells.
     Hints16,
 }
 
@@ -33,16 +45,11 @@ impl Family {
         }
     }
 
-    /// What the library answers to a question about a list, as the data writes it; `None` where either can't be parsed.
-    pub fn answer(
-        self,
-        alloc: Global,
-        list: &str,
-        question: &str,
-    ) -> Result<Option<String>, AllocError> {
+    /// What the library answers to a question about a list, as the data writes it.
+    pub fn answer(self, alloc: Global, list: &str, question: &str) -> Result<String, NoAnswer> {
         match self {
-            Family::Items16 => items16::answer(alloc, list, question),
-            Family::Hints16 => hints16::answer(alloc, list, question),
+            Family::Items16 => items::utf16(alloc, list, question),
+            Family::Hints16 => hints::utf16(alloc, list, question),
         }
     }
 }

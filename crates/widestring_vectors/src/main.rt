@@ -1,8 +1,8 @@
 //! Replays the answers of Rust's crate of this name, as `data/` records them, with this library.
 //!
 //! A file of `data/` is a family, and a line of it a list of units or characters in hexadecimal, and then cases, each
-//! after a `|`: a question, a `=` and the recorded answer. Where the crate's own answer is wrong, the recorded one is the
-//! right one, and a `~` and the fault's name stand after it.
+//! after a `|`: a question, a `=` and the answer. Where the crate's own answer is wrong, the answer is the mended one, and
+//! the fault's name and the crate's own answer stand after it, each after a `~`.
 //!
 //! Printed is a line for each family, with how many cases agree with the crate, how many agree with a mended answer and
 //! how many differ, and then the first difference of all. The status is 1 where a case differs, a line can't be parsed

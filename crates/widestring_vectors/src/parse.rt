@@ -1,6 +1,34 @@
 //! Reading lists and calls of the data.
-use std::alloc::{AllocError, Global};
+use std::alloc::{AllocError, AllocFailed, Global};
+use widestring::error::OutOfMemory;
 use widestring::iter::End;
+
+/// Why a question has no answer.
+#[derive(Clone, Copy, Debug, PartialEq, Eq)]
+pub enum NoAnswer {
+    /// The list or the question can't be parsed.
+    Unparsed,
+    /// Memory was refused.
+    OutOfMemory,
+}
+
+impl From<AllocError> for NoAnswer {
+    fn from(_: AllocError) -> NoAnswer {
+        NoAnswer::OutOfMemory
+    }
+}
+
+impl<T: Drop> From<AllocFailed<T>> for NoAnswer {
+    fn from(_: AllocFailed<T>) -> NoAnswer {
+        NoAnswer::OutOfMemory
+    }
+}
+
+impl From<OutOfMemory> for NoAnswer {
+    fn from(_: OutOfMemory) -> NoAnswer {
+        NoAnswer::OutOfMemory
+    }
+}
 
 /// A value that the data writes in hexadecimal.
 pub trait FromHex: Sized {
@@ -26,31 +54,31 @@ impl FromHex for char {
     }
 }
 
-/// The values of a list, with a space between two; `None` where a word has no value.
-pub fn list<T: FromHex + Drop>(alloc: Global, text: &str) -> Result<Option<Vec<T>>, AllocError> {
+/// The values of a list, with a space between two.
+pub fn list<T: FromHex + Drop>(alloc: Global, text: &str) -> Result<Vec<T>, NoAnswer> {
     let mut values = Vec::new(alloc);
     if text.is_empty() {
-        return Ok(Some(values));
+        return Ok(values);
     }
     for word in text.split(' ') {
         let Some(value) = T::from_hex(word) else {
-            return Ok(None);
+            return Err(NoAnswer::Unparsed);
         };
         values.push(value)?;
     }
-    Ok(Some(values))
+    Ok(values)
 }
 
-/// The calls of a word of the letters `F` and `B`; `None` at another letter.
-pub fn calls(alloc: Global, word: &str) -> Result<Option<Vec<End>>, AllocError> {
+/// The calls of a word of the letters `F` and `B`.
+pub fn calls(alloc: Global, word: &str) -> Result<Vec<End>, NoAnswer> {
     let mut ends = Vec::new(alloc);
     for letter in word.bytes() {
         let end = match letter {
             b'F' => End::Front,
             b'B' => End::Back,
-            _ => return Ok(None),
+            _ => return Err(NoAnswer::Unparsed),
         };
         ends.push(end)?;
     }
-    Ok(Some(ends))
+    Ok(ends)
 }

@@ -1,29 +1,42 @@
 //! The replay of a family, and its tally.
 use crate::families::Family;
+use crate::parse::NoAnswer;
 use std::alloc::{AllocError, Global};
 use std::fmt;
 
-// A case: what is asked about a list, and the answer on record.
+// Where the crate is wrong: the fault's name, and the crate's own answer.
+#[derive(Clone, Copy)]
+struct Mended<'a> {
+    fault: &'a str,
+    own: &'a str,
+}
+
+// A case: what is asked about a list, and the right answer.
 #[derive(Drop)]
 struct Case<'a> {
     list: &'a str,
     question: &'a str,
     expected: &'a str,
-    fault: Option<&'a str>,
+    mended: Option<Mended<'a>>,
 }
 
 // The case that a text says about a list; `None` where it says none.
 fn parse_case<'a>(list: &'a str, text: &'a str) -> Option<Case<'a>> {
     let (question, answer) = text.split_once('=')?;
-    let (expected, fault) = match answer.split_once('~') {
-        Some((expected, fault)) => (expected, Some(fault)),
-        None => (answer, None),
+    let Some((expected, mended)) = answer.split_once('~') else {
+        return Some(Case {
+            list,
+            question,
+            expected: answer,
+            mended: None,
+        });
     };
+    let (fault, own) = mended.split_once('~')?;
     Some(Case {
         list,
         question,
         expected,
-        fault,
+        mended: Some(Mended { fault, own }),
     })
 }
 
@@ -52,12 +65,12 @@ impl Replay {
     /// Replays each case of a line. A line without one is a difference.
     pub fn line(&mut self, alloc: Global, line: &str) -> Result<(), AllocError> {
         let Some((list, cases)) = line.split_once('|') else {
-            return self.unparsed(alloc, line);
+            return self.unparsed(alloc, line, "");
         };
         for text in cases.split('|') {
             match parse_case(list, text) {
                 Some(case) => self.case(alloc, &case)?,
-                None => self.unparsed(alloc, line)?,
+                None => self.unparsed(alloc, list, text)?,
             }
         }
         Ok(())
@@ -70,19 +83,26 @@ impl Replay {
 
     // Replays a case.
     fn case(&mut self, alloc: Global, case: &Case) -> Result<(), AllocError> {
-        let Some(got) = self.family.answer(alloc, case.list, case.question)? else {
-            return self.unparsed(alloc, case.list);
+        match self.family.answer(alloc, case.list, case.question) {
+            Ok(got) => self.compare(alloc, case, got.as_str()),
+            Err(NoAnswer::Unparsed) => self.unparsed(alloc, case.list, case.question),
+            Err(NoAnswer::OutOfMemory) => Err(AllocError),
+        }
+    }
+
+    // Compares an answer with the right one.
+    fn compare(&mut self, alloc: Global, case: &Case, got: &str) -> Result<(), AllocError> {
+        if got != case.expected {
+            return self.different(alloc, case, got);
+        }
+        let Some(mended) = case.mended else {
+            self.agree = self.agree.saturating_add(1);
+            return Ok(());
         };
-        if got.as_str() != case.expected {
-            return self.different(alloc, case, got.as_str());
+        if self.family.fault() != Some(mended.fault) || mended.own == case.expected {
+            return self.unparsed(alloc, case.list, mended.fault);
         }
-        match case.fault {
-            None => self.agree = self.agree.saturating_add(1),
-            Some(fault) if self.family.fault() == Some(fault) => {
-                self.mended = self.mended.saturating_add(1);
-            }
-            Some(fault) => return self.unparsed(alloc, fault),
-        }
+        self.mended = self.mended.saturating_add(1);
         Ok(())
     }
 
@@ -101,12 +121,12 @@ impl Replay {
         Ok(())
     }
 
-    // Counts a text of the data that can't be parsed.
-    fn unparsed(&mut self, alloc: Global, text: &str) -> Result<(), AllocError> {
+    // Counts a text of the data, about a list, that can't be parsed.
+    fn unparsed(&mut self, alloc: Global, list: &str, text: &str) -> Result<(), AllocError> {
         self.differ = self.differ.saturating_add(1);
         if self.first.is_none() {
             let name = self.family.name();
-            self.first = Some(format!(in alloc; "{name}: not parsed: {text}")?);
+            self.first = Some(format!(in alloc; "{name} [{list}]: not parsed: {text}")?);
         }
         Ok(())
     }
