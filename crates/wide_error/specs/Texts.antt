@@ -1,4 +1,4 @@
--- What `{}` prints of each error: a unit in lower-case hexadecimal and an index in decimal, neither padded.
+-- What `{}` prints of each error: a unit or number in lower-case hexadecimal and an index in decimal, neither padded.
 use Rattle.std.specs.Prelude.{ℕ, List, ◌++◌, codes, false}
 use Rattle.std.specs.Fmt.{digits, decimal}
 use Rattle.wide_error.specs.declared.error.TranscodeError.{TranscodeError}
@@ -6,6 +6,9 @@ use Rattle.wide_error.specs.declared.error.TranscodeError.TheVariants.{Utf16, Ou
 
 abbrev pub unpaired_surrogate_text : ℕ → List ℕ
 unpaired_surrogate_text unit = codes "unpaired surrogate found: " ++ digits 16 false unit
+
+abbrev pub invalid_code_point_text : ℕ → List ℕ
+invalid_code_point_text code = codes "invalid UTF-32 code point: " ++ digits 16 false code
 
 abbrev pub out_of_memory_text : List ℕ
 out_of_memory_text = codes "out of memory"

@@ -56,6 +56,55 @@ impl fmt::Display for DecodeUtf16Error {
 
 impl Error for DecodeUtf16Error {}
 
+/// A number that is no Unicode scalar value, found where UTF-32 was decoded.
+#[derive(Clone, Copy, Debug, PartialEq, Eq)]
+pub struct DecodeUtf32Error {
+    code: u32,
+}
+
+impl Model for DecodeUtf32Error {
+    ghost use Rattle.std.specs.Prelude.{ℕ};
+
+    ghost Value = { ℕ };
+
+    ghost view = { λ e. e.code };
+
+    ghost inverse = { λ n. record { code = n } };
+}
+
+impl DecodeUtf32Error {
+    /// The error for `code`.
+    pub fn new(code: u32) -> Self
+        ensures { result ≡ code }
+    {
+        DecodeUtf32Error { code }
+    }
+
+    /// The number that is no scalar value.
+    pub fn invalid_code_point(&self) -> u32
+        ensures { result ≡ self.now }
+    {
+        self.code
+    }
+}
+
+impl fmt::Display for DecodeUtf32Error {
+    ghost use Rattle.std.specs.Prelude.{Some};
+    ghost use Rattle.wide_error.specs.Texts.{invalid_code_point_text};
+
+    ghost output = { λ code. Some (invalid_code_point_text code) };
+
+    fn fmt<W: fmt::Write>(&self, f: &mut fmt::Formatter<W>) -> fmt::Result {
+        write!(
+            f,
+            "invalid UTF-32 code point: {:x}",
+            self.invalid_code_point()
+        )
+    }
+}
+
+impl Error for DecodeUtf32Error {}
+
 /// An allocation was refused.
 #[derive(Clone, Copy, Debug, PartialEq, Eq, Hash)]
 pub struct OutOfMemory;

@@ -1,10 +1,11 @@
 //! The errors of the wide string crates, and the text that each of them prints.
 //!
-//! A [`DecodeUtf16Error`] is what a decoder finds where a unit is half of a pair that has no other half.
+//! A [`DecodeUtf16Error`] is what a decoder finds where a unit is half of a pair that has no other half,
+//! and a [`DecodeUtf32Error`] where a number is no Unicode scalar value.
 //! [`OutOfMemory`] is the one error of a call that fails only by memory.
 //! A [`TranscodeError`] is why a file was not put into UTF-8.
 #![tactic(auto)]
 
 pub mod error;
 
-pub use error::{DecodeUtf16Error, OutOfMemory, TranscodeError};
+pub use error::{DecodeUtf16Error, DecodeUtf32Error, OutOfMemory, TranscodeError};

@@ -3,3 +3,5 @@ pub mod Hands
 pub mod Sources
 pub mod Turns
 pub mod Runs
+pub mod Ended
+pub mod Replaced

@@ -2,12 +2,13 @@
 use Rattle.std.proofs.Common.{◌≡◌, ℕ, List, [], ◌∷◌, ◌++◌, sym, ◌∙◌, ap, append_assoc}
 use Rattle.std.specs.Char.{IsScalar}
 use Rattle.std.proofs.lemmas.List.{same_from_push}
-use Rattle.wide_unit.specs.EncodingForm.{EncodingForm, code_units, IsFault, IsPair, IsHighSurrogate, IsLowSurrogate}
+use Rattle.wide_unit.specs.EncodingForm.{EncodingForm, Utf32, code_units, IsFault, IsPair, IsHighSurrogate, IsLowSurrogate}
 use Rattle.wide_unit.specs.Segmentation.{Item, Char, Fault}
 use Rattle.wide_unit.specs.Items.{items}
 use Rattle.wide_unit.specs.Laws.Forms.{IsPair-parts}
 use Rattle.wide_unit.specs.Laws.Items.{items-nil}
 use Rattle.wide_unit.specs.Laws.Ends.{items-first_char, items-first_pair, items-first_fault, items-last_char, items-last_pair, items-last_fault}
+use Rattle.wide_unit.specs.Laws.Utf32.{items32-append}
 
 module _ (form : EncodingForm) (all rest : List ℕ) where
   pub none_left : all ≡ [] → rest ≡ [] → (items form all ≡ []) × (items form rest ≡ [])
@@ -62,3 +63,11 @@ module _ (form : EncodingForm) (all rest : List ℕ) where
     where
       same_end : (xs ys : List ℕ) (x y : ℕ) → xs ++ x ∷ [] ≡ ys ++ y ∷ [] → x ≡ y
       same_end xs ys x y k = (same_from_push xs ys x y k).1
+
+-- in UTF-32, by the item that the unit taken is
+module _ (all rest : List ℕ) (u : ℕ) (i : Item) (alone : items Utf32 (u ∷ []) ≡ i ∷ []) where
+  pub first_unit32 : all ≡ u ∷ rest → items Utf32 all ≡ i ∷ items Utf32 rest
+  first_unit32 e = ap (λ us. items Utf32 us) e ∙ items32-append (u ∷ []) rest ∙ ap (λ is. is ++ items Utf32 rest) alone
+
+  pub last_unit32 : all ≡ rest ++ u ∷ [] → items Utf32 all ≡ items Utf32 rest ++ i ∷ []
+  last_unit32 e = ap (λ us. items Utf32 us) e ∙ items32-append rest (u ∷ []) ∙ ap (λ is. items Utf32 rest ++ is) alone

@@ -1,5 +1,11 @@
 pub mod Answers
 pub mod Over
 pub mod Decoder16
+pub mod Decoder32
+pub mod Lossy
 pub mod Source
 pub mod Sources
+pub mod Hints
+pub mod Encoder8
+pub mod Encoder16
+pub mod Encoder32

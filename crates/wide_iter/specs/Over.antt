@@ -6,6 +6,9 @@ use Rattle.std.specs.Iterator.{YieldsFirst, YieldsLast, YieldsFirstBy, YieldsLas
 abbrev pub IsUnit16 : ℕ → Type 0
 IsUnit16 u = u < 2 ^ 16
 
+abbrev pub IsUnit32 : ℕ → Type 0
+IsUnit32 u = u < 2 ^ 32
+
 module _ {I A : Type 0} (Fits : A → Type 0) (steps : I → Option A → I → Type 0) (rest : I → List A) where
   -- each call of the source gives the first of what `rest` tells, or the last
   pub record GivesFirst : Type 0 where

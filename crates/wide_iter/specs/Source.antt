@@ -1,5 +1,5 @@
 -- What a source that stays ended has left.
-use Rattle.std.specs.Prelude.{◌≡◌, true, false, Bool, List, [], Option, None, is_none, if◌then◌else◌}
+use Rattle.std.specs.Prelude.{◌≡◌, false, Bool, List, [], Option, None, is_none, if◌then◌else◌}
 use Rattle.std.specs.Bool.{MatchBool}
 use Rattle.std.specs.Iterator.{Count, count_unless}
 use Rattle.wide_iter.specs.declared.source.Source.{Source}

@@ -1,14 +1,15 @@
 //! Reading from both ends, by a list of calls.
 ghost use Rattle.std.specs.Prelude.{◌≡◌, map, IfOk};
 ghost use Rattle.std.specs.Option.{option_map};
-ghost use Rattle.wide_unit.specs.EncodingForm.{Utf16};
+ghost use Rattle.wide_unit.specs.EncodingForm.{Utf16, Utf32};
 ghost use Rattle.wide_unit.specs.Items.{items};
 ghost use Rattle.wide_unit.specs.Unit.{told_item};
 ghost use Rattle.wide_iter.specs.Answers.{answers};
 
 use crate::decode16::decode_utf16;
+use crate::decode32::decode_utf32;
 use std::alloc::Allocator;
-use wide_error::{DecodeUtf16Error, OutOfMemory};
+use wide_error::{DecodeUtf16Error, DecodeUtf32Error, OutOfMemory};
 
 /// An end of a list that an item is asked of.
 #[derive(Clone, Copy, Debug, PartialEq, Eq)]
@@ -19,7 +20,7 @@ pub enum End {
     Back,
 }
 
-/// What a decoder of `units` answers to the calls of `ends`, one answer for each call, in order
+/// What a decoder of the 16-bit `units` answers to the calls of `ends`, one answer for each call, in order
 /// (Unicode Standard, section 3.9).
 ///
 /// Memory for the answers is asked for once; where it is refused, the answer is [`OutOfMemory`].
@@ -40,4 +41,27 @@ pub fn read_ends16<A: Allocator>(
         given.push(answer)?;
     }
     Ok(given)
+}
+
+/// What a decoder of the 32-bit `units` answers to the calls of `ends`, one answer for each call, in order
+/// (Unicode Standard, section 3.9).
+///
+/// Memory for the answers is asked for once; where it is refused, the answer is [`OutOfMemory`].
+pub fn read_ends32<A: Allocator>(
+    alloc: A,
+    units: &[u32],
+    ends: &[End],
+) -> Result<Vec<Option<Result<char, DecodeUtf32Error>>, A>, OutOfMemory>
+    ensures { IfOk result (λ v. map (option_map told_item) v.items ≡ answers (items Utf32 units.now) ends.now) }
+{
+    let mut answered = Vec::with_capacity(alloc, ends.len())?;
+    let mut decoder = decode_utf32(units.iter().copied());
+    for end in ends {
+        let answer = match end {
+            End::Front => decoder.next(),
+            End::Back => decoder.next_back(),
+        };
+        answered.push(answer)?;
+    }
+    Ok(answered)
 }

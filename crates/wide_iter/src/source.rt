@@ -1,12 +1,8 @@
 //! A source that stays ended.
-ghost use Rattle.std.specs.Prelude.{◌≡◌, length, IfSome};
-ghost use Rattle.std.specs.Iterator.{MakesProgress, UpTo};
+ghost use Rattle.std.specs.Prelude.{◌≡◌, IfSome};
+ghost use Rattle.std.specs.Iterator.{IsFinite, MakesProgress, UpTo, size};
 ghost use Rattle.std.specs.Iterator.SizeHint.{IsWithinCount};
-ghost use Rattle.wide_iter.specs.Source.{CanAsk, source_count, source_steps, unasked};
-ghost use Rattle.wide_iter.specs.Sources.{copied_rest};
-
-use std::iter::Copied;
-use std::slice::Iter;
+ghost use Rattle.wide_iter.specs.Source.{CanAsk, source_count, source_steps};
 
 /// A source that is asked no more once it has answered its end.
 #[derive(Debug, Drop)]
@@ -56,10 +52,11 @@ impl<I: DoubleEndedIterator> Source<I> {
     }
 }
 
-impl<A: Copy> Source<Copied<Iter<'_, A>>> {
-    // How many elements of a slice are to come.
+impl<I: ExactSizeIterator> Source<I> {
+    // How many items are to come.
     pub(crate) fn len(&self) -> usize
-        ensures { result ≡ length (unasked copied_rest self.now) }
+        ensures finite { IsFinite (source_count I.remaining self.now) }
+        ensures value { result ≡ size (source_count I.remaining self.now) }
     {
         if self.ended { 0 } else { self.inner.len() }
     }

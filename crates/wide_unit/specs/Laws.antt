@@ -3,5 +3,7 @@ pub mod Forms
 pub mod Chains
 pub mod Items
 pub mod Ends
+pub mod Utf32
+pub mod Lossy
 pub mod Boundaries
 pub mod Utf8

@@ -1,11 +1,13 @@
 -- The laws of the definitions, each the contract of a function of the crate.
-use Rattle.std.specs.Prelude.{◌≡◌, ◌≢◌, ℕ, ◌+◌, ◌<◌, ◌≤◌, ◌↔◌, ◌⊎◌, List, [], ◌∷◌, ◌++◌, map, length, slice_index}
+use Rattle.std.specs.Prelude.{◌≡◌, ◌≢◌, ℕ, ◌≤◌, ◌↔◌, ◌⊎◌, List, [], ◌∷◌, ◌++◌, map, length, slice_index, Some, None}
 use Rattle.std.specs.Char.{IsScalar, encode_utf8}
 use Rattle.std.specs.List.{All}
 use Rattle.wide_unit.specs.EncodingForm.{EncodingForm, Utf16, Utf32, encode, IsCodeUnit, IsLowSurrogate}
 use Rattle.wide_unit.specs.Segmentation.{Item, Char, Fault, IsSegmentation, IsSegmentation16, IsSegmentation32, IsLooseSegmentation}
-use Rattle.wide_unit.specs.Items.{items, chars, IsWellFormed, IsBoundary, IsFirstFault}
-use Rattle.wide_unit.specs.Utf8.{utf8_bytes}
+use Rattle.wide_unit.specs.Items.{items, chars, IsWellFormed, IsBoundary}
+use Rattle.wide_unit.specs.Lossy.{lossy}
+use Rattle.wide_unit.specs.Utf8.{utf8_bytes, utf8}
+use Rattle.wide_unit.specs.CodePoint.{code_point_at}
 
 -- each list of units has a segmentation, which is `items`
 abbrev pub SegmentationExists : Type 0
@@ -34,6 +36,23 @@ ItemsJoinAfter = (form : EncodingForm) (a b : List ℕ) → IsWellFormed form a 
 abbrev pub ItemsJoinBefore : Type 0
 ItemsJoinBefore = (form : EncodingForm) (a b : List ℕ) → IsWellFormed form b → items form (a ++ b) ≡ items form a ++ items form b
 
+-- in UTF-32 a unit is a character exactly where it is a scalar value, whatever follows it
+abbrev pub Units32AreItems : Type 0
+Units32AreItems = (u : ℕ) (us : List ℕ) → (IsScalar u → items Utf32 (u ∷ us) ≡ Char u ∷ items Utf32 us) × (¬ (IsScalar u) → items Utf32 (u ∷ us) ≡ Fault u ∷ items Utf32 us)
+
+abbrev pub Items32Join : Type 0
+Items32Join = (a b : List ℕ) → items Utf32 (a ++ b) ≡ items Utf32 a ++ items Utf32 b
+
+abbrev pub Items32Count : Type 0
+Items32Count = (us : List ℕ) → length (items Utf32 us) ≡ length us
+
+-- lossy text is of scalar values, and its encoding is the units themselves where those are well formed
+abbrev pub LossyIsScalars : Type 0
+LossyIsScalars = (form : EncodingForm) (us : List ℕ) → All IsScalar (lossy (items form us))
+
+abbrev pub LossyKeepsWellFormed : Type 0
+LossyKeepsWellFormed = (form : EncodingForm) (us : List ℕ) → IsWellFormed form us → encode form (lossy (items form us)) ≡ us
+
 -- the encoding of characters is well formed, and decodes to them
 abbrev pub EncodingIsWellFormed : Type 0
 EncodingIsWellFormed = (form : EncodingForm) (cs : List ℕ) → All IsScalar cs → IsWellFormed form (encode form cs)
@@ -53,3 +72,10 @@ EqualCharacters = (form : EncodingForm) (us vs : List ℕ) → IsWellFormed form
 -- the bytes of Table 3-6 are those that std writes
 abbrev pub Utf8IsStds : Type 0
 Utf8IsStds = (c : ℕ) → utf8_bytes c ≡ encode_utf8 c
+
+-- bytes of UTF-8 begin with the first character, and the others follow it
+abbrev pub CodePointOfText : Type 0
+CodePointOfText = (c : ℕ) (cs : List ℕ) → IsScalar c → code_point_at (utf8 (c ∷ cs)) ≡ Some (c, utf8 cs)
+
+abbrev pub CodePointOfNone : Type 0
+CodePointOfNone = code_point_at (utf8 []) ≡ None

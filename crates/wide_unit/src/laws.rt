@@ -3,7 +3,8 @@ ghost use Rattle.std.specs.Prelude.{◌≡◌, ◌∷◌, []};
 ghost use Rattle.wide_unit.specs.EncodingForm.{Utf16, Utf32};
 ghost use Rattle.wide_unit.specs.Segmentation.{Char, Fault};
 ghost use Rattle.wide_unit.specs.Items.{items, IsFirstFault};
-ghost use Rattle.wide_unit.specs.Statements.{SegmentationExists, SegmentationIsUnique, SegmentationIsLiteral16, SegmentationIsLiteral32, LooseSegmentationsDiffer, ItemsJoinAfter, ItemsJoinBefore, EncodingIsWellFormed, EncodingDecodes, BoundariesAreSeen, EqualCharacters, Utf8IsStds};
+ghost use Rattle.wide_unit.specs.Lossy.{lossy};
+ghost use Rattle.wide_unit.specs.Statements.{SegmentationExists, SegmentationIsUnique, SegmentationIsLiteral16, SegmentationIsLiteral32, LooseSegmentationsDiffer, ItemsJoinAfter, ItemsJoinBefore, EncodingIsWellFormed, EncodingDecodes, BoundariesAreSeen, EqualCharacters, Utf8IsStds, Units32AreItems, Items32Join, Items32Count, LossyIsScalars, LossyKeepsWellFormed, CodePointOfText, CodePointOfNone};
 
 /// Each list of code units has exactly one segmentation (Unicode Standard, section 3.9).
 pub fn one_segmentation()
@@ -29,6 +30,20 @@ pub fn joined_items()
     ensures before { ItemsJoinBefore }
 {}
 
+/// In UTF-32 each unit is an item, a character exactly where it is a scalar value, whatever stands beside it.
+pub fn units_of_utf32()
+    ensures items { Units32AreItems }
+    ensures joined { Items32Join }
+    ensures count { Items32Count }
+{}
+
+/// Lossy text, with U+FFFD for each fault, is of scalar values, and that of well-formed units encodes to them
+/// (Unicode Standard, section 3.9).
+pub fn lossy_text()
+    ensures scalars { LossyIsScalars }
+    ensures keeps { LossyKeepsWellFormed }
+{}
+
 /// The encoding of characters is well formed and decodes to them.
 pub fn encoded_characters()
     ensures well_formed { EncodingIsWellFormed }
@@ -50,6 +65,13 @@ pub fn utf8_of_characters()
     ensures { Utf8IsStds }
 {}
 
+/// The code point that the bytes of a text begin with is its first character, and the bytes after it are those of the
+/// rest. An empty text has none.
+pub fn code_points_of_text()
+    ensures text { CodePointOfText }
+    ensures empty { CodePointOfNone }
+{}
+
 /// Worked lists: what the definitions say of a pair, of a pair the wrong way round, of no units, and of
 /// 32-bit units that look like a pair.
 pub fn worked_items()
@@ -57,6 +79,12 @@ pub fn worked_items()
     ensures reversed { items Utf16 (0xDE00 ∷ 0xD83D ∷ []) ≡ Fault 0xDE00 ∷ Fault 0xD83D ∷ [] }
     ensures empty { items Utf16 [] ≡ [] }
     ensures utf32 { items Utf32 (0xD800 ∷ 0xDC00 ∷ 0x11_0000 ∷ 0x10_FFFF ∷ []) ≡ Fault 0xD800 ∷ Fault 0xDC00 ∷ Fault 0x11_0000 ∷ Char 0x10_FFFF ∷ [] }
+{}
+
+/// A run of faults gives as many U+FFFD as it is long.
+pub fn worked_lossy()
+    ensures utf16 { lossy (items Utf16 (0xD83D ∷ 0xDE00 ∷ 0xD800 ∷ 0xD801 ∷ [])) ≡ 0x1_F600 ∷ 0xFFFD ∷ 0xFFFD ∷ [] }
+    ensures utf32 { lossy (items Utf32 (0xD800 ∷ 0xDC00 ∷ 0x41 ∷ [])) ≡ 0xFFFD ∷ 0xFFFD ∷ 0x41 ∷ [] }
 {}
 
 /// The index of a first fault counts units: a pair before it counts twice.

@@ -7,5 +7,7 @@
 
 pub mod laws;
 mod unit;
+mod utf8;
 
 pub use unit::Unit;
+pub use utf8::{length_as_utf16, length_as_utf32, next_code_point};

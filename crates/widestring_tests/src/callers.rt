@@ -1,9 +1,12 @@
 //! Callers at concrete sources, whose contracts follow from those of the library.
-ghost use Rattle.std.specs.Prelude.{◌≡◌, [], IfOk, MatchOption, List, map, ◌∷◌, ◌++◌};
+ghost use Rattle.std.specs.Prelude.{◌≡◌, ℕ, [], IfOk, MatchOption, List, map, ◌∷◌, ◌++◌};
+ghost use Rattle.std.specs.Iterator.{IsFinite, YieldsFirst, item_count};
+ghost use Rattle.wide_iter.specs.Over.{GivesFirst, IsUnit16};
 ghost use Rattle.wide_unit.specs.EncodingForm.{Utf16};
 ghost use Rattle.wide_unit.specs.Items.{items};
 ghost use Rattle.wide_unit.specs.Segmentation.{Item};
 ghost use Rattle.wide_unit.specs.Unit.{told_item};
+ghost use Rattle.widestring_tests.specs.Front.{front_rest};
 ghost use Rattle.wide_bytes.specs.Transcoded.{transcoded, Clean};
 ghost use Rattle.wide_bytes.specs.declared.mode.Mode.TheVariants.{Strict};
 
@@ -44,4 +47,47 @@ pub fn all_of(
     ensures { IfOk result (λ v. map told_item v.items ≡ items Utf16 units.now) }
 {
     decode_utf16(units.iter().copied()).collect(alloc)
+}
+
+/// All items of what any source gives, which a function of the source tells.
+pub fn all_of_source<I: Iterator<Item = u16>>(
+    alloc: Global,
+    units: I,
+) -> Result<Vec<Result<char, DecodeUtf16Error>>, AllocError>
+    requires can { I.can_next units }
+    requires ends { IsFinite (I.remaining units) }
+    ensures { (rest : I → List ℕ) → GivesFirst IsUnit16 I.next_gives rest → IfOk result (λ v. map told_item v.items ≡ items Utf16 (rest units)) }
+{
+    decode_utf16(units).collect(alloc)
+}
+
+/// The units of a slice, from the front: a source that is written by hand.
+#[derive(Clone, Copy, Debug)]
+pub struct Front<'a> {
+    /// The units that are left.
+    pub rest: &'a [u16],
+}
+
+impl Iterator for Front<'_> {
+    type Item = u16;
+
+    ghost next_gives = { YieldsFirst front_rest };
+
+    ghost remaining = { item_count front_rest };
+
+    fn next(&mut self) -> Option<u16> {
+        let (first, others) = self.rest.split_first()?;
+        self.rest = others;
+        Some(*first)
+    }
+}
+
+/// All items of the units that a source written by hand gives.
+pub fn all_of_front(
+    alloc: Global,
+    units: Front<'_>,
+) -> Result<Vec<Result<char, DecodeUtf16Error>>, AllocError>
+    ensures { IfOk result (λ v. map told_item v.items ≡ items Utf16 (front_rest units.entry)) }
+{
+    decode_utf16(units).collect(alloc)
 }

@@ -1,5 +1,5 @@
 //! Decoders, from both ends.
-use crate::callers::{all_of, first_of, last_of};
+use crate::callers::{Front, all_of, all_of_front, all_of_source, first_of, last_of};
 use std::test::Fail;
 use widestring::decode_utf16;
 use widestring::error::DecodeUtf16Error;
@@ -85,5 +85,32 @@ fn callers(rt: HostRuntime) -> Result<(), Fail> {
     assert_eq!(rt; first_of(units.to_vec(rt.alloc())?), Some(Ok('A')));
     assert_eq!(rt; last_of(units.to_vec(rt.alloc())?), fault(0xdc00));
     assert_eq!(rt; all_of(rt.alloc(), &units)?.len(), 3);
+    assert_eq!(rt; all_of_source(rt.alloc(), Front { rest: &units })?.len(), 3);
+    assert_eq!(rt; all_of_front(rt.alloc(), Front { rest: &units })?.len(), 3);
     Ok(())
+}
+
+#[test]
+fn hints(rt: HostRuntime) {
+    let mut decoder = decode_utf16([0xd83d, 0xde00, 0x41]);
+    assert_eq!(rt; decoder.size_hint(), (1, Some(3)));
+    assert_eq!(rt; decoder.next_back(), Some(Ok('A')));
+    assert_eq!(rt; decoder.size_hint(), (1, Some(2)));
+    let mut decoder = decode_utf16([0x41, 0xdc00]);
+    assert_eq!(rt; decoder.next_back(), fault(0xdc00));
+    assert_eq!(rt; decoder.size_hint(), (0, Some(1)));
+    let mut decoder = decode_utf16([0xd800, 0x41]);
+    assert_eq!(rt; decoder.next(), fault(0xd800));
+    assert_eq!(rt; decoder.size_hint(), (0, Some(1)));
+    // A unit in each hand.
+    let mut decoder = decode_utf16([0xd800, 0x41, 0x42, 0xdc00]);
+    assert_eq!(rt; decoder.next(), fault(0xd800));
+    assert_eq!(rt; decoder.next_back(), fault(0xdc00));
+    assert_eq!(rt; decoder.size_hint(), (0, Some(2)));
+    let units = [0xd800, 0x41, 0x42, 0x43, 0xdc00];
+    let mut decoder = decode_utf16(units.iter().copied());
+    assert_eq!(rt; decoder.size_hint(), (2, Some(5)));
+    assert_eq!(rt; decoder.next(), fault(0xd800));
+    assert_eq!(rt; decoder.next_back(), fault(0xdc00));
+    assert_eq!(rt; decoder.size_hint(), (0, Some(3)));
 }

@@ -12,4 +12,6 @@ mod error_rows;
 #[cfg(test)]
 mod iter_rows;
 #[cfg(test)]
+mod readme;
+#[cfg(test)]
 mod unit_rows;

@@ -1,38 +1,25 @@
 //! The program, over any devices.
 
-ghost use Rattle.std.specs.Prelude.{◌≡◌, ◌↔◌, ℕ, List, Result, IsSome, false};
+ghost use Rattle.std.specs.Prelude.{◌≡◌, ◌≤◌, ℕ, List, Result, false};
 ghost use Rattle.wide_error.specs.declared.error.TranscodeError.{TranscodeError};
 ghost use Rattle.wide_bytes.specs.Run.{Ends, Moves};
 ghost use Rattle.wide_bytes.specs.Transcoded.{transcoded};
 ghost use Rattle.wide_bytes.specs.declared.mode.Mode.TheVariants.{Strict};
-ghost use Rattle.widetext.specs.Command.{AsksForUtf8, status_of};
+ghost use Rattle.widetext.specs.Command.{AsksForUtf8, IsUnknown, status_of};
 
-use std::alloc::Global;
+use crate::words::{Request, parse_words};
+use std::alloc::{AllocError, Global};
 use std::fmt;
 use std::fmt::Write;
 use wide_bytes::{ByteSink, ByteSource, Mode, put_all, transcode};
-use wide_error::TranscodeError;
+use wide_error::{DecodeUtf16Error, OutOfMemory, TranscodeError};
+use wide_iter::{End, read_ends16};
 
 /// What is printed at wrong words.
 pub const USAGE: &str = "usage: widetext utf8 [--lossy] | ends UNITS CALLS | edit TEXT EDIT..";
 
 /// The status at wrong words.
 pub const WRONG_USAGE: u8 = 2;
-
-/// What the words ask for.
-enum Request {
-    Utf8,
-}
-
-// What the words ask for, where they are in order.
-fn parse_words(words: &[String]) -> Option<Request>
-    ensures { IsSome result ↔ AsksForUtf8 words.now }
-{
-    match words {
-        [word] if word.as_str() == "utf8" => Some(Request::Utf8),
-        _ => None,
-    }
-}
 
 // A sink as something to print on; what can't be written is lost.
 #[derive(Drop)]
@@ -53,6 +40,35 @@ impl<F: ByteSink> fmt::Write for Printer<'_, F> {
 pub fn report<F: ByteSink>(faults: &mut F, text: &impl fmt::Display) {
     let mut printer = Printer { sink: faults };
     let _ = writeln!(printer, "{text}");
+}
+
+// A line for one answer of a decoder.
+fn push_answer(
+    lines: &mut String,
+    answer: &Option<Result<char, DecodeUtf16Error>>,
+) -> Result<(), AllocError> {
+    match answer {
+        Some(Ok(c)) => writeln!(lines, "U+{:04X}", u32::from(*c)),
+        Some(Err(fault)) => writeln!(lines, "fault {:x}", fault.unpaired_surrogate()),
+        None => writeln!(lines, "none"),
+    }
+}
+
+// One line for each answer of a decoder of the units to the calls. All are made before any is written.
+fn write_answers<K: ByteSink>(
+    alloc: Global,
+    sink: &mut K,
+    units: &[u16],
+    ends: &[End],
+) -> Result<(), TranscodeError>
+    requires { K.has_failed sink.old ≡ false }
+{
+    let answers = read_ends16(alloc, units, ends)?;
+    let mut lines = String::new(alloc);
+    for answer in &answers {
+        push_answer(&mut lines, answer)?;
+    }
+    put_all(sink, lines.as_bytes())
 }
 
 /// Does what the words after the program's name say, and answers the exit status: 0 on success, 1 after a refusal,
@@ -78,17 +94,26 @@ pub fn command<S: ByteSource, K: ByteSink, F: ByteSink>(
         × Ends answer (S.has_ended source.new) (transcoded Strict) bytes written
         × (result ≡ status_of answer) }
 
-    // All other words: nothing is read, and nothing written but the usage.
-    ensures usage { ¬ (AsksForUtf8 words.now) → result ≡ 2 }
-    ensures usage_reads_nothing { ¬ (AsksForUtf8 words.now) → source.new ≡ source.old }
-    ensures usage_writes_nothing { ¬ (AsksForUtf8 words.now) → sink.new ≡ sink.old }
+    // All other words read nothing, and wrong ones write nothing but the usage.
+    ensures reads { ¬ (AsksForUtf8 words.now) → source.new ≡ source.old }
+    ensures unknown { IsUnknown words.now → result ≡ 2 }
+    ensures wrong { result ≡ 2 → sink.new ≡ sink.old }
+    ensures statuses { result ≤ 2 }
 {
-    let Some(request) = parse_words(words) else {
-        report(faults, &USAGE);
-        return WRONG_USAGE;
+    let request = match parse_words(alloc, words) {
+        Ok(Some(request)) => request,
+        Ok(None) => {
+            report(faults, &USAGE);
+            return WRONG_USAGE;
+        }
+        Err(_) => {
+            report(faults, &OutOfMemory);
+            return 1;
+        }
     };
     let answer = match request {
         Request::Utf8 => transcode(alloc, source, sink, Mode::Strict),
+        Request::Ends { units, ends } => write_answers(alloc, sink, &units, &ends),
     };
     match answer {
         Ok(()) => 0,

@@ -2,6 +2,7 @@
 #![tactic(auto)]
 
 mod command;
+mod words;
 
 use command::{USAGE, WRONG_USAGE, command, report};
 use std::io::{ErrorKind, Write};

@@ -2,7 +2,7 @@
 use Rattle.std.proofs.Common.{◌≡◌, ℕ, List, [], ◌∷◌, ◌++◌, inl, inr, refl, sym, ◌∙◌, ap, subst}
 use Rattle.std.specs.Prelude.{map}
 use Rattle.std.specs.Char.{IsScalar}
-use Rattle.std.proofs.lemmas.List.{append-nil, append_assoc}
+use Rattle.std.proofs.lemmas.List.{append-nil}
 use Rattle.wide_unit.specs.EncodingForm.{EncodingForm, code_units, IsFault, IsPair, IsHighSurrogate, IsLowSurrogate}
 use Rattle.wide_unit.specs.Segmentation.{Item, Char, Fault, item_units, units_of}
 use Rattle.wide_unit.specs.Items.{items, IsWellFormed, chars}

@@ -278,15 +278,25 @@ fn failing_fault_stream(rt: HostRuntime) -> Result<(), Fail> {
 #[test]
 fn wrong_words(rt: HostRuntime) -> Result<(), Fail> {
     let usage = "usage: widetext utf8 [--lossy] | ends UNITS CALLS | edit TEXT EDIT..\n";
-    let all: [&[&str]; 8] = [
+    let all: [&[&str]; 18] = [
         &[],
         &[""],
         &["utf-8"],
         &["UTF8"],
         &["utf8", ""],
         &["utf8", "--lossy"],
-        &["ends", "0041", "F"],
         &["edit", "a"],
+        &["ends"],
+        &["ends", "0041"],
+        &["ends", "0041", "F", ""],
+        &["ends", "", "F"],
+        &["ends", "00041", "F"],
+        &["ends", "0041,", "F"],
+        &["ends", "0041,,42", "F"],
+        &["ends", "41 42", "F"],
+        &["ends", "+41", "F"],
+        &["ends", "41,-", "F"],
+        &["ends", "41", "f"],
     ];
     for wrong in all {
         let words = strings(&rt, wrong)?;
@@ -302,6 +312,54 @@ fn wrong_words(rt: HostRuntime) -> Result<(), Fail> {
     Ok(())
 }
 
+/// Units, calls, lines.
+type EndsRow = (&'static str, &'static str, &'static str);
+
+#[test]
+fn ends(rt: HostRuntime) -> Result<(), Fail> {
+    let rows: [EndsRow; 8] = [
+        (
+            "D800,0041,DC00",
+            "BFFFB",
+            "fault dc00\nfault d800\nU+0041\nnone\nnone\n",
+        ),
+        ("D83D,DE00", "BF", "U+1F600\nnone\n"),
+        ("DE00,D83D", "FF", "fault de00\nfault d83d\n"),
+        ("-", "F", "none\n"),
+        ("dbff,DfFf,0", "FBB", "U+10FFFF\nU+0000\nnone\n"),
+        ("41", "", ""),
+        ("DC00,D800", "BFF", "fault d800\nfault dc00\nnone\n"),
+        ("0041,DC00", "BF", "fault dc00\nU+0041\n"),
+    ];
+    for (units, calls, lines) in rows {
+        let words = strings(&rt, &["ends", units, calls])?;
+        let mut source = Slow::new(b"a\x00", 4096, 0);
+        let mut sink = SlowSink::new(Vec::new(rt.alloc()), 5, 0, false);
+        let mut said = SlowSink::new(Vec::new(rt.alloc()), 5, 0, false);
+        let answer = command(rt.alloc(), &words, &mut source, &mut sink, &mut said);
+        assert_eq!(rt; answer, 0, "{units} {calls}");
+        assert_eq!(rt; source.calls, 0, "{units} {calls}");
+        assert_eq!(rt; sink.bytes.as_slice(), lines.as_bytes(), "{units} {calls}");
+        assert!(rt; said.bytes.is_empty(), "{units} {calls}");
+    }
+    Ok(())
+}
+
+#[test]
+fn ends_into_a_failing_sink(rt: HostRuntime) -> Result<(), Fail> {
+    let words = strings(&rt, &["ends", "D83D,DE00", "BF"])?;
+    for calls in 0..8usize {
+        let mut source = Slow::new(b"", 4096, 0);
+        let mut sink = SlowSink::new(Vec::new(rt.alloc()), 1, calls + 1, false);
+        let mut said = SlowSink::new(Vec::new(rt.alloc()), 9, 0, false);
+        let answer = command(rt.alloc(), &words, &mut source, &mut sink, &mut said);
+        assert_eq!(rt; answer, 1);
+        assert_eq!(rt; said.bytes.as_slice(), b"write fault\n".as_slice());
+        assert!(rt; b"U+1F600\nnone\n".starts_with(sink.bytes.as_slice()));
+    }
+    Ok(())
+}
+
 // Where an allocation is refused, which a run with failing allocations makes happen at each one in turn, the answer is
 // that memory was refused, and nothing else.
 #[test]
@@ -313,6 +371,25 @@ fn refused_memory(rt: HostRuntime) -> Result<(), Fail> {
     let answer = command(rt.alloc(), &words, &mut source, &mut sink, &mut said);
     if answer == 0 {
         assert_eq!(rt; sink.bytes.as_slice(), b"\xf0\x9f\x98\x80".as_slice());
+        assert_eq!(rt; said.bytes.as_slice(), b"".as_slice());
+    } else {
+        assert_eq!(rt; answer, 1);
+        assert_eq!(rt; sink.bytes.as_slice(), b"".as_slice());
+        assert_eq!(rt; said.bytes.as_slice(), b"out of memory\n".as_slice());
+    }
+    Ok(())
+}
+
+// The same of `ends`, whose lines are all made before any is written.
+#[test]
+fn refused_memory_of_ends(rt: HostRuntime) -> Result<(), Fail> {
+    let words = strings(&rt, &["ends", "D83D,DE00", "BF"])?;
+    let mut source = Slow::new(b"", 3, 0);
+    let mut sink = SlowSink::new(Vec::with_capacity(rt.alloc(), 16)?, 4096, 0, false);
+    let mut said = SlowSink::new(Vec::with_capacity(rt.alloc(), 64)?, 4096, 0, false);
+    let answer = command(rt.alloc(), &words, &mut source, &mut sink, &mut said);
+    if answer == 0 {
+        assert_eq!(rt; sink.bytes.as_slice(), b"U+1F600\nnone\n".as_slice());
         assert_eq!(rt; said.bytes.as_slice(), b"".as_slice());
     } else {
         assert_eq!(rt; answer, 1);

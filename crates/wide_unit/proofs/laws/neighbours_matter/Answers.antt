@@ -1,8 +1,8 @@
 -- A pair as one character, and as two faults.
-use Rattle.std.proofs.Common.{◌≡◌, ℕ, suc, zero, ◌<◌, List, [], ◌∷◌, length, refl, arith, lit≤}
+use Rattle.std.proofs.Common.{suc, zero, [], ◌∷◌, refl, arith, lit≤}
 use Rattle.std.specs.List.{All}
 use Rattle.wide_unit.specs.EncodingForm.{Utf16}
-use Rattle.wide_unit.specs.Segmentation.{Item, Char, Fault, IsItem}
+use Rattle.wide_unit.specs.Segmentation.{Char, Fault, IsItem}
 use Rattle.wide_unit.specs.Laws.Forms.{IsFault-surrogate}
 use Rattle.wide_unit.proofs.laws.neighbours_matter.Goals as goal
 

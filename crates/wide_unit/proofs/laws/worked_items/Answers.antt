@@ -1,6 +1,6 @@
 use Rattle.std.proofs.Common.{◌∷◌, [], ap, ◌∙◌, lit≤, refl}
 use Rattle.wide_unit.specs.EncodingForm.{Utf16, Utf32}
-use Rattle.wide_unit.specs.Segmentation.{Char, Fault}
+use Rattle.wide_unit.specs.Segmentation.{Fault}
 use Rattle.wide_unit.specs.Laws.Forms.{IsFault-no_scalar, no_pair32}
 use Rattle.wide_unit.specs.Laws.Items.{items-nil, items-code_units}
 use Rattle.wide_unit.specs.Laws.Ends.{items-front_fault, items-front_low, items-front_high}

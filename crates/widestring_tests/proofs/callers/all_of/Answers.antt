@@ -4,7 +4,8 @@ use Rattle.wide_unit.specs.Items.{items}
 use Rattle.wide_unit.specs.EncodingForm.{Utf16}
 use Rattle.wide_unit.specs.Unit.{told_item}
 use Rattle.wide_iter.specs.Decoder16.{items_left}
-use Rattle.wide_iter.proofs.Sources.{copied_rest, copied_gives_first}
+use Rattle.wide_iter.specs.Sources.{copied_rest}
+use Rattle.wide_iter.proofs.Sources.{copied_gives_first}
 use Rattle.wide_iter.proofs.Runs.{YieldsList-over}
 use Rattle.widestring_tests.proofs.callers.all_of.Goals as goal
 

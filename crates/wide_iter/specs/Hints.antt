@@ -1,0 +1,7 @@
+-- Upper bounds that may not fit.
+use Rattle.std.specs.Prelude.{ℕ, ◌+◌, ◌*◌, ◌^◌, nat_lt, Option, Some, None, if◌then◌else◌}
+
+-- so many times an upper bound and `more`, where that fits a `usize`
+abbrev pub upper_times : Option ℕ → ℕ → ℕ → Option ℕ
+upper_times None times more = None
+upper_times (Some upper) times more = if nat_lt (upper * times + more) (2 ^ 64) then Some (upper * times + more) else None

@@ -1,0 +1,99 @@
+//! The decoder of UTF-32.
+ghost use Rattle.std.specs.Prelude.{◌≡◌, ◌∷◌, [], ℕ, false, List, length, Some};
+ghost use Rattle.wide_unit.specs.EncodingForm.{Utf32};
+ghost use Rattle.wide_unit.specs.Items.{items};
+ghost use Rattle.wide_unit.specs.Unit.{told_item};
+ghost use Rattle.wide_iter.specs.Over.{FirstOver, LastOver, IsUnit32};
+ghost use Rattle.wide_iter.specs.Source.{has_ended, inner_of, unasked};
+ghost use Rattle.wide_iter.specs.Sources.{copied_rest};
+ghost use Rattle.wide_iter.specs.Decoder32.{source32_of, items32_left, CanDecode32, decoder32_count};
+
+use crate::source::Source;
+use std::iter::Copied;
+use std::slice::Iter;
+use wide_error::DecodeUtf32Error;
+use wide_unit::Unit;
+
+/// An iterator over the characters of UTF-32 units, and over the units that are none (Unicode Standard, section 3.9).
+///
+/// It gives each unit of the source that is a scalar value as `Ok`, and each other one as an `Err` that has its number:
+/// two surrogates are two faults, never a pair. It gives them from both ends where the source has both, and knows their
+/// number where the source does. It stays ended, and asks a source that has ended no more. It takes no memory. Made by
+/// [`decode_utf32`].
+#[derive(Debug, Drop)]
+pub struct DecodeUtf32<I> {
+    source: Source<I>,
+}
+
+/// A decoder of the units that `units` gives.
+pub fn decode_utf32<U: IntoIterator<Item = u32>>(units: U) -> DecodeUtf32<U::IntoIter>
+    ensures source { U.into_iter_gives units (inner_of (source32_of result)) }
+    ensures new { has_ended (source32_of result) ≡ false }
+    ensures items { (rest : U.IntoIter → List ℕ) → items32_left rest result ≡ items Utf32 (rest (inner_of (source32_of result))) }
+{
+    DecodeUtf32 {
+        source: Source {
+            inner: units.into_iter(),
+            ended: false,
+        },
+    }
+}
+
+// The item that a unit is, whatever stands beside it.
+fn decode_unit(unit: u32) -> Result<char, DecodeUtf32Error>
+    ensures { items Utf32 (unit ∷ []) ≡ told_item result ∷ [] }
+{
+    match unit.as_scalar() {
+        Some(c) => Ok(c),
+        None => Err(DecodeUtf32Error::new(unit)),
+    }
+}
+
+impl<I: Iterator<Item = u32>> Iterator for DecodeUtf32<I> {
+    type Item = Result<char, DecodeUtf32Error>;
+
+    ghost can_next = { CanDecode32 I.can_next };
+
+    ghost next_gives = { FirstOver IsUnit32 I.next_gives told_item items32_left };
+
+    ghost remaining = { decoder32_count I.remaining };
+
+    #[inline]
+    fn next(&mut self) -> Option<Result<char, DecodeUtf32Error>> {
+        let unit = self.source.next()?;
+        Some(decode_unit(unit))
+    }
+
+    fn size_hint(&self) -> (usize, Option<usize>) {
+        self.source.size_hint()
+    }
+}
+
+impl<I: DoubleEndedIterator<Item = u32>> DoubleEndedIterator for DecodeUtf32<I> {
+    ghost can_next_back = { CanDecode32 I.can_next_back };
+
+    ghost next_back_gives = { LastOver IsUnit32 I.next_back_gives told_item items32_left };
+
+    #[inline]
+    fn next_back(&mut self) -> Option<Result<char, DecodeUtf32Error>> {
+        let unit = self.source.next_back()?;
+        Some(decode_unit(unit))
+    }
+}
+
+impl<I: ExactSizeIterator<Item = u32>> ExactSizeIterator for DecodeUtf32<I> {
+    fn len(&self) -> usize {
+        self.source.len()
+    }
+}
+
+impl DecodeUtf32<Copied<Iter<'_, u32>>> {
+    /// The number of items, over the units of a slice: one for each unit that wasn't asked for yet.
+    pub fn size_hint(&self) -> (usize, Option<usize>)
+        ensures lower { result.0 ≡ length (unasked copied_rest (source32_of self.now)) }
+        ensures upper { result.1 ≡ Some (length (unasked copied_rest (source32_of self.now))) }
+    {
+        let left = self.source.len();
+        (left, Some(left))
+    }
+}

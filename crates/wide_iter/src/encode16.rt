@@ -1,0 +1,82 @@
+//! The encoder to UTF-16.
+ghost use Rattle.std.specs.Prelude.{◌≡◌, ℕ, List, length, Some};
+ghost use Rattle.std.specs.Option.{option_len};
+ghost use Rattle.std.specs.Char.{IsScalar};
+ghost use Rattle.wide_unit.specs.EncodingForm.{Utf16, encode};
+ghost use Rattle.wide_iter.specs.Over.{FirstOver};
+ghost use Rattle.wide_iter.specs.Hints.{upper_times};
+ghost use Rattle.wide_iter.specs.Source.{inner_of, unasked};
+ghost use Rattle.wide_iter.specs.Sources.{copied_rest};
+ghost use Rattle.wide_iter.specs.Encoder16.{source_of, unit_in_hand, units_left, CanEncode, encoder_count, IsNew};
+
+use crate::hints::encoded_hint;
+use crate::source::Source;
+use std::iter::Copied;
+use std::slice::Iter;
+use wide_unit::Unit;
+
+/// An iterator over the UTF-16 units of characters (Unicode Standard, section 3.9, Table 3-5).
+///
+/// It gives the one or two units of each character of the source, in order, from the front. It stays ended, and asks a
+/// source that has ended no more. It takes no memory. Made by [`encode_utf16`].
+#[derive(Debug, Drop)]
+pub struct EncodeUtf16<I> {
+    source: Source<I>,
+    // The second unit of a pair whose first was given.
+    second: Option<u16>,
+}
+
+/// An encoder of the characters that `chars` gives to UTF-16.
+pub fn encode_utf16<C: IntoIterator<Item = char>>(chars: C) -> EncodeUtf16<C::IntoIter>
+    ensures source { C.into_iter_gives chars (inner_of (source_of result)) }
+    ensures new { IsNew result }
+    ensures units { (rest : C.IntoIter → List ℕ) → units_left rest result ≡ encode Utf16 (rest (inner_of (source_of result))) }
+{
+    EncodeUtf16 {
+        source: Source {
+            inner: chars.into_iter(),
+            ended: false,
+        },
+        second: None,
+    }
+}
+
+impl<I: Iterator<Item = char>> Iterator for EncodeUtf16<I> {
+    type Item = u16;
+
+    ghost can_next = { CanEncode I.can_next };
+
+    ghost next_gives = { FirstOver IsScalar I.next_gives (λ u. u) units_left };
+
+    ghost remaining = { encoder_count I.remaining };
+
+    #[inline]
+    fn next(&mut self) -> Option<u16> {
+        if let Some(unit) = self.second.take() {
+            return Some(unit);
+        }
+        let (first, second) = u16::encode_char(self.source.next()?);
+        self.second = second;
+        Some(first)
+    }
+
+    fn size_hint(&self) -> (usize, Option<usize>) {
+        encoded_hint(
+            self.source.size_hint(),
+            2,
+            usize::from(self.second.is_some()),
+        )
+    }
+}
+
+impl EncodeUtf16<Copied<Iter<'_, char>>> {
+    /// Exact bounds on the number of units, over the characters of a slice: at least one for each that wasn't asked for
+    /// yet, and at most two for each of them and one for a unit in hand.
+    pub fn size_hint(&self) -> (usize, Option<usize>)
+        ensures lower { result.0 ≡ length (unasked copied_rest (source_of self.now)) }
+        ensures upper { result.1 ≡ upper_times (Some (length (unasked copied_rest (source_of self.now)))) 2 (option_len (unit_in_hand self.now)) }
+    {
+        let left = self.source.len();
+        encoded_hint((left, Some(left)), 2, usize::from(self.second.is_some()))
+    }
+}

@@ -1,0 +1,145 @@
+//! The encoder to UTF-8.
+ghost use Rattle.std.specs.Prelude.{◌≡◌, ◌∷◌, ◌≤◌, ℕ, List, length, Some};
+ghost use Rattle.std.specs.Char.{IsScalar};
+ghost use Rattle.wide_unit.specs.Utf8.{utf8_bytes, utf8, trailing_byte};
+ghost use Rattle.wide_iter.specs.Over.{FirstOver};
+ghost use Rattle.wide_iter.specs.Hints.{upper_times};
+ghost use Rattle.wide_iter.specs.Source.{inner_of, unasked};
+ghost use Rattle.wide_iter.specs.Sources.{copied_rest};
+ghost use Rattle.wide_iter.specs.Encoder8.{source_of, held_bytes, bytes_in_hand, bytes_left, CanEncode, encoder_count, IsNew};
+
+use crate::hints::encoded_hint;
+use crate::source::Source;
+use std::iter::Copied;
+use std::slice::Iter;
+
+/// The bytes of a character that are still to come, after its first.
+#[derive(Clone, Copy, Debug)]
+enum Held {
+    Zero,
+    One(u8),
+    Two(u8, u8),
+    Three(u8, u8, u8),
+}
+
+/// An iterator over the UTF-8 bytes of characters (Unicode Standard, section 3.9, Table 3-6).
+///
+/// It gives the bytes of each character of the source, in order, from the front. It stays ended, and asks a source that
+/// has ended no more. It takes no memory. Made by [`encode_utf8`].
+#[derive(Debug, Drop)]
+pub struct EncodeUtf8<I> {
+    source: Source<I>,
+    held: Held,
+}
+
+/// An encoder of the characters that `chars` gives to UTF-8.
+pub fn encode_utf8<C: IntoIterator<Item = char>>(chars: C) -> EncodeUtf8<C::IntoIter>
+    ensures source { C.into_iter_gives chars (inner_of (source_of result)) }
+    ensures new { IsNew result }
+    ensures bytes { (rest : C.IntoIter → List ℕ) → bytes_left rest result ≡ utf8 (rest (inner_of (source_of result))) }
+{
+    EncodeUtf8 {
+        source: Source {
+            inner: chars.into_iter(),
+            ended: false,
+        },
+        held: Held::Zero,
+    }
+}
+
+// The byte of the six lowest bits, after a first one.
+#[inline]
+fn trailing_byte(bits: u32) -> u8
+    ensures { result ≡ trailing_byte bits }
+{
+    (0x80 + bits % 0x40) as u8
+}
+
+// The first byte of a character, and those after it.
+#[inline]
+#[tactic(auto, unfolding(wide_unit::specs::Utf8::utf8_bytes))]
+fn encoded(c: char) -> (u8, Held)
+    ensures { result.0 ∷ held_bytes result.1 ≡ utf8_bytes c }
+{
+    let code = u32::from(c);
+    if code < 0x80 {
+        return (code as u8, Held::Zero);
+    }
+    let last = trailing_byte(code);
+    if code < 0x800 {
+        return ((0xC0 + code / 0x40) as u8, Held::One(last));
+    }
+    let before = trailing_byte(code / 0x40);
+    if code < 0x1_0000 {
+        return ((0xE0 + code / 0x1000) as u8, Held::Two(before, last));
+    }
+    let second = trailing_byte(code / 0x1000);
+    (
+        (0xF0 + code / 0x4_0000) as u8,
+        Held::Three(second, before, last),
+    )
+}
+
+impl<I> EncodeUtf8<I> {
+    // How many bytes are in hand.
+    fn held(&self) -> usize
+        ensures value { result ≡ length (bytes_in_hand self.now) }
+        ensures bound { result ≤ 3 }
+    {
+        match self.held {
+            Held::Zero => 0,
+            Held::One(_) => 1,
+            Held::Two(_, _) => 2,
+            Held::Three(_, _, _) => 3,
+        }
+    }
+}
+
+impl<I: Iterator<Item = char>> Iterator for EncodeUtf8<I> {
+    type Item = u8;
+
+    ghost can_next = { CanEncode I.can_next };
+
+    ghost next_gives = { FirstOver IsScalar I.next_gives (λ b. b) bytes_left };
+
+    ghost remaining = { encoder_count I.remaining };
+
+    #[inline]
+    fn next(&mut self) -> Option<u8> {
+        match self.held {
+            Held::Zero => {
+                let (first, rest) = encoded(self.source.next()?);
+                self.held = rest;
+                Some(first)
+            }
+            Held::One(byte) => {
+                self.held = Held::Zero;
+                Some(byte)
+            }
+            Held::Two(byte, last) => {
+                self.held = Held::One(last);
+                Some(byte)
+            }
+            Held::Three(byte, before, last) => {
+                self.held = Held::Two(before, last);
+                Some(byte)
+            }
+        }
+    }
+
+    fn size_hint(&self) -> (usize, Option<usize>) {
+        encoded_hint(self.source.size_hint(), 4, self.held())
+    }
+}
+
+impl EncodeUtf8<Copied<Iter<'_, char>>> {
+    /// Exact bounds on the number of bytes, over the characters of a slice: at least one for each that wasn't asked for
+    /// yet, and at most four for each of them and one for each byte in hand.
+    pub fn size_hint(&self) -> (usize, Option<usize>)
+        ensures lower { result.0 ≡ length (unasked copied_rest (source_of self.now)) }
+        ensures upper { result.1 ≡ upper_times (Some (length (unasked copied_rest (source_of self.now)))) 4 (length (bytes_in_hand self.now)) }
+    {
+        let left = self.source.len();
+        encoded_hint((left, Some(left)), 4, self.held())
+    }
+}

@@ -1,0 +1,157 @@
+//! Decoders that give U+FFFD in place of each fault.
+ghost use Rattle.std.specs.Prelude.{◌≡◌, ◌/◌, ℕ, false, List, length, Some};
+ghost use Rattle.std.specs.Option.{option_map};
+ghost use Rattle.wide_unit.specs.EncodingForm.{Utf16, Utf32};
+ghost use Rattle.wide_unit.specs.Items.{items};
+ghost use Rattle.wide_unit.specs.Lossy.{lossy};
+ghost use Rattle.wide_iter.specs.Over.{FirstOver, LastOver, IsUnit16, IsUnit32};
+ghost use Rattle.wide_iter.specs.Source.{has_ended, inner_of, unasked};
+ghost use Rattle.wide_iter.specs.Sources.{copied_rest};
+ghost use Rattle.wide_iter.specs.Decoder16.{source_of, CanDecode, decoder_count, IsNew, held, upper_with};
+ghost use Rattle.wide_iter.specs.Decoder32.{source32_of, CanDecode32, decoder32_count};
+ghost use Rattle.wide_iter.specs.Lossy.{lossy_answer, strict16_of, strict32_of, lossy16_left, lossy32_left};
+
+use crate::decode16::{DecodeUtf16, decode_utf16};
+use crate::decode32::{DecodeUtf32, decode_utf32};
+use std::iter::Copied;
+use std::slice::Iter;
+
+/// An iterator over the characters of UTF-16 units, with U+FFFD in place of each unit that belongs to none (Unicode
+/// Standard, section 3.9).
+///
+/// A run of such units gives as many U+FFFD as it is long. It gives the characters from both ends where the source has
+/// both, stays ended, and asks a source that has ended no more. It takes no memory. Made by [`decode_utf16_lossy`].
+#[derive(Debug, Drop)]
+pub struct DecodeUtf16Lossy<I> {
+    decoder: DecodeUtf16<I>,
+}
+
+/// An iterator over the characters of UTF-32 units, with U+FFFD in place of each unit that is none (Unicode Standard,
+/// section 3.9).
+///
+/// A run of such units gives as many U+FFFD as it is long. It gives the characters from both ends where the source has
+/// both, and knows their number where the source does. It stays ended, and asks a source that has ended no more. It takes
+/// no memory. Made by [`decode_utf32_lossy`].
+#[derive(Debug, Drop)]
+pub struct DecodeUtf32Lossy<I> {
+    decoder: DecodeUtf32<I>,
+}
+
+/// A lossy decoder of the 16-bit units that `units` gives.
+pub fn decode_utf16_lossy<U: IntoIterator<Item = u16>>(units: U) -> DecodeUtf16Lossy<U::IntoIter>
+    ensures source { U.into_iter_gives units (inner_of (source_of (strict16_of result))) }
+    ensures new { IsNew (strict16_of result) }
+    ensures items { (rest : U.IntoIter → List ℕ) → lossy16_left rest result ≡ lossy (items Utf16 (rest (inner_of (source_of (strict16_of result))))) }
+{
+    DecodeUtf16Lossy {
+        decoder: decode_utf16(units),
+    }
+}
+
+/// A lossy decoder of the 32-bit units that `units` gives.
+pub fn decode_utf32_lossy<U: IntoIterator<Item = u32>>(units: U) -> DecodeUtf32Lossy<U::IntoIter>
+    ensures source { U.into_iter_gives units (inner_of (source32_of (strict32_of result))) }
+    ensures new { has_ended (source32_of (strict32_of result)) ≡ false }
+    ensures items { (rest : U.IntoIter → List ℕ) → lossy32_left rest result ≡ lossy (items Utf32 (rest (inner_of (source32_of (strict32_of result))))) }
+{
+    DecodeUtf32Lossy {
+        decoder: decode_utf32(units),
+    }
+}
+
+// The character of a strict answer, with U+FFFD in place of a fault.
+fn or_replacement<E: Drop>(answer: Option<Result<char, E>>) -> Option<char>
+    ensures { result ≡ option_map lossy_answer answer }
+{
+    match answer {
+        Some(item) => Some(item.unwrap_or(char::REPLACEMENT_CHARACTER)),
+        None => None,
+    }
+}
+
+impl<I: Iterator<Item = u16>> Iterator for DecodeUtf16Lossy<I> {
+    type Item = char;
+
+    ghost can_next = { λ s. CanDecode I.can_next (strict16_of s) };
+
+    ghost next_gives = { FirstOver IsUnit16 I.next_gives (λ c. c) lossy16_left };
+
+    ghost remaining = { λ s. decoder_count I.remaining (strict16_of s) };
+
+    #[inline]
+    fn next(&mut self) -> Option<char> {
+        or_replacement(self.decoder.next())
+    }
+
+    fn size_hint(&self) -> (usize, Option<usize>) {
+        self.decoder.size_hint()
+    }
+}
+
+impl<I: DoubleEndedIterator<Item = u16>> DoubleEndedIterator for DecodeUtf16Lossy<I> {
+    ghost can_next_back = { λ s. CanDecode I.can_next_back (strict16_of s) };
+
+    ghost next_back_gives = { LastOver IsUnit16 I.next_back_gives (λ c. c) lossy16_left };
+
+    #[inline]
+    fn next_back(&mut self) -> Option<char> {
+        or_replacement(self.decoder.next_back())
+    }
+}
+
+impl DecodeUtf16Lossy<Copied<Iter<'_, u16>>> {
+    /// Exact bounds on the number of characters, over the units of a slice: at least one for two units that weren't asked
+    /// for yet, and at most one for each of them and each in hand.
+    pub fn size_hint(&self) -> (usize, Option<usize>)
+        ensures lower { result.0 ≡ length (unasked copied_rest (source_of (strict16_of self.now))) / 2 }
+        ensures upper { result.1 ≡ upper_with (Some (length (unasked copied_rest (source_of (strict16_of self.now))))) (held (strict16_of self.now)) }
+    {
+        self.decoder.size_hint()
+    }
+}
+
+impl<I: Iterator<Item = u32>> Iterator for DecodeUtf32Lossy<I> {
+    type Item = char;
+
+    ghost can_next = { λ s. CanDecode32 I.can_next (strict32_of s) };
+
+    ghost next_gives = { FirstOver IsUnit32 I.next_gives (λ c. c) lossy32_left };
+
+    ghost remaining = { λ s. decoder32_count I.remaining (strict32_of s) };
+
+    #[inline]
+    fn next(&mut self) -> Option<char> {
+        or_replacement(self.decoder.next())
+    }
+
+    fn size_hint(&self) -> (usize, Option<usize>) {
+        self.decoder.size_hint()
+    }
+}
+
+impl<I: DoubleEndedIterator<Item = u32>> DoubleEndedIterator for DecodeUtf32Lossy<I> {
+    ghost can_next_back = { λ s. CanDecode32 I.can_next_back (strict32_of s) };
+
+    ghost next_back_gives = { LastOver IsUnit32 I.next_back_gives (λ c. c) lossy32_left };
+
+    #[inline]
+    fn next_back(&mut self) -> Option<char> {
+        or_replacement(self.decoder.next_back())
+    }
+}
+
+impl<I: ExactSizeIterator<Item = u32>> ExactSizeIterator for DecodeUtf32Lossy<I> {
+    fn len(&self) -> usize {
+        self.decoder.len()
+    }
+}
+
+impl DecodeUtf32Lossy<Copied<Iter<'_, u32>>> {
+    /// The number of characters, over the units of a slice: one for each unit that wasn't asked for yet.
+    pub fn size_hint(&self) -> (usize, Option<usize>)
+        ensures lower { result.0 ≡ length (unasked copied_rest (source32_of (strict32_of self.now))) }
+        ensures upper { result.1 ≡ Some (length (unasked copied_rest (source32_of (strict32_of self.now)))) }
+    {
+        self.decoder.size_hint()
+    }
+}

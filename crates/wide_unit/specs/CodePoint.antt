@@ -1,0 +1,28 @@
+-- The code point that bytes begin with, whether or not they are UTF-8: the bits of its bytes, the highest first.
+use Rattle.std.specs.Prelude.{ℕ, ◌+◌, ◌*◌, ◌%◌, ◌^◌, nat_lt, nat_le, ◌&&◌, if◌then◌else◌, List, [], ◌∷◌, Option, Some, None}
+
+-- bits with those of one more byte, its six lowest
+abbrev pub with_byte : ℕ → ℕ → ℕ
+with_byte bits byte = bits * 2 ^ 6 + byte % 2 ^ 6
+
+-- the bits that a first byte has and those of the one, two or three bytes after it, and what follows these
+abbrev pub with_one : ℕ → List ℕ → Option (ℕ × List ℕ)
+with_one bits (b ∷ rest) = Some (with_byte bits b, rest)
+with_one bits [] = None
+
+abbrev pub with_two : ℕ → List ℕ → Option (ℕ × List ℕ)
+with_two bits (b ∷ c ∷ rest) = Some (with_byte (with_byte bits b) c, rest)
+with_two bits bytes = None
+
+abbrev pub with_three : ℕ → List ℕ → Option (ℕ × List ℕ)
+with_three bits (b ∷ c ∷ d ∷ rest) = Some (with_byte (with_byte (with_byte bits b) c) d, rest)
+with_three bits bytes = None
+
+-- The first byte tells how many follow it: none below 80, one from C0 to DF, two from E0 to EF, and else three.
+abbrev pub code_point_at : List ℕ → Option (ℕ × List ℕ)
+code_point_at [] = None
+code_point_at (a ∷ rest) =
+    if nat_lt a 0x80 then Some (a, rest)
+    else if nat_le 0xC0 a && nat_le a 0xDF then with_one (a % 2 ^ 5) rest
+    else if nat_le 0xE0 a && nat_le a 0xEF then with_two (a % 2 ^ 4) rest
+    else with_three (a % 2 ^ 3) rest

@@ -1,0 +1,28 @@
+-- In UTF-32 each unit is an item, whatever stands beside it.
+use Rattle.std.proofs.Common.{◌≡◌, ℕ, suc, List, [], ◌∷◌, ◌++◌, inl, inr, refl, ◌∙◌, ap, length}
+use Rattle.std.specs.Char.{IsScalar}
+use Rattle.wide_unit.specs.EncodingForm.{Utf32}
+use Rattle.wide_unit.specs.Segmentation.{Item, Char, Fault}
+use Rattle.wide_unit.specs.Items.{items}
+use Rattle.wide_unit.specs.Laws.Forms.{IsFault-no_scalar, no_pair32, unit-cases}
+use Rattle.wide_unit.specs.Laws.Items.{items-append, items-nil}
+use Rattle.wide_unit.specs.Laws.Ends.{items-first_char, items-first_fault}
+
+pub items32-append : (a b : List ℕ) → items Utf32 (a ++ b) ≡ items Utf32 a ++ items Utf32 b
+items32-append a b = items-append Utf32 a b (λ front back h l e f. no_pair32 h l)
+
+pub items32-char : (u : ℕ) (us : List ℕ) → IsScalar u → items Utf32 (u ∷ us) ≡ Char u ∷ items Utf32 us
+items32-char u us is = items-first_char Utf32 (u ∷ us) us u u refl is refl
+
+pub items32-fault : (u : ℕ) (us : List ℕ) → ¬ (IsScalar u) → items Utf32 (u ∷ us) ≡ Fault u ∷ items Utf32 us
+items32-fault u us isnt = items-first_fault Utf32 (u ∷ us) us u refl (IsFault-no_scalar u isnt) (λ l back e. no_pair32 u l)
+
+one_item32 : (u : ℕ) (us : List ℕ) → (i : Item) × (items Utf32 (u ∷ us) ≡ i ∷ items Utf32 us)
+one_item32 u us = elim (unit-cases Utf32 u) [
+  | inl one ↦ (Char one.0, items-first_char Utf32 (u ∷ us) us u one.0 refl one.1 one.2)
+  | inr fault ↦ (Fault u, items-first_fault Utf32 (u ∷ us) us u refl fault (λ l back e. no_pair32 u l))
+]
+
+pub length-items32 : (us : List ℕ) → length (items Utf32 us) ≡ length us
+length-items32 [] = ap length (items-nil Utf32)
+length-items32 (u ∷ us) = let at = one_item32 u us in ap length at.1 ∙ ap suc (length-items32 us)

@@ -1,0 +1,89 @@
+//! What the words of the program ask for.
+ghost use Rattle.std.specs.Prelude.{◌≡◌, ◌≢◌};
+ghost use Rattle.widetext.specs.Command.{AsksForUtf8, IsUnknown};
+
+use std::alloc::{AllocError, Global};
+use wide_iter::End;
+
+/// What the words ask for.
+#[derive(Drop)]
+pub enum Request {
+    /// The UTF-8 text of standard input.
+    Utf8,
+    /// What a decoder of the units answers to the calls.
+    Ends {
+        /// The units to decode.
+        units: Vec<u16>,
+        /// The ends that items are asked of.
+        ends: Vec<End>,
+    },
+}
+
+// The unit of one to four hexadecimal digits.
+fn parse_unit(digits: &str) -> Option<u16> {
+    if digits.len() > 4 || !digits.bytes().all(|digit| digit.is_ascii_hexdigit()) {
+        return None;
+    }
+    u16::from_str_radix(digits, 16).ok()
+}
+
+// The units of a word: `-` for none, or units with commas between them.
+fn parse_units(alloc: Global, word: &str) -> Result<Option<Vec<u16>>, AllocError> {
+    let mut units = Vec::new(alloc);
+    if word == "-" {
+        return Ok(Some(units));
+    }
+    for digits in word.split(',') {
+        let Some(unit) = parse_unit(digits) else {
+            return Ok(None);
+        };
+        units.push(unit)?;
+    }
+    Ok(Some(units))
+}
+
+// The ends that the letters `F` and `B` of a word name.
+fn parse_ends(alloc: Global, word: &str) -> Result<Option<Vec<End>>, AllocError> {
+    let mut ends = Vec::with_capacity(alloc, word.len())?;
+    for letter in word.bytes() {
+        let end = match letter {
+            b'F' => End::Front,
+            b'B' => End::Back,
+            _ => return Ok(None),
+        };
+        ends.push(end)?;
+    }
+    Ok(Some(ends))
+}
+
+// What `ends UNITS CALLS` asks for. Both words are read before any other thing is done.
+fn parse_ends_request(
+    alloc: Global,
+    units: &str,
+    calls: &str,
+) -> Result<Option<Request>, AllocError>
+    ensures { result ≢ Ok (Some Request.Utf8) }
+{
+    let Some(units) = parse_units(alloc, units)? else {
+        return Ok(None);
+    };
+    let Some(ends) = parse_ends(alloc, calls)? else {
+        return Ok(None);
+    };
+    Ok(Some(Request::Ends { units, ends }))
+}
+
+/// What the words ask for, where they are in order.
+pub fn parse_words(alloc: Global, words: &[String]) -> Result<Option<Request>, AllocError>
+    ensures utf8 { AsksForUtf8 words.now → result ≡ Ok (Some Request.Utf8) }
+    ensures utf8_alone { result ≡ Ok (Some Request.Utf8) → AsksForUtf8 words.now }
+    ensures unknown { IsUnknown words.now → result ≡ Ok None }
+{
+    match words {
+        [word] if word.as_str() == "utf8" => Ok(Some(Request::Utf8)),
+        [word, units, calls] if word.as_str() == "ends" => {
+            parse_ends_request(alloc, units.as_str(), calls.as_str())
+        }
+        _ => Ok(None),
+    }
+}
