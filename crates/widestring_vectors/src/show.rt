@@ -20,6 +20,15 @@ pub fn push_item(text: &mut String, item: Option<Result<char, u32>>) -> Result<(
     }
 }
 
+/// Adds a number in hexadecimal, or a `-` for none.
+pub fn push_number(text: &mut String, number: Option<u32>) -> Result<(), AllocError> {
+    push_gap(text)?;
+    match number {
+        None => write!(text, "-"),
+        Some(number) => write!(text, "{number:X}"),
+    }
+}
+
 /// Adds bounds on a number of items: the lower one, a comma, and the upper one or a `-` for none.
 pub fn push_bounds(text: &mut String, bounds: (usize, Option<usize>)) -> Result<(), AllocError> {
     push_gap(text)?;

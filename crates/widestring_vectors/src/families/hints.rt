@@ -5,8 +5,10 @@ ghost use Rattle.std.specs.Iterator.{at_most};
 use crate::parse::{self, NoAnswer};
 use crate::show::push_bounds;
 use std::alloc::Global;
-use widestring::decode_utf16;
-use widestring::iter::End;
+use widestring::iter::{
+    End, decode_utf16, decode_utf16_lossy, decode_utf32, decode_utf32_lossy, encode_utf8,
+    encode_utf16,
+};
 
 // The bounds that an iterator tells, at first and after each call.
 macro_rules! bounds_of {
@@ -110,4 +112,57 @@ pub fn utf16(alloc: Global, list: &str, question: &str) -> Result<String, NoAnsw
         }
         _ => Err(NoAnswer::Unparsed),
     }
+}
+
+/// The bounds that a decoder of UTF-32 tells over the copied units of a slice. A question is a word of calls.
+pub fn utf32(alloc: Global, list: &str, word: &str) -> Result<String, NoAnswer> {
+    let units = parse::list::<u32>(alloc, list)?;
+    let calls = parse::calls(alloc, word)?;
+    bounds_of!(alloc, decode_utf32(units.iter().copied()), &calls)
+}
+
+/// The bounds that a lossy decoder of UTF-16 tells, in the same way.
+pub fn lossy_utf16(alloc: Global, list: &str, word: &str) -> Result<String, NoAnswer> {
+    let units = parse::list::<u16>(alloc, list)?;
+    let calls = parse::calls(alloc, word)?;
+    bounds_of!(alloc, decode_utf16_lossy(units.iter().copied()), &calls)
+}
+
+/// The bounds that a lossy decoder of UTF-32 tells, in the same way.
+pub fn lossy_utf32(alloc: Global, list: &str, word: &str) -> Result<String, NoAnswer> {
+    let units = parse::list::<u32>(alloc, list)?;
+    let calls = parse::calls(alloc, word)?;
+    bounds_of!(alloc, decode_utf32_lossy(units.iter().copied()), &calls)
+}
+
+// The bounds that an encoder tells, at first and after each call from the front.
+macro_rules! front_bounds_of {
+    ($alloc:expr, $iterator:expr, $calls:expr) => {{
+        let mut iterator = $iterator;
+        let mut text = String::new($alloc);
+        push_bounds(&mut text, iterator.size_hint())?;
+        for call in $calls {
+            if *call == End::Back {
+                return Err(NoAnswer::Unparsed);
+            }
+            let _ = iterator.next();
+            push_bounds(&mut text, iterator.size_hint())?;
+        }
+        Ok(text)
+    }};
+}
+
+/// The bounds that an encoder to UTF-8 tells over the copied characters of a slice. A question is a word of calls, all from
+/// the front.
+pub fn of_utf8_encoder(alloc: Global, list: &str, word: &str) -> Result<String, NoAnswer> {
+    let chars = parse::list::<char>(alloc, list)?;
+    let calls = parse::calls(alloc, word)?;
+    front_bounds_of!(alloc, encode_utf8(chars.iter().copied()), &calls)
+}
+
+/// The bounds that an encoder to UTF-16 tells, in the same way.
+pub fn of_utf16_encoder(alloc: Global, list: &str, word: &str) -> Result<String, NoAnswer> {
+    let chars = parse::list::<char>(alloc, list)?;
+    let calls = parse::calls(alloc, word)?;
+    front_bounds_of!(alloc, encode_utf16(chars.iter().copied()), &calls)
 }
