@@ -82,3 +82,20 @@ pub fn calls(alloc: Global, word: &str) -> Result<Vec<End>, NoAnswer> {
     }
     Ok(ends)
 }
+
+/// The letter that a question begins with, and the calls of the rest.
+pub fn kind_and_calls(alloc: Global, question: &str) -> Result<(&str, Vec<End>), NoAnswer> {
+    match question.split_at_checked(1) {
+        Some((kind, word)) => Ok((kind, calls(alloc, word)?)),
+        None => Err(NoAnswer::Unparsed),
+    }
+}
+
+/// That a question is no text.
+pub fn no_question(question: &str) -> Result<(), NoAnswer> {
+    if question.is_empty() {
+        Ok(())
+    } else {
+        Err(NoAnswer::Unparsed)
+    }
+}

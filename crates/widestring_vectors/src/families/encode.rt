@@ -5,18 +5,9 @@ use crate::show::push_number;
 use std::alloc::Global;
 use widestring::iter::{End, encode_utf8, encode_utf16, encode_utf32};
 
-// That a question is no text.
-fn expect_none(question: &str) -> Result<(), NoAnswer> {
-    if question.is_empty() {
-        Ok(())
-    } else {
-        Err(NoAnswer::Unparsed)
-    }
-}
-
 /// All bytes of an encoder to UTF-8.
 pub fn utf8(alloc: Global, list: &str, question: &str) -> Result<String, NoAnswer> {
-    expect_none(question)?;
+    parse::no_question(question)?;
     let chars = parse::list::<char>(alloc, list)?;
     let mut text = String::new(alloc);
     for byte in encode_utf8(chars.iter().copied()) {
@@ -27,7 +18,7 @@ pub fn utf8(alloc: Global, list: &str, question: &str) -> Result<String, NoAnswe
 
 /// All units of an encoder to UTF-16.
 pub fn utf16(alloc: Global, list: &str, question: &str) -> Result<String, NoAnswer> {
-    expect_none(question)?;
+    parse::no_question(question)?;
     let chars = parse::list::<char>(alloc, list)?;
     let mut text = String::new(alloc);
     for unit in encode_utf16(chars.iter().copied()) {

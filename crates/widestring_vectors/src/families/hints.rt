@@ -95,10 +95,7 @@ fn of_vague(alloc: Global, source: Vague, calls: &[End]) -> Result<String, NoAns
 /// most as many as can be counted, and `n` for units of which it says nothing.
 pub fn utf16(alloc: Global, list: &str, question: &str) -> Result<String, NoAnswer> {
     let units = parse::list::<u16>(alloc, list)?;
-    let Some((source, word)) = question.split_at_checked(1) else {
-        return Err(NoAnswer::Unparsed);
-    };
-    let calls = parse::calls(alloc, word)?;
+    let (source, calls) = parse::kind_and_calls(alloc, question)?;
     match source {
         "s" => of_slice(alloc, &units, &calls),
         "a" => of_units(alloc, &units, &calls),
