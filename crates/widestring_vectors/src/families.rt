@@ -1,0 +1,117 @@
+//! The families: what each asks of the library.
+
+// What an iterator answers to a call.
+macro_rules! asked {
+    ($iterator:expr, $end:expr) => {
+        match $end {
+            End::Front => $iterator.next(),
+            End::Back => $iterator.next_back(),
+        }
+    };
+}
+
+mod encode;
+mod hints;
+mod items;
+mod lossy;
+
+use crate::parse::NoAnswer;
+use std::alloc::Global;
+
+/// A family of cases, with a file of its own.
+#[derive(Clone, Copy, Debug, PartialEq, Eq)]
+pub enum Family {
+    /// The items of a decoder of UTF-16.
+    Items16,
+    /// The items of a decoder of UTF-32.
+    Items32,
+    /// The characters of a lossy decoder of UTF-16.
+    Lossy16,
+    /// The characters of a lossy decoder of UTF-32.
+    Lossy32,
+    /// The bytes of an encoder to UTF-8.
+    Encode8,
+    /// The units of an encoder to UTF-16.
+    Encode16,
+    /// The units of an encoder to UTF-32.
+    Encode32,
+    /// The bounds that a decoder of UTF-16 tells.
+    Hints16,
+    /// The bounds that a decoder of UTF-32 tells.
+    Hints32,
+    /// The bounds that a lossy decoder of UTF-16 tells.
+    HintsLossy16,
+    /// The bounds that a lossy decoder of UTF-32 tells.
+    HintsLossy32,
+    /// The bounds that an encoder to UTF-8 tells.
+    HintsEncode8,
+    /// The bounds that an encoder to UTF-16 tells.
+    HintsEncode16,
+}
+
+impl Family {
+    /// All families, in the order in which they are printed.
+    pub const ALL: [Family; 13] = [
+        Family::Items16,
+        Family::Items32,
+        Family::Lossy16,
+        Family::Lossy32,
+        Family::Encode8,
+        Family::Encode16,
+        Family::Encode32,
+        Family::Hints16,
+        Family::Hints32,
+        Family::HintsLossy16,
+        Family::HintsLossy32,
+        Family::HintsEncode8,
+        Family::HintsEncode16,
+    ];
+
+    /// The family's name, which is its file's without `.txt`.
+    pub fn name(self) -> &'static str {
+        match self {
+            Family::Items16 => "items16",
+            Family::Items32 => "items32",
+            Family::Lossy16 => "lossy16",
+            Family::Lossy32 => "lossy32",
+            Family::Encode8 => "encode8",
+            Family::Encode16 => "encode16",
+            Family::Encode32 => "encode32",
+            Family::Hints16 => "hints16",
+            Family::Hints32 => "hints32",
+            Family::HintsLossy16 => "hints_lossy16",
+            Family::HintsLossy32 => "hints_lossy32",
+            Family::HintsEncode8 => "hints_encode8",
+            Family::HintsEncode16 => "hints_encode16",
+        }
+    }
+
+    /// The fault of the crate that the family's mended answers are named by, where it has one.
+    pub fn fault(self) -> Option<&'static str> {
+        match self {
+            Family::Hints16 | Family::HintsLossy16 => Some("utf16-hint-held"),
+            Family::HintsEncode8 => Some("utf8-encoder-hint-held"),
+            Family::HintsEncode16 => Some("utf16-encoder-hint-held"),
+            _ => None,
+        }
+    }
+
+    /// What the library answers to a question about a list, as the data writes it.
+    pub fn answer(self, alloc: Global, list: &str, question: &str) -> Result<String, NoAnswer> {
+        match self {
+            Family::Items16 => items::utf16(alloc, list, question),
+            Family::Items32 => items::utf32(alloc, list, question),
+            Family::Lossy16 => lossy::utf16(alloc, list, question),
+            Family::Lossy32 => lossy::utf32(alloc, list, question),
+            Family::Encode8 => encode::utf8(alloc, list, question),
+            Family::Encode16 => encode::utf16(alloc, list, question),
+            Family::Encode32 => encode::utf32(alloc, list, question),
+            Family::Hints16 => hints::utf16(alloc, list, question),
+            Family::Hints32 => hints::utf32(alloc, list, question),
+            Family::HintsLossy16 => hints::lossy_utf16(alloc, list, question),
+            Family::HintsLossy32 => hints::lossy_utf32(alloc, list, question),
+            Family::HintsEncode8 => hints::of_utf8_encoder(alloc, list, question),
+            Family::HintsEncode16 => hints::of_utf16_encoder(alloc, list, question),
+        }
+    }
+}

@@ -1,0 +1,165 @@
+//! The bounds that an iterator tells, at first and after each call.
+ghost use Rattle.std.specs.Prelude.{◌≤◌, length};
+ghost use Rattle.std.specs.Iterator.{at_most};
+
+use crate::parse::{self, NoAnswer};
+use crate::show::push_bounds;
+use std::alloc::Global;
+use widestring::iter::{
+    End, decode_utf16, decode_utf16_lossy, decode_utf32, decode_utf32_lossy, encode_utf8,
+    encode_utf16,
+};
+
+// The bounds that an iterator tells, at first and after each call.
+macro_rules! bounds_of {
+    ($alloc:expr, $iterator:expr, $calls:expr) => {{
+        let mut iterator = $iterator;
+        let mut text = String::new($alloc);
+        push_bounds(&mut text, iterator.size_hint())?;
+        for call in $calls {
+            let _ = asked!(iterator, call);
+            push_bounds(&mut text, iterator.size_hint())?;
+        }
+        Ok(text)
+    }};
+}
+
+fn of_slice(alloc: Global, units: &[u16], calls: &[End]) -> Result<String, NoAnswer> {
+    bounds_of!(alloc, decode_utf16(units.iter().copied()), calls)
+}
+
+fn of_vec(alloc: Global, units: Vec<u16>, calls: &[End]) -> Result<String, NoAnswer> {
+    bounds_of!(alloc, decode_utf16(units), calls)
+}
+
+fn of_array<const N: usize>(
+    alloc: Global,
+    units: [u16; N],
+    calls: &[End],
+) -> Result<String, NoAnswer>
+    requires { N ≤ 4 }
+{
+    bounds_of!(alloc, decode_utf16(units), calls)
+}
+
+// Over an array, which the data has up to four units.
+fn of_units(alloc: Global, units: &[u16], calls: &[End]) -> Result<String, NoAnswer> {
+    match units {
+        [] => of_array(alloc, [], calls),
+        [a] => of_array(alloc, [*a], calls),
+        [a, b] => of_array(alloc, [*a, *b], calls),
+        [a, b, c] => of_array(alloc, [*a, *b, *c], calls),
+        [a, b, c, d] => of_array(alloc, [*a, *b, *c, *d], calls),
+        _ => Err(NoAnswer::Unparsed),
+    }
+}
+
+// Units of which nothing is told but an upper bound of their number, where there is one.
+#[derive(Drop)]
+struct Vague<'a> {
+    units: &'a [u16],
+    bounded: bool,
+}
+
+impl Iterator for Vague<'_> {
+    type Item = u16;
+
+    ghost remaining = { λ s. at_most (length s.units.now) };
+
+    fn next(&mut self) -> Option<u16> {
+        let (first, others) = self.units.split_first()?;
+        self.units = others;
+        Some(*first)
+    }
+
+    fn size_hint(&self) -> (usize, Option<usize>) {
+        let upper = if self.bounded { Some(usize::MAX) } else { None };
+        (0, upper)
+    }
+}
+
+impl DoubleEndedIterator for Vague<'_> {
+    fn next_back(&mut self) -> Option<u16> {
+        let (last, others) = self.units.split_last()?;
+        self.units = others;
+        Some(*last)
+    }
+}
+
+fn of_vague(alloc: Global, source: Vague, calls: &[End]) -> Result<String, NoAnswer> {
+    bounds_of!(alloc, decode_utf16(source), calls)
+}
+
+/// The bounds that a decoder of UTF-16 tells. A question is a letter of the source, and then a word of calls: `s` for the
+/// copied units of a slice, `a` for an array, `v` for a vector, `m` for units of which the source says that they are at
+/// most as many as can be counted, and `n` for units of which it says nothing.
+pub fn utf16(alloc: Global, list: &str, question: &str) -> Result<String, NoAnswer> {
+    let units = parse::list::<u16>(alloc, list)?;
+    let (source, calls) = parse::kind_and_calls(alloc, question)?;
+    match source {
+        "s" => of_slice(alloc, &units, &calls),
+        "a" => of_units(alloc, &units, &calls),
+        "v" => of_vec(alloc, units, &calls),
+        "m" | "n" => {
+            let vague = Vague {
+                units: &units,
+                bounded: source == "m",
+            };
+            of_vague(alloc, vague, &calls)
+        }
+        _ => Err(NoAnswer::Unparsed),
+    }
+}
+
+/// The bounds that a decoder of UTF-32 tells over the copied units of a slice. A question is a word of calls.
+pub fn utf32(alloc: Global, list: &str, word: &str) -> Result<String, NoAnswer> {
+    let units = parse::list::<u32>(alloc, list)?;
+    let calls = parse::calls(alloc, word)?;
+    bounds_of!(alloc, decode_utf32(units.iter().copied()), &calls)
+}
+
+/// The bounds that a lossy decoder of UTF-16 tells, in the same way.
+pub fn lossy_utf16(alloc: Global, list: &str, word: &str) -> Result<String, NoAnswer> {
+    let units = parse::list::<u16>(alloc, list)?;
+    let calls = parse::calls(alloc, word)?;
+    bounds_of!(alloc, decode_utf16_lossy(units.iter().copied()), &calls)
+}
+
+/// The bounds that a lossy decoder of UTF-32 tells, in the same way.
+pub fn lossy_utf32(alloc: Global, list: &str, word: &str) -> Result<String, NoAnswer> {
+    let units = parse::list::<u32>(alloc, list)?;
+    let calls = parse::calls(alloc, word)?;
+    bounds_of!(alloc, decode_utf32_lossy(units.iter().copied()), &calls)
+}
+
+// The bounds that an encoder tells, at first and after each call from the front.
+macro_rules! front_bounds_of {
+    ($alloc:expr, $iterator:expr, $calls:expr) => {{
+        let mut iterator = $iterator;
+        let mut text = String::new($alloc);
+        push_bounds(&mut text, iterator.size_hint())?;
+        for call in $calls {
+            if *call == End::Back {
+                return Err(NoAnswer::Unparsed);
+            }
+            let _ = iterator.next();
+            push_bounds(&mut text, iterator.size_hint())?;
+        }
+        Ok(text)
+    }};
+}
+
+/// The bounds that an encoder to UTF-8 tells over the copied characters of a slice. A question is a word of calls, all from
+/// the front.
+pub fn of_utf8_encoder(alloc: Global, list: &str, word: &str) -> Result<String, NoAnswer> {
+    let chars = parse::list::<char>(alloc, list)?;
+    let calls = parse::calls(alloc, word)?;
+    front_bounds_of!(alloc, encode_utf8(chars.iter().copied()), &calls)
+}
+
+/// The bounds that an encoder to UTF-16 tells, in the same way.
+pub fn of_utf16_encoder(alloc: Global, list: &str, word: &str) -> Result<String, NoAnswer> {
+    let chars = parse::list::<char>(alloc, list)?;
+    let calls = parse::calls(alloc, word)?;
+    front_bounds_of!(alloc, encode_utf16(chars.iter().copied()), &calls)
+}

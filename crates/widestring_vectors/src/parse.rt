@@ -1,0 +1,101 @@
+//! Reading lists and calls of the data.
+use std::alloc::{AllocError, AllocFailed, Global};
+use widestring::error::OutOfMemory;
+use widestring::iter::End;
+
+/// Why a question has no answer.
+#[derive(Clone, Copy, Debug, PartialEq, Eq)]
+pub enum NoAnswer {
+    /// The list or the question can't be parsed.
+    Unparsed,
+    /// Memory was refused.
+    OutOfMemory,
+}
+
+impl From<AllocError> for NoAnswer {
+    fn from(_: AllocError) -> NoAnswer {
+        NoAnswer::OutOfMemory
+    }
+}
+
+impl<T: Drop> From<AllocFailed<T>> for NoAnswer {
+    fn from(_: AllocFailed<T>) -> NoAnswer {
+        NoAnswer::OutOfMemory
+    }
+}
+
+impl From<OutOfMemory> for NoAnswer {
+    fn from(_: OutOfMemory) -> NoAnswer {
+        NoAnswer::OutOfMemory
+    }
+}
+
+/// A value that the data writes in hexadecimal.
+pub trait FromHex: Sized {
+    /// The value of a word; `None` where it has none.
+    fn from_hex(word: &str) -> Option<Self>;
+}
+
+impl FromHex for u16 {
+    fn from_hex(word: &str) -> Option<u16> {
+        u16::from_str_radix(word, 16).ok()
+    }
+}
+
+impl FromHex for u32 {
+    fn from_hex(word: &str) -> Option<u32> {
+        u32::from_str_radix(word, 16).ok()
+    }
+}
+
+impl FromHex for char {
+    fn from_hex(word: &str) -> Option<char> {
+        char::from_u32(u32::from_hex(word)?)
+    }
+}
+
+/// The values of a list, with a space between two.
+pub fn list<T: FromHex + Drop>(alloc: Global, text: &str) -> Result<Vec<T>, NoAnswer> {
+    let mut values = Vec::new(alloc);
+    if text.is_empty() {
+        return Ok(values);
+    }
+    for word in text.split(' ') {
+        let Some(value) = T::from_hex(word) else {
+            return Err(NoAnswer::Unparsed);
+        };
+        values.push(value)?;
+    }
+    Ok(values)
+}
+
+/// The calls of a word of the letters `F` and `B`.
+pub fn calls(alloc: Global, word: &str) -> Result<Vec<End>, NoAnswer> {
+    let mut ends = Vec::new(alloc);
+    for letter in word.bytes() {
+        let end = match letter {
+            b'F' => End::Front,
+            b'B' => End::Back,
+            _ => return Err(NoAnswer::Unparsed),
+        };
+        ends.push(end)?;
+    }
+    Ok(ends)
+}
+
+/// The letter that a question begins with, and the calls of the rest.
+pub fn kind_and_calls(alloc: Global, question: &str) -> Result<(&str, Vec<End>), NoAnswer> {
+    match question.split_at_checked(1) {
+        Some((kind, word)) => Ok((kind, calls(alloc, word)?)),
+        None => Err(NoAnswer::Unparsed),
+    }
+}
+
+/// That a question is no text.
+pub fn no_question(question: &str) -> Result<(), NoAnswer> {
+    if question.is_empty() {
+        Ok(())
+    } else {
+        Err(NoAnswer::Unparsed)
+    }
+}

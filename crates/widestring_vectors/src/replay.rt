@@ -1,0 +1,143 @@
+//! The replay of a family, and its tally.
+use crate::families::Family;
+use crate::parse::NoAnswer;
+use std::alloc::{AllocError, Global};
+use std::fmt;
+
+// Where the crate is wrong: the fault's name, and the crate's own answer.
+#[derive(Clone, Copy)]
+struct Mended<'a> {
+    fault: &'a str,
+    own: &'a str,
+}
+
+// A case: what is asked about a list, and the right answer.
+#[derive(Drop)]
+struct Case<'a> {
+    list: &'a str,
+    question: &'a str,
+    expected: &'a str,
+    mended: Option<Mended<'a>>,
+}
+
+// The case that a text says about a list; `None` where it says none.
+fn parse_case<'a>(list: &'a str, text: &'a str) -> Option<Case<'a>> {
+    let (question, answer) = text.split_once('=')?;
+    let Some((expected, mended)) = answer.split_once('~') else {
+        return Some(Case {
+            list,
+            question,
+            expected: answer,
+            mended: None,
+        });
+    };
+    let (fault, own) = mended.split_once('~')?;
+    Some(Case {
+        list,
+        question,
+        expected,
+        mended: Some(Mended { fault, own }),
+    })
+}
+
+/// The replay of a family, as far as it went.
+#[derive(Drop)]
+pub struct Replay {
+    family: Family,
+    agree: u64,
+    mended: u64,
+    differ: u64,
+    first: Option<String>,
+}
+
+impl Replay {
+    /// The replay before its first line.
+    pub fn new(family: Family) -> Replay {
+        Replay {
+            family,
+            agree: 0,
+            mended: 0,
+            differ: 0,
+            first: None,
+        }
+    }
+
+    /// Replays each case of a line. A line without one is a difference.
+    pub fn line(&mut self, alloc: Global, line: &str) -> Result<(), AllocError> {
+        let Some((list, cases)) = line.split_once('|') else {
+            return self.unparsed(alloc, line, "");
+        };
+        for text in cases.split('|') {
+            match parse_case(list, text) {
+                Some(case) => self.case(alloc, &case)?,
+                None => self.unparsed(alloc, list, text)?,
+            }
+        }
+        Ok(())
+    }
+
+    /// The first difference, where there is one.
+    pub fn into_first(self) -> Option<String> {
+        self.first
+    }
+
+    // Replays a case.
+    fn case(&mut self, alloc: Global, case: &Case) -> Result<(), AllocError> {
+        match self.family.answer(alloc, case.list, case.question) {
+            Ok(got) => self.compare(alloc, case, got.as_str()),
+            Err(NoAnswer::Unparsed) => self.unparsed(alloc, case.list, case.question),
+            Err(NoAnswer::OutOfMemory) => Err(AllocError),
+        }
+    }
+
+    // Compares an answer with the right one.
+    fn compare(&mut self, alloc: Global, case: &Case, got: &str) -> Result<(), AllocError> {
+        if got != case.expected {
+            return self.different(alloc, case, got);
+        }
+        let Some(mended) = case.mended else {
+            self.agree = self.agree.saturating_add(1);
+            return Ok(());
+        };
+        if self.family.fault() != Some(mended.fault) || mended.own == case.expected {
+            return self.unparsed(alloc, case.list, mended.fault);
+        }
+        self.mended = self.mended.saturating_add(1);
+        Ok(())
+    }
+
+    // Counts a case that the library answers in another way.
+    fn different(&mut self, alloc: Global, case: &Case, got: &str) -> Result<(), AllocError> {
+        self.differ = self.differ.saturating_add(1);
+        if self.first.is_none() {
+            let name = self.family.name();
+            let list = case.list;
+            let question = case.question;
+            let expected = case.expected;
+            self.first = Some(format!(in alloc;
+                "{name} [{list}] {question}: expected {expected}, got {got}"
+            )?);
+        }
+        Ok(())
+    }
+
+    // Counts a text of the data, about a list, that can't be parsed.
+    fn unparsed(&mut self, alloc: Global, list: &str, text: &str) -> Result<(), AllocError> {
+        self.differ = self.differ.saturating_add(1);
+        if self.first.is_none() {
+            let name = self.family.name();
+            self.first = Some(format!(in alloc; "{name} [{list}]: not parsed: {text}")?);
+        }
+        Ok(())
+    }
+}
+
+impl fmt::Display for Replay {
+    fn fmt<W: fmt::Write>(&self, f: &mut fmt::Formatter<W>) -> fmt::Result {
+        let name = self.family.name();
+        let agree = self.agree;
+        let mended = self.mended;
+        let differ = self.differ;
+        write!(f, "{name}: {agree} agree, {mended} mended, {differ} differ")
+    }
+}

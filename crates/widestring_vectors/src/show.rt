@@ -1,0 +1,40 @@
+//! Writing answers as the data does, with a space between two.
+use std::alloc::AllocError;
+use std::fmt::Write;
+
+// Parts this answer from the one before it.
+fn push_gap(text: &mut String) -> Result<(), AllocError> {
+    if !text.is_empty() {
+        text.push(' ')?;
+    }
+    Ok(())
+}
+
+/// Adds an item: a character in hexadecimal, a unit that is a fault after a `!`, or a `-` for none.
+pub fn push_item(text: &mut String, item: Option<Result<char, u32>>) -> Result<(), AllocError> {
+    push_gap(text)?;
+    match item {
+        None => write!(text, "-"),
+        Some(Ok(c)) => write!(text, "{:X}", u32::from(c)),
+        Some(Err(unit)) => write!(text, "!{unit:X}"),
+    }
+}
+
+/// Adds a number in hexadecimal, or a `-` for none.
+pub fn push_number(text: &mut String, number: Option<u32>) -> Result<(), AllocError> {
+    push_gap(text)?;
+    match number {
+        None => write!(text, "-"),
+        Some(number) => write!(text, "{number:X}"),
+    }
+}
+
+/// Adds bounds on a number of items: the lower one, a comma, and the upper one or a `-` for none.
+pub fn push_bounds(text: &mut String, bounds: (usize, Option<usize>)) -> Result<(), AllocError> {
+    push_gap(text)?;
+    let (lower, upper) = bounds;
+    match upper {
+        None => write!(text, "{lower:X},-"),
+        Some(upper) => write!(text, "{lower:X},{upper:X}"),
+    }
+}
