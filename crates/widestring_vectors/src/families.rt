@@ -11,9 +11,11 @@ macro_rules! asked {
 }
 
 mod encode;
+mod from_slice;
 mod hints;
 mod items;
 mod lossy;
+mod offsets;
 
 use crate::parse::NoAnswer;
 use std::alloc::Global;
@@ -29,6 +31,14 @@ pub enum Family {
     Lossy16,
     /// The characters of a lossy decoder of UTF-32.
     Lossy32,
+    /// The items of a view of 16-bit units, with their indices.
+    Offsets16,
+    /// The items of a view of 32-bit units, with their indices.
+    Offsets32,
+    /// Whether 16-bit units are well formed.
+    FromSlice16,
+    /// Whether 32-bit units are well formed.
+    FromSlice32,
     /// The bytes of an encoder to UTF-8.
     Encode8,
     /// The units of an encoder to UTF-16.
@@ -51,11 +61,15 @@ pub enum Family {
 
 impl Family {
     /// All families, in the order in which they are printed.
-    pub const ALL: [Family; 13] = [
+    pub const ALL: [Family; 17] = [
         Family::Items16,
         Family::Items32,
         Family::Lossy16,
         Family::Lossy32,
+        Family::Offsets16,
+        Family::Offsets32,
+        Family::FromSlice16,
+        Family::FromSlice32,
         Family::Encode8,
         Family::Encode16,
         Family::Encode32,
@@ -74,6 +88,10 @@ impl Family {
             Family::Items32 => "items32",
             Family::Lossy16 => "lossy16",
             Family::Lossy32 => "lossy32",
+            Family::Offsets16 => "offsets16",
+            Family::Offsets32 => "offsets32",
+            Family::FromSlice16 => "from_slice16",
+            Family::FromSlice32 => "from_slice32",
             Family::Encode8 => "encode8",
             Family::Encode16 => "encode16",
             Family::Encode32 => "encode32",
@@ -90,6 +108,7 @@ impl Family {
     pub fn fault(self) -> Option<&'static str> {
         match self {
             Family::Hints16 | Family::HintsLossy16 => Some("utf16-hint-held"),
+            Family::FromSlice16 => Some("utf16-error-index"),
             Family::HintsEncode8 => Some("utf8-encoder-hint-held"),
             Family::HintsEncode16 => Some("utf16-encoder-hint-held"),
             _ => None,
@@ -103,6 +122,10 @@ impl Family {
             Family::Items32 => items::utf32(alloc, list, question),
             Family::Lossy16 => lossy::utf16(alloc, list, question),
             Family::Lossy32 => lossy::utf32(alloc, list, question),
+            Family::Offsets16 => offsets::utf16(alloc, list, question),
+            Family::Offsets32 => offsets::utf32(alloc, list, question),
+            Family::FromSlice16 => from_slice::utf16(alloc, list, question),
+            Family::FromSlice32 => from_slice::utf32(alloc, list, question),
             Family::Encode8 => encode::utf8(alloc, list, question),
             Family::Encode16 => encode::utf16(alloc, list, question),
             Family::Encode32 => encode::utf32(alloc, list, question),

@@ -10,14 +10,44 @@ fn push_gap(text: &mut String) -> Result<(), AllocError> {
     Ok(())
 }
 
+// Adds a character, or a unit that is a fault after a `!`.
+fn push_read(text: &mut String, read: Result<char, u32>) -> Result<(), AllocError> {
+    match read {
+        Ok(c) => write!(text, "{:X}", u32::from(c)),
+        Err(unit) => write!(text, "!{unit:X}"),
+    }
+}
+
 /// Adds an item: a character in hexadecimal, a unit that is a fault after a `!`, or a `-` for none.
 pub fn push_item(text: &mut String, item: Option<Result<char, u32>>) -> Result<(), AllocError> {
     push_gap(text)?;
     match item {
         None => write!(text, "-"),
-        Some(Ok(c)) => write!(text, "{:X}", u32::from(c)),
-        Some(Err(unit)) => write!(text, "!{unit:X}"),
+        Some(read) => push_read(text, read),
     }
+}
+
+/// Adds an item with its index before it, or a `-` for none, and after it a `@` and the offset that is told then.
+pub fn push_place(
+    text: &mut String,
+    place: Option<(usize, Result<char, u32>)>,
+    offset: usize,
+) -> Result<(), AllocError> {
+    push_gap(text)?;
+    match place {
+        None => write!(text, "-")?,
+        Some((index, read)) => {
+            write!(text, "{index:X}:")?;
+            push_read(text, read)?;
+        }
+    }
+    write!(text, "@{offset:X}")
+}
+
+/// Adds the index and the unit of a first fault.
+pub fn push_first_fault(text: &mut String, index: usize, unit: u32) -> Result<(), AllocError> {
+    push_gap(text)?;
+    write!(text, "!{index:X}:{unit:X}")
 }
 
 /// Adds a number in hexadecimal, or a `-` for none.
