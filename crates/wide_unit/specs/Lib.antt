@@ -5,5 +5,6 @@ pub mod Segmentation
 pub mod Items
 pub mod Lossy
 pub mod Unit
+pub mod Range
 pub mod Statements
 pub mod Laws

@@ -6,10 +6,12 @@
 #![tactic(auto)]
 
 pub mod laws;
+mod range;
 mod split;
 mod unit;
 mod utf8;
 
+pub use range::range_check;
 pub use split::{split_first, split_last};
 pub use unit::Unit;
 pub use utf8::{length_as_utf16, length_as_utf32, next_code_point};

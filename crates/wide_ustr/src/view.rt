@@ -1,11 +1,16 @@
 //! Views of units, well formed or not.
-ghost use Rattle.std.specs.Prelude.{◌≡◌, ◌==◌, [], length, map};
+ghost use Rattle.std.specs.Prelude.{◌≡◌, ◌≤◌, ◌↔◌, ◌++◌, ◌==◌, [], length, map, take, drop, slice_range, IsSome, IfSome};
+ghost use Rattle.std.specs.Range.Bound.{start_index, end_index};
+ghost use Rattle.wide_unit.specs.Range.{IsWithin};
 ghost use Rattle.wide_unit.specs.Items.{items};
 ghost use Rattle.wide_unit.specs.Lossy.{lossy};
 ghost use Rattle.wide_ustr.specs.Indexed.{indexed, indexed_lossy};
 
 use crate::iter::{CharIndices, CharIndicesLossy, Chars, CharsLossy};
+use std::ops::RangeBounds;
+use std::slice;
 use wide_error::FaultUnit;
+use wide_unit::range_check;
 
 /// A view of units of 16 or 32 bits, of any values: text that may be well formed or not.
 ///
@@ -57,6 +62,52 @@ impl<'a, C: FaultUnit> UStr<'a, C> {
         ensures { result ≡ (length (units_seen self.entry) == 0) }
     {
         self.units.is_empty()
+    }
+
+    /// The part of the view in a range of places, counted in units; none where the range starts behind its end, ends behind
+    /// the view, or has a bound past the greatest `usize`, as [`range_check`] tells.
+    pub fn get<R: RangeBounds<usize>>(self, range: R) -> Option<Self>
+        requires { R.has_bounds range }
+        ensures some { IsSome result ↔ IsWithin (start_index (R.start_bound range)) (end_index (R.end_bound range) (length (units_seen self.entry))) (length (units_seen self.entry)) }
+        ensures part { IfSome result (λ part. units_seen part ≡ slice_range (units_seen self.entry) (start_index (R.start_bound range)) (end_index (R.end_bound range) (length (units_seen self.entry)))) }
+    {
+        let places = range_check(range, self.units.len())?;
+        Some(UStr {
+            units: &self.units[places.start..places.end],
+        })
+    }
+
+    /// The part of the view in a range of places, counted in units. The range must be one for which [`range_check`] answers
+    /// places; no check is made.
+    pub fn slice<R: RangeBounds<usize>>(self, range: R) -> Self
+        requires bounds { R.has_bounds range }
+        requires in_range { IsWithin (start_index (R.start_bound range)) (end_index (R.end_bound range) (length (units_seen self))) (length (units_seen self)) }
+        ensures { units_seen result ≡ slice_range (units_seen self.entry) (start_index (R.start_bound range)) (end_index (R.end_bound range) (length (units_seen self.entry))) }
+    {
+        let places = slice::range(range, ..self.units.len());
+        UStr {
+            units: &self.units[places.start..places.end],
+        }
+    }
+
+    /// As [`UStr::slice`], under the Rust crate's name.
+    pub fn get_unchecked<R: RangeBounds<usize>>(self, range: R) -> Self
+        requires bounds { R.has_bounds range }
+        requires in_range { IsWithin (start_index (R.start_bound range)) (end_index (R.end_bound range) (length (units_seen self))) (length (units_seen self)) }
+        ensures { units_seen result ≡ slice_range (units_seen self.entry) (start_index (R.start_bound range)) (end_index (R.end_bound range) (length (units_seen self.entry))) }
+    {
+        self.slice(range)
+    }
+
+    /// The units before a place, and those from it on. The place must be at most the length.
+    pub fn split_at(self, mid: usize) -> (Self, Self)
+        requires { mid ≤ length (units_seen self) }
+        ensures front { units_seen result.0 ≡ take mid (units_seen self.entry) }
+        ensures back { units_seen result.1 ≡ drop mid (units_seen self.entry) }
+        ensures joined { units_seen result.0 ++ units_seen result.1 ≡ units_seen self.entry }
+    {
+        let (front, back) = self.units.split_at(mid);
+        (UStr { units: front }, UStr { units: back })
     }
 
     /// The characters, and as errors the units that belong to none (Unicode Standard, section 3.9), from both ends.

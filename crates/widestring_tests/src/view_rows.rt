@@ -2,6 +2,7 @@
 use std::process::Abort;
 use std::test::Fail;
 use widestring::error::{DecodeUtf16Error, DecodeUtf32Error, FaultUnit, Utf16Error, Utf32Error};
+use widestring::unit::range_check;
 use widestring::ustr::UStr;
 use widestring::utfstr::UtfStr;
 use widestring::{U16Str, U32Str, Utf16Str, Utf32Str, WideStr};
@@ -184,4 +185,33 @@ fn first_faults(rt: HostRuntime) -> Result<(), Fail> {
         [0x41].as_slice()
     );
     Ok(())
+}
+
+// The parts of a view of three units, through its bound.
+fn parts<C: FaultUnit>(rt: &impl Abort, units: &[C; 3]) {
+    let view = UStr::from_slice(units);
+    let len = |part: Option<UStr<'_, C>>| part.map(|part| part.len());
+    assert_eq!(rt; len(view.get(1..)), Some(2));
+    assert_eq!(rt; len(view.get(..=1)), Some(2));
+    assert_eq!(rt; len(view.get(3..)), Some(0));
+    assert_eq!(rt; len(view.get(4..)), None);
+    assert_eq!(rt; len(view.get(..=3)), None);
+    assert_eq!(rt; len(view.get(..=usize::MAX)), None);
+    assert_eq!(rt; view.slice(1..3).len(), 2);
+    assert_eq!(rt; view.get_unchecked(..1).len(), 1);
+    let (front, back) = view.split_at(1);
+    assert_eq!(rt; front.len(), 1);
+    assert_eq!(rt; back.len(), 2);
+}
+
+#[test]
+fn parts_at_both_widths(rt: HostRuntime) {
+    parts(&rt, &[0x41u16, 0xd83d, 0xde00]);
+    parts(&rt, &[0x41u32, 0x1_f600, 0xd800]);
+    let units = [0x41, 0xd83d, 0xde00];
+    let (front, back) = U16Str::from_slice(&units).split_at(2);
+    assert_eq!(rt; front.as_slice(), [0x41, 0xd83d].as_slice());
+    assert_eq!(rt; back.as_slice(), [0xde00].as_slice());
+    assert_eq!(rt; range_check(1..=2, 3), Some(1..3));
+    assert_eq!(rt; range_check(0..=usize::MAX, 3), None);
 }
