@@ -1,0 +1,22 @@
+-- What a contract sees of an owned string of units.
+use Rattle.std.specs.Prelude.{ℕ, ◌+◌, ◌≤◌, List, refl, length}
+use Rattle.std.specs.Coded.{Coded, code_by, coded×, coded_ℕ, coded_list}
+
+-- the units, in order, and how many fit with no allocation
+pub record Units (C : Type 0) : Type 0 where
+  pub units : List C
+  pub capacity : ℕ
+
+abbrev pub units_code : {C : Type 0} → Coded C → Coded (Units C)
+units_code {C} code =
+    code_by (List C × ℕ) (coded× (coded_list code) coded_ℕ) (λ v. (v.units, v.capacity))
+    (λ p. record { units = p.0; capacity = p.1 }) (λ _. refl)
+
+module _ {C : Type 0} where
+  -- how many units there are
+  abbrev pub ustring_len : Units C → ℕ
+  ustring_len s = length s.units
+
+  -- so many more units fit with no allocation
+  abbrev pub HasRoomFor : Units C → ℕ → Type 0
+  HasRoomFor s more = length s.units + more ≤ s.capacity
