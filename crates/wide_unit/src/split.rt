@@ -1,5 +1,5 @@
 //! The first and the last item of a slice of units.
-ghost use Rattle.std.specs.Prelude.{◌≡◌, ◌+◌, ◌<◌, ◌++◌, ◌∷◌, ◌↔◌, [], length, map, IsNone, IfNone, IfSome};
+ghost use Rattle.std.specs.Prelude.{◌≡◌, ◌+◌, ◌<◌, ◌++◌, ◌∷◌, ◌↔◌, [], length, map, take, drop, IsNone, IfNone, IfSome};
 ghost use Rattle.wide_unit.specs.Segmentation.{item_units};
 ghost use Rattle.wide_unit.specs.Items.{items};
 ghost use Rattle.wide_unit.specs.Unit.{item_of};
@@ -13,6 +13,7 @@ pub fn split_first<C: Unit>(units: &[C]) -> Option<(Result<char, C>, &[C])>
     ensures none { IsNone result ↔ (units.now ≡ []) }
     ensures no_items { IfNone result (items C.form (map C.number units.now) ≡ []) }
     ensures some { IfSome result (λ r. items C.form (map C.number units.now) ≡ item_of C.number r.0 ∷ items C.form (map C.number r.1.now)) }
+    ensures rest { IfSome result (λ r. r.1.now ≡ drop (length (item_units C.form (item_of C.number r.0))) units.now) }
     ensures length { IfSome result (λ r. length r.1.now + length (item_units C.form (item_of C.number r.0)) ≡ length units.now) }
     ensures shorter { IfSome result (λ r. length r.1.now < length units.now) }
 {
@@ -38,6 +39,7 @@ pub fn split_last<C: Unit>(units: &[C]) -> Option<(&[C], Result<char, C>)>
     ensures none { IsNone result ↔ (units.now ≡ []) }
     ensures no_items { IfNone result (items C.form (map C.number units.now) ≡ []) }
     ensures some { IfSome result (λ r. items C.form (map C.number units.now) ≡ items C.form (map C.number r.0.now) ++ item_of C.number r.1 ∷ []) }
+    ensures rest { IfSome result (λ r. r.0.now ≡ take (length r.0.now) units.now) }
     ensures length { IfSome result (λ r. length r.0.now + length (item_units C.form (item_of C.number r.1)) ≡ length units.now) }
     ensures shorter { IfSome result (λ r. length r.0.now < length units.now) }
 {

@@ -54,6 +54,10 @@ pub trait Unit: Copy {
     fn pair_scalar(self, low: Self) -> Option<char>
         ensures { MatchOption result (¬ (IsPair form (number self) (number low))) (λ c. IsScalar c × (code_units form c ≡ number self ∷ number low ∷ [])) };
 
+    /// The number that the unit is.
+    fn code(self) -> u32
+        ensures { result ≡ number self };
+
     /// True of every unit: calling it tells a contract that the number is at most FFFF, or FFFFFFFF in UTF-32.
     fn in_range(self) -> bool
         ensures answer { IsTrue result }
@@ -146,6 +150,11 @@ impl Unit for u16 {
     }
 
     #[inline]
+    fn code(self) -> u32 {
+        u32::from(self)
+    }
+
+    #[inline]
     fn in_range(self) -> bool {
         true
     }
@@ -204,6 +213,11 @@ impl Unit for u32 {
     #[inline]
     fn pair_scalar(self, _low: u32) -> Option<char> {
         None
+    }
+
+    #[inline]
+    fn code(self) -> u32 {
+        self
     }
 
     #[inline]

@@ -1,19 +1,21 @@
 //! Owned strings of units.
-ghost use Rattle.std.specs.Prelude.{◌≡◌, ◌==◌, ◌+◌, ◌-◌, ◌≤◌, ◌++◌, [], ◌∷◌, length, map, take, drop, IsOk, IfOk, OnOk, OnErr, vec_capacity};
+ghost use Rattle.std.specs.Prelude.{◌≡◌, ◌==◌, ◌+◌, ◌-◌, ◌<◌, ◌≤◌, ◌↔◌, ◌++◌, [], length, map, take, drop, IsOk, IfOk, OnOk, OnErr, IsNone, IfSome, vec_capacity};
 ghost use Rattle.std.specs.List.{splice};
-ghost use Rattle.std.specs.List.Retain.{IsFiltered};
 ghost use Rattle.std.specs.Range.Bound.{start_index, end_index};
 ghost use Rattle.wide_unit.specs.EncodingForm.{code_units};
 ghost use Rattle.wide_unit.specs.Range.{IsWithin};
 ghost use Rattle.wide_ustr.specs.View.{units_seen};
+ghost use Rattle.wide_unit.specs.Unit.{item_of};
 ghost use Rattle.wide_ustring.specs.Units.{ustring_len, HasRoomFor};
+ghost use Rattle.wide_ustring.specs.Taken.{item_code, TakesFirst, TakesLast};
 
-use crate::room::replace;
+use crate::room::{cut, replace};
 use std::alloc::{Allocator, Global};
 use std::marker::Model;
 use std::ops::RangeBounds;
 use std::slice;
 use wide_error::{FaultUnit, OutOfMemory};
+use wide_unit::{Unit, split_first, split_last};
 use wide_ustr::UStr;
 
 /// An owned string of units of 16 or 32 bits, of any values: text that may be well formed or not.
@@ -42,6 +44,16 @@ impl<C, A: Allocator> Model for UString<C, A> {
     ghost coded = { units_code C.code };
 
     ghost view = { λ s. record { units = s.units.items; capacity = vec_capacity s.units } };
+}
+
+// The number of a character, or of a unit that belongs to none.
+fn code_of<C: Unit>(item: Result<char, C>) -> u32
+    ensures { result ≡ item_code (item_of C.number item) }
+{
+    match item {
+        Ok(c) => u32::from(c),
+        Err(unit) => unit.code(),
+    }
 }
 
 impl<C: FaultUnit, A: Allocator> UString<C, A> {
@@ -195,6 +207,53 @@ impl<C: FaultUnit, A: Allocator> UString<C, A> {
         let len = self.units.len();
         let places = slice::range(range, ..len);
         replace(&mut self.units, places.start, places.end, with.as_slice())
+    }
+
+    /// The character's units at the end.
+    pub fn push_char(&mut self, c: char) -> Result<(), OutOfMemory>
+        ensures ok { OnOk result (map C.number self.new.units ≡ map C.number self.old.units ++ code_units C.form c) }
+        ensures err { OnErr result (self.new ≡ self.old) }
+        ensures succeeds { HasRoomFor self.old (length (code_units C.form c)) → IsOk result }
+        ensures capacity { self.old.capacity ≤ self.new.capacity }
+    {
+        let (first, second) = C::encode_char(c);
+        self.units.reserve(C::char_len(c))?;
+        self.units.push_reserved(first);
+        if let Some(second) = second {
+            self.units.push_reserved(second);
+        }
+        Ok(())
+    }
+
+    /// Takes the last character away, a whole pair, or a unit that belongs to none, and answers its number; none where the
+    /// string is empty.
+    pub fn pop_char(&mut self) -> Option<u32>
+        ensures none { IsNone result ↔ (self.old.units ≡ []) }
+        ensures taken { IfSome result (TakesLast C.form (map C.number self.old.units) (map C.number self.new.units)) }
+        ensures front { self.new.units ≡ take (ustring_len self.new) self.old.units }
+        ensures capacity { self.new.capacity ≡ self.old.capacity }
+    {
+        let (rest, item) = split_last(self.units.as_slice())?;
+        let len = rest.len();
+        self.units.truncate(len);
+        Some(code_of(item))
+    }
+
+    /// Takes the character at a place away, a whole pair that begins there, or a unit that belongs to none, and answers its
+    /// number. The place must be below the length.
+    pub fn remove_char(&mut self, at: usize) -> u32
+        requires { at < ustring_len self.old }
+        ensures front { take at self.new.units ≡ take at self.old.units }
+        ensures taken { TakesFirst C.form (map C.number (drop at self.old.units)) (map C.number (drop at self.new.units)) result }
+        ensures capacity { self.new.capacity ≡ self.old.capacity }
+    {
+        let behind = &self.units.as_slice()[at..];
+        let Some((item, rest)) = split_first(behind) else {
+            unreachable!()
+        };
+        let end = at + (behind.len() - rest.len());
+        cut(&mut self.units, at, end);
+        code_of(item)
     }
 
     /// A copy of the units, with a copy of the allocator.

@@ -14,5 +14,7 @@ pub use wide_iter::{
 pub use wide_unit as unit;
 pub use wide_ustr as ustr;
 pub use wide_ustr::{U16Str, U32Str, WideChar, WideStr};
+pub use wide_ustring as ustring;
+pub use wide_ustring::{U16String, U32String, WideString};
 pub use wide_utfstr as utfstr;
 pub use wide_utfstr::{Utf16Str, Utf32Str, WideUtfStr};

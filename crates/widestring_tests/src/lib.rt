@@ -21,4 +21,6 @@ mod readme;
 #[cfg(test)]
 mod unit_rows;
 #[cfg(test)]
+mod ustring_rows;
+#[cfg(test)]
 mod view_rows;
