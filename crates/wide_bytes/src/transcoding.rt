@@ -15,7 +15,7 @@ use wide_error::TranscodeError;
 /// (Unicode Standard, sections 3.9 and 3.10).
 ///
 /// A byte order mark at the front tells the byte order and is dropped; without one the order is little endian. One
-/// zero unit at the end is dropped, where the number of bytes is even. In [`Mode::Strict`] the characters before the
+/// zero unit at the end is dropped, where the number of bytes is even; both are the Rust crate's rules for files. In [`Mode::Strict`] the characters before the
 /// first fault are written.
 ///
 /// The source must not have failed or ended, and the sink must not have failed. No read or write that failed is tried

@@ -1,11 +1,12 @@
 //! The decoder of UTF-16.
-ghost use Rattle.std.specs.Prelude.{◌≡◌, ◌≤◌, ◌/◌, ℕ, List, length, IfNone, None, Some};
-ghost use Rattle.std.specs.Iterator.{MakesProgress};
+ghost use Rattle.std.specs.Prelude.{◌≡◌, ◌≤◌, ◌/◌, ◌*◌, ℕ, List, length, IfNone, IfSome, None, Some};
+ghost use Rattle.std.specs.Iterator.{MakesProgress, UpTo};
+ghost use Rattle.std.specs.Iterator.SizeHint.{IsWithinCount};
 ghost use Rattle.wide_unit.specs.EncodingForm.{Utf16};
 ghost use Rattle.wide_unit.specs.Items.{items};
 ghost use Rattle.wide_unit.specs.Unit.{told_item};
 ghost use Rattle.wide_iter.specs.Over.{FirstOver, LastOver, IsUnit16};
-ghost use Rattle.wide_iter.specs.Source.{inner_of, unasked};
+ghost use Rattle.wide_iter.specs.Source.{inner_of, unasked, source_count};
 ghost use Rattle.wide_iter.specs.Sources.{copied_rest};
 ghost use Rattle.wide_iter.specs.Decoder16.{source_of, front_hand, back_hand, units_left, items_left, CanDecode, decoder_count, IsSpent, IsNew, held, upper_with};
 
@@ -76,6 +77,7 @@ impl<I: Iterator<Item = u16>> DecodeUtf16<I> {
         ensures goes { MakesProgress (CanDecode I.can_next) (decoder_count I.remaining) self.old result self.new }
         ensures hand { front_hand self.new ≡ None }
         ensures ends { IfNone result (IsSpent self.new) }
+        ensures stays { IsSpent self.old → (result ≡ None) × IsSpent self.new }
     {
         if let Some(unit) = self.front.take() {
             return Some(unit);
@@ -95,6 +97,7 @@ impl<I: DoubleEndedIterator<Item = u16>> DecodeUtf16<I> {
         ensures goes { MakesProgress (CanDecode I.can_next_back) (decoder_count I.remaining) self.old result self.new }
         ensures hand { back_hand self.new ≡ None }
         ensures ends { IfNone result (IsSpent self.new) }
+        ensures stays { IsSpent self.old → (result ≡ None) × IsSpent self.new }
     {
         if let Some(unit) = self.back.take() {
             return Some(unit);
@@ -135,7 +138,11 @@ impl<I: Iterator<Item = u16>> Iterator for DecodeUtf16<I> {
         Some(Err(DecodeUtf16Error::new(first)))
     }
 
-    fn size_hint(&self) -> (usize, Option<usize>) {
+    fn size_hint(&self) -> (usize, Option<usize>)
+        ensures lower { IsWithinCount result.0 (decoder_count I.remaining self.now) }
+        ensures upper { IfSome result.1 (UpTo (decoder_count I.remaining self.now)) }
+        ensures least { IsWithinCount (result.0 * 2) (source_count I.remaining (source_of self.now)) }
+    {
         decoded_hint(self.source.size_hint(), self.held())
     }
 }

@@ -1,11 +1,13 @@
 //! The encoder to UTF-16.
-ghost use Rattle.std.specs.Prelude.{◌≡◌, ℕ, List, length, Some};
+ghost use Rattle.std.specs.Prelude.{◌≡◌, ℕ, List, length, IfSome, Some};
 ghost use Rattle.std.specs.Option.{option_len};
+ghost use Rattle.std.specs.Iterator.{UpTo};
+ghost use Rattle.std.specs.Iterator.SizeHint.{IsWithinCount};
 ghost use Rattle.std.specs.Char.{IsScalar};
 ghost use Rattle.wide_unit.specs.EncodingForm.{Utf16, encode};
 ghost use Rattle.wide_iter.specs.Over.{FirstOver};
 ghost use Rattle.wide_iter.specs.Hints.{upper_times};
-ghost use Rattle.wide_iter.specs.Source.{inner_of, unasked};
+ghost use Rattle.wide_iter.specs.Source.{inner_of, source_count, unasked};
 ghost use Rattle.wide_iter.specs.Sources.{copied_rest};
 ghost use Rattle.wide_iter.specs.Encoder16.{source_of, unit_in_hand, units_left, CanEncode, encoder_count, IsNew};
 
@@ -60,7 +62,11 @@ impl<I: Iterator<Item = char>> Iterator for EncodeUtf16<I> {
         Some(first)
     }
 
-    fn size_hint(&self) -> (usize, Option<usize>) {
+    fn size_hint(&self) -> (usize, Option<usize>)
+        ensures lower { IsWithinCount result.0 (encoder_count I.remaining self.now) }
+        ensures upper { IfSome result.1 (UpTo (encoder_count I.remaining self.now)) }
+        ensures least { IsWithinCount result.0 (source_count I.remaining (source_of self.now)) }
+    {
         encoded_hint(
             self.source.size_hint(),
             2,

@@ -1,10 +1,12 @@
 //! The encoder to UTF-8.
-ghost use Rattle.std.specs.Prelude.{◌≡◌, ◌∷◌, ◌≤◌, ℕ, List, length, Some};
+ghost use Rattle.std.specs.Prelude.{◌≡◌, ◌∷◌, ◌≤◌, ℕ, List, length, IfSome, Some};
+ghost use Rattle.std.specs.Iterator.{UpTo};
+ghost use Rattle.std.specs.Iterator.SizeHint.{IsWithinCount};
 ghost use Rattle.std.specs.Char.{IsScalar};
 ghost use Rattle.wide_unit.specs.Utf8.{utf8_bytes, utf8, trailing_byte};
 ghost use Rattle.wide_iter.specs.Over.{FirstOver};
 ghost use Rattle.wide_iter.specs.Hints.{upper_times};
-ghost use Rattle.wide_iter.specs.Source.{inner_of, unasked};
+ghost use Rattle.wide_iter.specs.Source.{inner_of, source_count, unasked};
 ghost use Rattle.wide_iter.specs.Sources.{copied_rest};
 ghost use Rattle.wide_iter.specs.Encoder8.{source_of, held_bytes, bytes_in_hand, bytes_left, CanEncode, encoder_count, IsNew};
 
@@ -127,7 +129,11 @@ impl<I: Iterator<Item = char>> Iterator for EncodeUtf8<I> {
         }
     }
 
-    fn size_hint(&self) -> (usize, Option<usize>) {
+    fn size_hint(&self) -> (usize, Option<usize>)
+        ensures lower { IsWithinCount result.0 (encoder_count I.remaining self.now) }
+        ensures upper { IfSome result.1 (UpTo (encoder_count I.remaining self.now)) }
+        ensures least { IsWithinCount result.0 (source_count I.remaining (source_of self.now)) }
+    {
         encoded_hint(self.source.size_hint(), 4, self.held())
     }
 }

@@ -1,12 +1,13 @@
 //! Decoders that give U+FFFD in place of each fault.
-ghost use Rattle.std.specs.Prelude.{◌≡◌, ◌/◌, ℕ, false, List, length, Some};
+ghost use Rattle.std.specs.Prelude.{◌≡◌, ◌*◌, ◌/◌, ℕ, false, List, length, IfSome, Some};
 ghost use Rattle.std.specs.Option.{option_map};
-ghost use Rattle.std.specs.Iterator.{size};
+ghost use Rattle.std.specs.Iterator.{UpTo, size};
+ghost use Rattle.std.specs.Iterator.SizeHint.{IsWithinCount};
 ghost use Rattle.wide_unit.specs.EncodingForm.{Utf16, Utf32};
 ghost use Rattle.wide_unit.specs.Items.{items};
 ghost use Rattle.wide_unit.specs.Lossy.{lossy};
 ghost use Rattle.wide_iter.specs.Over.{FirstOver, LastOver, IsUnit16, IsUnit32};
-ghost use Rattle.wide_iter.specs.Source.{has_ended, inner_of, unasked};
+ghost use Rattle.wide_iter.specs.Source.{has_ended, inner_of, source_count, unasked};
 ghost use Rattle.wide_iter.specs.Sources.{copied_rest};
 ghost use Rattle.wide_iter.specs.Decoder16.{source_of, CanDecode, decoder_count, IsNew, held, upper_with};
 ghost use Rattle.wide_iter.specs.Decoder32.{source32_of, CanDecode32, decoder32_count};
@@ -84,7 +85,11 @@ impl<I: Iterator<Item = u16>> Iterator for DecodeUtf16Lossy<I> {
         or_replacement(self.utf16.next())
     }
 
-    fn size_hint(&self) -> (usize, Option<usize>) {
+    fn size_hint(&self) -> (usize, Option<usize>)
+        ensures lower { IsWithinCount result.0 (decoder_count I.remaining (strict16_of self.now)) }
+        ensures upper { IfSome result.1 (UpTo (decoder_count I.remaining (strict16_of self.now))) }
+        ensures least { IsWithinCount (result.0 * 2) (source_count I.remaining (source_of (strict16_of self.now))) }
+    {
         self.utf16.size_hint()
     }
 }

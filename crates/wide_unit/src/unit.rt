@@ -63,8 +63,10 @@ pub trait Unit: Copy {
         ensures answer { IsTrue result }
         ensures range { IsCodeUnit form (number self) };
 
-    // Each character takes a unit.
+    // Each character takes a unit, and some character takes the most.
     ghost takes_units: { 0 < MAX_CHAR_LEN };
+
+    ghost some_takes_all: { (c : ℕ) × IsScalar c × (length (code_units form c) ≡ MAX_CHAR_LEN) };
 
     // NUL is the number 0.
     ghost nul_is_zero: { number NUL ≡ 0 };
@@ -92,6 +94,8 @@ impl Unit for u16 {
     ghost MAX_CHAR_LEN = { 2 };
 
     ghost takes_units = { Prim.search rules };
+
+    ghost some_takes_all = { (0x1_0000, refl, refl) };
 
     ghost nul_is_zero = { refl };
 
@@ -170,6 +174,8 @@ impl Unit for u32 {
     ghost MAX_CHAR_LEN = { 1 };
 
     ghost takes_units = { Prim.search rules };
+
+    ghost some_takes_all = { (0x1_0000, refl, refl) };
 
     ghost nul_is_zero = { refl };
 

@@ -1,6 +1,7 @@
 //! Byte order, devices and whole runs.
 use crate::callers::text_of;
-use std::io::Read;
+use std::io;
+use std::io::{Read, Write};
 use std::test::Fail;
 use widestring::bytes::{
     BoM, ByteSink, ByteSource, FromRead, FromWrite, Mode, byte_order, laws, put_all, transcode,
@@ -82,4 +83,46 @@ fn runs(rt: HostRuntime) -> Result<(), Fail> {
     assert_eq!(rt; answer, Err(unpaired));
     assert_eq!(rt; sink.into_inner().as_slice(), b"a".as_slice());
     Ok(())
+}
+
+// A reader and a writer that fail at their first call, and go on at the second.
+#[derive(Drop)]
+struct FailsOnce {
+    calls: usize,
+}
+
+impl Read for FailsOnce {
+    fn read(&mut self, _buf: &mut [u8]) -> io::Result<usize> {
+        self.calls = self.calls.saturating_add(1);
+        if self.calls == 1 {
+            return Err(io::Error::other("a fault"));
+        }
+        Ok(0)
+    }
+}
+
+impl Write for FailsOnce {
+    fn write(&mut self, bytes: &[u8]) -> io::Result<usize> {
+        self.calls = self.calls.saturating_add(1);
+        if self.calls == 1 {
+            return Err(io::Error::other("a fault"));
+        }
+        Ok(bytes.len())
+    }
+
+    fn flush(&mut self) -> io::Result<()> {
+        Ok(())
+    }
+}
+
+#[test]
+fn one_call_of_a_device_is_one_of_what_it_wraps(rt: HostRuntime) {
+    let mut source = FromRead::new(FailsOnce { calls: 0 });
+    assert!(rt; source.take(&mut [0]).is_err());
+    assert!(rt; source.failed());
+    assert_eq!(rt; source.into_inner().calls, 1);
+    let mut sink = FromWrite::new(FailsOnce { calls: 0 });
+    assert!(rt; sink.put(b"a").is_err());
+    assert!(rt; sink.failed());
+    assert_eq!(rt; sink.into_inner().calls, 1);
 }

@@ -2,7 +2,7 @@
 
 ghost use Rattle.std.specs.Prelude.{◌≡◌, ◌≤◌, ℕ, List, Result, false};
 ghost use Rattle.wide_error.specs.declared.error.TranscodeError.{TranscodeError};
-ghost use Rattle.wide_bytes.specs.Run.{Ends, Moves};
+ghost use Rattle.wide_bytes.specs.Run.{Ends, Moves, fails_to_read, fails_to_write};
 ghost use Rattle.wide_bytes.specs.Transcoded.{transcoded};
 ghost use Rattle.wide_bytes.specs.declared.mode.Mode.TheVariants.{Strict};
 ghost use Rattle.widetext.specs.Command.{AsksForUtf8, IsUnknown, status_of};
@@ -92,7 +92,12 @@ pub fn command<S: ByteSource, K: ByteSink, F: ByteSink>(
     ensures utf8 { AsksForUtf8 words.now → (answer : Result (Unit {0}) TranscodeError) × (bytes : List ℕ) × (written : List ℕ)
         × Moves (S.left source.old) (S.left source.new) (K.held sink.old) (K.held sink.new) bytes written
         × Ends answer (S.has_ended source.new) (transcoded Strict) bytes written
+        × (S.has_failed source.new ≡ fails_to_read answer)
+        × (K.has_failed sink.new ≡ fails_to_write answer)
         × (result ≡ status_of answer) }
+
+    // Nothing is said on the fault stream where all went well.
+    ensures quiet { result ≡ 0 → faults.new ≡ faults.old }
 
     // All other words read nothing, and wrong ones write nothing but the usage.
     ensures reads { ¬ (AsksForUtf8 words.now) → source.new ≡ source.old }
