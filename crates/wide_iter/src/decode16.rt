@@ -174,8 +174,8 @@ impl<I: DoubleEndedIterator<Item = u16>> DoubleEndedIterator for DecodeUtf16<I> 
 }
 
 impl DecodeUtf16<Copied<Iter<'_, u16>>> {
-    /// Exact bounds on the number of items, over the units of a slice: at least one for two units that weren't asked for
-    /// yet, and at most one for each of them and each in hand.
+    /// Bounds on the number of items, by the slice's own length: at least one for two units that weren't asked for yet,
+    /// and at most one for each of them and each in hand. Generic code sees the trait's `size_hint`, which promises less.
     pub fn size_hint(&self) -> (usize, Option<usize>)
         ensures lower { result.0 ≡ length (unasked copied_rest (source_of self.now)) / 2 }
         ensures upper { result.1 ≡ upper_with (Some (length (unasked copied_rest (source_of self.now)))) (held self.now) }

@@ -76,8 +76,9 @@ impl<I: Iterator<Item = char>> Iterator for EncodeUtf16<I> {
 }
 
 impl EncodeUtf16<Copied<Iter<'_, char>>> {
-    /// Exact bounds on the number of units, over the characters of a slice: at least one for each that wasn't asked for
-    /// yet, and at most two for each of them and one for a unit in hand.
+    /// Bounds on the number of units, by the slice's own length: at least one for each character that wasn't asked for
+    /// yet, and at most two for each of them and one for a unit in hand. Generic code sees the trait's `size_hint`,
+    /// which promises less.
     pub fn size_hint(&self) -> (usize, Option<usize>)
         ensures lower { result.0 ≡ length (unasked copied_rest (source_of self.now)) }
         ensures upper { result.1 ≡ upper_times (Some (length (unasked copied_rest (source_of self.now)))) 2 (option_len (unit_in_hand self.now)) }

@@ -139,8 +139,9 @@ impl<I: Iterator<Item = char>> Iterator for EncodeUtf8<I> {
 }
 
 impl EncodeUtf8<Copied<Iter<'_, char>>> {
-    /// Exact bounds on the number of bytes, over the characters of a slice: at least one for each that wasn't asked for
-    /// yet, and at most four for each of them and one for each byte in hand.
+    /// Bounds on the number of bytes, by the slice's own length: at least one for each character that wasn't asked for
+    /// yet, and at most four for each of them and one for each byte in hand. Generic code sees the trait's `size_hint`,
+    /// which promises less.
     pub fn size_hint(&self) -> (usize, Option<usize>)
         ensures lower { result.0 ≡ length (unasked copied_rest (source_of self.now)) }
         ensures upper { result.1 ≡ upper_times (Some (length (unasked copied_rest (source_of self.now)))) 4 (length (bytes_in_hand self.now)) }

@@ -106,8 +106,9 @@ impl<I: DoubleEndedIterator<Item = u16>> DoubleEndedIterator for DecodeUtf16Loss
 }
 
 impl DecodeUtf16Lossy<Copied<Iter<'_, u16>>> {
-    /// Exact bounds on the number of characters, over the units of a slice: at least one for two units that weren't asked
-    /// for yet, and at most one for each of them and each in hand.
+    /// Bounds on the number of characters, by the slice's own length: at least one for two units that weren't asked for
+    /// yet, and at most one for each of them and each in hand. Generic code sees the trait's `size_hint`, which promises
+    /// less.
     pub fn size_hint(&self) -> (usize, Option<usize>)
         ensures lower { result.0 ≡ length (unasked copied_rest (source_of (strict16_of self.now))) / 2 }
         ensures upper { result.1 ≡ upper_with (Some (length (unasked copied_rest (source_of (strict16_of self.now))))) (held (strict16_of self.now)) }
