@@ -9,14 +9,9 @@ use Rattle.std.specs.declared.iter.Copied.{Copied}
 use Rattle.std.specs.declared.slice.Iter.{Iter}
 use Rattle.std.specs.declared.vec.IntoIter.{IntoIter}
 use Rattle.std.specs.Vec.Iter.{into_iter_steps, into_iter_steps_back, into_iter_items}
-use Rattle.std.specs.Prelude.{IfSome}
-use Rattle.std.specs.Char.{IsScalar, encode_utf8}
-use Rattle.std.specs.Str.{chars}
-use Rattle.std.specs.Str.Iter.{chars_rest, chars_steps}
-use Rattle.std.specs.declared.str.Chars.{Chars}
-use Rattle.std.proofs.lemmas.Str.{chars-nil}
-use Rattle.std.proofs.str.Decodes.{decodes_before}
-use Rattle.std.proofs.lemmas.List.{append-nil}
+use Rattle.std.specs.Char.{IsScalar}
+use Rattle.std.specs.Str.Iter.{chars_steps}
+use Rattle.wide_unit.proofs.Texts.{text_first}
 use Rattle.wide_iter.specs.Over.{GivesFirst, GivesLast}
 use Rattle.wide_iter.specs.Sources.{copied_rest, text_rest}
 
@@ -60,9 +55,5 @@ module _ {A Z : Type 0} where
   vec_gives_last = record { at = λ s r t f h. vec_last s t r h }
 
 -- the characters of a text
-text_first : (s t : Chars) (r : Option ℕ) → IfSome r IsScalar → chars_steps s r t → YieldsFirst text_rest s r t
-text_first s t None f h = let none = nil_from_length (chars_rest s) h.0.0 in (ap chars none ∙ chars-nil, ap (λ u. chars (chars_rest u)) h.0.1 ∙ ap chars none ∙ chars-nil)
-text_first s t (Some c) f h = ap chars h.0 ∙ ap (λ l. chars (l ++ chars_rest t)) (sym (append-nil (encode_utf8 c))) ∙ decodes_before (c ∷ []) (chars_rest t) (rw f)
-
 pub text_gives_first : GivesFirst IsScalar chars_steps text_rest
 text_gives_first = record { at = λ s r t f h. text_first s t r f h }

@@ -2,3 +2,4 @@ pub mod Literal
 pub mod Front
 pub mod Back
 pub mod Lengths
+pub mod Texts

@@ -1,13 +1,16 @@
 //! The code units of UTF-16 and of UTF-32.
 ghost use Rattle.std.specs.Prelude.{◌≡◌, ◌≢◌, ◌≤◌, ◌<◌, ℕ, ◌↔◌, ◌∷◌, [], List, IsTrue, MatchOption, length, refl};
 ghost use Rattle.std.specs.Char.{IsScalar};
-ghost use Rattle.wide_unit.specs.EncodingForm.{EncodingForm, Utf16, Utf32, code_units, IsFault, IsPair, IsCodeUnit, IsHighSurrogate, IsLowSurrogate};
+ghost use Rattle.std.specs.Str.{chars};
+ghost use Rattle.wide_unit.specs.EncodingForm.{EncodingForm, Utf16, Utf32, code_units, encode, IsFault, IsPair, IsCodeUnit, IsHighSurrogate, IsLowSurrogate};
 ghost use Rattle.wide_unit.specs.Segmentation.{Item, Char, IsSegmentation};
 ghost use Rattle.wide_unit.specs.Items.{items};
 ghost use Rattle.wide_unit.specs.Unit.{numbers_of};
 ghost use Rattle.std.proofs.Common.{rules};
 ghost use Rattle.wide_unit.specs.Laws.Forms.{code_units-no_low_first};
 ghost use Rattle.wide_unit.specs.Laws.Items.{items-code_units, segmentation-unique};
+
+use crate::utf8::{length_as_utf16, length_as_utf32};
 
 /// A code unit: `u16` for UTF-16, `u32` for UTF-32 (Unicode Standard, section 3.9).
 ///
@@ -33,6 +36,10 @@ pub trait Unit: Copy {
     fn char_len(c: char) -> usize
         ensures value { result ≡ length (code_units form c) }
         ensures bound { result ≤ MAX_CHAR_LEN };
+
+    /// How many units the text takes: its length in UTF-16, or in UTF-32.
+    fn text_len(text: &str) -> usize
+        ensures { result ≡ length (encode form (chars text.now)) };
 
     /// The character's first unit, and its second where it has one.
     fn encode_char(c: char) -> (Self, Option<Self>)
@@ -116,6 +123,10 @@ impl Unit for u16 {
         if (c as u32) < 0x1_0000 { 1 } else { 2 }
     }
 
+    fn text_len(text: &str) -> usize {
+        length_as_utf16(text)
+    }
+
     #[inline]
     fn encode_char(c: char) -> (u16, Option<u16>) {
         let code = c as u32;
@@ -194,6 +205,10 @@ impl Unit for u32 {
     #[inline]
     fn char_len(_c: char) -> usize {
         1
+    }
+
+    fn text_len(text: &str) -> usize {
+        length_as_utf32(text)
     }
 
     #[inline]

@@ -1,2 +1,4 @@
 pub mod Units
 pub mod Taken
+pub mod Lends
+pub mod Drain

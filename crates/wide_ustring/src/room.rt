@@ -1,7 +1,8 @@
 //! Edits of a vector of units, in place. The memory is found before a unit moves.
-ghost use Rattle.std.specs.Prelude.{◌≡◌, ◌+◌, ◌-◌, ◌≤◌, ◌++◌, length, map, IsOk, OnOk, OnErr, vec_len, vec_capacity};
+ghost use Rattle.std.specs.Prelude.{◌≡◌, ◌+◌, ◌-◌, ◌≤◌, ◌++◌, length, map, take, drop, IsOk, OnOk, OnErr, vec_len, vec_capacity};
 ghost use Rattle.std.specs.List.{splice, remove_range};
-ghost use Rattle.wide_unit.specs.EncodingForm.{code_units};
+ghost use Rattle.std.specs.Str.{chars};
+ghost use Rattle.wide_unit.specs.EncodingForm.{code_units, encode};
 
 use std::alloc::Allocator;
 use wide_error::OutOfMemory;
@@ -19,6 +20,32 @@ pub(crate) fn cut<C: Copy, A: Allocator>(units: &mut Vec<C, A>, from: usize, to:
     units.truncate(len - (to - from));
 }
 
+// Makes room for `count` units in the place of those from `from` up to `to`, whatever stands in it. Each unit behind them
+// moves once.
+pub(crate) fn open<C: Unit, A: Allocator>(
+    units: &mut Vec<C, A>,
+    from: usize,
+    to: usize,
+    count: usize,
+) -> Result<(), OutOfMemory>
+    requires forward { from ≤ to }
+    requires within { to ≤ vec_len units.old }
+    ensures front { OnOk result (take from units.new.items ≡ take from units.old.items) }
+    ensures rest { OnOk result (drop (from + count) units.new.items ≡ drop to units.old.items) }
+    ensures len { OnOk result (vec_len units.new + (to - from) ≡ vec_len units.old + count) }
+    ensures err { OnErr result ((units.new.items ≡ units.old.items) × (vec_capacity units.new ≡ vec_capacity units.old)) }
+    ensures succeeds { vec_len units.old + count ≤ vec_capacity units.old + (to - from) → IsOk result }
+    ensures capacity { vec_capacity units.old ≤ vec_capacity units.new }
+{
+    let len = units.len();
+    let more = count.saturating_sub(to - from);
+    units.reserve(more)?;
+    units.resize(len + more, C::NUL)?;
+    units.copy_within(to..len, from + count);
+    units.truncate(from + count + (len - to));
+    Ok(())
+}
+
 // Puts other units in the place of those from `from` up to `to`. Each unit behind them moves once.
 pub(crate) fn replace<C: Unit, A: Allocator>(
     units: &mut Vec<C, A>,
@@ -33,14 +60,63 @@ pub(crate) fn replace<C: Unit, A: Allocator>(
     ensures succeeds { vec_len units.old + length with.now ≤ vec_capacity units.old + (to - from) → IsOk result }
     ensures capacity { vec_capacity units.old ≤ vec_capacity units.new }
 {
-    let len = units.len();
-    let more = with.len().saturating_sub(to - from);
-    units.reserve(more)?;
-    units.resize(len + more, C::NUL)?;
-    units.copy_within(to..len, from + with.len());
+    open(units, from, to, with.len())?;
     units
         .slice_mut(from..from + with.len())
         .copy_from_slice(with);
-    units.truncate(from + with.len() + (len - to));
+    Ok(())
+}
+
+// Puts the units of a character in the place of those from `from` up to `to`. Each unit behind them moves once.
+pub(crate) fn replace_char<C: Unit, A: Allocator>(
+    units: &mut Vec<C, A>,
+    from: usize,
+    to: usize,
+    c: char,
+) -> Result<(), OutOfMemory>
+    requires forward { from ≤ to }
+    requires within { to ≤ vec_len units.old }
+    ensures ok { OnOk result (map C.number units.new.items ≡ splice (map C.number units.old.items) from to (code_units C.form c)) }
+    ensures err { OnErr result ((units.new.items ≡ units.old.items) × (vec_capacity units.new ≡ vec_capacity units.old)) }
+    ensures succeeds { vec_len units.old + length (code_units C.form c) ≤ vec_capacity units.old + (to - from) → IsOk result }
+    ensures capacity { vec_capacity units.old ≤ vec_capacity units.new }
+{
+    let (first, second) = C::encode_char(c);
+    open(units, from, to, C::char_len(c))?;
+    units[from] = first;
+    if let Some(second) = second {
+        units[from + 1] = second;
+    }
+    Ok(())
+}
+
+// Puts the units of a character at the end, in room that is there.
+pub(crate) fn push_char<C: Unit, A: Allocator>(units: &mut Vec<C, A>, c: char)
+    requires { vec_len units.old + length (code_units C.form c) ≤ vec_capacity units.old }
+    ensures units { map C.number units.new.items ≡ map C.number units.old.items ++ code_units C.form c }
+    ensures len { vec_len units.new ≡ vec_len units.old + length (code_units C.form c) }
+    ensures capacity { vec_capacity units.new ≡ vec_capacity units.old }
+{
+    let (first, second) = C::encode_char(c);
+    units.push_reserved(first);
+    if let Some(second) = second {
+        units.push_reserved(second);
+    }
+}
+
+// Puts the units of a text at the end.
+pub(crate) fn push_str<C: Unit, A: Allocator>(
+    units: &mut Vec<C, A>,
+    text: &str,
+) -> Result<(), OutOfMemory>
+    ensures ok { OnOk result (map C.number units.new.items ≡ map C.number units.old.items ++ encode C.form (chars text.now)) }
+    ensures err { OnErr result ((units.new.items ≡ units.old.items) × (vec_capacity units.new ≡ vec_capacity units.old)) }
+    ensures succeeds { vec_len units.old + length (encode C.form (chars text.now)) ≤ vec_capacity units.old → IsOk result }
+    ensures capacity { vec_capacity units.old ≤ vec_capacity units.new }
+{
+    units.reserve(C::text_len(text))?;
+    for c in text.chars() {
+        push_char(units, c);
+    }
     Ok(())
 }

@@ -1,15 +1,22 @@
 //! Owned strings of units.
-ghost use Rattle.std.specs.Prelude.{◌≡◌, ◌==◌, ◌+◌, ◌-◌, ◌<◌, ◌≤◌, ◌↔◌, ◌++◌, [], length, map, take, drop, IsOk, IfOk, OnOk, OnErr, IsNone, IfSome, vec_capacity};
+ghost use Rattle.std.specs.Prelude.{◌≡◌, ◌==◌, ◌+◌, ◌-◌, ◌<◌, ◌≤◌, ◌↔◌, ◌⊎◌, ◌++◌, [], min, max, length, map, take, drop, slice_range, IsOk, IfOk, OnOk, OnErr, IsNone, IfSome, vec_capacity};
+ghost use Rattle.std.specs.Borrow.{sem};
+ghost use Rattle.std.specs.Iterator.Runs.{YieldsInOrder, YieldsInReverse};
 ghost use Rattle.std.specs.List.{splice};
+ghost use Rattle.std.specs.List.Retain.{IsFiltered};
+ghost use Rattle.std.specs.Str.{chars};
 ghost use Rattle.std.specs.Range.Bound.{start_index, end_index};
-ghost use Rattle.wide_unit.specs.EncodingForm.{code_units};
+ghost use Rattle.wide_unit.specs.EncodingForm.{code_units, encode};
 ghost use Rattle.wide_unit.specs.Range.{IsWithin};
 ghost use Rattle.wide_ustr.specs.View.{units_seen};
 ghost use Rattle.wide_unit.specs.Unit.{item_of};
 ghost use Rattle.wide_ustring.specs.Units.{ustring_len, HasRoomFor};
+ghost use Rattle.wide_ustring.specs.Drain.{DrainGives, DrainGivesBack, DrainStays, drain_rest, drain_leaves, drain_capacity, drain_lender};
+ghost use Rattle.wide_ustring.specs.Lends.{lends_units};
 ghost use Rattle.wide_ustring.specs.Taken.{item_code, TakesFirst, TakesLast};
 
-use crate::room::{cut, replace};
+use crate::Drain;
+use crate::room::{cut, push_char, push_str, replace, replace_char};
 use std::alloc::{Allocator, Global};
 use std::marker::Model;
 use std::ops::RangeBounds;
@@ -23,7 +30,7 @@ use wide_ustr::UStr;
 /// Places and lengths are counted in units. A call that finds no memory answers [`OutOfMemory`] and has changed nothing.
 #[derive(Drop)]
 pub struct UString<C, A: Allocator = Global> {
-    units: Vec<C, A>,
+    pub(crate) units: Vec<C, A>,
 }
 
 /// An owned string of 16-bit units.
@@ -94,6 +101,15 @@ impl<C: FaultUnit, A: Allocator> UString<C, A> {
         units
     }
 
+    /// The units of a text.
+    pub fn from_str(alloc: A, text: &str) -> Result<Self, OutOfMemory>
+        ensures { IfOk result (λ s. map C.number s.units ≡ encode C.form (chars text.now)) }
+    {
+        let mut units = Vec::new(alloc);
+        push_str(&mut units, text)?;
+        Ok(UString { units })
+    }
+
     /// A view of the units.
     pub fn as_ustr(&self) -> UStr<'_, C>
         ensures { units_seen result ≡ self.now.units }
@@ -106,6 +122,22 @@ impl<C: FaultUnit, A: Allocator> UString<C, A> {
         ensures { result.now ≡ self.now.units }
     {
         self.units.as_slice()
+    }
+
+    /// The vector of the units.
+    pub fn as_vec(&self) -> &Vec<C, A>
+        ensures units { result.now.items ≡ self.now.units }
+        ensures capacity { vec_capacity result.now ≡ self.now.capacity }
+    {
+        &self.units
+    }
+
+    /// The units, to be written over. Their number stays.
+    pub fn as_mut_slice(&mut self) -> &mut [C]
+        ensures* writes_back { sem 𝓛 (lends_units C.row A.row A.Allocator self.entry result) }
+        ensures value { result.now ≡ self.old.units }
+    {
+        self.units.as_mut_slice()
     }
 
     /// How many units there are.
@@ -140,6 +172,46 @@ impl<C: FaultUnit, A: Allocator> UString<C, A> {
     {
         self.units.reserve(more)?;
         Ok(())
+    }
+
+    /// As [`UString::reserve`], with no room beyond what is asked for where it finds memory.
+    pub fn reserve_exact(&mut self, more: usize) -> Result<(), OutOfMemory>
+        ensures units { self.new.units ≡ self.old.units }
+        ensures room { OnOk result (self.new.capacity ≡ max self.old.capacity (ustring_len self.old + more)) }
+        ensures err { OnErr result (self.new ≡ self.old) }
+        ensures succeeds { HasRoomFor self.old more → IsOk result }
+    {
+        self.units.reserve_exact(more)?;
+        Ok(())
+    }
+
+    /// Gives room back, down to the length or to this many units, whichever is more. Where the smaller block is refused the
+    /// answer is [`OutOfMemory`], and nothing has changed.
+    pub fn shrink_to(&mut self, least: usize) -> Result<(), OutOfMemory>
+        ensures units { self.new.units ≡ self.old.units }
+        ensures ok { OnOk result ((self.new.capacity < self.old.capacity) ⊎ (self.old.capacity ≤ max least (ustring_len self.old))) }
+        ensures keeps { min least self.old.capacity ≤ self.new.capacity }
+        ensures smaller { self.new.capacity ≤ self.old.capacity }
+        ensures err { OnErr result (self.new ≡ self.old) }
+        ensures succeeds { self.old.capacity ≤ max least (ustring_len self.old) → IsOk result }
+    {
+        let before = self.units.capacity();
+        self.units.shrink_to(least);
+        if before == self.units.capacity() && before > least.max(self.units.len()) {
+            return Err(OutOfMemory);
+        }
+        Ok(())
+    }
+
+    /// As [`UString::shrink_to`], down to the length.
+    pub fn shrink_to_fit(&mut self) -> Result<(), OutOfMemory>
+        ensures units { self.new.units ≡ self.old.units }
+        ensures ok { OnOk result ((self.new.capacity < self.old.capacity) ⊎ (self.old.capacity ≤ ustring_len self.old)) }
+        ensures smaller { self.new.capacity ≤ self.old.capacity }
+        ensures err { OnErr result (self.new ≡ self.old) }
+        ensures succeeds { self.old.capacity ≤ ustring_len self.old → IsOk result }
+    {
+        self.shrink_to(0)
     }
 
     /// The units of a slice at the end.
@@ -209,6 +281,48 @@ impl<C: FaultUnit, A: Allocator> UString<C, A> {
         replace(&mut self.units, places.start, places.end, with.as_slice())
     }
 
+    /// Keeps the units at which the closure answers yes. It is asked once for each unit, in order.
+    pub fn retain<F: FnMut(C) -> bool>(&mut self, mut keep: F)
+        requires { F.IsAlwaysCallable keep }
+        ensures filtered { IsFiltered F.step keep self.old.units self.new.units }
+        ensures capacity { self.new.capacity ≡ self.old.capacity }
+    {
+        let units = &mut self.units;
+        let mut kept = 0;
+        for at in 0..units.len() {
+            let unit = units[at];
+            if keep(unit) {
+                units[kept] = unit;
+                kept += 1;
+            }
+        }
+        units.truncate(kept);
+    }
+
+    /// Takes the units of a range away, and gives them from both ends. When the [`Drain`] is dropped the whole range is
+    /// gone, also where it was not read to the end. [`wide_unit::range_check`] must answer places for the range.
+    pub fn drain<R: RangeBounds<usize>>(&mut self, range: R) -> Drain<'_, C, A>
+        requires bounds { R.has_bounds range }
+        requires in_range { IsWithin (start_index (R.start_bound range)) (end_index (R.end_bound range) (ustring_len self.old)) (ustring_len self.old) }
+        ensures rest { drain_rest result ≡ slice_range self.old.units (start_index (R.start_bound range)) (end_index (R.end_bound range) (ustring_len self.old)) }
+        ensures runs { YieldsInOrder (DrainGives {C = C} {A = A}) drain_rest }
+        ensures runs_back { YieldsInReverse (DrainGivesBack {C = C} {A = A}) drain_rest }
+        ensures lender { drain_lender result ≡ self.entry.ghost_name }
+        ensures leaves { drain_leaves result ≡ splice self.old.units (start_index (R.start_bound range)) (end_index (R.end_bound range) (ustring_len self.old)) [] }
+        ensures capacity { drain_capacity result ≡ self.old.capacity }
+        ensures stays { DrainStays result }
+    {
+        let len = self.units.len();
+        let places = slice::range(range, ..len);
+        Drain {
+            string: self,
+            start: places.start,
+            front: places.start,
+            back: places.end,
+            end: places.end,
+        }
+    }
+
     /// The character's units at the end.
     pub fn push_char(&mut self, c: char) -> Result<(), OutOfMemory>
         ensures ok { OnOk result (map C.number self.new.units ≡ map C.number self.old.units ++ code_units C.form c) }
@@ -216,13 +330,67 @@ impl<C: FaultUnit, A: Allocator> UString<C, A> {
         ensures succeeds { HasRoomFor self.old (length (code_units C.form c)) → IsOk result }
         ensures capacity { self.old.capacity ≤ self.new.capacity }
     {
-        let (first, second) = C::encode_char(c);
         self.units.reserve(C::char_len(c))?;
-        self.units.push_reserved(first);
-        if let Some(second) = second {
-            self.units.push_reserved(second);
-        }
+        push_char(&mut self.units, c);
         Ok(())
+    }
+
+    /// The text's units at the end.
+    pub fn push_str(&mut self, text: &str) -> Result<(), OutOfMemory>
+        ensures ok { OnOk result (map C.number self.new.units ≡ map C.number self.old.units ++ encode C.form (chars text.now)) }
+        ensures err { OnErr result (self.new ≡ self.old) }
+        ensures succeeds { HasRoomFor self.old (length (encode C.form (chars text.now))) → IsOk result }
+        ensures capacity { self.old.capacity ≤ self.new.capacity }
+    {
+        push_str(&mut self.units, text)
+    }
+
+    /// As [`UString::push_str`]: what `fmt::Write` is in the Rust crate, with an error that names the want of memory.
+    pub fn write_str(&mut self, text: &str) -> Result<(), OutOfMemory>
+        ensures ok { OnOk result (map C.number self.new.units ≡ map C.number self.old.units ++ encode C.form (chars text.now)) }
+        ensures err { OnErr result (self.new ≡ self.old) }
+        ensures succeeds { HasRoomFor self.old (length (encode C.form (chars text.now))) → IsOk result }
+        ensures capacity { self.old.capacity ≤ self.new.capacity }
+    {
+        self.push_str(text)
+    }
+
+    /// As [`UString::push_char`]: what `fmt::Write` is in the Rust crate, with an error that names the want of memory.
+    pub fn write_char(&mut self, c: char) -> Result<(), OutOfMemory>
+        ensures ok { OnOk result (map C.number self.new.units ≡ map C.number self.old.units ++ code_units C.form c) }
+        ensures err { OnErr result (self.new ≡ self.old) }
+        ensures succeeds { HasRoomFor self.old (length (code_units C.form c)) → IsOk result }
+        ensures capacity { self.old.capacity ≤ self.new.capacity }
+    {
+        self.push_char(c)
+    }
+
+    /// The character's units before a place, counted in units, which must be at most the length.
+    pub fn insert_char(&mut self, at: usize, c: char) -> Result<(), OutOfMemory>
+        requires { at ≤ ustring_len self.old }
+        ensures ok { OnOk result (map C.number self.new.units ≡ splice (map C.number self.old.units) at at (code_units C.form c)) }
+        ensures err { OnErr result (self.new ≡ self.old) }
+        ensures succeeds { HasRoomFor self.old (length (code_units C.form c)) → IsOk result }
+        ensures capacity { self.old.capacity ≤ self.new.capacity }
+    {
+        replace_char(&mut self.units, at, at, c)
+    }
+
+    /// Takes the units from a place on away, and answers them as a string of their own, with a copy of the allocator. The
+    /// place must be at most the length.
+    pub fn split_off(&mut self, at: usize) -> Result<Self, OutOfMemory>
+    where
+        A: Clone,
+        requires { at ≤ ustring_len self.old }
+        ensures rest { IfOk result (λ rest. rest.units ≡ drop at self.old.units) }
+        ensures ok { OnOk result (self.new.units ≡ take at self.old.units) }
+        ensures err { OnErr result (self.new ≡ self.old) }
+        ensures capacity { self.new.capacity ≡ self.old.capacity }
+    {
+        let alloc = self.units.allocator().clone()?;
+        let rest = Vec::from_slice(alloc, &self.units.as_slice()[at..])?;
+        self.units.truncate(at);
+        Ok(UString { units: rest })
     }
 
     /// Takes the last character away, a whole pair, or a unit that belongs to none, and answers its number; none where the
@@ -266,5 +434,18 @@ impl<C: FaultUnit, A: Allocator> UString<C, A> {
         Ok(UString {
             units: Vec::from_slice(alloc, self.units.as_slice())?,
         })
+    }
+}
+
+impl<A: Allocator> UString<u32, A> {
+    /// The characters as units of 32 bits, one for each.
+    pub fn from_chars(alloc: A, chars: &[char]) -> Result<Self, OutOfMemory>
+        ensures { IfOk result (λ s. s.units ≡ chars.now) }
+    {
+        let mut units = Vec::with_capacity(alloc, chars.len())?;
+        for c in chars {
+            units.push_reserved(u32::from(*c));
+        }
+        Ok(UString { units })
     }
 }

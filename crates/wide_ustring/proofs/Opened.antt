@@ -1,0 +1,39 @@
+-- Units written into the room that was opened in a list.
+use Rattle.std.proofs.Common.{◌≡◌, ℕ, suc, ◌+◌, ◌<◌, List, [], ◌∷◌, ◌++◌, map, length, take, drop, set, ap, sym, ◌∙◌, arith, append_assoc, length-set}
+use Rattle.std.specs.List.{splice}
+use Rattle.std.proofs.lemmas.List.{set_split, take-map, drop-map, map-append, take_more_set, drop-set-lt}
+
+module _ {X : Type 0} where
+  one_put : (old v : List X) (from to : ℕ) (x : X) → take from v ≡ take from old → drop (from + 1) v ≡ drop to old → from < length v → set v from x ≡ splice old from to (x ∷ [])
+  one_put old v from to x front rest lt =
+      let next : suc from ≡ from + 1 = omega arith in
+      set_split v from x lt
+      ∙ ap (λ l. l ++ x ∷ drop (suc from) v) front
+      ∙ ap (λ n. take from old ++ x ∷ drop n v) next
+      ∙ ap (λ l. take from old ++ x ∷ l) rest
+
+  two_put : (old v : List X) (from to : ℕ) (x y : X) → take from v ≡ take from old → drop (from + 2) v ≡ drop to old → from + 1 < length v → set (set v from x) (from + 1) y ≡ splice old from to (x ∷ y ∷ [])
+  two_put old v from to x y front rest lt =
+      let next : suc (from + 1) ≡ from + 2 = omega arith in
+      let within : from + 1 < length (set v from x) = rw length-set lt in
+      set_split (set v from x) (from + 1) y within
+      ∙ ap (λ l. l ++ y ∷ drop (suc (from + 1)) (set v from x)) (take_more_set v from x (omega (arith, lt)))
+      ∙ ap (λ n. (take from v ++ x ∷ []) ++ y ∷ drop n (set v from x)) next
+      ∙ ap (λ l. (take from v ++ x ∷ []) ++ y ∷ l) (drop-set-lt (from + 2) v from x (omega arith))
+      ∙ append_assoc (take from v) (x ∷ []) (y ∷ drop (from + 2) v)
+      ∙ ap (λ l. l ++ x ∷ y ∷ drop (from + 2) v) front
+      ∙ ap (λ l. take from old ++ x ∷ y ∷ l) rest
+
+module _ {X Y : Type 0} (f : X → Y) where
+  pub map_splice : (xs ys : List X) (a b : ℕ) → map f (splice xs a b ys) ≡ splice (map f xs) a b (map f ys)
+  map_splice xs ys a b =
+      map-append f (take a xs) (ys ++ drop b xs)
+      ∙ ap (λ l. map f (take a xs) ++ l) (map-append f ys (drop b xs))
+      ∙ ap (λ l. l ++ (map f ys ++ map f (drop b xs))) (sym (take-map f a xs))
+      ∙ ap (λ l. take a (map f xs) ++ (map f ys ++ l)) (sym (drop-map f b xs))
+
+  pub map-one_put : (old v : List X) (from to : ℕ) (x : X) → take from v ≡ take from old → drop (from + 1) v ≡ drop to old → from < length v → map f (set v from x) ≡ splice (map f old) from to (f x ∷ [])
+  map-one_put old v from to x front rest lt = ap (map f) (one_put old v from to x front rest lt) ∙ map_splice old (x ∷ []) from to
+
+  pub map-two_put : (old v : List X) (from to : ℕ) (x y : X) → take from v ≡ take from old → drop (from + 2) v ≡ drop to old → from + 1 < length v → map f (set (set v from x) (from + 1) y) ≡ splice (map f old) from to (f x ∷ f y ∷ [])
+  map-two_put old v from to x y front rest lt = ap (map f) (two_put old v from to x y front rest lt) ∙ map_splice old (x ∷ y ∷ []) from to
