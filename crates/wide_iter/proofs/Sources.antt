@@ -1,5 +1,5 @@
 -- Sources of which a function tells the list that is left.
-use Rattle.std.proofs.Common.{ℕ, List, [], ◌∷◌, ◌++◌, Option, Some, None, sym, ap, subst, ◌∙◌, Bor, arith}
+use Rattle.std.proofs.Common.{List, Option, Some, None, sym, ap, subst, ◌∙◌, Bor, arith}
 use Rattle.std.proofs.lemmas.List.{nil_from_length}
 use Rattle.std.specs.Option.{option_copied}
 use Rattle.std.specs.Iterator.{YieldsFirst, YieldsLast}

@@ -4,3 +4,4 @@ pub mod Parts
 pub mod Drains
 pub mod Filters
 pub mod Repeats
+pub mod Extends

@@ -1,5 +1,5 @@
 -- What a contract sees of a `Drain`.
-use Rattle.std.specs.Prelude.{◌≡◌, ℕ, List, [], length, slice_range, Option}
+use Rattle.std.specs.Prelude.{◌≡◌, ℕ, List, [], slice_range, Option}
 use Rattle.std.specs.Borrow.{GName}
 use Rattle.std.specs.Iterator.{Yields, YieldsFirst, YieldsLast}
 use Rattle.std.specs.List.{splice}

@@ -2,3 +2,4 @@ pub mod Units
 pub mod Taken
 pub mod Lends
 pub mod Drain
+pub mod Extended

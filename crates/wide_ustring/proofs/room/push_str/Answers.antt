@@ -1,8 +1,8 @@
-use Rattle.std.proofs.Common.{rules, arith, ◌≡◌, ◌∷◌, [], Some, None, refl, ap, sym, ◌∙◌}
+use Rattle.std.proofs.Common.{rules, arith, ◌≡◌, ◌∷◌, [], Some, None, refl, ◌∙◌}
 use Rattle.std.specs.Str.{chars}
 use Rattle.std.specs.Str.Iter.{chars_rest}
 use Rattle.wide_unit.proofs.Texts.{text_first}
-use Rattle.wide_ustring.proofs.Pushed.{Pushing, one_fits, one_more, all_done}
+use Rattle.wide_ustring.proofs.Pushed.{one_fits, one_more, all_done}
 use Rattle.wide_ustring.proofs.room.push_str.Goals as goal
 
 pub loop-c-init : goal.loop-c-init

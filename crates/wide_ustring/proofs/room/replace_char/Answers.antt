@@ -1,5 +1,4 @@
-use Rattle.std.proofs.Common.{◌≡◌, ◌∷◌, [], ◌+◌, ◌<◌, ap, sym, ◌∙◌, length, map, arith, rules}
-use Rattle.wide_unit.specs.EncodingForm.{code_units}
+use Rattle.std.proofs.Common.{◌≡◌, ap, sym, ◌∙◌, length, rules}
 use Rattle.wide_ustring.proofs.Opened.{map-one_put, map-two_put}
 use Rattle.wide_ustring.proofs.room.replace_char.Goals as goal
 
