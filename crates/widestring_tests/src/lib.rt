@@ -10,10 +10,14 @@ pub mod callers;
 #[cfg(test)]
 mod decode32_rows;
 #[cfg(test)]
+mod drain_rows;
+#[cfg(test)]
 mod encode_rows;
 pub mod encoders;
 #[cfg(test)]
 mod error_rows;
+#[cfg(test)]
+mod extend_rows;
 #[cfg(test)]
 mod iter_rows;
 #[cfg(test)]
