@@ -21,6 +21,8 @@ mod iter_rows;
 #[cfg(test)]
 mod readme;
 #[cfg(test)]
+mod refused_rows;
+#[cfg(test)]
 mod unit_rows;
 #[cfg(test)]
 mod ustring_rows;
