@@ -10,12 +10,14 @@ macro_rules! asked {
     };
 }
 
+mod drain;
 mod encode;
 mod from_slice;
 mod hints;
 mod items;
 mod lossy;
 mod offsets;
+mod ustring;
 
 use crate::parse::NoAnswer;
 use std::alloc::Global;
@@ -57,11 +59,39 @@ pub enum Family {
     HintsEncode8,
     /// The bounds that an encoder to UTF-16 tells.
     HintsEncode16,
+    /// Of strings of 16-bit units: what `pop_char` answers until there is nothing left.
+    Pop16,
+    /// Of strings of 32-bit units: what `pop_char` answers until there is nothing left.
+    Pop32,
+    /// Of strings of 16-bit units: the character that `remove_char` takes at a place.
+    Remove16,
+    /// Of strings of 32-bit units: the character that `remove_char` takes at a place.
+    Remove32,
+    /// Of strings of 16-bit units: a character or a view put in at a place.
+    Insert16,
+    /// Of strings of 32-bit units: a character or a view put in at a place.
+    Insert32,
+    /// Of strings of 16-bit units: a view put in the place of a range.
+    Replace16,
+    /// Of strings of 32-bit units: a view put in the place of a range.
+    Replace32,
+    /// Of strings of 16-bit units: what a drain of a range gives and leaves.
+    Drain16,
+    /// Of strings of 32-bit units: what a drain of a range gives and leaves.
+    Drain32,
+    /// Of strings of 16-bit units: the units that `retain` keeps.
+    Retain16,
+    /// Of strings of 32-bit units: the units that `retain` keeps.
+    Retain32,
+    /// Of strings of 16-bit units: the two parts that `split_off` makes.
+    SplitOff16,
+    /// Of strings of 32-bit units: the two parts that `split_off` makes.
+    SplitOff32,
 }
 
 impl Family {
     /// All families, in the order in which they are printed.
-    pub const ALL: [Family; 17] = [
+    pub const ALL: [Family; 31] = [
         Family::Items16,
         Family::Items32,
         Family::Lossy16,
@@ -79,6 +109,20 @@ impl Family {
         Family::HintsLossy32,
         Family::HintsEncode8,
         Family::HintsEncode16,
+        Family::Pop16,
+        Family::Pop32,
+        Family::Remove16,
+        Family::Remove32,
+        Family::Insert16,
+        Family::Insert32,
+        Family::Replace16,
+        Family::Replace32,
+        Family::Drain16,
+        Family::Drain32,
+        Family::Retain16,
+        Family::Retain32,
+        Family::SplitOff16,
+        Family::SplitOff32,
     ];
 
     /// The family's name, which is its file's without `.txt`.
@@ -101,6 +145,20 @@ impl Family {
             Family::HintsLossy32 => "hints_lossy32",
             Family::HintsEncode8 => "hints_encode8",
             Family::HintsEncode16 => "hints_encode16",
+            Family::Pop16 => "pop16",
+            Family::Pop32 => "pop32",
+            Family::Remove16 => "remove16",
+            Family::Remove32 => "remove32",
+            Family::Insert16 => "insert16",
+            Family::Insert32 => "insert32",
+            Family::Replace16 => "replace16",
+            Family::Replace32 => "replace32",
+            Family::Drain16 => "drain16",
+            Family::Drain32 => "drain32",
+            Family::Retain16 => "retain16",
+            Family::Retain32 => "retain32",
+            Family::SplitOff16 => "split_off16",
+            Family::SplitOff32 => "split_off32",
         }
     }
 
@@ -111,6 +169,7 @@ impl Family {
             Family::FromSlice16 => Some("utf16-error-index"),
             Family::HintsEncode8 => Some("utf8-encoder-hint-held"),
             Family::HintsEncode16 => Some("utf16-encoder-hint-held"),
+            Family::Insert16 | Family::Insert32 => Some("insert-ustr-panics"),
             _ => None,
         }
     }
@@ -135,6 +194,20 @@ impl Family {
             Family::HintsLossy32 => hints::lossy_utf32(alloc, list, question),
             Family::HintsEncode8 => hints::of_utf8_encoder(alloc, list, question),
             Family::HintsEncode16 => hints::of_utf16_encoder(alloc, list, question),
+            Family::Pop16 => ustring::pop::<u16>(alloc, list, question),
+            Family::Pop32 => ustring::pop::<u32>(alloc, list, question),
+            Family::Remove16 => ustring::remove::<u16>(alloc, list, question),
+            Family::Remove32 => ustring::remove::<u32>(alloc, list, question),
+            Family::Insert16 => ustring::insert::<u16>(alloc, list, question),
+            Family::Insert32 => ustring::insert::<u32>(alloc, list, question),
+            Family::Replace16 => ustring::replace::<u16>(alloc, list, question),
+            Family::Replace32 => ustring::replace::<u32>(alloc, list, question),
+            Family::Drain16 => drain::drain::<u16>(alloc, list, question),
+            Family::Drain32 => drain::drain::<u32>(alloc, list, question),
+            Family::Retain16 => ustring::retain::<u16>(alloc, list, question),
+            Family::Retain32 => ustring::retain::<u32>(alloc, list, question),
+            Family::SplitOff16 => ustring::split_off::<u16>(alloc, list, question),
+            Family::SplitOff32 => ustring::split_off::<u32>(alloc, list, question),
         }
     }
 }

@@ -1,5 +1,6 @@
 //! Reading lists and calls of the data.
 use std::alloc::{AllocError, AllocFailed, Global};
+use std::ops::Bound;
 use widestring::error::OutOfMemory;
 use widestring::iter::End;
 
@@ -48,9 +49,23 @@ impl FromHex for u32 {
     }
 }
 
+impl FromHex for usize {
+    fn from_hex(word: &str) -> Option<usize> {
+        usize::from_str_radix(word, 16).ok()
+    }
+}
+
 impl FromHex for char {
     fn from_hex(word: &str) -> Option<char> {
         char::from_u32(u32::from_hex(word)?)
+    }
+}
+
+/// The value of a word.
+pub fn value<T: FromHex>(word: &str) -> Result<T, NoAnswer> {
+    match T::from_hex(word) {
+        Some(value) => Ok(value),
+        None => Err(NoAnswer::Unparsed),
     }
 }
 
@@ -61,10 +76,7 @@ pub fn list<T: FromHex + Drop>(alloc: Global, text: &str) -> Result<Vec<T>, NoAn
         return Ok(values);
     }
     for word in text.split(' ') {
-        let Some(value) = T::from_hex(word) else {
-            return Err(NoAnswer::Unparsed);
-        };
-        values.push(value)?;
+        values.push(value(word)?)?;
     }
     Ok(values)
 }
@@ -83,10 +95,45 @@ pub fn calls(alloc: Global, word: &str) -> Result<Vec<End>, NoAnswer> {
     Ok(ends)
 }
 
+/// The letter that a question begins with, and the rest.
+pub fn kind(question: &str) -> Result<(&str, &str), NoAnswer> {
+    match question.split_at_checked(1) {
+        Some(parts) => Ok(parts),
+        None => Err(NoAnswer::Unparsed),
+    }
+}
+
 /// The letter that a question begins with, and the calls of the rest.
 pub fn kind_and_calls(alloc: Global, question: &str) -> Result<(&str, Vec<End>), NoAnswer> {
-    match question.split_at_checked(1) {
-        Some((kind, word)) => Ok((kind, calls(alloc, word)?)),
+    let (kind, word) = kind(question)?;
+    Ok((kind, calls(alloc, word)?))
+}
+
+/// The parts of a question before and after its colon.
+pub fn parts(question: &str) -> Result<(&str, &str), NoAnswer> {
+    match question.split_once(':') {
+        Some(parts) => Ok(parts),
+        None => Err(NoAnswer::Unparsed),
+    }
+}
+
+// A bound of a range: a place after an `i` where it is included, after an `e` where it is excluded, or a `-` for none.
+fn bound(text: &str) -> Result<Bound<usize>, NoAnswer> {
+    if text == "-" {
+        return Ok(Bound::Unbounded);
+    }
+    let (kind, place) = kind(text)?;
+    match kind {
+        "i" => Ok(Bound::Included(value(place)?)),
+        "e" => Ok(Bound::Excluded(value(place)?)),
+        _ => Err(NoAnswer::Unparsed),
+    }
+}
+
+/// A range: its two bounds, with a comma between them.
+pub fn range(text: &str) -> Result<(Bound<usize>, Bound<usize>), NoAnswer> {
+    match text.split_once(',') {
+        Some((start, end)) => Ok((bound(start)?, bound(end)?)),
         None => Err(NoAnswer::Unparsed),
     }
 }

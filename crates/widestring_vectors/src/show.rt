@@ -1,10 +1,11 @@
 //! Writing answers as the data does, with a space between two.
 use std::alloc::AllocError;
 use std::fmt::Write;
+use widestring::unit::Unit;
 
 // Parts this answer from the one before it.
 fn push_gap(text: &mut String) -> Result<(), AllocError> {
-    if !text.is_empty() {
+    if !text.is_empty() && !text.ends_with(';') {
         text.push(' ')?;
     }
     Ok(())
@@ -67,4 +68,17 @@ pub fn push_bounds(text: &mut String, bounds: (usize, Option<usize>)) -> Result<
         None => write!(text, "{lower:X},-"),
         Some(upper) => write!(text, "{lower:X},{upper:X}"),
     }
+}
+
+/// Adds units in hexadecimal.
+pub fn push_units<C: Unit>(text: &mut String, units: &[C]) -> Result<(), AllocError> {
+    for unit in units {
+        push_number(text, Some(unit.code()))?;
+    }
+    Ok(())
+}
+
+/// Begins the next part of an answer of several.
+pub fn push_part(text: &mut String) -> Result<(), AllocError> {
+    text.push(';')
 }
