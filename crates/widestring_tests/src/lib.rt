@@ -17,9 +17,9 @@ mod encode_rows;
 pub mod encoders;
 #[cfg(test)]
 mod error_rows;
-pub mod gives;
 #[cfg(test)]
 mod extend_rows;
+pub mod gives;
 #[cfg(test)]
 mod iter_rows;
 #[cfg(test)]

@@ -7,10 +7,11 @@ use std::alloc::Global;
 use std::fmt::Debug;
 use std::process::Abort;
 use std::test::Fail;
+use widestring::U32String;
 use widestring::error::{DecodeUtf16Error, DecodeUtf32Error, FaultUnit, OutOfMemory};
 use widestring::iter::{End, read_ends16, read_ends32};
 use widestring::ustr::UStr;
-use widestring::ustring::UString;
+use widestring::ustring::{UStrInUstring, UString};
 
 // More requests than any call here makes.
 const MOST: u64 = 9;
@@ -165,6 +166,115 @@ fn string_calls<C: FaultUnit + PartialEq + Debug>(
         &pair,
         |s| Ok(s.try_clone()?.as_slice() == pair.as_slice()),
     )
+}
+
+// The calls that write texts and characters, and those that change the room, at any width. `units` are those of U+1F600.
+fn text_calls<C: FaultUnit + PartialEq + Debug>(
+    rt: &impl Abort,
+    heap: &Heap,
+    [a, b]: [C; 2],
+    units: &[C],
+) -> Result<(), OutOfMemory> {
+    extends(rt, heap, &[], units, |s| s.push_str("\u{1f600}"))?;
+    extends(rt, heap, &[], units, |s| s.write_str("\u{1f600}"))?;
+    extends(rt, heap, &[], units, |s| s.write_char('\u{1f600}'))?;
+    extends(rt, heap, &[], units, |s| s.insert_char(0, '\u{1f600}'))?;
+    extends(rt, heap, &[], units, |s| s.extend_chars(Some('\u{1f600}')))?;
+    let (string, ()) = left_by(rt, heap, &[a, b], 0, |s| s.reserve_exact(9))?;
+    assert!(rt; string.capacity() >= 11);
+    let (string, ()) = left_by(rt, heap, &[a, b], 9, |s| s.shrink_to(3))?;
+    assert!(rt; string.capacity() < 11);
+    let (string, ()) = left_by(rt, heap, &[a, b], 9, |s| s.shrink_to_fit())?;
+    assert!(rt; string.capacity() < 11);
+    let pair = [a, b];
+    divides(rt, heap, &pair, &[a], |s| {
+        let at = s.len().min(1);
+        Ok(s.split_off(at)?.len() == 1)
+    })?;
+    let string = made(
+        rt,
+        heap,
+        |heap| UString::<C, _>::from_str(heap, "\u{1f600}"),
+    );
+    assert_eq!(rt; string.as_slice(), units);
+    let view = UStr::from_slice(&pair);
+    let string = made(rt, heap, |heap| view.to_ustring(heap));
+    assert_eq!(rt; string.as_slice(), pair.as_slice());
+    let string = made(rt, heap, |heap| view.repeat(heap, 3));
+    assert_eq!(rt; string.len(), 6);
+    Ok(())
+}
+
+// An extension by `a` and U+1F600, where there is room for all their units but one: without memory the first item is there
+// whole, and nothing of the second.
+fn adds_whole_items<'a, C, F>(
+    rt: &impl Abort,
+    heap: &'a Heap,
+    units: &[C],
+    mut call: F,
+) -> Result<(), OutOfMemory>
+where
+    C: FaultUnit + PartialEq + Debug,
+    F: FnMut(&mut Refusable<'a, C>) -> Result<(), OutOfMemory>,
+    requires { F.IsAlwaysCallable call }
+{
+    let mut string = string_of(heap, &[], units.len().saturating_sub(1))?;
+    heap.set(0);
+    assert!(rt; call(&mut string).is_err());
+    assert_refused(rt, heap);
+    assert_eq!(rt; string.as_slice(), units.get(..1).unwrap_or(units));
+    string.clear();
+    heap.set(1);
+    call(&mut string)?;
+    assert_granted(rt, heap, 1);
+    assert_eq!(rt; string.as_slice(), units);
+    Ok(())
+}
+
+// The extensions, at any width. `units` are those of `a` and U+1F600.
+fn item_calls<C: FaultUnit + PartialEq + Debug>(
+    rt: &impl Abort,
+    heap: &Heap,
+    alloc: Global,
+    units: &[C],
+) -> Result<(), OutOfMemory> {
+    let characters = ['a', '\u{1f600}'];
+    let texts = ["a", "\u{1f600}"];
+    let (a, smile) = UStr::from_slice(units).split_at(units.len().min(1));
+    adds_whole_items(rt, heap, units, |s| s.extend_chars(characters))?;
+    adds_whole_items(rt, heap, units, |s| s.extend_char_refs(&characters))?;
+    adds_whole_items(rt, heap, units, |s| s.extend_strs(texts))?;
+    adds_whole_items(rt, heap, units, |s| s.extend_ustrs([a, smile]))?;
+    adds_whole_items(rt, heap, units, |s| {
+        let first = UString::<C>::from_str(alloc, "a")?;
+        s.extend_ustrings([first, UString::from_str(alloc, "\u{1f600}")?])
+    })?;
+    adds_whole_items(rt, heap, units, |s| {
+        let first = String::from_str(alloc, "a")?;
+        s.extend_strings([first, String::from_str(alloc, "\u{1f600}")?])
+    })?;
+    heap.set(0);
+    let refused = UString::<C, _>::from_iter_chars(heap, characters);
+    assert!(rt; refused.is_err_and(|string| string.is_empty()));
+    Ok(())
+}
+
+#[test]
+fn texts(rt: HostRuntime) -> Result<(), Fail> {
+    let heap = Gives::new(rt.alloc());
+    text_calls(&rt, &heap, [0x41u16, 0x42], &[0xd83d, 0xde00])?;
+    text_calls(&rt, &heap, [0x41u32, 0x42], &[0x1_f600])?;
+    let string = made(&rt, &heap, |heap| U32String::from_chars(heap, &['a', 'b']));
+    assert_eq!(rt; string.as_slice(), [0x61, 0x62].as_slice());
+    Ok(())
+}
+
+#[test]
+fn items(rt: HostRuntime) -> Result<(), Fail> {
+    let heap = Gives::new(rt.alloc());
+    item_calls(&rt, &heap, rt.alloc(), &[0x61u16, 0xd83d, 0xde00])?;
+    item_calls(&rt, &heap, rt.alloc(), &[0x61u32, 0x1_f600])?;
+    Ok(())
 }
 
 #[test]
