@@ -291,7 +291,8 @@ impl<C: FaultUnit, A: Allocator> UString<C, A> {
         let mut kept = 0;
         for at in 0..units.len() {
             let unit = units[at];
-            if keep(unit) {
+            let wanted = keep(unit);
+            if wanted {
                 units[kept] = unit;
                 kept += 1;
             }
