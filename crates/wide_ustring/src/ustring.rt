@@ -74,14 +74,15 @@ impl<C: FaultUnit, A: Allocator> UString<C, A> {
         }
     }
 
-    /// An empty string with room for this many units.
+    /// An empty string with room for this many units. It does not fail where that is none.
     pub fn with_capacity(alloc: A, capacity: usize) -> Result<Self, OutOfMemory>
         ensures units { IfOk result (λ s. s.units ≡ []) }
         ensures room { IfOk result (λ s. capacity ≤ s.capacity) }
+        ensures succeeds { capacity ≡ 0 → IsOk result }
     {
-        Ok(UString {
-            units: Vec::with_capacity(alloc, capacity)?,
-        })
+        let mut units = Vec::new(alloc);
+        units.reserve_exact(capacity)?;
+        Ok(UString { units })
     }
 
     /// The units of a vector, which takes no memory.
