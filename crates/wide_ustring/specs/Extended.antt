@@ -1,5 +1,5 @@
 -- What an extension adds to a string.
-use Rattle.std.specs.Prelude.{◌≡◌, ℕ, List, [], ◌∷◌, ◌++◌, Option}
+use Rattle.std.specs.Prelude.{◌≡◌, ◌<◌, ◌+◌, ℕ, List, [], ◌∷◌, ◌++◌, Option, length}
 use Rattle.std.specs.Iterator.{Drains, Yields}
 use Rattle.std.specs.List.{flat_map}
 
@@ -13,8 +13,8 @@ module _ {U S I : Type 0} (becomes : U → S → Type 0) (steps : S → Option I
     pub given : Drains steps iterator items
     pub units : new ≡ old ++ flat_map text items
 
-  -- the texts of the items before one that was refused; it is the last that the source was asked for
-  pub record AddsUpTo (source : U) (old new : List ℕ) : Type 0 where
+  -- the texts of the items before one that was refused, for which the room is short
+  pub record AddsUpTo (source : U) (old new : List ℕ) (capacity : ℕ) : Type 0 where
     pub iterator : S
     pub items : List I
     pub refused : I
@@ -22,3 +22,4 @@ module _ {U S I : Type 0} (becomes : U → S → Type 0) (steps : S → Option I
     pub from : becomes source iterator
     pub given : Yields steps iterator (items ++ refused ∷ []) later
     pub units : new ≡ old ++ flat_map text items
+    pub full : capacity < length new + length (text refused)

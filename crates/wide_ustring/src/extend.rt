@@ -2,12 +2,13 @@
 //!
 //! The items go in by order, each whole or not at all. Where one finds no memory, the string holds those before it; that item
 //! and the rest of the iterator are dropped. Memory is asked for item by item.
-ghost use Rattle.std.specs.Prelude.{◌≡◌, ◌≤◌, ◌++◌, ℕ, List, [], map, OnOk, OnErr, IfOk, IfErr, string_bytes};
+ghost use Rattle.std.specs.Prelude.{◌≡◌, ◌<◌, ◌≤◌, ◌+◌, ◌++◌, ℕ, List, [], length, map, OnOk, OnErr, IfOk, IfErr, string_bytes};
 ghost use Rattle.std.specs.Iterator.{IsFiniteIterable};
 ghost use Rattle.std.specs.Str.{chars};
 ghost use Rattle.wide_unit.specs.EncodingForm.{code_units, encode};
 ghost use Rattle.wide_ustr.specs.View.{units_seen};
 ghost use Rattle.wide_ustring.specs.Extended.{AddsAll, AddsUpTo};
+ghost use Rattle.wide_ustring.specs.Units.{ustring_len};
 
 use crate::UString;
 use std::alloc::Allocator;
@@ -22,6 +23,7 @@ pub(crate) trait Piece<C: FaultUnit> {
     fn push_to<A: Allocator>(self, string: &mut UString<C, A>) -> Result<(), OutOfMemory>
         ensures ok { OnOk result (map C.number string.new.units ≡ map C.number string.old.units ++ text self) }
         ensures err { OnErr result (string.new ≡ string.old) }
+        ensures full { OnErr result (string.old.capacity < ustring_len string.old + length (text self)) }
         ensures capacity { string.old.capacity ≤ string.new.capacity };
 }
 
@@ -80,7 +82,7 @@ fn extend<C: FaultUnit, A: Allocator, P: Piece<C>, U: IntoIterator<Item = P>>(
 ) -> Result<(), OutOfMemory>
     requires { IsFiniteIterable U.into_iter_gives U.IntoIter.can_next U.IntoIter.remaining pieces }
     ensures ok { OnOk result (AddsAll U.into_iter_gives U.IntoIter.next_gives P.text pieces (map C.number string.old.units) (map C.number string.new.units)) }
-    ensures err { OnErr result (AddsUpTo U.into_iter_gives U.IntoIter.next_gives P.text pieces (map C.number string.old.units) (map C.number string.new.units)) }
+    ensures err { OnErr result (AddsUpTo U.into_iter_gives U.IntoIter.next_gives P.text pieces (map C.number string.old.units) (map C.number string.new.units) string.new.capacity) }
     ensures capacity { string.old.capacity ≤ string.new.capacity }
 {
     for piece in pieces {
@@ -97,7 +99,7 @@ impl<C: FaultUnit, A: Allocator> UString<C, A> {
     ) -> Result<(), OutOfMemory>
         requires { IsFiniteIterable U.into_iter_gives U.IntoIter.can_next U.IntoIter.remaining items }
         ensures ok { OnOk result (AddsAll U.into_iter_gives U.IntoIter.next_gives (code_units C.form) items (map C.number self.old.units) (map C.number self.new.units)) }
-        ensures err { OnErr result (AddsUpTo U.into_iter_gives U.IntoIter.next_gives (code_units C.form) items (map C.number self.old.units) (map C.number self.new.units)) }
+        ensures err { OnErr result (AddsUpTo U.into_iter_gives U.IntoIter.next_gives (code_units C.form) items (map C.number self.old.units) (map C.number self.new.units) self.new.capacity) }
         ensures capacity { self.old.capacity ≤ self.new.capacity }
     {
         extend(self, items)
@@ -107,7 +109,7 @@ impl<C: FaultUnit, A: Allocator> UString<C, A> {
     pub fn from_iter_chars<U: IntoIterator<Item = char>>(alloc: A, items: U) -> Result<Self, Self>
         requires { IsFiniteIterable U.into_iter_gives U.IntoIter.can_next U.IntoIter.remaining items }
         ensures ok { IfOk result (λ s. AddsAll U.into_iter_gives U.IntoIter.next_gives (code_units C.form) items [] (map C.number s.units)) }
-        ensures err { IfErr result (λ s. AddsUpTo U.into_iter_gives U.IntoIter.next_gives (code_units C.form) items [] (map C.number s.units)) }
+        ensures err { IfErr result (λ s. AddsUpTo U.into_iter_gives U.IntoIter.next_gives (code_units C.form) items [] (map C.number s.units) s.capacity) }
     {
         let mut string = UString::new(alloc);
         match string.extend_chars(items) {
@@ -123,7 +125,7 @@ impl<C: FaultUnit, A: Allocator> UString<C, A> {
     ) -> Result<(), OutOfMemory>
         requires { IsFiniteIterable U.into_iter_gives U.IntoIter.can_next U.IntoIter.remaining items }
         ensures ok { OnOk result (AddsAll U.into_iter_gives U.IntoIter.next_gives (λ c. code_units C.form c.now) items (map C.number self.old.units) (map C.number self.new.units)) }
-        ensures err { OnErr result (AddsUpTo U.into_iter_gives U.IntoIter.next_gives (λ c. code_units C.form c.now) items (map C.number self.old.units) (map C.number self.new.units)) }
+        ensures err { OnErr result (AddsUpTo U.into_iter_gives U.IntoIter.next_gives (λ c. code_units C.form c.now) items (map C.number self.old.units) (map C.number self.new.units) self.new.capacity) }
         ensures capacity { self.old.capacity ≤ self.new.capacity }
     {
         extend(self, items)
@@ -136,7 +138,7 @@ impl<C: FaultUnit, A: Allocator> UString<C, A> {
     ) -> Result<Self, Self>
         requires { IsFiniteIterable U.into_iter_gives U.IntoIter.can_next U.IntoIter.remaining items }
         ensures ok { IfOk result (λ s. AddsAll U.into_iter_gives U.IntoIter.next_gives (λ c. code_units C.form c.now) items [] (map C.number s.units)) }
-        ensures err { IfErr result (λ s. AddsUpTo U.into_iter_gives U.IntoIter.next_gives (λ c. code_units C.form c.now) items [] (map C.number s.units)) }
+        ensures err { IfErr result (λ s. AddsUpTo U.into_iter_gives U.IntoIter.next_gives (λ c. code_units C.form c.now) items [] (map C.number s.units) s.capacity) }
     {
         let mut string = UString::new(alloc);
         match string.extend_char_refs(items) {
@@ -154,7 +156,7 @@ impl<C: FaultUnit, A: Allocator> UString<C, A> {
         C: 'a,
         requires { IsFiniteIterable U.into_iter_gives U.IntoIter.can_next U.IntoIter.remaining items }
         ensures ok { OnOk result (AddsAll U.into_iter_gives U.IntoIter.next_gives (λ s. map C.number (units_seen s)) items (map C.number self.old.units) (map C.number self.new.units)) }
-        ensures err { OnErr result (AddsUpTo U.into_iter_gives U.IntoIter.next_gives (λ s. map C.number (units_seen s)) items (map C.number self.old.units) (map C.number self.new.units)) }
+        ensures err { OnErr result (AddsUpTo U.into_iter_gives U.IntoIter.next_gives (λ s. map C.number (units_seen s)) items (map C.number self.old.units) (map C.number self.new.units) self.new.capacity) }
         ensures capacity { self.old.capacity ≤ self.new.capacity }
     {
         extend(self, items)
@@ -169,7 +171,7 @@ impl<C: FaultUnit, A: Allocator> UString<C, A> {
         C: 'a,
         requires { IsFiniteIterable U.into_iter_gives U.IntoIter.can_next U.IntoIter.remaining items }
         ensures ok { IfOk result (λ s. AddsAll U.into_iter_gives U.IntoIter.next_gives (λ s. map C.number (units_seen s)) items [] (map C.number s.units)) }
-        ensures err { IfErr result (λ s. AddsUpTo U.into_iter_gives U.IntoIter.next_gives (λ s. map C.number (units_seen s)) items [] (map C.number s.units)) }
+        ensures err { IfErr result (λ s. AddsUpTo U.into_iter_gives U.IntoIter.next_gives (λ s. map C.number (units_seen s)) items [] (map C.number s.units) s.capacity) }
     {
         let mut string = UString::new(alloc);
         match string.extend_ustrs(items) {
@@ -185,7 +187,7 @@ impl<C: FaultUnit, A: Allocator> UString<C, A> {
     ) -> Result<(), OutOfMemory>
         requires { IsFiniteIterable U.into_iter_gives U.IntoIter.can_next U.IntoIter.remaining items }
         ensures ok { OnOk result (AddsAll U.into_iter_gives U.IntoIter.next_gives (λ t. encode C.form (chars t.now)) items (map C.number self.old.units) (map C.number self.new.units)) }
-        ensures err { OnErr result (AddsUpTo U.into_iter_gives U.IntoIter.next_gives (λ t. encode C.form (chars t.now)) items (map C.number self.old.units) (map C.number self.new.units)) }
+        ensures err { OnErr result (AddsUpTo U.into_iter_gives U.IntoIter.next_gives (λ t. encode C.form (chars t.now)) items (map C.number self.old.units) (map C.number self.new.units) self.new.capacity) }
         ensures capacity { self.old.capacity ≤ self.new.capacity }
     {
         extend(self, items)
@@ -198,7 +200,7 @@ impl<C: FaultUnit, A: Allocator> UString<C, A> {
     ) -> Result<Self, Self>
         requires { IsFiniteIterable U.into_iter_gives U.IntoIter.can_next U.IntoIter.remaining items }
         ensures ok { IfOk result (λ s. AddsAll U.into_iter_gives U.IntoIter.next_gives (λ t. encode C.form (chars t.now)) items [] (map C.number s.units)) }
-        ensures err { IfErr result (λ s. AddsUpTo U.into_iter_gives U.IntoIter.next_gives (λ t. encode C.form (chars t.now)) items [] (map C.number s.units)) }
+        ensures err { IfErr result (λ s. AddsUpTo U.into_iter_gives U.IntoIter.next_gives (λ t. encode C.form (chars t.now)) items [] (map C.number s.units) s.capacity) }
     {
         let mut string = UString::new(alloc);
         match string.extend_strs(items) {
@@ -214,7 +216,7 @@ impl<C: FaultUnit, A: Allocator> UString<C, A> {
     ) -> Result<(), OutOfMemory>
         requires { IsFiniteIterable U.into_iter_gives U.IntoIter.can_next U.IntoIter.remaining items }
         ensures ok { OnOk result (AddsAll U.into_iter_gives U.IntoIter.next_gives (λ s. map C.number s.units) items (map C.number self.old.units) (map C.number self.new.units)) }
-        ensures err { OnErr result (AddsUpTo U.into_iter_gives U.IntoIter.next_gives (λ s. map C.number s.units) items (map C.number self.old.units) (map C.number self.new.units)) }
+        ensures err { OnErr result (AddsUpTo U.into_iter_gives U.IntoIter.next_gives (λ s. map C.number s.units) items (map C.number self.old.units) (map C.number self.new.units) self.new.capacity) }
         ensures capacity { self.old.capacity ≤ self.new.capacity }
     {
         extend(self, items)
@@ -227,7 +229,7 @@ impl<C: FaultUnit, A: Allocator> UString<C, A> {
     ) -> Result<Self, Self>
         requires { IsFiniteIterable U.into_iter_gives U.IntoIter.can_next U.IntoIter.remaining items }
         ensures ok { IfOk result (λ s. AddsAll U.into_iter_gives U.IntoIter.next_gives (λ s. map C.number s.units) items [] (map C.number s.units)) }
-        ensures err { IfErr result (λ s. AddsUpTo U.into_iter_gives U.IntoIter.next_gives (λ s. map C.number s.units) items [] (map C.number s.units)) }
+        ensures err { IfErr result (λ s. AddsUpTo U.into_iter_gives U.IntoIter.next_gives (λ s. map C.number s.units) items [] (map C.number s.units) s.capacity) }
     {
         let mut string = UString::new(alloc);
         match string.extend_ustrings(items) {
@@ -243,7 +245,7 @@ impl<C: FaultUnit, A: Allocator> UString<C, A> {
     ) -> Result<(), OutOfMemory>
         requires { IsFiniteIterable U.into_iter_gives U.IntoIter.can_next U.IntoIter.remaining items }
         ensures ok { OnOk result (AddsAll U.into_iter_gives U.IntoIter.next_gives (λ s. encode C.form (chars (string_bytes s))) items (map C.number self.old.units) (map C.number self.new.units)) }
-        ensures err { OnErr result (AddsUpTo U.into_iter_gives U.IntoIter.next_gives (λ s. encode C.form (chars (string_bytes s))) items (map C.number self.old.units) (map C.number self.new.units)) }
+        ensures err { OnErr result (AddsUpTo U.into_iter_gives U.IntoIter.next_gives (λ s. encode C.form (chars (string_bytes s))) items (map C.number self.old.units) (map C.number self.new.units) self.new.capacity) }
         ensures capacity { self.old.capacity ≤ self.new.capacity }
     {
         extend(self, items)
@@ -256,7 +258,7 @@ impl<C: FaultUnit, A: Allocator> UString<C, A> {
     ) -> Result<Self, Self>
         requires { IsFiniteIterable U.into_iter_gives U.IntoIter.can_next U.IntoIter.remaining items }
         ensures ok { IfOk result (λ s. AddsAll U.into_iter_gives U.IntoIter.next_gives (λ s. encode C.form (chars (string_bytes s))) items [] (map C.number s.units)) }
-        ensures err { IfErr result (λ s. AddsUpTo U.into_iter_gives U.IntoIter.next_gives (λ s. encode C.form (chars (string_bytes s))) items [] (map C.number s.units)) }
+        ensures err { IfErr result (λ s. AddsUpTo U.into_iter_gives U.IntoIter.next_gives (λ s. encode C.form (chars (string_bytes s))) items [] (map C.number s.units) s.capacity) }
     {
         let mut string = UString::new(alloc);
         match string.extend_strings(items) {

@@ -104,7 +104,8 @@ impl<C: FaultUnit, A: Allocator> UString<C, A> {
 
     /// The units of a text.
     pub fn from_str(alloc: A, text: &str) -> Result<Self, OutOfMemory>
-        ensures { IfOk result (λ s. map C.number s.units ≡ encode C.form (chars text.now)) }
+        ensures units { IfOk result (λ s. map C.number s.units ≡ encode C.form (chars text.now)) }
+        ensures succeeds { chars text.now ≡ [] → IsOk result }
     {
         let mut units = Vec::new(alloc);
         push_str(&mut units, text)?;
@@ -194,6 +195,7 @@ impl<C: FaultUnit, A: Allocator> UString<C, A> {
         ensures keeps { min least self.old.capacity ≤ self.new.capacity }
         ensures smaller { self.new.capacity ≤ self.old.capacity }
         ensures err { OnErr result (self.new ≡ self.old) }
+        ensures frees { self.old.units ≡ [] → least ≡ 0 → self.new.capacity ≡ 0 }
         ensures succeeds { self.old.capacity ≤ max least (ustring_len self.old) → IsOk result }
     {
         let before = self.units.capacity();
@@ -210,6 +212,7 @@ impl<C: FaultUnit, A: Allocator> UString<C, A> {
         ensures ok { OnOk result ((self.new.capacity < self.old.capacity) ⊎ (self.old.capacity ≤ ustring_len self.old)) }
         ensures smaller { self.new.capacity ≤ self.old.capacity }
         ensures err { OnErr result (self.new ≡ self.old) }
+        ensures frees { self.old.units ≡ [] → self.new.capacity ≡ 0 }
         ensures succeeds { self.old.capacity ≤ ustring_len self.old → IsOk result }
     {
         self.shrink_to(0)
@@ -442,7 +445,8 @@ impl<C: FaultUnit, A: Allocator> UString<C, A> {
 impl<A: Allocator> UString<u32, A> {
     /// The characters as units of 32 bits, one for each.
     pub fn from_chars(alloc: A, chars: &[char]) -> Result<Self, OutOfMemory>
-        ensures { IfOk result (λ s. s.units ≡ chars.now) }
+        ensures units { IfOk result (λ s. s.units ≡ chars.now) }
+        ensures succeeds { chars.now ≡ [] → IsOk result }
     {
         let mut units = Vec::with_capacity(alloc, chars.len())?;
         for c in chars {

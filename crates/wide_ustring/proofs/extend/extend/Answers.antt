@@ -1,4 +1,5 @@
-use Rattle.std.proofs.Common.{rules, ap, ◌∙◌, map}
+use Rattle.std.proofs.Common.{rules, arith, ap, ◌∙◌, map, length}
+use Rattle.std.proofs.lemmas.List.{length-map}
 use Rattle.wide_ustring.proofs.Extends.{Yields-one_more, OnErr-always}
 use Rattle.wide_ustring.proofs.extend.extend.Goals as goal
 
@@ -12,4 +13,5 @@ returns-in_err-push_to-clause-err g c =
       from = c.into_iter-piece-iterator.ensures.into_iter_gives;
       given = Yields-one_more g.U.IntoIter.Iterator.next_gives _ c.loop-piece.piece-iterator c.next.new.self c.loop-piece.yielded c.in-Some.piece (search rules) (search rules);
       units = ap (λ s. map g.C.Unit.number s.units) c.in_err-push_to.ensures.err ∙ c.loop-piece.invariant.added;
+      full = omega (arith, c.in_err-push_to.ensures.full, ap (λ s. s.capacity) c.in_err-push_to.ensures.err, ap (λ s. length s.units) c.in_err-push_to.ensures.err, length-map c.push_to.new.string.units g.C.Unit.number);
     })
