@@ -1,2 +1,5 @@
 pub mod UtfError
+pub mod Nul
 pub mod Texts
+pub mod NulError
+pub mod UCStringError

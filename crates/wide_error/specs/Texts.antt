@@ -25,3 +25,9 @@ transcode_error_text OutOfMemory = out_of_memory_text
 transcode_error_text OddLength = codes "file not encoded as UTF-16"
 transcode_error_text Read = codes "read fault"
 transcode_error_text Write = codes "write fault"
+
+abbrev pub missing_nul_text : List ℕ
+missing_nul_text = codes "missing terminating nul value"
+
+abbrev pub contains_nul_text : ℕ → List ℕ
+contains_nul_text position = codes "invalid nul value found at position " ++ decimal position

@@ -3,3 +3,4 @@ pub mod Front
 pub mod Back
 pub mod Lengths
 pub mod Texts
+pub mod Nuls

@@ -6,4 +6,6 @@ pub mod Ends
 pub mod Utf32
 pub mod Lossy
 pub mod Boundaries
+pub mod Places
+pub mod Splices
 pub mod Utf8

@@ -3,8 +3,10 @@ pub mod Utf8
 pub mod CodePoint
 pub mod Segmentation
 pub mod Items
+pub mod Places
 pub mod Lossy
 pub mod Unit
 pub mod Range
+pub mod Nul
 pub mod Statements
 pub mod Laws

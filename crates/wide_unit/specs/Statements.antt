@@ -1,10 +1,11 @@
 -- The laws of the definitions, each the contract of a function of the crate.
-use Rattle.std.specs.Prelude.{◌≡◌, ◌≢◌, ℕ, ◌≤◌, ◌↔◌, ◌⊎◌, List, [], ◌∷◌, ◌++◌, map, length, slice_index, Some, None}
+use Rattle.std.specs.Prelude.{◌≡◌, ◌≢◌, ℕ, ◌≤◌, ◌↔◌, ◌⊎◌, List, [], ◌∷◌, ◌++◌, map, length, take, drop, slice_index, slice_range, Some, None}
 use Rattle.std.specs.Char.{IsScalar, encode_utf8}
-use Rattle.std.specs.List.{All}
+use Rattle.std.specs.List.{All, splice}
 use Rattle.wide_unit.specs.EncodingForm.{EncodingForm, Utf16, Utf32, encode, IsCodeUnit, IsLowSurrogate}
 use Rattle.wide_unit.specs.Segmentation.{Item, Char, Fault, IsSegmentation, IsSegmentation16, IsSegmentation32, IsLooseSegmentation}
 use Rattle.wide_unit.specs.Items.{items, chars, IsWellFormed, IsBoundary}
+use Rattle.wide_unit.specs.Places.{IsPlaceOf, chars_before}
 use Rattle.wide_unit.specs.Lossy.{lossy}
 use Rattle.wide_unit.specs.Utf8.{utf8_bytes, utf8}
 use Rattle.wide_unit.specs.CodePoint.{code_point_at}
@@ -64,6 +65,27 @@ EncodingDecodes = (form : EncodingForm) (cs : List ℕ) → All IsScalar cs → 
 abbrev pub BoundariesAreSeen : Type 0
 BoundariesAreSeen = (form : EncodingForm) (us : List ℕ) (place : ℕ) → IsWellFormed form us → place ≤ length us
     → IsBoundary form us place ↔ ((place ≡ length us) ⊎ (¬ (IsLowSurrogate form (slice_index us place))))
+
+-- in well-formed units each character begins at one place, after the units of those before it, and each boundary is such a place
+abbrev pub PlacesAreLengths : Type 0
+PlacesAreLengths = (form : EncodingForm) (us : List ℕ) (index place : ℕ) → IsWellFormed form us → IsPlaceOf form us index place ↔ (place ≡ length (encode form (take index (chars form us))))
+
+abbrev pub BoundariesArePlaces : Type 0
+BoundariesArePlaces = (form : EncodingForm) (us : List ℕ) (place : ℕ) → IsWellFormed form us → IsBoundary form us place → IsPlaceOf form us (chars_before form us place) place
+
+-- well-formed units cut at a boundary are well formed
+abbrev pub CutsAreWellFormed : Type 0
+CutsAreWellFormed = (form : EncodingForm) (us : List ℕ) (place : ℕ) → IsWellFormed form us → IsBoundary form us place → IsWellFormed form (take place us) × IsWellFormed form (drop place us)
+
+-- the part between two boundaries, and the units with other well-formed ones in its place, are well formed, and their
+-- characters are the part of the characters, and the characters with those others in its place
+abbrev pub PartsAreWellFormed : Type 0
+PartsAreWellFormed = (form : EncodingForm) (us : List ℕ) (from to : ℕ) → IsWellFormed form us → IsBoundary form us from → IsBoundary form us to → from ≤ to
+    → IsWellFormed form (slice_range us from to) × (chars form (slice_range us from to) ≡ slice_range (chars form us) (chars_before form us from) (chars_before form us to))
+
+abbrev pub SplicesAreWellFormed : Type 0
+SplicesAreWellFormed = (form : EncodingForm) (us new : List ℕ) (from to : ℕ) → IsWellFormed form us → IsWellFormed form new → IsBoundary form us from → IsBoundary form us to
+    → IsWellFormed form (splice us from to new) × (chars form (splice us from to new) ≡ splice (chars form us) (chars_before form us from) (chars_before form us to) (chars form new))
 
 -- well-formed units are equal exactly where their characters are
 abbrev pub EqualCharacters : Type 0

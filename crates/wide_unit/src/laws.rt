@@ -4,7 +4,7 @@ ghost use Rattle.wide_unit.specs.EncodingForm.{Utf16, Utf32};
 ghost use Rattle.wide_unit.specs.Segmentation.{Char, Fault};
 ghost use Rattle.wide_unit.specs.Items.{items, IsFirstFault};
 ghost use Rattle.wide_unit.specs.Lossy.{lossy};
-ghost use Rattle.wide_unit.specs.Statements.{SegmentationExists, SegmentationIsUnique, SegmentationIsLiteral16, SegmentationIsLiteral32, LooseSegmentationsDiffer, ItemsJoinAfter, ItemsJoinBefore, EncodingIsWellFormed, EncodingDecodes, BoundariesAreSeen, EqualCharacters, Utf8IsStds, Units32AreItems, Items32Join, Items32Count, LossyIsScalars, LossyKeepsWellFormed, CodePointOfText, CodePointOfNone};
+ghost use Rattle.wide_unit.specs.Statements.{SegmentationExists, SegmentationIsUnique, SegmentationIsLiteral16, SegmentationIsLiteral32, LooseSegmentationsDiffer, ItemsJoinAfter, ItemsJoinBefore, EncodingIsWellFormed, EncodingDecodes, BoundariesAreSeen, PlacesAreLengths, BoundariesArePlaces, CutsAreWellFormed, PartsAreWellFormed, SplicesAreWellFormed, EqualCharacters, Utf8IsStds, Units32AreItems, Items32Join, Items32Count, LossyIsScalars, LossyKeepsWellFormed, CodePointOfText, CodePointOfNone};
 
 /// Each list of code units has exactly one segmentation (Unicode Standard, section 3.9).
 pub fn one_segmentation()
@@ -53,6 +53,21 @@ pub fn encoded_characters()
 /// In well-formed units a place is a boundary exactly where it is the end, or no low surrogate stands there.
 pub fn boundaries()
     ensures { BoundariesAreSeen }
+{}
+
+/// In well-formed units each character begins at one place, which is the unit length of those before it, and each boundary is
+/// such a place, or the end.
+pub fn places_of_characters()
+    ensures lengths { PlacesAreLengths }
+    ensures boundaries { BoundariesArePlaces }
+{}
+
+/// Well-formed units that are cut, or spliced with well-formed ones, at boundaries stay well formed, and their characters are
+/// cut and spliced likewise.
+pub fn spliced_text()
+    ensures cuts { CutsAreWellFormed }
+    ensures parts { PartsAreWellFormed }
+    ensures splices { SplicesAreWellFormed }
 {}
 
 /// Well-formed units are equal exactly where their characters are.

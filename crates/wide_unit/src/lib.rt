@@ -6,11 +6,13 @@
 #![tactic(auto)]
 
 pub mod laws;
+mod nul;
 mod range;
 mod split;
 mod unit;
 mod utf8;
 
+pub use nul::first_nul;
 pub use range::range_check;
 pub use split::{split_first, split_last};
 pub use unit::Unit;

@@ -15,11 +15,13 @@ use std::alloc::Allocator;
 use wide_error::{FaultUnit, OutOfMemory};
 use wide_ustr::UStr;
 
-// An item whose units can be put at the end of a string.
-pub(crate) trait Piece<C: FaultUnit> {
+/// An item whose units can be put at the end of a string: a character, a text, a view or a string. The trait is this port's
+/// own; crates above implement it for their types.
+pub trait Piece<C: FaultUnit> {
     // The numbers of its units.
     ghost text: { Self → List ℕ };
 
+    /// The item's units at the end of a string, which stays as it was where there is no memory for them.
     fn push_to<A: Allocator>(self, string: &mut UString<C, A>) -> Result<(), OutOfMemory>
         ensures ok { OnOk result (map C.number string.new.units ≡ map C.number string.old.units ++ text self) }
         ensures err { OnErr result (string.new ≡ string.old) }
@@ -75,8 +77,9 @@ impl<C: FaultUnit, B: Allocator> Piece<C> for String<B> {
     }
 }
 
-// Puts the items at the end, one after another.
-fn extend<C: FaultUnit, A: Allocator, P: Piece<C>, U: IntoIterator<Item = P>>(
+/// Puts the items' units at the end, one after another. On want of memory those of the items before the refused one are
+/// there. The calls `extend_*` are this one, each for its items.
+pub fn extend<C: FaultUnit, A: Allocator, P: Piece<C>, U: IntoIterator<Item = P>>(
     string: &mut UString<C, A>,
     pieces: U,
 ) -> Result<(), OutOfMemory>

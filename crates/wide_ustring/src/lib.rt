@@ -1,7 +1,7 @@
 //! Owned strings of units of 16 or 32 bits, well formed or not.
 #![tactic(auto)]
 
-mod extend;
+pub mod extend;
 pub mod iter;
 mod room;
 mod ustring;

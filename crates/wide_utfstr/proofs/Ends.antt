@@ -1,9 +1,9 @@
 -- Well-formed units by their first and their last character.
-use Rattle.std.proofs.Common.{◌≡◌, ℕ, suc, zero, ◌<◌, List, [], ◌∷◌, ◌++◌, length, get_or, refl, sym, ap, ◌∙◌, subst, arith, length-append}
+use Rattle.std.proofs.Common.{◌≡◌, ℕ, suc, zero, List, [], ◌∷◌, ◌++◌, refl, sym, ap, subst, arith}
 use Rattle.std.specs.List.{Contains}
 use Rattle.wide_unit.specs.EncodingForm.{EncodingForm}
 use Rattle.wide_unit.specs.Segmentation.{Item, Char, Fault}
-use Rattle.wide_unit.specs.Items.{items, characters, chars, IsWellFormed}
+use Rattle.wide_unit.specs.Items.{items, characters, IsWellFormed}
 
 module _ (form : EncodingForm) (us vs : List ℕ) (well : IsWellFormed form us) where
   pub no_first_fault : (u : ℕ) → items form us ≡ Fault u ∷ items form vs → ⊥

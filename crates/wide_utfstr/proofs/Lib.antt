@@ -1,2 +1,5 @@
 pub mod Whole
 pub mod Ends
+pub mod Boundary
+pub mod Walk
+pub mod IndexedLemmas

@@ -4,13 +4,31 @@ use Rattle.wide_unit.specs.EncodingForm.{EncodingForm}
 use Rattle.wide_unit.specs.Items.{chars}
 use Rattle.wide_unit.specs.declared.unit.Unit.{Ghosts}
 use Rattle.wide_utfstr.specs.View.{units_seen}
+use Rattle.wide_utfstr.specs.Indexed.{indexed_chars}
 use Rattle.wide_utfstr.specs.declared.iter.Chars.{Chars}
+use Rattle.wide_utfstr.specs.declared.iter.CharIndices.{CharIndices}
+use Rattle.wide_utfstr.specs.declared.iter.CodeUnits.{CodeUnits}
+
+-- the units of a view that were not taken yet
+abbrev pub code_units_rest : CodeUnits → List ℕ
+code_units_rest s = s.rest.now
 
 module _ {C : Type 0} {g : Ghosts C} where
   -- the units that were not taken yet
   abbrev pub chars_rest : Chars C g → List C
   chars_rest s = units_seen s.text
 
-  -- their characters
-  abbrev pub chars_left : EncodingForm → (C → ℕ) → Chars C g → List ℕ
-  chars_left form number s = chars form (map number (chars_rest s))
+  abbrev pub indices_rest : CharIndices C g → List C
+  indices_rest s = units_seen s.text
+
+  -- the unit length of what was taken from the front
+  abbrev pub offset_of : CharIndices C g → ℕ
+  offset_of s = s.offset
+
+  module _ (form : EncodingForm) (number : C → ℕ) where
+    -- what is to come: their characters, and these with their offsets
+    abbrev pub chars_left : Chars C g → List ℕ
+    chars_left s = chars form (map number (chars_rest s))
+
+    abbrev pub indices_left : CharIndices C g → List (ℕ × ℕ)
+    indices_left s = indexed_chars form (offset_of s) (chars form (map number (indices_rest s)))

@@ -1,12 +1,23 @@
-//! Iterators over well-formed text, from both ends.
-ghost use Rattle.std.specs.Prelude.{◌≡◌, ◌/◌, length, Some, IfSome, ⊤};
+//! Iterators over well-formed text.
+ghost use Rattle.std.specs.Prelude.{◌≡◌, ◌+◌, ◌/◌, ◌<◌, ◌^◌, length, Some, IfSome, ⊤};
 ghost use Rattle.std.specs.Iterator.{YieldsFirst, YieldsLast, at_most, UpTo};
 ghost use Rattle.std.specs.Iterator.SizeHint.{IsWithinCount};
+ghost use Rattle.wide_utfstr.specs.View.{units_seen};
+ghost use Rattle.wide_utfstr.specs.Indexed.{given_length};
 
 use crate::view::UtfStr;
 use std::alloc::AllocError;
 use std::iter::FusedIterator;
 use wide_unit::Unit;
+
+// The bounds on the characters of units that are all still to come: at least one for as many units as a character takes at
+// most, and at most one for each.
+fn unit_hint<C: Unit>(text: UtfStr<'_, C>) -> (usize, Option<usize>)
+    ensures least { result.0 ≡ length (units_seen text.entry) / C.MAX_CHAR_LEN }
+    ensures most { result.1 ≡ Some (length (units_seen text.entry)) }
+{
+    (text.len() / C::MAX_CHAR_LEN, Some(text.len()))
+}
 
 /// The characters of a well-formed view. Made by [`UtfStr::chars`](crate::UtfStr::chars).
 #[derive(Debug, Drop)]
@@ -53,8 +64,7 @@ impl<C: Unit> Iterator for Chars<'_, C> {
         ensures least { result.0 ≡ length (chars_rest self.now) / C.MAX_CHAR_LEN }
         ensures most { result.1 ≡ Some (length (chars_rest self.now)) }
     {
-        let units = self.text.as_slice();
-        (units.len() / C::MAX_CHAR_LEN, Some(units.len()))
+        unit_hint(self.text)
     }
 }
 
@@ -73,8 +83,159 @@ impl<C: Unit> DoubleEndedIterator for Chars<'_, C> {
 
 impl ExactSizeIterator for Chars<'_, u32> {
     fn len(&self) -> usize {
-        self.text.as_slice().len()
+        self.text.len()
     }
 }
 
 impl<C: Unit> FusedIterator for Chars<'_, C> {}
+
+/// The characters of a well-formed view, each with the offset, in units, at which it begins. Made by
+/// [`UtfStr::char_indices`](crate::UtfStr::char_indices).
+#[derive(Debug, Drop)]
+pub struct CharIndices<'a, C: Unit> {
+    text: UtfStr<'a, C>,
+    offset: usize,
+    ghost fits: { offset + length (units_seen text) < 2 ^ 64 },
+}
+
+/// The characters of well-formed UTF-16, with their offsets.
+pub type CharIndicesUtf16<'a> = CharIndices<'a, u16>;
+
+/// The characters of well-formed UTF-32, with their offsets.
+pub type CharIndicesUtf32<'a> = CharIndices<'a, u32>;
+
+impl<'a, C: Unit> CharIndices<'a, C> {
+    ghost use Rattle.wide_utfstr.specs.Iter.{indices_rest, offset_of};
+
+    pub(crate) fn new(text: UtfStr<'a, C>) -> Self
+        ensures rest { indices_rest result ≡ units_seen text.entry }
+        ensures offset { offset_of result ≡ 0 }
+    {
+        let _units = text.len();
+        CharIndices { text, offset: 0 }
+    }
+
+    /// The offset, in units, of the next character from the front: how many units were taken from there.
+    pub fn offset(&self) -> usize
+        ensures { result ≡ offset_of self.now }
+    {
+        self.offset
+    }
+}
+
+impl<C: Unit> Clone for CharIndices<'_, C> {
+    ghost is_clone = { λ s r. r ≡ s };
+
+    ghost is_infallible = { λ _. ⊤ };
+
+    /// A copy, with the same list to come.
+    fn clone(&self) -> Result<Self, AllocError> {
+        Ok(CharIndices {
+            text: self.text,
+            offset: self.offset,
+        })
+    }
+}
+
+impl<C: Unit> Iterator for CharIndices<'_, C> {
+    ghost use Rattle.wide_utfstr.specs.Iter.{indices_left, indices_rest, offset_of};
+
+    type Item = (usize, char);
+
+    ghost next_gives = { λ s r t. YieldsFirst (indices_left C.form C.number) s r t × (offset_of t ≡ offset_of s + given_length C.form r) };
+
+    ghost remaining = { λ s. at_most (length (indices_rest s)) };
+
+    #[inline]
+    fn next(&mut self) -> Option<(usize, char)> {
+        let (c, others) = self.text.split_first_char()?;
+        let place = self.offset;
+        let taken = self.text.len() - others.len();
+        self.text = others;
+        self.offset = place + taken;
+        Some((place, c))
+    }
+
+    fn size_hint(&self) -> (usize, Option<usize>)
+        ensures lower { IsWithinCount result.0 (at_most (length (indices_rest self.now))) }
+        ensures upper { IfSome result.1 (UpTo (at_most (length (indices_rest self.now)))) }
+        ensures least { result.0 ≡ length (indices_rest self.now) / C.MAX_CHAR_LEN }
+        ensures most { result.1 ≡ Some (length (indices_rest self.now)) }
+    {
+        unit_hint(self.text)
+    }
+}
+
+impl<C: Unit> DoubleEndedIterator for CharIndices<'_, C> {
+    ghost use Rattle.wide_utfstr.specs.Iter.{indices_left, offset_of};
+
+    ghost next_back_gives = { λ s r t. YieldsLast (indices_left C.form C.number) s r t × (offset_of t ≡ offset_of s) };
+
+    #[inline]
+    fn next_back(&mut self) -> Option<(usize, char)> {
+        let (others, c) = self.text.split_last_char()?;
+        self.text = others;
+        Some((self.offset + others.len(), c))
+    }
+}
+
+impl ExactSizeIterator for CharIndices<'_, u32> {
+    fn len(&self) -> usize {
+        self.text.len()
+    }
+}
+
+impl<C: Unit> FusedIterator for CharIndices<'_, C> {}
+
+/// The units of well-formed UTF-16. Made by [`UtfStr::code_units`](crate::UtfStr::code_units).
+#[derive(Clone, Debug, Drop)]
+pub struct CodeUnits<'a> {
+    pub(crate) rest: &'a [u16],
+}
+
+impl Iterator for CodeUnits<'_> {
+    ghost use Rattle.wide_utfstr.specs.Iter.{code_units_rest};
+
+    type Item = u16;
+
+    ghost next_gives = { YieldsFirst code_units_rest };
+
+    ghost remaining = { λ s. at_most (length (code_units_rest s)) };
+
+    #[inline]
+    fn next(&mut self) -> Option<u16> {
+        let (first, others) = self.rest.split_first()?;
+        self.rest = others;
+        Some(*first)
+    }
+
+    fn size_hint(&self) -> (usize, Option<usize>)
+        ensures lower { IsWithinCount result.0 (at_most (length (code_units_rest self.now))) }
+        ensures upper { IfSome result.1 (UpTo (at_most (length (code_units_rest self.now)))) }
+        ensures least { result.0 ≡ length (code_units_rest self.now) }
+        ensures most { result.1 ≡ Some (length (code_units_rest self.now)) }
+    {
+        (self.rest.len(), Some(self.rest.len()))
+    }
+}
+
+impl DoubleEndedIterator for CodeUnits<'_> {
+    ghost use Rattle.wide_utfstr.specs.Iter.{code_units_rest};
+
+    ghost next_back_gives = { YieldsLast code_units_rest };
+
+    #[inline]
+    fn next_back(&mut self) -> Option<u16> {
+        let (last, others) = self.rest.split_last()?;
+        self.rest = others;
+        Some(*last)
+    }
+}
+
+impl ExactSizeIterator for CodeUnits<'_> {
+    fn len(&self) -> usize {
+        self.rest.len()
+    }
+}
+
+impl FusedIterator for CodeUnits<'_> {}

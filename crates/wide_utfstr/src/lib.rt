@@ -4,4 +4,4 @@
 pub mod iter;
 mod view;
 
-pub use view::{Utf16Str, Utf32Str, UtfStr, WideUtfStr};
+pub use view::{Utf16Str, Utf32Str, UtfStr, WideUtfStr, check};

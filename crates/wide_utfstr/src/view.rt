@@ -1,12 +1,26 @@
 //! Views of well-formed text.
-ghost use Rattle.std.specs.Prelude.{◌≡◌, ◌<◌, ◌++◌, ◌∷◌, [], length, map, None, OnOk, IfOk, IfErr, IfNone, IfSome, ⊤};
-ghost use Rattle.wide_unit.specs.Items.{chars, IsWellFormed, IsFirstFault};
+ghost use Rattle.std.specs.Prelude.{◌≡◌, ◌+◌, ◌<◌, ◌≤◌, ◌↔◌, ◌++◌, ◌∷◌, ◌==◌, [], length, map, take, drop, slice_get, slice_range, Some, None, IsTrue, IsSome, OnOk, IfOk, IfErr, IfNone, IfSome, ⊤};
+ghost use Rattle.std.specs.Range.Bound.{start_index, end_index};
+ghost use Rattle.wide_unit.specs.EncodingForm.{Utf16, Utf32, code_units, encode};
+ghost use Rattle.wide_unit.specs.Utf8.{utf8};
+ghost use Rattle.wide_unit.specs.Items.{chars, IsWellFormed, IsFirstFault, IsBoundary};
+ghost use Rattle.wide_unit.specs.Places.{IsPlaceOf, IsTextRange};
 ghost use Rattle.wide_error.specs.UtfError.{index_of, unit_of, vec_of};
+ghost use Rattle.wide_iter.specs.Encoder8.{bytes_left};
+ghost use Rattle.wide_iter.specs.Encoder16.{units_left as units16_left};
+ghost use Rattle.wide_iter.specs.Encoder32.{units_left as units32_left};
+ghost use Rattle.wide_ustr.specs.View.{units_seen as ustr_units};
+ghost use Rattle.wide_ucstr.specs.View.{contents_seen};
 
-use crate::iter::Chars;
+use crate::iter::{CharIndices, Chars, CharsUtf16, CharsUtf32, CodeUnits};
 use std::alloc::AllocError;
+use std::ops::RangeBounds;
+use std::slice;
 use wide_error::{FaultUnit, UtfError};
-use wide_unit::{Unit, split_first, split_last};
+use wide_iter::{EncodeUtf8, EncodeUtf16, EncodeUtf32, encode_utf8, encode_utf16, encode_utf32};
+use wide_ucstr::UCStr;
+use wide_unit::{Unit, range_check, split_first, split_last};
+use wide_ustr::UStr;
 
 /// A view of units that are well formed (Unicode Standard, section 3.9), by its type: no call can make one that isn't.
 ///
@@ -26,8 +40,9 @@ pub type Utf32Str<'a> = UtfStr<'a, u32>;
 /// A view of well-formed wide units.
 pub type WideUtfStr<'a> = Utf32Str<'a>;
 
-// The first fault of the units, where they are not well formed: its index, in units, and its unit.
-fn check<C: Unit>(units: &[C]) -> Result<(), (usize, C)>
+/// Whether the units are well formed (Unicode Standard, section 3.9). The error is the first fault: its index, in units, and its
+/// unit. Each unit is read once.
+pub fn check<C: Unit>(units: &[C]) -> Result<(), (usize, C)>
     ensures ok { OnOk result (IsWellFormed C.form (map C.number units.now)) }
     ensures err { IfErr result (λ fault. IsFirstFault C.form (map C.number units.now) fault.0 (C.number fault.1)) }
 {
@@ -43,7 +58,16 @@ fn check<C: Unit>(units: &[C]) -> Result<(), (usize, C)>
 
 impl<'a, C: Unit> UtfStr<'a, C> {
     ghost use Rattle.wide_utfstr.specs.View.{units_seen};
-    ghost use Rattle.wide_utfstr.specs.Iter.{chars_left};
+    ghost use Rattle.wide_utfstr.specs.Iter.{chars_left, indices_left, offset_of};
+    ghost use Rattle.wide_utfstr.specs.Indexed.{indexed_chars};
+
+    /// A view of the units, which must be well formed. No check is made.
+    pub fn from_slice_unchecked(units: &'a [C]) -> Self
+        requires { IsWellFormed C.form (map C.number units.now) }
+        ensures { units_seen result ≡ units.now }
+    {
+        UtfStr { units }
+    }
 
     /// The units.
     pub fn as_slice(self) -> &'a [C]
@@ -53,6 +77,101 @@ impl<'a, C: Unit> UtfStr<'a, C> {
         self.units
     }
 
+    /// How many units there are.
+    pub fn len(self) -> usize
+        ensures { result ≡ length (units_seen self.entry) }
+    {
+        self.units.len()
+    }
+
+    /// Whether there are no units.
+    pub fn is_empty(self) -> bool
+        ensures { result ≡ (length (units_seen self.entry) == 0) }
+    {
+        self.units.is_empty()
+    }
+
+    /// Whether the place, counted in units, lies between two characters or is an end: false within a surrogate pair (Unicode
+    /// Standard, section 3.8) and past the end. It reads at most the unit at the place.
+    pub fn is_char_boundary(self, place: usize) -> bool
+        ensures { IsTrue result ↔ IsBoundary C.form (map C.number (units_seen self.entry)) place }
+    {
+        match self.units.get(place) {
+            Some(unit) => !unit.is_low(),
+            None => place == self.units.len(),
+        }
+    }
+
+    /// How many characters there are. It reads each unit once.
+    pub fn char_count(self) -> usize
+        ensures { result ≡ length (chars C.form (map C.number (units_seen self.entry))) }
+    {
+        self.chars().count()
+    }
+
+    /// The offset, in units, at which character number `index` begins, counted from 0: the unit length of the first `index`
+    /// characters, so that their number has the offset of the end. None past it. It reads the units before the offset.
+    pub fn unit_offset(self, index: usize) -> Option<usize>
+        ensures some { IsSome result ↔ (index ≤ length (chars C.form (map C.number (units_seen self.entry)))) }
+        ensures place { IfSome result (IsPlaceOf C.form (map C.number (units_seen self.entry)) index) }
+    {
+        let mut rest = self;
+        for _number in 0..index {
+            let (_, others) = rest.split_first_char()?;
+            rest = others;
+        }
+        Some(self.units.len() - rest.units.len())
+    }
+
+    /// The part of the view in a range of places, counted in units; none where the range starts behind its end, ends behind
+    /// the view or has a bound past the greatest `usize`, as [`range_check`] tells, or where an end of it is no boundary.
+    pub fn get<R: RangeBounds<usize>>(self, range: R) -> Option<Self>
+        requires { R.has_bounds range }
+        ensures some { IsSome result ↔ IsTextRange C.form (map C.number (units_seen self.entry)) (start_index (R.start_bound range)) (end_index (R.end_bound range) (length (units_seen self.entry))) }
+        ensures part { IfSome result (λ part. units_seen part ≡ slice_range (units_seen self.entry) (start_index (R.start_bound range)) (end_index (R.end_bound range) (length (units_seen self.entry)))) }
+    {
+        let places = range_check(range, self.units.len())?;
+        if self.is_char_boundary(places.start) && self.is_char_boundary(places.end) {
+            return Some(UtfStr {
+                units: &self.units[places.start..places.end],
+            });
+        }
+        None
+    }
+
+    /// The part of the view in a range of places, counted in units. The range must be one for which [`range_check`] answers
+    /// places, and these must be boundaries; no check is made.
+    pub fn slice<R: RangeBounds<usize>>(self, range: R) -> Self
+        requires bounds { R.has_bounds range }
+        requires at_boundaries { IsTextRange C.form (map C.number (units_seen self)) (start_index (R.start_bound range)) (end_index (R.end_bound range) (length (units_seen self))) }
+        ensures { units_seen result ≡ slice_range (units_seen self.entry) (start_index (R.start_bound range)) (end_index (R.end_bound range) (length (units_seen self.entry))) }
+    {
+        let places = slice::range(range, ..self.units.len());
+        UtfStr {
+            units: &self.units[places.start..places.end],
+        }
+    }
+
+    /// As [`UtfStr::slice`], under the Rust crate's name.
+    pub fn get_unchecked<R: RangeBounds<usize>>(self, range: R) -> Self
+        requires bounds { R.has_bounds range }
+        requires at_boundaries { IsTextRange C.form (map C.number (units_seen self)) (start_index (R.start_bound range)) (end_index (R.end_bound range) (length (units_seen self))) }
+        ensures { units_seen result ≡ slice_range (units_seen self.entry) (start_index (R.start_bound range)) (end_index (R.end_bound range) (length (units_seen self.entry))) }
+    {
+        self.slice(range)
+    }
+
+    /// The units before a place, and those from it on. The place, counted in units, must be a boundary.
+    pub fn split_at(self, mid: usize) -> (Self, Self)
+        requires { IsBoundary C.form (map C.number (units_seen self)) mid }
+        ensures front { units_seen result.0 ≡ take mid (units_seen self.entry) }
+        ensures back { units_seen result.1 ≡ drop mid (units_seen self.entry) }
+        ensures joined { units_seen result.0 ++ units_seen result.1 ≡ units_seen self.entry }
+    {
+        let (front, back) = self.units.split_at(mid);
+        (UtfStr { units: front }, UtfStr { units: back })
+    }
+
     /// The characters, from both ends.
     pub fn chars(self) -> Chars<'a, C>
         ensures { chars_left C.form C.number result ≡ chars C.form (map C.number (units_seen self.entry)) }
@@ -60,10 +179,26 @@ impl<'a, C: Unit> UtfStr<'a, C> {
         Chars { text: self }
     }
 
+    /// The characters, each with the offset, in units, at which it begins in the view, from both ends.
+    pub fn char_indices(self) -> CharIndices<'a, C>
+        ensures characters { indices_left C.form C.number result ≡ indexed_chars C.form 0 (chars C.form (map C.number (units_seen self.entry))) }
+        ensures offset { offset_of result ≡ 0 }
+    {
+        CharIndices::new(self)
+    }
+
+    /// The UTF-8 bytes of the characters (Unicode Standard, section 3.9), from the front.
+    pub fn encode_utf8(self) -> EncodeUtf8<Chars<'a, C>>
+        ensures { bytes_left (chars_left C.form C.number) result ≡ utf8 (chars C.form (map C.number (units_seen self.entry))) }
+    {
+        encode_utf8(self.chars())
+    }
+
     // The first character, and the text after it.
     pub(crate) fn split_first_char(self) -> Option<(char, Self)>
         ensures none { IfNone result (chars C.form (map C.number (units_seen self.entry)) ≡ []) }
         ensures some { IfSome result (λ r. chars C.form (map C.number (units_seen self.entry)) ≡ r.0 ∷ chars C.form (map C.number (units_seen r.1))) }
+        ensures length { IfSome result (λ r. length (units_seen r.1) + length (code_units C.form r.0) ≡ length (units_seen self.entry)) }
         ensures shorter { IfSome result (λ r. length (units_seen r.1) < length (units_seen self.entry)) }
     {
         let (item, rest) = split_first(self.units)?;
@@ -101,6 +236,112 @@ impl<'a, C: FaultUnit> UtfStr<'a, C> {
             Ok(()) => Ok(UtfStr { units }),
             Err((index, unit)) => Err(UtfError::new(index, unit, None)),
         }
+    }
+
+    /// A view of the units of a view, where they are well formed, as [`UtfStr::from_slice`].
+    ///
+    /// # Errors
+    ///
+    /// The first fault, where they are not: its index is counted in units. There is no vector to hand back.
+    pub fn from_ustr(view: UStr<'a, C>) -> Result<Self, UtfError<C>>
+        ensures view { IfOk result (λ text. units_seen text ≡ ustr_units view.entry) }
+        ensures ok { OnOk result (IsWellFormed C.form (map C.number (ustr_units view.entry))) }
+        ensures fault { IfErr result (λ e. IsFirstFault C.form (map C.number (ustr_units view.entry)) (index_of e) (C.number (unit_of e))) }
+        ensures vec { IfErr result (λ e. vec_of e ≡ None) }
+    {
+        Self::from_slice(view.as_slice())
+    }
+
+    /// A view of the units of a view, which must be well formed. No check is made.
+    pub fn from_ustr_unchecked(view: UStr<'a, C>) -> Self
+        requires { IsWellFormed C.form (map C.number (ustr_units view)) }
+        ensures { units_seen result ≡ ustr_units view.entry }
+    {
+        Self::from_slice_unchecked(view.as_slice())
+    }
+
+    /// A view of the contents of a C string, without its NUL, where they are well formed, as [`UtfStr::from_slice`].
+    ///
+    /// # Errors
+    ///
+    /// The first fault, where they are not: its index is counted in units. There is no vector to hand back.
+    pub fn from_ucstr(view: UCStr<'a, C>) -> Result<Self, UtfError<C>>
+        ensures view { IfOk result (λ text. units_seen text ≡ contents_seen view.entry) }
+        ensures ok { OnOk result (IsWellFormed C.form (map C.number (contents_seen view.entry))) }
+        ensures fault { IfErr result (λ e. IsFirstFault C.form (map C.number (contents_seen view.entry)) (index_of e) (C.number (unit_of e))) }
+        ensures vec { IfErr result (λ e. vec_of e ≡ None) }
+    {
+        Self::from_slice(view.as_slice())
+    }
+
+    /// A view of the contents of a C string, which must be well formed. No check is made.
+    pub fn from_ucstr_unchecked(view: UCStr<'a, C>) -> Self
+        requires { IsWellFormed C.form (map C.number (contents_seen view)) }
+        ensures { units_seen result ≡ contents_seen view.entry }
+    {
+        Self::from_slice_unchecked(view.as_slice())
+    }
+
+    /// The view of the units that does not tell that they are well formed.
+    pub fn as_ustr(self) -> UStr<'a, C>
+        ensures units { ustr_units result ≡ units_seen self.entry }
+        ensures well_formed { IsWellFormed C.form (map C.number (ustr_units result)) }
+    {
+        UStr::from_slice(self.units)
+    }
+}
+
+impl<'a> UtfStr<'a, u16> {
+    ghost use Rattle.wide_utfstr.specs.View.{units_seen};
+    ghost use Rattle.wide_utfstr.specs.Iter.{code_units_rest, chars_left};
+
+    /// The units, from both ends.
+    pub fn code_units(self) -> CodeUnits<'a>
+        ensures { code_units_rest result ≡ units_seen self.entry }
+    {
+        CodeUnits { rest: self.units }
+    }
+
+    /// The UTF-32 units of the characters (Unicode Standard, section 3.9), from both ends.
+    pub fn encode_utf32(self) -> EncodeUtf32<CharsUtf16<'a>>
+        ensures { units32_left (chars_left Utf16 (λ u. u)) result ≡ encode Utf32 (chars Utf16 (units_seen self.entry)) }
+    {
+        encode_utf32(self.chars())
+    }
+}
+
+impl<'a> UtfStr<'a, u32> {
+    ghost use Rattle.wide_utfstr.specs.View.{units_seen};
+    ghost use Rattle.wide_utfstr.specs.Iter.{chars_left};
+
+    /// Character number `index`, counted from 0, which is below the length: in UTF-32 each unit is a character.
+    pub fn char_at(self, index: usize) -> char
+        requires { index < length (units_seen self) }
+        ensures unit { slice_get (units_seen self.entry) index ≡ Some result }
+        ensures character { slice_get (chars Utf32 (units_seen self.entry)) index ≡ Some result }
+    {
+        let Some(c) = self.units[index].as_scalar() else {
+            unreachable!()
+        };
+        c
+    }
+
+    /// The UTF-16 units of the characters (Unicode Standard, section 3.9), from the front.
+    pub fn encode_utf16(self) -> EncodeUtf16<CharsUtf32<'a>>
+        ensures { units16_left (chars_left Utf32 (λ u. u)) result ≡ encode Utf16 (chars Utf32 (units_seen self.entry)) }
+    {
+        encode_utf16(self.chars())
+    }
+}
+
+impl<C: Unit> Default for UtfStr<'_, C> {
+    ghost use Rattle.wide_utfstr.specs.View.{units_seen};
+
+    ghost is_default = { λ view. units_seen view ≡ [] };
+
+    /// The empty view.
+    fn default() -> Self {
+        UtfStr { units: &[] }
     }
 }
 

@@ -11,6 +11,10 @@ pub use wide_iter::{
     decode_utf16, decode_utf16_lossy, decode_utf32, decode_utf32_lossy, encode_utf8, encode_utf16,
     encode_utf32,
 };
+pub use wide_ucstr as ucstr;
+pub use wide_ucstr::{U16CStr, U32CStr, WideCStr};
+pub use wide_ucstring as ucstring;
+pub use wide_ucstring::{U16CString, U32CString, WideCString};
 pub use wide_unit as unit;
 pub use wide_ustr as ustr;
 pub use wide_ustr::{U16Str, U32Str, WideChar, WideStr};
@@ -18,3 +22,5 @@ pub use wide_ustring as ustring;
 pub use wide_ustring::{U16String, U32String, WideString};
 pub use wide_utfstr as utfstr;
 pub use wide_utfstr::{Utf16Str, Utf32Str, WideUtfStr};
+pub use wide_utfstring as utfstring;
+pub use wide_utfstring::{Utf16String, Utf32String, WideUtfString};

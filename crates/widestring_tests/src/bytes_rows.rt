@@ -51,7 +51,7 @@ fn utf8_of_the_table(rt: HostRuntime) -> Result<(), Fail> {
 }
 
 #[test]
-fn devices(rt: HostRuntime) -> Result<(), Fail> {
+fn reader(rt: HostRuntime) -> Result<(), Fail> {
     let mut source = FromRead::new(b"abc".as_slice());
     let mut room = [0; 2];
     assert_eq!(rt; source.take(&mut [])?, 0);
@@ -59,10 +59,21 @@ fn devices(rt: HostRuntime) -> Result<(), Fail> {
     assert_eq!(rt; source.take(&mut room)?, 2);
     let mut rest = [0; 2];
     assert_eq!(rt; source.into_inner().read(&mut rest)?, 1);
+    Ok(())
+}
+
+#[test]
+fn reader_at_its_end(rt: HostRuntime) -> Result<(), Fail> {
     let mut source = FromRead::new(b"".as_slice());
+    let mut room = [0; 2];
     assert_eq!(rt; source.take(&mut room)?, 0);
     assert!(rt; source.ended());
     assert!(rt; !source.failed());
+    Ok(())
+}
+
+#[test]
+fn writer(rt: HostRuntime) -> Result<(), Fail> {
     let mut sink = FromWrite::new(Vec::new(rt.alloc()));
     assert_eq!(rt; sink.put(b"ab")?, 2);
     assert!(rt; !sink.failed());

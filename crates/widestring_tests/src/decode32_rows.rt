@@ -50,19 +50,28 @@ fn numbers_of_items(rt: HostRuntime) -> Result<(), Fail> {
     assert_eq!(rt; decoder.next_back(), Some(Ok('\u{1f600}')));
     assert_eq!(rt; decoder.len(), 2);
     assert_eq!(rt; decoder.size_hint(), (2, Some(2)));
+    let decoder = decode_utf32(units.to_vec(rt.alloc())?);
+    assert_eq!(rt; decoder.size_hint(), (3, Some(3)));
+    Ok(())
+}
+
+#[test]
+fn numbers_of_characters(rt: HostRuntime) {
+    let units: [u32; 3] = [0x41, 0xd800, 0x1_f600];
     let mut lossy = decode_utf32_lossy(units);
     assert_eq!(rt; lossy.len(), 3);
     assert_eq!(rt; lossy.size_hint(), (3, Some(3)));
     assert_eq!(rt; lossy.next(), Some('A'));
     assert_eq!(rt; lossy.len(), 2);
-    let decoder = decode_utf32(units.to_vec(rt.alloc())?);
-    assert_eq!(rt; decoder.size_hint(), (3, Some(3)));
+}
+
+#[test]
+fn bounds_of_characters(rt: HostRuntime) {
     let narrow: [u16; 3] = [0xd83d, 0xde00, 0x41];
     let mut lossy = decode_utf16_lossy(narrow.iter().copied());
     assert_eq!(rt; lossy.size_hint(), (1, Some(3)));
     assert_eq!(rt; lossy.next_back(), Some('A'));
     assert_eq!(rt; lossy.size_hint(), (1, Some(2)));
-    Ok(())
 }
 
 #[derive(Drop)]

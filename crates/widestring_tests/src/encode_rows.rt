@@ -30,6 +30,11 @@ fn tables(rt: HostRuntime) -> Result<(), Fail> {
         assert_eq!(rt; given.as_slice(), [c as u32].as_slice());
         assert_eq!(rt; next_code_point(bytes), Some((c as u32, [].as_slice())));
     }
+    Ok(())
+}
+
+#[test]
+fn callers(rt: HostRuntime) -> Result<(), Fail> {
     let given = units_of(rt.alloc(), "\u{7f}\u{10ffff}\u{ffff}")?;
     assert_eq!(rt; given.as_slice(), [0x7f, 0xdbff, 0xdfff, 0xffff].as_slice());
     let letters = ['a', '\u{10ffff}'].to_vec(rt.alloc())?;
@@ -38,7 +43,7 @@ fn tables(rt: HostRuntime) -> Result<(), Fail> {
 }
 
 #[test]
-fn hints(rt: HostRuntime) {
+fn hints_of_bytes(rt: HostRuntime) {
     let letters = ['é', '😀'];
     let mut bytes = encode_utf8(letters.iter().copied());
     assert_eq!(rt; bytes.size_hint(), (2, Some(8)));
@@ -48,6 +53,11 @@ fn hints(rt: HostRuntime) {
     assert_eq!(rt; bytes.size_hint(), (1, Some(4)));
     assert_eq!(rt; bytes.next(), Some(0xf0));
     assert_eq!(rt; bytes.size_hint(), (0, Some(3)));
+}
+
+#[test]
+fn hints_of_units(rt: HostRuntime) {
+    let letters = ['é', '😀'];
     let mut units = encode_utf16(letters.iter().copied());
     assert_eq!(rt; units.size_hint(), (2, Some(4)));
     assert_eq!(rt; units.next(), Some(0xe9));
@@ -93,16 +103,24 @@ impl Iterator for Resuming {
 }
 
 #[test]
-fn stays_ended(rt: HostRuntime) {
+fn bytes_stay_ended(rt: HostRuntime) {
     let mut bytes = encode_utf8(Resuming { calls: 0 });
     assert_eq!(rt; bytes.next(), Some(0xc3));
     assert_eq!(rt; bytes.next(), Some(0xa9));
     assert_eq!(rt; bytes.next(), None);
     assert_eq!(rt; bytes.next(), None);
+}
+
+#[test]
+fn units_stay_ended(rt: HostRuntime) {
     let mut units = encode_utf16(Resuming { calls: 0 });
     assert_eq!(rt; units.next(), Some(0xe9));
     assert_eq!(rt; units.next(), None);
     assert_eq!(rt; units.next(), None);
+}
+
+#[test]
+fn wide_units_stay_ended(rt: HostRuntime) {
     let mut units = encode_utf32(Resuming { calls: 0 });
     assert_eq!(rt; units.next(), Some(0xe9));
     assert_eq!(rt; units.next(), None);

@@ -102,11 +102,18 @@ fn hints(rt: HostRuntime) {
     let mut decoder = decode_utf16([0xd800, 0x41]);
     assert_eq!(rt; decoder.next(), fault(0xd800));
     assert_eq!(rt; decoder.size_hint(), (0, Some(1)));
-    // A unit in each hand.
+}
+
+#[test]
+fn hints_with_a_unit_in_each_hand(rt: HostRuntime) {
     let mut decoder = decode_utf16([0xd800, 0x41, 0x42, 0xdc00]);
     assert_eq!(rt; decoder.next(), fault(0xd800));
     assert_eq!(rt; decoder.next_back(), fault(0xdc00));
     assert_eq!(rt; decoder.size_hint(), (0, Some(2)));
+}
+
+#[test]
+fn hints_over_a_slice(rt: HostRuntime) {
     let units = [0xd800, 0x41, 0x42, 0x43, 0xdc00];
     let mut decoder = decode_utf16(units.iter().copied());
     assert_eq!(rt; decoder.size_hint(), (2, Some(5)));

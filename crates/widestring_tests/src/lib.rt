@@ -1,8 +1,8 @@
-//! Callers of the library, and its tests.
+//! Callers of the library, and its tests, but for those of views and of owned strings.
 //!
 //! The callers show what the contracts tell at concrete types; each is proved. The tests have worked rows, the tables of
-//! the Unicode Standard and printed texts, and call each public function with ample memory. `gives` is an allocator that
-//! runs out, for the rows with refused memory.
+//! the Unicode Standard and printed texts, and call each public function with ample memory. Views and owned
+//! strings have crates of tests of their own, `widestring_view_tests` and `widestring_string_tests`.
 #![tactic(auto)]
 
 #[cfg(test)]
@@ -11,24 +11,13 @@ pub mod callers;
 #[cfg(test)]
 mod decode32_rows;
 #[cfg(test)]
-mod drain_rows;
-#[cfg(test)]
 mod encode_rows;
 pub mod encoders;
 #[cfg(test)]
 mod error_rows;
 #[cfg(test)]
-mod extend_rows;
-pub mod gives;
-#[cfg(test)]
 mod iter_rows;
 #[cfg(test)]
 mod readme;
 #[cfg(test)]
-mod refused_rows;
-#[cfg(test)]
 mod unit_rows;
-#[cfg(test)]
-mod ustring_rows;
-#[cfg(test)]
-mod view_rows;

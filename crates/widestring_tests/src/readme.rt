@@ -1,8 +1,8 @@
-//! The code of README.md, word for word.
+//! The code of README.md that decodes and transcodes, word for word.
 use std::test::Fail;
 use widestring::bytes::{FromRead, FromWrite, Mode, transcode};
+use widestring::decode_utf16;
 use widestring::error::DecodeUtf16Error;
-use widestring::{U16String, decode_utf16};
 
 #[test]
 fn decoding(rt: HostRuntime) {
@@ -24,15 +24,5 @@ fn transcoding(rt: HostRuntime) -> Result<(), Fail> {
     let mut sink = FromWrite::new(Vec::new(rt.alloc()));
     transcode(rt.alloc(), &mut source, &mut sink, Mode::Strict)?;
     assert_eq!(rt; sink.into_inner().as_slice(), "😀".as_bytes());
-    Ok(())
-}
-
-#[test]
-fn editing(rt: HostRuntime) -> Result<(), Fail> {
-    let units = [0x61, 0xd83d, 0xde00, 0x62].to_vec(rt.alloc())?;
-    let mut string = U16String::from_vec(units);
-    assert_eq!(rt; string.remove_char(1), 0x1_f600);
-    string.push_str("é")?;
-    assert_eq!(rt; string.as_slice(), [0x61, 0x62, 0xe9].as_slice());
     Ok(())
 }

@@ -17,6 +17,7 @@ mod hints;
 mod items;
 mod lossy;
 mod offsets;
+mod ucstring;
 mod ustring;
 
 use crate::parse::NoAnswer;
@@ -87,11 +88,15 @@ pub enum Family {
     SplitOff16,
     /// Of strings of 32-bit units: the two parts that `split_off` makes.
     SplitOff32,
+    /// The C strings of 16-bit units that the constructors make.
+    Ucstring16,
+    /// The C strings of 32-bit units that the constructors make.
+    Ucstring32,
 }
 
 impl Family {
     /// All families, in the order in which they are printed.
-    pub const ALL: [Family; 31] = [
+    pub const ALL: [Family; 33] = [
         Family::Items16,
         Family::Items32,
         Family::Lossy16,
@@ -123,6 +128,8 @@ impl Family {
         Family::Retain32,
         Family::SplitOff16,
         Family::SplitOff32,
+        Family::Ucstring16,
+        Family::Ucstring32,
     ];
 
     /// The family's name, which is its file's without `.txt`.
@@ -159,6 +166,8 @@ impl Family {
             Family::Retain32 => "retain32",
             Family::SplitOff16 => "split_off16",
             Family::SplitOff32 => "split_off32",
+            Family::Ucstring16 => "ucstring16",
+            Family::Ucstring32 => "ucstring32",
         }
     }
 
@@ -208,6 +217,8 @@ impl Family {
             Family::Retain32 => ustring::retain::<u32>(alloc, list, question),
             Family::SplitOff16 => ustring::split_off::<u16>(alloc, list, question),
             Family::SplitOff32 => ustring::split_off::<u32>(alloc, list, question),
+            Family::Ucstring16 => ucstring::made::<u16>(alloc, list, question),
+            Family::Ucstring32 => ucstring::made::<u32>(alloc, list, question),
         }
     }
 }

@@ -1,6 +1,7 @@
 //! Writing answers as the data does, with a space between two.
 use std::alloc::AllocError;
 use std::fmt::Write;
+use widestring::error::ContainsNul;
 use widestring::unit::Unit;
 
 // Parts this answer from the one before it.
@@ -76,6 +77,18 @@ pub fn push_units<C: Unit>(text: &mut String, units: &[C]) -> Result<(), AllocEr
         push_number(text, Some(unit.code()))?;
     }
     Ok(())
+}
+
+/// Adds the place of an inner NUL after a `!`, and as a second part the units of the vector that is handed back, or a `-`
+/// for none.
+pub fn push_inner_nul<C: Unit>(text: &mut String, error: ContainsNul<C>) -> Result<(), AllocError> {
+    push_gap(text)?;
+    write!(text, "!{:X}", error.nul_position())?;
+    push_part(text)?;
+    match error.into_vec() {
+        None => push_number(text, None),
+        Some(units) => push_units(text, &units),
+    }
 }
 
 /// Begins the next part of an answer of several.

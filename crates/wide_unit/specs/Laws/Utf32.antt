@@ -1,11 +1,13 @@
 -- In UTF-32 each unit is an item, whatever stands beside it.
-use Rattle.std.proofs.Common.{◌≡◌, ℕ, suc, List, [], ◌∷◌, ◌++◌, inl, inr, refl, ◌∙◌, ap, length}
+use Rattle.std.proofs.Common.{◌≡◌, ℕ, suc, List, [], ◌∷◌, ◌++◌, inl, inr, refl, sym, ◌∙◌, ap, length}
 use Rattle.std.specs.Char.{IsScalar}
-use Rattle.wide_unit.specs.EncodingForm.{Utf32}
+use Rattle.std.proofs.lemmas.List.{map-id}
+use Rattle.std.proofs.lemmas.List.Concat.{flat_map_single}
+use Rattle.wide_unit.specs.EncodingForm.{Utf32, encode}
 use Rattle.wide_unit.specs.Segmentation.{Item, Char, Fault}
-use Rattle.wide_unit.specs.Items.{items}
+use Rattle.wide_unit.specs.Items.{items, chars, IsWellFormed}
 use Rattle.wide_unit.specs.Laws.Forms.{IsFault-no_scalar, no_pair32, unit-cases}
-use Rattle.wide_unit.specs.Laws.Items.{items-append, items-nil}
+use Rattle.wide_unit.specs.Laws.Items.{items-append, items-nil, encode-of_items, chars-of_well_formed}
 use Rattle.wide_unit.specs.Laws.Ends.{items-first_char, items-first_fault}
 
 pub items32-append : (a b : List ℕ) → items Utf32 (a ++ b) ≡ items Utf32 a ++ items Utf32 b
@@ -26,3 +28,10 @@ one_item32 u us = elim (unit-cases Utf32 u) [
 pub length-items32 : (us : List ℕ) → length (items Utf32 us) ≡ length us
 length-items32 [] = ap length (items-nil Utf32)
 length-items32 (u ∷ us) = let at = one_item32 u us in ap length at.1 ∙ ap suc (length-items32 us)
+
+-- a character is its own unit
+encode32 : (cs : List ℕ) → encode Utf32 cs ≡ cs
+encode32 cs = flat_map_single (λ (c : ℕ). c) cs ∙ map-id cs
+
+pub chars32-well_formed : (us : List ℕ) → IsWellFormed Utf32 us → chars Utf32 us ≡ us
+chars32-well_formed us well = sym (encode32 (chars Utf32 us)) ∙ encode-of_items Utf32 (chars Utf32 us) us (chars-of_well_formed Utf32 us well)

@@ -1,5 +1,4 @@
-use Rattle.std.proofs.Common.{◌≡◌, ◌∷◌, [], ◌++◌, ap, ◌∙◌, map}
-use Rattle.wide_unit.specs.Segmentation.{Char, Fault}
+use Rattle.std.proofs.Common.{◌∷◌, [], ◌++◌, ap, ◌∙◌, map}
 use Rattle.wide_unit.specs.Items.{items, characters}
 use Rattle.wide_unit.specs.Unit.{item_of}
 use Rattle.wide_utfstr.proofs.Ends.{no_last_fault, well_formed-front, characters-push}

@@ -1,0 +1,4 @@
+pub mod CString
+pub mod View
+pub mod Faults
+pub mod Statements

@@ -1,0 +1,9 @@
+//! Views of wide C strings: units of 16 or 32 bits that end in their only NUL.
+//!
+//! `specs/` says what a C string is; the functions of [`laws`] have its laws as their contracts.
+#![tactic(auto)]
+
+pub mod laws;
+mod view;
+
+pub use view::{U16CStr, U32CStr, UCStr, WideCStr};

@@ -1,0 +1,16 @@
+//! Owned wide C strings: units of 16 or 32 bits that end in their only NUL.
+#![tactic(auto)]
+
+mod extend;
+mod ucstring;
+mod view;
+
+pub use extend::{
+    UStringInUcstring, UStringInUcstring as U16StringInUcstring,
+    UStringInUcstring as U32StringInUcstring, UStringOverUcstrs,
+    UStringOverUcstrs as U16StringOverUcstrs, UStringOverUcstrs as U32StringOverUcstrs,
+};
+pub use ucstring::{U16CString, U32CString, UCString, WideCString};
+pub use view::{
+    UCStrInUcstring, UCStrInUcstring as U16CStrInUcstring, UCStrInUcstring as U32CStrInUcstring,
+};

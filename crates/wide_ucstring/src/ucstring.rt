@@ -1,0 +1,372 @@
+//! Owned wide C strings.
+ghost use Rattle.std.specs.Prelude.{◌≡◌, ◌≤◌, ◌+◌, ◌++◌, ◌∷◌, [], max, length, map, IfOk, IfErr, vec_capacity};
+ghost use Rattle.std.specs.Str.{chars};
+ghost use Rattle.wide_unit.specs.EncodingForm.{encode};
+ghost use Rattle.wide_unit.specs.Nul.{HasNoNul};
+ghost use Rattle.wide_ustr.specs.View.{units_seen};
+ghost use Rattle.wide_ustring.specs.Units.{Units};
+ghost use Rattle.wide_ucstr.specs.CString.{IsCString, contents};
+ghost use Rattle.wide_ucstr.specs.View.{units_with_nul};
+ghost use Rattle.wide_ucstring.specs.Made.{HasNoInnerNul, EndsAsGiven, EndsAtFirst};
+ghost use Rattle.wide_ucstring.specs.Refused.{RefusesInnerNul, RefusesInnerNulOfCopy, RefusesNulOfCopy, IsWantOfRoom, IsWantOfMemory};
+
+use std::alloc::{Allocator, Global};
+use std::marker::Model;
+use wide_error::{ContainsNul, FaultUnit, OutOfMemory, UCStringError};
+use wide_ucstr::UCStr;
+use wide_unit::first_nul;
+use wide_ustr::UStr;
+use wide_ustring::UString;
+
+/// An owned wide C string: units of which the last is the only NUL, by its type.
+///
+/// The units before the NUL are its contents. A constructor that answers an error hands back the vector that it was given,
+/// or the copy that it made, where a NUL stands in the way; where memory was refused, only a vector that it was given.
+#[derive(Drop)]
+pub struct UCString<C: FaultUnit, A: Allocator = Global> {
+    pub(crate) string: UString<C, A>,
+}
+
+/// An owned C string of 16-bit units.
+pub type U16CString<A = Global> = UCString<u16, A>;
+
+/// An owned C string of 32-bit units.
+pub type U32CString<A = Global> = UCString<u32, A>;
+
+/// An owned C string of wide units.
+pub type WideCString<A = Global> = U32CString<A>;
+
+impl<C: FaultUnit, A: Allocator> Model for UCString<C, A> {
+    ghost use Rattle.std.specs.Prelude.{map};
+    ghost use Rattle.wide_ustring.specs.Units.{Units, units_code};
+    ghost use Rattle.wide_ucstr.specs.CString.{IsCString};
+
+    ghost Value = { Units C };
+
+    ghost coded = { units_code C.code };
+
+    ghost view = { λ s. s.string };
+
+    ghost invariant = { λ s. IsCString (map C.number s.string.units) };
+}
+
+// The units and a NUL behind them. Room is asked for that NUL alone.
+pub(crate) fn end<C: FaultUnit, A: Allocator>(
+    units: Vec<C, A>,
+) -> Result<UCString<C, A>, UCStringError<C, A>>
+    requires { HasNoNul (map C.number units.items) }
+    ensures made { IfOk result (λ s. map C.number s.units ≡ map C.number units.items ++ 0 ∷ []) }
+    ensures units { IfOk result (λ s. contents s.units ≡ units.items) }
+    ensures room { IfOk result (λ s. s.capacity ≡ max (vec_capacity units) (length s.units)) }
+    ensures refused { IfErr result (IsWantOfRoom C.number units) }
+{
+    let mut ended = units;
+    match ended.reserve_exact(1) {
+        Ok(()) => {
+            ended.push_reserved(C::NUL);
+            Ok(UCString {
+                string: UString::from_vec(ended),
+            })
+        }
+        Err(_) => Err(UCStringError::OutOfMemory(Some(ended))),
+    }
+}
+
+// An empty string with room for so many units and a NUL.
+pub(crate) fn with_room<C: FaultUnit, A: Allocator>(
+    alloc: A,
+    len: usize,
+) -> Result<UString<C, A>, OutOfMemory>
+    ensures units { IfOk result (λ s. s.units ≡ []) }
+    ensures room { IfOk result (λ s. len + 1 ≤ s.capacity) }
+{
+    let Some(room) = len.checked_add(1) else {
+        return Err(OutOfMemory);
+    };
+    UString::with_capacity(alloc, room)
+}
+
+// A copy of the units, with room for a NUL.
+fn copy_of_ustr<C: FaultUnit, A: Allocator>(
+    alloc: A,
+    text: UStr<'_, C>,
+) -> Result<Vec<C, A>, OutOfMemory>
+    ensures units { IfOk result (λ v. v.items ≡ units_seen text.entry) }
+    ensures room { IfOk result (λ v. length v.items + 1 ≤ vec_capacity v) }
+{
+    let mut string = with_room(alloc, text.len())?;
+    string.push(text)?;
+    Ok(string.into_vec())
+}
+
+// The units of a text, with room for a NUL.
+fn copy_of_str<C: FaultUnit, A: Allocator>(alloc: A, text: &str) -> Result<Vec<C, A>, OutOfMemory>
+    ensures units { IfOk result (λ v. map C.number v.items ≡ encode C.form (chars text.now)) }
+    ensures room { IfOk result (λ v. length v.items + 1 ≤ vec_capacity v) }
+{
+    let mut string = with_room(alloc, C::text_len(text))?;
+    string.push_str(text)?;
+    Ok(string.into_vec())
+}
+
+// The characters as units of 32 bits, with room for a NUL.
+fn copy_of_chars<A: Allocator>(alloc: A, chars: &[char]) -> Result<Vec<u32, A>, OutOfMemory>
+    ensures units { IfOk result (λ v. v.items ≡ chars.now) }
+    ensures room { IfOk result (λ v. length v.items + 1 ≤ vec_capacity v) }
+{
+    let mut units = with_room(alloc, chars.len())?.into_vec();
+    for c in chars {
+        units.push_reserved(u32::from(*c));
+    }
+    Ok(units)
+}
+
+impl<C: FaultUnit, A: Allocator> UCString<C, A> {
+    /// The unit that ends a C string.
+    pub const NUL_TERMINATOR: C = C::NUL;
+
+    /// The C string of a vector's units. A NUL at their end is taken as the terminator, and then no memory is; else one is
+    /// added.
+    ///
+    /// # Errors
+    ///
+    /// The place of the first NUL, in units, where it is not the last unit; or that a NUL was to be added for which there was
+    /// no room. Both hand the vector back as it was.
+    pub fn from_vec(units: Vec<C, A>) -> Result<Self, UCStringError<C, A>>
+        ensures made { IfOk result (λ s. EndsAsGiven (map C.number units.items) (map C.number s.units)) }
+        ensures ok { IfOk result (λ s. HasNoInnerNul (map C.number units.items)) }
+        ensures room { IfOk result (λ s. s.capacity ≡ max (vec_capacity units) (length s.units)) }
+        ensures refused { IfErr result (RefusesInnerNul C.number units) }
+    {
+        match first_nul(units.as_slice()) {
+            None => end(units),
+            Some(place) if place + 1 == units.len() => Ok(UCString {
+                string: UString::from_vec(units),
+            }),
+            Some(place) => Err(ContainsNul::new(place, Some(units)).into()),
+        }
+    }
+
+    /// As [`UCString::from_vec`], of units with no NUL before the last of them; no check is made but of the last.
+    pub fn from_vec_unchecked(units: Vec<C, A>) -> Result<Self, UCStringError<C, A>>
+        requires { HasNoInnerNul (map C.number units.items) }
+        ensures made { IfOk result (λ s. EndsAsGiven (map C.number units.items) (map C.number s.units)) }
+        ensures room { IfOk result (λ s. s.capacity ≡ max (vec_capacity units) (length s.units)) }
+        ensures refused { IfErr result (IsWantOfRoom C.number units) }
+    {
+        match units.last() {
+            Some(last) if last.code() == 0 => Ok(UCString {
+                string: UString::from_vec(units),
+            }),
+            _ => end(units),
+        }
+    }
+
+    /// The C string of a vector's units up to and with the first NUL, which takes no memory, or of all of them and a NUL
+    /// that is added.
+    ///
+    /// # Errors
+    ///
+    /// There was no room for the NUL. The vector is handed back as it was.
+    pub fn from_vec_truncate(units: Vec<C, A>) -> Result<Self, UCStringError<C, A>>
+        ensures made { IfOk result (λ s. EndsAtFirst (map C.number units.items) (map C.number s.units)) }
+        ensures room { IfOk result (λ s. s.capacity ≡ max (vec_capacity units) (length s.units)) }
+        ensures refused { IfErr result (IsWantOfRoom C.number units) }
+    {
+        let Some(place) = first_nul(units.as_slice()) else {
+            return end(units);
+        };
+        let mut cut = units;
+        cut.truncate(place + 1);
+        Ok(UCString {
+            string: UString::from_vec(cut),
+        })
+    }
+
+    /// The empty C string.
+    pub fn new(alloc: A) -> Result<Self, UCStringError<C, A>>
+        ensures made { IfOk result (λ s. map C.number s.units ≡ 0 ∷ []) }
+        ensures refused { IfErr result IsWantOfMemory }
+    {
+        end(with_room(alloc, 0)?.into_vec())
+    }
+
+    /// The C string of a copy of the view's units. A NUL at their end is taken as the terminator; else one is added.
+    ///
+    /// # Errors
+    ///
+    /// There was no memory for the copy; or the place of the first NUL, in units, where it is not the last unit, with the
+    /// copy.
+    pub fn from_ustr(alloc: A, text: UStr<'_, C>) -> Result<Self, UCStringError<C, A>>
+        ensures made { IfOk result (λ s. EndsAsGiven (map C.number (units_seen text.entry)) (map C.number s.units)) }
+        ensures ok { IfOk result (λ s. HasNoInnerNul (map C.number (units_seen text.entry))) }
+        ensures refused { IfErr result (RefusesInnerNulOfCopy C.number (map C.number (units_seen text.entry))) }
+    {
+        UCString::from_vec(copy_of_ustr(alloc, text)?)
+    }
+
+    /// As [`UCString::from_ustr`], of units with no NUL before the last of them; no check is made but of the last.
+    pub fn from_ustr_unchecked(alloc: A, text: UStr<'_, C>) -> Result<Self, UCStringError<C, A>>
+        requires { HasNoInnerNul (map C.number (units_seen text)) }
+        ensures made { IfOk result (λ s. EndsAsGiven (map C.number (units_seen text.entry)) (map C.number s.units)) }
+        ensures refused { IfErr result IsWantOfMemory }
+    {
+        UCString::from_vec_unchecked(copy_of_ustr(alloc, text)?)
+    }
+
+    /// The C string of a copy of the view's units up to and with the first NUL, or of all of them and a NUL that is added.
+    /// It fails where there is no memory for that.
+    pub fn from_ustr_truncate(alloc: A, text: UStr<'_, C>) -> Result<Self, UCStringError<C, A>>
+        ensures made { IfOk result (λ s. EndsAtFirst (map C.number (units_seen text.entry)) (map C.number s.units)) }
+        ensures refused { IfErr result IsWantOfMemory }
+    {
+        match first_nul(text.as_slice()) {
+            Some(place) => end(copy_of_ustr(alloc, text.slice(..place))?),
+            None => end(copy_of_ustr(alloc, text)?),
+        }
+    }
+
+    /// The C string of the text's units. A NUL at their end is taken as the terminator; else one is added.
+    ///
+    /// # Errors
+    ///
+    /// There was no memory for the units; or the place of the first NUL, in units, where it is not the last unit, with the
+    /// vector of them.
+    pub fn from_str(alloc: A, text: &str) -> Result<Self, UCStringError<C, A>>
+        ensures made { IfOk result (λ s. EndsAsGiven (encode C.form (chars text.now)) (map C.number s.units)) }
+        ensures ok { IfOk result (λ s. HasNoInnerNul (encode C.form (chars text.now))) }
+        ensures refused { IfErr result (RefusesInnerNulOfCopy C.number (encode C.form (chars text.now))) }
+    {
+        UCString::from_vec(copy_of_str(alloc, text)?)
+    }
+
+    /// As [`UCString::from_str`], of a text whose units have no NUL before the last; no check is made but of the last.
+    pub fn from_str_unchecked(alloc: A, text: &str) -> Result<Self, UCStringError<C, A>>
+        requires { HasNoInnerNul (encode C.form (chars text.now)) }
+        ensures made { IfOk result (λ s. EndsAsGiven (encode C.form (chars text.now)) (map C.number s.units)) }
+        ensures refused { IfErr result IsWantOfMemory }
+    {
+        UCString::from_vec_unchecked(copy_of_str(alloc, text)?)
+    }
+
+    /// The C string of the text's units up to and with the first NUL, or of all of them and a NUL that is added. All of the text
+    /// is copied before it is cut, and the room for it stays; it fails where there is no memory for that.
+    pub fn from_str_truncate(alloc: A, text: &str) -> Result<Self, UCStringError<C, A>>
+        ensures made { IfOk result (λ s. EndsAtFirst (encode C.form (chars text.now)) (map C.number s.units)) }
+        ensures refused { IfErr result IsWantOfMemory }
+    {
+        UCString::from_vec_truncate(copy_of_str(alloc, text)?)
+    }
+
+    /// The C string of the text's units and a NUL. In the Rust crate a literal is read so when a program is compiled; here it
+    /// is at run time.
+    ///
+    /// # Errors
+    ///
+    /// There was no memory for the units; or the place of the first NUL, in units, where there is any, also at the end, with
+    /// the vector of them.
+    pub fn from_str_literal(alloc: A, text: &str) -> Result<Self, UCStringError<C, A>>
+        ensures made { IfOk result (λ s. map C.number s.units ≡ encode C.form (chars text.now) ++ 0 ∷ []) }
+        ensures ok { IfOk result (λ s. HasNoNul (encode C.form (chars text.now))) }
+        ensures refused { IfErr result (RefusesNulOfCopy C.number (encode C.form (chars text.now))) }
+    {
+        let units = copy_of_str(alloc, text)?;
+        match first_nul(units.as_slice()) {
+            None => end(units),
+            Some(place) => Err(ContainsNul::new(place, Some(units)).into()),
+        }
+    }
+
+    /// A view of the C string.
+    pub fn as_ucstr(&self) -> UCStr<'_, C>
+        ensures { units_with_nul result ≡ self.now.units }
+    {
+        UCStr::from_slice_unchecked(self.string.as_slice())
+    }
+
+    /// The vector of the contents, without the NUL. It takes no memory.
+    pub fn into_vec(self) -> Vec<C, A>
+        ensures units { result.items ≡ contents self.units }
+        ensures no_nul { HasNoNul (map C.number result.items) }
+        ensures capacity { vec_capacity result ≡ self.capacity }
+    {
+        let mut units = self.into_vec_with_nul();
+        let len = units.len() - 1;
+        units.truncate(len);
+        units
+    }
+
+    /// The vector of the contents and the NUL. It takes no memory.
+    pub fn into_vec_with_nul(self) -> Vec<C, A>
+        ensures units { result.items ≡ self.units }
+        ensures c_string { IsCString (map C.number result.items) }
+        ensures capacity { vec_capacity result ≡ self.capacity }
+    {
+        let UCString { string } = self;
+        string.into_vec()
+    }
+
+    /// The string of the contents, without the NUL. It takes no memory.
+    pub fn into_ustring(self) -> UString<C, A>
+        ensures units { result.units ≡ contents self.units }
+        ensures no_nul { HasNoNul (map C.number result.units) }
+        ensures capacity { result.capacity ≡ self.capacity }
+    {
+        UString::from_vec(self.into_vec())
+    }
+
+    /// The string of the contents and the NUL. It takes no memory.
+    pub fn into_ustring_with_nul(self) -> UString<C, A>
+        ensures units { result.units ≡ self.units }
+        ensures c_string { IsCString (map C.number result.units) }
+        ensures capacity { result.capacity ≡ self.capacity }
+    {
+        let UCString { string } = self;
+        string
+    }
+
+    /// A copy, with a copy of the allocator.
+    pub fn try_clone(&self) -> Result<Self, OutOfMemory>
+    where
+        A: Clone,
+        ensures { IfOk result (λ s. s.units ≡ self.now.units) }
+    {
+        Ok(UCString {
+            string: self.string.try_clone()?,
+        })
+    }
+}
+
+impl<A: Allocator> UCString<u32, A> {
+    /// The C string of the characters as units of 32 bits. A NUL at their end is taken as the terminator; else one is added.
+    ///
+    /// # Errors
+    ///
+    /// There was no memory for the units; or the place of the first NUL where it is not the last character, with the vector
+    /// of the units.
+    pub fn from_chars(alloc: A, chars: &[char]) -> Result<Self, UCStringError<u32, A>>
+        ensures made { IfOk result (λ s. EndsAsGiven chars.now s.units) }
+        ensures ok { IfOk result (λ s. HasNoInnerNul chars.now) }
+        ensures refused { IfErr result (RefusesInnerNulOfCopy (λ u. u) chars.now) }
+    {
+        UCString::from_vec(copy_of_chars(alloc, chars)?)
+    }
+
+    /// As [`UCString::from_chars`], of characters with no NUL before the last; no check is made but of the last.
+    pub fn from_chars_unchecked(alloc: A, chars: &[char]) -> Result<Self, UCStringError<u32, A>>
+        requires { HasNoInnerNul chars.now }
+        ensures made { IfOk result (λ s. EndsAsGiven chars.now s.units) }
+        ensures refused { IfErr result IsWantOfMemory }
+    {
+        UCString::from_vec_unchecked(copy_of_chars(alloc, chars)?)
+    }
+
+    /// The C string of the characters up to and with the first NUL, or of all of them and a NUL that is added. All characters
+    /// are copied before they are cut, and the room for them stays; it fails where there is no memory for that.
+    pub fn from_chars_truncate(alloc: A, chars: &[char]) -> Result<Self, UCStringError<u32, A>>
+        ensures made { IfOk result (λ s. EndsAtFirst chars.now s.units) }
+        ensures refused { IfErr result IsWantOfMemory }
+    {
+        UCString::from_vec_truncate(copy_of_chars(alloc, chars)?)
+    }
+}

@@ -1,0 +1,14 @@
+use Rattle.wide_unit.specs.Laws.Places.{IsWellFormed-take, IsWellFormed-drop}
+use Rattle.wide_unit.specs.Laws.Splices.{IsWellFormed-part, chars-part, IsWellFormed-splice, chars-splice}
+use Rattle.wide_unit.proofs.laws.spliced_text.Goals as goal
+
+pub returns-clause-cuts : goal.returns-clause-cuts
+returns-clause-cuts c = λ form us place well at. (IsWellFormed-take form us well place at, IsWellFormed-drop form us well place at)
+
+pub returns-clause-parts : goal.returns-clause-parts
+returns-clause-parts c =
+    λ form us from to well at_from at_to forward. (IsWellFormed-part form us from to well at_from at_to forward, chars-part form us from to well at_from at_to forward)
+
+pub returns-clause-splices : goal.returns-clause-splices
+returns-clause-splices c =
+    λ form us new from to well inserted at_from at_to. (IsWellFormed-splice form us from to well at_from at_to new inserted, chars-splice form us from to well at_from at_to new inserted)

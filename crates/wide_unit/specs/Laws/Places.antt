@@ -1,0 +1,119 @@
+-- Well-formed units cut at a boundary: the parts are well formed, and their characters are those before it and after it.
+use Rattle.std.proofs.Common.{◌≡◌, ℕ, ◌≤◌, List, [], ◌∷◌, ◌++◌, refl, sym, ◌∙◌, ap, subst, arith, length, length-append, length-take, take, drop}
+use Rattle.std.specs.Prelude.{map}
+use Rattle.std.specs.Char.{IsScalar}
+use Rattle.std.specs.List.{All}
+use Rattle.std.proofs.lemmas.List.{take-append-drop, take-map, length-map, length-take-le, map-append}
+use Rattle.std.proofs.lemmas.List.Concat.{flat_map-append}
+use Rattle.std.proofs.lemmas.List.Elements.{All-take, All-drop}
+use Rattle.std.proofs.Math.Seq.{take-append_seam, drop-append_seam}
+use Rattle.wide_unit.specs.EncodingForm.{EncodingForm, code_units, encode}
+use Rattle.wide_unit.specs.Segmentation.{Item, Char, units_of}
+use Rattle.wide_unit.specs.Items.{items, characters, chars, IsWellFormed, IsBoundary}
+use Rattle.wide_unit.specs.Places.{IsPlaceOf, chars_before}
+use Rattle.wide_unit.specs.Laws.Items.{units_of-items, units_of-chars, encode-of_items, scalars-of_items, items-encode, chars-of_well_formed, IsWellFormed-of_chars}
+use Rattle.wide_unit.specs.Laws.Boundaries.{units_of-append}
+
+pub characters-chars : (cs : List ℕ) → characters (map Char cs) ≡ cs
+characters-chars [] = refl
+characters-chars (c ∷ cs) = ap (λ ds. c ∷ ds) (characters-chars cs)
+
+pub chars-encode : (form : EncodingForm) (cs : List ℕ) → All IsScalar cs → chars form (encode form cs) ≡ cs
+chars-encode form cs scalars = ap characters (items-encode form cs scalars) ∙ characters-chars cs
+
+pub IsWellFormed-encode : (form : EncodingForm) (cs : List ℕ) → All IsScalar cs → IsWellFormed form (encode form cs)
+IsWellFormed-encode form cs scalars = IsWellFormed-of_chars form (encode form cs) cs (items-encode form cs scalars)
+
+pub IsBoundary-within : (form : EncodingForm) (us : List ℕ) (place : ℕ) → IsBoundary form us place → place ≤ length us
+IsBoundary-within form us place at =
+    let joined : us ≡ units_of form at.0 ++ units_of form at.1 = sym (units_of-items form us) ∙ ap (units_of form) at.2 ∙ units_of-append form at.0 at.1 in
+    omega (arith, ap length joined, length-append (units_of form at.0) (units_of form at.1), at.3)
+
+pub IsBoundary-start : (form : EncodingForm) (us : List ℕ) → IsBoundary form us 0
+IsBoundary-start form us = ([], items form us, refl, refl)
+
+module _ (form : EncodingForm) (us : List ℕ) (well : IsWellFormed form us) where
+  -- the units of the first characters, and of the others
+  abbrev front_of : ℕ → List ℕ
+  front_of index = encode form (take index (chars form us))
+
+  abbrev rest_of : ℕ → List ℕ
+  rest_of index = encode form (drop index (chars form us))
+
+  pub scalars-chars : All IsScalar (chars form us)
+  scalars-chars = scalars-of_items form (chars form us) us (chars-of_well_formed form us well)
+
+  pub encode-chars : encode form (chars form us) ≡ us
+  encode-chars = encode-of_items form (chars form us) us (chars-of_well_formed form us well)
+
+  front_and_rest : (index : ℕ) → us ≡ front_of index ++ rest_of index
+  front_and_rest index =
+      sym encode-chars ∙ ap (encode form) (sym (take-append-drop index (chars form us))) ∙ flat_map-append (code_units form) (take index (chars form us)) (drop index (chars form us))
+
+  take-front : (index : ℕ) → take (length (front_of index)) us ≡ front_of index
+  take-front index = ap (take (length (front_of index))) (front_and_rest index) ∙ take-append_seam (front_of index) (rest_of index)
+
+  drop-front : (index : ℕ) → drop (length (front_of index)) us ≡ rest_of index
+  drop-front index = ap (drop (length (front_of index))) (front_and_rest index) ∙ drop-append_seam (front_of index) (rest_of index)
+
+  front_scalars : (index : ℕ) → All IsScalar (take index (chars form us))
+  front_scalars index = All-take IsScalar index (chars form us) scalars-chars
+
+  rest_scalars : (index : ℕ) → All IsScalar (drop index (chars form us))
+  rest_scalars index = All-drop IsScalar index (chars form us) scalars-chars
+
+  boundary-front : (index : ℕ) → IsBoundary form us (length (front_of index))
+  boundary-front index =
+      let cs = chars form us in (
+        map Char (take index cs),
+        map Char (drop index cs),
+        chars-of_well_formed form us well ∙ ap (map Char) (sym (take-append-drop index cs)) ∙ map-append Char (take index cs) (drop index cs),
+        ap length (units_of-chars form (take index cs)),
+      )
+
+  -- Each character has a place.
+  pub IsPlaceOf-front : (index : ℕ) → IsPlaceOf form us index (length (encode form (take index (chars form us))))
+  IsPlaceOf-front index = record {
+    boundary = boundary-front index;
+    front = ap (chars form) (take-front index) ∙ chars-encode form (take index (chars form us)) (front_scalars index);
+    rest = ap (chars form) (drop-front index) ∙ chars-encode form (drop index (chars form us)) (rest_scalars index);
+    encoded = take-front index;
+  }
+
+  -- It has no other.
+  pub place-IsPlaceOf : (index place : ℕ) → IsPlaceOf form us index place → place ≡ length (encode form (take index (chars form us)))
+  place-IsPlaceOf index place at = sym (length-take-le place us (IsBoundary-within form us place at.boundary)) ∙ ap length at.encoded
+
+  module _ (place : ℕ) (at : IsBoundary form us place) where
+    -- Each boundary is the place of a character, or the end.
+    abbrev items_before : List Item
+    items_before = at.0
+
+    items_before-chars : items_before ≡ map Char (take (length items_before) (chars form us))
+    items_before-chars =
+        sym (take-append_seam items_before at.1) ∙ ap (take (length items_before)) (sym at.2 ∙ chars-of_well_formed form us well) ∙ take-map Char (length items_before) (chars form us)
+
+    place-front : place ≡ length (front_of (length items_before))
+    place-front = sym at.3 ∙ ap (λ is. length (units_of form is)) items_before-chars ∙ ap length (units_of-chars form (take (length items_before) (chars form us)))
+
+    place-items_before : IsPlaceOf form us (length items_before) place
+    place-items_before = subst (λ n. IsPlaceOf form us (length items_before) n) (sym place-front) (IsPlaceOf-front (length items_before))
+
+    count-items_before : chars_before form us place ≡ length items_before
+    count-items_before =
+        ap length place-items_before.front ∙ sym (length-map (take (length items_before) (chars form us)) Char) ∙ ap length (sym items_before-chars)
+
+    pub IsPlaceOf-boundary : IsPlaceOf form us (chars_before form us place) place
+    IsPlaceOf-boundary = subst (λ n. IsPlaceOf form us n place) (sym count-items_before) place-items_before
+
+    pub chars_before-within : chars_before form us place ≤ length (chars form us)
+    chars_before-within = omega (arith, ap length place-items_before.front, length-take (length items_before) (chars form us))
+
+    -- Both parts are well formed.
+    pub IsWellFormed-take : IsWellFormed form (take place us)
+    IsWellFormed-take = subst (λ vs. IsWellFormed form vs) (sym place-items_before.encoded) (IsWellFormed-encode form (take (length items_before) (chars form us)) (front_scalars (length items_before)))
+
+    pub IsWellFormed-drop : IsWellFormed form (drop place us)
+    IsWellFormed-drop =
+        subst (λ vs. IsWellFormed form vs) (sym (ap (λ n. drop n us) place-front ∙ drop-front (length items_before)))
+        (IsWellFormed-encode form (drop (length items_before) (chars form us)) (rest_scalars (length items_before)))

@@ -1,0 +1,24 @@
+-- Places in well-formed units, by the characters before them.
+use Rattle.std.specs.Prelude.{◌≡◌, ℕ, List, length, take, drop}
+use Rattle.wide_unit.specs.EncodingForm.{EncodingForm, encode}
+use Rattle.wide_unit.specs.Items.{chars, IsBoundary}
+use Rattle.wide_unit.specs.Range.{IsWithin}
+
+-- the place, in units, at which character number `index` begins, or the end where it is their number
+pub record IsPlaceOf (form : EncodingForm) (units : List ℕ) (index place : ℕ) : Type 0 where
+  pub boundary : IsBoundary form units place
+  -- the characters before it, and those from it on
+  pub front : chars form (take place units) ≡ take index (chars form units)
+  pub rest : chars form (drop place units) ≡ drop index (chars form units)
+  -- the units before it are the encoding of those characters
+  pub encoded : take place units ≡ encode form (take index (chars form units))
+
+-- how many characters stand before the place
+abbrev pub chars_before : EncodingForm → List ℕ → ℕ → ℕ
+chars_before form units place = length (chars form (take place units))
+
+-- the range runs forward and ends within the units, and both its ends are boundaries
+pub record IsTextRange (form : EncodingForm) (units : List ℕ) (from to : ℕ) : Type 0 where
+  pub within : IsWithin from to (length units)
+  pub start : IsBoundary form units from
+  pub end : IsBoundary form units to

@@ -1,0 +1,52 @@
+-- Characters taken from the front, one after another.
+use Rattle.std.proofs.Common.{◌≡◌, ℕ, ◌+◌, ◌≤◌, List, [], ◌∷◌, ◌++◌, sym, ◌∙◌, ap, subst, arith, length, length-append, length-drop, take, drop}
+use Rattle.std.proofs.lemmas.List.{take-append-drop, drop-drop}
+use Rattle.std.proofs.lemmas.List.Concat.{flat_map-append}
+use Rattle.std.proofs.lemmas.List.Elements.{All-drop}
+use Rattle.std.specs.Char.{IsScalar}
+use Rattle.wide_unit.specs.EncodingForm.{EncodingForm, code_units, encode}
+use Rattle.wide_unit.specs.Items.{chars, IsWellFormed}
+use Rattle.wide_unit.specs.Places.{IsPlaceOf}
+use Rattle.wide_unit.specs.Laws.Places.{chars-encode, encode-chars, scalars-chars, IsPlaceOf-front}
+
+-- what is left of the units is the encoding of their characters from number `index` on, and there are that many
+pub record IsLeftFrom (form : EncodingForm) (us rest : List ℕ) (index : ℕ) : Type 0 where
+  pub characters : rest ≡ encode form (drop index (chars form us))
+  pub within : index ≤ length (chars form us)
+
+module _ (form : EncodingForm) (us : List ℕ) (well : IsWellFormed form us) where
+  pub left-all : IsLeftFrom form us us 0
+  left-all = record { characters = sym (encode-chars form us well); within = omega arith }
+
+  module _ (rest : List ℕ) (index : ℕ) (left : IsLeftFrom form us rest index) where
+    chars-left : chars form rest ≡ drop index (chars form us)
+    chars-left = ap (chars form) left.characters ∙ chars-encode form (drop index (chars form us)) (All-drop IsScalar index (chars form us) (scalars-chars form us well))
+
+    pub left-none : chars form rest ≡ [] → index ≡ length (chars form us)
+    left-none e = omega (arith, left.within, ap length (sym chars-left ∙ e), length-drop index (chars form us))
+
+    pub left-more : (others : List ℕ) (c : ℕ) → IsWellFormed form others → chars form rest ≡ c ∷ chars form others → IsLeftFrom form us others (index + 1)
+    left-more others c after e =
+        let split : drop index (chars form us) ≡ c ∷ chars form others = sym chars-left ∙ e in
+        let later : drop (index + 1) (chars form us) ≡ chars form others = sym (drop-drop 1 index (chars form us)) ∙ ap (drop 1) split in
+        record {
+          characters = sym (encode-chars form others after) ∙ ap (encode form) (sym later);
+          within = omega (arith, ap length split, length-drop index (chars form us));
+        }
+
+    left-length : length (encode form (take index (chars form us))) + length rest ≡ length us
+    left-length =
+        let cs = chars form us in
+        let joined : us ≡ encode form (take index cs) ++ encode form (drop index cs) =
+        sym (encode-chars form us well) ∙ ap (encode form) (sym (take-append-drop index cs)) ∙ flat_map-append (code_units form) (take index cs) (drop index cs)
+        in
+        omega (arith, ap length joined, length-append (encode form (take index cs)) (encode form (drop index cs)), ap length left.characters)
+
+    pub left-shorter : length rest ≤ length us
+    left-shorter = omega (arith, left-length)
+
+    -- the place that was reached
+    pub left-place : (place : ℕ) → place + length rest ≡ length us → IsPlaceOf form us index place
+    left-place place e =
+        let long : length (encode form (take index (chars form us))) ≡ place = omega (arith, left-length) in
+        subst (λ n. IsPlaceOf form us index n) long (IsPlaceOf-front form us well index)

@@ -1,0 +1,7 @@
+use Rattle.std.proofs.Common.{map, subst}
+use Rattle.std.specs.Prelude.{OnOk}
+use Rattle.wide_unit.specs.Items.{IsWellFormed}
+use Rattle.wide_utfstr.proofs.view.UtfStr.from_ucstr.Goals as goal
+
+pub returns-clause-ok : goal.returns-clause-ok
+returns-clause-ok g c = subst (λ us. OnOk c.from_slice.result (IsWellFormed g.C.Unit.form (map g.C.Unit.number us))) c.as_slice.ensures.units c.from_slice.ensures.ok

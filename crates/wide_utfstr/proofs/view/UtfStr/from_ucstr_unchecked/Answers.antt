@@ -1,0 +1,6 @@
+use Rattle.std.proofs.Common.{map, sym, subst}
+use Rattle.wide_unit.specs.Items.{IsWellFormed}
+use Rattle.wide_utfstr.proofs.view.UtfStr.from_ucstr_unchecked.Goals as goal
+
+pub from_slice_unchecked-requires : goal.from_slice_unchecked-requires
+from_slice_unchecked-requires g c = subst (λ us. IsWellFormed g.C.Unit.form (map g.C.Unit.number us)) (sym c.as_slice.ensures.units) c.requires

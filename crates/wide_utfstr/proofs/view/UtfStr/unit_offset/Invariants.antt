@@ -1,0 +1,6 @@
+use Rattle.std.proofs.Common.{map}
+use Rattle.wide_utfstr.proofs.Walk.{IsLeftFrom}
+use Rattle.wide_utfstr.proofs.view.UtfStr.unit_offset.Given as goal
+
+abbrev pub invariant-loop-number : goal.invariant-loop-number
+invariant-loop-number g l = IsLeftFrom g.C.Unit.form (map g.C.Unit.number l.self.units.now) (map g.C.Unit.number l.rest.units.now) l._number

@@ -1,0 +1,5 @@
+use Rattle.wide_unit.specs.Laws.Splices.{IsWellFormed-nil}
+use Rattle.wide_utfstring.proofs.utfstring.UtfString.clear.Goals as goal
+
+pub invariant_of-self : goal.invariant_of-self
+invariant_of-self g c = rw c.clear.ensures.units (IsWellFormed-nil g.C.Unit.form)

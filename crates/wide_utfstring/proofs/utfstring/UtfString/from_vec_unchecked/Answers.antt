@@ -1,0 +1,4 @@
+use Rattle.wide_utfstring.proofs.utfstring.UtfString.from_vec_unchecked.Goals as goal
+
+pub invariant_of-result : goal.invariant_of-result
+invariant_of-result g c = rw c.from_vec.ensures.units c.requires

@@ -1,0 +1,4 @@
+use Rattle.wide_utfstring.proofs.utfstring.UtfString.reserve_exact.Goals as goal
+
+pub invariant_of-self : goal.invariant_of-self
+invariant_of-self g c = rw c.reserve_exact.ensures.units c.self.invariant

@@ -1,0 +1,11 @@
+-- Why a constructor made no text of a vector's units.
+use Rattle.std.specs.Prelude.{◌≡◌, ℕ, map, Some}
+use Rattle.std.specs.declared.vec.Vec.{Vec}
+use Rattle.wide_unit.specs.EncodingForm.{EncodingForm}
+use Rattle.wide_unit.specs.Items.{IsFirstFault}
+use Rattle.wide_error.specs.UtfError.{index_of, unit_of, vec_of}
+use Rattle.wide_error.specs.declared.utf.UtfError.{UtfError}
+
+-- the first fault of the units is told, and the vector is handed back
+abbrev pub IsFaultOf : {C A : Type 0} → EncodingForm → (C → ℕ) → Vec C A → UtfError C A → Type 0
+IsFaultOf form number units e = IsFirstFault form (map number units.items) (index_of e) (number (unit_of e)) × (vec_of e ≡ Some units)

@@ -1,0 +1,6 @@
+//! Owned strings of well-formed text, in units of 16 or 32 bits: UTF-16 and UTF-32.
+#![tactic(auto)]
+
+mod utfstring;
+
+pub use utfstring::{Utf16String, Utf32String, UtfString, WideUtfString};

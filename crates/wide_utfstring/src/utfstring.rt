@@ -1,0 +1,347 @@
+//! Owned strings of well-formed text.
+ghost use Rattle.std.specs.Prelude.{◌≡◌, ◌==◌, ◌+◌, ◌≤◌, ◌++◌, ◌∷◌, [], ◌↔◌, ◌⊎◌, max, length, map, take, drop, IsNone, IfSome, IsOk, IfOk, IfErr, OnOk, OnErr, vec_capacity, Vec};
+ghost use Rattle.wide_unit.specs.EncodingForm.{code_units};
+ghost use Rattle.wide_unit.specs.Items.{chars, IsBoundary, IsWellFormed};
+ghost use Rattle.wide_unit.specs.Places.{chars_before};
+ghost use Rattle.std.specs.List.{splice};
+ghost use Rattle.wide_ustr.specs.View.{units_seen as ustr_units};
+ghost use Rattle.wide_ustring.specs.Units.{ustring_len, HasRoomFor};
+ghost use Rattle.wide_ucstr.specs.CString.{contents};
+ghost use Rattle.wide_utfstr.specs.View.{units_seen};
+ghost use Rattle.wide_utfstring.specs.Faults.{IsFaultOf};
+
+use std::alloc::{Allocator, Global};
+use std::marker::Model;
+use wide_error::{FaultUnit, OutOfMemory, UtfError};
+use wide_ucstring::UCString;
+use wide_unit::split_last;
+use wide_ustr::UStr;
+use wide_ustring::UString;
+use wide_utfstr::{UtfStr, check};
+
+/// An owned string of well-formed text (Unicode Standard, section 3.9), by its type: no call leaves one that isn't.
+///
+/// Places and lengths are counted in units. A call that finds no memory answers [`OutOfMemory`] and has changed nothing.
+#[derive(Drop)]
+pub struct UtfString<C: FaultUnit, A: Allocator = Global> {
+    string: UString<C, A>,
+}
+
+/// An owned string of UTF-16.
+pub type Utf16String<A = Global> = UtfString<u16, A>;
+
+/// An owned string of UTF-32.
+pub type Utf32String<A = Global> = UtfString<u32, A>;
+
+/// An owned string of well-formed wide units.
+pub type WideUtfString<A = Global> = Utf32String<A>;
+
+impl<C: FaultUnit, A: Allocator> Model for UtfString<C, A> {
+    ghost use Rattle.std.specs.Prelude.{map};
+    ghost use Rattle.wide_unit.specs.Items.{IsWellFormed};
+    ghost use Rattle.wide_ustring.specs.Units.{Units, units_code};
+
+    ghost Value = { Units C };
+
+    ghost coded = { units_code C.code };
+
+    ghost view = { λ s. s.string };
+
+    ghost invariant = { λ s. IsWellFormed C.form (map C.number s.string.units) };
+}
+
+impl<C: FaultUnit, A: Allocator> UtfString<C, A> {
+    /// The empty string, which takes no memory.
+    pub fn new(alloc: A) -> Self
+        ensures units { result.units ≡ [] }
+        ensures capacity { result.capacity ≡ 0 }
+    {
+        UtfString {
+            string: UString::new(alloc),
+        }
+    }
+
+    /// An empty string with room for this many units. It does not fail where that is none.
+    pub fn with_capacity(alloc: A, capacity: usize) -> Result<Self, OutOfMemory>
+        ensures units { IfOk result (λ s. s.units ≡ []) }
+        ensures room { IfOk result (λ s. capacity ≤ s.capacity) }
+        ensures succeeds { capacity ≡ 0 → IsOk result }
+    {
+        Ok(UtfString {
+            string: UString::with_capacity(alloc, capacity)?,
+        })
+    }
+
+    /// The text of a vector's units, where they are well formed. Each unit is read once, and no memory is taken.
+    ///
+    /// # Errors
+    ///
+    /// The first fault, where they are not: its index is counted in units. The vector is handed back.
+    pub fn from_vec(units: Vec<C, A>) -> Result<Self, UtfError<C, A>>
+        ensures string { IfOk result (λ s. (s.units ≡ units.items) × (s.capacity ≡ vec_capacity units)) }
+        ensures ok { OnOk result (IsWellFormed C.form (map C.number units.items)) }
+        ensures fault { IfErr result (IsFaultOf C.form C.number units) }
+    {
+        match check(units.as_slice()) {
+            Ok(()) => Ok(UtfString {
+                string: UString::from_vec(units),
+            }),
+            Err((index, unit)) => Err(UtfError::new(index, unit, Some(units))),
+        }
+    }
+
+    /// The text of a string's units, as [`UtfString::from_vec`].
+    ///
+    /// # Errors
+    ///
+    /// The first fault, where they are not well formed: its index is counted in units. The string's vector is handed back.
+    pub fn from_ustring(string: UString<C, A>) -> Result<Self, UtfError<C, A>>
+        ensures string { IfOk result (λ s. s ≡ string) }
+        ensures ok { OnOk result (IsWellFormed C.form (map C.number string.units)) }
+        ensures fault { IfErr result (λ e. (vec : Vec C A) × (vec.items ≡ string.units) × IsFaultOf C.form C.number vec e) }
+    {
+        UtfString::from_vec(string.into_vec())
+    }
+
+    /// The text of the contents of a C string, without its NUL, as [`UtfString::from_vec`].
+    ///
+    /// # Errors
+    ///
+    /// The first fault, where they are not well formed: its index is counted in units. The vector of the contents is handed
+    /// back, without the NUL.
+    pub fn from_ucstring(string: UCString<C, A>) -> Result<Self, UtfError<C, A>>
+        ensures string { IfOk result (λ s. (s.units ≡ contents string.units) × (s.capacity ≡ string.capacity)) }
+        ensures ok { OnOk result (IsWellFormed C.form (map C.number (contents string.units))) }
+        ensures fault { IfErr result (λ e. (vec : Vec C A) × (vec.items ≡ contents string.units) × IsFaultOf C.form C.number vec e) }
+    {
+        UtfString::from_vec(string.into_vec())
+    }
+
+    /// As [`UtfString::from_vec`], of units that must be well formed; no check is made.
+    pub fn from_vec_unchecked(units: Vec<C, A>) -> Self
+        requires { IsWellFormed C.form (map C.number units.items) }
+        ensures units { result.units ≡ units.items }
+        ensures capacity { result.capacity ≡ vec_capacity units }
+    {
+        UtfString {
+            string: UString::from_vec(units),
+        }
+    }
+
+    /// As [`UtfString::from_ustring`], of units that must be well formed; no check is made.
+    pub fn from_ustring_unchecked(string: UString<C, A>) -> Self
+        requires { IsWellFormed C.form (map C.number string.units) }
+        ensures { result ≡ string }
+    {
+        UtfString { string }
+    }
+
+    /// As [`UtfString::from_ucstring`], of contents that must be well formed; no check is made.
+    pub fn from_ucstring_unchecked(string: UCString<C, A>) -> Self
+        requires { IsWellFormed C.form (map C.number (contents string.units)) }
+        ensures units { result.units ≡ contents string.units }
+        ensures capacity { result.capacity ≡ string.capacity }
+    {
+        UtfString {
+            string: string.into_ustring(),
+        }
+    }
+
+    /// A view of the text.
+    pub fn as_utfstr(&self) -> UtfStr<'_, C>
+        ensures { units_seen result ≡ self.now.units }
+    {
+        UtfStr::from_slice_unchecked(self.string.as_slice())
+    }
+
+    /// A view of the units, which does not tell that they are well formed.
+    pub fn as_ustr(&self) -> UStr<'_, C>
+        ensures { ustr_units result ≡ self.now.units }
+    {
+        self.string.as_ustr()
+    }
+
+    /// The units.
+    pub fn as_slice(&self) -> &[C]
+        ensures units { result.now ≡ self.now.units }
+        ensures well_formed { IsWellFormed C.form (map C.number result.now) }
+    {
+        self.string.as_slice()
+    }
+
+    /// How many units there are.
+    pub fn len(&self) -> usize
+        ensures { result ≡ ustring_len self.now }
+    {
+        self.string.len()
+    }
+
+    /// Whether there are no units.
+    pub fn is_empty(&self) -> bool
+        ensures { result ≡ (ustring_len self.now == 0) }
+    {
+        self.string.is_empty()
+    }
+
+    /// How many units fit with no allocation.
+    pub fn capacity(&self) -> usize
+        ensures value { result ≡ self.now.capacity }
+        ensures length { ustring_len self.now ≤ result }
+    {
+        self.string.capacity()
+    }
+
+    /// The vector of the units. It takes no memory.
+    pub fn into_vec(self) -> Vec<C, A>
+        ensures units { result.items ≡ self.units }
+        ensures well_formed { IsWellFormed C.form (map C.number result.items) }
+        ensures capacity { vec_capacity result ≡ self.capacity }
+    {
+        self.into_ustring().into_vec()
+    }
+
+    /// The string of the units, which does not tell that they are well formed. It takes no memory.
+    pub fn into_ustring(self) -> UString<C, A>
+        ensures string { result ≡ self }
+        ensures well_formed { IsWellFormed C.form (map C.number result.units) }
+    {
+        let UtfString { string } = self;
+        string
+    }
+
+    /// A copy, with a copy of the allocator.
+    pub fn try_clone(&self) -> Result<Self, OutOfMemory>
+    where
+        A: Clone,
+        ensures { IfOk result (λ s. s.units ≡ self.now.units) }
+    {
+        Ok(UtfString {
+            string: self.string.try_clone()?,
+        })
+    }
+
+    /// Room for this many more units.
+    pub fn reserve(&mut self, more: usize) -> Result<(), OutOfMemory>
+        ensures units { self.new.units ≡ self.old.units }
+        ensures room { OnOk result (HasRoomFor self.new more) }
+        ensures capacity { self.old.capacity ≤ self.new.capacity }
+        ensures err { OnErr result (self.new ≡ self.old) }
+        ensures succeeds { HasRoomFor self.old more → IsOk result }
+    {
+        self.string.reserve(more)
+    }
+
+    /// As [`UtfString::reserve`], with no room beyond what is asked for where it finds memory.
+    pub fn reserve_exact(&mut self, more: usize) -> Result<(), OutOfMemory>
+        ensures units { self.new.units ≡ self.old.units }
+        ensures room { OnOk result (self.new.capacity ≡ max self.old.capacity (ustring_len self.old + more)) }
+        ensures err { OnErr result (self.new ≡ self.old) }
+        ensures succeeds { HasRoomFor self.old more → IsOk result }
+    {
+        self.string.reserve_exact(more)
+    }
+
+    /// Takes all text away; the room stays.
+    pub fn clear(&mut self)
+        ensures units { self.new.units ≡ [] }
+        ensures capacity { self.new.capacity ≡ self.old.capacity }
+    {
+        self.string.clear();
+    }
+
+    /// The character at the end.
+    pub fn push(&mut self, c: char) -> Result<(), OutOfMemory>
+        ensures units { OnOk result (map C.number self.new.units ≡ map C.number self.old.units ++ code_units C.form c) }
+        ensures text { OnOk result (chars C.form (map C.number self.new.units) ≡ chars C.form (map C.number self.old.units) ++ c ∷ []) }
+        ensures err { OnErr result (self.new ≡ self.old) }
+        ensures succeeds { HasRoomFor self.old (length (code_units C.form c)) → IsOk result }
+        ensures capacity { self.old.capacity ≤ self.new.capacity }
+    {
+        self.string.push_char(c)
+    }
+
+    /// As [`UtfString::push`]: what `fmt::Write` is in the Rust crate, with an error that names the want of memory.
+    pub fn write_char(&mut self, c: char) -> Result<(), OutOfMemory>
+        ensures units { OnOk result (map C.number self.new.units ≡ map C.number self.old.units ++ code_units C.form c) }
+        ensures text { OnOk result (chars C.form (map C.number self.new.units) ≡ chars C.form (map C.number self.old.units) ++ c ∷ []) }
+        ensures err { OnErr result (self.new ≡ self.old) }
+        ensures succeeds { HasRoomFor self.old (length (code_units C.form c)) → IsOk result }
+        ensures capacity { self.old.capacity ≤ self.new.capacity }
+    {
+        self.push(c)
+    }
+
+    /// The text of a view at the end.
+    pub fn push_utfstr(&mut self, text: UtfStr<'_, C>) -> Result<(), OutOfMemory>
+        ensures units { OnOk result (self.new.units ≡ self.old.units ++ units_seen text.entry) }
+        ensures text { OnOk result (chars C.form (map C.number self.new.units) ≡ chars C.form (map C.number self.old.units) ++ chars C.form (map C.number (units_seen text.entry))) }
+        ensures err { OnErr result (self.new ≡ self.old) }
+        ensures succeeds { HasRoomFor self.old (length (units_seen text.entry)) → IsOk result }
+        ensures capacity { self.old.capacity ≤ self.new.capacity }
+    {
+        self.string.push(text.as_ustr())
+    }
+
+    /// Takes the last character away, and answers it; none where the string is empty.
+    pub fn pop(&mut self) -> Option<char>
+        ensures none { IsNone result ↔ (self.old.units ≡ []) }
+        ensures taken { IfSome result (λ c. chars C.form (map C.number self.old.units) ≡ chars C.form (map C.number self.new.units) ++ c ∷ []) }
+        ensures front { self.new.units ≡ take (ustring_len self.new) self.old.units }
+        ensures capacity { self.new.capacity ≡ self.old.capacity }
+    {
+        let (rest, item) = split_last(self.string.as_slice())?;
+        let left = rest.len();
+        let Ok(c) = item else { unreachable!() };
+        self.string.truncate(left);
+        Some(c)
+    }
+
+    /// The character before a place, counted in units, which must be a boundary.
+    pub fn insert(&mut self, at: usize, c: char) -> Result<(), OutOfMemory>
+        requires { IsBoundary C.form (map C.number self.old.units) at }
+        ensures units { OnOk result (map C.number self.new.units ≡ splice (map C.number self.old.units) at at (code_units C.form c)) }
+        ensures text { OnOk result (chars C.form (map C.number self.new.units) ≡ splice (chars C.form (map C.number self.old.units)) (chars_before C.form (map C.number self.old.units) at) (chars_before C.form (map C.number self.old.units) at) (c ∷ [])) }
+        ensures err { OnErr result (self.new ≡ self.old) }
+        ensures succeeds { HasRoomFor self.old (length (code_units C.form c)) → IsOk result }
+        ensures capacity { self.old.capacity ≤ self.new.capacity }
+    {
+        self.string.insert_char(at, c)
+    }
+
+    /// The text of a view before a place, counted in units, which must be a boundary.
+    pub fn insert_utfstr(&mut self, at: usize, text: UtfStr<'_, C>) -> Result<(), OutOfMemory>
+        requires { IsBoundary C.form (map C.number self.old.units) at }
+        ensures units { OnOk result (self.new.units ≡ splice self.old.units at at (units_seen text.entry)) }
+        ensures text { OnOk result (chars C.form (map C.number self.new.units) ≡ splice (chars C.form (map C.number self.old.units)) (chars_before C.form (map C.number self.old.units) at) (chars_before C.form (map C.number self.old.units) at) (chars C.form (map C.number (units_seen text.entry)))) }
+        ensures err { OnErr result (self.new ≡ self.old) }
+        ensures succeeds { HasRoomFor self.old (length (units_seen text.entry)) → IsOk result }
+        ensures capacity { self.old.capacity ≤ self.new.capacity }
+    {
+        self.string.insert_ustr(at, text.as_ustr())
+    }
+
+    /// Takes the text from a place on away, counted in units, which must be a boundary; past the end it does nothing.
+    pub fn truncate(&mut self, len: usize)
+        requires { (ustring_len self.old ≤ len) ⊎ IsBoundary C.form (map C.number self.old.units) len }
+        ensures units { self.new.units ≡ take len self.old.units }
+        ensures capacity { self.new.capacity ≡ self.old.capacity }
+    {
+        self.string.truncate(len);
+    }
+
+    /// Takes the text from a place on away, and answers it as a string of its own, with a copy of the allocator. The place,
+    /// counted in units, must be a boundary.
+    pub fn split_off(&mut self, at: usize) -> Result<Self, OutOfMemory>
+    where
+        A: Clone,
+        requires { IsBoundary C.form (map C.number self.old.units) at }
+        ensures rest { IfOk result (λ rest. rest.units ≡ drop at self.old.units) }
+        ensures ok { OnOk result (self.new.units ≡ take at self.old.units) }
+        ensures err { OnErr result (self.new ≡ self.old) }
+        ensures capacity { self.new.capacity ≡ self.old.capacity }
+    {
+        Ok(UtfString {
+            string: self.string.split_off(at)?,
+        })
+    }
+}

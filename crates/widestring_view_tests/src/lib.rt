@@ -1,0 +1,11 @@
+//! Tests of views.
+//!
+//! They have worked rows, and call each public function of a view of units, of a C string and of well-formed text.
+#![tactic(auto)]
+
+#[cfg(test)]
+mod ucstr_rows;
+#[cfg(test)]
+mod utfstr_rows;
+#[cfg(test)]
+mod view_rows;
