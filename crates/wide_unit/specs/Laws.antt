@@ -8,4 +8,5 @@ pub mod Lossy
 pub mod Boundaries
 pub mod Places
 pub mod Splices
+pub mod Texts
 pub mod Utf8

@@ -1,7 +1,7 @@
 -- The laws of the definitions, each the contract of a function of the crate.
 use Rattle.std.specs.Prelude.{◌≡◌, ◌≢◌, ℕ, ◌≤◌, ◌↔◌, ◌⊎◌, List, [], ◌∷◌, ◌++◌, map, length, take, drop, slice_index, slice_range, Some, None}
 use Rattle.std.specs.Char.{IsScalar, encode_utf8}
-use Rattle.std.specs.List.{All, splice}
+use Rattle.std.specs.List.{All, Contains, splice}
 use Rattle.wide_unit.specs.EncodingForm.{EncodingForm, Utf16, Utf32, encode, IsCodeUnit, IsLowSurrogate}
 use Rattle.wide_unit.specs.Segmentation.{Item, Char, Fault, IsSegmentation, IsSegmentation16, IsSegmentation32, IsLooseSegmentation}
 use Rattle.wide_unit.specs.Items.{items, chars, IsWellFormed, IsBoundary}
@@ -86,6 +86,11 @@ PartsAreWellFormed = (form : EncodingForm) (us : List ℕ) (from to : ℕ) → I
 abbrev pub SplicesAreWellFormed : Type 0
 SplicesAreWellFormed = (form : EncodingForm) (us new : List ℕ) (from to : ℕ) → IsWellFormed form us → IsWellFormed form new → IsBoundary form us from → IsBoundary form us to
     → IsWellFormed form (splice us from to new) × (chars form (splice us from to new) ≡ splice (chars form us) (chars_before form us from) (chars_before form us to) (chars form new))
+
+-- characters picked from those of well-formed units, as a filter picks them, have units that are well formed, and read back
+abbrev pub FiltersAreWellFormed : Type 0
+FiltersAreWellFormed = (form : EncodingForm) (us picked : List ℕ) → IsWellFormed form us → ((c : ℕ) → Contains picked c → Contains (chars form us) c)
+    → IsWellFormed form (encode form picked) × (chars form (encode form picked) ≡ picked)
 
 -- well-formed units are equal exactly where their characters are
 abbrev pub EqualCharacters : Type 0

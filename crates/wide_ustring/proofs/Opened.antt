@@ -1,7 +1,8 @@
 -- Units written into the room that was opened in a list.
 use Rattle.std.proofs.Common.{◌≡◌, ℕ, suc, ◌+◌, ◌<◌, List, [], ◌∷◌, ◌++◌, map, length, take, drop, set, ap, sym, ◌∙◌, arith, append_assoc, length-set}
 use Rattle.std.specs.List.{splice}
-use Rattle.std.proofs.lemmas.List.{set_split, take-map, drop-map, map-append, take_more_set, drop-set-lt}
+use Rattle.std.proofs.lemmas.List.{set_split, take_more_set, drop-set-lt}
+use Rattle.wide_unit.specs.Laws.Splices.{map-splice}
 
 module _ {X : Type 0} where
   one_put : (old v : List X) (from to : ℕ) (x : X) → take from v ≡ take from old → drop (from + 1) v ≡ drop to old → from < length v → set v from x ≡ splice old from to (x ∷ [])
@@ -25,15 +26,8 @@ module _ {X : Type 0} where
       ∙ ap (λ l. take from old ++ x ∷ y ∷ l) rest
 
 module _ {X Y : Type 0} (f : X → Y) where
-  pub map_splice : (xs ys : List X) (a b : ℕ) → map f (splice xs a b ys) ≡ splice (map f xs) a b (map f ys)
-  map_splice xs ys a b =
-      map-append f (take a xs) (ys ++ drop b xs)
-      ∙ ap (λ l. map f (take a xs) ++ l) (map-append f ys (drop b xs))
-      ∙ ap (λ l. l ++ (map f ys ++ map f (drop b xs))) (sym (take-map f a xs))
-      ∙ ap (λ l. take a (map f xs) ++ (map f ys ++ l)) (sym (drop-map f b xs))
-
   pub map-one_put : (old v : List X) (from to : ℕ) (x : X) → take from v ≡ take from old → drop (from + 1) v ≡ drop to old → from < length v → map f (set v from x) ≡ splice (map f old) from to (f x ∷ [])
-  map-one_put old v from to x front rest lt = ap (map f) (one_put old v from to x front rest lt) ∙ map_splice old (x ∷ []) from to
+  map-one_put old v from to x front rest lt = ap (map f) (one_put old v from to x front rest lt) ∙ sym (map-splice f old from to (x ∷ []))
 
   pub map-two_put : (old v : List X) (from to : ℕ) (x y : X) → take from v ≡ take from old → drop (from + 2) v ≡ drop to old → from + 1 < length v → map f (set (set v from x) (from + 1) y) ≡ splice (map f old) from to (f x ∷ f y ∷ [])
-  map-two_put old v from to x y front rest lt = ap (map f) (two_put old v from to x y front rest lt) ∙ map_splice old (x ∷ y ∷ []) from to
+  map-two_put old v from to x y front rest lt = ap (map f) (two_put old v from to x y front rest lt) ∙ sym (map-splice f old from to (x ∷ y ∷ []))

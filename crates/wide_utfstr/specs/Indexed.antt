@@ -7,7 +7,3 @@ abbrev pub indexed_chars : EncodingForm → ℕ → List ℕ → List (ℕ × �
 indexed_chars form place [] = []
 indexed_chars form place (c ∷ cs) = (place, c) ∷ indexed_chars form (place + length (code_units form c)) cs
 
--- the unit length of a character that was given
-abbrev pub given_length : EncodingForm → Option (ℕ × ℕ) → ℕ
-given_length form None = 0
-given_length form (Some r) = length (code_units form r.1)

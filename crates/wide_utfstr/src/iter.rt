@@ -3,7 +3,7 @@ ghost use Rattle.std.specs.Prelude.{◌≡◌, ◌+◌, ◌/◌, ◌<◌, ◌^�
 ghost use Rattle.std.specs.Iterator.{YieldsFirst, YieldsLast, at_most, UpTo};
 ghost use Rattle.std.specs.Iterator.SizeHint.{IsWithinCount};
 ghost use Rattle.wide_utfstr.specs.View.{units_seen};
-ghost use Rattle.wide_utfstr.specs.Indexed.{given_length};
+ghost use Rattle.wide_ustr.specs.Iter.{given_length};
 
 use crate::view::UtfStr;
 use std::alloc::AllocError;

@@ -2,7 +2,6 @@
 //!
 //! A call runs with no request granted, then with one, with two and so on, until it succeeds. Before that it has to answer
 //! that memory was refused, at the first refusal, and to leave a string as it was, its room included.
-use crate::gives::Gives;
 use std::alloc::Global;
 use std::fmt::Debug;
 use std::process::Abort;
@@ -12,13 +11,13 @@ use widestring::error::{DecodeUtf16Error, DecodeUtf32Error, FaultUnit, OutOfMemo
 use widestring::iter::{End, read_ends16, read_ends32};
 use widestring::ustr::UStr;
 use widestring::ustring::{UStrInUstring, UString};
+use widestring_test_memory::gives::Gives;
+use widestring_test_memory::{Heap, assert_granted, assert_refused};
 
 // More requests than any call here makes.
 const MOST: u64 = 9;
 
 const TEXT: &str = "\u{1f600}";
-
-pub(crate) type Heap = Gives<Global>;
 
 type Refusable<'a, C> = UString<C, &'a Heap>;
 
@@ -32,19 +31,6 @@ fn string_of<'a, C: FaultUnit>(
     let mut string = UString::with_capacity(heap, units.len().saturating_add(spare))?;
     string.push_slice(units)?;
     Ok(string)
-}
-
-// Of a call that was granted this many requests: it made them all, and each was granted.
-pub(crate) fn assert_granted(rt: &impl Abort, heap: &Heap, granted: u64) {
-    assert!(rt; granted > 0, "a call that asks for no memory");
-    assert_eq!(rt; heap.left(), 0);
-    assert_eq!(rt; heap.refused(), 0);
-}
-
-// Of a call that answered that memory was refused: so it was, and the call asked no more.
-pub(crate) fn assert_refused(rt: &impl Abort, heap: &Heap) {
-    assert_eq!(rt; heap.left(), 0);
-    assert_eq!(rt; heap.refused(), 1);
 }
 
 // Of a string that a refused call leaves: it has the units and the room that it had.

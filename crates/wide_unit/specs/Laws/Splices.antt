@@ -85,16 +85,18 @@ module _ (form : EncodingForm) (us : List ℕ) (from to : ℕ) (well : IsWellFor
         chars-append form (take from us) (new ++ drop to us) (IsWellFormed-take form us well from at_from) ∙ ap (λ cs. cs ++ chars form (new ++ drop to us)) front
         ∙ ap (λ cs. take (chars_before form us from) (chars form us) ++ cs) (chars-append form new (drop to us) inserted ∙ ap (λ cs. chars form new ++ cs) rest)
 
+-- Parts and splices of a list, element by element.
+module _ {X Y : Type 0} (f : X → Y) (xs : List X) (from to : ℕ) where
+  map-slice_range : slice_range (map f xs) from to ≡ map f (slice_range xs from to)
+  map-slice_range = ap (take (to - from)) (drop-map f from xs) ∙ take-map f (to - from) (drop from xs)
+
+  pub map-splice : (ys : List X) → splice (map f xs) from to (map f ys) ≡ map f (splice xs from to ys)
+  map-splice ys =
+      ap (λ us. take from (map f xs) ++ (map f ys ++ us)) (drop-map f to xs) ∙ ap (λ us. us ++ (map f ys ++ map f (drop to xs))) (take-map f from xs)
+      ∙ ap (λ us. map f (take from xs) ++ us) (sym (map-append f ys (drop to xs))) ∙ sym (map-append f (take from xs) (ys ++ drop to xs))
+
 -- The same over the units of any type.
 module _ {X : Type 0} (form : EncodingForm) (number : X → ℕ) (xs : List X) where
-  pub map-slice_range : (from to : ℕ) → slice_range (map number xs) from to ≡ map number (slice_range xs from to)
-  map-slice_range from to = ap (take (to - from)) (drop-map number from xs) ∙ take-map number (to - from) (drop from xs)
-
-  pub map-splice : (from to : ℕ) (ys : List X) → splice (map number xs) from to (map number ys) ≡ map number (splice xs from to ys)
-  map-splice from to ys =
-      ap (λ us. take from (map number xs) ++ (map number ys ++ us)) (drop-map number to xs) ∙ ap (λ us. us ++ (map number ys ++ map number (drop to xs))) (take-map number from xs)
-      ∙ ap (λ us. map number (take from xs) ++ us) (sym (map-append number ys (drop to xs))) ∙ sym (map-append number (take from xs) (ys ++ drop to xs))
-
   module _ (well : IsWellFormed form (map number xs)) where
     pub IsWellFormed-map_take : (place : ℕ) → IsBoundary form (map number xs) place → IsWellFormed form (map number (take place xs))
     IsWellFormed-map_take place at = subst (λ us. IsWellFormed form us) (take-map number place xs) (IsWellFormed-take form (map number xs) well place at)
@@ -104,11 +106,11 @@ module _ {X : Type 0} (form : EncodingForm) (number : X → ℕ) (xs : List X) w
 
     module _ (from to : ℕ) (at_from : IsBoundary form (map number xs) from) (at_to : IsBoundary form (map number xs) to) where
       pub IsWellFormed-map_part : from ≤ to → IsWellFormed form (map number (slice_range xs from to))
-      IsWellFormed-map_part forward = subst (λ us. IsWellFormed form us) (map-slice_range from to) (IsWellFormed-part form (map number xs) from to well at_from at_to forward)
+      IsWellFormed-map_part forward = subst (λ us. IsWellFormed form us) (map-slice_range number xs from to) (IsWellFormed-part form (map number xs) from to well at_from at_to forward)
 
       pub IsWellFormed-map_splice : (ys : List X) → IsWellFormed form (map number ys) → IsWellFormed form (map number (splice xs from to ys))
-      IsWellFormed-map_splice ys inserted = subst (λ us. IsWellFormed form us) (map-splice from to ys) (IsWellFormed-splice form (map number xs) from to well at_from at_to (map number ys) inserted)
+      IsWellFormed-map_splice ys inserted = subst (λ us. IsWellFormed form us) (map-splice number xs from to ys) (IsWellFormed-splice form (map number xs) from to well at_from at_to (map number ys) inserted)
 
       pub chars-map_splice : (ys : List X) → IsWellFormed form (map number ys)
           → chars form (map number (splice xs from to ys)) ≡ splice (chars form (map number xs)) (chars_before form (map number xs) from) (chars_before form (map number xs) to) (chars form (map number ys))
-      chars-map_splice ys inserted = ap (chars form) (sym (map-splice from to ys)) ∙ chars-splice form (map number xs) from to well at_from at_to (map number ys) inserted
+      chars-map_splice ys inserted = ap (chars form) (sym (map-splice number xs from to ys)) ∙ chars-splice form (map number xs) from to well at_from at_to (map number ys) inserted

@@ -1,6 +1,4 @@
 //! Memory refused to the calls that make C strings, each of which makes one request at most.
-use crate::gives::Gives;
-use crate::refused_rows::{Heap, assert_granted, assert_refused};
 use std::fmt::Debug;
 use std::process::Abort;
 use std::test::Fail;
@@ -11,6 +9,8 @@ use widestring::unit::Unit;
 use widestring::ustr::UStr;
 use widestring::ustring::UString;
 use widestring::{U16CStr, U16CString, U32CStr, U32CString};
+use widestring_test_memory::gives::Gives;
+use widestring_test_memory::{Heap, assert_granted, assert_refused};
 
 type Made<'a, C> = Result<UCString<C, &'a Heap>, UCStringError<C, &'a Heap>>;
 

@@ -35,11 +35,11 @@ use denote.Triple.Clauses.{Ended, Clauses}
 use denote.Triple.Statement.{Contract, Triple}
 use denote.Triple.Table.{framed}
 use denote.Triple.Walked.{Stays, stay_dropped, walk_of, ends_at, Goes-dropped}
-use Rattle.widestring_string_tests.specs.contracts.gives.Gives as gives
-use Rattle.widestring_string_tests.specs.contracts.gives.GivesAllocator.deallocate as f
-use Rattle.widestring_string_tests.specs.contracts.gives.GivesAllocator.deallocate.Key as key
-use Rattle.widestring_string_tests.proofs.gives.GivesAllocator.deallocate.Statement.{statement}
-use Rattle.widestring_string_tests.proofs.gives.GivesAllocator.deallocate.Code as code
+use Rattle.widestring_test_memory.specs.contracts.gives.Gives as gives
+use Rattle.widestring_test_memory.specs.contracts.gives.GivesAllocator.deallocate as f
+use Rattle.widestring_test_memory.specs.contracts.gives.GivesAllocator.deallocate.Key as key
+use Rattle.widestring_test_memory.proofs.gives.GivesAllocator.deallocate.Statement.{statement}
+use Rattle.widestring_test_memory.proofs.gives.GivesAllocator.deallocate.Code as code
 
 is_unit : (v : Val) → v ≡ vunit → T (has_ty ty_unit v) × WT v
 is_unit v e = subst (λ (u : Val). T (has_ty ty_unit u) × WT u) (sym e) (tt, tt)

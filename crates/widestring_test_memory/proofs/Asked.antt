@@ -14,9 +14,9 @@ use denote.Memory.{hidden_shr}
 use denote.Steps.{nothing, only}
 use denote.Triple.Statement.{Contract}
 use denote.Triple.Spec.{triple_of}
-use Rattle.widestring_string_tests.specs.declared.gives.Ration.{Ration}
-use Rattle.widestring_string_tests.specs.contracts.gives.Ration.{the_row}
-use Rattle.widestring_string_tests.specs.contracts.gives.Ration.refuses as asked
+use Rattle.widestring_test_memory.specs.declared.gives.Ration.{Ration}
+use Rattle.widestring_test_memory.specs.contracts.gives.Ration.{the_row}
+use Rattle.widestring_test_memory.specs.contracts.gives.Ration.refuses as asked
 
 abbrev pub lent : Lft → ℕ × ℕ → Ration → Fml
 lent κ place ration = hidden_shr the_row κ ration place.0 place.1

@@ -36,14 +36,14 @@ use denote.Triple.Statement.{Triple}
 use denote.Triple.Table.{framed}
 use denote.Triple.Walked.{Stays, stay_dropped, walk_of, ends_at, Goes-dropped}
 use Rattle.std.specs.Allocator.{block_if_ok}
-use Rattle.widestring_string_tests.proofs.Asked.{lent, Asks, picked, asking, answer}
-use Rattle.widestring_string_tests.proofs.gives.Ration.refuses.Symbol as ration
-use Rattle.widestring_string_tests.proofs.gives.Ration.refuses.Met as ration_met
-use Rattle.widestring_string_tests.specs.contracts.gives.Gives as gives
-use Rattle.widestring_string_tests.specs.contracts.gives.GivesAllocator.allocate as f
-use Rattle.widestring_string_tests.specs.contracts.gives.GivesAllocator.allocate.Key as key
-use Rattle.widestring_string_tests.proofs.gives.GivesAllocator.allocate.Statement.{statement}
-use Rattle.widestring_string_tests.proofs.gives.GivesAllocator.allocate.Code as code
+use Rattle.widestring_test_memory.proofs.Asked.{lent, Asks, picked, asking, answer}
+use Rattle.widestring_test_memory.proofs.gives.Ration.refuses.Symbol as ration
+use Rattle.widestring_test_memory.proofs.gives.Ration.refuses.Met as ration_met
+use Rattle.widestring_test_memory.specs.contracts.gives.Gives as gives
+use Rattle.widestring_test_memory.specs.contracts.gives.GivesAllocator.allocate as f
+use Rattle.widestring_test_memory.specs.contracts.gives.GivesAllocator.allocate.Key as key
+use Rattle.widestring_test_memory.proofs.gives.GivesAllocator.allocate.Statement.{statement}
+use Rattle.widestring_test_memory.proofs.gives.GivesAllocator.allocate.Code as code
 
 module _ (B : Al) where
   abbrev body : Fn
@@ -123,4 +123,4 @@ allocate_spec 𝓤 𝓛 𝓜 𝓡 wired Row laws g dict drops met _ =
     (Goes-dropped 𝓛 2 (receiver B) yes (λ κs x w. refl), (number_goes, (number_goes, tt)))
     (key.name (bounded (a_type ∷ []) (Row, tt) (dcons dict (dcons drops dnil)))) (body B) (code.unfolded 𝓤 𝓛.H 𝓜 𝓡 wired (Row, tt) dict drops)
     (λ κs. (shr_vals, (uint_vals w64, (uint_vals w64, tt)))) (λ κs. ((λ x vs is. is.0), (uint_Tells w64, (uint_Tells w64, tt))))
-    (λ κs qs bounds a τ are. walk B 𝓛 𝓜 𝓡 κs.0 κs.1.0 qs.0 qs.1.0 bounds.0 a.0 a.1.0 a.1.1.0 τ are.1.0.1 are.1.1.0.1 (met.allocate drops) (ration_met.met 𝓤 𝓛 𝓜 𝓡 (code.calls-widestring_string_tests::gives::Ration::refuses 𝓡.env wired)))
+    (λ κs qs bounds a τ are. walk B 𝓛 𝓜 𝓡 κs.0 κs.1.0 qs.0 qs.1.0 bounds.0 a.0 a.1.0 a.1.1.0 τ are.1.0.1 are.1.1.0.1 (met.allocate drops) (ration_met.met 𝓤 𝓛 𝓜 𝓡 (code.calls-widestring_test_memory::gives::Ration::refuses 𝓡.env wired)))

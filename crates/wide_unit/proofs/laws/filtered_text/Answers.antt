@@ -1,0 +1,8 @@
+use Rattle.wide_unit.specs.Laws.Places.{IsWellFormed-encode, chars-encode}
+use Rattle.wide_unit.specs.Laws.Texts.{scalars-picked}
+use Rattle.wide_unit.proofs.laws.filtered_text.Goals as goal
+
+pub returns : goal.returns
+returns c = λ form us picked well within.
+    let scalars = scalars-picked form us picked well within in
+    (IsWellFormed-encode form picked scalars, chars-encode form picked scalars)

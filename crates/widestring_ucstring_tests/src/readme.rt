@@ -1,0 +1,16 @@
+//! The code of README.md on C strings, word for word.
+use std::test::Fail;
+use widestring::error::UCStringError;
+use widestring::{U16CStr, U16CString};
+
+#[test]
+fn c_strings(rt: HostRuntime) -> Result<(), Fail> {
+    let units = [0x61, 0, 0x62].to_vec(rt.alloc())?;
+    let Err(UCStringError::ContainsNul(fault)) = U16CString::from_vec(units) else {
+        panic!(rt; "a NUL stands before the last unit")
+    };
+    assert_eq!(rt; fault.nul_position(), 1);
+    let cut = U16CStr::from_slice_truncate(&[0x61, 0, 0x62])?;
+    assert_eq!(rt; cut.as_slice(), [0x61].as_slice());
+    Ok(())
+}

@@ -1,0 +1,6 @@
+//! Tests of owned strings of well-formed text: worked rows, each public function with ample memory, and memory refused at
+//! each request.
+#![tactic(auto)]
+
+#[cfg(test)]
+mod utfstring_rows;
