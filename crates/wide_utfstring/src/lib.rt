@@ -2,5 +2,10 @@
 #![tactic(auto)]
 
 mod utfstring;
+mod view;
 
 pub use utfstring::{Utf16String, Utf32String, UtfString, WideUtfString};
+pub use view::{
+    UtfStrInUtfstring, UtfStrInUtfstring as Utf16StrInUtfstring,
+    UtfStrInUtfstring as Utf32StrInUtfstring,
+};

@@ -1,9 +1,11 @@
 //! Owned strings of well-formed text.
-ghost use Rattle.std.specs.Prelude.{◌≡◌, ◌==◌, ◌+◌, ◌≤◌, ◌++◌, ◌∷◌, [], ◌↔◌, ◌⊎◌, max, length, map, take, drop, IsNone, IfSome, IsOk, IfOk, IfErr, OnOk, OnErr, vec_capacity, Vec};
-ghost use Rattle.wide_unit.specs.EncodingForm.{code_units};
+ghost use Rattle.std.specs.Prelude.{◌≡◌, ◌==◌, ◌+◌, ◌-◌, ◌<◌, ◌≤◌, ◌++◌, ◌∷◌, [], ◌↔◌, ◌⊎◌, min, max, length, map, take, drop, IsNone, IfSome, IsOk, IfOk, IfErr, OnOk, OnErr, vec_capacity, Vec};
+ghost use Rattle.wide_unit.specs.EncodingForm.{code_units, encode};
 ghost use Rattle.wide_unit.specs.Items.{chars, IsBoundary, IsWellFormed};
-ghost use Rattle.wide_unit.specs.Places.{chars_before};
+ghost use Rattle.wide_unit.specs.Places.{chars_before, IsTextRange};
 ghost use Rattle.std.specs.List.{splice};
+ghost use Rattle.std.specs.Range.Bound.{start_index, end_index};
+ghost use Rattle.std.specs.Str.{chars as str_chars};
 ghost use Rattle.wide_ustr.specs.View.{units_seen as ustr_units};
 ghost use Rattle.wide_ustring.specs.Units.{ustring_len, HasRoomFor};
 ghost use Rattle.wide_ucstr.specs.CString.{contents};
@@ -12,6 +14,7 @@ ghost use Rattle.wide_utfstring.specs.Faults.{IsFaultOf};
 
 use std::alloc::{Allocator, Global};
 use std::marker::Model;
+use std::ops::RangeBounds;
 use wide_error::{FaultUnit, OutOfMemory, UtfError};
 use wide_ucstring::UCString;
 use wide_unit::split_last;
@@ -324,6 +327,7 @@ impl<C: FaultUnit, A: Allocator> UtfString<C, A> {
     pub fn truncate(&mut self, len: usize)
         requires { (ustring_len self.old ≤ len) ⊎ IsBoundary C.form (map C.number self.old.units) len }
         ensures units { self.new.units ≡ take len self.old.units }
+        ensures text { chars C.form (map C.number self.new.units) ≡ take (chars_before C.form (map C.number self.old.units) len) (chars C.form (map C.number self.old.units)) }
         ensures capacity { self.new.capacity ≡ self.old.capacity }
     {
         self.string.truncate(len);
@@ -336,12 +340,139 @@ impl<C: FaultUnit, A: Allocator> UtfString<C, A> {
         A: Clone,
         requires { IsBoundary C.form (map C.number self.old.units) at }
         ensures rest { IfOk result (λ rest. rest.units ≡ drop at self.old.units) }
+        ensures rest_text { IfOk result (λ rest. chars C.form (map C.number rest.units) ≡ drop (chars_before C.form (map C.number self.old.units) at) (chars C.form (map C.number self.old.units))) }
         ensures ok { OnOk result (self.new.units ≡ take at self.old.units) }
+        ensures text { OnOk result (chars C.form (map C.number self.new.units) ≡ take (chars_before C.form (map C.number self.old.units) at) (chars C.form (map C.number self.old.units))) }
         ensures err { OnErr result (self.new ≡ self.old) }
         ensures capacity { self.new.capacity ≡ self.old.capacity }
     {
         Ok(UtfString {
             string: self.string.split_off(at)?,
         })
+    }
+
+    /// Takes the character at a place away, and answers it. The place, counted in units, must be a boundary below the length.
+    /// It takes no memory, and each unit behind the character moves once.
+    pub fn remove(&mut self, at: usize) -> char
+        requires boundary { IsBoundary C.form (map C.number self.old.units) at }
+        requires below { at < ustring_len self.old }
+        ensures units { map C.number self.new.units ≡ splice (map C.number self.old.units) at (at + length (code_units C.form result)) [] }
+        ensures text { chars C.form (map C.number self.new.units) ≡ splice (chars C.form (map C.number self.old.units)) (chars_before C.form (map C.number self.old.units) at) (chars_before C.form (map C.number self.old.units) at + 1) [] }
+        ensures taken { drop (chars_before C.form (map C.number self.old.units) at) (chars C.form (map C.number self.old.units)) ≡ result ∷ drop (chars_before C.form (map C.number self.old.units) at + 1) (chars C.form (map C.number self.old.units)) }
+        ensures capacity { self.new.capacity ≡ self.old.capacity }
+    {
+        let code = self.string.remove_char(at);
+        let Some(c) = char::from_u32(code) else {
+            unreachable!()
+        };
+        c
+    }
+
+    /// The text of a view in the place of a range of places, counted in units. The range must be one for which
+    /// [`wide_unit::range_check`] answers places, and these must be boundaries. Memory is asked for the growth alone, before a
+    /// unit moves.
+    pub fn replace_range<R: RangeBounds<usize>>(
+        &mut self,
+        range: R,
+        with: UtfStr<'_, C>,
+    ) -> Result<(), OutOfMemory>
+        requires bounds { R.has_bounds range }
+        requires at_boundaries { IsTextRange C.form (map C.number self.old.units) (start_index (R.start_bound range)) (end_index (R.end_bound range) (ustring_len self.old)) }
+        ensures units { OnOk result (self.new.units ≡ splice self.old.units (start_index (R.start_bound range)) (end_index (R.end_bound range) (ustring_len self.old)) (units_seen with.entry)) }
+        ensures text { OnOk result (chars C.form (map C.number self.new.units) ≡ splice (chars C.form (map C.number self.old.units)) (chars_before C.form (map C.number self.old.units) (start_index (R.start_bound range))) (chars_before C.form (map C.number self.old.units) (end_index (R.end_bound range) (ustring_len self.old))) (chars C.form (map C.number (units_seen with.entry)))) }
+        ensures err { OnErr result (self.new ≡ self.old) }
+        ensures succeeds { ustring_len self.old + length (units_seen with.entry) ≤ self.old.capacity + (end_index (R.end_bound range) (ustring_len self.old) - start_index (R.start_bound range)) → IsOk result }
+        ensures capacity { self.old.capacity ≤ self.new.capacity }
+    {
+        self.string.replace_range(range, with.as_ustr())
+    }
+
+    /// Gives room back, as [`UString::shrink_to`]: down to the length or to this many units, whichever is more.
+    pub fn shrink_to(&mut self, least: usize) -> Result<(), OutOfMemory>
+        ensures units { self.new.units ≡ self.old.units }
+        ensures ok { OnOk result ((self.new.capacity < self.old.capacity) ⊎ (self.old.capacity ≤ max least (ustring_len self.old))) }
+        ensures keeps { min least self.old.capacity ≤ self.new.capacity }
+        ensures smaller { self.new.capacity ≤ self.old.capacity }
+        ensures err { OnErr result (self.new ≡ self.old) }
+        ensures frees { self.old.units ≡ [] → least ≡ 0 → self.new.capacity ≡ 0 }
+        ensures succeeds { self.old.capacity ≤ max least (ustring_len self.old) → IsOk result }
+    {
+        self.string.shrink_to(least)
+    }
+
+    /// As [`UtfString::shrink_to`], down to the length.
+    pub fn shrink_to_fit(&mut self) -> Result<(), OutOfMemory>
+        ensures units { self.new.units ≡ self.old.units }
+        ensures ok { OnOk result ((self.new.capacity < self.old.capacity) ⊎ (self.old.capacity ≤ ustring_len self.old)) }
+        ensures smaller { self.new.capacity ≤ self.old.capacity }
+        ensures err { OnErr result (self.new ≡ self.old) }
+        ensures frees { self.old.units ≡ [] → self.new.capacity ≡ 0 }
+        ensures succeeds { self.old.capacity ≤ ustring_len self.old → IsOk result }
+    {
+        self.string.shrink_to_fit()
+    }
+
+    /// The text of a `&str`.
+    pub fn from_str(alloc: A, text: &str) -> Result<Self, OutOfMemory>
+        ensures units { IfOk result (λ s. map C.number s.units ≡ encode C.form (str_chars text.now)) }
+        ensures text { IfOk result (λ s. chars C.form (map C.number s.units) ≡ str_chars text.now) }
+        ensures succeeds { str_chars text.now ≡ [] → IsOk result }
+    {
+        Ok(UtfString {
+            string: UString::from_str(alloc, text)?,
+        })
+    }
+}
+
+impl<A: Allocator> UtfString<u32, A> {
+    ghost use Rattle.std.specs.Prelude.{slice_set};
+    ghost use Rattle.wide_unit.specs.EncodingForm.{Utf32};
+
+    /// The text of characters, one unit for each.
+    pub fn from_chars(alloc: A, chars: &[char]) -> Result<Self, OutOfMemory>
+        ensures units { IfOk result (λ s. s.units ≡ chars.now) }
+        ensures succeeds { chars.now ≡ [] → IsOk result }
+    {
+        Ok(UtfString {
+            string: UString::from_chars(alloc, chars)?,
+        })
+    }
+
+    /// Another character in the place of character number `index`, which must be below the length.
+    pub fn set_char(&mut self, index: usize, c: char)
+        requires { index < ustring_len self.old }
+        ensures units { self.new.units ≡ slice_set self.old.units index c }
+        ensures text { chars Utf32 self.new.units ≡ slice_set (chars Utf32 self.old.units) index c }
+        ensures capacity { self.new.capacity ≡ self.old.capacity }
+    {
+        self.string.as_mut_slice()[index] = u32::from(c);
+    }
+
+    // The characters, in a vector with a copy of the allocator.
+    fn copy_chars(&self) -> Result<Vec<char, A>, OutOfMemory>
+    where
+        A: Clone,
+        ensures { IfOk result (λ vec. vec.items ≡ chars Utf32 self.now.units) }
+    {
+        let alloc = self.string.as_vec().allocator().clone()?;
+        let mut chars = Vec::with_capacity(alloc, self.string.len())?;
+        for c in self.as_utfstr().chars() {
+            chars.push_reserved(c);
+        }
+        Ok(chars)
+    }
+
+    /// The characters, in a vector with a copy of the allocator: a copy, since units and characters are different types. Where
+    /// there is no memory for it the error is the string.
+    pub fn into_char_vec(self) -> Result<Vec<char, A>, Self>
+    where
+        A: Clone,
+        ensures vec { IfOk result (λ vec. vec.items ≡ chars Utf32 self.units) }
+        ensures err { IfErr result (λ s. s ≡ self) }
+    {
+        match self.copy_chars() {
+            Ok(chars) => Ok(chars),
+            Err(_refused) => Err(self),
+        }
     }
 }

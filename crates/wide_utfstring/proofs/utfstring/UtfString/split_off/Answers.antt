@@ -1,7 +1,8 @@
-use Rattle.std.proofs.Common.{map, arith}
+use Rattle.std.proofs.Common.{map, inr, arith}
 use Rattle.std.proofs.lemmas.List.{length-map}
 use Rattle.wide_unit.specs.Laws.Places.{IsBoundary-within}
 use Rattle.wide_unit.specs.Laws.Splices.{IsWellFormed-map_take, IsWellFormed-map_drop}
+use Rattle.wide_utfstring.proofs.Edits.{front_text, rest_text}
 use Rattle.wide_utfstring.proofs.utfstring.UtfString.split_off.Goals as goal
 
 pub split_off-requires : goal.split_off-requires
@@ -17,3 +18,13 @@ invariant_of-result g c = rw c.in_ok-split_off.ensures.rest (IsWellFormed-map_dr
 
 pub invariant_of-self-2 : goal.invariant_of-self-2
 invariant_of-self-2 g c = rw c.in_ok-split_off.ensures.ok (IsWellFormed-map_take g.C.Unit.form g.C.Unit.number c.self.inside.string.units c.self.invariant c.args.at (rw (← c.self.view_is) at c.requires))
+
+pub returns-clause-rest_text : goal.returns-clause-rest_text
+returns-clause-rest_text g c =
+    rw (← c.self.view_is, c.in_ok-split_off.ensures.rest)
+    (rest_text g.C.Unit.form g.C.Unit.number c.self.inside.string.units c.args.at c.self.invariant (rw (← c.self.view_is) at c.requires))
+
+pub returns-clause-text : goal.returns-clause-text
+returns-clause-text g c =
+    rw (← c.self.view_is, c.in_ok-split_off.ensures.ok)
+    (front_text g.C.Unit.form g.C.Unit.number c.self.inside.string.units c.args.at c.self.invariant (inr (rw (← c.self.view_is) at c.requires)))

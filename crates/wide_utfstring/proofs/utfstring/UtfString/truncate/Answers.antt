@@ -1,4 +1,4 @@
-use Rattle.wide_utfstring.proofs.Edits.{front_of}
+use Rattle.wide_utfstring.proofs.Edits.{front_of, front_text}
 use Rattle.wide_utfstring.proofs.utfstring.UtfString.truncate.Goals as goal
 
 pub invariant_of-self : goal.invariant_of-self
@@ -7,3 +7,10 @@ invariant_of-self g c =
     let number = g.C.Unit.number in
     let xs = c.self.inside.string.units in
     rw c.truncate.ensures.units (front_of form number xs c.args.len c.self.invariant (rw (← c.self.view_is) at c.requires))
+
+pub returns-clause-text : goal.returns-clause-text
+returns-clause-text g c =
+    let form = g.C.Unit.form in
+    let number = g.C.Unit.number in
+    let xs = c.self.inside.string.units in
+    rw (← c.self.view_is, c.truncate.ensures.units) (front_text form number xs c.args.len c.self.invariant (rw (← c.self.view_is) at c.requires))
