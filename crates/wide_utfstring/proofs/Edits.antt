@@ -1,12 +1,13 @@
 -- Edits that keep text well formed.
-use Rattle.std.proofs.Common.{◌≡◌, ℕ, ◌≤◌, List, ◌++◌, length, map, take, drop, inl, inr, ap, sym, subst, ◌∙◌, arith, Result, Ok, Err}
+use Rattle.std.proofs.Common.{◌≡◌, ℕ, zero, suc, ◌≤◌, List, ◌++◌, length, map, take, drop, inl, inr, ap, sym, subst, ◌∙◌, arith, Result, Ok, Err}
 use Rattle.std.specs.Prelude.{OnOk, OnErr, ◌⊎◌}
+use Rattle.std.specs.List.{repeat}
 use Rattle.std.proofs.lemmas.List.{map-append, take_all, take-map, drop-map, length-map}
 use Rattle.wide_unit.specs.EncodingForm.{EncodingForm}
 use Rattle.wide_unit.specs.Items.{chars, IsBoundary, IsWellFormed}
 use Rattle.wide_unit.specs.Places.{chars_before}
 use Rattle.wide_unit.specs.Laws.Places.{IsPlaceOf-boundary}
-use Rattle.wide_unit.specs.Laws.Splices.{IsWellFormed-append, IsWellFormed-map_take}
+use Rattle.wide_unit.specs.Laws.Splices.{IsWellFormed-nil, IsWellFormed-append, IsWellFormed-map_take}
 use Rattle.wide_ustring.specs.Units.{Units}
 
 pub on_ok : {A E P Q : Type 0} (r : Result A E) → (P → Q) → OnOk r P → OnOk r Q
@@ -21,6 +22,10 @@ module _ {X : Type 0} (form : EncodingForm) (number : X → ℕ) where
 
   pub joined : (xs ys : List X) → IsWellFormed form (map number xs) → IsWellFormed form (map number ys) → IsWellFormed form (map number (xs ++ ys))
   joined xs ys left right = subst (IsWellFormed form) (sym (map-append number xs ys)) (IsWellFormed-append form (map number xs) (map number ys) left right)
+
+  pub repeated : (count : ℕ) (xs : List X) → IsWellFormed form (map number xs) → IsWellFormed form (map number (repeat count xs))
+  repeated zero xs well = IsWellFormed-nil form
+  repeated (suc n) xs well = joined xs (repeat n xs) well (repeated n xs well)
 
   -- what is left of text that is cut at a boundary, or past its end
   pub front_of : (xs : List X) (len : ℕ) → IsWellFormed form (map number xs) → (length xs ≤ len) ⊎ IsBoundary form (map number xs) len → IsWellFormed form (map number (take len xs))

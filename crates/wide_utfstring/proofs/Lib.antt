@@ -1,3 +1,4 @@
 pub mod Errors
 pub mod Edits
 pub mod Removed
+pub mod Units32

@@ -433,9 +433,11 @@ impl<A: Allocator> UtfString<u32, A> {
         ensures units { IfOk result (λ s. s.units ≡ chars.now) }
         ensures succeeds { chars.now ≡ [] → IsOk result }
     {
-        Ok(UtfString {
-            string: UString::from_chars(alloc, chars)?,
-        })
+        let mut string = UtfString::with_capacity(alloc, chars.len())?;
+        for c in chars {
+            string.push(*c)?;
+        }
+        Ok(string)
     }
 
     /// Another character in the place of character number `index`, which must be below the length.

@@ -12,6 +12,14 @@ use Rattle.wide_utfstr.specs.View.{units_seen}
 use Rattle.wide_utfstring.specs.Faults.{IsFaultOf}
 use Rattle.wide_utfstring.proofs.utfstring.UtfString+u32+A.from_chars.Goals as goal
 
--- src/utfstring.rt:436:9
-pub invariant_of-result : goal.invariant_of-result
-invariant_of-result g c = ?
+-- src/utfstring.rt:437:9
+pub loop-c-init : goal.loop-c-init
+loop-c-init g c = ?
+
+-- src/utfstring.rt:437:9
+pub loop-c-preserved : goal.loop-c-preserved
+loop-c-preserved g c = ?
+
+-- src/utfstring.rt:432:5
+pub returns-clause-units : goal.returns-clause-units
+returns-clause-units g c = ?
