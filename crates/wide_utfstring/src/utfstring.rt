@@ -429,12 +429,13 @@ impl<A: Allocator> UtfString<u32, A> {
     ghost use Rattle.wide_unit.specs.EncodingForm.{Utf32};
 
     /// The text of characters, one unit for each.
-    pub fn from_chars(alloc: A, chars: &[char]) -> Result<Self, OutOfMemory>
-        ensures units { IfOk result (λ s. s.units ≡ chars.now) }
-        ensures succeeds { chars.now ≡ [] → IsOk result }
+    pub fn from_chars(alloc: A, text: &[char]) -> Result<Self, OutOfMemory>
+        ensures units { IfOk result (λ s. s.units ≡ text.now) }
+        ensures text { IfOk result (λ s. chars Utf32 s.units ≡ text.now) }
+        ensures succeeds { text.now ≡ [] → IsOk result }
     {
-        let mut string = UtfString::with_capacity(alloc, chars.len())?;
-        for c in chars {
+        let mut string = UtfString::with_capacity(alloc, text.len())?;
+        for c in text {
             string.push(*c)?;
         }
         Ok(string)

@@ -1,25 +1,28 @@
-use Rattle.std.proofs.Common.{rules, ◌≡◌, ◌==◌, ◌+◌, ◌-◌, ◌<◌, ◌≤◌, ◌++◌, ◌∷◌, [], ◌↔◌, ◌⊎◌, min, max, length, map, take, drop, IsNone, IfSome, IsOk, IfOk, IfErr, OnOk, OnErr, vec_capacity, Vec, slice_set, ℕ, ◌*◌, ◌/◌, ◌%◌, Bool, true, false, nat_eq, nat_lt, List, slice_index_or, bit_and, bit_or, Fits, w8, w32, w64, Bor, MutBor}
-use Rattle.wide_unit.specs.EncodingForm.{code_units, encode, Utf32}
-use Rattle.wide_unit.specs.Items.{chars, IsBoundary, IsWellFormed}
-use Rattle.wide_unit.specs.Places.{chars_before, IsTextRange}
-use Rattle.std.specs.List.{splice}
-use Rattle.std.specs.Range.Bound.{start_index, end_index}
-use Rattle.std.specs.Str.{chars as str_chars}
-use Rattle.wide_ustr.specs.View.{units_seen as ustr_units}
-use Rattle.wide_ustring.specs.Units.{ustring_len, HasRoomFor}
-use Rattle.wide_ucstr.specs.CString.{contents}
-use Rattle.wide_utfstr.specs.View.{units_seen}
-use Rattle.wide_utfstring.specs.Faults.{IsFaultOf}
+use Rattle.std.proofs.Common.{◌≡◌, ◌<◌, ◌+◌, [], ◌∷◌, ◌++◌, get_or, length, map, take, ap, sym, ◌∙◌, arith}
+use Rattle.std.proofs.lemmas.List.{map-id, take_all, take_more}
+use Rattle.wide_unit.specs.EncodingForm.{Utf32}
+use Rattle.wide_unit.specs.Items.{chars}
+use Rattle.wide_unit.specs.Laws.Splices.{chars-nil}
 use Rattle.wide_utfstring.proofs.utfstring.UtfString+u32+A.from_chars.Goals as goal
 
--- src/utfstring.rt:437:9
 pub loop-c-init : goal.loop-c-init
-loop-c-init g c = ?
+loop-c-init g c = record { units = c.in_ok-string.ensures.units; text = ap (chars Utf32) c.in_ok-string.ensures.units ∙ chars-nil Utf32; }
 
--- src/utfstring.rt:437:9
 pub loop-c-preserved : goal.loop-c-preserved
-loop-c-preserved g c = ?
+loop-c-preserved g c =
+    let cs = c.args.text.now in
+    let i = c.loop-c.c-index in
+    let old = c.loop-c.string.units in
+    let one : take (i + 1) cs ≡ take i cs ++ c.c-item.result ∷ [] = take_more cs i c.c-item.result c.loop-c-test.true ∙ ap (λ d. take i cs ++ d ∷ []) (sym c.c-item.is) in
+    record {
+      units = sym (map-id c.push.new.self.units) ∙ c.in_ok-push.ensures.units ∙ ap (λ us. us ++ c.c-item.result ∷ []) (map-id old ∙ c.loop-c.invariant.units) ∙ sym one;
+      text =
+          ap (chars Utf32) (sym (map-id c.push.new.self.units)) ∙ c.in_ok-push.ensures.text
+          ∙ ap (λ us. us ++ c.c-item.result ∷ []) (ap (chars Utf32) (map-id old) ∙ c.loop-c.invariant.text) ∙ sym one;
+    }
 
--- src/utfstring.rt:432:5
 pub returns-clause-units : goal.returns-clause-units
-returns-clause-units g c = ?
+returns-clause-units g c = c.loop-c.invariant.units ∙ take_all c.loop-c.c-index c.args.text.now (omega (arith, c.loop-c-test.false))
+
+pub returns-clause-text : goal.returns-clause-text
+returns-clause-text g c = c.loop-c.invariant.text ∙ take_all c.loop-c.c-index c.args.text.now (omega (arith, c.loop-c-test.false))
