@@ -5,10 +5,10 @@ use Rattle.std.proofs.lemmas.Grind.{common_steps, drop_more_same}
 use Rattle.std.specs.List.Retain.{IsFiltered}
 
 module _ {X P : Type 0} (answers : P → X → Bool → P → Type 0) where
-  no_elements : (p : P) → IsFiltered answers p [] []
+  pub no_elements : (p : P) → IsFiltered answers p [] []
   no_elements p = ([], p, refl, refl, refl)
 
-  one_element : (p q : P) (x : X) (b : Bool) (xs ys : List X) → answers p x b q → IsFiltered answers q xs ys → IsFiltered answers p (x ∷ xs) (cond b (x ∷ ys) ys)
+  pub one_element : (p q : P) (x : X) (b : Bool) (xs ys : List X) → answers p x b q → IsFiltered answers q xs ys → IsFiltered answers p (x ∷ xs) (cond b (x ∷ ys) ys)
   one_element p q x true xs ys asked rest = (true ∷ rest.0, rest.1, omega (arith, rest.2), (q, asked, rest.3), ap (λ l. x ∷ l) rest.4)
   one_element p q x false xs ys asked rest = (false ∷ rest.0, rest.1, omega (arith, rest.2), (q, asked, rest.3), rest.4)
 

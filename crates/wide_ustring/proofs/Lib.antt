@@ -3,5 +3,8 @@ pub mod Pushed
 pub mod Parts
 pub mod Drains
 pub mod Filters
+pub mod CharAt
+pub mod CharFilters
+pub mod Turned
 pub mod Repeats
 pub mod Extends

@@ -120,3 +120,26 @@ pub(crate) fn push_str<C: Unit, A: Allocator>(
     }
     Ok(())
 }
+
+// Puts the units of a text in the place of those from `from` up to `to`. They are written at the end, and then change places
+// with the units behind `to`.
+pub(crate) fn replace_str<C: Unit, A: Allocator>(
+    units: &mut Vec<C, A>,
+    from: usize,
+    to: usize,
+    text: &str,
+) -> Result<(), OutOfMemory>
+    requires forward { from ≤ to }
+    requires within { to ≤ vec_len units.old }
+    ensures ok { OnOk result (map C.number units.new.items ≡ splice (map C.number units.old.items) from to (encode C.form (chars text.now))) }
+    ensures err { OnErr result ((units.new.items ≡ units.old.items) × (vec_capacity units.new ≡ vec_capacity units.old)) }
+    ensures succeeds { vec_len units.old + length (encode C.form (chars text.now)) ≤ vec_capacity units.old + (to - from) → IsOk result }
+    ensures capacity { vec_capacity units.old ≤ vec_capacity units.new }
+{
+    let behind = units.len() - to;
+    units.reserve(C::text_len(text).saturating_sub(to - from))?;
+    cut(units, from, to);
+    push_str(units, text)?;
+    units.slice_mut(from..).rotate_left(behind);
+    Ok(())
+}

@@ -1,5 +1,5 @@
 //! Owned strings of units.
-ghost use Rattle.std.specs.Prelude.{◌≡◌, ◌==◌, ◌+◌, ◌-◌, ◌<◌, ◌≤◌, ◌↔◌, ◌⊎◌, ◌++◌, [], min, max, length, map, take, drop, slice_range, IsOk, IfOk, OnOk, OnErr, IsNone, IfSome, vec_capacity};
+ghost use Rattle.std.specs.Prelude.{◌≡◌, ◌==◌, ◌+◌, ◌-◌, ◌<◌, ◌≤◌, ◌↔◌, ◌⊎◌, ◌++◌, ◌∷◌, [], min, max, length, map, take, drop, slice_range, IsOk, IfOk, OnOk, OnErr, IsNone, IfSome, vec_capacity};
 ghost use Rattle.std.specs.Borrow.{sem};
 ghost use Rattle.std.specs.Iterator.Runs.{YieldsInOrder, YieldsInReverse};
 ghost use Rattle.std.specs.List.{splice};
@@ -7,6 +7,7 @@ ghost use Rattle.std.specs.List.Retain.{IsFiltered};
 ghost use Rattle.std.specs.Str.{chars};
 ghost use Rattle.std.specs.Range.Bound.{start_index, end_index};
 ghost use Rattle.wide_unit.specs.EncodingForm.{code_units, encode};
+ghost use Rattle.wide_unit.specs.Items.{chars as text_chars, IsWellFormed};
 ghost use Rattle.wide_unit.specs.Range.{IsWithin};
 ghost use Rattle.wide_ustr.specs.View.{units_seen};
 ghost use Rattle.wide_unit.specs.Unit.{item_of};
@@ -16,7 +17,7 @@ ghost use Rattle.wide_ustring.specs.Lends.{lends_units};
 ghost use Rattle.wide_ustring.specs.Taken.{item_code, TakesFirst, TakesLast};
 
 use crate::Drain;
-use crate::room::{cut, push_char, push_str, replace, replace_char};
+use crate::room::{cut, push_char, push_str, replace, replace_char, replace_str};
 use std::alloc::{Allocator, Global};
 use std::marker::Model;
 use std::ops::RangeBounds;
@@ -61,6 +62,23 @@ fn code_of<C: Unit>(item: Result<char, C>) -> u32
         Ok(c) => u32::from(c),
         Err(unit) => unit.code(),
     }
+}
+
+// The character that begins at a place from which on the units are well formed, and the place behind it.
+fn char_at<C: Unit>(units: &[C], at: usize) -> (char, usize)
+    requires below { at < length units.now }
+    requires well_formed { IsWellFormed C.form (map C.number (drop at units.now)) }
+    ensures units { map C.number (slice_range units.now at result.1) ≡ code_units C.form result.0 }
+    ensures first { text_chars C.form (map C.number (drop at units.now)) ≡ result.0 ∷ text_chars C.form (map C.number (drop result.1 units.now)) }
+    ensures rest { IsWellFormed C.form (map C.number (drop result.1 units.now)) }
+    ensures after { at < result.1 }
+    ensures within { result.1 ≤ length units.now }
+{
+    let Some((item, rest)) = split_first(&units[at..]) else {
+        unreachable!()
+    };
+    let Ok(c) = item else { unreachable!() };
+    (c, units.len() - rest.len())
 }
 
 impl<C: FaultUnit, A: Allocator> UString<C, A> {
@@ -304,6 +322,31 @@ impl<C: FaultUnit, A: Allocator> UString<C, A> {
         units.truncate(kept);
     }
 
+    /// Keeps the characters at which the closure answers yes, in units that must be well formed. It is asked once for each
+    /// character, in order. It is this port's own, for well-formed strings: [`UString::retain`] asks for units.
+    pub fn retain_chars<F: FnMut(char) -> bool>(&mut self, mut keep: F)
+        requires callable { F.IsAlwaysCallable keep }
+        requires well_formed { IsWellFormed C.form (map C.number self.old.units) }
+        ensures filtered { IsFiltered F.step keep (text_chars C.form (map C.number self.old.units)) (text_chars C.form (map C.number self.new.units)) }
+        ensures well_formed { IsWellFormed C.form (map C.number self.new.units) }
+        ensures capacity { self.new.capacity ≡ self.old.capacity }
+    {
+        let units = &mut self.units;
+        let len = units.len();
+        let mut kept = 0;
+        let mut at = 0;
+        while at < len {
+            let (c, next) = char_at(units.as_slice(), at);
+            let wanted = keep(c);
+            if wanted {
+                units.copy_within(at..next, kept);
+                kept += next - at;
+            }
+            at = next;
+        }
+        units.truncate(kept);
+    }
+
     /// Takes the units of a range away, and gives them from both ends. When the [`Drain`] is dropped the whole range is
     /// gone, also where it was not read to the end. [`wide_unit::range_check`] must answer places for the range.
     pub fn drain<R: RangeBounds<usize>>(&mut self, range: R) -> Drain<'_, C, A>
@@ -379,6 +422,18 @@ impl<C: FaultUnit, A: Allocator> UString<C, A> {
         ensures capacity { self.old.capacity ≤ self.new.capacity }
     {
         replace_char(&mut self.units, at, at, c)
+    }
+
+    /// The units of a text in the place of those from `from` up to `to`, which must be places in order within the string. It
+    /// is this port's own: [`UString::replace_range`] takes a view, which a text is not.
+    pub fn splice_str(&mut self, from: usize, to: usize, text: &str) -> Result<(), OutOfMemory>
+        requires { IsWithin from to (ustring_len self.old) }
+        ensures ok { OnOk result (map C.number self.new.units ≡ splice (map C.number self.old.units) from to (encode C.form (chars text.now))) }
+        ensures err { OnErr result (self.new ≡ self.old) }
+        ensures succeeds { ustring_len self.old + length (encode C.form (chars text.now)) ≤ self.old.capacity + (to - from) → IsOk result }
+        ensures capacity { self.old.capacity ≤ self.new.capacity }
+    {
+        replace_str(&mut self.units, from, to, text)
     }
 
     /// Takes the units from a place on away, and answers them as a string of their own, with a copy of the allocator. The

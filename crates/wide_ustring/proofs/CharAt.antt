@@ -1,0 +1,38 @@
+-- The character that begins at a place of units, by the first item from there on.
+use Rattle.std.proofs.Common.{◌≡◌, ℕ, suc, ◌+◌, ◌-◌, ◌<◌, List, ◌∷◌, ◌++◌, length, map, take, drop, slice_range, refl, sym, ap, ◌∙◌, subst, arith, length-drop}
+use Rattle.std.proofs.lemmas.List.{drop-drop, take-map, take_at}
+use Rattle.std.specs.List.{Contains}
+use Rattle.wide_unit.specs.EncodingForm.{EncodingForm, code_units}
+use Rattle.wide_unit.specs.Segmentation.{Char, Fault, units_of}
+use Rattle.wide_unit.specs.Items.{items, IsWellFormed}
+use Rattle.wide_unit.specs.Laws.Items.{units_of-items}
+
+module _ (form : EncodingForm) (us rest : List ℕ) (well : IsWellFormed form us) where
+  pub no_fault_first : (u : ℕ) → items form us ≡ Fault u ∷ items form rest → ⊥
+  no_fault_first u e = well u (subst (λ is. Contains is (Fault u)) (sym e) (0, omega arith, refl))
+
+  well_formed_behind : (c : ℕ) → items form us ≡ Char c ∷ items form rest → IsWellFormed form rest
+  well_formed_behind c e u at = well u (subst (λ is. Contains is (Fault u)) (sym e) (suc at.0, omega (arith, at.1), at.2))
+
+-- a decoder at the place gave the character, and the units that are left
+module _ {X : Type 0} (form : EncodingForm) (number : X → ℕ) (us rest : List X) (at c : ℕ) (below : at < length us)
+    (is : items form (map number (drop at us)) ≡ Char c ∷ items form (map number rest)) (left : rest ≡ drop (length (code_units form c)) (drop at us)) (long : length rest + length (code_units form c) ≡ length (drop at us)) where
+  abbrev next : ℕ
+  next = length us - length rest
+
+  next-is : next ≡ at + length (code_units form c)
+  next-is = omega (arith, length-drop at us, long)
+
+  behind : drop next us ≡ rest
+  behind = ap (λ n. drop n us) next-is ∙ sym (drop-drop (length (code_units form c)) at us) ∙ sym left
+
+  pub char-units : map number (slice_range us at next) ≡ code_units form c
+  char-units =
+      let joined : map number (drop at us) ≡ code_units form c ++ map number rest =
+      sym (units_of-items form (map number (drop at us))) ∙ ap (λ is. units_of form is) is ∙ ap (λ xs. code_units form c ++ xs) (units_of-items form (map number rest)) in
+      let count : next - at ≡ length (code_units form c) = omega (arith, next-is) in
+      ap (λ n. map number (take n (drop at us))) count ∙ sym (take-map number (length (code_units form c)) (drop at us))
+      ∙ ap (take (length (code_units form c))) joined ∙ take_at (code_units form c) (map number rest) (length (code_units form c)) refl
+
+  pub char-rest : IsWellFormed form (map number (drop at us)) → IsWellFormed form (map number (drop next us))
+  char-rest well = subst (λ xs. IsWellFormed form (map number xs)) (sym behind) (well_formed_behind form (map number (drop at us)) (map number rest) well c is)

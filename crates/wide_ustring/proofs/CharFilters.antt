@@ -1,0 +1,119 @@
+-- The loop of `retain_chars`: the closure's answers at the characters that were passed, and the units of those that were kept.
+use Rattle.std.proofs.Common.{◌≡◌, ℕ, ◌+◌, ◌-◌, ◌<◌, ◌≤◌, List, [], ◌∷◌, ◌++◌, Bool, true, false, length, map, take, drop, slice_range, refl, ap, sym, ◌∙◌, subst, arith, append_assoc, append-nil, get_or, length-append, length-drop}
+use Rattle.std.proofs.lemmas.List.{drop_all, drop-drop, length-take-le, map-append, take_at}
+use Rattle.std.proofs.lemmas.Slice.{drop-append-drop}
+use Rattle.std.specs.Char.{IsScalar}
+use Rattle.std.specs.List.{copy_within}
+use Rattle.std.specs.List.Retain.{IsFiltered}
+use Rattle.wide_unit.specs.EncodingForm.{EncodingForm, code_units}
+use Rattle.wide_unit.specs.Items.{chars, IsWellFormed}
+use Rattle.wide_unit.specs.Laws.Ends.{IsWellFormed-code_units}
+use Rattle.wide_unit.specs.Laws.Places.{scalars-chars}
+use Rattle.wide_unit.specs.Laws.Splices.{IsWellFormed-nil, IsWellFormed-append, chars-nil, chars-append, chars-code_units}
+use Rattle.wide_ustring.proofs.Filters.{no_elements, one_element}
+
+-- a part of a list that is copied down, over what stands before it
+module _ {X : Type 0} (xs : List X) (from to onto : ℕ) (down : onto ≤ from) (forward : from ≤ to) (within : to ≤ length xs) where
+  front-long : length (take onto xs ++ slice_range xs from to) ≡ onto + (to - from)
+  front-long =
+      length-append (take onto xs) (slice_range xs from to)
+      ∙ omega (arith, length-take-le onto xs (omega arith), length-take-le (to - from) (drop from xs) (omega (arith, length-drop from xs)))
+
+  take-copied : take (onto + (to - from)) (copy_within xs from to onto) ≡ take onto xs ++ slice_range xs from to
+  take-copied = take_at (take onto xs ++ slice_range xs from to) (drop (onto + (to - from)) xs) (onto + (to - from)) front-long
+
+  drop-copied : drop to (copy_within xs from to onto) ≡ drop to xs
+  drop-copied = drop-append-drop (onto + (to - from)) xs (take onto xs ++ slice_range xs from to) to (omega arith) front-long
+
+  length-copied : length (copy_within xs from to onto) ≡ length xs
+  length-copied =
+      length-append (take onto xs ++ slice_range xs from to) (drop (onto + (to - from)) xs)
+      ∙ omega (arith, front-long, length-drop (onto + (to - from)) xs)
+
+drop_same : {X : Type 0} (xs ys : List X) (from to : ℕ) → from ≤ to → drop from xs ≡ drop from ys → drop to xs ≡ drop to ys
+drop_same xs ys from to forward e =
+    let next : to ≡ from + (to - from) = omega arith in
+    ap (λ n. drop n xs) next ∙ sym (drop-drop (to - from) from xs) ∙ ap (drop (to - from)) e ∙ drop-drop (to - from) from ys ∙ ap (λ n. drop n ys) (sym next)
+
+module _ {X P : Type 0} (form : EncodingForm) (number : X → ℕ) (answers : P → ℕ → Bool → P → Type 0) where
+  abbrev text : List X → List ℕ
+  text xs = chars form (map number xs)
+
+  abbrev IsText : List X → Type 0
+  IsText xs = IsWellFormed form (map number xs)
+
+  -- the closure, which was `first`, is `now` and was asked at the characters before `at`; the units of those it kept are the
+  -- first `kept`
+  pub record FilteringChars (first now : P) (old new : List X) (kept at : ℕ) : Type 0 where
+    pub finish : (cs : List ℕ) → IsFiltered answers now (text (drop at old)) cs → IsFiltered answers first (text old) (text (take kept new) ++ cs)
+    pub below : kept ≤ at
+    pub length_same : length new ≡ length old
+    pub to_come : drop at new ≡ drop at old
+    pub kept_well_formed : IsText (take kept new)
+    pub rest_well_formed : IsText (drop at old)
+
+  pub begins : (p : P) (old : List X) → IsText old → FilteringChars p p old old 0 0
+  begins p old well = record {
+    finish = λ cs h. subst (λ ds. IsFiltered answers p (text old) (ds ++ cs)) (sym (chars-nil form)) h;
+    below = omega arith;
+    length_same = refl;
+    to_come = refl;
+    kept_well_formed = IsWellFormed-nil form;
+    rest_well_formed = well;
+  }
+
+  module _ (first now : P) (old new : List X) (kept at : ℕ) (so_far : FilteringChars first now old new kept at) where
+    pub ends : length old ≤ at → IsFiltered answers first (text old) (text (take kept new))
+    ends past =
+        let none : text (drop at old) ≡ [] = ap text (drop_all at old past) ∙ chars-nil form in
+        let all : IsFiltered answers first (text old) (text (take kept new) ++ []) = so_far.finish [] (subst (λ ds. IsFiltered answers now ds []) (sym none) (no_elements answers now)) in
+        subst (λ ds. IsFiltered answers first (text old) ds) (append-nil (text (take kept new))) all
+
+    module _ (later : P) (c next : ℕ) (after : at < next) (within : next ≤ length new) (is : text (drop at new) ≡ c ∷ text (drop next new)) (rest : IsText (drop next new)) where
+      still_to_come : drop next new ≡ drop next old
+      still_to_come = drop_same new old at next (omega arith) so_far.to_come
+
+      next_char : text (drop at old) ≡ c ∷ text (drop next old)
+      next_char = ap text (sym so_far.to_come) ∙ is ∙ ap (λ xs. c ∷ text xs) still_to_come
+
+      rest_still : IsText (drop next old)
+      rest_still = subst IsText still_to_come rest
+
+      pub drops : answers now c false later → FilteringChars first later old new kept next
+      drops asked = record {
+        finish = λ cs h. so_far.finish cs (subst (λ ds. IsFiltered answers now ds cs) (sym next_char) (one_element answers now later c false (text (drop next old)) cs asked h));
+        below = omega (arith, so_far.below);
+        length_same = so_far.length_same;
+        to_come = still_to_come;
+        kept_well_formed = so_far.kept_well_formed;
+        rest_well_formed = rest_still;
+      }
+
+      module _ (units : map number (slice_range new at next) ≡ code_units form c) where
+        front : map number (take (kept + (next - at)) (copy_within new at next kept)) ≡ map number (take kept new) ++ code_units form c
+        front =
+            ap (map number) (take-copied new at next kept so_far.below (omega arith) within) ∙ map-append number (take kept new) (slice_range new at next)
+            ∙ ap (λ us. map number (take kept new) ++ us) units
+
+        scalar : IsScalar c
+        scalar =
+            let well : IsText (drop at new) = subst IsText (sym so_far.to_come) so_far.rest_well_formed in
+            subst (λ cs. IsScalar (get_or cs 0 c)) is (scalars-chars form (map number (drop at new)) well 0 c (omega (arith, ap length is)))
+
+        longer : text (take (kept + (next - at)) (copy_within new at next kept)) ≡ text (take kept new) ++ c ∷ []
+        longer =
+            ap (chars form) front ∙ chars-append form (map number (take kept new)) (code_units form c) so_far.kept_well_formed
+            ∙ ap (λ cs. text (take kept new) ++ cs) (chars-code_units form c scalar)
+
+        pub keeps : answers now c true later → FilteringChars first later old (copy_within new at next kept) (kept + (next - at)) next
+        keeps asked = record {
+          finish = λ cs h. let from_here : IsFiltered answers now (text (drop at old)) (c ∷ cs) =
+              subst (λ ds. IsFiltered answers now ds (c ∷ cs)) (sym next_char) (one_element answers now later c true (text (drop next old)) cs asked h) in
+              let joined : text (take (kept + (next - at)) (copy_within new at next kept)) ++ cs ≡ text (take kept new) ++ c ∷ cs = ap (λ ds. ds ++ cs) longer ∙ append_assoc (text (take kept new)) (c ∷ []) cs in
+              subst (λ ds. IsFiltered answers first (text old) ds) (sym joined) (so_far.finish (c ∷ cs) from_here);
+          below = omega (arith, so_far.below);
+          length_same = length-copied new at next kept so_far.below (omega arith) within ∙ so_far.length_same;
+          to_come = drop-copied new at next kept so_far.below (omega arith) within ∙ still_to_come;
+          kept_well_formed = subst (λ us. IsWellFormed form us) (sym front) (IsWellFormed-append form (map number (take kept new)) (code_units form c) so_far.kept_well_formed (IsWellFormed-code_units form c scalar));
+          rest_well_formed = rest_still;
+        }
