@@ -4,6 +4,7 @@ ghost use Rattle.wide_unit.specs.EncodingForm.{code_units, encode};
 ghost use Rattle.wide_unit.specs.Items.{chars, IsBoundary, IsWellFormed};
 ghost use Rattle.wide_unit.specs.Places.{chars_before, IsTextRange};
 ghost use Rattle.std.specs.List.{splice};
+ghost use Rattle.std.specs.List.Retain.{IsFiltered};
 ghost use Rattle.std.specs.Range.Bound.{start_index, end_index};
 ghost use Rattle.std.specs.Str.{chars as str_chars};
 ghost use Rattle.wide_ustr.specs.View.{units_seen as ustr_units};
@@ -385,6 +386,30 @@ impl<C: FaultUnit, A: Allocator> UtfString<C, A> {
         ensures capacity { self.old.capacity ≤ self.new.capacity }
     {
         self.string.replace_range(range, with.as_ustr())
+    }
+
+    /// The text of a `&str` in the place of that from `from` up to `to`, counted in units: places in order within the string,
+    /// both boundaries. It is this port's own: [`UtfString::replace_range`] takes a view, which nobody can make of a `&str`
+    /// without memory. Memory is asked for the growth alone, before a unit moves.
+    pub fn splice_str(&mut self, from: usize, to: usize, text: &str) -> Result<(), OutOfMemory>
+        requires { IsTextRange C.form (map C.number self.old.units) from to }
+        ensures units { OnOk result (map C.number self.new.units ≡ splice (map C.number self.old.units) from to (encode C.form (str_chars text.now))) }
+        ensures text { OnOk result (chars C.form (map C.number self.new.units) ≡ splice (chars C.form (map C.number self.old.units)) (chars_before C.form (map C.number self.old.units) from) (chars_before C.form (map C.number self.old.units) to) (str_chars text.now)) }
+        ensures err { OnErr result (self.new ≡ self.old) }
+        ensures succeeds { ustring_len self.old + length (encode C.form (str_chars text.now)) ≤ self.old.capacity + (to - from) → IsOk result }
+        ensures capacity { self.old.capacity ≤ self.new.capacity }
+    {
+        self.string.splice_str(from, to, text)
+    }
+
+    /// Keeps the characters at which the closure answers yes. It is asked once for each character, in order. It takes no
+    /// memory, and each unit moves at most once.
+    pub fn retain<F: FnMut(char) -> bool>(&mut self, keep: F)
+        requires { F.IsAlwaysCallable keep }
+        ensures filtered { IsFiltered F.step keep (chars C.form (map C.number self.old.units)) (chars C.form (map C.number self.new.units)) }
+        ensures capacity { self.new.capacity ≡ self.old.capacity }
+    {
+        self.string.retain_chars(keep);
     }
 
     /// Gives room back, as [`UString::shrink_to`]: down to the length or to this many units, whichever is more.
