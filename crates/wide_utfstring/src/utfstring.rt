@@ -1,9 +1,10 @@
 //! Owned strings of well-formed text.
 ghost use Rattle.std.specs.Prelude.{◌≡◌, ◌==◌, ◌+◌, ◌≤◌, ◌++◌, ◌∷◌, [], ◌↔◌, ◌⊎◌, max, length, map, take, drop, IsNone, IfSome, IsOk, IfOk, IfErr, OnOk, OnErr, vec_capacity, Vec};
-ghost use Rattle.wide_unit.specs.EncodingForm.{code_units};
+ghost use Rattle.wide_unit.specs.EncodingForm.{code_units, encode};
 ghost use Rattle.wide_unit.specs.Items.{chars, IsBoundary, IsWellFormed};
 ghost use Rattle.wide_unit.specs.Places.{chars_before};
 ghost use Rattle.std.specs.List.{splice};
+ghost use Rattle.std.specs.Str.{chars as str_chars};
 ghost use Rattle.wide_ustr.specs.View.{units_seen as ustr_units};
 ghost use Rattle.wide_ustring.specs.Units.{ustring_len, HasRoomFor};
 ghost use Rattle.wide_ucstr.specs.CString.{contents};
@@ -269,6 +270,17 @@ impl<C: FaultUnit, A: Allocator> UtfString<C, A> {
         ensures capacity { self.old.capacity ≤ self.new.capacity }
     {
         self.push(c)
+    }
+
+    /// The characters of a text at the end.
+    pub fn push_str(&mut self, text: &str) -> Result<(), OutOfMemory>
+        ensures units { OnOk result (map C.number self.new.units ≡ map C.number self.old.units ++ encode C.form (str_chars text.now)) }
+        ensures text { OnOk result (chars C.form (map C.number self.new.units) ≡ chars C.form (map C.number self.old.units) ++ str_chars text.now) }
+        ensures err { OnErr result (self.new ≡ self.old) }
+        ensures succeeds { HasRoomFor self.old (length (encode C.form (str_chars text.now))) → IsOk result }
+        ensures capacity { self.old.capacity ≤ self.new.capacity }
+    {
+        self.string.push_str(text)
     }
 
     /// The text of a view at the end.
