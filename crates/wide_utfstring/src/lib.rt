@@ -1,9 +1,15 @@
 //! Owned strings of well-formed text, in units of 16 or 32 bits: UTF-16 and UTF-32.
 #![tactic(auto)]
 
+mod extend;
 mod utfstring;
 mod view;
 
+pub use extend::{
+    TextPiece, UStringInUtfstring, UStringInUtfstring as U16StringInUtfstring,
+    UStringInUtfstring as U32StringInUtfstring, UStringOverUtfstrs,
+    UStringOverUtfstrs as U16StringOverUtfstrs, UStringOverUtfstrs as U32StringOverUtfstrs,
+};
 pub use utfstring::{Utf16String, Utf32String, UtfString, WideUtfString};
 pub use view::{
     UtfStrInUtfstring, UtfStrInUtfstring as Utf16StrInUtfstring,

@@ -275,6 +275,28 @@ impl<C: FaultUnit, A: Allocator> UtfString<C, A> {
         self.push(c)
     }
 
+    /// The characters of a text at the end.
+    pub fn push_str(&mut self, text: &str) -> Result<(), OutOfMemory>
+        ensures units { OnOk result (map C.number self.new.units ≡ map C.number self.old.units ++ encode C.form (str_chars text.now)) }
+        ensures text { OnOk result (chars C.form (map C.number self.new.units) ≡ chars C.form (map C.number self.old.units) ++ str_chars text.now) }
+        ensures err { OnErr result (self.new ≡ self.old) }
+        ensures succeeds { HasRoomFor self.old (length (encode C.form (str_chars text.now))) → IsOk result }
+        ensures capacity { self.old.capacity ≤ self.new.capacity }
+    {
+        self.string.push_str(text)
+    }
+
+    /// As [`UtfString::push_str`]: what `fmt::Write` is in the Rust crate, with an error that names the want of memory.
+    pub fn write_str(&mut self, text: &str) -> Result<(), OutOfMemory>
+        ensures units { OnOk result (map C.number self.new.units ≡ map C.number self.old.units ++ encode C.form (str_chars text.now)) }
+        ensures text { OnOk result (chars C.form (map C.number self.new.units) ≡ chars C.form (map C.number self.old.units) ++ str_chars text.now) }
+        ensures err { OnErr result (self.new ≡ self.old) }
+        ensures succeeds { HasRoomFor self.old (length (encode C.form (str_chars text.now))) → IsOk result }
+        ensures capacity { self.old.capacity ≤ self.new.capacity }
+    {
+        self.push_str(text)
+    }
+
     /// The text of a view at the end.
     pub fn push_utfstr(&mut self, text: UtfStr<'_, C>) -> Result<(), OutOfMemory>
         ensures units { OnOk result (self.new.units ≡ self.old.units ++ units_seen text.entry) }

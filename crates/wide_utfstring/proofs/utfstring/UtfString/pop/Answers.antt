@@ -1,5 +1,5 @@
 use Rattle.std.proofs.Common.{◌≡◌, [], ◌∷◌, ◌++◌, map, length, take, sym, ap, ◌∙◌}
-use Rattle.wide_unit.specs.Segmentation.{Char, Fault}
+use Rattle.wide_unit.specs.Segmentation.{Char}
 use Rattle.wide_unit.specs.Items.{items, characters, IsWellFormed}
 use Rattle.wide_unit.specs.Unit.{item_of}
 use Rattle.wide_utfstr.proofs.Ends.{no_last_fault, well_formed-front, characters-push}
