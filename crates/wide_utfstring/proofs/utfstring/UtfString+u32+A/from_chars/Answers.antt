@@ -6,7 +6,7 @@ use Rattle.wide_unit.specs.Laws.Splices.{chars-nil}
 use Rattle.wide_utfstring.proofs.utfstring.UtfString+u32+A.from_chars.Goals as goal
 
 pub loop-c-init : goal.loop-c-init
-loop-c-init g c = record { units = c.in_ok-string.ensures.units; text = ap (chars Utf32) c.in_ok-string.ensures.units ∙ chars-nil Utf32; }
+loop-c-init g c = record { units = c.in_ok-string.ensures.units; text = ap (chars Utf32) c.in_ok-string.ensures.units ∙ chars-nil Utf32 }
 
 pub loop-c-preserved : goal.loop-c-preserved
 loop-c-preserved g c =

@@ -30,6 +30,6 @@ returns-clause-text g c =
     let to = end_index (g.R.RangeBounds.end_bound c.args.range) (ustring_len c.self.inside.string) in
     let part : IsTextRange form (map number xs) from to = rw (← c.self.view_is) at c.requires.at_boundaries in
     let spliced = chars-map_splice form number xs c.self.invariant from to part.start part.end (units_seen c.as_ustr.result) c.as_ustr.ensures.well_formed
-        ∙ ap (λ zs. splice (chars form (map number xs)) (chars_before form (map number xs) from) (chars_before form (map number xs) to) (chars form (map number zs))) c.as_ustr.ensures.units
+    ∙ ap (λ zs. splice (chars form (map number xs)) (chars_before form (map number xs) from) (chars_before form (map number xs) to) (chars form (map number zs))) c.as_ustr.ensures.units
     in
     rw (← c.self.view_is) (on_ok c.replace_range.result (λ e. ap (λ zs. chars form (map number zs)) e ∙ spliced) c.replace_range.ensures.ok)

@@ -14,7 +14,7 @@ pub splice_str-requires : goal.splice_str-requires
 splice_str-requires g c =
     let xs = c.self.inside.string.units in
     let part : IsTextRange g.C.Unit.form (map g.C.Unit.number xs) c.args.from c.args.to = rw (← c.self.view_is) at c.requires in
-    record { forward = part.within.forward; within = omega (arith, part.within.within, length-map xs g.C.Unit.number); }
+    record { forward = part.within.forward; within = omega (arith, part.within.within, length-map xs g.C.Unit.number) }
 
 pub invariant_of-self : goal.invariant_of-self
 invariant_of-self g c =
@@ -33,6 +33,6 @@ returns-clause-text g c =
     let text = c.args.text.now in
     let part : IsTextRange form us c.args.from c.args.to = rw (← c.self.view_is) at c.requires in
     let spliced = chars-splice form us c.args.from c.args.to c.self.invariant part.start part.end (encode form (str_chars text)) (IsWellFormed-text form text c.utf8.text)
-        ∙ ap (splice (chars form us) (chars_before form us c.args.from) (chars_before form us c.args.to)) (chars-text form text c.utf8.text)
+    ∙ ap (splice (chars form us) (chars_before form us c.args.from) (chars_before form us c.args.to)) (chars-text form text c.utf8.text)
     in
     rw (← c.self.view_is) (on_ok c.splice_str.result (λ e. ap (chars form) e ∙ spliced) c.splice_str.ensures.ok)
