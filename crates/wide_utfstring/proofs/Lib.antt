@@ -1,2 +1,4 @@
 pub mod Errors
 pub mod Edits
+pub mod Drained
+pub mod Drains
