@@ -2,3 +2,5 @@ pub mod Errors
 pub mod Edits
 pub mod Removed
 pub mod Units32
+pub mod Drained
+pub mod Drains

@@ -2,6 +2,7 @@
 #![tactic(auto)]
 
 mod extend;
+mod iter;
 mod utfstring;
 mod view;
 
@@ -10,6 +11,7 @@ pub use extend::{
     UStringInUtfstring as U32StringInUtfstring, UStringOverUtfstrs,
     UStringOverUtfstrs as U16StringOverUtfstrs, UStringOverUtfstrs as U32StringOverUtfstrs,
 };
+pub use iter::{DrainUtf, DrainUtf16, DrainUtf32};
 pub use utfstring::{Utf16String, Utf32String, UtfString, WideUtfString};
 pub use view::{
     UtfStrInUtfstring, UtfStrInUtfstring as Utf16StrInUtfstring,

@@ -1,8 +1,9 @@
 //! Owned strings of well-formed text.
-ghost use Rattle.std.specs.Prelude.{◌≡◌, ◌==◌, ◌+◌, ◌-◌, ◌<◌, ◌≤◌, ◌++◌, ◌∷◌, [], ◌↔◌, ◌⊎◌, min, max, length, map, take, drop, IsNone, IfSome, IsOk, IfOk, IfErr, OnOk, OnErr, vec_capacity, Vec};
+ghost use Rattle.std.specs.Prelude.{◌≡◌, ◌==◌, ◌+◌, ◌-◌, ◌<◌, ◌≤◌, ◌++◌, ◌∷◌, [], ◌↔◌, ◌⊎◌, min, max, length, map, take, drop, slice_range, IsNone, IfSome, IsOk, IfOk, IfErr, OnOk, OnErr, vec_capacity, Vec};
 ghost use Rattle.wide_unit.specs.EncodingForm.{code_units, encode};
 ghost use Rattle.wide_unit.specs.Items.{chars, IsBoundary, IsWellFormed};
 ghost use Rattle.wide_unit.specs.Places.{chars_before, IsTextRange};
+ghost use Rattle.wide_unit.specs.Range.{IsWithin};
 ghost use Rattle.std.specs.List.{splice};
 ghost use Rattle.std.specs.List.Retain.{IsFiltered};
 ghost use Rattle.std.specs.Range.Bound.{start_index, end_index};
@@ -13,9 +14,11 @@ ghost use Rattle.wide_ucstr.specs.CString.{contents};
 ghost use Rattle.wide_utfstr.specs.View.{units_seen};
 ghost use Rattle.wide_utfstring.specs.Faults.{IsFaultOf};
 
+use crate::iter::DrainUtf;
 use std::alloc::{Allocator, Global};
 use std::marker::Model;
 use std::ops::RangeBounds;
+use std::slice;
 use wide_error::{FaultUnit, OutOfMemory, UtfError};
 use wide_ucstring::UCString;
 use wide_unit::split_last;
@@ -55,6 +58,8 @@ impl<C: FaultUnit, A: Allocator> Model for UtfString<C, A> {
 }
 
 impl<C: FaultUnit, A: Allocator> UtfString<C, A> {
+    ghost use Rattle.wide_utfstring.specs.Drain.{drain_rest, drain_lender, drain_leaves, drain_capacity, DrainRuns, DrainRunsBack, DrainStays};
+
     /// The empty string, which takes no memory.
     pub fn new(alloc: A) -> Self
         ensures units { result.units ≡ [] }
@@ -149,6 +154,17 @@ impl<C: FaultUnit, A: Allocator> UtfString<C, A> {
         UtfString {
             string: string.into_ustring(),
         }
+    }
+
+    /// The text of a `&str`.
+    pub fn from_str(alloc: A, text: &str) -> Result<Self, OutOfMemory>
+        ensures units { IfOk result (λ s. map C.number s.units ≡ encode C.form (str_chars text.now)) }
+        ensures text { IfOk result (λ s. chars C.form (map C.number s.units) ≡ str_chars text.now) }
+        ensures succeeds { str_chars text.now ≡ [] → IsOk result }
+    {
+        Ok(UtfString {
+            string: UString::from_str(alloc, text)?,
+        })
     }
 
     /// A view of the text.
@@ -459,15 +475,40 @@ impl<C: FaultUnit, A: Allocator> UtfString<C, A> {
         self.string.shrink_to_fit()
     }
 
-    /// The text of a `&str`.
-    pub fn from_str(alloc: A, text: &str) -> Result<Self, OutOfMemory>
-        ensures units { IfOk result (λ s. map C.number s.units ≡ encode C.form (str_chars text.now)) }
-        ensures text { IfOk result (λ s. chars C.form (map C.number s.units) ≡ str_chars text.now) }
-        ensures succeeds { str_chars text.now ≡ [] → IsOk result }
+    /// Takes the text of a range away, and gives its characters from both ends. When the [`DrainUtf`] is dropped the whole range
+    /// is gone, also where it was not read to the end. [`wide_unit::range_check`] must answer places for the range, and these
+    /// must be boundaries.
+    pub fn drain<R: RangeBounds<usize>>(&mut self, range: R) -> DrainUtf<'_, C, A>
+        requires bounds { R.has_bounds range }
+        requires in_range { IsTextRange C.form (map C.number self.old.units) (start_index (R.start_bound range)) (end_index (R.end_bound range) (ustring_len self.old)) }
+        ensures rest { drain_rest result ≡ chars C.form (map C.number (slice_range self.old.units (start_index (R.start_bound range)) (end_index (R.end_bound range) (ustring_len self.old)))) }
+        ensures runs { DrainRuns result }
+        ensures runs_back { DrainRunsBack result }
+        ensures lender { drain_lender result ≡ self.entry.ghost_name }
+        ensures leaves { drain_leaves result ≡ splice self.old.units (start_index (R.start_bound range)) (end_index (R.end_bound range) (ustring_len self.old)) [] }
+        ensures capacity { drain_capacity result ≡ self.old.capacity }
+        ensures stays { DrainStays result }
     {
-        Ok(UtfString {
-            string: UString::from_str(alloc, text)?,
-        })
+        let len = self.string.len();
+        let places = slice::range(range, ..len);
+        DrainUtf {
+            string: self,
+            total: len,
+            start: places.start,
+            front: places.start,
+            back: places.end,
+            end: places.end,
+        }
+    }
+
+    // Takes the units from `from` up to `to` away. Each unit behind them moves once.
+    pub(crate) fn remove_part(&mut self, from: usize, to: usize)
+        requires range { IsWithin from to (ustring_len self.old) }
+        requires others { IsWellFormed C.form (map C.number (splice self.old.units from to [])) }
+        ensures units { self.new.units ≡ splice self.old.units from to [] }
+        ensures capacity { self.new.capacity ≡ self.old.capacity }
+    {
+        self.string.drain(from..to);
     }
 }
 

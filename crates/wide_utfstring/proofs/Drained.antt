@@ -1,0 +1,213 @@
+-- What is left of well-formed text once a character is taken from its front or its back, and how many characters there are.
+use Rattle.std.proofs.Common.{◌≡◌, ◌≢◌, ℕ, suc, nat_eq, if◌then◌else◌, eq-eqb, ◌+◌, ◌-◌, ◌*◌, ◌≤◌, ◌<◌, List, [], ◌∷◌, ◌++◌, inl, inr, sym, ◌∙◌, ap, subst, arith, length, length-append, length-drop, map, take, drop, slice_range}
+use Rattle.std.proofs.lemmas.List.{append-nil, drop-drop, drop-take, take-take, take-map, drop-map, length-map, length-take-le, take-append-drop}
+use Rattle.std.proofs.lemmas.List.Concat.{flat_map-append}
+use Rattle.std.proofs.lemmas.Bool.{cases_eq, cases_lt}
+use Rattle.std.proofs.lemmas.Bool.Decides.{nat_tests}
+use Rattle.std.proofs.Math.Seq.{take-append_seam}
+use Rattle.std.proofs.Math.Nat.{mul-le-mul_right}
+use Rattle.std.proofs.lemmas.Grind.{div_ceil_times}
+use Rattle.std.specs.Int.{div_ceil}
+use Rattle.std.specs.List.{splice}
+use Rattle.wide_unit.specs.EncodingForm.{EncodingForm, Utf16, Utf32, code_units, encode}
+use Rattle.wide_unit.specs.Items.{chars, IsWellFormed}
+use Rattle.wide_unit.specs.Places.{IsPlaceOf}
+use Rattle.wide_unit.specs.Laws.Forms.{code_units-cases}
+use Rattle.wide_unit.specs.Laws.Places.{IsPlaceOf-front, encode-chars, IsWellFormed-take, IsWellFormed-drop, IsBoundary-within}
+use Rattle.wide_unit.specs.Laws.Splices.{chars-nil}
+
+-- a string that lost a part is shorter, or the part was empty
+pub gone_or_same : {X : Type 0} (us left : List X) (from to total : ℕ) → length us ≡ total → from ≤ to → to ≤ total → left ≡ splice us from to [] → length left ≡ total → left ≡ us
+gone_or_same us left from to total long forward within gone same =
+    let first : length (take from us) ≡ from = length-take-le from us (omega arith) in
+    let count : length left ≡ from + (length us - to) = ap length gone ∙ length-append (take from us) (drop to us) ∙ omega (arith, first, length-drop to us) in
+    let empty : to ≡ from = omega arith in
+    gone ∙ ap (λ n. take from us ++ drop n us) empty ∙ take-append-drop from us
+
+push_not_nil : (cs : List ℕ) (c : ℕ) → cs ++ c ∷ [] ≡ [] → ⊥
+push_not_nil [] c e = cc
+push_not_nil (d ∷ cs) c e = cc
+
+-- a part without some elements at its front, or at its back
+module _ {X : Type 0} (xs : List X) (from to n : ℕ) (fits : from + n ≤ to) where
+  slice-from : slice_range xs (from + n) to ≡ drop n (slice_range xs from to)
+  slice-from =
+      let count : to - from ≡ n + (to - (from + n)) = omega arith in
+      sym (ap (λ k. drop n (take k (drop from xs))) count ∙ drop-take n (to - (from + n)) (drop from xs) ∙ ap (take (to - (from + n))) (drop-drop n from xs))
+
+  slice-to : slice_range xs from (to - n) ≡ take (to - from - n) (slice_range xs from to)
+  slice-to =
+      let count : to - n - from ≡ to - from - n = omega arith in
+      ap (λ k. take k (drop from xs)) count ∙ sym (take-take (to - from - n) (to - from) (drop from xs) (omega arith))
+
+module _ (form : EncodingForm) (us : List ℕ) (well : IsWellFormed form us) (c : ℕ) (cs : List ℕ) where
+  module _ (e : chars form us ≡ c ∷ cs) where
+    first_place : IsPlaceOf form us 1 (length (code_units form c))
+    first_place =
+        let count : length (encode form (take 1 (chars form us))) ≡ length (code_units form c) = ap (λ ds. length (encode form (take 1 ds))) e ∙ ap length (append-nil (code_units form c)) in
+        subst (λ n. IsPlaceOf form us 1 n) count (IsPlaceOf-front form us well 1)
+
+    first_within : length (code_units form c) ≤ length us
+    first_within = IsBoundary-within form us (length (code_units form c)) first_place.boundary
+
+    first_well_formed : IsWellFormed form (drop (length (code_units form c)) us)
+    first_well_formed = IsWellFormed-drop form us well (length (code_units form c)) first_place.boundary
+
+    first_others : chars form (drop (length (code_units form c)) us) ≡ cs
+    first_others = first_place.rest ∙ ap (drop 1) e
+
+  module _ (e : chars form us ≡ cs ++ c ∷ []) where
+    last_long : length us ≡ length (encode form cs) + length (code_units form c)
+    last_long =
+        let joined : us ≡ encode form cs ++ (code_units form c ++ []) = sym (encode-chars form us well) ∙ ap (encode form) e ∙ flat_map-append (code_units form) cs (c ∷ []) in
+        ap length joined ∙ length-append (encode form cs) (code_units form c ++ []) ∙ ap (λ us. length (encode form cs) + length us) (append-nil (code_units form c))
+
+    last_place : IsPlaceOf form us (length cs) (length us - length (code_units form c))
+    last_place =
+        let front : take (length cs) (chars form us) ≡ cs = ap (take (length cs)) e ∙ take-append_seam cs (c ∷ []) in
+        let count : length (encode form (take (length cs) (chars form us))) ≡ length us - length (code_units form c) = ap (λ ds. length (encode form ds)) front ∙ omega (arith, last_long) in
+        subst (λ n. IsPlaceOf form us (length cs) n) count (IsPlaceOf-front form us well (length cs))
+
+    last_within : length (code_units form c) ≤ length us
+    last_within = omega (arith, last_long)
+
+    last_well_formed : IsWellFormed form (take (length us - length (code_units form c)) us)
+    last_well_formed = IsWellFormed-take form us well (length us - length (code_units form c)) last_place.boundary
+
+    last_others : chars form (take (length us - length (code_units form c)) us) ≡ cs
+    last_others = last_place.front ∙ ap (take (length cs)) e ∙ take-append_seam cs (c ∷ [])
+
+-- The part from `front` up to `back`, once a character is taken from it.
+module _ {X : Type 0} (form : EncodingForm) (number : X → ℕ) (xs : List X) (front back : ℕ) (ordered : front ≤ back) (within : back ≤ length xs) (well : IsWellFormed form (map number (slice_range xs front back))) (c : ℕ) (cs : List ℕ) where
+  abbrev us : List ℕ
+  us = map number (slice_range xs front back)
+
+  abbrev n : ℕ
+  n = length (code_units form c)
+
+  long : length us ≡ back - front
+  long = length-map (slice_range xs front back) number ∙ length-take-le (back - front) (drop front xs) (omega (arith, length-drop front xs))
+
+  module _ (e : chars form us ≡ c ∷ cs) where
+    front_room : front + n ≤ back
+    front_room = omega (arith, first_within form us well c cs e, long)
+
+    from_front : map number (slice_range xs (front + n) back) ≡ drop n us
+    from_front = ap (map number) (slice-from xs front back n front_room) ∙ sym (drop-map number n (slice_range xs front back))
+
+    front_well_formed : IsWellFormed form (map number (slice_range xs (front + n) back))
+    front_well_formed = subst (λ vs. IsWellFormed form vs) (sym from_front) (first_well_formed form us well c cs e)
+
+    front_others : chars form (map number (slice_range xs (front + n) back)) ≡ cs
+    front_others = ap (chars form) from_front ∙ first_others form us well c cs e
+
+  module _ (e : chars form us ≡ cs ++ c ∷ []) where
+    back_room : front + n ≤ back
+    back_room = omega (arith, last_within form us well c cs e, long)
+
+    to_back : map number (slice_range xs front (back - n)) ≡ take (length us - n) us
+    to_back =
+        ap (map number) (slice-to xs front back n back_room) ∙ sym (take-map number (back - front - n) (slice_range xs front back)) ∙ ap (λ k. take (k - n) us) (sym long)
+
+    back_well_formed : IsWellFormed form (map number (slice_range xs front (back - n)))
+    back_well_formed = subst (λ vs. IsWellFormed form vs) (sym to_back) (last_well_formed form us well c cs e)
+
+    back_others : chars form (map number (slice_range xs front (back - n))) ≡ cs
+    back_others = ap (chars form) to_back ∙ last_others form us well c cs e
+
+-- Of a string that may have lost its range, and is shorter than `total` then.
+module _ {X Y : Type 0} (xs : List X) (total : ℕ) (there gone : Y) where
+  pub while_whole : length xs ≡ total → (if nat_eq (length xs) total then there else gone) ≡ there
+  while_whole e = rw (eq-eqb (length xs) total e)
+
+  pub once_gone : length xs ≢ total → (if nat_eq (length xs) total then there else gone) ≡ gone
+  once_gone e = grind (arith, nat_tests)
+
+-- the part that is left, and nothing once the range is gone
+abbrev pub left_of : {X : Type 0} → List X → ℕ → ℕ → ℕ → List X
+left_of xs total front back = if nat_eq (length xs) total then slice_range xs front back else []
+
+module _ {X : Type 0} (form : EncodingForm) (number : X → ℕ) (xs : List X) (total : ℕ) where
+  module _ (front back : ℕ) where
+    -- a character of this many units came out of the part, which is from `first` up to `last` now, and has these characters
+    pub record IsTaken (n first last : ℕ) (cs : List ℕ) : Type 0 where
+      pub fits : front + n ≤ back
+      pub part : length xs ≡ total → IsWellFormed form (map number (slice_range xs first last))
+      pub rest : chars form (map number (left_of xs total first last)) ≡ cs
+
+    not_gone : (cs : List ℕ) → chars form (map number (left_of xs total front back)) ≡ cs → (cs ≡ [] → ⊥) → length xs ≡ total
+    not_gone cs e some = elim (cases_eq (length xs) total) [
+      | inl same ↦ same
+      | inr other ↦ absurd (some (sym e ∙ ap (λ ys. chars form (map number ys)) (once_gone xs total (slice_range xs front back) [] other) ∙ chars-nil form))
+    ]
+
+    module _ (ordered : front ≤ back) (within : back ≤ total) (well : length xs ≡ total → IsWellFormed form (map number (slice_range xs front back))) (c : ℕ) (cs : List ℕ) (n : ℕ) (takes : n ≡ length (code_units form c)) where
+      there : length xs ≡ total → (ds : List ℕ) → chars form (map number (left_of xs total front back)) ≡ ds → chars form (map number (slice_range xs front back)) ≡ ds
+      there whole ds e = ap (λ ys. chars form (map number ys)) (sym (while_whole xs total (slice_range xs front back) [] whole)) ∙ e
+
+      pub front_taken : chars form (map number (left_of xs total front back)) ≡ c ∷ cs → IsTaken n (front + n) back cs
+      front_taken e =
+          let whole : length xs ≡ total = not_gone (c ∷ cs) e (λ f. cc) in
+          let within_xs : back ≤ length xs = omega arith in
+          let e : chars form (map number (slice_range xs front back)) ≡ c ∷ cs = there whole (c ∷ cs) e in
+          let fits = front_room form number xs front back ordered within_xs (well whole) c cs e in
+          rw takes (record {
+            fits = fits;
+            part = λ _. front_well_formed form number xs front back ordered within_xs (well whole) c cs e;
+            rest = ap (λ ys. chars form (map number ys)) (while_whole xs total (slice_range xs (front + length (code_units form c)) back) [] whole) ∙ front_others form number xs front back ordered within_xs (well whole) c cs e;
+          })
+
+      pub back_taken : chars form (map number (left_of xs total front back)) ≡ cs ++ c ∷ [] → IsTaken n front (back - n) cs
+      back_taken e =
+          let whole : length xs ≡ total = not_gone (cs ++ c ∷ []) e (λ f. push_not_nil cs c f) in
+          let within_xs : back ≤ length xs = omega arith in
+          let e : chars form (map number (slice_range xs front back)) ≡ cs ++ c ∷ [] = there whole (cs ++ c ∷ []) e in
+          let fits = back_room form number xs front back ordered within_xs (well whole) c cs e in
+          rw takes (record {
+            fits = fits;
+            part = λ _. back_well_formed form number xs front back ordered within_xs (well whole) c cs e;
+            rest = ap (λ ys. chars form (map number ys)) (while_whole xs total (slice_range xs front (back - length (code_units form c))) [] whole) ∙ back_others form number xs front back ordered within_xs (well whole) c cs e;
+          })
+
+most_of : (form : EncodingForm) (most : ℕ) → length (code_units form 0x1_0000) ≤ most → (c : ℕ) → length (code_units form c) ≤ most
+most_of Utf16 most all c = elim (code_units-cases Utf16 c) [
+  | inl one ↦ rw one.1 (omega arith)
+  | inr two ↦ rw two.2 all
+]
+most_of Utf32 most all c = all
+
+module _ (form : EncodingForm) where
+  some_units : (c : ℕ) → 1 ≤ length (code_units form c)
+  some_units c = elim (code_units-cases form c) [
+    | inl one ↦ rw one.1 (omega arith)
+    | inr two ↦ rw two.2 (omega arith)
+  ]
+
+  at_most_units : (cs : List ℕ) → length cs ≤ length (encode form cs)
+  at_most_units [] = omega arith
+  at_most_units (c ∷ cs) = omega (arith, length-append (code_units form c) (encode form cs), some_units c, at_most_units cs)
+
+  at_least_units : (most : ℕ) → length (code_units form 0x1_0000) ≤ most → (cs : List ℕ) → length (encode form cs) ≤ length cs * most
+  at_least_units most longest [] = omega arith
+  at_least_units most longest (c ∷ cs) = omega (arith, length-append (code_units form c) (encode form cs), most_of form most longest c, at_least_units most longest cs)
+
+least_times : (n most k : ℕ) → 0 < most → n ≤ k * most → div_ceil n most ≤ k
+least_times n most k some within = elim (cases_lt k (div_ceil n most)) [
+  | inl more ↦ (
+      let times : suc k * most ≤ div_ceil n most * most = mul-le-mul_right most (omega (arith, more)) in
+      absurd (omega (arith, (div_ceil_times n most some).1))
+      )
+  | inr enough ↦ enough
+]
+
+-- How many characters there are: no more than units, and enough that each takes `most` units at most, which the longest does.
+module _ {X : Type 0} (form : EncodingForm) (number : X → ℕ) (xs : List X) (well : IsWellFormed form (map number xs)) where
+  all_units : length (encode form (chars form (map number xs))) ≡ length xs
+  all_units = ap length (encode-chars form (map number xs) well) ∙ length-map xs number
+
+  pub chars-at_most : length (chars form (map number xs)) ≤ length xs
+  chars-at_most = omega (arith, at_most_units form (chars form (map number xs)), all_units)
+
+  pub chars-at_least : (most : ℕ) → length (code_units form 0x1_0000) ≤ most → div_ceil (length xs) most ≤ length (chars form (map number xs))
+  chars-at_least most longest =
+      least_times (length xs) most (length (chars form (map number xs))) (omega (arith, some_units form 0x1_0000)) (omega (arith, at_least_units form most longest (chars form (map number xs)), all_units))

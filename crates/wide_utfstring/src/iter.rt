@@ -1,0 +1,121 @@
+//! What a drain gives.
+ghost use Rattle.std.specs.Prelude.{◌≡◌, ◌≤◌, [], length, map, slice_range, Some, IfSome};
+ghost use Rattle.std.specs.Iterator.{at_most, UpTo};
+ghost use Rattle.std.specs.Iterator.SizeHint.{IsWithinCount};
+ghost use Rattle.std.specs.Int.{div_ceil};
+ghost use Rattle.std.specs.List.{splice};
+ghost use Rattle.wide_unit.specs.Items.{chars, IsWellFormed};
+ghost use Rattle.wide_utfstr.specs.View.{units_seen};
+
+use crate::UtfString;
+use std::alloc::{Allocator, Global};
+use std::iter::FusedIterator;
+use wide_error::FaultUnit;
+use wide_utfstr::UtfStr;
+
+/// The characters of a range, from both ends. When it is dropped the whole range is gone from the string, whatever was read.
+/// Made by [`UtfString::drain`].
+// Once the range is gone the string is shorter than `total`, and its places are no longer known to be boundaries.
+pub struct DrainUtf<'a, C: FaultUnit, A: Allocator = Global> {
+    pub(crate) string: &'a mut UtfString<C, A>,
+    pub(crate) total: usize,
+    pub(crate) start: usize,
+    pub(crate) front: usize,
+    pub(crate) back: usize,
+    pub(crate) end: usize,
+    ghost ordered: { (start ≤ front) × (front ≤ back) × (back ≤ end) × (end ≤ total) },
+    ghost part: { length string.now.units ≡ total → IsWellFormed C.form (map C.number (slice_range string.now.units front back)) },
+    ghost others: { length string.now.units ≡ total → IsWellFormed C.form (map C.number (splice string.now.units start end [])) },
+}
+
+/// The characters of a range of UTF-16.
+pub type DrainUtf16<'a, A = Global> = DrainUtf<'a, u16, A>;
+
+/// The characters of a range of UTF-32.
+pub type DrainUtf32<'a, A = Global> = DrainUtf<'a, u32, A>;
+
+impl<C: FaultUnit, A: Allocator> Drop for DrainUtf<'_, C, A> {
+    ghost use Rattle.wide_utfstring.specs.Drain.{drain_leaves, drain_capacity};
+
+    fn drop(self)
+        ensures units { self.exit.0.now.units ≡ drain_leaves self.entry }
+        ensures capacity { self.exit.0.now.capacity ≡ drain_capacity self.entry }
+    {
+        let DrainUtf {
+            string,
+            total,
+            start,
+            front: _,
+            back: _,
+            end,
+        } = self;
+        if string.len() == total {
+            string.remove_part(start, end);
+        }
+    }
+}
+
+impl<C: FaultUnit, A: Allocator> DrainUtf<'_, C, A> {
+    ghost use Rattle.wide_utfstring.specs.Drain.{drain_rest, drain_units};
+
+    /// The text that is left.
+    pub fn as_utfstr(&self) -> UtfStr<'_, C>
+        ensures characters { chars C.form (map C.number (units_seen result)) ≡ drain_rest self.now }
+        ensures units { units_seen result ≡ drain_units self.now }
+    {
+        let string = &*self.string;
+        let units = string.as_slice();
+        if units.len() != self.total {
+            return UtfStr::default();
+        }
+        UtfStr::from_slice_unchecked(&units[self.front..self.back])
+    }
+}
+
+impl<C: FaultUnit, A: Allocator> Iterator for DrainUtf<'_, C, A> {
+    ghost use Rattle.wide_utfstring.specs.Drain.{drain_rest, drain_units, DrainGives};
+
+    type Item = char;
+
+    ghost next_gives = { DrainGives };
+
+    ghost remaining = { λ d. at_most (length (drain_rest d)) };
+
+    fn next(&mut self) -> Option<char> {
+        let c = self.as_utfstr().chars().next()?;
+        self.front += C::char_len(c);
+        Some(c)
+    }
+
+    fn size_hint(&self) -> (usize, Option<usize>)
+        ensures lower { IsWithinCount result.0 (at_most (length (drain_rest self.now))) }
+        ensures upper { IfSome result.1 (UpTo (at_most (length (drain_rest self.now)))) }
+        ensures least { result.0 ≡ div_ceil (length (drain_units self.now)) C.MAX_CHAR_LEN }
+        ensures most { result.1 ≡ Some (length (drain_units self.now)) }
+    {
+        // A call for its contract: no character takes more units than the greatest length.
+        let _longest = C::char_len('\u{10000}');
+        let len = self.as_utfstr().len();
+        (len.div_ceil(C::MAX_CHAR_LEN), Some(len))
+    }
+}
+
+impl<C: FaultUnit, A: Allocator> DoubleEndedIterator for DrainUtf<'_, C, A> {
+    ghost use Rattle.wide_utfstring.specs.Drain.{DrainGivesBack};
+
+    ghost next_back_gives = { DrainGivesBack };
+
+    fn next_back(&mut self) -> Option<char> {
+        let c = self.as_utfstr().chars().next_back()?;
+        self.back -= C::char_len(c);
+        Some(c)
+    }
+}
+
+impl<A: Allocator> ExactSizeIterator for DrainUtf<'_, u32, A> {
+    fn len(&self) -> usize {
+        self.as_utfstr().len()
+    }
+}
+
+impl<C: FaultUnit, A: Allocator> FusedIterator for DrainUtf<'_, C, A> {}
