@@ -9,4 +9,6 @@ pub mod Boundaries
 pub mod Places
 pub mod Splices
 pub mod Texts
+pub mod Encodings
+pub mod WellFormed
 pub mod Utf8

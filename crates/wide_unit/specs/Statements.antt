@@ -87,6 +87,19 @@ abbrev pub SplicesAreWellFormed : Type 0
 SplicesAreWellFormed = (form : EncodingForm) (us new : List ℕ) (from to : ℕ) → IsWellFormed form us → IsWellFormed form new → IsBoundary form us from → IsBoundary form us to
     → IsWellFormed form (splice us from to new) × (chars form (splice us from to new) ≡ splice (chars form us) (chars_before form us from) (chars_before form us to) (chars form new))
 
+-- the units of the first characters, and of the others, are cut where the first ones end; those places grow with the characters
+abbrev pub EncodingsAreCut : Type 0
+EncodingsAreCut = (form : EncodingForm) (cs : List ℕ) (i : ℕ)
+    → (encode form (take i cs) ≡ take (length (encode form (take i cs))) (encode form cs)) × (encode form (drop i cs) ≡ drop (length (encode form (take i cs))) (encode form cs))
+
+abbrev pub PlacesGrow : Type 0
+PlacesGrow = (form : EncodingForm) (cs : List ℕ) (i j : ℕ) → i ≤ j → length (encode form (take i cs)) ≤ length (encode form (take j cs))
+
+-- the units of characters with others in the place of some are the units with those others' in that place
+abbrev pub EncodingsAreSpliced : Type 0
+EncodingsAreSpliced = (form : EncodingForm) (cs new : List ℕ) (i j : ℕ)
+    → encode form (splice cs i j new) ≡ splice (encode form cs) (length (encode form (take i cs))) (length (encode form (take j cs))) (encode form new)
+
 -- characters picked from those of well-formed units, as a filter picks them, have units that are well formed, and read back
 abbrev pub FiltersAreWellFormed : Type 0
 FiltersAreWellFormed = (form : EncodingForm) (us picked : List ℕ) → IsWellFormed form us → ((c : ℕ) → Contains picked c → Contains (chars form us) c)

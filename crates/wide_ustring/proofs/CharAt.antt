@@ -1,18 +1,11 @@
 -- The character that begins at a place of units, by the first item from there on.
 use Rattle.std.proofs.Common.{◌≡◌, ℕ, suc, ◌+◌, ◌-◌, ◌<◌, List, ◌∷◌, ◌++◌, length, map, take, drop, slice_range, refl, sym, ap, ◌∙◌, subst, arith, length-drop}
 use Rattle.std.proofs.lemmas.List.{drop-drop, take-map, take_at}
-use Rattle.std.specs.List.{Contains}
 use Rattle.wide_unit.specs.EncodingForm.{EncodingForm, code_units}
-use Rattle.wide_unit.specs.Segmentation.{Char, Fault, units_of}
+use Rattle.wide_unit.specs.Segmentation.{Char, units_of}
 use Rattle.wide_unit.specs.Items.{items, IsWellFormed}
 use Rattle.wide_unit.specs.Laws.Items.{units_of-items}
-
-module _ (form : EncodingForm) (us rest : List ℕ) (well : IsWellFormed form us) where
-  pub no_fault_first : (u : ℕ) → items form us ≡ Fault u ∷ items form rest → ⊥
-  no_fault_first u e = well u (subst (λ is. Contains is (Fault u)) (sym e) (0, omega arith, refl))
-
-  well_formed_behind : (c : ℕ) → items form us ≡ Char c ∷ items form rest → IsWellFormed form rest
-  well_formed_behind c e u at = well u (subst (λ is. Contains is (Fault u)) (sym e) (suc at.0, omega (arith, at.1), at.2))
+use Rattle.wide_unit.specs.Laws.WellFormed.{well_formed-rest}
 
 -- a decoder at the place gave the character, and the units that are left
 module _ {X : Type 0} (form : EncodingForm) (number : X → ℕ) (us rest : List X) (at c : ℕ) (below : at < length us)
@@ -35,4 +28,4 @@ module _ {X : Type 0} (form : EncodingForm) (number : X → ℕ) (us rest : List
       ∙ ap (take (length (code_units form c))) joined ∙ take_at (code_units form c) (map number rest) (length (code_units form c)) refl
 
   pub char-rest : IsWellFormed form (map number (drop at us)) → IsWellFormed form (map number (drop next us))
-  char-rest well = subst (λ xs. IsWellFormed form (map number xs)) (sym behind) (well_formed_behind form (map number (drop at us)) (map number rest) well c is)
+  char-rest well = subst (λ xs. IsWellFormed form (map number xs)) (sym behind) (well_formed-rest form (map number (drop at us)) (map number rest) well c is)

@@ -1,5 +1,4 @@
 pub mod Whole
-pub mod Ends
 pub mod Boundary
 pub mod Walk
 pub mod IndexedLemmas

@@ -12,7 +12,7 @@ use Rattle.wide_unit.specs.Laws.Items.{units_of-items}
 use Rattle.wide_unit.specs.Laws.Places.{scalars-chars, IsPlaceOf-boundary, IsWellFormed-take, IsWellFormed-drop}
 use Rattle.wide_unit.specs.Laws.Splices.{IsWellFormed-append, chars-append}
 use Rattle.wide_ustring.specs.Taken.{item_code, TakesFirst}
-use Rattle.wide_utfstr.proofs.Ends.{no_first_fault, well_formed-rest}
+use Rattle.wide_unit.specs.Laws.WellFormed.{no_first_fault, well_formed-rest}
 
 -- The first item of well-formed units is a character.
 module _ (form : EncodingForm) (us vs : List ℕ) (well : IsWellFormed form us) (code : ℕ) where

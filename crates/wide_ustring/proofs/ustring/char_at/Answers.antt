@@ -1,6 +1,7 @@
 use Rattle.std.proofs.Common.{map, drop}
 use Rattle.std.proofs.lemmas.List.{take_rest}
-use Rattle.wide_ustring.proofs.CharAt.{no_fault_first, char-units, char-rest}
+use Rattle.wide_unit.specs.Laws.WellFormed.{no_first_fault}
+use Rattle.wide_ustring.proofs.CharAt.{char-units, char-rest}
 use Rattle.wide_ustring.proofs.ustring.char_at.Goals as goal
 
 pub unreachable-requires-in_default-item : goal.unreachable-requires-in_default-item
@@ -8,7 +9,7 @@ unreachable-requires-in_default-item g c =
     let form = g.C.Unit.form in
     let number = g.C.Unit.number in
     let behind = c.in-Some.rest.now in
-    no_fault_first form (map number (drop c.args.at c.args.units.now)) (map number behind) c.requires.well_formed (number c.in_default-item.field-0)
+    no_first_fault form (map number (drop c.args.at c.args.units.now)) (map number behind) c.requires.well_formed (number c.in_default-item.field-0)
     (rw (c.in_default-item.is, take_rest c.args.units.now c.args.at) at c.in-Some.ensures.some)
 
 pub returns-clause-units : goal.returns-clause-units

@@ -2,7 +2,7 @@ use Rattle.std.proofs.Common.{◌≡◌, [], ◌∷◌, ◌++◌, map, length, t
 use Rattle.wide_unit.specs.Segmentation.{Char}
 use Rattle.wide_unit.specs.Items.{items, characters, IsWellFormed}
 use Rattle.wide_unit.specs.Unit.{item_of}
-use Rattle.wide_utfstr.proofs.Ends.{no_last_fault, well_formed-front, characters-push}
+use Rattle.wide_unit.specs.Laws.WellFormed.{no_last_fault, well_formed-front, characters-push}
 use Rattle.wide_utfstring.proofs.utfstring.UtfString.pop.Goals as goal
 
 pub unreachable-requires : goal.unreachable-requires
