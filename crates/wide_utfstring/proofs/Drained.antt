@@ -40,6 +40,7 @@ module _ {X : Type 0} (xs : List X) (from to n : ℕ) (fits : from + n ≤ to) w
       let count : to - n - from ≡ to - from - n = omega arith in
       ap (λ k. take k (drop from xs)) count ∙ sym (take-take (to - from - n) (to - from) (drop from xs) (omega arith))
 
+-- Well-formed units by their first character, and by their last.
 module _ (form : EncodingForm) (us : List ℕ) (well : IsWellFormed form us) (c : ℕ) (cs : List ℕ) where
   module _ (e : chars form us ≡ c ∷ cs) where
     first_place : IsPlaceOf form us 1 (length (code_units form c))
@@ -115,12 +116,12 @@ module _ {X : Type 0} (form : EncodingForm) (number : X → ℕ) (xs : List X) (
     back_others : chars form (map number (slice_range xs front (back - n))) ≡ cs
     back_others = ap (chars form) to_back ∙ last_others form us well c cs e
 
--- Of a string that may have lost its range, and is shorter than `total` then.
+-- Of a string of `total` units, which may have lost some.
 module _ {X Y : Type 0} (xs : List X) (total : ℕ) (there gone : Y) where
-  pub while_whole : length xs ≡ total → (if nat_eq (length xs) total then there else gone) ≡ there
+  while_whole : length xs ≡ total → (if nat_eq (length xs) total then there else gone) ≡ there
   while_whole e = rw (eq-eqb (length xs) total e)
 
-  pub once_gone : length xs ≢ total → (if nat_eq (length xs) total then there else gone) ≡ gone
+  once_gone : length xs ≢ total → (if nat_eq (length xs) total then there else gone) ≡ gone
   once_gone e = grind (arith, nat_tests)
 
 -- the part that is left, and nothing once the range is gone
@@ -169,6 +170,7 @@ module _ {X : Type 0} (form : EncodingForm) (number : X → ℕ) (xs : List X) (
             rest = ap (λ ys. chars form (map number ys)) (while_whole xs total (slice_range xs front (back - length (code_units form c))) [] whole) ∙ back_others form number xs front back ordered within_xs (well whole) c cs e;
           })
 
+-- A character takes a unit, and no more units than U+10000.
 most_of : (form : EncodingForm) (most : ℕ) → length (code_units form 0x1_0000) ≤ most → (c : ℕ) → length (code_units form c) ≤ most
 most_of Utf16 most all c = elim (code_units-cases Utf16 c) [
   | inl one ↦ rw one.1 (omega arith)
@@ -200,7 +202,7 @@ least_times n most k some within = elim (cases_lt k (div_ceil n most)) [
   | inr enough ↦ enough
 ]
 
--- How many characters there are: no more than units, and enough that each takes `most` units at most, which the longest does.
+-- How many characters there are: at most one for each unit, and at least one for each `most` units, which no character exceeds.
 module _ {X : Type 0} (form : EncodingForm) (number : X → ℕ) (xs : List X) (well : IsWellFormed form (map number xs)) where
   all_units : length (encode form (chars form (map number xs))) ≡ length xs
   all_units = ap length (encode-chars form (map number xs) well) ∙ length-map xs number

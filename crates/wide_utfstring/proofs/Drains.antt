@@ -1,11 +1,13 @@
 -- What calls of a drain give, one after another.
-use Rattle.std.proofs.Common.{length, refl, ap, subst, ◌∙◌, [], ◌∷◌}
+use Rattle.std.proofs.Common.{◌≡◌, ℕ, ◌+◌, ◌-◌, List, [], ◌∷◌, ◌++◌, length, refl, ap, subst, ◌∙◌, arith}
 use Rattle.std.specs.Iterator.Runs.{YieldsInOrder, YieldsInReverse}
 use Rattle.std.proofs.iter.runs.Sources.{from_front, from_back, as_is, as_is_back}
 use Rattle.wide_error.specs.declared.utf.FaultUnit.{Ghosts as Faults}
 use Rattle.wide_unit.specs.declared.unit.Unit.{Ghosts}
+use Rattle.wide_unit.specs.EncodingForm.{code_units}
 use Rattle.wide_utfstring.specs.Drain.{drain_rest, DrainGives, DrainGivesBack, DrainKeeps, DrainStays}
 use Rattle.wide_utfstring.specs.declared.iter.DrainUtf.{DrainUtf}
+use Rattle.wide_utfstring.proofs.Drained.{IsTaken, front_taken, back_taken}
 
 module _ {C A F : Type 0} {f : Faults C F} {g : Ghosts C} where
   pub drain_in_order : YieldsInOrder (DrainGives {C = C} {A = A} {F = F} {f = f} {g = g}) drain_rest
@@ -23,3 +25,11 @@ module _ {C A F : Type 0} {f : Faults C F} {g : Ghosts C} where
       let first = y.1.1 in
       let rest = drain_stays y.0 cs later y.2 in
       record { lender = rest.lender ∙ first.lender; leaves = rest.leaves ∙ first.leaves; capacity = rest.capacity ∙ first.capacity }
+
+  -- what is left once a character is taken from the front, or from the back
+  module _ (d : DrainUtf C A F f g) (c : ℕ) (cs : List ℕ) (n : ℕ) (takes : n ≡ length (code_units g.form c)) where
+    pub drain_first : drain_rest d ≡ c ∷ cs → IsTaken g.form g.number d.string.now.units d.total d.front d.back n (d.front + n) d.back cs
+    drain_first e = front_taken g.form g.number d.string.now.units d.total d.front d.back (omega (arith, d.ordered)) (omega (arith, d.ordered)) d.part c cs n takes e
+
+    pub drain_last : drain_rest d ≡ cs ++ c ∷ [] → IsTaken g.form g.number d.string.now.units d.total d.front d.back n d.front (d.back - n) cs
+    drain_last e = back_taken g.form g.number d.string.now.units d.total d.front d.back (omega (arith, d.ordered)) (omega (arith, d.ordered)) d.part c cs n takes e
