@@ -1,5 +1,5 @@
 -- The character that begins at a place of units, by the first item from there on.
-use Rattle.std.proofs.Common.{◌≡◌, ℕ, suc, ◌+◌, ◌-◌, ◌<◌, List, ◌∷◌, ◌++◌, length, map, take, drop, slice_range, refl, sym, ap, ◌∙◌, subst, arith, length-drop}
+use Rattle.std.proofs.Common.{◌≡◌, ℕ, ◌+◌, ◌-◌, ◌<◌, List, ◌∷◌, ◌++◌, length, map, take, drop, slice_range, refl, sym, ap, ◌∙◌, subst, arith, length-drop}
 use Rattle.std.proofs.lemmas.List.{drop-drop, take-map, take_at}
 use Rattle.wide_unit.specs.EncodingForm.{EncodingForm, code_units}
 use Rattle.wide_unit.specs.Segmentation.{Char, units_of}

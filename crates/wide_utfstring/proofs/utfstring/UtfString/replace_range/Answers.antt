@@ -1,6 +1,5 @@
-use Rattle.std.proofs.Common.{map, ap, ◌∙◌, arith}
+use Rattle.std.proofs.Common.{map, ap, ◌∙◌}
 use Rattle.std.specs.List.{splice}
-use Rattle.std.proofs.lemmas.List.{length-map}
 use Rattle.wide_unit.specs.Items.{chars}
 use Rattle.wide_unit.specs.Places.{chars_before, IsTextRange}
 use Rattle.wide_unit.specs.Laws.Splices.{IsWellFormed-map_splice, chars-map_splice}
