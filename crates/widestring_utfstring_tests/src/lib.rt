@@ -3,4 +3,6 @@
 #![tactic(auto)]
 
 #[cfg(test)]
+mod readme;
+#[cfg(test)]
 mod utfstring_rows;
