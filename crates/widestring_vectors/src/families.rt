@@ -19,6 +19,7 @@ mod lossy;
 mod offsets;
 mod ucstring;
 mod ustring;
+mod utfstring;
 
 use crate::parse::NoAnswer;
 use std::alloc::Global;
@@ -92,11 +93,15 @@ pub enum Family {
     Ucstring16,
     /// The C strings of 32-bit units that the constructors make.
     Ucstring32,
+    /// Scripts of calls of strings of UTF-16.
+    Utfstring16,
+    /// Scripts of calls of strings of UTF-32.
+    Utfstring32,
 }
 
 impl Family {
     /// All families, in the order in which they are printed.
-    pub const ALL: [Family; 33] = [
+    pub const ALL: [Family; 35] = [
         Family::Items16,
         Family::Items32,
         Family::Lossy16,
@@ -130,6 +135,8 @@ impl Family {
         Family::SplitOff32,
         Family::Ucstring16,
         Family::Ucstring32,
+        Family::Utfstring16,
+        Family::Utfstring32,
     ];
 
     /// The family's name, which is its file's without `.txt`.
@@ -168,6 +175,8 @@ impl Family {
             Family::SplitOff32 => "split_off32",
             Family::Ucstring16 => "ucstring16",
             Family::Ucstring32 => "ucstring32",
+            Family::Utfstring16 => "utfstring16",
+            Family::Utfstring32 => "utfstring32",
         }
     }
 
@@ -175,7 +184,7 @@ impl Family {
     pub fn fault(self) -> Option<&'static str> {
         match self {
             Family::Hints16 | Family::HintsLossy16 => Some("utf16-hint-held"),
-            Family::FromSlice16 => Some("utf16-error-index"),
+            Family::FromSlice16 | Family::Utfstring16 => Some("utf16-error-index"),
             Family::HintsEncode8 => Some("utf8-encoder-hint-held"),
             Family::HintsEncode16 => Some("utf16-encoder-hint-held"),
             Family::Insert16 | Family::Insert32 => Some("insert-ustr-panics"),
@@ -219,6 +228,8 @@ impl Family {
             Family::SplitOff32 => ustring::split_off::<u32>(alloc, list, question),
             Family::Ucstring16 => ucstring::made::<u16>(alloc, list, question),
             Family::Ucstring32 => ucstring::made::<u32>(alloc, list, question),
+            Family::Utfstring16 => utfstring::script::<u16>(alloc, list, question),
+            Family::Utfstring32 => utfstring::script::<u32>(alloc, list, question),
         }
     }
 }

@@ -85,7 +85,12 @@ pub fn push_inner_nul<C: Unit>(text: &mut String, error: ContainsNul<C>) -> Resu
     push_gap(text)?;
     write!(text, "!{:X}", error.nul_position())?;
     push_part(text)?;
-    match error.into_vec() {
+    push_handed_back(text, error.into_vec())
+}
+
+/// Adds the units of a vector that is handed back, or a `-` for none.
+pub fn push_handed_back<C: Unit>(text: &mut String, vec: Option<Vec<C>>) -> Result<(), AllocError> {
+    match vec {
         None => push_number(text, None),
         Some(units) => push_units(text, &units),
     }

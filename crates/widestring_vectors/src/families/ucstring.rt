@@ -12,8 +12,8 @@ use widestring::ucstr::UCStr;
 use widestring::ucstring::UCString;
 use widestring::ustr::UStr;
 
-// The text that has these units.
-fn text_of<C: FaultUnit>(alloc: Global, units: &[C]) -> Result<String, NoAnswer> {
+/// The text that has these units.
+pub fn text_of<C: FaultUnit>(alloc: Global, units: &[C]) -> Result<String, NoAnswer> {
     let mut text = String::new(alloc);
     for read in UStr::from_slice(units).chars() {
         match read {
