@@ -61,6 +61,10 @@ EncodingIsWellFormed = (form : EncodingForm) (cs : List ℕ) → All IsScalar cs
 abbrev pub EncodingDecodes : Type 0
 EncodingDecodes = (form : EncodingForm) (cs : List ℕ) → All IsScalar cs → items form (encode form cs) ≡ map Char cs
 
+-- well-formed units are the encoding of their characters, which are scalar values
+abbrev pub WellFormedIsEncoded : Type 0
+WellFormedIsEncoded = (form : EncodingForm) (us : List ℕ) → IsWellFormed form us → All IsScalar (chars form us) × (encode form (chars form us) ≡ us)
+
 -- in well-formed units a place is a boundary exactly where it is the end, or no low surrogate stands there
 abbrev pub BoundariesAreSeen : Type 0
 BoundariesAreSeen = (form : EncodingForm) (us : List ℕ) (place : ℕ) → IsWellFormed form us → place ≤ length us

@@ -4,7 +4,7 @@ ghost use Rattle.wide_unit.specs.EncodingForm.{Utf16, Utf32};
 ghost use Rattle.wide_unit.specs.Segmentation.{Char, Fault};
 ghost use Rattle.wide_unit.specs.Items.{items, IsFirstFault};
 ghost use Rattle.wide_unit.specs.Lossy.{lossy};
-ghost use Rattle.wide_unit.specs.Statements.{SegmentationExists, SegmentationIsUnique, SegmentationIsLiteral16, SegmentationIsLiteral32, LooseSegmentationsDiffer, ItemsJoinAfter, ItemsJoinBefore, EncodingIsWellFormed, EncodingDecodes, BoundariesAreSeen, PlacesAreLengths, BoundariesArePlaces, CutsAreWellFormed, PartsAreWellFormed, SplicesAreWellFormed, EncodingsAreCut, PlacesGrow, EncodingsAreSpliced, FiltersAreWellFormed, EqualCharacters, Utf8IsStds, Units32AreItems, Items32Join, Items32Count, LossyIsScalars, LossyKeepsWellFormed, CodePointOfText, CodePointOfNone};
+ghost use Rattle.wide_unit.specs.Statements.{SegmentationExists, SegmentationIsUnique, SegmentationIsLiteral16, SegmentationIsLiteral32, LooseSegmentationsDiffer, ItemsJoinAfter, ItemsJoinBefore, EncodingIsWellFormed, EncodingDecodes, WellFormedIsEncoded, BoundariesAreSeen, PlacesAreLengths, BoundariesArePlaces, CutsAreWellFormed, PartsAreWellFormed, SplicesAreWellFormed, EncodingsAreCut, PlacesGrow, EncodingsAreSpliced, FiltersAreWellFormed, EqualCharacters, Utf8IsStds, Units32AreItems, Items32Join, Items32Count, LossyIsScalars, LossyKeepsWellFormed, CodePointOfText, CodePointOfNone};
 
 /// Each list of code units has exactly one segmentation (Unicode Standard, section 3.9).
 pub fn one_segmentation()
@@ -44,10 +44,11 @@ pub fn lossy_text()
     ensures keeps { LossyKeepsWellFormed }
 {}
 
-/// The encoding of characters is well formed and decodes to them.
+/// The encoding of characters is well formed and decodes to them, and well-formed units are the encoding of their characters.
 pub fn encoded_characters()
     ensures well_formed { EncodingIsWellFormed }
     ensures decodes { EncodingDecodes }
+    ensures encoded { WellFormedIsEncoded }
 {}
 
 /// In well-formed units a place is a boundary exactly where it is the end, or no low surrogate stands there.

@@ -1,5 +1,6 @@
 use Rattle.wide_unit.specs.EncodingForm.{encode}
 use Rattle.wide_unit.specs.Laws.Items.{items-encode, IsWellFormed-of_chars}
+use Rattle.wide_unit.specs.Laws.Places.{scalars-chars, encode-chars}
 use Rattle.wide_unit.proofs.laws.encoded_characters.Goals as goal
 
 pub returns-clause-well_formed : goal.returns-clause-well_formed
@@ -7,3 +8,6 @@ returns-clause-well_formed c = λ form cs scalars. IsWellFormed-of_chars form (e
 
 pub returns-clause-decodes : goal.returns-clause-decodes
 returns-clause-decodes c = items-encode
+
+pub returns-clause-encoded : goal.returns-clause-encoded
+returns-clause-encoded c = λ form us well. (scalars-chars form us well, encode-chars form us well)
