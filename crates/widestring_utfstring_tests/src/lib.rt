@@ -3,4 +3,6 @@
 #![tactic(auto)]
 
 #[cfg(test)]
+mod drain_rows;
+#[cfg(test)]
 mod utfstring_rows;
