@@ -5,4 +5,8 @@
 #[cfg(test)]
 mod drain_rows;
 #[cfg(test)]
+mod extend_rows;
+#[cfg(test)]
+mod refused_rows;
+#[cfg(test)]
 mod utfstring_rows;
