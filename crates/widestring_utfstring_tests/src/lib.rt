@@ -3,6 +3,12 @@
 #![tactic(auto)]
 
 #[cfg(test)]
+mod drain_rows;
+#[cfg(test)]
+mod extend_rows;
+#[cfg(test)]
 mod readme;
+#[cfg(test)]
+mod refused_rows;
 #[cfg(test)]
 mod utfstring_rows;

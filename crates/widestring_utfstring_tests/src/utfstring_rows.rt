@@ -7,7 +7,7 @@ use widestring::error::{FaultUnit, OutOfMemory, UtfError};
 use widestring::ucstring::UCString;
 use widestring::ustring::UString;
 use widestring::utfstr::UtfStr;
-use widestring::utfstring::UtfString;
+use widestring::utfstring::{UtfStrInUtfstring, UtfString};
 use widestring::{Utf16Str, Utf16String, Utf32String, WideUtfString};
 
 // Of what a constructor refused: where the first fault is, and the vector handed back.
@@ -171,5 +171,251 @@ fn behind_a_pair(rt: HostRuntime) -> Result<(), Fail> {
         [0x61].as_slice()
     );
     assert!(rt; WideUtfString::new(rt.alloc()).is_empty());
+    Ok(())
+}
+
+// A string of units that are well formed.
+fn string_of<C: FaultUnit>(
+    rt: &impl Abort,
+    alloc: Global,
+    units: &[C],
+) -> Result<UtfString<C>, OutOfMemory> {
+    let Ok(string) = UtfString::from_vec(Vec::from_slice(alloc, units)?) else {
+        panic!(rt; "a fault")
+    };
+    Ok(string)
+}
+
+// Of `a`, U+1F600 and `b`, a text in the place of the second character, whose units end at `end`.
+fn second_replaced<C: FaultUnit + PartialEq + Debug>(
+    rt: &impl Abort,
+    alloc: Global,
+    units: &[C],
+    end: usize,
+    with: UtfStr<'_, C>,
+    after: &[C],
+) -> Result<(), OutOfMemory> {
+    let mut string = string_of(rt, alloc, units)?;
+    if string.as_utfstr().get(1..end).is_some() {
+        string.replace_range(1..end, with)?;
+    }
+    assert_eq!(rt; string.as_slice(), after);
+    Ok(())
+}
+
+// As this, the text of a `&str`, U+E9.
+fn second_spliced<C: FaultUnit + PartialEq + Debug>(
+    rt: &impl Abort,
+    alloc: Global,
+    units: &[C],
+    end: usize,
+    after: &[C],
+) -> Result<(), OutOfMemory> {
+    let mut string = string_of(rt, alloc, units)?;
+    if string.as_utfstr().get(1..end).is_some() {
+        string.splice_str(1, end, "\u{e9}")?;
+    }
+    assert_eq!(rt; string.as_slice(), after);
+    Ok(())
+}
+
+// Of the same, the second character taken away.
+fn second_removed<C: FaultUnit + PartialEq + Debug>(
+    rt: &impl Abort,
+    alloc: Global,
+    units: &[C],
+    rest: &[C],
+) -> Result<(), OutOfMemory> {
+    let mut string = string_of(rt, alloc, units)?;
+    if string.len() > 1 && string.as_utfstr().is_char_boundary(1) {
+        assert_eq!(rt; string.remove(1), '\u{1f600}');
+    }
+    assert_eq!(rt; string.as_slice(), rest);
+    Ok(())
+}
+
+#[test]
+fn second_of_16_bits(rt: HostRuntime) -> Result<(), Fail> {
+    let units = [0x61u16, 0xd83d, 0xde00, 0x62];
+    let accent = Utf16Str::from_slice(&[0xe9])?;
+    second_replaced(&rt, rt.alloc(), &units, 3, accent, &[0x61, 0xe9, 0x62])?;
+    second_spliced(&rt, rt.alloc(), &units, 3, &[0x61, 0xe9, 0x62])?;
+    second_removed(&rt, rt.alloc(), &units, &[0x61, 0x62])?;
+    Ok(())
+}
+
+#[test]
+fn second_of_32_bits(rt: HostRuntime) -> Result<(), Fail> {
+    let units = [0x61u32, 0x1_f600, 0x62];
+    let accent = UtfStr::from_slice(&[0xe9u32])?;
+    second_replaced(&rt, rt.alloc(), &units, 2, accent, &[0x61, 0xe9, 0x62])?;
+    second_spliced(&rt, rt.alloc(), &units, 2, &[0x61, 0xe9, 0x62])?;
+    second_removed(&rt, rt.alloc(), &units, &[0x61, 0x62])?;
+    Ok(())
+}
+
+// The lengths of `trunc`, cut behind its end, at it and within it.
+fn truncated<C: FaultUnit>(rt: &impl Abort, alloc: Global) -> Result<(), OutOfMemory> {
+    let mut string = UtfString::<C>::from_str(alloc, "trunc")?;
+    for (place, len) in [(6, 5), (5, 5), (2, 2)] {
+        if place >= string.len() || string.as_utfstr().is_char_boundary(place) {
+            string.truncate(place);
+        }
+        assert_eq!(rt; string.len(), len);
+    }
+    Ok(())
+}
+
+#[test]
+fn truncated_at_both_widths(rt: HostRuntime) -> Result<(), Fail> {
+    truncated::<u16>(&rt, rt.alloc())?;
+    truncated::<u32>(&rt, rt.alloc())?;
+    Ok(())
+}
+
+#[test]
+fn flag_and_arrow(rt: HostRuntime) -> Result<(), Fail> {
+    let text = "\u{26a7}\u{fe0f}\u{1f3f3}\u{fe0f}\u{200d}\u{26a7}\u{fe0f}\u{27a1}\u{fe0f}s";
+    let string = Utf16String::from_str(rt.alloc(), text)?;
+    assert_eq!(rt;
+        string.as_slice(),
+        [
+            0x26a7, 0xfe0f, 0xd83c, 0xdff3, 0xfe0f, 0x200d, 0x26a7, 0xfe0f, 0x27a1, 0xfe0f, 0x73,
+        ]
+        .as_slice()
+    );
+    assert_eq!(rt; string.as_utfstr().char_count(), 10);
+    Ok(())
+}
+
+const TEXT: &str = "a\u{1f600}";
+
+// The calls that write a text or a character; `units` are those of the text.
+fn written<C: FaultUnit + PartialEq + Debug>(
+    rt: &impl Abort,
+    alloc: Global,
+    units: &[C],
+) -> Result<(), OutOfMemory> {
+    let mut string = UtfString::<C>::from_str(alloc, TEXT)?;
+    assert_eq!(rt; string.as_slice(), units);
+    string.clear();
+    string.push_str(TEXT)?;
+    assert_eq!(rt; string.as_slice(), units);
+    string.clear();
+    string.write_str("a")?;
+    string.write_char('\u{1f600}')?;
+    assert_eq!(rt; string.as_slice(), units);
+    Ok(())
+}
+
+// The calls of a view that make a string; `twice` are its units, two times.
+fn copied<C: FaultUnit + PartialEq + Debug>(
+    rt: &impl Abort,
+    alloc: Global,
+    view: UtfStr<'_, C>,
+    twice: &[C],
+) -> Result<(), OutOfMemory> {
+    assert_eq!(rt; view.to_utfstring(alloc)?.as_slice(), view.as_slice());
+    assert_eq!(rt; view.repeat(alloc, 2)?.as_slice(), twice);
+    assert!(rt; view.repeat(alloc, 0)?.is_empty());
+    Ok(())
+}
+
+// The calls that give room back, of a string of two units.
+fn shrunk<C: FaultUnit + PartialEq + Debug>(
+    rt: &impl Abort,
+    alloc: Global,
+    units: &[C],
+) -> Result<(), OutOfMemory> {
+    let mut string = string_of(rt, alloc, units)?;
+    string.reserve_exact(7)?;
+    assert!(rt; string.capacity() >= 9);
+    string.shrink_to(4)?;
+    assert!(rt; string.capacity() >= 4 && string.capacity() < 9);
+    string.shrink_to_fit()?;
+    assert!(rt; string.capacity() < 4);
+    assert_eq!(rt; string.as_slice(), units);
+    Ok(())
+}
+
+// The ways from a string of units and from a C string.
+fn made_of_strings<C: FaultUnit + PartialEq + Debug>(
+    rt: &impl Abort,
+    alloc: Global,
+    units: &[C],
+) -> Result<(), OutOfMemory> {
+    let string = UString::from_vec(Vec::from_slice(alloc, units)?);
+    let Ok(string) = UtfString::from_ustring(string) else {
+        panic!(rt; "a fault")
+    };
+    assert_eq!(rt; string.as_slice(), units);
+    let Ok(ended) = UCString::from_vec(string.into_vec()) else {
+        panic!(rt; "a NUL")
+    };
+    let Ok(string) = UtfString::from_ucstring(ended) else {
+        panic!(rt; "a fault")
+    };
+    assert_eq!(rt; string.as_slice(), units);
+    Ok(())
+}
+
+// As the last, unchecked, of contents that are known to be well formed.
+fn made_unchecked<C: FaultUnit + PartialEq + Debug>(
+    rt: &impl Abort,
+    alloc: Global,
+    units: &[C],
+) -> Result<(), OutOfMemory> {
+    let Ok(ended) = UCString::from_vec(Vec::from_slice(alloc, units)?) else {
+        panic!(rt; "a NUL")
+    };
+    let Ok(contents) = UtfStr::from_ucstr(ended.as_ucstr()) else {
+        panic!(rt; "a fault")
+    };
+    assert_eq!(rt; contents.len(), units.len());
+    let string = UtfString::from_ucstring_unchecked(ended);
+    assert_eq!(rt; string.as_slice(), units);
+    Ok(())
+}
+
+#[test]
+fn calls_of_16_bits(rt: HostRuntime) -> Result<(), Fail> {
+    let units = [0x61, 0xd83d, 0xde00];
+    written::<u16>(&rt, rt.alloc(), &units)?;
+    let smile = Utf16Str::from_slice(&[0xd83d, 0xde00])?;
+    copied(&rt, rt.alloc(), smile, &[0xd83d, 0xde00, 0xd83d, 0xde00])?;
+    shrunk::<u16>(&rt, rt.alloc(), &[0xd83d, 0xde00])?;
+    made_of_strings::<u16>(&rt, rt.alloc(), &units)?;
+    made_unchecked::<u16>(&rt, rt.alloc(), &units)?;
+    Ok(())
+}
+
+#[test]
+fn calls_of_32_bits(rt: HostRuntime) -> Result<(), Fail> {
+    let units = [0x61, 0x1_f600];
+    written::<u32>(&rt, rt.alloc(), &units)?;
+    let smile = UtfStr::from_slice(&[0x1_f600u32])?;
+    copied(&rt, rt.alloc(), smile, &[0x1_f600, 0x1_f600])?;
+    shrunk::<u32>(&rt, rt.alloc(), &units)?;
+    made_of_strings::<u32>(&rt, rt.alloc(), &units)?;
+    made_unchecked::<u32>(&rt, rt.alloc(), &units)?;
+    Ok(())
+}
+
+#[test]
+fn characters_of_32_bits(rt: HostRuntime) -> Result<(), Fail> {
+    let mut string = Utf32String::from_chars(rt.alloc(), &['a', '\u{1f600}'])?;
+    assert_eq!(rt; string.as_slice(), [0x61, 0x1_f600].as_slice());
+    if string.len() > 1 {
+        string.set_char(1, '\u{e9}');
+    }
+    assert_eq!(rt; string.as_slice(), [0x61, 0xe9].as_slice());
+    let Ok(chars) = string.into_char_vec() else {
+        panic!(&rt; "refused")
+    };
+    assert_eq!(rt; chars.as_slice(), ['a', '\u{e9}'].as_slice());
+    let Ok(chars) = Utf32String::new(rt.alloc()).into_char_vec() else {
+        panic!(&rt; "refused")
+    };
+    assert!(rt; chars.is_empty());
     Ok(())
 }
