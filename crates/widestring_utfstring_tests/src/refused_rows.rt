@@ -445,6 +445,9 @@ fn item_calls<C: FaultUnit + PartialEq + Debug>(
     ] {
         adds_whole_items(rt, heap, alloc, views, units, added)?;
     }
+    heap.set(0);
+    let refused = UtfString::<C, _>::from_iter_chars(heap, ['a', SMILE]);
+    assert!(rt; refused.is_err_and(|string| string.is_empty()));
     Ok(())
 }
 
