@@ -107,7 +107,7 @@ impl<C: FaultUnit, A: Allocator> UtfString<C, A> {
     pub fn from_ustring(string: UString<C, A>) -> Result<Self, UtfError<C, A>>
         ensures string { IfOk result (λ s. s ≡ string) }
         ensures ok { OnOk result (IsWellFormed C.form (map C.number string.units)) }
-        ensures fault { IfErr result (λ e. (vec : Vec C A) × (vec.items ≡ string.units) × IsFaultOf C.form C.number vec e) }
+        ensures fault { IfErr result (λ e. (vec : Vec C A) × (vec.items ≡ string.units) × (vec_capacity vec ≡ string.capacity) × IsFaultOf C.form C.number vec e) }
     {
         UtfString::from_vec(string.into_vec())
     }
@@ -121,7 +121,7 @@ impl<C: FaultUnit, A: Allocator> UtfString<C, A> {
     pub fn from_ucstring(string: UCString<C, A>) -> Result<Self, UtfError<C, A>>
         ensures string { IfOk result (λ s. (s.units ≡ contents string.units) × (s.capacity ≡ string.capacity)) }
         ensures ok { OnOk result (IsWellFormed C.form (map C.number (contents string.units))) }
-        ensures fault { IfErr result (λ e. (vec : Vec C A) × (vec.items ≡ contents string.units) × IsFaultOf C.form C.number vec e) }
+        ensures fault { IfErr result (λ e. (vec : Vec C A) × (vec.items ≡ contents string.units) × (vec_capacity vec ≡ string.capacity) × IsFaultOf C.form C.number vec e) }
     {
         UtfString::from_vec(string.into_vec())
     }

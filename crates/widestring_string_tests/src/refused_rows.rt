@@ -11,8 +11,8 @@ use widestring::error::{DecodeUtf16Error, DecodeUtf32Error, FaultUnit, OutOfMemo
 use widestring::iter::{End, read_ends16, read_ends32};
 use widestring::ustr::UStr;
 use widestring::ustring::{UStrInUstring, UString};
+use widestring_test_memory::Heap;
 use widestring_test_memory::gives::Gives;
-use widestring_test_memory::{Heap, assert_granted, assert_refused};
 
 // More requests than any call here makes.
 const MOST: u64 = 9;
@@ -56,10 +56,10 @@ fn made<'a, T: Drop, F: FnMut(&'a Heap) -> Result<T, OutOfMemory>>(
         heap.set(granted);
         match call(heap) {
             Ok(value) => {
-                assert_granted(rt, heap, granted);
+                assert!(rt; heap.granted_all(granted));
                 return value;
             }
-            Err(OutOfMemory) => assert_refused(rt, heap),
+            Err(OutOfMemory) => assert!(rt; heap.refused_one()),
         }
     }
     panic!(rt; "refused {MOST} times")
@@ -135,10 +135,10 @@ fn left_by<'a, C: FaultUnit + PartialEq + Debug>(
         match is_right_of(call, &mut string, other) {
             Ok(is_right) => {
                 assert!(rt; is_right);
-                assert_granted(rt, heap, granted);
+                assert!(rt; heap.granted_all(granted));
                 return Ok(string);
             }
-            Err(OutOfMemory) => assert_refused(rt, heap),
+            Err(OutOfMemory) => assert!(rt; heap.refused_one()),
         }
         assert_unchanged(rt, &string, before, capacity);
     }
@@ -288,12 +288,12 @@ fn adds_whole_items<C: FaultUnit + PartialEq + Debug>(
     let mut string = string_of(heap, &[], units.len().saturating_sub(1))?;
     heap.set(0);
     assert!(rt; extend_by(&mut string, alloc, units, added).is_err());
-    assert_refused(rt, heap);
+    assert!(rt; heap.refused_one());
     assert_eq!(rt; string.as_slice(), units.get(..1).unwrap_or(units));
     string.clear();
     heap.set(1);
     extend_by(&mut string, alloc, units, added)?;
-    assert_granted(rt, heap, 1);
+    assert!(rt; heap.granted_all(1));
     assert_eq!(rt; string.as_slice(), units);
     Ok(())
 }

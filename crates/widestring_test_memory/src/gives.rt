@@ -57,6 +57,16 @@ impl<B: Allocator> Gives<B> {
     pub fn refused(&self) -> u64 {
         self.ration.refused.get()
     }
+
+    /// Whether all requests were made that were granted, this many and at least one, and none was refused.
+    pub fn granted_all(&self, granted: u64) -> bool {
+        granted > 0 && self.left() == 0 && self.refused() == 0
+    }
+
+    /// Whether all requests were made that were granted, and one more, which was refused.
+    pub fn refused_one(&self) -> bool {
+        self.left() == 0 && self.refused() == 1
+    }
 }
 
 impl<B: Allocator> Drop for Gives<B> {

@@ -9,8 +9,8 @@ use widestring::unit::Unit;
 use widestring::ustr::UStr;
 use widestring::ustring::UString;
 use widestring::{U16CStr, U16CString, U32CStr, U32CString};
+use widestring_test_memory::Heap;
 use widestring_test_memory::gives::Gives;
-use widestring_test_memory::{Heap, assert_granted, assert_refused};
 
 type Made<'a, C> = Result<UCString<C, &'a Heap>, UCStringError<C, &'a Heap>>;
 
@@ -43,7 +43,7 @@ fn none_made<C: FaultUnit>(rt: &impl Abort, heap: &Heap, made: Made<'_, C>) {
     let Err(UCStringError::OutOfMemory(None)) = made else {
         panic!(rt; "not refused, or with a vector")
     };
-    assert_refused(rt, heap);
+    assert!(rt; heap.refused_one());
 }
 
 // Of a call that was granted it: the length of what it made.
@@ -51,7 +51,7 @@ fn one_made<C: FaultUnit>(rt: &impl Abort, heap: &Heap, made: Made<'_, C>, len: 
     let Ok(string) = made else {
         panic!(rt; "refused")
     };
-    assert_granted(rt, heap, 1);
+    assert!(rt; heap.granted_all(1));
     assert_eq!(rt; string.as_ucstr().len(), len);
 }
 
@@ -127,7 +127,7 @@ fn adds<C: FaultUnit + PartialEq + Debug>(
     let Err(UCStringError::OutOfMemory(Some(back))) = made else {
         panic!(rt; "not refused, or with no vector")
     };
-    assert_refused(rt, heap);
+    assert!(rt; heap.refused_one());
     assert_eq!(rt; back.as_slice(), units);
     heap.set(1);
     one_made(rt, heap, UCString::from_vec(back), units.len());
@@ -178,7 +178,7 @@ fn vectors(rt: HostRuntime) -> Result<(), Fail> {
     let vec = Vec::from_slice(&heap, &[0x61u16])?;
     let made = U16CString::from_vec_unchecked(vec);
     assert!(&rt; matches!(made, Err(UCStringError::OutOfMemory(Some(_)))));
-    assert_refused(&rt, &heap);
+    assert!(rt; heap.refused_one());
     Ok(())
 }
 
@@ -222,10 +222,10 @@ fn view_calls<C: FaultUnit>(
     ] {
         heap.set(0);
         assert!(rt; copied_by(heap, view, &string, copier).is_err());
-        assert_refused(rt, heap);
+        assert!(rt; heap.refused_one());
         heap.set(1);
         let len = copied_by(heap, view, &string, copier)?;
-        assert_granted(rt, heap, 1);
+        assert!(rt; heap.granted_all(1));
         assert_eq!(rt;
             len,
             if matches!(copier, Copier::Repeat) {
@@ -247,13 +247,13 @@ fn adds_whole_items<C: FaultUnit + PartialEq + Debug>(
     heap.set(1);
     let mut string = UString::with_capacity(heap, 3)?;
     assert!(rt; string.extend_ucstrs([view, view]).is_err());
-    assert_refused(rt, heap);
+    assert!(rt; heap.refused_one());
     assert_eq!(rt; string.as_slice(), view.as_slice());
     heap.set(2);
     let strings = [view.to_ucstring(heap)?, view.to_ucstring(heap)?];
     string.clear();
     assert!(rt; string.extend_ucstrings(strings).is_err());
-    assert_refused(rt, heap);
+    assert!(rt; heap.refused_one());
     assert_eq!(rt; string.as_slice(), view.as_slice());
     Ok(())
 }

@@ -12,8 +12,8 @@ use widestring::ucstring::UCString;
 use widestring::ustring::UString;
 use widestring::utfstr::UtfStr;
 use widestring::utfstring::{UStringInUtfstring, UStringOverUtfstrs, UtfStrInUtfstring, UtfString};
+use widestring_test_memory::Heap;
 use widestring_test_memory::gives::Gives;
-use widestring_test_memory::{Heap, assert_granted, assert_refused};
 
 // More requests than any call here makes.
 const MOST: u64 = 9;
@@ -138,10 +138,10 @@ fn left_by<'a, C: FaultUnit + PartialEq + Debug>(
         match is_right_of(call, &mut string, other) {
             Ok(is_right) => {
                 assert!(rt; is_right);
-                assert_granted(rt, heap, granted);
+                assert!(rt; heap.granted_all(granted));
                 return Ok(string);
             }
-            Err(OutOfMemory) => assert_refused(rt, heap),
+            Err(OutOfMemory) => assert!(rt; heap.refused_one()),
         }
         assert_unchanged(rt, &string, before.as_slice(), capacity);
     }
@@ -287,10 +287,10 @@ fn made<'a, C: FaultUnit>(
         heap.set(granted);
         match made_by(heap, view, maker) {
             Ok(string) => {
-                assert_granted(rt, heap, granted);
+                assert!(rt; heap.granted_all(granted));
                 return string;
             }
-            Err(OutOfMemory) => assert_refused(rt, heap),
+            Err(OutOfMemory) => assert!(rt; heap.refused_one()),
         }
     }
     panic!(rt; "refused {MOST} times")
@@ -328,10 +328,10 @@ fn made_of_chars<'a>(rt: &impl Abort, heap: &'a Heap, chars: &[char]) -> Refusab
         heap.set(granted);
         match Utf32String::from_chars(heap, chars) {
             Ok(string) => {
-                assert_granted(rt, heap, granted);
+                assert!(rt; heap.granted_all(granted));
                 return string;
             }
-            Err(OutOfMemory) => assert_refused(rt, heap),
+            Err(OutOfMemory) => assert!(rt; heap.refused_one()),
         }
     }
     panic!(rt; "refused {MOST} times")
@@ -349,12 +349,12 @@ fn chars_of<'a>(
         heap.set(granted);
         match string.into_char_vec() {
             Ok(chars) => {
-                assert_granted(rt, heap, granted);
+                assert!(rt; heap.granted_all(granted));
                 return Ok(chars);
             }
             Err(back) => assert_unchanged(rt, &back, units, capacity),
         }
-        assert_refused(rt, heap);
+        assert!(rt; heap.refused_one());
     }
     panic!(rt; "refused {MOST} times")
 }
@@ -416,13 +416,13 @@ fn adds_whole_items<C: FaultUnit + PartialEq + Debug>(
     let mut string = string_of(heap, UtfStr::default(), units.len().saturating_sub(1))?;
     heap.set(0);
     assert!(rt; extend_by(&mut string, alloc, views, added).is_err());
-    assert_refused(rt, heap);
+    assert!(rt; heap.refused_one());
     let [a, _] = views;
     assert_eq!(rt; string.as_slice(), a.as_slice());
     string.clear();
     heap.set(1);
     extend_by(&mut string, alloc, views, added)?;
-    assert_granted(rt, heap, 1);
+    assert!(rt; heap.granted_all(1));
     assert_eq!(rt; string.as_slice(), units);
     Ok(())
 }
@@ -462,14 +462,14 @@ fn units_add_whole_items<C: FaultUnit + PartialEq + Debug>(
     heap.set(1);
     let mut string = UString::with_capacity(heap, units.len().saturating_sub(1))?;
     assert!(rt; string.extend_utfstrs([a, smile]).is_err());
-    assert_refused(rt, heap);
+    assert!(rt; heap.refused_one());
     assert_eq!(rt; string.as_slice(), a.as_slice());
     string.clear();
     heap.set(0);
     let first = UtfString::<C>::from_str(alloc, "a")?;
     let second = UtfString::<C>::from_str(alloc, TEXT)?;
     assert!(rt; string.extend_utfstrings([first, second]).is_err());
-    assert_refused(rt, heap);
+    assert!(rt; heap.refused_one());
     assert_eq!(rt; string.as_slice(), a.as_slice());
     Ok(())
 }

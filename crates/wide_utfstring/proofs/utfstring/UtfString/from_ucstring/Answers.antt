@@ -5,4 +5,4 @@ pub returns-clause-ok : goal.returns-clause-ok
 returns-clause-ok g c = rw c.into_vec.ensures.units at c.from_vec.ensures.ok
 
 pub returns-clause-fault : goal.returns-clause-fault
-returns-clause-fault g c = err_gives c.from_vec.result (λ e fault. (c.into_vec.result, c.into_vec.ensures.units, fault)) c.from_vec.ensures.fault
+returns-clause-fault g c = err_gives c.from_vec.result (λ e fault. (c.into_vec.result, c.into_vec.ensures.units, c.into_vec.ensures.capacity, fault)) c.from_vec.ensures.fault
