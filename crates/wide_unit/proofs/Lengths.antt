@@ -9,7 +9,8 @@ use Rattle.std.proofs.lemmas.List.Sums.{sum_by-append, sum_by-cons}
 use Rattle.std.proofs.lemmas.List.Concat.{length-flat_map}
 use Rattle.std.proofs.lemmas.Str.{encodes-chars, scalars-chars}
 use Rattle.wide_unit.specs.EncodingForm.{Utf16, Utf32, code_units, encode}
-use Rattle.wide_unit.specs.Utf8.{utf8_bytes, utf8, trailing_byte, units_begun}
+use Rattle.wide_unit.specs.Utf8.{utf8_bytes, utf8, trailing_byte}
+use Rattle.wide_unit.specs.LeadingByte.{units_begun}
 use Rattle.wide_unit.specs.Laws.Forms.{ranges, one_unit, two_units}
 use Rattle.wide_unit.specs.Laws.Utf8.{utf8-encode_utf8_all, one_byte, two_bytes, three_bytes, four_bytes}
 

@@ -4,3 +4,5 @@ pub mod Back
 pub mod Lengths
 pub mod Texts
 pub mod Nuls
+pub mod Faults
+pub mod CharBoundaries

@@ -1,6 +1,7 @@
 -- The items of a list of code units, and what is said of texts by them: the Unicode Standard, section 3.9.
 use Rattle.std.specs.Prelude.{◌≡◌, ℕ, List, [], ◌∷◌, ◌++◌, map, length, Option, Some, None}
 use Rattle.std.specs.List.{Contains}
+use Rattle.std.specs.Option.{option_map}
 use Rattle.wide_unit.specs.EncodingForm.{EncodingForm, encode}
 use Rattle.wide_unit.specs.Segmentation.{Item, Char, Fault, units_of, IsSegmentation}
 use Rattle.wide_unit.specs.Laws.Chains.{chain_for, IsSegmentation-of_chain}
@@ -13,9 +14,9 @@ pub items-segment : (form : EncodingForm) (units : List ℕ) → IsSegmentation 
 unfolding items
 items-segment form units = IsSegmentation-of_chain form (chain_for form units).0 units (chain_for form units).1 (chain_for form units).2
 
--- no fault is among the items
-abbrev pub IsWellFormed : EncodingForm → List ℕ → Type 0
-IsWellFormed form units = (u : ℕ) → ¬ (Contains (items form units) (Fault u))
+-- no fault is among the items: the units are well formed in the form (the Standard's D85)
+pub record IsWellFormed (form : EncodingForm) (units : List ℕ) : Type 0 where
+  pub no_fault : (u : ℕ) → ¬ (Contains (items form units) (Fault u))
 
 -- the characters among the items
 abbrev pub characters : List Item → List ℕ
@@ -30,20 +31,22 @@ chars form units = characters (items form units)
 abbrev pub IsBoundary : EncodingForm → List ℕ → ℕ → Type 0
 IsBoundary form units place = (front back : List Item) × (items form units ≡ front ++ back) × (length (units_of form front) ≡ place)
 
--- the characters before the first fault, and that fault
+-- the characters before the first fault
 abbrev pub leading_characters : List Item → List ℕ
 leading_characters [] = []
 leading_characters (Char c ∷ is) = c ∷ leading_characters is
 leading_characters (Fault u ∷ is) = []
 
-abbrev pub first_fault : List Item → Option ℕ
-first_fault [] = None
-first_fault (Char c ∷ is) = first_fault is
-first_fault (Fault u ∷ is) = Some u
+-- the unit of the first fault
+abbrev pub first_fault_unit : List Item → Option ℕ
+first_fault_unit [] = None
+first_fault_unit (Char c ∷ is) = first_fault_unit is
+first_fault_unit (Fault u ∷ is) = Some u
 
--- the first fault, and its index, which is the unit length of the characters before it
-pub record IsFirstFault (form : EncodingForm) (units : List ℕ) (index u : ℕ) : Type 0 where
-  pub front : List ℕ
-  pub rest : List Item
-  pub split : items form units ≡ map Char front ++ Fault u ∷ rest
-  pub at : length (encode form front) ≡ index
+-- the first fault: its index, which is the unit length of the characters before it, and its unit
+abbrev pub first_fault : EncodingForm → List Item → Option (ℕ × ℕ)
+first_fault form is = option_map (λ u. (length (encode form (leading_characters is)), u)) (first_fault_unit is)
+
+-- the units have a fault, and the first has this index and this unit
+abbrev pub IsFirstFault : EncodingForm → List ℕ → ℕ → ℕ → Type 0
+IsFirstFault form units index u = first_fault form (items form units) ≡ Some (index, u)

@@ -1,5 +1,6 @@
 pub mod EncodingForm
 pub mod Utf8
+pub mod LeadingByte
 pub mod CodePoint
 pub mod Segmentation
 pub mod Items

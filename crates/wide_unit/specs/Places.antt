@@ -1,6 +1,6 @@
 -- Places in well-formed units, by the characters before them.
-use Rattle.std.specs.Prelude.{◌≡◌, ℕ, List, length, take, drop}
-use Rattle.wide_unit.specs.EncodingForm.{EncodingForm, encode}
+use Rattle.std.specs.Prelude.{◌≡◌, ◌<◌, ◌≤◌, ℕ, List, length, take, drop, slice_index}
+use Rattle.wide_unit.specs.EncodingForm.{EncodingForm, encode, IsLowSurrogate}
 use Rattle.wide_unit.specs.Items.{chars, IsBoundary}
 use Rattle.wide_unit.specs.Range.{IsWithin}
 
@@ -22,3 +22,16 @@ pub record IsTextRange (form : EncodingForm) (units : List ℕ) (from to : ℕ) 
   pub within : IsWithin from to (length units)
   pub start : IsBoundary form units from
   pub end : IsBoundary form units to
+
+-- The same as the unit at a place shows it. In well-formed units these are the boundaries, and arithmetic decides them at the
+-- ends, and everywhere in UTF-32.
+
+-- the place is an end, or no low surrogate stands there
+abbrev pub IsCharBoundary : EncodingForm → List ℕ → ℕ → Type 0
+IsCharBoundary form units place = (place ≤ length units) × (0 < place → place < length units → ¬ (IsLowSurrogate form (slice_index units place)))
+
+-- the range runs forward and ends within the units, and both its ends are such places
+pub record IsCharRange (form : EncodingForm) (units : List ℕ) (from to : ℕ) : Type 0 where
+  pub within : IsWithin from to (length units)
+  pub start : IsCharBoundary form units from
+  pub end : IsCharBoundary form units to

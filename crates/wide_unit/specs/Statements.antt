@@ -1,11 +1,11 @@
 -- The laws of the definitions, each the contract of a function of the crate.
-use Rattle.std.specs.Prelude.{◌≡◌, ◌≢◌, ℕ, ◌≤◌, ◌↔◌, ◌⊎◌, List, [], ◌∷◌, ◌++◌, map, length, take, drop, slice_index, slice_range, Some, None}
+use Rattle.std.specs.Prelude.{◌≡◌, ◌≢◌, ℕ, ◌≤◌, ◌↔◌, List, [], ◌∷◌, ◌++◌, map, length, take, drop, slice_range, Some, None}
 use Rattle.std.specs.Char.{IsScalar, encode_utf8}
 use Rattle.std.specs.List.{All, Contains, splice}
-use Rattle.wide_unit.specs.EncodingForm.{EncodingForm, Utf16, Utf32, encode, IsCodeUnit, IsLowSurrogate}
+use Rattle.wide_unit.specs.EncodingForm.{EncodingForm, Utf16, Utf32, encode, IsCodeUnit}
 use Rattle.wide_unit.specs.Segmentation.{Item, Char, Fault, IsSegmentation, IsSegmentation16, IsSegmentation32, IsLooseSegmentation}
-use Rattle.wide_unit.specs.Items.{items, chars, IsWellFormed, IsBoundary}
-use Rattle.wide_unit.specs.Places.{IsPlaceOf, chars_before}
+use Rattle.wide_unit.specs.Items.{items, chars, IsWellFormed, IsBoundary, first_fault, IsFirstFault}
+use Rattle.wide_unit.specs.Places.{IsPlaceOf, IsCharBoundary, chars_before}
 use Rattle.wide_unit.specs.Lossy.{lossy}
 use Rattle.wide_unit.specs.Utf8.{utf8_bytes, utf8}
 use Rattle.wide_unit.specs.CodePoint.{code_point_at}
@@ -65,10 +65,18 @@ EncodingDecodes = (form : EncodingForm) (cs : List ℕ) → All IsScalar cs → 
 abbrev pub WellFormedIsEncoded : Type 0
 WellFormedIsEncoded = (form : EncodingForm) (us : List ℕ) → IsWellFormed form us → All IsScalar (chars form us) × (encode form (chars form us) ≡ us)
 
--- in well-formed units a place is a boundary exactly where it is the end, or no low surrogate stands there
+-- in well-formed units a place is a boundary exactly where it is an end, or no low surrogate stands there
 abbrev pub BoundariesAreSeen : Type 0
-BoundariesAreSeen = (form : EncodingForm) (us : List ℕ) (place : ℕ) → IsWellFormed form us → place ≤ length us
-    → IsBoundary form us place ↔ ((place ≡ length us) ⊎ (¬ (IsLowSurrogate form (slice_index us place))))
+BoundariesAreSeen = (form : EncodingForm) (us : List ℕ) (place : ℕ) → IsWellFormed form us → IsBoundary form us place ↔ IsCharBoundary form us place
+
+-- the first fault stands behind characters alone, and its index is their unit length
+abbrev pub FirstFaultsAreBehindText : Type 0
+FirstFaultsAreBehindText = (form : EncodingForm) (us : List ℕ) (index u : ℕ)
+    → IsFirstFault form us index u ↔ ((front : List ℕ) × (rest : List Item) × (items form us ≡ map Char front ++ Fault u ∷ rest) × (length (encode form front) ≡ index))
+
+-- units are well formed, or they have a first fault, and not both
+abbrev pub WellFormedOrFaulty : Type 0
+WellFormedOrFaulty = (form : EncodingForm) (us : List ℕ) → IsWellFormed form us ↔ (first_fault form (items form us) ≡ None)
 
 -- in well-formed units each character begins at one place, after the units of those before it, and each boundary is such a place
 abbrev pub PlacesAreLengths : Type 0

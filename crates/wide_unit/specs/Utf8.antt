@@ -1,5 +1,5 @@
 -- UTF-8, the encoding form of bytes: the Unicode Standard, section 3.9, Table 3-6.
-use Rattle.std.specs.Prelude.{ℕ, ◌+◌, ◌/◌, ◌%◌, ◌^◌, nat_lt, nat_le, ◌||◌, if◌then◌else◌, List, [], ◌∷◌}
+use Rattle.std.specs.Prelude.{ℕ, ◌+◌, ◌/◌, ◌%◌, ◌^◌, nat_lt, if◌then◌else◌, List, [], ◌∷◌}
 use Rattle.std.specs.List.{flat_map}
 
 -- the byte 10xxxxxx of the six lowest bits
@@ -17,7 +17,3 @@ utf8_bytes c =
 -- the bytes of a list of scalar values
 abbrev pub utf8 : List ℕ → List ℕ
 utf8 cs = flat_map utf8_bytes cs
-
--- how many units of UTF-16 the character has of which this is the first byte, and none for a trailing byte
-abbrev pub units_begun : ℕ → ℕ
-units_begun byte = if nat_le 0xF0 byte then 2 else if nat_lt byte 0x80 || nat_le 0xC0 byte then 1 else 0

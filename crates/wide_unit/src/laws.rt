@@ -4,7 +4,7 @@ ghost use Rattle.wide_unit.specs.EncodingForm.{Utf16, Utf32};
 ghost use Rattle.wide_unit.specs.Segmentation.{Char, Fault};
 ghost use Rattle.wide_unit.specs.Items.{items, IsFirstFault};
 ghost use Rattle.wide_unit.specs.Lossy.{lossy};
-ghost use Rattle.wide_unit.specs.Statements.{SegmentationExists, SegmentationIsUnique, SegmentationIsLiteral16, SegmentationIsLiteral32, LooseSegmentationsDiffer, ItemsJoinAfter, ItemsJoinBefore, EncodingIsWellFormed, EncodingDecodes, WellFormedIsEncoded, BoundariesAreSeen, PlacesAreLengths, BoundariesArePlaces, CutsAreWellFormed, PartsAreWellFormed, SplicesAreWellFormed, EncodingsAreCut, PlacesGrow, EncodingsAreSpliced, FiltersAreWellFormed, EqualCharacters, Utf8IsStds, Units32AreItems, Items32Join, Items32Count, LossyIsScalars, LossyKeepsWellFormed, CodePointOfText, CodePointOfNone};
+ghost use Rattle.wide_unit.specs.Statements.{SegmentationExists, SegmentationIsUnique, SegmentationIsLiteral16, SegmentationIsLiteral32, LooseSegmentationsDiffer, ItemsJoinAfter, ItemsJoinBefore, EncodingIsWellFormed, EncodingDecodes, WellFormedIsEncoded, BoundariesAreSeen, FirstFaultsAreBehindText, WellFormedOrFaulty, PlacesAreLengths, BoundariesArePlaces, CutsAreWellFormed, PartsAreWellFormed, SplicesAreWellFormed, EncodingsAreCut, PlacesGrow, EncodingsAreSpliced, FiltersAreWellFormed, EqualCharacters, Utf8IsStds, Units32AreItems, Items32Join, Items32Count, LossyIsScalars, LossyKeepsWellFormed, CodePointOfText, CodePointOfNone};
 
 /// Each list of code units has exactly one segmentation (Unicode Standard, section 3.9).
 pub fn one_segmentation()
@@ -51,9 +51,16 @@ pub fn encoded_characters()
     ensures encoded { WellFormedIsEncoded }
 {}
 
-/// In well-formed units a place is a boundary exactly where it is the end, or no low surrogate stands there.
+/// In well-formed units a place is a boundary exactly where it is an end, or no low surrogate stands there.
 pub fn boundaries()
     ensures { BoundariesAreSeen }
+{}
+
+/// The first fault stands behind characters alone, and its index is their length in units. Well-formed units, and no others,
+/// have none.
+pub fn first_faults()
+    ensures behind_text { FirstFaultsAreBehindText }
+    ensures none { WellFormedOrFaulty }
 {}
 
 /// In well-formed units each character begins at one place, which is the unit length of those before it, and each boundary is

@@ -4,7 +4,7 @@ ghost use Rattle.std.specs.Option.{option_map};
 ghost use Rattle.std.specs.Str.{chars};
 ghost use Rattle.wide_unit.specs.EncodingForm.{Utf16, Utf32, encode};
 ghost use Rattle.wide_unit.specs.CodePoint.{code_point_at};
-ghost use Rattle.wide_unit.specs.Utf8.{units_begun};
+ghost use Rattle.wide_unit.specs.LeadingByte.{units_begun};
 
 // The bits of a code point with those of one more byte, its six lowest.
 #[inline]

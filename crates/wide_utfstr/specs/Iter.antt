@@ -1,5 +1,8 @@
 -- What the iterators over a well-formed view have left.
-use Rattle.std.specs.Prelude.{ℕ, List, map}
+use Rattle.std.specs.Prelude.{◌≡◌, ◌+◌, ℕ, List, map, Option}
+use Rattle.std.specs.Iterator.{YieldsFirst}
+use Rattle.std.specs.Iterator.Runs.{YieldsInOrder}
+use Rattle.wide_ustr.specs.Iter.{given_length}
 use Rattle.wide_unit.specs.EncodingForm.{EncodingForm}
 use Rattle.wide_unit.specs.Items.{chars}
 use Rattle.wide_unit.specs.declared.unit.Unit.{Ghosts}
@@ -32,3 +35,11 @@ module _ {C : Type 0} {g : Ghosts C} where
 
     abbrev pub indices_left : CharIndices C g → List (ℕ × ℕ)
     indices_left s = indexed_chars form (offset_of s) (chars form (map number (indices_rest s)))
+
+  -- a call gave the first character with its offset
+  abbrev pub IndicesGive : CharIndices C g → Option (ℕ × ℕ) → CharIndices C g → Type 0
+  IndicesGive s r t = YieldsFirst (indices_left g.form g.number) s r t × (offset_of t ≡ offset_of s + given_length g.form r)
+
+  -- what calls give, one after another, are the characters that were still to come
+  abbrev pub IndicesRun : CharIndices C g → Type 0
+  IndicesRun _ = YieldsInOrder IndicesGive (indices_left g.form g.number)

@@ -1,3 +1,5 @@
 pub mod View
 pub mod Indexed
 pub mod Iter
+pub mod Gap
+pub mod GapLaws

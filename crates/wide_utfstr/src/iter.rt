@@ -3,7 +3,6 @@ ghost use Rattle.std.specs.Prelude.{◌≡◌, ◌+◌, ◌/◌, ◌<◌, ◌^�
 ghost use Rattle.std.specs.Iterator.{YieldsFirst, YieldsLast, at_most, UpTo};
 ghost use Rattle.std.specs.Iterator.SizeHint.{IsWithinCount};
 ghost use Rattle.wide_utfstr.specs.View.{units_seen};
-ghost use Rattle.wide_ustr.specs.Iter.{given_length};
 
 use crate::view::UtfStr;
 use std::alloc::AllocError;
@@ -138,11 +137,11 @@ impl<C: Unit> Clone for CharIndices<'_, C> {
 }
 
 impl<C: Unit> Iterator for CharIndices<'_, C> {
-    ghost use Rattle.wide_utfstr.specs.Iter.{indices_left, indices_rest, offset_of};
+    ghost use Rattle.wide_utfstr.specs.Iter.{indices_rest, IndicesGive};
 
     type Item = (usize, char);
 
-    ghost next_gives = { λ s r t. YieldsFirst (indices_left C.form C.number) s r t × (offset_of t ≡ offset_of s + given_length C.form r) };
+    ghost next_gives = { IndicesGive };
 
     ghost remaining = { λ s. at_most (length (indices_rest s)) };
 

@@ -1,9 +1,11 @@
 //! Views of well-formed text.
-ghost use Rattle.std.specs.Prelude.{◌≡◌, ◌+◌, ◌<◌, ◌≤◌, ◌↔◌, ◌++◌, ◌∷◌, ◌==◌, [], length, map, take, drop, slice_get, slice_range, Some, None, IsTrue, IsSome, OnOk, IfOk, IfErr, IfNone, IfSome, ⊤};
+ghost use Rattle.std.specs.Prelude.{◌≡◌, ◌+◌, ◌<◌, ◌≤◌, ◌↔◌, ◌++◌, ◌∷◌, ◌==◌, [], length, map, take, drop, slice_get, slice_range, Some, None, IsTrue, IsSome, IsOk, OnOk, IfOk, IfErr, IfNone, IfSome, ⊤};
 ghost use Rattle.std.specs.Range.Bound.{start_index, end_index};
+ghost use Rattle.std.specs.List.{All};
+ghost use Rattle.wide_unit.specs.CharBoundary.{IsCharBoundary, IsCharRange};
 ghost use Rattle.wide_unit.specs.EncodingForm.{Utf16, Utf32, code_units, encode};
 ghost use Rattle.wide_unit.specs.Utf8.{utf8};
-ghost use Rattle.wide_unit.specs.Items.{chars, IsWellFormed, IsFirstFault, IsBoundary};
+ghost use Rattle.wide_unit.specs.Items.{chars, IsWellFormed, IsWellFormed-prop, IsFirstFault, IsBoundary};
 ghost use Rattle.wide_unit.specs.Places.{IsPlaceOf, IsTextRange};
 ghost use Rattle.wide_error.specs.UtfError.{index_of, unit_of, vec_of};
 ghost use Rattle.wide_iter.specs.Encoder8.{bytes_left};
@@ -28,7 +30,7 @@ use wide_ustr::UStr;
 #[derive(Debug)]
 pub struct UtfStr<'a, C: Unit> {
     units: &'a [C],
-    ghost well_formed: { IsWellFormed C.form (map C.number units.now) },
+    ghost well_formed: { IsWellFormed C.form (map C.number units.now) } by { IsWellFormed-prop C.form (map C.number units.now) },
 }
 
 /// A view of well-formed UTF-16.
@@ -45,6 +47,8 @@ pub type WideUtfStr<'a> = Utf32Str<'a>;
 pub fn check<C: Unit>(units: &[C]) -> Result<(), (usize, C)>
     ensures ok { OnOk result (IsWellFormed C.form (map C.number units.now)) }
     ensures err { IfErr result (λ fault. IsFirstFault C.form (map C.number units.now) fault.0 (C.number fault.1)) }
+    ensures within { IfErr result (λ fault. fault.0 < length units.now) }
+    ensures well_formed { IsOk result ↔ IsWellFormed C.form (map C.number units.now) }
 {
     let mut rest = units;
     while let Some((item, tail)) = split_first(rest) {
@@ -58,7 +62,7 @@ pub fn check<C: Unit>(units: &[C]) -> Result<(), (usize, C)>
 
 impl<'a, C: Unit> UtfStr<'a, C> {
     ghost use Rattle.wide_utfstr.specs.View.{units_seen};
-    ghost use Rattle.wide_utfstr.specs.Iter.{chars_left, indices_left, offset_of};
+    ghost use Rattle.wide_utfstr.specs.Iter.{chars_left, indices_left, offset_of, IndicesRun};
     ghost use Rattle.wide_utfstr.specs.Indexed.{indexed_chars};
 
     /// A view of the units, which must be well formed. No check is made.
@@ -94,7 +98,8 @@ impl<'a, C: Unit> UtfStr<'a, C> {
     /// Whether the place, counted in units, lies between two characters or is an end: false within a surrogate pair (Unicode
     /// Standard, section 3.8) and past the end. It reads at most the unit at the place.
     pub fn is_char_boundary(self, place: usize) -> bool
-        ensures { IsTrue result ↔ IsBoundary C.form (map C.number (units_seen self.entry)) place }
+        ensures boundary { IsTrue result ↔ IsBoundary C.form (map C.number (units_seen self.entry)) place }
+        ensures gap { IsTrue result ↔ IsCharBoundary C.form (map C.number (units_seen self.entry)) place }
     {
         match self.units.get(place) {
             Some(unit) => !unit.is_low(),
@@ -114,6 +119,7 @@ impl<'a, C: Unit> UtfStr<'a, C> {
     pub fn unit_offset(self, index: usize) -> Option<usize>
         ensures some { IsSome result ↔ (index ≤ length (chars C.form (map C.number (units_seen self.entry)))) }
         ensures place { IfSome result (IsPlaceOf C.form (map C.number (units_seen self.entry)) index) }
+        ensures gap { IfSome result (IsCharBoundary C.form (map C.number (units_seen self.entry))) }
     {
         let mut rest = self;
         for _number in 0..index {
@@ -128,6 +134,7 @@ impl<'a, C: Unit> UtfStr<'a, C> {
     pub fn get<R: RangeBounds<usize>>(self, range: R) -> Option<Self>
         requires { R.has_bounds range }
         ensures some { IsSome result ↔ IsTextRange C.form (map C.number (units_seen self.entry)) (start_index (R.start_bound range)) (end_index (R.end_bound range) (length (units_seen self.entry))) }
+        ensures gaps { IsSome result ↔ IsCharRange C.form (map C.number (units_seen self.entry)) (start_index (R.start_bound range)) (end_index (R.end_bound range) (length (units_seen self.entry))) }
         ensures part { IfSome result (λ part. units_seen part ≡ slice_range (units_seen self.entry) (start_index (R.start_bound range)) (end_index (R.end_bound range) (length (units_seen self.entry)))) }
     {
         let places = range_check(range, self.units.len())?;
@@ -143,7 +150,7 @@ impl<'a, C: Unit> UtfStr<'a, C> {
     /// places, and these must be boundaries; no check is made.
     pub fn slice<R: RangeBounds<usize>>(self, range: R) -> Self
         requires bounds { R.has_bounds range }
-        requires at_boundaries { IsTextRange C.form (map C.number (units_seen self)) (start_index (R.start_bound range)) (end_index (R.end_bound range) (length (units_seen self))) }
+        requires at_boundaries { IsCharRange C.form (map C.number (units_seen self)) (start_index (R.start_bound range)) (end_index (R.end_bound range) (length (units_seen self))) }
         ensures { units_seen result ≡ slice_range (units_seen self.entry) (start_index (R.start_bound range)) (end_index (R.end_bound range) (length (units_seen self.entry))) }
     {
         let places = slice::range(range, ..self.units.len());
@@ -155,7 +162,7 @@ impl<'a, C: Unit> UtfStr<'a, C> {
     /// As [`UtfStr::slice`], under the Rust crate's name.
     pub fn get_unchecked<R: RangeBounds<usize>>(self, range: R) -> Self
         requires bounds { R.has_bounds range }
-        requires at_boundaries { IsTextRange C.form (map C.number (units_seen self)) (start_index (R.start_bound range)) (end_index (R.end_bound range) (length (units_seen self))) }
+        requires at_boundaries { IsCharRange C.form (map C.number (units_seen self)) (start_index (R.start_bound range)) (end_index (R.end_bound range) (length (units_seen self))) }
         ensures { units_seen result ≡ slice_range (units_seen self.entry) (start_index (R.start_bound range)) (end_index (R.end_bound range) (length (units_seen self.entry))) }
     {
         self.slice(range)
@@ -163,7 +170,7 @@ impl<'a, C: Unit> UtfStr<'a, C> {
 
     /// The units before a place, and those from it on. The place, counted in units, must be a boundary.
     pub fn split_at(self, mid: usize) -> (Self, Self)
-        requires { IsBoundary C.form (map C.number (units_seen self)) mid }
+        requires { IsCharBoundary C.form (map C.number (units_seen self)) mid }
         ensures front { units_seen result.0 ≡ take mid (units_seen self.entry) }
         ensures back { units_seen result.1 ≡ drop mid (units_seen self.entry) }
         ensures joined { units_seen result.0 ++ units_seen result.1 ≡ units_seen self.entry }
@@ -183,6 +190,8 @@ impl<'a, C: Unit> UtfStr<'a, C> {
     pub fn char_indices(self) -> CharIndices<'a, C>
         ensures characters { indices_left C.form C.number result ≡ indexed_chars C.form 0 (chars C.form (map C.number (units_seen self.entry))) }
         ensures offset { offset_of result ≡ 0 }
+        ensures gaps { All (λ at. IsCharBoundary C.form (map C.number (units_seen self.entry)) at.0) (indices_left C.form C.number result) }
+        ensures runs { IndicesRun result }
     {
         CharIndices::new(self)
     }
@@ -230,6 +239,8 @@ impl<'a, C: FaultUnit> UtfStr<'a, C> {
         ensures view { IfOk result (λ view. units_seen view ≡ units.now) }
         ensures ok { OnOk result (IsWellFormed C.form (map C.number units.now)) }
         ensures fault { IfErr result (λ e. IsFirstFault C.form (map C.number units.now) (index_of e) (C.number (unit_of e))) }
+        ensures within { IfErr result (λ e. index_of e < length units.now) }
+        ensures well_formed { IsOk result ↔ IsWellFormed C.form (map C.number units.now) }
         ensures vec { IfErr result (λ e. vec_of e ≡ None) }
     {
         match check(units) {
@@ -247,6 +258,8 @@ impl<'a, C: FaultUnit> UtfStr<'a, C> {
         ensures view { IfOk result (λ text. units_seen text ≡ ustr_units view.entry) }
         ensures ok { OnOk result (IsWellFormed C.form (map C.number (ustr_units view.entry))) }
         ensures fault { IfErr result (λ e. IsFirstFault C.form (map C.number (ustr_units view.entry)) (index_of e) (C.number (unit_of e))) }
+        ensures within { IfErr result (λ e. index_of e < length (ustr_units view.entry)) }
+        ensures well_formed { IsOk result ↔ IsWellFormed C.form (map C.number (ustr_units view.entry)) }
         ensures vec { IfErr result (λ e. vec_of e ≡ None) }
     {
         Self::from_slice(view.as_slice())
@@ -269,6 +282,8 @@ impl<'a, C: FaultUnit> UtfStr<'a, C> {
         ensures view { IfOk result (λ text. units_seen text ≡ contents_seen view.entry) }
         ensures ok { OnOk result (IsWellFormed C.form (map C.number (contents_seen view.entry))) }
         ensures fault { IfErr result (λ e. IsFirstFault C.form (map C.number (contents_seen view.entry)) (index_of e) (C.number (unit_of e))) }
+        ensures within { IfErr result (λ e. index_of e < length (contents_seen view.entry)) }
+        ensures well_formed { IsOk result ↔ IsWellFormed C.form (map C.number (contents_seen view.entry)) }
         ensures vec { IfErr result (λ e. vec_of e ≡ None) }
     {
         Self::from_slice(view.as_slice())

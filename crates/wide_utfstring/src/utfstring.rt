@@ -1,8 +1,8 @@
 //! Owned strings of well-formed text.
 ghost use Rattle.std.specs.Prelude.{◌≡◌, ◌==◌, ◌+◌, ◌-◌, ◌<◌, ◌≤◌, ◌++◌, ◌∷◌, [], ◌↔◌, ◌⊎◌, min, max, length, map, take, drop, slice_range, IsNone, IfSome, IsOk, IfOk, IfErr, OnOk, OnErr, vec_capacity, Vec};
 ghost use Rattle.wide_unit.specs.EncodingForm.{code_units, encode};
-ghost use Rattle.wide_unit.specs.Items.{chars, IsBoundary, IsWellFormed};
-ghost use Rattle.wide_unit.specs.Places.{chars_before, IsTextRange};
+ghost use Rattle.wide_unit.specs.Items.{chars, IsWellFormed};
+ghost use Rattle.wide_unit.specs.Places.{chars_before};
 ghost use Rattle.wide_unit.specs.Range.{IsWithin};
 ghost use Rattle.std.specs.List.{splice};
 ghost use Rattle.std.specs.List.Retain.{IsFiltered};
@@ -11,7 +11,9 @@ ghost use Rattle.std.specs.Str.{chars as str_chars};
 ghost use Rattle.wide_ustr.specs.View.{units_seen as ustr_units};
 ghost use Rattle.wide_ustring.specs.Units.{ustring_len, HasRoomFor};
 ghost use Rattle.wide_ucstr.specs.CString.{contents};
+ghost use Rattle.wide_unit.specs.CharBoundary.{IsCharBoundary, IsCharRange};
 ghost use Rattle.wide_utfstr.specs.View.{units_seen};
+ghost use Rattle.wide_error.specs.UtfError.{index_of};
 ghost use Rattle.wide_utfstring.specs.Faults.{IsFaultOf};
 
 use crate::iter::DrainUtf;
@@ -90,6 +92,8 @@ impl<C: FaultUnit, A: Allocator> UtfString<C, A> {
         ensures string { IfOk result (λ s. (s.units ≡ units.items) × (s.capacity ≡ vec_capacity units)) }
         ensures ok { OnOk result (IsWellFormed C.form (map C.number units.items)) }
         ensures fault { IfErr result (IsFaultOf C.form C.number units) }
+        ensures within { IfErr result (λ e. index_of e < length units.items) }
+        ensures well_formed { IsOk result ↔ IsWellFormed C.form (map C.number units.items) }
     {
         match check(units.as_slice()) {
             Ok(()) => Ok(UtfString {
@@ -108,6 +112,8 @@ impl<C: FaultUnit, A: Allocator> UtfString<C, A> {
         ensures string { IfOk result (λ s. s ≡ string) }
         ensures ok { OnOk result (IsWellFormed C.form (map C.number string.units)) }
         ensures fault { IfErr result (λ e. (vec : Vec C A) × (vec.items ≡ string.units) × (vec_capacity vec ≡ string.capacity) × IsFaultOf C.form C.number vec e) }
+        ensures within { IfErr result (λ e. index_of e < length string.units) }
+        ensures well_formed { IsOk result ↔ IsWellFormed C.form (map C.number string.units) }
     {
         UtfString::from_vec(string.into_vec())
     }
@@ -122,6 +128,8 @@ impl<C: FaultUnit, A: Allocator> UtfString<C, A> {
         ensures string { IfOk result (λ s. (s.units ≡ contents string.units) × (s.capacity ≡ string.capacity)) }
         ensures ok { OnOk result (IsWellFormed C.form (map C.number (contents string.units))) }
         ensures fault { IfErr result (λ e. (vec : Vec C A) × (vec.items ≡ contents string.units) × (vec_capacity vec ≡ string.capacity) × IsFaultOf C.form C.number vec e) }
+        ensures within { IfErr result (λ e. index_of e < length (contents string.units)) }
+        ensures well_formed { IsOk result ↔ IsWellFormed C.form (map C.number (contents string.units)) }
     {
         UtfString::from_vec(string.into_vec())
     }
@@ -340,7 +348,7 @@ impl<C: FaultUnit, A: Allocator> UtfString<C, A> {
 
     /// The character before a place, counted in units, which must be a boundary.
     pub fn insert(&mut self, at: usize, c: char) -> Result<(), OutOfMemory>
-        requires { IsBoundary C.form (map C.number self.old.units) at }
+        requires { IsCharBoundary C.form (map C.number self.old.units) at }
         ensures units { OnOk result (map C.number self.new.units ≡ splice (map C.number self.old.units) at at (code_units C.form c)) }
         ensures text { OnOk result (chars C.form (map C.number self.new.units) ≡ splice (chars C.form (map C.number self.old.units)) (chars_before C.form (map C.number self.old.units) at) (chars_before C.form (map C.number self.old.units) at) (c ∷ [])) }
         ensures err { OnErr result (self.new ≡ self.old) }
@@ -352,7 +360,7 @@ impl<C: FaultUnit, A: Allocator> UtfString<C, A> {
 
     /// The text of a view before a place, counted in units, which must be a boundary.
     pub fn insert_utfstr(&mut self, at: usize, text: UtfStr<'_, C>) -> Result<(), OutOfMemory>
-        requires { IsBoundary C.form (map C.number self.old.units) at }
+        requires { IsCharBoundary C.form (map C.number self.old.units) at }
         ensures units { OnOk result (self.new.units ≡ splice self.old.units at at (units_seen text.entry)) }
         ensures text { OnOk result (chars C.form (map C.number self.new.units) ≡ splice (chars C.form (map C.number self.old.units)) (chars_before C.form (map C.number self.old.units) at) (chars_before C.form (map C.number self.old.units) at) (chars C.form (map C.number (units_seen text.entry)))) }
         ensures err { OnErr result (self.new ≡ self.old) }
@@ -364,7 +372,7 @@ impl<C: FaultUnit, A: Allocator> UtfString<C, A> {
 
     /// Takes the text from a place on away, counted in units, which must be a boundary; past the end it does nothing.
     pub fn truncate(&mut self, len: usize)
-        requires { (ustring_len self.old ≤ len) ⊎ IsBoundary C.form (map C.number self.old.units) len }
+        requires { (ustring_len self.old ≤ len) ⊎ IsCharBoundary C.form (map C.number self.old.units) len }
         ensures units { self.new.units ≡ take len self.old.units }
         ensures text { chars C.form (map C.number self.new.units) ≡ take (chars_before C.form (map C.number self.old.units) len) (chars C.form (map C.number self.old.units)) }
         ensures capacity { self.new.capacity ≡ self.old.capacity }
@@ -377,7 +385,7 @@ impl<C: FaultUnit, A: Allocator> UtfString<C, A> {
     pub fn split_off(&mut self, at: usize) -> Result<Self, OutOfMemory>
     where
         A: Clone,
-        requires { IsBoundary C.form (map C.number self.old.units) at }
+        requires { IsCharBoundary C.form (map C.number self.old.units) at }
         ensures rest { IfOk result (λ rest. rest.units ≡ drop at self.old.units) }
         ensures rest_text { IfOk result (λ rest. chars C.form (map C.number rest.units) ≡ drop (chars_before C.form (map C.number self.old.units) at) (chars C.form (map C.number self.old.units))) }
         ensures ok { OnOk result (self.new.units ≡ take at self.old.units) }
@@ -393,7 +401,7 @@ impl<C: FaultUnit, A: Allocator> UtfString<C, A> {
     /// Takes the character at a place away, and answers it. The place, counted in units, must be a boundary below the length.
     /// It takes no memory, and each unit behind the character moves once.
     pub fn remove(&mut self, at: usize) -> char
-        requires boundary { IsBoundary C.form (map C.number self.old.units) at }
+        requires boundary { IsCharBoundary C.form (map C.number self.old.units) at }
         requires below { at < ustring_len self.old }
         ensures units { map C.number self.new.units ≡ splice (map C.number self.old.units) at (at + length (code_units C.form result)) [] }
         ensures text { chars C.form (map C.number self.new.units) ≡ splice (chars C.form (map C.number self.old.units)) (chars_before C.form (map C.number self.old.units) at) (chars_before C.form (map C.number self.old.units) at + 1) [] }
@@ -416,7 +424,7 @@ impl<C: FaultUnit, A: Allocator> UtfString<C, A> {
         with: UtfStr<'_, C>,
     ) -> Result<(), OutOfMemory>
         requires bounds { R.has_bounds range }
-        requires at_boundaries { IsTextRange C.form (map C.number self.old.units) (start_index (R.start_bound range)) (end_index (R.end_bound range) (ustring_len self.old)) }
+        requires at_boundaries { IsCharRange C.form (map C.number self.old.units) (start_index (R.start_bound range)) (end_index (R.end_bound range) (ustring_len self.old)) }
         ensures units { OnOk result (self.new.units ≡ splice self.old.units (start_index (R.start_bound range)) (end_index (R.end_bound range) (ustring_len self.old)) (units_seen with.entry)) }
         ensures text { OnOk result (chars C.form (map C.number self.new.units) ≡ splice (chars C.form (map C.number self.old.units)) (chars_before C.form (map C.number self.old.units) (start_index (R.start_bound range))) (chars_before C.form (map C.number self.old.units) (end_index (R.end_bound range) (ustring_len self.old))) (chars C.form (map C.number (units_seen with.entry)))) }
         ensures err { OnErr result (self.new ≡ self.old) }
@@ -430,7 +438,7 @@ impl<C: FaultUnit, A: Allocator> UtfString<C, A> {
     /// both boundaries. It is this port's own: [`UtfString::replace_range`] takes a view, which nobody can make of a `&str`
     /// without memory. Memory is asked for the growth alone, before a unit moves.
     pub fn splice_str(&mut self, from: usize, to: usize, text: &str) -> Result<(), OutOfMemory>
-        requires { IsTextRange C.form (map C.number self.old.units) from to }
+        requires { IsCharRange C.form (map C.number self.old.units) from to }
         ensures units { OnOk result (map C.number self.new.units ≡ splice (map C.number self.old.units) from to (encode C.form (str_chars text.now))) }
         ensures text { OnOk result (chars C.form (map C.number self.new.units) ≡ splice (chars C.form (map C.number self.old.units)) (chars_before C.form (map C.number self.old.units) from) (chars_before C.form (map C.number self.old.units) to) (str_chars text.now)) }
         ensures err { OnErr result (self.new ≡ self.old) }
@@ -480,7 +488,7 @@ impl<C: FaultUnit, A: Allocator> UtfString<C, A> {
     /// must be boundaries.
     pub fn drain<R: RangeBounds<usize>>(&mut self, range: R) -> DrainUtf<'_, C, A>
         requires bounds { R.has_bounds range }
-        requires in_range { IsTextRange C.form (map C.number self.old.units) (start_index (R.start_bound range)) (end_index (R.end_bound range) (ustring_len self.old)) }
+        requires in_range { IsCharRange C.form (map C.number self.old.units) (start_index (R.start_bound range)) (end_index (R.end_bound range) (ustring_len self.old)) }
         ensures rest { drain_rest result ≡ chars C.form (map C.number (slice_range self.old.units (start_index (R.start_bound range)) (end_index (R.end_bound range) (ustring_len self.old)))) }
         ensures runs { DrainRuns result }
         ensures runs_back { DrainRunsBack result }

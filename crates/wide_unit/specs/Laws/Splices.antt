@@ -45,8 +45,9 @@ module _ (form : EncodingForm) (us vs : List ℕ) where
 
   -- what stands before well-formed units in well-formed ones
   pub IsWellFormed-before : IsWellFormed form (us ++ vs) → IsWellFormed form vs → IsWellFormed form us
-  IsWellFormed-before whole right u at =
-      whole u (subst (λ is. Contains is (Fault u)) (sym (items-append_right form us vs right)) (contains-append (items form us) (items form vs) (Fault u) at))
+  IsWellFormed-before whole right = record {
+    no_fault = λ u at. whole.no_fault u (subst (λ is. Contains is (Fault u)) (sym (items-append_right form us vs right)) (contains-append (items form us) (items form vs) (Fault u) at));
+  }
 
 module _ (form : EncodingForm) (us : List ℕ) (from to : ℕ) (well : IsWellFormed form us) (at_from : IsBoundary form us from) (at_to : IsBoundary form us to) where
   -- The part between two boundaries.

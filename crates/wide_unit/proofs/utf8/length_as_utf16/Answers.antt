@@ -1,7 +1,7 @@
 use Rattle.std.proofs.Common.{ap, ◌∙◌}
 use Rattle.std.specs.List.{sum_by}
 use Rattle.std.proofs.lemmas.List.{take_all}
-use Rattle.wide_unit.specs.Utf8.{units_begun}
+use Rattle.wide_unit.specs.LeadingByte.{units_begun}
 use Rattle.wide_unit.proofs.Lengths.{length-utf16}
 use Rattle.wide_unit.proofs.utf8.length_as_utf16.Goals as goal
 

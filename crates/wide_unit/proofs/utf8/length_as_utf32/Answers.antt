@@ -2,7 +2,7 @@ use Rattle.std.proofs.Common.{◌≡◌, ap, sym, ◌∙◌, length}
 use Rattle.std.specs.List.{sum_by}
 use Rattle.std.specs.Str.{chars}
 use Rattle.std.proofs.lemmas.List.{take_all}
-use Rattle.wide_unit.specs.Utf8.{units_begun}
+use Rattle.wide_unit.specs.LeadingByte.{units_begun}
 use Rattle.wide_unit.proofs.Lengths.{begins, length-utf32, length-encode_utf32}
 use Rattle.wide_unit.proofs.utf8.length_as_utf32.Goals as goal
 

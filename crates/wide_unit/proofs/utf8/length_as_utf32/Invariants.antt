@@ -1,6 +1,6 @@
 use Rattle.std.proofs.Common.{◌≡◌, ◌≤◌, take}
 use Rattle.std.specs.List.{sum_by}
-use Rattle.wide_unit.specs.Utf8.{units_begun}
+use Rattle.wide_unit.specs.LeadingByte.{units_begun}
 use Rattle.wide_unit.proofs.Lengths.{begins}
 use Rattle.wide_unit.proofs.utf8.length_as_utf32.Given as goal
 

@@ -1,9 +1,10 @@
-use Rattle.std.proofs.Common.{◌≡◌, ◌∷◌, map, ap, arith, refl, ◌∙◌}
+use Rattle.std.proofs.Common.{◌≡◌, ◌∷◌, map, ap, arith, rules, refl, ◌∙◌}
 use Rattle.std.proofs.lemmas.List.{length-map}
 use Rattle.wide_unit.specs.Items.{items}
 use Rattle.wide_unit.specs.Segmentation.{Char, Fault}
 use Rattle.wide_unit.specs.Unit.{item_of}
 use Rattle.wide_unit.proofs.Front.{first_of_nil}
+use Rattle.wide_utfstr.specs.Laws.CharBoundaries.{fault-not_well_formed}
 use Rattle.wide_utfstr.proofs.Whole.{chars-end, chars-more, chars-fault}
 use Rattle.wide_utfstr.proofs.view.check.Goals as goal
 
@@ -31,3 +32,10 @@ returns-clause-ok g c =
     let form = g.C.Unit.form in
     let number = g.C.Unit.number in
     chars-end form (map number c.args.units.now) (map number c.loop-item.rest.now) c.loop-item.invariant.1 (first_of_nil form number c.loop-item.rest.now (c.in_default.ensures.none.0 refl))
+
+pub returns-in-Err-clause-well_formed : goal.returns-in-Err-clause-well_formed
+returns-in-Err-clause-well_formed g c =
+    (λ ok. absurd cc, λ well. absurd (fault-not_well_formed g.C.Unit.form (map g.C.Unit.number c.args.units.now) _ (g.C.Unit.number c.in-Err.unit) (returns-in-Err-clause-err g c) well))
+
+pub returns-clause-well_formed : goal.returns-clause-well_formed
+returns-clause-well_formed g c = (λ _. returns-clause-ok g c, λ _. refl)

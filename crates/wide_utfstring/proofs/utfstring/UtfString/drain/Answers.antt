@@ -3,6 +3,7 @@ use Rattle.std.proofs.lemmas.List.{length-map}
 use Rattle.std.specs.Range.Bound.{end_index}
 use Rattle.wide_unit.specs.Items.{IsWellFormed, IsBoundary}
 use Rattle.wide_unit.specs.Laws.Splices.{IsWellFormed-map_part, IsWellFormed-map_splice, IsWellFormed-nil}
+use Rattle.wide_utfstr.specs.Laws.CharBoundaries.{IsTextRange-of_chars}
 use Rattle.wide_utfstring.proofs.Drains.{drain_in_order, drain_in_reverse, drain_stays}
 use Rattle.wide_utfstring.proofs.utfstring.UtfString.drain.Goals as goal
 
@@ -11,15 +12,16 @@ invariant_of-result g c =
     let form = g.C.Unit.form in
     let number = g.C.Unit.number in
     let us = c.args.self.now.units in
+    let part = IsTextRange-of_chars form (map number us) _ _ c.requires.in_range in
     let from = c.range-places.result.start in
     let to = c.range-places.result.end in
     let well = subst (λ s. IsWellFormed form (map number s.units)) c.self.view_is c.self.invariant in
     let long : c.len-len.result ≡ length us = c.len-len.ensures ∙ ap (λ s. length s.units) c.self.view_is in
     let ends = c.range-places.ensures.end ∙ ap (end_index (g.R.RangeBounds.end_bound c.args.range)) long in
-    let at_from = subst (λ n. IsBoundary form (map number us) n) (sym c.range-places.ensures.start) c.requires.in_range.start in
-    let at_to = subst (λ n. IsBoundary form (map number us) n) (sym ends) c.requires.in_range.end in
-    let forward : from ≤ to = omega (arith, c.range-places.ensures.start, ends, c.requires.in_range.within.forward) in
-    let within : to ≤ c.len-len.result = omega (arith, ends, long, c.requires.in_range.within.within, length-map us number) in
+    let at_from = subst (λ n. IsBoundary form (map number us) n) (sym c.range-places.ensures.start) part.start in
+    let at_to = subst (λ n. IsBoundary form (map number us) n) (sym ends) part.end in
+    let forward : from ≤ to = omega (arith, c.range-places.ensures.start, ends, part.within.forward) in
+    let within : to ≤ c.len-len.result = omega (arith, ends, long, part.within.within, length-map us number) in
     record {
       ordered = (omega arith, forward, omega arith, within);
       part = λ _. IsWellFormed-map_part form number us well from to at_from at_to forward;

@@ -6,3 +6,6 @@ returns-clause-ok g c = rw c.into_vec.ensures.units at c.from_vec.ensures.ok
 
 pub returns-clause-fault : goal.returns-clause-fault
 returns-clause-fault g c = err_gives c.from_vec.result (λ e fault. (c.into_vec.result, c.into_vec.ensures.units, c.into_vec.ensures.capacity, fault)) c.from_vec.ensures.fault
+
+pub returns-clause-well_formed : goal.returns-clause-well_formed
+returns-clause-well_formed g c = rw c.into_vec.ensures.units at c.from_vec.ensures.well_formed

@@ -1,6 +1,7 @@
 use Rattle.std.proofs.Common.{map, drop}
 use Rattle.wide_unit.specs.Items.{IsBoundary}
 use Rattle.wide_unit.specs.Laws.Places.{IsWellFormed-drop}
+use Rattle.wide_utfstr.specs.Laws.CharBoundaries.{IsBoundary-of_char}
 use Rattle.wide_utfstring.proofs.Removed.{taken-scalar, removed-well_formed, removed-units, removed-text, removed-taken, taken_of_map, front_of_map}
 use Rattle.wide_utfstring.proofs.utfstring.UtfString.remove.Goals as goal
 
@@ -11,7 +12,7 @@ unreachable-requires g c =
     let xs = c.self.inside.string.units in
     let ys = c.remove_char-code.new.self.units in
     let code = c.remove_char-code.result in
-    let at : IsBoundary form (map number xs) c.args.at = rw (← c.self.view_is) at c.requires.boundary in
+    let at : IsBoundary form (map number xs) c.args.at = IsBoundary-of_char g.C.Unit.form (map g.C.Unit.number c.self.inside.string.units) c.args.at (rw (← c.self.view_is) at c.requires.boundary) in
     let taken = taken_of_map form number xs ys c.args.at code c.remove_char-code.ensures.taken in
     c.in_default.ensures.value (taken-scalar form (drop c.args.at (map number xs)) (drop c.args.at (map number ys)) (IsWellFormed-drop form (map number xs) c.self.invariant c.args.at at) code taken)
 
@@ -22,7 +23,7 @@ invariant_of-self g c =
     let xs = c.self.inside.string.units in
     let ys = c.remove_char-code.new.self.units in
     let code = c.remove_char-code.result in
-    let at : IsBoundary form (map number xs) c.args.at = rw (← c.self.view_is) at c.requires.boundary in
+    let at : IsBoundary form (map number xs) c.args.at = IsBoundary-of_char g.C.Unit.form (map g.C.Unit.number c.self.inside.string.units) c.args.at (rw (← c.self.view_is) at c.requires.boundary) in
     let front = front_of_map form number xs ys c.args.at code c.remove_char-code.ensures.front in
     let taken = taken_of_map form number xs ys c.args.at code c.remove_char-code.ensures.taken in
     removed-well_formed form (map number xs) (map number ys) c.args.at c.self.invariant at front code taken
@@ -34,7 +35,7 @@ returns-clause-units g c =
     let xs = c.self.inside.string.units in
     let ys = c.remove_char-code.new.self.units in
     let code = c.remove_char-code.result in
-    let at : IsBoundary form (map number xs) c.args.at = rw (← c.self.view_is) at c.requires.boundary in
+    let at : IsBoundary form (map number xs) c.args.at = IsBoundary-of_char g.C.Unit.form (map g.C.Unit.number c.self.inside.string.units) c.args.at (rw (← c.self.view_is) at c.requires.boundary) in
     let front = front_of_map form number xs ys c.args.at code c.remove_char-code.ensures.front in
     let taken = taken_of_map form number xs ys c.args.at code c.remove_char-code.ensures.taken in
     rw (← c.self.view_is, c.in-Some.ensures.value.1) (removed-units form (map number xs) (map number ys) c.args.at c.self.invariant at front code taken)
@@ -46,7 +47,7 @@ returns-clause-text g c =
     let xs = c.self.inside.string.units in
     let ys = c.remove_char-code.new.self.units in
     let code = c.remove_char-code.result in
-    let at : IsBoundary form (map number xs) c.args.at = rw (← c.self.view_is) at c.requires.boundary in
+    let at : IsBoundary form (map number xs) c.args.at = IsBoundary-of_char g.C.Unit.form (map g.C.Unit.number c.self.inside.string.units) c.args.at (rw (← c.self.view_is) at c.requires.boundary) in
     let front = front_of_map form number xs ys c.args.at code c.remove_char-code.ensures.front in
     let taken = taken_of_map form number xs ys c.args.at code c.remove_char-code.ensures.taken in
     rw (← c.self.view_is) (removed-text form (map number xs) (map number ys) c.args.at c.self.invariant at front code taken)
@@ -58,7 +59,7 @@ returns-clause-taken g c =
     let xs = c.self.inside.string.units in
     let ys = c.remove_char-code.new.self.units in
     let code = c.remove_char-code.result in
-    let at : IsBoundary form (map number xs) c.args.at = rw (← c.self.view_is) at c.requires.boundary in
+    let at : IsBoundary form (map number xs) c.args.at = IsBoundary-of_char g.C.Unit.form (map g.C.Unit.number c.self.inside.string.units) c.args.at (rw (← c.self.view_is) at c.requires.boundary) in
     let front = front_of_map form number xs ys c.args.at code c.remove_char-code.ensures.front in
     let taken = taken_of_map form number xs ys c.args.at code c.remove_char-code.ensures.taken in
     rw (← c.self.view_is, c.in-Some.ensures.value.1) (removed-taken form (map number xs) (map number ys) c.args.at c.self.invariant at front code taken)

@@ -1,0 +1,39 @@
+-- Places as the unit there shows them, and boundaries.
+use Rattle.std.proofs.Common.{◌≡◌, ℕ, zero, suc, ◌<◌, List, inl, inr, subst, arith, length}
+use Rattle.std.specs.Prelude.{◌↔◌, ◌⊎◌}
+use Rattle.std.proofs.lemmas.Bool.{cases_lt}
+use Rattle.wide_unit.specs.EncodingForm.{EncodingForm}
+use Rattle.wide_unit.specs.Items.{IsBoundary, IsWellFormed}
+use Rattle.wide_unit.specs.Places.{IsTextRange, IsCharBoundary, IsCharRange}
+use Rattle.wide_unit.specs.Laws.Boundaries.{IsBoundary-at, IsBoundary-end, no-low_at_boundary}
+use Rattle.wide_unit.specs.Laws.Places.{IsBoundary-start, IsBoundary-within}
+
+-- these hold of any units
+pub IsBoundary-of_char : (form : EncodingForm) (us : List ℕ) (place : ℕ) → IsCharBoundary form us place → IsBoundary form us place
+IsBoundary-of_char form us zero here = IsBoundary-start form us
+IsBoundary-of_char form us (suc n) here = elim (cases_lt (suc n) (length us)) [
+  inl below ↦ IsBoundary-at form us (suc n) here.0 (here.1 (omega arith) below)
+  | inr past ↦ let e : length us ≡ suc n = omega (arith, here.0) in subst (λ k. IsBoundary form us k) e (IsBoundary-end form us)
+]
+
+pub IsTextRange-of_chars : (form : EncodingForm) (us : List ℕ) (from to : ℕ) → IsCharRange form us from to → IsTextRange form us from to
+IsTextRange-of_chars form us from to part = record { within = part.within; start = IsBoundary-of_char form us from part.start; end = IsBoundary-of_char form us to part.end }
+
+pub past_or_boundary : {P : Type 0} (form : EncodingForm) (us : List ℕ) (place : ℕ) → P ⊎ IsCharBoundary form us place → P ⊎ IsBoundary form us place
+past_or_boundary form us place (inl past) = inl past
+past_or_boundary form us place (inr here) = inr (IsBoundary-of_char form us place here)
+
+-- these of well-formed ones
+module _ (form : EncodingForm) (us : List ℕ) where
+  pub IsCharBoundary-of : (place : ℕ) → IsWellFormed form us → IsBoundary form us place → IsCharBoundary form us place
+  IsCharBoundary-of place well at = (IsBoundary-within form us place at, λ some below. no-low_at_boundary form us place well below at)
+
+  pub IsCharRange-of_text : (from to : ℕ) → IsWellFormed form us → IsTextRange form us from to → IsCharRange form us from to
+  IsCharRange-of_text from to well part = record { within = part.within; start = IsCharBoundary-of from well part.start; end = IsCharBoundary-of to well part.end }
+
+  -- what tells one tells the other
+  pub tells_char_boundary : {T : Type 0} (place : ℕ) → IsWellFormed form us → T ↔ IsBoundary form us place → T ↔ IsCharBoundary form us place
+  tells_char_boundary place well tells = (λ t. IsCharBoundary-of place well (tells.0 t), λ here. tells.1 (IsBoundary-of_char form us place here))
+
+  pub tells_char_range : {T : Type 0} (from to : ℕ) → IsWellFormed form us → T ↔ IsTextRange form us from to → T ↔ IsCharRange form us from to
+  tells_char_range from to well tells = (λ t. IsCharRange-of_text from to well (tells.0 t), λ part. tells.1 (IsTextRange-of_chars form us from to part))

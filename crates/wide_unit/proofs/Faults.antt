@@ -1,0 +1,94 @@
+-- The first fault, and the characters before it.
+use Rattle.std.proofs.Common.{◌≡◌, ℕ, ◌+◌, ◌<◌, List, [], ◌∷◌, ◌++◌, Option, Some, None, Result, Ok, Err, refl, sym, ◌∙◌, ap, subst, arith, rules, length, length-append}
+use Rattle.std.specs.Prelude.{map, IsOk, IfErr, OnOk, ◌↔◌}
+use Rattle.std.specs.List.{Contains}
+use Rattle.std.specs.Option.{option_map}
+use Rattle.std.proofs.lemmas.List.Elements.{Contains-append_right}
+use Rattle.wide_unit.specs.EncodingForm.{EncodingForm, encode}
+use Rattle.wide_unit.specs.Segmentation.{Item, Char, Fault, units_of}
+use Rattle.wide_unit.specs.Items.{items, chars, leading_characters, first_fault_unit, first_fault, IsWellFormed, IsFirstFault}
+use Rattle.wide_unit.specs.Laws.Items.{units_of-items, units_of-chars, IsWellFormed-of_chars, chars-of_well_formed}
+use Rattle.wide_unit.specs.Laws.Boundaries.{units_of-append}
+
+leading-of : (front : List ℕ) (u : ℕ) (rest : List Item) → leading_characters (map Char front ++ Fault u ∷ rest) ≡ front
+leading-of [] u rest = refl
+leading-of (c ∷ front) u rest = ap (λ cs. c ∷ cs) (leading-of front u rest)
+
+unit-of : (front : List ℕ) (u : ℕ) (rest : List Item) → first_fault_unit (map Char front ++ Fault u ∷ rest) ≡ Some u
+unit-of [] u rest = refl
+unit-of (c ∷ front) u rest = unit-of front u rest
+
+pub first_fault-behind : (form : EncodingForm) (front : List ℕ) (u : ℕ) (rest : List Item) → first_fault form (map Char front ++ Fault u ∷ rest) ≡ Some (length (encode form front), u)
+first_fault-behind form front u rest =
+    ap (λ o. option_map (λ v. (length (encode form (leading_characters (map Char front ++ Fault u ∷ rest))), v)) o) (unit-of front u rest)
+    ∙ ap (λ cs. Some (length (encode form cs), u)) (leading-of front u rest)
+
+leading-split : (is : List Item) (u : ℕ) → first_fault_unit is ≡ Some u → (rest : List Item) × (is ≡ map Char (leading_characters is) ++ Fault u ∷ rest)
+leading-split [] u e = absurd cc
+leading-split (Char c ∷ is) u e = let tail = leading-split is u e in (tail.0, ap (λ js. Char c ∷ js) tail.1)
+leading-split (Fault v ∷ is) u e = let same : v ≡ u = cc in (is, ap (λ w. Fault w ∷ is) same)
+
+-- the parts of what an option has
+index_in : Option (ℕ × ℕ) → ℕ
+index_in None = 0
+index_in (Some p) = p.0
+
+unit_in : Option (ℕ × ℕ) → ℕ
+unit_in None = 0
+unit_in (Some p) = p.1
+
+told : (index : ℕ) (o : Option ℕ) (n u : ℕ) → option_map {U = ℕ × ℕ} (λ v. (n, v)) o ≡ Some (index, u) → (o ≡ Some u) × (n ≡ index)
+unfolding unit_in index_in
+told index None n u e = absurd cc
+told index (Some v) n u e = (ap (λ o. Some (unit_in o)) e, ap index_in e)
+
+none-told : (o : Option ℕ) (n : ℕ) → option_map {U = ℕ × ℕ} (λ v. (n, v)) o ≡ None → o ≡ None
+none-told None n e = refl
+none-told (Some v) n e = absurd cc
+
+-- a first fault stands behind characters alone
+pub first_fault-split : (form : EncodingForm) (us : List ℕ) (index u : ℕ) → IsFirstFault form us index u
+    → (front : List ℕ) × (rest : List Item) × (items form us ≡ map Char front ++ Fault u ∷ rest) × (length (encode form front) ≡ index)
+first_fault-split form us index u e =
+    let parts = told index (first_fault_unit (items form us)) (length (encode form (leading_characters (items form us)))) u e in
+    let split = leading-split (items form us) u parts.0 in
+    (leading_characters (items form us), split.0, split.1, parts.1)
+
+pub IsFirstFault-of : (form : EncodingForm) (us front : List ℕ) (rest : List Item) (index u : ℕ) → items form us ≡ map Char front ++ Fault u ∷ rest → length (encode form front) ≡ index → IsFirstFault form us index u
+IsFirstFault-of form us front rest index u split at = ap (first_fault form) split ∙ first_fault-behind form front u rest ∙ ap (λ n. Some (n, u)) at
+
+-- its index is one of the units
+pub first_fault-below : (form : EncodingForm) (us : List ℕ) (index u : ℕ) → IsFirstFault form us index u → index < length us
+first_fault-below form us index u e =
+    let (front, rest, split, at) = first_fault-split form us index u e in
+    let joined : us ≡ encode form front ++ u ∷ units_of form rest =
+    sym (units_of-items form us) ∙ ap (units_of form) split ∙ units_of-append form (map Char front) (Fault u ∷ rest) ∙ ap (λ xs. xs ++ u ∷ units_of form rest) (units_of-chars form front)
+    in
+    omega (arith, ap length joined, length-append (encode form front) (u ∷ units_of form rest), at)
+
+contains_after : (is js : List Item) (i : Item) → Contains (is ++ i ∷ js) i
+contains_after is js i = Contains-append_right is (i ∷ js) i (search rules)
+
+pub first_fault-not_well_formed : (form : EncodingForm) (us : List ℕ) (index u : ℕ) → IsFirstFault form us index u → ¬ (IsWellFormed form us)
+first_fault-not_well_formed form us index u e well =
+    let (front, rest, split, at) = first_fault-split form us index u e in
+    well.no_fault u (subst (λ is. Contains is (Fault u)) (sym split) (contains_after (map Char front) rest (Fault u)))
+
+-- without a fault the items are characters
+no_unit-chars : (is : List Item) → first_fault_unit is ≡ None → is ≡ map Char (leading_characters is)
+no_unit-chars [] e = refl
+no_unit-chars (Char c ∷ is) e = ap (λ js. Char c ∷ js) (no_unit-chars is e)
+no_unit-chars (Fault u ∷ is) e = absurd cc
+
+no_fault-told : (form : EncodingForm) (cs : List ℕ) → first_fault form (map Char cs) ≡ None
+no_fault-told form cs = ap (λ o. option_map (λ v. (length (encode form (leading_characters (map Char cs))), v)) o) (none cs)
+  where
+    none : (cs : List ℕ) → first_fault_unit (map Char cs) ≡ None
+    none [] = refl
+    none (c ∷ cs) = none cs
+
+pub well_formed-first_fault : (form : EncodingForm) (us : List ℕ) → IsWellFormed form us ↔ (first_fault form (items form us) ≡ None)
+well_formed-first_fault form us = (
+  λ well. ap (first_fault form) (chars-of_well_formed form us well) ∙ no_fault-told form (chars form us),
+  λ e. IsWellFormed-of_chars form us (leading_characters (items form us)) (no_unit-chars (items form us) (none-told (first_fault_unit (items form us)) (length (encode form (leading_characters (items form us)))) e)),
+)

@@ -1,0 +1,6 @@
+-- What the first byte of a character in UTF-8 tells of it.
+use Rattle.std.specs.Prelude.{ℕ, nat_lt, nat_le, ◌||◌, if◌then◌else◌}
+
+-- how many units of UTF-16 the character has of which this is the first byte, and none for a trailing byte
+abbrev pub units_begun : ℕ → ℕ
+units_begun byte = if nat_le 0xF0 byte then 2 else if nat_lt byte 0x80 || nat_le 0xC0 byte then 1 else 0
