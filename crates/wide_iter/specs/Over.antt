@@ -1,13 +1,8 @@
 -- An iterator over a source, of which a function tells the list that it has left.
-use Rattle.std.specs.Prelude.{ℕ, ◌^◌, ◌<◌, List, Option, IfSome}
+use Rattle.std.specs.Prelude.{List, Option, IfSome}
 use Rattle.std.specs.Iterator.{YieldsFirst, YieldsLast, YieldsFirstBy, YieldsLastBy}
 
--- What is known of each item of a source by its type alone; of characters it is `IsScalar`.
-abbrev pub IsUnit16 : ℕ → Type 0
-IsUnit16 u = u < 2 ^ 16
-
-abbrev pub IsUnit32 : ℕ → Type 0
-IsUnit32 u = u < 2 ^ 32
+-- `Fits` is what is known of each item of a source by its type alone: of units `IsCodeUnit`, of characters `IsScalar`.
 
 module _ {I A : Type 0} (Fits : A → Type 0) (steps : I → Option A → I → Type 0) (rest : I → List A) where
   -- each call of the source gives the first of what `rest` tells, or the last

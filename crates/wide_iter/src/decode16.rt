@@ -2,10 +2,10 @@
 ghost use Rattle.std.specs.Prelude.{◌≡◌, ◌≤◌, ◌/◌, ◌*◌, ℕ, List, length, IfNone, IfSome, None, Some};
 ghost use Rattle.std.specs.Iterator.{MakesProgress, UpTo};
 ghost use Rattle.std.specs.Iterator.SizeHint.{IsWithinCount};
-ghost use Rattle.wide_unit.specs.EncodingForm.{Utf16};
+ghost use Rattle.wide_unit.specs.EncodingForm.{Utf16, IsCodeUnit};
 ghost use Rattle.wide_unit.specs.Items.{items};
 ghost use Rattle.wide_unit.specs.Unit.{told_item};
-ghost use Rattle.wide_iter.specs.Over.{FirstOver, LastOver, IsUnit16};
+ghost use Rattle.wide_iter.specs.Over.{FirstOver, LastOver};
 ghost use Rattle.wide_iter.specs.Source.{inner_of, unasked, source_count};
 ghost use Rattle.wide_iter.specs.Sources.{copied_rest};
 ghost use Rattle.wide_iter.specs.Decoder16.{source_of, front_hand, back_hand, units_left, items_left, CanDecode, decoder_count, IsSpent, IsNew, held, upper_with};
@@ -73,7 +73,7 @@ impl<I: Iterator<Item = u16>> DecodeUtf16<I> {
     // The first unit to come.
     fn take_front(&mut self) -> Option<u16>
         requires { CanDecode I.can_next self.old }
-        ensures steps { FirstOver IsUnit16 I.next_gives (λ u. u) units_left self.old result self.new }
+        ensures steps { FirstOver (IsCodeUnit Utf16) I.next_gives (λ u. u) units_left self.old result self.new }
         ensures goes { MakesProgress (CanDecode I.can_next) (decoder_count I.remaining) self.old result self.new }
         ensures hand { front_hand self.new ≡ None }
         ensures ends { IfNone result (IsSpent self.new) }
@@ -93,7 +93,7 @@ impl<I: DoubleEndedIterator<Item = u16>> DecodeUtf16<I> {
     // The last unit to come.
     fn take_back(&mut self) -> Option<u16>
         requires { CanDecode I.can_next_back self.old }
-        ensures steps { LastOver IsUnit16 I.next_back_gives (λ u. u) units_left self.old result self.new }
+        ensures steps { LastOver (IsCodeUnit Utf16) I.next_back_gives (λ u. u) units_left self.old result self.new }
         ensures goes { MakesProgress (CanDecode I.can_next_back) (decoder_count I.remaining) self.old result self.new }
         ensures hand { back_hand self.new ≡ None }
         ensures ends { IfNone result (IsSpent self.new) }
@@ -114,7 +114,7 @@ impl<I: Iterator<Item = u16>> Iterator for DecodeUtf16<I> {
 
     ghost can_next = { CanDecode I.can_next };
 
-    ghost next_gives = { FirstOver IsUnit16 I.next_gives told_item items_left };
+    ghost next_gives = { FirstOver (IsCodeUnit Utf16) I.next_gives told_item items_left };
 
     ghost remaining = { decoder_count I.remaining };
 
@@ -150,7 +150,7 @@ impl<I: Iterator<Item = u16>> Iterator for DecodeUtf16<I> {
 impl<I: DoubleEndedIterator<Item = u16>> DoubleEndedIterator for DecodeUtf16<I> {
     ghost can_next_back = { CanDecode I.can_next_back };
 
-    ghost next_back_gives = { LastOver IsUnit16 I.next_back_gives told_item items_left };
+    ghost next_back_gives = { LastOver (IsCodeUnit Utf16) I.next_back_gives told_item items_left };
 
     #[inline]
     fn next_back(&mut self) -> Option<Result<char, DecodeUtf16Error>> {

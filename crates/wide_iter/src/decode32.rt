@@ -1,10 +1,10 @@
 //! The decoder of UTF-32.
 ghost use Rattle.std.specs.Prelude.{◌≡◌, ◌∷◌, [], ℕ, false, List, Some};
 ghost use Rattle.std.specs.Iterator.{size};
-ghost use Rattle.wide_unit.specs.EncodingForm.{Utf32};
+ghost use Rattle.wide_unit.specs.EncodingForm.{Utf32, IsCodeUnit};
 ghost use Rattle.wide_unit.specs.Items.{items};
 ghost use Rattle.wide_unit.specs.Unit.{told_item};
-ghost use Rattle.wide_iter.specs.Over.{FirstOver, LastOver, IsUnit32};
+ghost use Rattle.wide_iter.specs.Over.{FirstOver, LastOver};
 ghost use Rattle.wide_iter.specs.Source.{has_ended, inner_of};
 ghost use Rattle.wide_iter.specs.Decoder32.{source32_of, items32_left, CanDecode32, decoder32_count};
 
@@ -53,7 +53,7 @@ impl<I: Iterator<Item = u32>> Iterator for DecodeUtf32<I> {
 
     ghost can_next = { CanDecode32 I.can_next };
 
-    ghost next_gives = { FirstOver IsUnit32 I.next_gives told_item items32_left };
+    ghost next_gives = { FirstOver (IsCodeUnit Utf32) I.next_gives told_item items32_left };
 
     ghost remaining = { decoder32_count I.remaining };
 
@@ -71,7 +71,7 @@ impl<I: Iterator<Item = u32>> Iterator for DecodeUtf32<I> {
 impl<I: DoubleEndedIterator<Item = u32>> DoubleEndedIterator for DecodeUtf32<I> {
     ghost can_next_back = { CanDecode32 I.can_next_back };
 
-    ghost next_back_gives = { LastOver IsUnit32 I.next_back_gives told_item items32_left };
+    ghost next_back_gives = { LastOver (IsCodeUnit Utf32) I.next_back_gives told_item items32_left };
 
     #[inline]
     fn next_back(&mut self) -> Option<Result<char, DecodeUtf32Error>> {

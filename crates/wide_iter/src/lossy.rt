@@ -3,10 +3,10 @@ ghost use Rattle.std.specs.Prelude.{◌≡◌, ◌*◌, ◌/◌, ℕ, false, Lis
 ghost use Rattle.std.specs.Option.{option_map};
 ghost use Rattle.std.specs.Iterator.{UpTo, size};
 ghost use Rattle.std.specs.Iterator.SizeHint.{IsWithinCount};
-ghost use Rattle.wide_unit.specs.EncodingForm.{Utf16, Utf32};
+ghost use Rattle.wide_unit.specs.EncodingForm.{Utf16, Utf32, IsCodeUnit};
 ghost use Rattle.wide_unit.specs.Items.{items};
 ghost use Rattle.wide_unit.specs.Lossy.{lossy};
-ghost use Rattle.wide_iter.specs.Over.{FirstOver, LastOver, IsUnit16, IsUnit32};
+ghost use Rattle.wide_iter.specs.Over.{FirstOver, LastOver};
 ghost use Rattle.wide_iter.specs.Source.{has_ended, inner_of, source_count, unasked};
 ghost use Rattle.wide_iter.specs.Sources.{copied_rest};
 ghost use Rattle.wide_iter.specs.Decoder16.{source_of, CanDecode, decoder_count, IsNew, held, upper_with};
@@ -76,7 +76,7 @@ impl<I: Iterator<Item = u16>> Iterator for DecodeUtf16Lossy<I> {
 
     ghost can_next = { λ s. CanDecode I.can_next (strict16_of s) };
 
-    ghost next_gives = { FirstOver IsUnit16 I.next_gives (λ c. c) lossy16_left };
+    ghost next_gives = { FirstOver (IsCodeUnit Utf16) I.next_gives (λ c. c) lossy16_left };
 
     ghost remaining = { λ s. decoder_count I.remaining (strict16_of s) };
 
@@ -97,7 +97,7 @@ impl<I: Iterator<Item = u16>> Iterator for DecodeUtf16Lossy<I> {
 impl<I: DoubleEndedIterator<Item = u16>> DoubleEndedIterator for DecodeUtf16Lossy<I> {
     ghost can_next_back = { λ s. CanDecode I.can_next_back (strict16_of s) };
 
-    ghost next_back_gives = { LastOver IsUnit16 I.next_back_gives (λ c. c) lossy16_left };
+    ghost next_back_gives = { LastOver (IsCodeUnit Utf16) I.next_back_gives (λ c. c) lossy16_left };
 
     #[inline]
     fn next_back(&mut self) -> Option<char> {
@@ -122,7 +122,7 @@ impl<I: Iterator<Item = u32>> Iterator for DecodeUtf32Lossy<I> {
 
     ghost can_next = { λ s. CanDecode32 I.can_next (strict32_of s) };
 
-    ghost next_gives = { FirstOver IsUnit32 I.next_gives (λ c. c) lossy32_left };
+    ghost next_gives = { FirstOver (IsCodeUnit Utf32) I.next_gives (λ c. c) lossy32_left };
 
     ghost remaining = { λ s. decoder32_count I.remaining (strict32_of s) };
 
@@ -139,7 +139,7 @@ impl<I: Iterator<Item = u32>> Iterator for DecodeUtf32Lossy<I> {
 impl<I: DoubleEndedIterator<Item = u32>> DoubleEndedIterator for DecodeUtf32Lossy<I> {
     ghost can_next_back = { λ s. CanDecode32 I.can_next_back (strict32_of s) };
 
-    ghost next_back_gives = { LastOver IsUnit32 I.next_back_gives (λ c. c) lossy32_left };
+    ghost next_back_gives = { LastOver (IsCodeUnit Utf32) I.next_back_gives (λ c. c) lossy32_left };
 
     #[inline]
     fn next_back(&mut self) -> Option<char> {

@@ -143,9 +143,8 @@ impl<'a, C: FaultUnit> UCStr<'a, C> {
     /// The part of the contents in a range of places, counted in units; none where the range starts behind its end, ends
     /// behind the contents, or has a bound past the greatest `usize`, as [`wide_unit::range_check`] tells.
     pub fn get<R: RangeBounds<usize>>(self, range: R) -> Option<UStr<'a, C>>
-        requires { R.has_bounds range }
-        ensures some { IsSome result ↔ IsWithin (start_index (R.start_bound range)) (end_index (R.end_bound range) (length (contents_seen self.entry))) (length (contents_seen self.entry)) }
-        ensures part { IfSome result (λ part. units_seen part ≡ slice_range (contents_seen self.entry) (start_index (R.start_bound range)) (end_index (R.end_bound range) (length (contents_seen self.entry)))) }
+        ensures some { R.has_bounds range → IsSome result ↔ IsWithin (start_index (R.start_bound range)) (end_index (R.end_bound range) (length (contents_seen self.entry))) (length (contents_seen self.entry)) }
+        ensures part { R.has_bounds range → IfSome result (λ part. units_seen part ≡ slice_range (contents_seen self.entry) (start_index (R.start_bound range)) (end_index (R.end_bound range) (length (contents_seen self.entry)))) }
     {
         self.as_ustr().get(range)
     }

@@ -67,9 +67,8 @@ impl<'a, C: FaultUnit> UStr<'a, C> {
     /// The part of the view in a range of places, counted in units; none where the range starts behind its end, ends behind
     /// the view, or has a bound past the greatest `usize`, as [`range_check`] tells.
     pub fn get<R: RangeBounds<usize>>(self, range: R) -> Option<Self>
-        requires { R.has_bounds range }
-        ensures some { IsSome result ↔ IsWithin (start_index (R.start_bound range)) (end_index (R.end_bound range) (length (units_seen self.entry))) (length (units_seen self.entry)) }
-        ensures part { IfSome result (λ part. units_seen part ≡ slice_range (units_seen self.entry) (start_index (R.start_bound range)) (end_index (R.end_bound range) (length (units_seen self.entry)))) }
+        ensures some { R.has_bounds range → IsSome result ↔ IsWithin (start_index (R.start_bound range)) (end_index (R.end_bound range) (length (units_seen self.entry))) (length (units_seen self.entry)) }
+        ensures part { R.has_bounds range → IfSome result (λ part. units_seen part ≡ slice_range (units_seen self.entry) (start_index (R.start_bound range)) (end_index (R.end_bound range) (length (units_seen self.entry)))) }
     {
         let places = range_check(range, self.units.len())?;
         Some(UStr {

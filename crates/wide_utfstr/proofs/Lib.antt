@@ -2,4 +2,4 @@ pub mod Whole
 pub mod Boundary
 pub mod Walk
 pub mod IndexedLemmas
-pub mod Runs
+pub mod Indices

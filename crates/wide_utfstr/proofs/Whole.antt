@@ -7,6 +7,7 @@ use Rattle.wide_unit.specs.Segmentation.{Item, Char, Fault, units_of}
 use Rattle.wide_unit.specs.Items.{items, IsWellFormed, IsFirstFault}
 use Rattle.wide_unit.specs.Laws.Items.{IsWellFormed-of_chars, units_of-items, units_of-chars}
 use Rattle.wide_unit.specs.Laws.Boundaries.{units_of-append}
+use Rattle.wide_unit.proofs.Faults.{IsFirstFault-of}
 
 -- so far all are characters
 abbrev pub BeginsWithChars : EncodingForm → List ℕ → List ℕ → Type 0
@@ -26,4 +27,4 @@ pub chars-fault : (form : EncodingForm) (us rest : List ℕ) (u : ℕ) (after : 
 chars-fault form us rest u after so_far e =
     let joined : us ≡ encode form so_far.0 ++ rest = sym (units_of-items form us) ∙ ap (λ is. units_of form is) so_far.1 ∙ units_of-append form (map Char so_far.0) (items form rest) ∙ ap (λ xs. xs ++ units_of form (items form rest)) (units_of-chars form so_far.0) ∙ ap (λ xs. encode form so_far.0 ++ xs) (units_of-items form rest) in
     let long : length us ≡ length (encode form so_far.0) + length rest = ap length joined ∙ length-append (encode form so_far.0) rest in
-    record { front = so_far.0; rest = after; split = so_far.1 ∙ ap (λ is. map Char so_far.0 ++ is) e; at = omega arith }
+    IsFirstFault-of form us so_far.0 after (length us - length rest) u (so_far.1 ∙ ap (λ is. map Char so_far.0 ++ is) e) (omega arith)

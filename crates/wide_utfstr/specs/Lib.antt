@@ -1,5 +1,3 @@
 pub mod View
 pub mod Indexed
 pub mod Iter
-pub mod Gap
-pub mod GapLaws

@@ -2,11 +2,10 @@
 ghost use Rattle.std.specs.Prelude.{◌≡◌, ◌+◌, ◌<◌, ◌≤◌, ◌↔◌, ◌++◌, ◌∷◌, ◌==◌, [], length, map, take, drop, slice_get, slice_range, Some, None, IsTrue, IsSome, IsOk, OnOk, IfOk, IfErr, IfNone, IfSome, ⊤};
 ghost use Rattle.std.specs.Range.Bound.{start_index, end_index};
 ghost use Rattle.std.specs.List.{All};
-ghost use Rattle.wide_unit.specs.CharBoundary.{IsCharBoundary, IsCharRange};
 ghost use Rattle.wide_unit.specs.EncodingForm.{Utf16, Utf32, code_units, encode};
 ghost use Rattle.wide_unit.specs.Utf8.{utf8};
-ghost use Rattle.wide_unit.specs.Items.{chars, IsWellFormed, IsWellFormed-prop, IsFirstFault, IsBoundary};
-ghost use Rattle.wide_unit.specs.Places.{IsPlaceOf, IsTextRange};
+ghost use Rattle.wide_unit.specs.Items.{chars, IsWellFormed, IsFirstFault, IsBoundary};
+ghost use Rattle.wide_unit.specs.Places.{IsPlaceOf, IsTextRange, IsCharBoundary, IsCharRange};
 ghost use Rattle.wide_error.specs.UtfError.{index_of, unit_of, vec_of};
 ghost use Rattle.wide_iter.specs.Encoder8.{bytes_left};
 ghost use Rattle.wide_iter.specs.Encoder16.{units_left as units16_left};
@@ -30,7 +29,7 @@ use wide_ustr::UStr;
 #[derive(Debug)]
 pub struct UtfStr<'a, C: Unit> {
     units: &'a [C],
-    ghost well_formed: { IsWellFormed C.form (map C.number units.now) } by { IsWellFormed-prop C.form (map C.number units.now) },
+    ghost well_formed: { IsWellFormed C.form (map C.number units.now) },
 }
 
 /// A view of well-formed UTF-16.
@@ -99,7 +98,7 @@ impl<'a, C: Unit> UtfStr<'a, C> {
     /// Standard, section 3.8) and past the end. It reads at most the unit at the place.
     pub fn is_char_boundary(self, place: usize) -> bool
         ensures boundary { IsTrue result ↔ IsBoundary C.form (map C.number (units_seen self.entry)) place }
-        ensures gap { IsTrue result ↔ IsCharBoundary C.form (map C.number (units_seen self.entry)) place }
+        ensures char_boundary { IsTrue result ↔ IsCharBoundary C.form (map C.number (units_seen self.entry)) place }
     {
         match self.units.get(place) {
             Some(unit) => !unit.is_low(),
@@ -119,7 +118,7 @@ impl<'a, C: Unit> UtfStr<'a, C> {
     pub fn unit_offset(self, index: usize) -> Option<usize>
         ensures some { IsSome result ↔ (index ≤ length (chars C.form (map C.number (units_seen self.entry)))) }
         ensures place { IfSome result (IsPlaceOf C.form (map C.number (units_seen self.entry)) index) }
-        ensures gap { IfSome result (IsCharBoundary C.form (map C.number (units_seen self.entry))) }
+        ensures char_boundary { IfSome result (IsCharBoundary C.form (map C.number (units_seen self.entry))) }
     {
         let mut rest = self;
         for _number in 0..index {
@@ -132,10 +131,9 @@ impl<'a, C: Unit> UtfStr<'a, C> {
     /// The part of the view in a range of places, counted in units; none where the range starts behind its end, ends behind
     /// the view or has a bound past the greatest `usize`, as [`range_check`] tells, or where an end of it is no boundary.
     pub fn get<R: RangeBounds<usize>>(self, range: R) -> Option<Self>
-        requires { R.has_bounds range }
-        ensures some { IsSome result ↔ IsTextRange C.form (map C.number (units_seen self.entry)) (start_index (R.start_bound range)) (end_index (R.end_bound range) (length (units_seen self.entry))) }
-        ensures gaps { IsSome result ↔ IsCharRange C.form (map C.number (units_seen self.entry)) (start_index (R.start_bound range)) (end_index (R.end_bound range) (length (units_seen self.entry))) }
-        ensures part { IfSome result (λ part. units_seen part ≡ slice_range (units_seen self.entry) (start_index (R.start_bound range)) (end_index (R.end_bound range) (length (units_seen self.entry)))) }
+        ensures some { R.has_bounds range → IsSome result ↔ IsTextRange C.form (map C.number (units_seen self.entry)) (start_index (R.start_bound range)) (end_index (R.end_bound range) (length (units_seen self.entry))) }
+        ensures char_range { R.has_bounds range → IsSome result ↔ IsCharRange C.form (map C.number (units_seen self.entry)) (start_index (R.start_bound range)) (end_index (R.end_bound range) (length (units_seen self.entry))) }
+        ensures part { R.has_bounds range → IfSome result (λ part. units_seen part ≡ slice_range (units_seen self.entry) (start_index (R.start_bound range)) (end_index (R.end_bound range) (length (units_seen self.entry)))) }
     {
         let places = range_check(range, self.units.len())?;
         if self.is_char_boundary(places.start) && self.is_char_boundary(places.end) {
@@ -190,7 +188,7 @@ impl<'a, C: Unit> UtfStr<'a, C> {
     pub fn char_indices(self) -> CharIndices<'a, C>
         ensures characters { indices_left C.form C.number result ≡ indexed_chars C.form 0 (chars C.form (map C.number (units_seen self.entry))) }
         ensures offset { offset_of result ≡ 0 }
-        ensures gaps { All (λ at. IsCharBoundary C.form (map C.number (units_seen self.entry)) at.0) (indices_left C.form C.number result) }
+        ensures boundaries { All (λ at. IsCharBoundary C.form (map C.number (units_seen self.entry)) at.0) (indices_left C.form C.number result) }
         ensures runs { IndicesRun result }
     {
         CharIndices::new(self)

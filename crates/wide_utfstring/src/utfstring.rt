@@ -11,7 +11,7 @@ ghost use Rattle.std.specs.Str.{chars as str_chars};
 ghost use Rattle.wide_ustr.specs.View.{units_seen as ustr_units};
 ghost use Rattle.wide_ustring.specs.Units.{ustring_len, HasRoomFor};
 ghost use Rattle.wide_ucstr.specs.CString.{contents};
-ghost use Rattle.wide_unit.specs.CharBoundary.{IsCharBoundary, IsCharRange};
+ghost use Rattle.wide_unit.specs.Places.{IsCharBoundary, IsCharRange};
 ghost use Rattle.wide_utfstr.specs.View.{units_seen};
 ghost use Rattle.wide_error.specs.UtfError.{index_of};
 ghost use Rattle.wide_utfstring.specs.Faults.{IsFaultOf};

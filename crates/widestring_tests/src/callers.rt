@@ -1,8 +1,8 @@
 //! Callers at concrete sources, whose contracts follow from those of the library.
 ghost use Rattle.std.specs.Prelude.{◌≡◌, ℕ, [], IfOk, MatchOption, List, map, ◌∷◌, ◌++◌};
 ghost use Rattle.std.specs.Iterator.{IsFinite, YieldsFirst, item_count};
-ghost use Rattle.wide_iter.specs.Over.{GivesFirst, IsUnit16};
-ghost use Rattle.wide_unit.specs.EncodingForm.{Utf16, Utf32};
+ghost use Rattle.wide_iter.specs.Over.{GivesFirst};
+ghost use Rattle.wide_unit.specs.EncodingForm.{Utf16, Utf32, IsCodeUnit};
 ghost use Rattle.wide_unit.specs.Items.{items};
 ghost use Rattle.wide_unit.specs.Lossy.{lossy};
 ghost use Rattle.wide_unit.specs.Segmentation.{Item};
@@ -57,7 +57,7 @@ pub fn all_of_source<I: Iterator<Item = u16>>(
 ) -> Result<Vec<Result<char, DecodeUtf16Error>>, AllocError>
     requires can { I.can_next units }
     requires ends { IsFinite (I.remaining units) }
-    ensures { (rest : I → List ℕ) → GivesFirst IsUnit16 I.next_gives rest → IfOk result (λ v. map told_item v.items ≡ items Utf16 (rest units)) }
+    ensures { (rest : I → List ℕ) → GivesFirst (IsCodeUnit Utf16) I.next_gives rest → IfOk result (λ v. map told_item v.items ≡ items Utf16 (rest units)) }
 {
     decode_utf16(units).collect(alloc)
 }
@@ -121,7 +121,7 @@ pub fn last_lossy_of32(units: &[u32]) -> Option<char>
 pub fn lossy_of<I: Iterator<Item = u16>>(alloc: Global, units: I) -> Result<Vec<char>, AllocError>
     requires can { I.can_next units }
     requires ends { IsFinite (I.remaining units) }
-    ensures { (rest : I → List ℕ) → GivesFirst IsUnit16 I.next_gives rest → IfOk result (λ v. v.items ≡ lossy (items Utf16 (rest units))) }
+    ensures { (rest : I → List ℕ) → GivesFirst (IsCodeUnit Utf16) I.next_gives rest → IfOk result (λ v. v.items ≡ lossy (items Utf16 (rest units))) }
 {
     decode_utf16_lossy(units).collect(alloc)
 }

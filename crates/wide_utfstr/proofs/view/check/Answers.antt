@@ -1,10 +1,10 @@
-use Rattle.std.proofs.Common.{◌≡◌, ◌∷◌, map, ap, arith, rules, refl, ◌∙◌}
+use Rattle.std.proofs.Common.{◌≡◌, ◌-◌, ◌∷◌, map, length, ap, subst, arith, refl, ◌∙◌}
 use Rattle.std.proofs.lemmas.List.{length-map}
-use Rattle.wide_unit.specs.Items.{items}
+use Rattle.wide_unit.specs.Items.{items, IsFirstFault}
 use Rattle.wide_unit.specs.Segmentation.{Char, Fault}
 use Rattle.wide_unit.specs.Unit.{item_of}
 use Rattle.wide_unit.proofs.Front.{first_of_nil}
-use Rattle.wide_utfstr.specs.Laws.CharBoundaries.{fault-not_well_formed}
+use Rattle.wide_unit.proofs.Faults.{first_fault-not_well_formed}
 use Rattle.wide_utfstr.proofs.Whole.{chars-end, chars-more, chars-fault}
 use Rattle.wide_utfstr.proofs.view.check.Goals as goal
 
@@ -15,8 +15,8 @@ returns-in-Err-clause-err g c =
     let us = map number c.args.units.now in
     let rest = map number c.loop-item.rest.now in
     let head : items form rest ≡ Fault (number c.in-Err.unit) ∷ items form (map number c.in-Some.tail.now) = c.in-Some.ensures.some ∙ ap (λ r. item_of number r ∷ items form (map number c.in-Some.tail.now)) c.in-Err.is in
-    let at = chars-fault form us rest (number c.in-Err.unit) _ c.loop-item.invariant.1 head in
-    record { front = at.front; rest = at.rest; split = at.split; at = at.at ∙ omega (arith, length-map c.args.units.now number, length-map c.loop-item.rest.now number) }
+    let index : length us - length rest ≡ length c.args.units.now - length c.loop-item.rest.now = omega (arith, length-map c.args.units.now number, length-map c.loop-item.rest.now number) in
+    subst (λ n. IsFirstFault form us n (number c.in-Err.unit)) index (chars-fault form us rest (number c.in-Err.unit) _ c.loop-item.invariant.1 head)
 
 pub loop-item-preserved : goal.loop-item-preserved
 loop-item-preserved g c =
@@ -35,7 +35,7 @@ returns-clause-ok g c =
 
 pub returns-in-Err-clause-well_formed : goal.returns-in-Err-clause-well_formed
 returns-in-Err-clause-well_formed g c =
-    (λ ok. absurd cc, λ well. absurd (fault-not_well_formed g.C.Unit.form (map g.C.Unit.number c.args.units.now) _ (g.C.Unit.number c.in-Err.unit) (returns-in-Err-clause-err g c) well))
+    (λ ok. absurd cc, λ well. absurd (first_fault-not_well_formed g.C.Unit.form (map g.C.Unit.number c.args.units.now) _ (g.C.Unit.number c.in-Err.unit) (returns-in-Err-clause-err g c) well))
 
 pub returns-clause-well_formed : goal.returns-clause-well_formed
 returns-clause-well_formed g c = (λ _. returns-clause-ok g c, λ _. refl)

@@ -1,18 +1,17 @@
 use Rattle.std.proofs.Common.{[], ap, map, refl, arith, sym, subst, length, ◌≡◌}
 use Rattle.std.specs.List.{All}
 use Rattle.wide_unit.specs.Items.{chars}
-use Rattle.wide_unit.specs.CharBoundary.{IsCharBoundary}
+use Rattle.wide_unit.specs.Places.{IsCharBoundary}
 use Rattle.wide_utfstr.specs.Indexed.{indexed_chars}
-use Rattle.wide_utfstr.specs.Laws.CharBoundaries.{gaps_from}
-use Rattle.wide_utfstr.proofs.Runs.{indices_in_order}
+use Rattle.wide_utfstr.proofs.Indices.{boundaries_from, indices_in_order}
 use Rattle.wide_utfstr.proofs.view.UtfStr.char_indices.Goals as goal
 
-pub returns-clause-gaps : goal.returns-clause-gaps
-returns-clause-gaps g c =
+pub returns-clause-boundaries : goal.returns-clause-boundaries
+returns-clause-boundaries g c =
     let form = g.C.Unit.form in
     let us = map g.C.Unit.number c.args.self.units.now in
     let e = ap (λ vs. chars form (map g.C.Unit.number vs)) c.new.ensures.rest in
-    rw (c.new.ensures.offset, e) (gaps_from form us [] (chars form us) c.args.self.well_formed refl)
+    rw (c.new.ensures.offset, e) (boundaries_from form us [] (chars form us) c.args.self.well_formed refl)
 
 pub returns-clause-runs : goal.returns-clause-runs
 returns-clause-runs g c = indices_in_order

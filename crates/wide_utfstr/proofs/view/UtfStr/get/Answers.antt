@@ -8,7 +8,7 @@ pub invariant_of-result : goal.invariant_of-result
 invariant_of-result g c = record {
   well_formed = IsWellFormed-map_part g.C.Unit.form g.C.Unit.number c.args.self.units.now c.args.self.well_formed c.in_ok-places.places.start c.in_ok-places.places.end
       (c.is_char_boundary.ensures.boundary.0 c.if-is_char_boundary.true) (c.is_char_boundary-then-is_char_boundary.ensures.boundary.0 c.if-is_char_boundary-2.true)
-      (rw (c.in_ok-places.ensures.start, c.in_ok-places.ensures.end) (c.in_ok-places.ensures.some.0 refl).forward);
+      c.in_ok-places.ensures.within.forward;
 }
 
 clash : {P : Type 0} (b : Bool) → b ≡ true → b ≡ false → P
@@ -16,12 +16,12 @@ clash true p q = absurd cc
 clash false p q = absurd cc
 
 pub returns-clause-some : goal.returns-clause-some
-returns-clause-some g c = (
+returns-clause-some g c = λ bounds. (
   λ e. absurd cc,
   λ part. let form = g.C.Unit.form in
       let us = map g.C.Unit.number c.args.self.units.now in
-      let start : IsBoundary form us c.in_ok-places.places.start = subst (λ n. IsBoundary form us n) (sym c.in_ok-places.ensures.start) part.start in
-      let end : IsBoundary form us c.in_ok-places.places.end = subst (λ n. IsBoundary form us n) (sym c.in_ok-places.ensures.end) part.end in
+      let start : IsBoundary form us c.in_ok-places.places.start = subst (λ n. IsBoundary form us n) (sym (c.in_ok-places.ensures.start bounds)) part.start in
+      let end : IsBoundary form us c.in_ok-places.places.end = subst (λ n. IsBoundary form us n) (sym (c.in_ok-places.ensures.end bounds)) part.end in
       let first = c.is_char_boundary.ensures.boundary.1 start in
       elim c.else-is_char_boundary.branch [
         else-is_char_boundary-via-then-is_char_boundary+else-is_char_boundary-2 w ↦ clash _ (w.is_char_boundary-then-is_char_boundary.ensures.boundary.1 end) w.if-is_char_boundary-2.false

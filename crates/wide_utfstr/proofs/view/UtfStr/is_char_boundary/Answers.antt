@@ -1,6 +1,6 @@
 use Rattle.wide_utfstr.proofs.Boundary.{boundary_by_unit, boundary_by_length}
 use Rattle.std.proofs.Common.{map}
-use Rattle.wide_utfstr.specs.Laws.CharBoundaries.{tells_gaps}
+use Rattle.wide_unit.proofs.CharBoundaries.{tells_char_boundary}
 use Rattle.wide_utfstr.proofs.view.UtfStr.is_char_boundary.Goals as goal
 
 pub returns-in-Some-clause-boundary : goal.returns-in-Some-clause-boundary
@@ -11,8 +11,8 @@ returns-in-Some-clause-boundary g c =
 pub returns-in-None-clause-boundary : goal.returns-in-None-clause-boundary
 returns-in-None-clause-boundary g c = boundary_by_length g.C.Unit.form g.C.Unit.number c.args.self.units.now c.args.place c.in-None.ensures.lookup.3
 
-pub returns-in-Some-clause-gap : goal.returns-in-Some-clause-gap
-returns-in-Some-clause-gap g c = tells_gaps g.C.Unit.form (map g.C.Unit.number c.args.self.units.now) c.args.place c.args.self.well_formed (returns-in-Some-clause-boundary g c)
+pub returns-in-Some-clause-char_boundary : goal.returns-in-Some-clause-char_boundary
+returns-in-Some-clause-char_boundary g c = tells_char_boundary g.C.Unit.form (map g.C.Unit.number c.args.self.units.now) c.args.place c.args.self.well_formed (returns-in-Some-clause-boundary g c)
 
-pub returns-in-None-clause-gap : goal.returns-in-None-clause-gap
-returns-in-None-clause-gap g c = tells_gaps g.C.Unit.form (map g.C.Unit.number c.args.self.units.now) c.args.place c.args.self.well_formed (returns-in-None-clause-boundary g c)
+pub returns-in-None-clause-char_boundary : goal.returns-in-None-clause-char_boundary
+returns-in-None-clause-char_boundary g c = tells_char_boundary g.C.Unit.form (map g.C.Unit.number c.args.self.units.now) c.args.place c.args.self.well_formed (returns-in-None-clause-boundary g c)

@@ -1,5 +1,5 @@
 use Rattle.std.proofs.Common.{map}
-use Rattle.wide_utfstr.specs.Laws.CharBoundaries.{IsTextRange-of_chars}
+use Rattle.wide_unit.proofs.CharBoundaries.{IsTextRange-of_chars}
 use Rattle.wide_unit.specs.Laws.Splices.{IsWellFormed-map_part}
 use Rattle.wide_utfstr.proofs.view.UtfStr.slice.Goals as goal
 

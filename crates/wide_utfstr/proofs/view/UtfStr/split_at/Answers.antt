@@ -1,5 +1,5 @@
 use Rattle.std.proofs.Common.{map, sym, subst}
-use Rattle.wide_utfstr.specs.Laws.CharBoundaries.{IsBoundary-of_char}
+use Rattle.wide_unit.proofs.CharBoundaries.{IsBoundary-of_char}
 use Rattle.wide_unit.specs.Items.{IsWellFormed}
 use Rattle.wide_unit.specs.Laws.Splices.{IsWellFormed-map_take, IsWellFormed-map_drop}
 use Rattle.wide_utfstr.proofs.Boundary.{boundary-within}

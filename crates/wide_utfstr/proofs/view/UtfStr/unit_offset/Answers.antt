@@ -2,7 +2,7 @@ use Rattle.std.proofs.Common.{◌≡◌, ℕ, ◌+◌, ◌-◌, ◌<◌, ◌≤�
 use Rattle.std.proofs.lemmas.List.{length-map}
 use Rattle.wide_unit.specs.Items.{chars}
 use Rattle.wide_unit.specs.Places.{IsPlaceOf}
-use Rattle.wide_utfstr.specs.Laws.CharBoundaries.{IsCharBoundary-of}
+use Rattle.wide_unit.proofs.CharBoundaries.{IsCharBoundary-of}
 use Rattle.wide_utfstr.proofs.Walk.{left-all, left-none, left-more, left-shorter, left-place}
 use Rattle.wide_utfstr.proofs.view.UtfStr.unit_offset.Goals as goal
 
@@ -48,7 +48,7 @@ returns-clause-place g c =
     subst (λ k. IsPlaceOf form (map number us) k (length us - length rest)) reached
     (left-place form (map number us) c.args.self.well_formed (map number rest) c.loop-number._number c.loop-number.invariant (length us - length rest) joined)
 
-pub returns-clause-gap : goal.returns-clause-gap
-returns-clause-gap g c =
+pub returns-clause-char_boundary : goal.returns-clause-char_boundary
+returns-clause-char_boundary g c =
     let us = c.args.self.units.now in
     IsCharBoundary-of g.C.Unit.form (map g.C.Unit.number us) (length us - length c.loop-number.rest.units.now) c.args.self.well_formed (returns-clause-place g c).boundary

@@ -7,7 +7,7 @@ use Rattle.wide_unit.specs.Places.{chars_before}
 use Rattle.wide_unit.specs.Laws.Ends.{IsWellFormed-code_units}
 use Rattle.wide_unit.specs.Laws.Places.{IsBoundary-within}
 use Rattle.wide_unit.specs.Laws.Splices.{IsWellFormed-splice, chars-splice, chars-code_units}
-use Rattle.wide_utfstr.specs.Laws.CharBoundaries.{IsBoundary-of_char}
+use Rattle.wide_unit.proofs.CharBoundaries.{IsBoundary-of_char}
 use Rattle.wide_utfstring.proofs.Edits.{kept, on_ok}
 use Rattle.wide_utfstring.proofs.utfstring.UtfString.insert.Goals as goal
 

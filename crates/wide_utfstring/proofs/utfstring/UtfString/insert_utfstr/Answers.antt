@@ -6,7 +6,7 @@ use Rattle.wide_unit.specs.Places.{chars_before}
 use Rattle.wide_unit.specs.Laws.Places.{IsBoundary-within}
 use Rattle.wide_unit.specs.Laws.Splices.{IsWellFormed-map_splice, chars-map_splice}
 use Rattle.wide_ustr.specs.View.{units_seen}
-use Rattle.wide_utfstr.specs.Laws.CharBoundaries.{IsBoundary-of_char}
+use Rattle.wide_unit.proofs.CharBoundaries.{IsBoundary-of_char}
 use Rattle.wide_utfstring.proofs.Edits.{kept, on_ok}
 use Rattle.wide_utfstring.proofs.utfstring.UtfString.insert_utfstr.Goals as goal
 

@@ -6,7 +6,7 @@ use Rattle.wide_unit.specs.Laws.Splices.{IsWellFormed-map_splice, chars-map_spli
 use Rattle.wide_ustr.specs.View.{units_seen}
 use Rattle.wide_ustring.specs.Units.{ustring_len}
 use Rattle.std.specs.Range.Bound.{start_index, end_index}
-use Rattle.wide_utfstr.specs.Laws.CharBoundaries.{IsTextRange-of_chars}
+use Rattle.wide_unit.proofs.CharBoundaries.{IsTextRange-of_chars}
 use Rattle.wide_utfstring.proofs.Edits.{kept, on_ok}
 use Rattle.wide_utfstring.proofs.utfstring.UtfString.replace_range.Goals as goal
 

@@ -7,7 +7,7 @@ use Rattle.wide_unit.specs.Items.{chars}
 use Rattle.wide_unit.specs.Places.{chars_before, IsTextRange}
 use Rattle.wide_unit.specs.Laws.Splices.{IsWellFormed-splice, chars-splice}
 use Rattle.wide_unit.specs.Laws.Texts.{IsWellFormed-text, chars-text}
-use Rattle.wide_utfstr.specs.Laws.CharBoundaries.{IsTextRange-of_chars}
+use Rattle.wide_unit.proofs.CharBoundaries.{IsTextRange-of_chars}
 use Rattle.wide_utfstring.proofs.Edits.{kept, on_ok}
 use Rattle.wide_utfstring.proofs.utfstring.UtfString.splice_str.Goals as goal
 

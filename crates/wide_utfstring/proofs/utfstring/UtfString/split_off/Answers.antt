@@ -2,7 +2,7 @@ use Rattle.std.proofs.Common.{map, inr, arith}
 use Rattle.std.proofs.lemmas.List.{length-map}
 use Rattle.wide_unit.specs.Laws.Places.{IsBoundary-within}
 use Rattle.wide_unit.specs.Laws.Splices.{IsWellFormed-map_take, IsWellFormed-map_drop}
-use Rattle.wide_utfstr.specs.Laws.CharBoundaries.{IsBoundary-of_char}
+use Rattle.wide_unit.proofs.CharBoundaries.{IsBoundary-of_char}
 use Rattle.wide_utfstring.proofs.Edits.{front_text, rest_text}
 use Rattle.wide_utfstring.proofs.utfstring.UtfString.split_off.Goals as goal
 

@@ -1,5 +1,5 @@
 use Rattle.std.proofs.Common.{map}
-use Rattle.wide_utfstr.specs.Laws.CharBoundaries.{past_or_boundary}
+use Rattle.wide_unit.proofs.CharBoundaries.{past_or_boundary}
 use Rattle.wide_utfstring.proofs.Edits.{front_of, front_text}
 use Rattle.wide_utfstring.proofs.utfstring.UtfString.truncate.Goals as goal
 

@@ -1,0 +1,39 @@
+//! What a caller does with units that may be ill formed.
+ghost use Rattle.std.specs.Prelude.{IsTrue, ◌↔◌};
+ghost use Rattle.widestring.specs.EncodingForm.{Utf16, Utf32};
+ghost use Rattle.widestring.specs.Items.{IsWellFormed};
+
+use widestring::{Utf16Str, Utf32Str};
+
+/// The unit that is no part of a character, where there is one.
+pub fn faulty_unit(units: &[u16]) -> Option<u16> {
+    match Utf16Str::from_slice(units) {
+        Ok(_) => None,
+        Err(fault) => Some(units[fault.index()]),
+    }
+}
+
+/// The units before the first fault.
+pub fn sound_part(units: &[u32]) -> &[u32] {
+    match Utf32Str::from_slice(units) {
+        Ok(_) => units,
+        Err(fault) => &units[..fault.index()],
+    }
+}
+
+/// Whether the units are well-formed UTF-16.
+pub fn is_text(units: &[u16]) -> bool
+    ensures { IsTrue result ↔ IsWellFormed Utf16 units.now }
+{
+    Utf16Str::from_slice(units).is_ok()
+}
+
+/// Whether the units are well-formed UTF-32.
+pub fn is_wide_text(units: &[u32]) -> bool
+    ensures { IsTrue result ↔ IsWellFormed Utf32 units.now }
+{
+    match Utf32Str::from_slice(units) {
+        Ok(_) => true,
+        Err(_) => false,
+    }
+}
