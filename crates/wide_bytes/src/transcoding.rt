@@ -12,7 +12,7 @@ use std::alloc::Global;
 use wide_error::TranscodeError;
 
 /// Reads UTF-16 bytes from the source to its end and writes their text into the sink, in UTF-8
-/// (Unicode Standard, sections 3.9 and 3.10).
+/// (Unicode Standard, D91, D92 and D98).
 ///
 /// A byte order mark at the front tells the byte order and is dropped; without one the order is little endian. One
 /// zero unit at the end is dropped, where the number of bytes is even; both are the Rust crate's rules for files. In [`Mode::Strict`] the characters before the

@@ -46,7 +46,7 @@ impl FaultUnit for u32 {
     }
 }
 
-/// Units that are not well formed (Unicode Standard, section 3.9), by their first fault.
+/// Units that are not well formed (Unicode Standard, D84), by their first fault.
 ///
 /// A constructor of an owned type hands back the vector that it was given, or its copy; a view has none to hand back.
 #[derive(Drop)]

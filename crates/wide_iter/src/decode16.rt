@@ -17,7 +17,7 @@ use wide_error::DecodeUtf16Error;
 use wide_unit::Unit;
 
 /// An iterator over the characters of UTF-16 units, and over the units that belong to none
-/// (Unicode Standard, section 3.9).
+/// (Unicode Standard, D91).
 ///
 /// It gives each character of the source as `Ok`, and each unpaired surrogate as an `Err` that has the unit, from
 /// both ends where the source has both. It stays ended, and asks a source that has ended no more. It takes no memory.

@@ -13,7 +13,7 @@ use std::iter::FusedIterator;
 use wide_error::DecodeUtf32Error;
 use wide_unit::Unit;
 
-/// An iterator over the characters of UTF-32 units, and over the units that are none (Unicode Standard, section 3.9).
+/// An iterator over the characters of UTF-32 units, and over the units that are none (Unicode Standard, D90).
 ///
 /// It gives each unit of the source that is a scalar value as `Ok`, and each other one as an `Err` that has its number:
 /// two surrogates are two faults, never a pair. It gives them from both ends where the source has both, and knows their

@@ -17,7 +17,7 @@ use std::iter::{Copied, FusedIterator};
 use std::slice::Iter;
 use wide_unit::Unit;
 
-/// An iterator over the UTF-16 units of characters (Unicode Standard, section 3.9, Table 3-5).
+/// An iterator over the UTF-16 units of characters (Unicode Standard, D91, Table 3-5).
 ///
 /// It gives the one or two units of each character of the source, in order, from the front. It stays ended, and asks a
 /// source that has ended no more. It takes no memory. Made by [`encode_utf16`].

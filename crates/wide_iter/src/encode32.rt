@@ -11,7 +11,7 @@ use crate::source::Source;
 use std::iter::{Copied, FusedIterator};
 use std::slice::Iter;
 
-/// An iterator over the UTF-32 units of characters, one for each (Unicode Standard, section 3.9).
+/// An iterator over the UTF-32 units of characters, one for each (Unicode Standard, D90).
 ///
 /// It gives the unit of each character of the source, from both ends where the source has both, and its length where the
 /// source has one. It stays ended, and asks a source that has ended no more. It takes no memory. Made by

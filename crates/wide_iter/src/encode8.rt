@@ -24,7 +24,7 @@ enum Held {
     Three(u8, u8, u8),
 }
 
-/// An iterator over the UTF-8 bytes of characters (Unicode Standard, section 3.9, Table 3-6).
+/// An iterator over the UTF-8 bytes of characters (Unicode Standard, D92, Table 3-6).
 ///
 /// It gives the bytes of each character of the source, in order, from the front. It stays ended, and asks a source that
 /// has ended no more. It takes no memory. Made by [`encode_utf8`].

@@ -21,7 +21,7 @@ pub enum End {
 }
 
 /// What a decoder of the 16-bit `units` answers to the calls of `ends`, one answer for each call, in order
-/// (Unicode Standard, section 3.9).
+/// (Unicode Standard, D91).
 ///
 /// Memory for the answers is asked for once; where it is refused, the answer is [`OutOfMemory`].
 pub fn read_ends16<A: Allocator>(
@@ -44,7 +44,7 @@ pub fn read_ends16<A: Allocator>(
 }
 
 /// What a decoder of the 32-bit `units` answers to the calls of `ends`, one answer for each call, in order
-/// (Unicode Standard, section 3.9).
+/// (Unicode Standard, D90).
 ///
 /// Memory for the answers is asked for once; where it is refused, the answer is [`OutOfMemory`].
 pub fn read_ends32<A: Allocator>(

@@ -19,7 +19,7 @@ use std::iter::{Copied, FusedIterator};
 use std::slice::Iter;
 
 /// An iterator over the characters of UTF-16 units, with U+FFFD in place of each unit that belongs to none (Unicode
-/// Standard, section 3.9).
+/// Standard, D93b).
 ///
 /// A run of such units gives as many U+FFFD as it is long. It gives the characters from both ends where the source has
 /// both, stays ended, and asks a source that has ended no more. It takes no memory. Made by [`decode_utf16_lossy`].
@@ -29,7 +29,7 @@ pub struct DecodeUtf16Lossy<I> {
 }
 
 /// An iterator over the characters of UTF-32 units, with U+FFFD in place of each unit that is none (Unicode Standard,
-/// section 3.9).
+/// D93b).
 ///
 /// A run of such units gives as many U+FFFD as it is long. It gives the characters from both ends where the source has
 /// both, and knows their number where the source does. It stays ended, and asks a source that has ended no more. It takes

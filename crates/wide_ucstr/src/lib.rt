@@ -7,3 +7,7 @@ pub mod laws;
 mod view;
 
 pub use view::{U16CStr, U32CStr, UCStr, WideCStr};
+pub use wide_ustr::{
+    CharIndices, CharIndicesLossy, CharIndicesLossyUtf16, CharIndicesLossyUtf32, CharIndicesUtf16,
+    CharIndicesUtf32, Chars, CharsLossy, CharsLossyUtf16, CharsLossyUtf32, CharsUtf16, CharsUtf32,
+};

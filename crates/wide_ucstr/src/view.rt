@@ -15,8 +15,7 @@ use std::alloc::AllocError;
 use std::ops::RangeBounds;
 use wide_error::{ContainsNul, FaultUnit, MissingNulTerminator, NulError};
 use wide_unit::{Unit, first_nul};
-use wide_ustr::UStr;
-use wide_ustr::iter::{CharIndices, CharIndicesLossy, Chars, CharsLossy};
+use wide_ustr::{CharIndices, CharIndicesLossy, Chars, CharsLossy, UStr};
 
 /// A view of a wide C string: units of which the last is the only NUL, by its type.
 ///
@@ -178,7 +177,7 @@ impl<'a, C: FaultUnit> UCStr<'a, C> {
         self.as_ustr().split_at(mid)
     }
 
-    /// The characters of the contents, and as errors the units that belong to none (Unicode Standard, section 3.9), from both
+    /// The characters of the contents, and as errors the units that belong to none (Unicode Standard, D84a), from both
     /// ends.
     pub fn chars(self) -> Chars<'a, C>
         ensures { items_left C.form C.number result ≡ items C.form (map C.number (contents_seen self.entry)) }

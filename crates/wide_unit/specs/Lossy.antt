@@ -1,4 +1,4 @@
--- Lossy text: the Unicode Standard, section 3.9, "U+FFFD Substitution of Maximal Subparts".
+-- Lossy text: the Standard's D93b and, in its section 3.9, "U+FFFD Substitution of Maximal Subparts".
 use Rattle.std.specs.Prelude.{ℕ, List, map}
 use Rattle.wide_unit.specs.Segmentation.{Item, Char, Fault}
 

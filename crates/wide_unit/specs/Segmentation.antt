@@ -1,4 +1,5 @@
--- The way in which a list of code units falls into characters and faults: the Unicode Standard, section 3.9.
+-- The way in which a list of code units falls into characters and faults: the Standard's D85a (a minimal
+-- well-formed subsequence) and D84a (an ill-formed one).
 use Rattle.std.specs.Prelude.{◌≡◌, ℕ, ◌≤◌, List, [], ◌∷◌, ◌++◌}
 use Rattle.std.specs.Char.{IsScalar}
 use Rattle.std.specs.List.{All, Contains, flat_map}

@@ -1,4 +1,4 @@
--- UTF-8, the encoding form of bytes: the Unicode Standard, section 3.9, Table 3-6.
+-- UTF-8, the encoding form of bytes: the Standard's D92, Table 3-6.
 use Rattle.std.specs.Prelude.{ℕ, ◌+◌, ◌/◌, ◌%◌, ◌^◌, nat_lt, if◌then◌else◌, List, [], ◌∷◌}
 use Rattle.std.specs.List.{flat_map}
 

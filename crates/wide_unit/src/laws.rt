@@ -6,7 +6,7 @@ ghost use Rattle.wide_unit.specs.Items.{items, IsFirstFault};
 ghost use Rattle.wide_unit.specs.Lossy.{lossy};
 ghost use Rattle.wide_unit.specs.Statements.{SegmentationExists, SegmentationIsUnique, SegmentationIsLiteral16, SegmentationIsLiteral32, LooseSegmentationsDiffer, ItemsJoinAfter, ItemsJoinBefore, EncodingIsWellFormed, EncodingDecodes, WellFormedIsEncoded, BoundariesAreSeen, FirstFaultsAreBehindText, WellFormedOrFaulty, PlacesAreLengths, BoundariesArePlaces, CutsAreWellFormed, PartsAreWellFormed, SplicesAreWellFormed, EncodingsAreCut, PlacesGrow, EncodingsAreSpliced, FiltersAreWellFormed, EqualCharacters, Utf8IsStds, Units32AreItems, Items32Join, Items32Count, LossyIsScalars, LossyKeepsWellFormed, CodePointOfText, CodePointOfNone};
 
-/// Each list of code units has exactly one segmentation (Unicode Standard, section 3.9).
+/// Each list of code units has exactly one segmentation (Unicode Standard, D84a and D85a).
 pub fn one_segmentation()
     ensures exists { SegmentationExists }
     ensures unique { SegmentationIsUnique }
@@ -38,7 +38,7 @@ pub fn units_of_utf32()
 {}
 
 /// Lossy text, with U+FFFD for each fault, is of scalar values, and that of well-formed units encodes to them
-/// (Unicode Standard, section 3.9).
+/// (Unicode Standard, section 3.9, "U+FFFD Substitution of Maximal Subparts").
 pub fn lossy_text()
     ensures scalars { LossyIsScalars }
     ensures keeps { LossyKeepsWellFormed }

@@ -7,7 +7,7 @@ ghost use Rattle.wide_unit.specs.Unit.{item_of};
 use crate::unit::Unit;
 
 /// The first item of the units, and the units after it: a character, or as an `Err` the unit that belongs to none
-/// (Unicode Standard, section 3.9). None where there are no units. It reads at most two units.
+/// (Unicode Standard, D84a and D85a). None where there are no units. It reads at most two units.
 #[inline]
 pub fn split_first<C: Unit>(units: &[C]) -> Option<(Result<char, C>, &[C])>
     ensures none { IsNone result ↔ (units.now ≡ []) }

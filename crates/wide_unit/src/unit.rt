@@ -12,7 +12,7 @@ ghost use Rattle.wide_unit.specs.Laws.Items.{items-code_units, segmentation-uniq
 
 use crate::utf8::{length_as_utf16, length_as_utf32};
 
-/// A code unit: `u16` for UTF-16, `u32` for UTF-32 (Unicode Standard, section 3.9).
+/// A code unit: `u16` for UTF-16, `u32` for UTF-32 (Unicode Standard, D77).
 ///
 /// The trait is this port's own. No call takes memory or fails.
 pub trait Unit: Copy {

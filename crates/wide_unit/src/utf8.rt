@@ -16,7 +16,7 @@ fn with_byte(bits: u32, byte: u8) -> u32
 }
 
 /// The code point that the bytes begin with, and the bytes after its own: by the layout of UTF-8 (Unicode Standard,
-/// section 3.9, Table 3-6), which is not tested.
+/// D92, Table 3-6), which is not tested.
 ///
 /// The first byte tells how many follow it: none below 80, one from C0 to DF, two from E0 to EF, and else three. The
 /// highest bits of the first byte and the two highest of each that follows are passed over. So on the bytes of a text
@@ -57,7 +57,7 @@ fn units_begun(byte: u8) -> usize
     usize::from(byte < 0x80 || 0xC0 <= byte)
 }
 
-/// The length of the text in UTF-16, in units of 16 bits (Unicode Standard, section 3.9).
+/// The length of the text in UTF-16, in units of 16 bits (Unicode Standard, D91).
 ///
 /// It goes once over the bytes of the text, and takes no memory.
 pub fn length_as_utf16(text: &str) -> usize
@@ -71,7 +71,7 @@ pub fn length_as_utf16(text: &str) -> usize
 }
 
 /// The length of the text in UTF-32, in units of 32 bits, which is its number of characters (Unicode Standard,
-/// section 3.9).
+/// D90).
 ///
 /// It goes once over the bytes of the text, and takes no memory.
 pub fn length_as_utf32(text: &str) -> usize

@@ -1,8 +1,12 @@
 //! Views of units of 16 or 32 bits, well formed or not.
 #![tactic(auto)]
 
-pub mod iter;
+mod iter;
 mod places;
 mod view;
 
+pub use iter::{
+    CharIndices, CharIndicesLossy, CharIndicesLossyUtf16, CharIndicesLossyUtf32, CharIndicesUtf16,
+    CharIndicesUtf32, Chars, CharsLossy, CharsLossyUtf16, CharsLossyUtf32, CharsUtf16, CharsUtf32,
+};
 pub use view::{U16Str, U32Str, UStr, WideChar, WideStr};

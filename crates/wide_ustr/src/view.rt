@@ -109,7 +109,7 @@ impl<'a, C: FaultUnit> UStr<'a, C> {
         (UStr { units: front }, UStr { units: back })
     }
 
-    /// The characters, and as errors the units that belong to none (Unicode Standard, section 3.9), from both ends.
+    /// The characters, and as errors the units that belong to none (Unicode Standard, D84a), from both ends.
     pub fn chars(self) -> Chars<'a, C>
         ensures { items_left C.form C.number result ≡ items C.form (map C.number (units_seen self.entry)) }
     {

@@ -2,7 +2,7 @@
 #![tactic(auto)]
 
 pub mod extend;
-pub mod iter;
+mod iter;
 mod room;
 mod ustring;
 mod view;

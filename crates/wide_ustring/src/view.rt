@@ -1,5 +1,5 @@
 //! The calls of a view that make a string.
-ghost use Rattle.std.specs.Prelude.{◌≡◌, List, IsOk, IfOk};
+ghost use Rattle.std.specs.Prelude.{◌≡◌, [], List, IsOk, IfOk};
 ghost use Rattle.std.specs.List.{repeat};
 
 use crate::UString;
@@ -19,7 +19,8 @@ pub trait UStrInUstring<C> {
     /// A string of the view's units, so many times. A length past the greatest `usize` counts as want of memory.
     fn repeat<A: Allocator>(self, alloc: A, count: usize) -> Result<UString<C, A>, OutOfMemory>
         ensures units { IfOk result (λ s. s.units ≡ repeat count (text self)) }
-        ensures succeeds { count ≡ 0 → IsOk result };
+        ensures succeeds { count ≡ 0 → IsOk result }
+        ensures empty { text self ≡ [] → IsOk result };
 }
 
 impl<C: FaultUnit> UStrInUstring<C> for UStr<'_, C> {

@@ -3,3 +3,4 @@ pub mod Boundary
 pub mod Walk
 pub mod IndexedLemmas
 pub mod Indices
+pub mod Counts

@@ -1,7 +1,8 @@
 //! Iterators over well-formed text.
-ghost use Rattle.std.specs.Prelude.{◌≡◌, ◌+◌, ◌/◌, ◌<◌, ◌^◌, length, Some, IfSome, ⊤};
+ghost use Rattle.std.specs.Prelude.{◌≡◌, ◌+◌, ◌/◌, ◌<◌, ◌≤◌, ◌^◌, length, map, Some, IfSome, ⊤};
 ghost use Rattle.std.specs.Iterator.{YieldsFirst, YieldsLast, at_most, UpTo};
 ghost use Rattle.std.specs.Iterator.SizeHint.{IsWithinCount};
+ghost use Rattle.wide_unit.specs.Items.{chars};
 ghost use Rattle.wide_utfstr.specs.View.{units_seen};
 
 use crate::view::UtfStr;
@@ -9,12 +10,16 @@ use std::alloc::AllocError;
 use std::iter::FusedIterator;
 use wide_unit::Unit;
 
-// The bounds on the characters of units that are all still to come: at least one for as many units as a character takes at
-// most, and at most one for each.
-fn unit_hint<C: Unit>(text: UtfStr<'_, C>) -> (usize, Option<usize>)
+// The bounds on the characters of a text: at least one for as many units as a character takes at most, and at most one for
+// each unit.
+fn hint_of<C: Unit>(text: UtfStr<'_, C>) -> (usize, Option<usize>)
     ensures least { result.0 ≡ length (units_seen text.entry) / C.MAX_CHAR_LEN }
     ensures most { result.1 ≡ Some (length (units_seen text.entry)) }
+    ensures lower { result.0 ≤ length (chars C.form (map C.number (units_seen text.entry))) }
+    ensures upper { length (chars C.form (map C.number (units_seen text.entry))) ≤ length (units_seen text.entry) }
 {
+    // A call for its contract: no character takes more units than the greatest length.
+    let _longest = C::char_len('\u{10000}');
     (text.len() / C::MAX_CHAR_LEN, Some(text.len()))
 }
 
@@ -62,8 +67,10 @@ impl<C: Unit> Iterator for Chars<'_, C> {
         ensures upper { IfSome result.1 (UpTo (at_most (length (chars_rest self.now)))) }
         ensures least { result.0 ≡ length (chars_rest self.now) / C.MAX_CHAR_LEN }
         ensures most { result.1 ≡ Some (length (chars_rest self.now)) }
+        ensures fewest { result.0 ≤ length (chars_left C.form C.number self.now) }
+        ensures greatest { length (chars_left C.form C.number self.now) ≤ length (chars_rest self.now) }
     {
-        unit_hint(self.text)
+        hint_of(self.text)
     }
 }
 
@@ -161,7 +168,7 @@ impl<C: Unit> Iterator for CharIndices<'_, C> {
         ensures least { result.0 ≡ length (indices_rest self.now) / C.MAX_CHAR_LEN }
         ensures most { result.1 ≡ Some (length (indices_rest self.now)) }
     {
-        unit_hint(self.text)
+        hint_of(self.text)
     }
 }
 

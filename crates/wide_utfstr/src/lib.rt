@@ -1,7 +1,10 @@
 //! Views of well-formed text, in units of 16 or 32 bits: UTF-16 and UTF-32.
 #![tactic(auto)]
 
-pub mod iter;
+mod iter;
 mod view;
 
+pub use iter::{
+    CharIndices, CharIndicesUtf16, CharIndicesUtf32, Chars, CharsUtf16, CharsUtf32, CodeUnits,
+};
 pub use view::{Utf16Str, Utf32Str, UtfStr, WideUtfStr, check};

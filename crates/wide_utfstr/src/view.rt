@@ -23,7 +23,7 @@ use wide_ucstr::UCStr;
 use wide_unit::{Unit, range_check, split_first, split_last};
 use wide_ustr::UStr;
 
-/// A view of units that are well formed (Unicode Standard, section 3.9), by its type: no call can make one that isn't.
+/// A view of units that are well formed (Unicode Standard, D85), by its type: no call can make one that isn't.
 ///
 /// It is a slice by another name, and is copied freely. No call takes memory.
 #[derive(Debug)]
@@ -41,7 +41,7 @@ pub type Utf32Str<'a> = UtfStr<'a, u32>;
 /// A view of well-formed wide units.
 pub type WideUtfStr<'a> = Utf32Str<'a>;
 
-/// Whether the units are well formed (Unicode Standard, section 3.9). The error is the first fault: its index, in units, and its
+/// Whether the units are well formed (Unicode Standard, D85). The error is the first fault: its index, in units, and its
 /// unit. Each unit is read once.
 pub fn check<C: Unit>(units: &[C]) -> Result<(), (usize, C)>
     ensures ok { OnOk result (IsWellFormed C.form (map C.number units.now)) }
@@ -61,7 +61,7 @@ pub fn check<C: Unit>(units: &[C]) -> Result<(), (usize, C)>
 
 impl<'a, C: Unit> UtfStr<'a, C> {
     ghost use Rattle.wide_utfstr.specs.View.{units_seen};
-    ghost use Rattle.wide_utfstr.specs.Iter.{chars_left, indices_left, offset_of, IndicesRun};
+    ghost use Rattle.wide_utfstr.specs.Iter.{chars_left, chars_rest, indices_left, offset_of, IndicesRun};
     ghost use Rattle.wide_utfstr.specs.Indexed.{indexed_chars};
 
     /// A view of the units, which must be well formed. No check is made.
@@ -95,7 +95,7 @@ impl<'a, C: Unit> UtfStr<'a, C> {
     }
 
     /// Whether the place, counted in units, lies between two characters or is an end: false within a surrogate pair (Unicode
-    /// Standard, section 3.8) and past the end. It reads at most the unit at the place.
+    /// Standard, D75) and past the end. It reads at most the unit at the place.
     pub fn is_char_boundary(self, place: usize) -> bool
         ensures boundary { IsTrue result ↔ IsBoundary C.form (map C.number (units_seen self.entry)) place }
         ensures char_boundary { IsTrue result ↔ IsCharBoundary C.form (map C.number (units_seen self.entry)) place }
@@ -179,7 +179,8 @@ impl<'a, C: Unit> UtfStr<'a, C> {
 
     /// The characters, from both ends.
     pub fn chars(self) -> Chars<'a, C>
-        ensures { chars_left C.form C.number result ≡ chars C.form (map C.number (units_seen self.entry)) }
+        ensures characters { chars_left C.form C.number result ≡ chars C.form (map C.number (units_seen self.entry)) }
+        ensures units { chars_rest result ≡ units_seen self.entry }
     {
         Chars { text: self }
     }
@@ -194,7 +195,7 @@ impl<'a, C: Unit> UtfStr<'a, C> {
         CharIndices::new(self)
     }
 
-    /// The UTF-8 bytes of the characters (Unicode Standard, section 3.9), from the front.
+    /// The UTF-8 bytes of the characters (Unicode Standard, D92), from the front.
     pub fn encode_utf8(self) -> EncodeUtf8<Chars<'a, C>>
         ensures { bytes_left (chars_left C.form C.number) result ≡ utf8 (chars C.form (map C.number (units_seen self.entry))) }
     {
@@ -315,7 +316,7 @@ impl<'a> UtfStr<'a, u16> {
         CodeUnits { rest: self.units }
     }
 
-    /// The UTF-32 units of the characters (Unicode Standard, section 3.9), from both ends.
+    /// The UTF-32 units of the characters (Unicode Standard, D90), from both ends.
     pub fn encode_utf32(self) -> EncodeUtf32<CharsUtf16<'a>>
         ensures { units32_left (chars_left Utf16 (λ u. u)) result ≡ encode Utf32 (chars Utf16 (units_seen self.entry)) }
     {
@@ -339,7 +340,7 @@ impl<'a> UtfStr<'a, u32> {
         c
     }
 
-    /// The UTF-16 units of the characters (Unicode Standard, section 3.9), from the front.
+    /// The UTF-16 units of the characters (Unicode Standard, D91), from the front.
     pub fn encode_utf16(self) -> EncodeUtf16<CharsUtf32<'a>>
         ensures { units16_left (chars_left Utf32 (λ u. u)) result ≡ encode Utf16 (chars Utf32 (units_seen self.entry)) }
     {

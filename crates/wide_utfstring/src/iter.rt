@@ -1,8 +1,7 @@
 //! What a drain gives.
-ghost use Rattle.std.specs.Prelude.{◌≡◌, ◌≤◌, [], length, map, slice_range, Some, IfSome};
+ghost use Rattle.std.specs.Prelude.{◌≡◌, ◌≤◌, ◌/◌, [], length, map, slice_range, Some, IfSome};
 ghost use Rattle.std.specs.Iterator.{at_most, UpTo};
 ghost use Rattle.std.specs.Iterator.SizeHint.{IsWithinCount};
-ghost use Rattle.std.specs.Int.{div_ceil};
 ghost use Rattle.std.specs.List.{splice};
 ghost use Rattle.wide_unit.specs.Items.{chars, IsWellFormed};
 ghost use Rattle.wide_utfstr.specs.View.{units_seen};
@@ -90,13 +89,10 @@ impl<C: FaultUnit, A: Allocator> Iterator for DrainUtf<'_, C, A> {
     fn size_hint(&self) -> (usize, Option<usize>)
         ensures lower { IsWithinCount result.0 (at_most (length (drain_rest self.now))) }
         ensures upper { IfSome result.1 (UpTo (at_most (length (drain_rest self.now)))) }
-        ensures least { result.0 ≡ div_ceil (length (drain_units self.now)) C.MAX_CHAR_LEN }
+        ensures least { result.0 ≡ length (drain_units self.now) / C.MAX_CHAR_LEN }
         ensures most { result.1 ≡ Some (length (drain_units self.now)) }
     {
-        // A call for its contract: no character takes more units than the greatest length.
-        let _longest = C::char_len('\u{10000}');
-        let len = self.as_utfstr().len();
-        (len.div_ceil(C::MAX_CHAR_LEN), Some(len))
+        self.as_utfstr().chars().size_hint()
     }
 }
 

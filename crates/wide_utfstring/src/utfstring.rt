@@ -28,7 +28,7 @@ use wide_ustr::UStr;
 use wide_ustring::UString;
 use wide_utfstr::{UtfStr, check};
 
-/// An owned string of well-formed text (Unicode Standard, section 3.9), by its type: no call leaves one that isn't.
+/// An owned string of well-formed text (Unicode Standard, D85), by its type: no call leaves one that isn't.
 ///
 /// Places and lengths are counted in units. A call that finds no memory answers [`OutOfMemory`] and has changed nothing.
 #[derive(Drop)]

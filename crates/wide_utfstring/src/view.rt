@@ -1,5 +1,5 @@
 //! The calls of a view that make a string.
-ghost use Rattle.std.specs.Prelude.{◌≡◌, List, IsOk, IfOk};
+ghost use Rattle.std.specs.Prelude.{◌≡◌, [], List, IsOk, IfOk};
 ghost use Rattle.std.specs.List.{repeat};
 
 use crate::UtfString;
@@ -21,7 +21,8 @@ pub trait UtfStrInUtfstring<C: FaultUnit> {
     /// A string of the view's text, so many times. A length past the greatest `usize` counts as want of memory.
     fn repeat<A: Allocator>(self, alloc: A, count: usize) -> Result<UtfString<C, A>, OutOfMemory>
         ensures units { IfOk result (λ s. s.units ≡ repeat count (text self)) }
-        ensures succeeds { count ≡ 0 → IsOk result };
+        ensures succeeds { count ≡ 0 → IsOk result }
+        ensures empty { text self ≡ [] → IsOk result };
 }
 
 impl<C: FaultUnit> UtfStrInUtfstring<C> for UtfStr<'_, C> {

@@ -1,6 +1,6 @@
 //! The program, over any devices.
 
-ghost use Rattle.std.specs.Prelude.{◌≡◌, ◌≤◌, ℕ, List, Result, false};
+ghost use Rattle.std.specs.Prelude.{◌≡◌, ◌≤◌, ℕ, List, Result, OnErr, false};
 ghost use Rattle.wide_error.specs.declared.error.TranscodeError.{TranscodeError};
 ghost use Rattle.wide_bytes.specs.Run.{Ends, Moves, fails_to_read, fails_to_write};
 ghost use Rattle.wide_bytes.specs.Transcoded.{transcoded};
@@ -62,6 +62,7 @@ fn write_answers<K: ByteSink>(
     ends: &[End],
 ) -> Result<(), TranscodeError>
     requires { K.has_failed sink.old ≡ false }
+    ensures refused { OnErr result (K.has_failed sink.new ≡ false → sink.new ≡ sink.old) }
 {
     let answers = read_ends16(alloc, units, ends)?;
     let mut lines = String::new(alloc);
@@ -103,6 +104,9 @@ pub fn command<S: ByteSource, K: ByteSink, F: ByteSink>(
     ensures reads { ¬ (AsksForUtf8 words.now) → source.new ≡ source.old }
     ensures unknown { IsUnknown words.now → result ≡ 2 }
     ensures wrong { result ≡ 2 → sink.new ≡ sink.old }
+
+    // Of other words all output is made before any is written: a refusal writes nothing, unless the output itself failed.
+    ensures whole { ¬ (AsksForUtf8 words.now) → result ≡ 1 → K.has_failed sink.new ≡ false → sink.new ≡ sink.old }
     ensures statuses { result ≤ 2 }
 {
     let request = match parse_words(alloc, words) {

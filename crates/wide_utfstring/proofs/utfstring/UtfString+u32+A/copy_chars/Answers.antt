@@ -13,7 +13,7 @@ loop-c-init g c =
     let well = subst (λ s. IsWellFormed Utf32 (map (λ u. u) s.units)) c.self.view_is c.self.invariant in
     let same : chars Utf32 xs ≡ xs = chars32-well_formed xs (well32 xs well) in
     let left : chars_left Utf32 (λ u. u) c.into_iter-c-iterator.result ≡ chars Utf32 xs =
-    ap (chars_left Utf32 (λ u. u)) c.into_iter-c-iterator.ensures.into_iter_gives ∙ c.chars-c-items.ensures ∙ ap (λ us. chars Utf32 (map (λ u. u) us)) c.as_utfstr.ensures ∙ ap (chars Utf32) (map-id xs)
+    ap (chars_left Utf32 (λ u. u)) c.into_iter-c-iterator.ensures.into_iter_gives ∙ c.chars-c-items.ensures.characters ∙ ap (λ us. chars Utf32 (map (λ u. u) us)) c.as_utfstr.ensures ∙ ap (chars Utf32) (map-id xs)
     in
     record {
       copied = ap (λ cs. cs ++ chars_left Utf32 (λ u. u) c.into_iter-c-iterator.result) c.in_ok-chars.ensures.items;
@@ -37,6 +37,6 @@ pub returns : goal.returns
 returns g c =
     let xs = c.args.self.now.units in
     let left : chars_left Utf32 (λ u. u) c.into_iter-c-iterator.result ≡ chars Utf32 xs =
-    ap (chars_left Utf32 (λ u. u)) c.into_iter-c-iterator.ensures.into_iter_gives ∙ c.chars-c-items.ensures ∙ ap (λ us. chars Utf32 (map (λ u. u) us)) c.as_utfstr.ensures ∙ ap (chars Utf32) (map-id xs)
+    ap (chars_left Utf32 (λ u. u)) c.into_iter-c-iterator.ensures.into_iter_gives ∙ c.chars-c-items.ensures.characters ∙ ap (λ us. chars Utf32 (map (λ u. u) us)) c.as_utfstr.ensures ∙ ap (chars Utf32) (map-id xs)
     in
     sym (append-nil c.loop-c.chars.items) ∙ ap (λ cs. c.loop-c.chars.items ++ cs) (sym c.in-None.ensures.steps.0) ∙ c.loop-c.invariant.copied ∙ left
