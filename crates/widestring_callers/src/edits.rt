@@ -13,14 +13,14 @@ pub fn append_wide<C: FaultUnit>(text: &mut UtfString<C>, c: char) -> Result<(),
     text.insert(text.len(), c)
 }
 
-/// Takes all characters away, and answers how many there were.
-pub fn take_all(text: &mut Utf16String) -> usize {
-    text.drain(..).count()
+/// Takes all characters away.
+pub fn take_all(text: &mut Utf16String) {
+    text.drain(..);
 }
 
 /// The same, at any width.
-pub fn take_all_wide<C: FaultUnit>(text: &mut UtfString<C>) -> usize {
-    text.drain(..).count()
+pub fn take_all_wide<C: FaultUnit>(text: &mut UtfString<C>) {
+    text.drain(..);
 }
 
 /// Takes this many characters away at the front, where there are so many.

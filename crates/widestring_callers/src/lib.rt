@@ -1,7 +1,7 @@
 //! Ordinary callers of the library, as an application would write them: each is proved with no proof file.
 //!
 //! They show that what a call asks for stands in the same words as what other calls give: places that a call answered, places at
-//! the ends, and places that the caller has compared. Each is also a row of the page of contracts, `CALLING.md`.
+//! the ends, and places that the caller has compared. `CALLING.md` begins with some of them.
 #![tactic(auto)]
 
 pub mod edits;
