@@ -138,24 +138,33 @@ fn numbers_of_characters(rt: HostRuntime) -> Result<(), Fail> {
     Ok(())
 }
 
-// The characters of a well-formed view, from the front and from the back.
+// The characters of a well-formed view, from the front.
 fn shows_text<C: FaultUnit>(view: UtfStr<'_, C>, text: &[char]) -> bool {
-    let mut ahead = view.chars();
-    let mut back = view.chars();
+    let mut chars = view.chars();
     let mut holds = true;
     for c in text {
-        holds &= ahead.next() == Some(*c);
+        holds &= chars.next() == Some(*c);
     }
+    holds & chars.next().is_none()
+}
+
+// And from the back.
+fn shows_text_from_the_back<C: FaultUnit>(view: UtfStr<'_, C>, text: &[char]) -> bool {
+    let mut chars = view.chars();
+    let mut holds = true;
     for c in text.iter().rev() {
-        holds &= back.next_back() == Some(*c);
+        holds &= chars.next_back() == Some(*c);
     }
-    holds & ahead.next().is_none() & back.next_back().is_none()
+    holds & chars.next_back().is_none()
 }
 
 // The calls of a well-formed view, through its bound.
 fn is_text<C: FaultUnit>(units: &[C], text: &[char]) -> bool {
     match UtfStr::from_slice(units) {
-        Ok(view) => (view.as_slice().len() == units.len()) & shows_text(view, text),
+        Ok(view) => {
+            let is_whole = view.as_slice().len() == units.len();
+            is_whole & shows_text(view, text) & shows_text_from_the_back(view, text)
+        }
         Err(_) => false,
     }
 }
