@@ -1,4 +1,4 @@
-//! Tests of owned strings of units.
+//! Tests of owned strings of units, and of owned C strings.
 //!
 //! They have worked rows, call each public function that makes or edits a string with ample memory, and refuse memory at
 //! each request in turn.
@@ -12,5 +12,9 @@ mod extend_rows;
 mod readme;
 #[cfg(test)]
 mod refused_rows;
+#[cfg(test)]
+mod rows;
+#[cfg(test)]
+mod ucstring_rows;
 #[cfg(test)]
 mod ustring_rows;

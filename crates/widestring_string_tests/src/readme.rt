@@ -1,6 +1,7 @@
-//! The code of README.md on owned strings, word for word.
+//! The code of README.md on owned strings of units and on C strings, word for word.
 use std::test::Fail;
-use widestring::U16String;
+use widestring::error::UCStringError;
+use widestring::{U16CStr, U16CString, U16String};
 
 #[test]
 fn editing(rt: HostRuntime) -> Result<(), Fail> {
@@ -9,5 +10,17 @@ fn editing(rt: HostRuntime) -> Result<(), Fail> {
     assert_eq!(rt; string.remove_char(1), 0x1_f600);
     string.push_str("é")?;
     assert_eq!(rt; string.as_slice(), [0x61, 0x62, 0xe9].as_slice());
+    Ok(())
+}
+
+#[test]
+fn c_strings(rt: HostRuntime) -> Result<(), Fail> {
+    let units = [0x61, 0, 0x62].to_vec(rt.alloc())?;
+    let Err(UCStringError::ContainsNul(fault)) = U16CString::from_vec(units) else {
+        panic!(rt; "a NUL stands before the last unit")
+    };
+    assert_eq!(rt; fault.nul_position(), 1);
+    let cut = U16CStr::from_slice_truncate(&[0x61, 0, 0x62])?;
+    assert_eq!(rt; cut.as_slice(), [0x61].as_slice());
     Ok(())
 }

@@ -1,5 +1,7 @@
 //! Views of units and of well-formed text, at both widths.
-use std::process::Abort;
+use crate::rows::all_hold;
+use crate::ucstr_rows::says;
+use std::alloc::Global;
 use std::test::Fail;
 use widestring::error::{DecodeUtf16Error, DecodeUtf32Error, FaultUnit, Utf16Error, Utf32Error};
 use widestring::unit::range_check;
@@ -11,17 +13,22 @@ use widestring::{U16Str, U32Str, Utf16Str, Utf32Str, WideStr};
 fn offsets_from_both_ends(rt: HostRuntime) -> Result<(), Fail> {
     let units = [0x41, 0xd83d, 0xde00, 0xd800];
     let mut places = U16Str::from_slice(&units).char_indices_lossy();
-    assert_eq!(rt; places.size_hint(), (2, Some(4)));
-    assert_eq!(rt; places.next_back(), Some((3, '\u{fffd}')));
-    assert_eq!(rt; places.offset(), 0);
+    let hint = places.size_hint();
+    let last = places.next_back();
     let mut copy = places.clone()?;
-    assert_eq!(rt; places.next(), Some((0, 'A')));
-    assert_eq!(rt; places.offset(), 1);
-    assert_eq!(rt; places.next_back(), Some((1, '\u{1f600}')));
-    assert_eq!(rt; places.offset(), 1);
-    assert_eq!(rt; places.next(), None);
-    assert_eq!(rt; places.next_back(), None);
-    assert_eq!(rt; copy.next(), Some((0, 'A')));
+    let rows = [
+        hint == (2, Some(4)),
+        last == Some((3, '\u{fffd}')),
+        places.offset() == 0,
+        places.next() == Some((0, 'A')),
+        places.offset() == 1,
+        places.next_back() == Some((1, '\u{1f600}')),
+        places.offset() == 1,
+        places.next().is_none(),
+        places.next_back().is_none(),
+        copy.next() == Some((0, 'A')),
+    ];
+    all_hold(&rt, &rows);
     Ok(())
 }
 
@@ -30,135 +37,179 @@ fn offsets_of_faults(rt: HostRuntime) {
     let units = [0x41, 0xd83d, 0xde00, 0xd800];
     let mut places = U16Str::from_slice(&units).char_indices();
     let fault = DecodeUtf16Error::new(0xd800);
-    assert_eq!(rt; places.next_back(), Some((3, Err(fault))));
-    assert_eq!(rt; places.next(), Some((0, Ok('A'))));
-    assert_eq!(rt; places.next(), Some((1, Ok('\u{1f600}'))));
-    assert_eq!(rt; places.offset(), 3);
-    assert_eq!(rt; places.size_hint(), (0, Some(0)));
+    let rows = [
+        places.next_back() == Some((3, Err(fault))),
+        places.next() == Some((0, Ok('A'))),
+        places.next() == Some((1, Ok('\u{1f600}'))),
+        places.offset() == 3,
+        places.size_hint() == (0, Some(0)),
+    ];
+    all_hold(&rt, &rows);
 }
 
 #[test]
 fn wide_offsets(rt: HostRuntime) {
     let units = [0x41, 0xd83d, 0xde00, 0x1_f600];
     let mut places = WideStr::from_slice(&units).char_indices();
-    assert_eq!(rt; places.len(), 4);
-    assert_eq!(rt; places.next_back(), Some((3, Ok('\u{1f600}'))));
-    assert_eq!(rt; places.next(), Some((0, Ok('A'))));
-    assert_eq!(rt;
-        places.next(),
-        Some((1, Err(DecodeUtf32Error::new(0xd83d))))
-    );
-    assert_eq!(rt; places.offset(), 2);
-    assert_eq!(rt; places.size_hint(), (1, Some(1)));
+    let rows = [
+        places.len() == 4,
+        places.next_back() == Some((3, Ok('\u{1f600}'))),
+        places.next() == Some((0, Ok('A'))),
+        places.next() == Some((1, Err(DecodeUtf32Error::new(0xd83d)))),
+        places.offset() == 2,
+        places.size_hint() == (1, Some(1)),
+    ];
+    all_hold(&rt, &rows);
 }
 
 #[test]
 fn wide_lossy_offsets(rt: HostRuntime) {
     let units = [0x41, 0xd83d, 0xde00, 0x1_f600];
     let mut places = WideStr::from_slice(&units).char_indices_lossy();
-    assert_eq!(rt; places.len(), 4);
-    assert_eq!(rt; places.next(), Some((0, 'A')));
-    assert_eq!(rt; places.next_back(), Some((3, '\u{1f600}')));
-    assert_eq!(rt; places.next_back(), Some((2, '\u{fffd}')));
-    assert_eq!(rt; places.offset(), 1);
+    let rows = [
+        places.len() == 4,
+        places.next() == Some((0, 'A')),
+        places.next_back() == Some((3, '\u{1f600}')),
+        places.next_back() == Some((2, '\u{fffd}')),
+        places.offset() == 1,
+    ];
+    all_hold(&rt, &rows);
 }
 
-// The calls of a view, through its bound.
-fn shows<C: FaultUnit>(rt: &impl Abort, units: &[C], text: &[char]) {
+// The calls of a view, through its bound, with its characters from the front.
+fn shows<C: FaultUnit>(units: &[C], text: &[char]) -> bool {
     let view = UStr::from_slice(units);
-    assert_eq!(rt; view.len(), units.len());
-    assert_eq!(rt; view.as_slice().len(), units.len());
-    assert_eq!(rt; view.is_empty(), units.is_empty());
     let mut lossy = view.chars_lossy();
+    let mut holds = view.len() == units.len();
+    holds &= view.as_slice().len() == units.len();
+    holds &= view.is_empty() == units.is_empty();
+    holds &= UStr::<C>::default().is_empty();
     for c in text {
-        assert_eq!(rt; lossy.next(), Some(*c));
+        holds &= lossy.next() == Some(*c);
     }
-    assert_eq!(rt; lossy.next(), None);
-    assert!(rt; UStr::<C>::default().is_empty());
-    shows_from_the_back(rt, view, text);
+    holds & lossy.next().is_none()
 }
 
-fn shows_from_the_back<C: FaultUnit>(rt: &impl Abort, view: UStr<'_, C>, text: &[char]) {
-    let mut strict = view.chars();
-    let mut lossy = view.chars_lossy();
+// Its characters from the back; a strict decoder has as many.
+fn shows_from_the_back<C: FaultUnit>(units: &[C], text: &[char]) -> bool {
+    let mut strict = UStr::from_slice(units).chars();
+    let mut lossy = UStr::from_slice(units).chars_lossy();
+    let mut holds = true;
     for c in text.iter().rev() {
-        assert!(rt; strict.next_back().is_some());
-        assert_eq!(rt; lossy.next_back(), Some(*c));
+        holds &= strict.next_back().is_some();
+        holds &= lossy.next_back() == Some(*c);
     }
-    assert!(rt; strict.next().is_none());
+    holds & strict.next().is_none()
 }
 
 #[test]
 fn views_at_both_widths(rt: HostRuntime) {
-    shows(
-        &rt,
-        &[0x41u16, 0xd83d, 0xde00, 0xdc00],
-        &['A', '\u{1f600}', '\u{fffd}'],
-    );
-    shows(
-        &rt,
-        &[0x41u32, 0xd83d, 0x1_f600],
-        &['A', '\u{fffd}', '\u{1f600}'],
-    );
-    shows::<u16>(&rt, &[], &[]);
+    let narrow = [0x41u16, 0xd83d, 0xde00, 0xdc00];
+    let narrow_text = ['A', '\u{1f600}', '\u{fffd}'];
+    let wide = [0x41u32, 0xd83d, 0x1_f600];
+    let wide_text = ['A', '\u{fffd}', '\u{1f600}'];
+    let rows = [
+        shows(&narrow, &narrow_text),
+        shows_from_the_back(&narrow, &narrow_text),
+        shows(&wide, &wide_text),
+        shows_from_the_back(&wide, &wide_text),
+        shows::<u16>(&[], &[]),
+        shows_from_the_back::<u16>(&[], &[]),
+    ];
+    all_hold(&rt, &rows);
 }
 
 #[test]
 fn numbers_of_characters(rt: HostRuntime) -> Result<(), Fail> {
-    let mut chars = U32Str::from_slice(&[0x41, 0xd800]).chars();
-    assert_eq!(rt; chars.len(), 2);
-    assert_eq!(rt; chars.clone()?.next(), Some(Ok('A')));
-    assert_eq!(rt; chars.next_back(), Some(Err(DecodeUtf32Error::new(0xd800))));
-    let mut lossy = U32Str::from_slice(&[0x41, 0xd800]).chars_lossy();
-    assert_eq!(rt; lossy.len(), 2);
-    assert_eq!(rt; lossy.clone()?.next_back(), Some('\u{fffd}'));
-    assert_eq!(rt; lossy.next(), Some('A'));
+    let view = U32Str::from_slice(&[0x41, 0xd800]);
+    let mut chars = view.chars();
+    let mut copy = chars.clone()?;
+    let mut lossy = view.chars_lossy();
+    let mut lossy_copy = lossy.clone()?;
+    let rows = [
+        chars.len() == 2,
+        copy.next() == Some(Ok('A')),
+        chars.next_back() == Some(Err(DecodeUtf32Error::new(0xd800))),
+        lossy.len() == 2,
+        lossy_copy.next_back() == Some('\u{fffd}'),
+        lossy.next() == Some('A'),
+    ];
+    all_hold(&rt, &rows);
     Ok(())
+}
+
+// The characters of a well-formed view, from the front.
+fn shows_text<C: FaultUnit>(view: UtfStr<'_, C>, text: &[char]) -> bool {
+    let mut chars = view.chars();
+    let mut holds = true;
+    for c in text {
+        holds &= chars.next() == Some(*c);
+    }
+    holds & chars.next().is_none()
+}
+
+// And from the back.
+fn shows_text_from_the_back<C: FaultUnit>(view: UtfStr<'_, C>, text: &[char]) -> bool {
+    let mut chars = view.chars();
+    let mut holds = true;
+    for c in text.iter().rev() {
+        holds &= chars.next_back() == Some(*c);
+    }
+    holds & chars.next_back().is_none()
 }
 
 // The calls of a well-formed view, through its bound.
-fn shows_text<C: FaultUnit>(
-    rt: &impl Abort,
-    units: &[C],
-    text: &[char],
-) -> Result<(), &'static str> {
-    let view = UtfStr::from_slice(units).ok().ok_or("not well formed")?;
-    assert_eq!(rt; view.as_slice().len(), units.len());
-    let mut chars = view.chars();
-    for c in text {
-        assert_eq!(rt; chars.next(), Some(*c));
+fn is_text<C: FaultUnit>(units: &[C], text: &[char]) -> bool {
+    match UtfStr::from_slice(units) {
+        Ok(view) => {
+            let is_whole = view.as_slice().len() == units.len();
+            is_whole & shows_text(view, text) & shows_text_from_the_back(view, text)
+        }
+        Err(_) => false,
     }
-    assert_eq!(rt; chars.next(), None);
-    let mut chars = view.chars();
-    for c in text.iter().rev() {
-        assert_eq!(rt; chars.next_back(), Some(*c));
-    }
-    assert_eq!(rt; chars.next_back(), None);
-    Ok(())
 }
 
 #[test]
-fn text_at_both_widths(rt: HostRuntime) -> Result<(), Fail> {
-    shows_text(&rt, &[0x41u16, 0xd83d, 0xde00], &['A', '\u{1f600}'])?;
-    shows_text(&rt, &[0x41u32, 0x1_f600], &['A', '\u{1f600}'])?;
-    Ok(())
+fn text_at_both_widths(rt: HostRuntime) {
+    let text = ['A', '\u{1f600}'];
+    let rows = [
+        is_text(&[0x41u16, 0xd83d, 0xde00], &text),
+        is_text(&[0x41u32, 0x1_f600], &text),
+    ];
+    all_hold(&rt, &rows);
 }
 
 #[test]
 fn numbers_of_characters_of_text(rt: HostRuntime) -> Result<(), Fail> {
     let units = [0x41, 0xd83d, 0xde00];
     let mut chars = Utf16Str::from_slice(&units)?.chars();
-    assert_eq!(rt; chars.size_hint(), (1, Some(3)));
-    assert_eq!(rt; chars.clone()?.next_back(), Some('\u{1f600}'));
-    assert_eq!(rt; chars.next(), Some('A'));
-    assert_eq!(rt; chars.size_hint(), (1, Some(2)));
+    let mut copy = chars.clone()?;
     let units = [0x41, 0x1_f600];
-    assert_eq!(rt; Utf32Str::from_slice(&units)?.chars().len(), 2);
+    let wide = Utf32Str::from_slice(&units)?;
+    let rows = [
+        chars.size_hint() == (1, Some(3)),
+        copy.next_back() == Some('\u{1f600}'),
+        chars.next() == Some('A'),
+        chars.size_hint() == (1, Some(2)),
+        wide.chars().len() == 2,
+    ];
+    all_hold(&rt, &rows);
     Ok(())
 }
 
+// Whether units have this fault first, with this text; a fault of a slice has no vector to hand back.
+fn has_fault(alloc: Global, units: &[u16], index: usize, unit: u16, text: &str) -> bool {
+    let Err(error) = Utf16Str::from_slice(units) else {
+        return false;
+    };
+    let mut holds = error.index() == index;
+    holds &= error.cause() == DecodeUtf16Error::new(unit);
+    holds &= says(alloc, &error, text);
+    holds & error.into_vec().is_none()
+}
+
 #[test]
-fn first_faults(rt: HostRuntime) -> Result<(), Fail> {
+fn first_faults(rt: HostRuntime) {
     let rows: [(&[u16], usize, u16, &str); 4] = [
         (
             &[0xd83d, 0xde00, 0xd800],
@@ -186,13 +237,8 @@ fn first_faults(rt: HostRuntime) -> Result<(), Fail> {
         ),
     ];
     for (units, index, unit, text) in rows {
-        let error: Utf16Error = Utf16Str::from_slice(units).err().ok_or("well formed")?;
-        assert_eq!(rt; error.index(), index);
-        assert_eq!(rt; error.cause(), DecodeUtf16Error::new(unit));
-        assert_eq!(rt; error.to_string(rt.alloc())?.as_str(), text);
-        assert!(rt; error.into_vec().is_none());
+        assert!(rt; has_fault(rt.alloc(), units, index, unit, text), "{text}");
     }
-    Ok(())
 }
 
 #[test]
@@ -200,56 +246,79 @@ fn wide_fault(rt: HostRuntime) -> Result<(), Fail> {
     let error: Utf32Error = Utf32Str::from_slice(&[0x1_f600, 0xd83d])
         .err()
         .ok_or("well formed")?;
-    assert_eq!(rt; error.index(), 1);
-    assert_eq!(rt; error.cause(), DecodeUtf32Error::new(0xd83d));
-    assert_eq!(rt;
-        error.to_string(rt.alloc())?.as_str(),
-        "invalid UTF-32 value d83d at index 1"
-    );
+    let text = "invalid UTF-32 value d83d at index 1";
+    let rows = [
+        error.index() == 1,
+        error.cause() == DecodeUtf32Error::new(0xd83d),
+        says(rt.alloc(), &error, text),
+    ];
+    all_hold(&rt, &rows);
     Ok(())
+}
+
+fn hands_back(error: Utf16Error, units: &[u16]) -> bool {
+    match error.into_vec() {
+        Some(vec) => vec.as_slice() == units,
+        None => false,
+    }
 }
 
 #[test]
 fn units_kept(rt: HostRuntime) -> Result<(), Fail> {
-    let kept = Utf16Error::new(3, 0xd800, Some([0x41u16].to_vec(rt.alloc())?));
-    assert_eq!(rt;
-        kept.into_vec().ok_or("kept")?.as_slice(),
-        [0x41].as_slice()
-    );
+    let vec = [0x41].to_vec(rt.alloc())?;
+    let kept = Utf16Error::new(3, 0xd800, Some(vec));
+    all_hold(&rt, &[hands_back(kept, &[0x41])]);
     Ok(())
 }
 
-// The parts of a view of three units, through its bound.
-fn parts<C: FaultUnit>(rt: &impl Abort, units: &[C; 3]) {
-    let view = UStr::from_slice(units);
-    let len = |part: Option<UStr<'_, C>>| part.map(|part| part.len());
-    assert_eq!(rt; len(view.get(1..)), Some(2));
-    assert_eq!(rt; len(view.get(..=1)), Some(2));
-    assert_eq!(rt; len(view.get(3..)), Some(0));
-    assert_eq!(rt; len(view.get(4..)), None);
-    assert_eq!(rt; len(view.get(..=3)), None);
-    assert_eq!(rt; len(view.get(..=usize::MAX)), None);
-    sure_parts(rt, units);
+fn len_of<C: FaultUnit>(part: Option<UStr<'_, C>>) -> Option<usize> {
+    match part {
+        Some(part) => Some(part.len()),
+        None => None,
+    }
 }
 
-// Those that are never missing.
-fn sure_parts<C: FaultUnit>(rt: &impl Abort, units: &[C; 3]) {
+// The lengths of parts of a view of three units, through its bound.
+fn parts<C: FaultUnit>(units: &[C; 3]) -> bool {
     let view = UStr::from_slice(units);
-    assert_eq!(rt; view.slice(1..3).len(), 2);
-    assert_eq!(rt; view.get_unchecked(..1).len(), 1);
+    let lens = [
+        len_of(view.get(1..)),
+        len_of(view.get(..=1)),
+        len_of(view.get(3..)),
+        len_of(view.get(4..)),
+        len_of(view.get(..=3)),
+        len_of(view.get(..=usize::MAX)),
+    ];
+    lens == [Some(2), Some(2), Some(0), None, None, None]
+}
+
+// Those of parts that are never missing.
+fn sure_parts<C: FaultUnit>(units: &[C; 3]) -> bool {
+    let view = UStr::from_slice(units);
     let (front, back) = view.split_at(1);
-    assert_eq!(rt; front.len(), 1);
-    assert_eq!(rt; back.len(), 2);
+    let lens = [
+        view.slice(1..3).len(),
+        view.get_unchecked(..1).len(),
+        front.len(),
+        back.len(),
+    ];
+    lens == [2, 1, 1, 2]
 }
 
 #[test]
 fn parts_at_both_widths(rt: HostRuntime) {
-    parts(&rt, &[0x41u16, 0xd83d, 0xde00]);
-    parts(&rt, &[0x41u32, 0x1_f600, 0xd800]);
     let units = [0x41, 0xd83d, 0xde00];
+    let wide = [0x41, 0x1_f600, 0xd800];
     let (front, back) = U16Str::from_slice(&units).split_at(2);
-    assert_eq!(rt; front.as_slice(), [0x41, 0xd83d].as_slice());
-    assert_eq!(rt; back.as_slice(), [0xde00].as_slice());
-    assert_eq!(rt; range_check(1..=2, 3), Some(1..3));
-    assert_eq!(rt; range_check(0..=usize::MAX, 3), None);
+    let rows = [
+        parts::<u16>(&units),
+        sure_parts::<u16>(&units),
+        parts::<u32>(&wide),
+        sure_parts::<u32>(&wide),
+        front.as_slice() == [0x41, 0xd83d].as_slice(),
+        back.as_slice() == [0xde00].as_slice(),
+        range_check(1..=2, 3) == Some(1..3),
+        range_check(0..=usize::MAX, 3).is_none(),
+    ];
+    all_hold(&rt, &rows);
 }
