@@ -13,4 +13,6 @@ mod readme;
 #[cfg(test)]
 mod refused_rows;
 #[cfg(test)]
+mod rows;
+#[cfg(test)]
 mod ustring_rows;
