@@ -1,39 +1,59 @@
 //! What the errors hold and print.
-use std::alloc::AllocError;
-use std::test::Fail;
-use widestring::error::{DecodeUtf16Error, OutOfMemory, TranscodeError};
+use crate::rows::all_hold;
+use std::alloc::{AllocError, Global};
+use std::fmt::Display;
+use widestring::error::{DecodeUtf16Error, DecodeUtf32Error, OutOfMemory, TranscodeError};
+
+// Whether an error prints this text.
+fn prints(alloc: Global, error: &impl Display, text: &str) -> bool {
+    match error.to_string(alloc) {
+        Ok(printed) => printed.as_str() == text,
+        Err(_) => false,
+    }
+}
 
 #[test]
-fn texts(rt: HostRuntime) -> Result<(), Fail> {
+fn faults_of_units(rt: HostRuntime) {
     let unpaired = DecodeUtf16Error::new(0xdc0a);
-    assert_eq!(rt; unpaired.unpaired_surrogate(), 0xdc0a);
-    assert_eq!(rt; unpaired.clone()?, unpaired);
-    assert_ne!(rt; unpaired, DecodeUtf16Error::new(0xdc0b));
-    assert_eq!(rt;
-        unpaired.to_string(rt.alloc())?.as_str(),
-        "unpaired surrogate found: dc0a"
-    );
-    assert_eq!(rt;
-        OutOfMemory.to_string(rt.alloc())?.as_str(),
-        "out of memory"
-    );
+    let unpaired_copy: Result<_, _> = unpaired.clone();
+    let invalid = DecodeUtf32Error::new(0x11_000a);
+    let invalid_copy: Result<_, _> = invalid.clone();
     let rows = [
-        (
-            TranscodeError::Utf16 {
-                index: 10,
-                unit: 0xd800,
-            },
+        unpaired.unpaired_surrogate() == 0xdc0a,
+        unpaired_copy == Ok(unpaired),
+        unpaired != DecodeUtf16Error::new(0xdc0b),
+        prints(rt.alloc(), &unpaired, "unpaired surrogate found: dc0a"),
+        invalid.invalid_code_point() == 0x11_000a,
+        invalid_copy == Ok(invalid),
+        invalid != DecodeUtf32Error::new(0xa),
+        prints(rt.alloc(), &invalid, "invalid UTF-32 code point: 11000a"),
+    ];
+    all_hold(&rt, &rows);
+}
+
+#[test]
+fn faults_of_runs(rt: HostRuntime) {
+    let unpaired = TranscodeError::Utf16 {
+        index: 10,
+        unit: 0xd800,
+    };
+    let rows = [
+        prints(rt.alloc(), &OutOfMemory, "out of memory"),
+        prints(
+            rt.alloc(),
+            &unpaired,
             "unpaired UTF-16 surrogate d800 at index 10",
         ),
-        (TranscodeError::OutOfMemory, "out of memory"),
-        (TranscodeError::OddLength, "file not encoded as UTF-16"),
-        (TranscodeError::Read, "read fault"),
-        (TranscodeError::Write, "write fault"),
+        prints(rt.alloc(), &TranscodeError::OutOfMemory, "out of memory"),
+        prints(
+            rt.alloc(),
+            &TranscodeError::OddLength,
+            "file not encoded as UTF-16",
+        ),
+        prints(rt.alloc(), &TranscodeError::Read, "read fault"),
+        prints(rt.alloc(), &TranscodeError::Write, "write fault"),
     ];
-    for (error, text) in rows {
-        assert_eq!(rt; error.to_string(rt.alloc())?.as_str(), text);
-    }
-    Ok(())
+    all_hold(&rt, &rows);
 }
 
 fn refused() -> Result<(), OutOfMemory> {
@@ -48,6 +68,9 @@ fn refused_in_a_run() -> Result<(), TranscodeError> {
 
 #[test]
 fn conversions(rt: HostRuntime) {
-    assert_eq!(rt; refused(), Err(OutOfMemory));
-    assert_eq!(rt; refused_in_a_run(), Err(TranscodeError::OutOfMemory));
+    let rows = [
+        refused() == Err(OutOfMemory),
+        refused_in_a_run() == Err(TranscodeError::OutOfMemory),
+    ];
+    all_hold(&rt, &rows);
 }

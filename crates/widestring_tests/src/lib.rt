@@ -20,4 +20,6 @@ mod iter_rows;
 #[cfg(test)]
 mod readme;
 #[cfg(test)]
+mod rows;
+#[cfg(test)]
 mod unit_rows;

@@ -1,73 +1,83 @@
 //! Code units, at both widths.
-use std::process::Abort;
-use std::test::Fail;
+use crate::rows::all_hold;
 use widestring::unit::{Unit, laws};
 
-// The characters at the ends of the rows of the tables 3-5 and 3-6 of the Unicode Standard, with their UTF-16 units.
-const CHARACTERS: [(char, u16, Option<u16>); 10] = [
-    ('\u{7f}', 0x7f, None),
-    ('\u{80}', 0x80, None),
-    ('\u{7ff}', 0x7ff, None),
-    ('\u{800}', 0x800, None),
-    ('\u{fffd}', 0xfffd, None),
-    ('\u{ffff}', 0xffff, None),
-    ('\u{10000}', 0xd800, Some(0xdc00)),
-    ('\u{1f600}', 0xd83d, Some(0xde00)),
-    ('\u{24b62}', 0xd852, Some(0xdf62)),
-    ('\u{10ffff}', 0xdbff, Some(0xdfff)),
-];
+// Whether a unit that is alone is read as its character.
+fn is_alone<C: Unit>(unit: C, c: char) -> bool {
+    let mut well = C::char_len(c) == 1;
+    well &= unit.as_scalar() == Some(c);
+    well &= !unit.is_high();
+    well & !unit.is_low()
+}
 
-#[test]
-fn utf16_of_the_tables(rt: HostRuntime) {
-    for (c, first, second) in CHARACTERS {
-        assert_eq!(rt; u16::encode_char(c), (first, second));
-        assert_eq!(rt; u32::encode_char(c), (c as u32, None));
-    }
+// Whether two units are read as their character.
+fn is_pair<C: Unit>(first: C, second: C, c: char) -> bool {
+    let mut well = C::char_len(c) == 2;
+    well &= first.as_scalar().is_none();
+    well &= first.pair_scalar(second) == Some(c);
+    well &= second.pair_scalar(first).is_none();
+    well &= first.is_high();
+    well & second.is_low()
 }
 
 // The calls of the trait, through its bound.
-fn reads_back<C: Unit>(rt: &impl Abort, c: char) {
+fn reads_back<C: Unit>(c: char) -> bool {
     let (first, second) = C::encode_char(c);
-    assert!(rt; first.in_range());
+    let well = first.in_range() & (C::NUL.as_scalar() == Some('\0'));
     match second {
-        None => {
-            assert_eq!(rt; C::char_len(c), 1);
-            assert_eq!(rt; first.as_scalar(), Some(c));
-            assert!(rt; !first.is_high());
-            assert!(rt; !first.is_low());
-        }
-        Some(second) => {
-            assert_eq!(rt; C::char_len(c), 2);
-            assert_eq!(rt; first.as_scalar(), None);
-            assert_eq!(rt; first.pair_scalar(second), Some(c));
-            assert_eq!(rt; second.pair_scalar(first), None);
-            assert!(rt; first.is_high());
-            assert!(rt; second.is_low());
-        }
+        None => well & is_alone(first, c),
+        Some(second) => well & is_pair(first, second, c),
     }
-    assert_eq!(rt; C::NUL.as_scalar(), Some('\0'));
 }
 
+// Whether a character has these units, one at 32 bits, and is read back from them.
+fn has_units(c: char, first: u16, second: Option<u16>) -> bool {
+    let mut well = u16::encode_char(c) == (first, second);
+    well &= u32::encode_char(c) == (u32::from(c), None);
+    well &= reads_back::<u16>(c);
+    well & reads_back::<u32>(c)
+}
+
+// The characters at the ends of the rows of the tables 3-5 and 3-6 of the Unicode Standard, with their UTF-16 units.
 #[test]
-fn characters_read_back(rt: HostRuntime) {
-    for (c, _, _) in CHARACTERS {
-        reads_back::<u16>(&rt, c);
-        reads_back::<u32>(&rt, c);
-    }
+fn utf16_of_the_tables(rt: HostRuntime) {
+    let rows = [
+        has_units('\u{7f}', 0x7f, None),
+        has_units('\u{80}', 0x80, None),
+        has_units('\u{7ff}', 0x7ff, None),
+        has_units('\u{800}', 0x800, None),
+        has_units('\u{fffd}', 0xfffd, None),
+        has_units('\u{ffff}', 0xffff, None),
+        has_units('\u{10000}', 0xd800, Some(0xdc00)),
+        has_units('\u{1f600}', 0xd83d, Some(0xde00)),
+        has_units('\u{24b62}', 0xd852, Some(0xdf62)),
+        has_units('\u{10ffff}', 0xdbff, Some(0xdfff)),
+    ];
+    all_hold(&rt, &rows);
+}
+
+// Whether a unit is no character at either width, nor one with a low one after it at 32 bits.
+fn is_no_character(unit: u16) -> bool {
+    let wide = u32::from(unit);
+    let mut well = unit.as_scalar().is_none();
+    well &= wide.as_scalar().is_none();
+    well & wide.pair_scalar(0xdc00).is_none()
 }
 
 #[test]
 fn no_characters(rt: HostRuntime) {
-    for unit in [0xd800u16, 0xdbff, 0xdc00, 0xdfff] {
-        assert_eq!(rt; unit.as_scalar(), None);
-        assert_eq!(rt; u32::from(unit).as_scalar(), None);
-        assert_eq!(rt; u32::from(unit).pair_scalar(0xdc00), None);
-    }
-    assert_eq!(rt; 0x11_0000u32.as_scalar(), None);
+    let rows = [
+        is_no_character(0xd800),
+        is_no_character(0xdbff),
+        is_no_character(0xdc00),
+        is_no_character(0xdfff),
+        0x11_0000u32.as_scalar().is_none(),
+    ];
+    all_hold(&rt, &rows);
 }
 
 #[test]
-fn laws_are_there(_rt: HostRuntime) -> Result<(), Fail> {
+fn laws_are_there() {
     laws::one_segmentation();
     laws::segmentations_by_form();
     laws::neighbours_matter();
@@ -82,5 +92,4 @@ fn laws_are_there(_rt: HostRuntime) -> Result<(), Fail> {
     laws::worked_items();
     laws::worked_lossy();
     laws::worked_fault();
-    Ok(())
 }
