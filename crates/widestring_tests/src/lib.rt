@@ -18,6 +18,8 @@ mod error_rows;
 #[cfg(test)]
 mod iter_rows;
 #[cfg(test)]
+mod paths;
+#[cfg(test)]
 mod readme;
 #[cfg(test)]
 mod rows;

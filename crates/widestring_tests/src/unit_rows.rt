@@ -1,6 +1,6 @@
 //! Code units, at both widths.
 use crate::rows::all_hold;
-use widestring::unit::{Unit, laws};
+use widestring::unit::{Unit, first_nul, laws};
 
 // Whether a unit that is alone is read as its character.
 fn is_alone<C: Unit>(unit: C, c: char) -> bool {
@@ -86,10 +86,27 @@ fn laws_are_there() {
     laws::lossy_text();
     laws::encoded_characters();
     laws::boundaries();
+    laws::first_faults();
+    laws::places_of_characters();
+    laws::spliced_text();
+    laws::encodings_of_edits();
+    laws::filtered_text();
     laws::equal_characters();
     laws::utf8_of_characters();
     laws::code_points_of_text();
     laws::worked_items();
     laws::worked_lossy();
     laws::worked_fault();
+}
+
+#[test]
+fn first_nuls(rt: HostRuntime) {
+    let rows = [
+        first_nul::<u16>(&[]).is_none(),
+        first_nul(&[0x61u16, 0xd800]).is_none(),
+        first_nul(&[0x61u16, 0, 0]) == Some(1),
+        first_nul(&[0u32]) == Some(0),
+        first_nul(&[0x1_0000u32, 0x62, 0]) == Some(2),
+    ];
+    all_hold(&rt, &rows);
 }

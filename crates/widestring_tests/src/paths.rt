@@ -1,0 +1,118 @@
+//! Each public name of the library, once, by its path through `widestring`.
+//!
+//! A name that moves makes this file fail to check. Calls of types are named where they are tested.
+use std::alloc::Global;
+use widestring::bytes::{BoM, FromRead, FromWrite, Mode};
+use widestring::error::{
+    ContainsNul, DecodeUtf16Error, DecodeUtf32Error, MissingNulTerminator, NulError, OutOfMemory,
+    TranscodeError, UCStringError, Utf16Error, Utf32Error, UtfError,
+};
+use widestring::iter::{
+    DecodeUtf16, DecodeUtf16Lossy, DecodeUtf32, DecodeUtf32Lossy, EncodeUtf8, EncodeUtf16,
+    EncodeUtf32, End,
+};
+use widestring::{ucstr, ucstring, ustr, ustring, utfstr, utfstring};
+
+// Names of the root.
+pub type Roots<'a> = (
+    (widestring::U16Str<'a>, widestring::U32Str<'a>),
+    (widestring::WideStr<'a>, widestring::WideChar),
+    (
+        widestring::U16CStr<'a>,
+        widestring::U32CStr<'a>,
+        widestring::WideCStr<'a>,
+    ),
+    (
+        widestring::Utf16Str<'a>,
+        widestring::Utf32Str<'a>,
+        widestring::WideUtfStr<'a>,
+    ),
+    (
+        widestring::U16String,
+        widestring::U32String,
+        widestring::WideString,
+    ),
+    (
+        widestring::U16CString,
+        widestring::U32CString,
+        widestring::WideCString,
+    ),
+    (
+        widestring::Utf16String,
+        widestring::Utf32String,
+        widestring::WideUtfString,
+    ),
+);
+
+// Iterators over views of units, and over C strings.
+pub type UnitIterators<'a> = (
+    (ustr::CharsUtf16<'a>, ustr::CharsUtf32<'a>),
+    (ustr::CharsLossyUtf16<'a>, ustr::CharsLossyUtf32<'a>),
+    (ustr::CharIndicesUtf16<'a>, ustr::CharIndicesUtf32<'a>),
+    (
+        ustr::CharIndicesLossyUtf16<'a>,
+        ustr::CharIndicesLossyUtf32<'a>,
+    ),
+    (ucstr::CharsUtf16<'a>, ucstr::CharsUtf32<'a>),
+    (ucstr::CharsLossyUtf16<'a>, ucstr::CharsLossyUtf32<'a>),
+    (ucstr::CharIndicesUtf16<'a>, ucstr::CharIndicesUtf32<'a>),
+    (
+        ucstr::CharIndicesLossyUtf16<'a>,
+        ucstr::CharIndicesLossyUtf32<'a>,
+    ),
+);
+
+// Iterators over well-formed text, and drains.
+pub type TextIterators<'a> = (
+    (
+        utfstr::CharsUtf16<'a>,
+        utfstr::CharsUtf32<'a>,
+        utfstr::CodeUnits<'a>,
+    ),
+    (utfstr::CharIndicesUtf16<'a>, utfstr::CharIndicesUtf32<'a>),
+    (ustring::Drain<'a, u16>, ustring::Drain<'a, u32>),
+    (utfstring::DrainUtf16<'a>, utfstring::DrainUtf32<'a>),
+);
+
+// The generic types that the names of a width stand for.
+pub type Generic<'a> = (
+    (
+        ustr::UStr<'a, u16>,
+        ustr::Chars<'a, u16>,
+        ustr::CharsLossy<'a, u16>,
+    ),
+    (ustr::CharIndices<'a, u16>, ustr::CharIndicesLossy<'a, u16>),
+    (ucstr::UCStr<'a, u16>, utfstr::UtfStr<'a, u16>),
+    (utfstr::Chars<'a, u16>, utfstr::CharIndices<'a, u16>),
+    (
+        ustring::UString<u16>,
+        ucstring::UCString<u16>,
+        utfstring::UtfString<u16>,
+    ),
+    utfstring::DrainUtf<'a, u16>,
+);
+
+// Decoders, encoders and devices.
+pub type Streams<I> = (
+    (
+        DecodeUtf16<I>,
+        DecodeUtf16Lossy<I>,
+        DecodeUtf32<I>,
+        DecodeUtf32Lossy<I>,
+    ),
+    (EncodeUtf8<I>, EncodeUtf16<I>, EncodeUtf32<I>, End),
+    (BoM, Mode, FromRead<I>, FromWrite<I>),
+);
+
+// Errors.
+pub type Errors = (
+    (
+        MissingNulTerminator,
+        ContainsNul<u16>,
+        NulError<u16>,
+        UCStringError<u16>,
+    ),
+    (DecodeUtf16Error, DecodeUtf32Error, UtfError<u16>),
+    (Utf16Error, Utf32Error, Utf16Error<Global>),
+    (OutOfMemory, TranscodeError),
+);
