@@ -2,7 +2,9 @@
 use crate::rows::all_hold;
 use std::alloc::{AllocError, Global};
 use std::fmt::Display;
-use widestring::error::{DecodeUtf16Error, DecodeUtf32Error, OutOfMemory, TranscodeError};
+use widestring::error::{
+    ContainsNul, DecodeUtf16Error, DecodeUtf32Error, OutOfMemory, TranscodeError, UCStringError,
+};
 
 // Whether an error prints this text.
 fn prints(alloc: Global, error: &impl Display, text: &str) -> bool {
@@ -52,6 +54,18 @@ fn faults_of_runs(rt: HostRuntime) {
         ),
         prints(rt.alloc(), &TranscodeError::Read, "read fault"),
         prints(rt.alloc(), &TranscodeError::Write, "write fault"),
+    ];
+    all_hold(&rt, &rows);
+}
+
+#[test]
+fn faults_of_c_strings(rt: HostRuntime) {
+    let alloc = rt.alloc();
+    let nul: UCStringError<u16> = UCStringError::ContainsNul(ContainsNul::new(3, None));
+    let memory: UCStringError<u32> = UCStringError::OutOfMemory(None);
+    let rows = [
+        prints(alloc, &nul, "invalid nul value found at position 3"),
+        prints(alloc, &memory, "out of memory"),
     ];
     all_hold(&rt, &rows);
 }

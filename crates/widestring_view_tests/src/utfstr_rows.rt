@@ -236,3 +236,25 @@ fn contents_of_c_strings(rt: HostRuntime) -> Result<(), Fail> {
     all_hold(&rt, &rows);
     Ok(())
 }
+
+// The bounds of encoders: at least a unit for each character, of which there are at least so many as the view's hint says, and
+// what the current character still holds.
+#[test]
+fn hints_of_encoders(rt: HostRuntime) -> Result<(), Fail> {
+    let narrow = Utf16Str::from_slice(&[0x61, 0xd83d, 0xde00])?;
+    let wide = Utf32Str::from_slice(&[0x1_f600, 0x61])?;
+    let mut bytes = wide.encode_utf8();
+    let mut units = wide.encode_utf16();
+    let rows = [
+        narrow.encode_utf8().size_hint() == (1, Some(12)),
+        narrow.encode_utf32().size_hint() == (1, Some(3)),
+        bytes.size_hint() == (2, Some(8)),
+        bytes.next() == Some(0xf0),
+        bytes.size_hint() == (1, Some(7)),
+        units.size_hint() == (2, Some(4)),
+        units.next() == Some(0xd83d),
+        units.size_hint() == (1, Some(3)),
+    ];
+    all_hold(&rt, &rows);
+    Ok(())
+}
