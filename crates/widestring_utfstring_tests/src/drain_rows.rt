@@ -6,12 +6,26 @@ use widestring::Utf32String;
 use widestring::error::FaultUnit;
 use widestring::utfstring::UtfString;
 
-// What a drain of a range of a text gives to each call, from the front, and what is left of the text once it is dropped.
-fn drained<C: FaultUnit + PartialEq>(
+type Range = (Bound<usize>, Bound<usize>);
+
+// What is left of `a`, U+1F600 and `b` where a drain of a range is dropped unread.
+fn dropped_unread<C: FaultUnit + PartialEq>(alloc: Global, range: Range, rest: &[C]) -> bool {
+    let Ok(mut string) = UtfString::<C>::from_str(alloc, "a\u{1f600}b") else {
+        return false;
+    };
+    if string.as_utfstr().get(range).is_none() {
+        return false;
+    }
+    drop(string.drain(range));
+    string.as_slice() == rest
+}
+
+// What is left of a text where a drain of a range is dropped that gave its first character.
+fn dropped_early<C: FaultUnit + PartialEq>(
     alloc: Global,
     text: &str,
-    range: (Bound<usize>, Bound<usize>),
-    given: &[char],
+    range: Range,
+    first: char,
     rest: &[C],
 ) -> bool {
     let Ok(mut string) = UtfString::<C>::from_str(alloc, text) else {
@@ -20,13 +34,8 @@ fn drained<C: FaultUnit + PartialEq>(
     if string.as_utfstr().get(range).is_none() {
         return false;
     }
-    let mut well = true;
-    let mut drain = string.drain(range);
-    for c in given {
-        well &= drain.next() == Some(*c);
-    }
-    drop(drain);
-    well & (string.as_slice() == rest)
+    let given = string.drain(range).next();
+    (given == Some(first)) & (string.as_slice() == rest)
 }
 
 // Of `a`, U+1F600, U+E9 and `b`, a drain of the two in the middle, which end at `end`, read to its end from both ends.
@@ -81,25 +90,25 @@ fn lengths_at_32_bits(alloc: Global) -> bool {
     well & (drain.len() == 1)
 }
 
-// Drains that are dropped before their end: of the second of three characters, of the first two, and of the last two.
-const SECOND16: (Bound<usize>, Bound<usize>) = (Bound::Included(1), Bound::Excluded(3));
+// The second of three characters, the first two, and the last two.
+const SECOND16: Range = (Bound::Included(1), Bound::Excluded(3));
 
-const SECOND32: (Bound<usize>, Bound<usize>) = (Bound::Included(1), Bound::Excluded(2));
+const SECOND32: Range = (Bound::Included(1), Bound::Excluded(2));
 
-const FRONT16: (Bound<usize>, Bound<usize>) = (Bound::Unbounded, Bound::Included(2));
+const FRONT16: Range = (Bound::Unbounded, Bound::Included(2));
 
-const FRONT32: (Bound<usize>, Bound<usize>) = (Bound::Unbounded, Bound::Included(1));
+const FRONT32: Range = (Bound::Unbounded, Bound::Included(1));
 
-const BACK: (Bound<usize>, Bound<usize>) = (Bound::Included(2), Bound::Unbounded);
+const BACK: Range = (Bound::Included(2), Bound::Unbounded);
 
 #[test]
 fn drains_of_16_bits(rt: HostRuntime) {
     let smile = [0xd83d, 0xde00];
     let rest = [0x61, 0x62];
     let rows = [
-        drained::<u16>(rt.alloc(), "a\u{1f600}b", SECOND16, &[], &rest),
-        drained::<u16>(rt.alloc(), "a\u{1f600}b", FRONT16, &['a'], &[0x62]),
-        drained::<u16>(rt.alloc(), "ab\u{1f600}a", BACK, &['\u{1f600}'], &rest),
+        dropped_unread::<u16>(rt.alloc(), SECOND16, &rest),
+        dropped_early::<u16>(rt.alloc(), "a\u{1f600}b", FRONT16, 'a', &[0x62]),
+        dropped_early::<u16>(rt.alloc(), "ab\u{1f600}a", BACK, '\u{1f600}', &rest),
         read_from_both_ends::<u16>(rt.alloc(), 4, &smile, &rest),
         retained::<u16>(rt.alloc(), &rest),
     ];
@@ -110,9 +119,9 @@ fn drains_of_16_bits(rt: HostRuntime) {
 fn drains_of_32_bits(rt: HostRuntime) {
     let rest = [0x61, 0x62];
     let rows = [
-        drained::<u32>(rt.alloc(), "a\u{1f600}b", SECOND32, &[], &rest),
-        drained::<u32>(rt.alloc(), "a\u{1f600}b", FRONT32, &['a'], &[0x62]),
-        drained::<u32>(rt.alloc(), "ab\u{1f600}a", BACK, &['\u{1f600}'], &rest),
+        dropped_unread::<u32>(rt.alloc(), SECOND32, &rest),
+        dropped_early::<u32>(rt.alloc(), "a\u{1f600}b", FRONT32, 'a', &[0x62]),
+        dropped_early::<u32>(rt.alloc(), "ab\u{1f600}a", BACK, '\u{1f600}', &rest),
         read_from_both_ends::<u32>(rt.alloc(), 3, &[0x1_f600], &rest),
         retained::<u32>(rt.alloc(), &rest),
         lengths_at_32_bits(rt.alloc()),

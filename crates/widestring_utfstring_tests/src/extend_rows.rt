@@ -1,7 +1,7 @@
 //! Strings made of the items of an iterator, or extended by them, at both widths. All have the units of one text.
 use crate::rows::all_hold;
 use std::alloc::Global;
-use widestring::error::FaultUnit;
+use widestring::error::{FaultUnit, OutOfMemory};
 use widestring::ustring::UString;
 use widestring::utfstr::UtfStr;
 use widestring::utfstring::{UStringInUtfstring, UStringOverUtfstrs, UtfString};
@@ -18,17 +18,26 @@ fn string_of<C: FaultUnit>(alloc: Global, text: &str) -> Option<UtfString<C>> {
     UtfString::from_str(alloc, text).ok()
 }
 
+// Whether a string that was empty was extended, and has these units. It has none from then on.
+fn is_extended<C: FaultUnit + PartialEq>(
+    done: Result<(), OutOfMemory>,
+    string: &mut UtfString<C>,
+    units: &[C],
+) -> bool {
+    let well = done.is_ok() & (string.as_slice() == units);
+    string.clear();
+    well
+}
+
 // Extensions by characters and by texts.
 fn extended_by_text<C: FaultUnit + PartialEq>(alloc: Global, units: &[C]) -> bool {
     let mut string = UtfString::<C>::new(alloc);
-    let mut well = string.extend_chars(TEXT.chars()).is_ok();
-    well &= string.as_slice() == units;
-    string.clear();
-    well &= string.extend_char_refs(&['a', '\u{1f600}']).is_ok();
-    well &= string.as_slice() == units;
-    string.clear();
-    well &= string.extend_strs(["a", "\u{1f600}"]).is_ok();
-    well & (string.as_slice() == units)
+    let done = string.extend_chars(TEXT.chars());
+    let mut well = is_extended(done, &mut string, units);
+    let done = string.extend_char_refs(&['a', '\u{1f600}']);
+    well &= is_extended(done, &mut string, units);
+    let done = string.extend_strs(["a", "\u{1f600}"]);
+    well & is_extended(done, &mut string, units)
 }
 
 // Extensions by views, and by owned texts of both sorts.
@@ -38,17 +47,13 @@ fn extended_by_owned<C: FaultUnit + PartialEq>(
     units: &[C],
 ) -> bool {
     let mut string = UtfString::<C>::new(alloc);
-    let mut well = string.extend_utfstrs(views).is_ok();
-    well &= string.as_slice() == units;
-    string.clear();
-    well &= string.extend_strings(text_of(alloc)).is_ok();
-    well &= string.as_slice() == units;
-    string.clear();
+    let done = string.extend_utfstrs(views);
+    let mut well = is_extended(done, &mut string, units);
+    let done = string.extend_strings(text_of(alloc));
+    well &= is_extended(done, &mut string, units);
     well &= string.extend_utfstrings(string_of(alloc, "a")).is_ok();
-    well &= string
-        .extend_utfstrings(string_of(alloc, "\u{1f600}"))
-        .is_ok();
-    well & (string.as_slice() == units)
+    let done = string.extend_utfstrings(string_of(alloc, "\u{1f600}"));
+    well & is_extended(done, &mut string, units)
 }
 
 // Whether what was made of items has these units.
