@@ -1,8 +1,6 @@
-//! Strings made of the items of an iterator, or extended by them, at both widths.
+//! Strings made of the items of an iterator, or extended by them, at both widths. All have the units of one text.
+use crate::rows::all_hold;
 use std::alloc::Global;
-use std::fmt::Debug;
-use std::process::Abort;
-use std::test::Fail;
 use widestring::error::{FaultUnit, OutOfMemory};
 use widestring::ustring::UString;
 use widestring::utfstr::UtfStr;
@@ -10,143 +8,147 @@ use widestring::utfstring::{UStringInUtfstring, UStringOverUtfstrs, UtfString};
 
 const TEXT: &str = "a\u{1f600}";
 
-// A string that was empty has these units, and has none from then on.
-fn assert_cleared<C: FaultUnit + PartialEq + Debug>(
-    rt: &impl Abort,
+// The text as a string.
+fn text_of(alloc: Global) -> Option<String> {
+    String::from_str(alloc, TEXT).ok()
+}
+
+// A text as a string of units.
+fn string_of<C: FaultUnit>(alloc: Global, text: &str) -> Option<UtfString<C>> {
+    UtfString::from_str(alloc, text).ok()
+}
+
+// Whether a string that was empty was extended, and has these units. It has none from then on.
+fn is_extended<C: FaultUnit + PartialEq>(
+    done: Result<(), OutOfMemory>,
     string: &mut UtfString<C>,
     units: &[C],
-) {
-    assert_eq!(rt; string.as_slice(), units);
+) -> bool {
+    let well = done.is_ok() & (string.as_slice() == units);
     string.clear();
+    well
 }
 
-// Each extension by characters or texts gives `units`, which are those of the text.
-fn extended_by_text<C: FaultUnit + PartialEq + Debug>(
-    rt: &impl Abort,
-    alloc: Global,
-    units: &[C],
-) -> Result<(), OutOfMemory> {
+// Extensions by characters and by texts.
+fn extended_by_text<C: FaultUnit + PartialEq>(alloc: Global, units: &[C]) -> bool {
     let mut string = UtfString::<C>::new(alloc);
-    string.extend_chars(TEXT.chars())?;
-    assert_cleared(rt, &mut string, units);
-    string.extend_char_refs(&['a', '\u{1f600}'])?;
-    assert_cleared(rt, &mut string, units);
-    string.extend_strs(["a", "\u{1f600}"])?;
-    assert_cleared(rt, &mut string, units);
-    string.extend_strings(Some(String::from_str(alloc, TEXT)?))?;
-    assert_cleared(rt, &mut string, units);
-    Ok(())
+    let done = string.extend_chars(TEXT.chars());
+    let mut well = is_extended(done, &mut string, units);
+    let done = string.extend_char_refs(&['a', '\u{1f600}']);
+    well &= is_extended(done, &mut string, units);
+    let done = string.extend_strs(["a", "\u{1f600}"]);
+    well & is_extended(done, &mut string, units)
 }
 
-// So does each extension by views or strings, of views of `a` and of U+1F600.
-fn extended_by_units<C: FaultUnit + PartialEq + Debug>(
-    rt: &impl Abort,
+// Extensions by views, and by owned texts of both sorts.
+fn extended_by_owned<C: FaultUnit + PartialEq>(
     alloc: Global,
-    [a, smile]: [UtfStr<'_, C>; 2],
+    views: [UtfStr<'_, C>; 2],
     units: &[C],
-) -> Result<(), OutOfMemory> {
+) -> bool {
     let mut string = UtfString::<C>::new(alloc);
-    string.extend_utfstrs([a, smile])?;
-    assert_cleared(rt, &mut string, units);
-    let first = UtfString::<C>::from_str(alloc, "a")?;
-    let second = UtfString::<C>::from_str(alloc, "\u{1f600}")?;
-    string.extend_utfstrings([first, second])?;
-    assert_cleared(rt, &mut string, units);
-    Ok(())
+    let done = string.extend_utfstrs(views);
+    let mut well = is_extended(done, &mut string, units);
+    let done = string.extend_strings(text_of(alloc));
+    well &= is_extended(done, &mut string, units);
+    well &= string.extend_utfstrings(string_of(alloc, "a")).is_ok();
+    let done = string.extend_utfstrings(string_of(alloc, "\u{1f600}"));
+    well & is_extended(done, &mut string, units)
 }
 
-// Of what was made of items: these units.
-fn holds<C: FaultUnit + PartialEq + Debug>(
-    rt: &impl Abort,
-    made: Result<UtfString<C>, UtfString<C>>,
-    units: &[C],
-) {
-    let Ok(string) = made else {
-        panic!(rt; "refused")
-    };
-    assert_eq!(rt; string.as_slice(), units);
+// Whether what was made of items has these units.
+fn holds<C: FaultUnit + PartialEq>(made: Result<UtfString<C>, UtfString<C>>, units: &[C]) -> bool {
+    match made {
+        Ok(string) => string.as_slice() == units,
+        Err(_) => false,
+    }
 }
 
-// Each string made of items has `units`, which are those of the text.
-fn collected<C: FaultUnit + PartialEq + Debug>(
-    rt: &impl Abort,
-    alloc: Global,
-    [a, smile]: [UtfStr<'_, C>; 2],
-    units: &[C],
-) -> Result<(), OutOfMemory> {
-    holds(rt, UtfString::from_iter_chars(alloc, TEXT.chars()), units);
+// The same of a string of units.
+fn units_hold<C: FaultUnit + PartialEq>(made: Result<UString<C>, UString<C>>, units: &[C]) -> bool {
+    match made {
+        Ok(string) => string.as_slice() == units,
+        Err(_) => false,
+    }
+}
+
+// Strings made of characters and of texts.
+fn collected<C: FaultUnit + PartialEq>(alloc: Global, units: &[C]) -> bool {
+    let mut well = holds(UtfString::from_iter_chars(alloc, TEXT.chars()), units);
     let made = UtfString::from_iter_char_refs(alloc, &['a', '\u{1f600}']);
-    holds(rt, made, units);
+    well &= holds(made, units);
     let made = UtfString::from_iter_strs(alloc, ["a", "\u{1f600}"]);
-    holds(rt, made, units);
-    let text = String::from_str(alloc, TEXT)?;
-    holds(rt, UtfString::from_iter_strings(alloc, Some(text)), units);
-    holds(rt, UtfString::from_iter_utfstrs(alloc, [a, smile]), units);
-    let string = UtfString::<C>::from_str(alloc, TEXT)?;
-    let made = UtfString::from_iter_utfstrings(alloc, Some(string));
-    holds(rt, made, units);
-    Ok(())
+    well & holds(made, units)
 }
 
-// Strings of units extended by views and by strings, of views of `a` and of U+1F600.
-fn units_extended<C: FaultUnit + PartialEq + Debug>(
-    rt: &impl Abort,
+// Strings made of views, and of owned texts of both sorts.
+fn collected_of_owned<C: FaultUnit + PartialEq>(
     alloc: Global,
-    [a, smile]: [UtfStr<'_, C>; 2],
+    views: [UtfStr<'_, C>; 2],
     units: &[C],
-) -> Result<(), OutOfMemory> {
-    let mut string = UString::<C>::new(alloc);
-    string.extend_utfstrs([a, smile])?;
-    assert_eq!(rt; string.as_slice(), units);
-    string.clear();
-    let first = UtfString::<C>::from_str(alloc, "a")?;
-    let second = UtfString::<C>::from_str(alloc, "\u{1f600}")?;
-    string.extend_utfstrings([first, second])?;
-    assert_eq!(rt; string.as_slice(), units);
-    Ok(())
+) -> bool {
+    let mut well = holds(UtfString::from_iter_utfstrs(alloc, views), units);
+    let made = UtfString::from_iter_strings(alloc, text_of(alloc));
+    well &= holds(made, units);
+    let made = UtfString::from_iter_utfstrings(alloc, string_of(alloc, TEXT));
+    well & holds(made, units)
 }
 
 // Strings of units made of views and of strings.
-fn units_collected<C: FaultUnit + PartialEq + Debug>(
-    rt: &impl Abort,
+fn units_collected<C: FaultUnit + PartialEq>(
     alloc: Global,
-    [a, smile]: [UtfStr<'_, C>; 2],
+    views: [UtfStr<'_, C>; 2],
     units: &[C],
-) -> Result<(), OutOfMemory> {
-    let Ok(string) = UString::<C>::from_iter_utfstrs(alloc, [a, smile]) else {
-        panic!(rt; "refused")
+) -> bool {
+    let well = units_hold(UString::from_iter_utfstrs(alloc, views), units);
+    let made = UString::from_iter_utfstrings(alloc, string_of(alloc, TEXT));
+    well & units_hold(made, units)
+}
+
+// Strings of units extended by views and by strings.
+fn units_extended<C: FaultUnit + PartialEq>(
+    alloc: Global,
+    views: [UtfStr<'_, C>; 2],
+    units: &[C],
+) -> bool {
+    let mut string = UString::<C>::new(alloc);
+    let mut well = string.extend_utfstrs(views).is_ok();
+    well &= string.as_slice() == units;
+    string.clear();
+    well &= string.extend_utfstrings(string_of(alloc, "a")).is_ok();
+    well &= string
+        .extend_utfstrings(string_of(alloc, "\u{1f600}"))
+        .is_ok();
+    well & (string.as_slice() == units)
+}
+
+// The calls that take views, of `a` and of U+1F600 in these units.
+fn taken_from_views<C: FaultUnit + PartialEq>(
+    alloc: Global,
+    a: &[C],
+    smile: &[C],
+    units: &[C],
+) -> bool {
+    let (Ok(a), Ok(smile)) = (UtfStr::from_slice(a), UtfStr::from_slice(smile)) else {
+        return false;
     };
-    assert_eq!(rt; string.as_slice(), units);
-    let text = UtfString::<C>::from_str(alloc, TEXT)?;
-    let Ok(string) = UString::<C>::from_iter_utfstrings(alloc, Some(text)) else {
-        panic!(rt; "refused")
-    };
-    assert_eq!(rt; string.as_slice(), units);
-    Ok(())
+    let mut well = extended_by_owned(alloc, [a, smile], units);
+    well &= collected_of_owned(alloc, [a, smile], units);
+    well &= units_extended(alloc, [a, smile], units);
+    well & units_collected(alloc, [a, smile], units)
 }
 
 #[test]
-fn strings_of_16_bits(rt: HostRuntime) -> Result<(), Fail> {
-    let units = [0x61, 0xd83d, 0xde00];
-    let a = UtfStr::from_slice(&[0x61u16])?;
-    let views = [a, UtfStr::from_slice(&[0xd83d, 0xde00])?];
-    extended_by_text::<u16>(&rt, rt.alloc(), &units)?;
-    extended_by_units(&rt, rt.alloc(), views, &units)?;
-    collected(&rt, rt.alloc(), views, &units)?;
-    units_extended(&rt, rt.alloc(), views, &units)?;
-    units_collected(&rt, rt.alloc(), views, &units)?;
-    Ok(())
-}
-
-#[test]
-fn strings_of_32_bits(rt: HostRuntime) -> Result<(), Fail> {
-    let units = [0x61, 0x1_f600];
-    let a = UtfStr::from_slice(&[0x61u32])?;
-    let views = [a, UtfStr::from_slice(&[0x1_f600])?];
-    extended_by_text::<u32>(&rt, rt.alloc(), &units)?;
-    extended_by_units(&rt, rt.alloc(), views, &units)?;
-    collected(&rt, rt.alloc(), views, &units)?;
-    units_extended(&rt, rt.alloc(), views, &units)?;
-    units_collected(&rt, rt.alloc(), views, &units)?;
-    Ok(())
+fn strings_at_both_widths(rt: HostRuntime) {
+    let narrow = [0x61u16, 0xd83d, 0xde00];
+    let wide = [0x61u32, 0x1_f600];
+    let rows = [
+        extended_by_text(rt.alloc(), &narrow),
+        extended_by_text(rt.alloc(), &wide),
+        collected(rt.alloc(), &narrow),
+        collected(rt.alloc(), &wide),
+        taken_from_views(rt.alloc(), &[0x61], &[0xd83d, 0xde00], &narrow),
+        taken_from_views(rt.alloc(), &[0x61], &[0x1_f600], &wide),
+    ];
+    all_hold(&rt, &rows);
 }

@@ -11,4 +11,6 @@ mod readme;
 #[cfg(test)]
 mod refused_rows;
 #[cfg(test)]
+mod rows;
+#[cfg(test)]
 mod utfstring_rows;

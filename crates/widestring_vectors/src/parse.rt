@@ -96,17 +96,24 @@ pub fn calls(alloc: Global, word: &str) -> Result<Vec<End>, NoAnswer> {
 }
 
 /// The letter that a question begins with, and the rest.
-pub fn kind(question: &str) -> Result<(&str, &str), NoAnswer> {
-    match question.split_at_checked(1) {
-        Some(parts) => Ok(parts),
-        None => Err(NoAnswer::Unparsed),
+pub fn kind(question: &str) -> Result<(u8, &str), NoAnswer> {
+    let Some((first, rest)) = question.split_at_checked(1) else {
+        return Err(NoAnswer::Unparsed);
+    };
+    match first.as_bytes() {
+        [letter] => Ok((*letter, rest)),
+        _ => Err(NoAnswer::Unparsed),
     }
 }
 
-/// The letter that a question begins with, and the calls of the rest.
-pub fn kind_and_calls(alloc: Global, question: &str) -> Result<(&str, Vec<End>), NoAnswer> {
-    let (kind, word) = kind(question)?;
-    Ok((kind, calls(alloc, word)?))
+/// How many calls a word has, all of them from the front.
+pub fn front_calls(word: &str) -> Result<usize, NoAnswer> {
+    for letter in word.bytes() {
+        if letter != b'F' {
+            return Err(NoAnswer::Unparsed);
+        }
+    }
+    Ok(word.len())
 }
 
 /// The parts of a question before and after its colon.
@@ -124,8 +131,8 @@ fn bound(text: &str) -> Result<Bound<usize>, NoAnswer> {
     }
     let (kind, place) = kind(text)?;
     match kind {
-        "i" => Ok(Bound::Included(value(place)?)),
-        "e" => Ok(Bound::Excluded(value(place)?)),
+        b'i' => Ok(Bound::Included(value(place)?)),
+        b'e' => Ok(Bound::Excluded(value(place)?)),
         _ => Err(NoAnswer::Unparsed),
     }
 }

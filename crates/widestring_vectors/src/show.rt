@@ -1,102 +1,184 @@
 //! Writing answers as the data does, with a space between two.
-use std::alloc::AllocError;
+use crate::parse::{FromHex, NoAnswer};
+use std::alloc::{AllocError, Global};
 use std::fmt::Write;
-use widestring::error::ContainsNul;
+use widestring::error::{ContainsNul, DecodeUtf16Error, DecodeUtf32Error, FaultUnit};
 use widestring::unit::Unit;
 
-// Parts this answer from the one before it.
-fn push_gap(text: &mut String) -> Result<(), AllocError> {
-    if !text.is_empty() && !text.ends_with(';') {
-        text.push(' ')?;
-    }
-    Ok(())
+/// A unit, with the way to read it from its fault.
+pub trait ToldUnit: FaultUnit + FromHex {
+    /// The number of the unit that a fault tells.
+    fn told(fault: Self::Fault) -> u32;
 }
 
-// Adds a character, or a unit that is a fault after a `!`.
-fn push_read(text: &mut String, read: Result<char, u32>) -> Result<(), AllocError> {
-    match read {
-        Ok(c) => write!(text, "{:X}", u32::from(c)),
-        Err(unit) => write!(text, "!{unit:X}"),
+impl ToldUnit for u16 {
+    fn told(fault: DecodeUtf16Error) -> u32 {
+        u32::from(fault.unpaired_surrogate())
     }
 }
 
-/// Adds an item: a character in hexadecimal, a unit that is a fault after a `!`, or a `-` for none.
-pub fn push_item(text: &mut String, item: Option<Result<char, u32>>) -> Result<(), AllocError> {
-    push_gap(text)?;
-    match item {
-        None => write!(text, "-"),
-        Some(read) => push_read(text, read),
+impl ToldUnit for u32 {
+    fn told(fault: DecodeUtf32Error) -> u32 {
+        fault.invalid_code_point()
     }
 }
 
-/// Adds an item with its index before it, or a `-` for none, and after it a `@` and the offset that is told then.
-pub fn push_place(
-    text: &mut String,
-    place: Option<(usize, Result<char, u32>)>,
-    offset: usize,
-) -> Result<(), AllocError> {
-    push_gap(text)?;
-    match place {
-        None => write!(text, "-")?,
-        Some((index, read)) => {
-            write!(text, "{index:X}:")?;
-            push_read(text, read)?;
+/// An answer, as far as it is written. Where memory was refused to a write, there is none in the end.
+#[derive(Drop)]
+pub struct Answer {
+    text: String,
+    is_refused: bool,
+}
+
+impl Answer {
+    /// An answer with nothing written yet.
+    pub fn new(alloc: Global) -> Answer {
+        Answer {
+            text: String::new(alloc),
+            is_refused: false,
         }
     }
-    write!(text, "@{offset:X}")
-}
 
-/// Adds the index and the unit of a first fault.
-pub fn push_first_fault(text: &mut String, index: usize, unit: u32) -> Result<(), AllocError> {
-    push_gap(text)?;
-    write!(text, "!{index:X}:{unit:X}")
-}
-
-/// Adds a number in hexadecimal, or a `-` for none.
-pub fn push_number(text: &mut String, number: Option<u32>) -> Result<(), AllocError> {
-    push_gap(text)?;
-    match number {
-        None => write!(text, "-"),
-        Some(number) => write!(text, "{number:X}"),
+    // Notes how a write ended.
+    fn note(&mut self, written: Result<(), AllocError>) {
+        self.is_refused |= written.is_err();
     }
-}
 
-/// Adds bounds on a number of items: the lower one, a comma, and the upper one or a `-` for none.
-pub fn push_bounds(text: &mut String, bounds: (usize, Option<usize>)) -> Result<(), AllocError> {
-    push_gap(text)?;
-    let (lower, upper) = bounds;
-    match upper {
-        None => write!(text, "{lower:X},-"),
-        Some(upper) => write!(text, "{lower:X},{upper:X}"),
+    /// Adds a word.
+    pub fn word(&mut self, word: &str) {
+        let written = self.text.push_str(word);
+        self.note(written);
     }
-}
 
-/// Adds units in hexadecimal.
-pub fn push_units<C: Unit>(text: &mut String, units: &[C]) -> Result<(), AllocError> {
-    for unit in units {
-        push_number(text, Some(unit.code()))?;
+    // Adds a number in hexadecimal.
+    fn hex(&mut self, number: u64) {
+        let written = write!(self.text, "{number:X}");
+        self.note(written);
     }
-    Ok(())
-}
 
-/// Adds the place of an inner NUL after a `!`, and as a second part the units of the vector that is handed back, or a `-`
-/// for none.
-pub fn push_inner_nul<C: Unit>(text: &mut String, error: ContainsNul<C>) -> Result<(), AllocError> {
-    push_gap(text)?;
-    write!(text, "!{:X}", error.nul_position())?;
-    push_part(text)?;
-    push_handed_back(text, error.into_vec())
-}
-
-/// Adds the units of a vector that is handed back, or a `-` for none.
-pub fn push_handed_back<C: Unit>(text: &mut String, vec: Option<Vec<C>>) -> Result<(), AllocError> {
-    match vec {
-        None => push_number(text, None),
-        Some(units) => push_units(text, &units),
+    // Parts what comes from what stands before it.
+    fn gap(&mut self) {
+        if !self.text.is_empty() && !self.text.ends_with(';') {
+            self.word(" ");
+        }
     }
-}
 
-/// Begins the next part of an answer of several.
-pub fn push_part(text: &mut String) -> Result<(), AllocError> {
-    text.push(';')
+    /// Begins the next part of an answer of several.
+    pub fn part(&mut self) {
+        self.word(";");
+    }
+
+    // Adds a character in hexadecimal, or a unit that is a fault after a `!`.
+    fn read<C: ToldUnit>(&mut self, read: Result<char, C::Fault>) {
+        match read {
+            Ok(c) => self.hex(u64::from(u32::from(c))),
+            Err(fault) => {
+                self.word("!");
+                self.hex(u64::from(C::told(fault)));
+            }
+        }
+    }
+
+    /// Adds an item: a character in hexadecimal, a unit that is a fault after a `!`, or a `-` for none.
+    pub fn item<C: ToldUnit>(&mut self, item: Option<Result<char, C::Fault>>) {
+        self.gap();
+        match item {
+            None => self.word("-"),
+            Some(read) => self.read::<C>(read),
+        }
+    }
+
+    /// Adds an item with its index before it, or a `-` for none, and after it a `@` and the offset that is told then.
+    pub fn place<C: ToldUnit>(
+        &mut self,
+        place: Option<(usize, Result<char, C::Fault>)>,
+        offset: usize,
+    ) {
+        self.gap();
+        match place {
+            None => self.word("-"),
+            Some((index, read)) => {
+                self.hex(index as u64);
+                self.word(":");
+                self.read::<C>(read);
+            }
+        }
+        self.word("@");
+        self.hex(offset as u64);
+    }
+
+    /// Adds the index and the unit of a first fault.
+    pub fn first_fault(&mut self, index: usize, unit: u32) {
+        self.gap();
+        self.word("!");
+        self.hex(index as u64);
+        self.word(":");
+        self.hex(u64::from(unit));
+    }
+
+    /// Adds a number in hexadecimal, or a `-` for none.
+    pub fn number(&mut self, number: Option<u32>) {
+        self.gap();
+        match number {
+            None => self.word("-"),
+            Some(number) => self.hex(u64::from(number)),
+        }
+    }
+
+    /// Adds a character in hexadecimal, or a `-` for none.
+    pub fn character(&mut self, c: Option<char>) {
+        self.number(c.map(u32::from));
+    }
+
+    /// Adds a unit in hexadecimal, or a `-` for none.
+    pub fn unit<C: Unit>(&mut self, unit: Option<C>) {
+        match unit {
+            None => self.number(None),
+            Some(unit) => self.number(Some(unit.code())),
+        }
+    }
+
+    /// Adds units in hexadecimal.
+    pub fn units<C: Unit>(&mut self, units: &[C]) {
+        for unit in units {
+            self.number(Some(unit.code()));
+        }
+    }
+
+    /// Adds bounds on a number of items: the lower one, a comma, and the upper one or a `-` for none.
+    pub fn bounds(&mut self, (lower, upper): (usize, Option<usize>)) {
+        self.gap();
+        self.hex(lower as u64);
+        self.word(",");
+        match upper {
+            None => self.word("-"),
+            Some(upper) => self.hex(upper as u64),
+        }
+    }
+
+    /// Adds the place of an inner NUL after a `!`, and as a second part the units of the vector that is handed back, or a
+    /// `-` for none.
+    pub fn inner_nul<C: Unit>(&mut self, error: ContainsNul<C>) {
+        self.gap();
+        self.word("!");
+        self.hex(error.nul_position() as u64);
+        self.part();
+        self.handed_back(error.into_vec());
+    }
+
+    /// Adds the units of a vector that is handed back, or a `-` for none.
+    pub fn handed_back<C: Unit>(&mut self, vec: Option<Vec<C>>) {
+        match vec {
+            None => self.number(None),
+            Some(units) => self.units(&units),
+        }
+    }
+
+    /// The whole answer.
+    pub fn finish(self) -> Result<String, NoAnswer> {
+        if self.is_refused {
+            return Err(NoAnswer::OutOfMemory);
+        }
+        Ok(self.text)
+    }
 }

@@ -3,11 +3,37 @@
 //! of the string's.
 use crate::families::ustring::{outside, string};
 use crate::parse::{self, FromHex, NoAnswer};
-use crate::show::{push_number, push_part, push_units};
+use crate::show::Answer;
 use std::alloc::Global;
+use std::ops::Bound;
 use widestring::error::FaultUnit;
 use widestring::iter::End;
 use widestring::unit::range_check;
+use widestring::ustring::UString;
+
+// What a drain of a range gives and leaves.
+fn drained<C: FaultUnit>(
+    alloc: Global,
+    mut string: UString<C>,
+    range: (Bound<usize>, Bound<usize>),
+    calls: &[End],
+) -> Result<String, NoAnswer> {
+    if range_check(range, string.len()).is_none() {
+        return outside(alloc);
+    }
+    let mut answer = Answer::new(alloc);
+    {
+        let mut drain = string.drain(range);
+        for end in calls {
+            answer.unit(asked!(drain, end));
+        }
+        answer.part();
+        answer.units(drain.as_slice());
+    }
+    answer.part();
+    answer.units(string.as_slice());
+    answer.finish()
+}
 
 /// What a drain of a string of units gives and leaves.
 pub fn drain<C: FaultUnit + FromHex>(
@@ -15,24 +41,8 @@ pub fn drain<C: FaultUnit + FromHex>(
     list: &str,
     question: &str,
 ) -> Result<String, NoAnswer> {
-    let mut string = string::<C>(alloc, list)?;
     let (range, word) = parse::parts(question)?;
     let range = parse::range(range)?;
     let calls = parse::calls(alloc, word)?;
-    if range_check(range, string.len()).is_none() {
-        return outside(alloc);
-    }
-    let mut text = String::new(alloc);
-    {
-        let mut drain = string.drain(range);
-        for end in calls {
-            let unit = asked!(drain, end);
-            push_number(&mut text, unit.map(|unit| unit.code()))?;
-        }
-        push_part(&mut text)?;
-        push_units(&mut text, drain.as_slice())?;
-    }
-    push_part(&mut text)?;
-    push_units(&mut text, string.as_slice())?;
-    Ok(text)
+    drained(alloc, string::<C>(alloc, list)?, range, &calls)
 }

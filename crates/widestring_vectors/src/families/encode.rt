@@ -1,7 +1,7 @@
 //! What an encoder gives. To UTF-8 and UTF-16 a question is no text, and the answer has all that comes from the front;
 //! to UTF-32 it is a word of calls.
 use crate::parse::{self, NoAnswer};
-use crate::show::push_number;
+use crate::show::Answer;
 use std::alloc::Global;
 use widestring::iter::{End, encode_utf8, encode_utf16, encode_utf32};
 
@@ -9,31 +9,32 @@ use widestring::iter::{End, encode_utf8, encode_utf16, encode_utf32};
 pub fn utf8(alloc: Global, list: &str, question: &str) -> Result<String, NoAnswer> {
     parse::no_question(question)?;
     let chars = parse::list::<char>(alloc, list)?;
-    let mut text = String::new(alloc);
+    let mut answer = Answer::new(alloc);
     for byte in encode_utf8(chars.iter().copied()) {
-        push_number(&mut text, Some(u32::from(byte)))?;
+        answer.number(Some(u32::from(byte)));
     }
-    Ok(text)
+    answer.finish()
 }
 
 /// All units of an encoder to UTF-16.
 pub fn utf16(alloc: Global, list: &str, question: &str) -> Result<String, NoAnswer> {
     parse::no_question(question)?;
     let chars = parse::list::<char>(alloc, list)?;
-    let mut text = String::new(alloc);
+    let mut answer = Answer::new(alloc);
     for unit in encode_utf16(chars.iter().copied()) {
-        push_number(&mut text, Some(u32::from(unit)))?;
+        answer.number(Some(u32::from(unit)));
     }
-    Ok(text)
+    answer.finish()
 }
 
 /// What an encoder to UTF-32 answers to each call.
 pub fn utf32(alloc: Global, list: &str, word: &str) -> Result<String, NoAnswer> {
+    let calls = parse::calls(alloc, word)?;
     let chars = parse::list::<char>(alloc, list)?;
     let mut encoder = encode_utf32(chars.iter().copied());
-    let mut text = String::new(alloc);
-    for end in parse::calls(alloc, word)? {
-        push_number(&mut text, asked!(encoder, end))?;
+    let mut answer = Answer::new(alloc);
+    for end in &calls {
+        answer.number(asked!(encoder, end));
     }
-    Ok(text)
+    answer.finish()
 }

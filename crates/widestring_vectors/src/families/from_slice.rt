@@ -1,36 +1,18 @@
 //! Whether units are well formed. A question is no text, and the answer is `ok`, or the index and the unit of the first
 //! fault.
 use crate::parse::{self, NoAnswer};
-use crate::show::push_first_fault;
+use crate::show::{Answer, ToldUnit};
 use std::alloc::Global;
-use widestring::{Utf16Str, Utf32Str};
+use widestring::utfstr::UtfStr;
 
-/// Whether 16-bit units are well formed.
-pub fn utf16(alloc: Global, list: &str, question: &str) -> Result<String, NoAnswer> {
+/// Whether units of either width are well formed.
+pub fn checked<C: ToldUnit>(alloc: Global, list: &str, question: &str) -> Result<String, NoAnswer> {
     parse::no_question(question)?;
-    let units = parse::list::<u16>(alloc, list)?;
-    let mut text = String::new(alloc);
-    match Utf16Str::from_slice(&units) {
-        Ok(_) => text.push_str("ok")?,
-        Err(error) => {
-            let unit = u32::from(error.cause().unpaired_surrogate());
-            push_first_fault(&mut text, error.index(), unit)?;
-        }
+    let units = parse::list::<C>(alloc, list)?;
+    let mut answer = Answer::new(alloc);
+    match UtfStr::from_slice(&units) {
+        Ok(_) => answer.word("ok"),
+        Err(error) => answer.first_fault(error.index(), C::told(error.cause())),
     }
-    Ok(text)
-}
-
-/// Whether 32-bit units are well formed.
-pub fn utf32(alloc: Global, list: &str, question: &str) -> Result<String, NoAnswer> {
-    parse::no_question(question)?;
-    let units = parse::list::<u32>(alloc, list)?;
-    let mut text = String::new(alloc);
-    match Utf32Str::from_slice(&units) {
-        Ok(_) => text.push_str("ok")?,
-        Err(error) => {
-            let unit = error.cause().invalid_code_point();
-            push_first_fault(&mut text, error.index(), unit)?;
-        }
-    }
-    Ok(text)
+    answer.finish()
 }

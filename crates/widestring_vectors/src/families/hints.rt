@@ -3,7 +3,7 @@ ghost use Rattle.std.specs.Prelude.{◌≤◌, length};
 ghost use Rattle.std.specs.Iterator.{at_most};
 
 use crate::parse::{self, NoAnswer};
-use crate::show::push_bounds;
+use crate::show::Answer;
 use std::alloc::Global;
 use widestring::iter::{
     End, decode_utf16, decode_utf16_lossy, decode_utf32, decode_utf32_lossy, encode_utf8,
@@ -14,13 +14,13 @@ use widestring::iter::{
 macro_rules! bounds_of {
     ($alloc:expr, $iterator:expr, $calls:expr) => {{
         let mut iterator = $iterator;
-        let mut text = String::new($alloc);
-        push_bounds(&mut text, iterator.size_hint())?;
+        let mut answer = Answer::new($alloc);
+        answer.bounds(iterator.size_hint());
         for call in $calls {
             let _ = asked!(iterator, call);
-            push_bounds(&mut text, iterator.size_hint())?;
+            answer.bounds(iterator.size_hint());
         }
-        Ok(text)
+        answer.finish()
     }};
 }
 
@@ -94,19 +94,22 @@ fn of_vague(alloc: Global, source: Vague, calls: &[End]) -> Result<String, NoAns
 /// copied units of a slice, `a` for an array, `v` for a vector, `m` for units of which the source says that they are at
 /// most as many as can be counted, and `n` for units of which it says nothing.
 pub fn utf16(alloc: Global, list: &str, question: &str) -> Result<String, NoAnswer> {
+    let (source, word) = parse::kind(question)?;
+    let calls = parse::calls(alloc, word)?;
     let units = parse::list::<u16>(alloc, list)?;
-    let (source, calls) = parse::kind_and_calls(alloc, question)?;
+    let bounded = source == b'm';
     match source {
-        "s" => of_slice(alloc, &units, &calls),
-        "a" => of_units(alloc, &units, &calls),
-        "v" => of_vec(alloc, units, &calls),
-        "m" | "n" => {
-            let vague = Vague {
+        b's' => of_slice(alloc, &units, &calls),
+        b'a' => of_units(alloc, &units, &calls),
+        b'v' => of_vec(alloc, units, &calls),
+        b'm' | b'n' => of_vague(
+            alloc,
+            Vague {
                 units: &units,
-                bounded: source == "m",
-            };
-            of_vague(alloc, vague, &calls)
-        }
+                bounded,
+            },
+            &calls,
+        ),
         _ => Err(NoAnswer::Unparsed),
     }
 }
@@ -136,30 +139,27 @@ pub fn lossy_utf32(alloc: Global, list: &str, word: &str) -> Result<String, NoAn
 macro_rules! front_bounds_of {
     ($alloc:expr, $iterator:expr, $calls:expr) => {{
         let mut iterator = $iterator;
-        let mut text = String::new($alloc);
-        push_bounds(&mut text, iterator.size_hint())?;
-        for call in $calls {
-            if *call == End::Back {
-                return Err(NoAnswer::Unparsed);
-            }
+        let mut answer = Answer::new($alloc);
+        answer.bounds(iterator.size_hint());
+        for _call in 0..$calls {
             let _ = iterator.next();
-            push_bounds(&mut text, iterator.size_hint())?;
+            answer.bounds(iterator.size_hint());
         }
-        Ok(text)
+        answer.finish()
     }};
 }
 
 /// The bounds that an encoder to UTF-8 tells over the copied characters of a slice. A question is a word of calls, all from
 /// the front.
 pub fn of_utf8_encoder(alloc: Global, list: &str, word: &str) -> Result<String, NoAnswer> {
+    let calls = parse::front_calls(word)?;
     let chars = parse::list::<char>(alloc, list)?;
-    let calls = parse::calls(alloc, word)?;
-    front_bounds_of!(alloc, encode_utf8(chars.iter().copied()), &calls)
+    front_bounds_of!(alloc, encode_utf8(chars.iter().copied()), calls)
 }
 
 /// The bounds that an encoder to UTF-16 tells, in the same way.
 pub fn of_utf16_encoder(alloc: Global, list: &str, word: &str) -> Result<String, NoAnswer> {
+    let calls = parse::front_calls(word)?;
     let chars = parse::list::<char>(alloc, list)?;
-    let calls = parse::calls(alloc, word)?;
-    front_bounds_of!(alloc, encode_utf16(chars.iter().copied()), &calls)
+    front_bounds_of!(alloc, encode_utf16(chars.iter().copied()), calls)
 }

@@ -5,7 +5,7 @@
 //! The answer is the contents of a view, or the units of an owned C string and its NUL; a `-` where there is no NUL to end a
 //! view; or the place of an inner NUL and the vector that is handed back.
 use crate::parse::{self, FromHex, NoAnswer};
-use crate::show::{push_inner_nul, push_number, push_units};
+use crate::show::Answer;
 use std::alloc::Global;
 use widestring::error::{FaultUnit, NulError, UCStringError};
 use widestring::ucstr::UCStr;
@@ -26,23 +26,23 @@ pub fn text_of<C: FaultUnit>(alloc: Global, units: &[C]) -> Result<String, NoAns
 
 // What is answered about a view of all units.
 fn view<C: FaultUnit>(alloc: Global, units: &[C]) -> Result<String, NoAnswer> {
-    let mut text = String::new(alloc);
+    let mut answer = Answer::new(alloc);
     match UCStr::from_slice(units) {
-        Ok(view) => push_units(&mut text, view.as_slice())?,
-        Err(NulError::MissingNulTerminator(_)) => push_number(&mut text, None)?,
-        Err(NulError::ContainsNul(error)) => push_inner_nul(&mut text, error)?,
+        Ok(view) => answer.units(view.as_slice()),
+        Err(NulError::MissingNulTerminator(_)) => answer.number(None),
+        Err(NulError::ContainsNul(error)) => answer.inner_nul(error),
     }
-    Ok(text)
+    answer.finish()
 }
 
 // What is answered about a view of the units up to the first NUL.
 fn view_cut<C: FaultUnit>(alloc: Global, units: &[C]) -> Result<String, NoAnswer> {
-    let mut text = String::new(alloc);
+    let mut answer = Answer::new(alloc);
     match UCStr::from_slice_truncate(units) {
-        Ok(view) => push_units(&mut text, view.as_slice())?,
-        Err(_) => push_number(&mut text, None)?,
+        Ok(view) => answer.units(view.as_slice()),
+        Err(_) => answer.number(None),
     }
-    Ok(text)
+    answer.finish()
 }
 
 // What is answered about an owned C string.
@@ -50,13 +50,44 @@ fn owned<C: FaultUnit>(
     alloc: Global,
     made: Result<UCString<C>, UCStringError<C>>,
 ) -> Result<String, NoAnswer> {
-    let mut text = String::new(alloc);
+    let mut answer = Answer::new(alloc);
     match made {
-        Ok(string) => push_units(&mut text, string.as_ucstr().as_slice_with_nul())?,
-        Err(UCStringError::ContainsNul(error)) => push_inner_nul(&mut text, error)?,
+        Ok(string) => answer.units(string.as_ucstr().as_slice_with_nul()),
+        Err(UCStringError::ContainsNul(error)) => answer.inner_nul(error),
         Err(UCStringError::OutOfMemory(_)) => return Err(NoAnswer::OutOfMemory),
     }
-    Ok(text)
+    answer.finish()
+}
+
+// What is answered about the C string that is all of what it is made of.
+fn whole<C: FaultUnit>(alloc: Global, kind: u8, units: Vec<C>) -> Result<String, NoAnswer> {
+    match kind {
+        b's' => view(alloc, &units),
+        b'v' => owned(alloc, UCString::from_vec(units)),
+        b'u' => owned(alloc, UCString::from_ustr(alloc, UStr::from_slice(&units))),
+        b't' => {
+            let text = text_of(alloc, &units)?;
+            owned(alloc, UCString::<C>::from_str(alloc, &text))
+        }
+        _ => Err(NoAnswer::Unparsed),
+    }
+}
+
+// The same of a C string that is cut at the first NUL.
+fn cut<C: FaultUnit>(alloc: Global, kind: u8, units: Vec<C>) -> Result<String, NoAnswer> {
+    match kind {
+        b's' => view_cut(alloc, &units),
+        b'v' => owned(alloc, UCString::from_vec_truncate(units)),
+        b'u' => {
+            let ustr = UStr::from_slice(&units);
+            owned(alloc, UCString::from_ustr_truncate(alloc, ustr))
+        }
+        b't' => {
+            let text = text_of(alloc, &units)?;
+            owned(alloc, UCString::<C>::from_str_truncate(alloc, &text))
+        }
+        _ => Err(NoAnswer::Unparsed),
+    }
 }
 
 /// The C string that a constructor makes, or why it makes none.
@@ -65,23 +96,11 @@ pub fn made<C: FaultUnit + FromHex>(
     list: &str,
     question: &str,
 ) -> Result<String, NoAnswer> {
+    let (kind, more) = parse::kind(question)?;
     let units = parse::list::<C>(alloc, list)?;
-    let ustr = UStr::from_slice(&units);
-    match question {
-        "s" => view(alloc, &units),
-        "sc" => view_cut(alloc, &units),
-        "v" => owned(alloc, UCString::from_vec(units)),
-        "vc" => owned(alloc, UCString::from_vec_truncate(units)),
-        "u" => owned(alloc, UCString::from_ustr(alloc, ustr)),
-        "uc" => owned(alloc, UCString::from_ustr_truncate(alloc, ustr)),
-        "t" => {
-            let text = text_of(alloc, &units)?;
-            owned(alloc, UCString::<C>::from_str(alloc, &text))
-        }
-        "tc" => {
-            let text = text_of(alloc, &units)?;
-            owned(alloc, UCString::<C>::from_str_truncate(alloc, &text))
-        }
+    match more.as_bytes() {
+        [] => whole(alloc, kind, units),
+        [b'c'] => cut(alloc, kind, units),
         _ => Err(NoAnswer::Unparsed),
     }
 }

@@ -1,7 +1,7 @@
 //! Calls of owned strings of units of either width, and what they leave of the string. A `-` is the answer where the place
 //! or the range is none of the string's. An answer of several parts has a `;` between two.
 use crate::parse::{self, FromHex, NoAnswer};
-use crate::show::{push_number, push_part, push_units};
+use crate::show::Answer;
 use std::alloc::Global;
 use widestring::error::FaultUnit;
 use widestring::unit::range_check;
@@ -15,16 +15,16 @@ pub fn string<C: FaultUnit + FromHex>(alloc: Global, list: &str) -> Result<UStri
 
 /// The answer where the place or the range is none of the string's.
 pub fn outside(alloc: Global) -> Result<String, NoAnswer> {
-    let mut text = String::new(alloc);
-    push_number(&mut text, None)?;
-    Ok(text)
+    let mut answer = Answer::new(alloc);
+    answer.number(None);
+    answer.finish()
 }
 
 // The answer that is the units of a string.
 fn units_of<C: FaultUnit>(alloc: Global, string: &UString<C>) -> Result<String, NoAnswer> {
-    let mut text = String::new(alloc);
-    push_units(&mut text, string.as_slice())?;
-    Ok(text)
+    let mut answer = Answer::new(alloc);
+    answer.units(string.as_slice());
+    answer.finish()
 }
 
 /// What `pop_char` answers to as many calls as there are units, and one more. A question is no text.
@@ -35,11 +35,12 @@ pub fn pop<C: FaultUnit + FromHex>(
 ) -> Result<String, NoAnswer> {
     parse::no_question(question)?;
     let mut string = string::<C>(alloc, list)?;
-    let mut text = String::new(alloc);
-    for _call in 0..=string.len() {
-        push_number(&mut text, string.pop_char())?;
+    let mut answer = Answer::new(alloc);
+    for _call in 0..string.len() {
+        answer.number(string.pop_char());
     }
-    Ok(text)
+    answer.number(string.pop_char());
+    answer.finish()
 }
 
 /// The character that `remove_char` takes, and the units left. A question is a place.
@@ -48,16 +49,44 @@ pub fn remove<C: FaultUnit + FromHex>(
     list: &str,
     question: &str,
 ) -> Result<String, NoAnswer> {
-    let mut string = string::<C>(alloc, list)?;
     let at = parse::value::<usize>(question)?;
+    let mut string = string::<C>(alloc, list)?;
     if at >= string.len() {
         return outside(alloc);
     }
-    let mut text = String::new(alloc);
-    push_number(&mut text, Some(string.remove_char(at)))?;
-    push_part(&mut text)?;
-    push_units(&mut text, string.as_slice())?;
-    Ok(text)
+    let mut answer = Answer::new(alloc);
+    answer.number(Some(string.remove_char(at)));
+    answer.part();
+    answer.units(string.as_slice());
+    answer.finish()
+}
+
+// The units with a character put in.
+fn insert_char<C: FaultUnit>(
+    alloc: Global,
+    mut string: UString<C>,
+    at: usize,
+    c: char,
+) -> Result<String, NoAnswer> {
+    if at > string.len() {
+        return outside(alloc);
+    }
+    string.insert_char(at, c)?;
+    units_of(alloc, &string)
+}
+
+// The units with those of a view put in.
+fn insert_units<C: FaultUnit>(
+    alloc: Global,
+    mut string: UString<C>,
+    at: usize,
+    units: &[C],
+) -> Result<String, NoAnswer> {
+    if at > string.len() {
+        return outside(alloc);
+    }
+    string.insert_ustr(at, UStr::from_slice(units))?;
+    units_of(alloc, &string)
 }
 
 /// The units with more put in. A question is a `c` for a character or an `s` for a view, a place, a colon, and the character
@@ -67,22 +96,15 @@ pub fn insert<C: FaultUnit + FromHex>(
     list: &str,
     question: &str,
 ) -> Result<String, NoAnswer> {
-    let mut string = string::<C>(alloc, list)?;
     let (before, more) = parse::parts(question)?;
     let (kind, place) = parse::kind(before)?;
     let at = parse::value::<usize>(place)?;
-    if at > string.len() {
-        return outside(alloc);
-    }
+    let string = string::<C>(alloc, list)?;
     match kind {
-        "c" => string.insert_char(at, parse::value(more)?)?,
-        "s" => {
-            let units = parse::list::<C>(alloc, more)?;
-            string.insert_ustr(at, UStr::from_slice(&units))?;
-        }
-        _ => return Err(NoAnswer::Unparsed),
+        b'c' => insert_char(alloc, string, at, parse::value(more)?),
+        b's' => insert_units(alloc, string, at, &parse::list::<C>(alloc, more)?),
+        _ => Err(NoAnswer::Unparsed),
     }
-    units_of(alloc, &string)
 }
 
 /// The units with others in the place of a range. A question is a range, a colon, and the units of a view.
@@ -91,10 +113,10 @@ pub fn replace<C: FaultUnit + FromHex>(
     list: &str,
     question: &str,
 ) -> Result<String, NoAnswer> {
-    let mut string = string::<C>(alloc, list)?;
     let (range, more) = parse::parts(question)?;
     let range = parse::range(range)?;
     let units = parse::list::<C>(alloc, more)?;
+    let mut string = string::<C>(alloc, list)?;
     if range_check(range, string.len()).is_none() {
         return outside(alloc);
     }
@@ -114,11 +136,21 @@ fn retain_by_call<C: FaultUnit>(
         calls = calls.saturating_add(1);
         bit == Some(b'1')
     });
-    let mut text = String::new(alloc);
-    push_number(&mut text, u32::try_from(calls).ok())?;
-    push_part(&mut text)?;
-    push_units(&mut text, string.as_slice())?;
-    Ok(text)
+    let mut answer = Answer::new(alloc);
+    answer.number(u32::try_from(calls).ok());
+    answer.part();
+    answer.units(string.as_slice());
+    answer.finish()
+}
+
+// The units left where those of this number are not kept.
+fn retain_others<C: FaultUnit>(
+    alloc: Global,
+    mut string: UString<C>,
+    gone: u32,
+) -> Result<String, NoAnswer> {
+    string.retain(|unit| unit.code() != gone);
+    units_of(alloc, &string)
 }
 
 /// What `retain` leaves. A question is a `c` and a bit for each call, or a `u` and the unit that is not kept.
@@ -127,15 +159,11 @@ pub fn retain<C: FaultUnit + FromHex>(
     list: &str,
     question: &str,
 ) -> Result<String, NoAnswer> {
-    let mut string = string::<C>(alloc, list)?;
     let (kind, word) = parse::kind(question)?;
+    let string = string::<C>(alloc, list)?;
     match kind {
-        "c" => retain_by_call(alloc, string, word.as_bytes()),
-        "u" => {
-            let gone = parse::value::<C>(word)?.code();
-            string.retain(|unit| unit.code() != gone);
-            units_of(alloc, &string)
-        }
+        b'c' => retain_by_call(alloc, string, word.as_bytes()),
+        b'u' => retain_others(alloc, string, parse::value::<C>(word)?.code()),
         _ => Err(NoAnswer::Unparsed),
     }
 }
@@ -146,14 +174,15 @@ pub fn split_off<C: FaultUnit + FromHex>(
     list: &str,
     question: &str,
 ) -> Result<String, NoAnswer> {
-    let mut string = string::<C>(alloc, list)?;
     let at = parse::value::<usize>(question)?;
+    let mut string = string::<C>(alloc, list)?;
     if at > string.len() {
         return outside(alloc);
     }
     let rest = string.split_off(at)?;
-    let mut text = units_of(alloc, &string)?;
-    push_part(&mut text)?;
-    push_units(&mut text, rest.as_slice())?;
-    Ok(text)
+    let mut answer = Answer::new(alloc);
+    answer.units(string.as_slice());
+    answer.part();
+    answer.units(rest.as_slice());
+    answer.finish()
 }

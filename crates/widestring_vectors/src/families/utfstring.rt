@@ -16,45 +16,26 @@
 //! - `p`, `l`: `pop`, `clear`.
 use crate::families::ucstring::text_of;
 use crate::parse::{self, FromHex, NoAnswer};
-use crate::show::{push_first_fault, push_handed_back, push_number, push_part, push_units};
+use crate::show::{Answer, ToldUnit};
 use std::alloc::Global;
 use std::ops::Bound;
-use widestring::error::{DecodeUtf16Error, DecodeUtf32Error, FaultUnit, UtfError};
+use widestring::error::{FaultUnit, UtfError};
 use widestring::iter::End;
+use widestring::utfstr::UtfStr;
 use widestring::utfstring::UtfString;
 
-/// A unit, with the way to read it from its fault.
-pub trait ToldUnit: FaultUnit + FromHex {
-    /// The number of the unit that a fault tells.
-    fn told(fault: Self::Fault) -> u32;
+// The string of a text.
+fn of_text<C: FaultUnit>(alloc: Global, units: &[C]) -> Result<UtfString<C>, NoAnswer> {
+    let text = text_of(alloc, units)?;
+    Ok(UtfString::from_str(alloc, &text)?)
 }
 
-impl ToldUnit for u16 {
-    fn told(fault: DecodeUtf16Error) -> u32 {
-        u32::from(fault.unpaired_surrogate())
-    }
-}
-
-impl ToldUnit for u32 {
-    fn told(fault: DecodeUtf32Error) -> u32 {
-        fault.invalid_code_point()
-    }
-}
-
-// What a constructor makes of units.
-fn made<C: FaultUnit>(
-    alloc: Global,
-    units: Vec<C>,
-    maker: &str,
-) -> Result<Result<UtfString<C>, UtfError<C>>, NoAnswer> {
-    match maker {
-        "v" => Ok(UtfString::from_vec(units)),
-        "t" => Ok(Ok(UtfString::from_str(alloc, &text_of(alloc, &units)?)?)),
-        "f" => match UtfString::from_iter_chars(alloc, text_of(alloc, &units)?.chars()) {
-            Ok(string) => Ok(Ok(string)),
-            Err(_) => Err(NoAnswer::OutOfMemory),
-        },
-        _ => Err(NoAnswer::Unparsed),
+// The string of the characters of a text.
+fn of_chars<C: FaultUnit>(alloc: Global, units: &[C]) -> Result<UtfString<C>, NoAnswer> {
+    let text = text_of(alloc, units)?;
+    match UtfString::from_iter_chars(alloc, text.chars()) {
+        Ok(string) => Ok(string),
+        Err(_) => Err(NoAnswer::OutOfMemory),
     }
 }
 
@@ -66,129 +47,186 @@ fn taken<C: FaultUnit + FromHex>(alloc: Global, list: &str) -> Result<UtfString<
     }
 }
 
-// Puts a character (`i`) or a text in before a place.
-fn insert<C: FaultUnit + FromHex>(
-    alloc: Global,
+// Puts a character in before a place.
+fn insert<C: FaultUnit>(
     string: &mut UtfString<C>,
-    text: &mut String,
-    (kind, more): (&str, &str),
+    answer: &mut Answer,
+    at: usize,
+    c: char,
 ) -> Result<(), NoAnswer> {
-    let (place, more) = parse::parts(more)?;
-    let at = parse::value::<usize>(place)?;
-    if !string.as_utfstr().is_char_boundary(at) {
-        push_number(text, None)?;
-    } else if kind == "i" {
-        string.insert(at, parse::value(more)?)?;
+    if string.as_utfstr().is_char_boundary(at) {
+        string.insert(at, c)?;
     } else {
-        let with = taken(alloc, more)?;
-        string.insert_utfstr(at, with.as_utfstr())?;
+        answer.number(None);
     }
     Ok(())
 }
 
-// Takes away the character at a place, or all text from there on. A cut past the end does nothing.
-fn cut<C: FaultUnit>(
+// Puts a text in before a place.
+fn insert_text<C: FaultUnit>(
     string: &mut UtfString<C>,
-    text: &mut String,
-    (kind, place): (&str, &str),
+    answer: &mut Answer,
+    at: usize,
+    with: UtfStr<'_, C>,
 ) -> Result<(), NoAnswer> {
-    let at = parse::value::<usize>(place)?;
-    let len = string.len();
-    let is_boundary = string.as_utfstr().is_char_boundary(at);
-    match kind {
-        "r" if is_boundary && at < len => {
-            push_number(text, Some(u32::from(string.remove(at))))?;
-        }
-        "t" if is_boundary || len < at => string.truncate(at),
-        "o" if is_boundary => push_units(text, string.split_off(at)?.as_slice())?,
-        _ => push_number(text, None)?,
+    if string.as_utfstr().is_char_boundary(at) {
+        string.insert_utfstr(at, with)?;
+    } else {
+        answer.number(None);
+    }
+    Ok(())
+}
+
+// Takes away the character at a place.
+fn remove<C: FaultUnit>(string: &mut UtfString<C>, answer: &mut Answer, at: usize) {
+    if at < string.len() && string.as_utfstr().is_char_boundary(at) {
+        answer.character(Some(string.remove(at)));
+    } else {
+        answer.number(None);
+    }
+}
+
+// Takes away all text from a place on. A cut past the end does nothing.
+fn truncate<C: FaultUnit>(string: &mut UtfString<C>, answer: &mut Answer, at: usize) {
+    if at > string.len() || string.as_utfstr().is_char_boundary(at) {
+        string.truncate(at);
+    } else {
+        answer.number(None);
+    }
+}
+
+// Takes away all text from a place on, as a string of its own.
+fn split_off<C: FaultUnit>(
+    string: &mut UtfString<C>,
+    answer: &mut Answer,
+    at: usize,
+) -> Result<(), NoAnswer> {
+    if string.as_utfstr().is_char_boundary(at) {
+        answer.units(string.split_off(at)?.as_slice());
+    } else {
+        answer.number(None);
     }
     Ok(())
 }
 
 // Drains a range.
 fn drain<C: FaultUnit>(
-    alloc: Global,
     string: &mut UtfString<C>,
-    text: &mut String,
+    answer: &mut Answer,
     range: (Bound<usize>, Bound<usize>),
-    word: &str,
-) -> Result<(), NoAnswer> {
-    let calls = parse::calls(alloc, word)?;
+    calls: &[End],
+) {
     if string.as_utfstr().get(range).is_none() {
-        push_number(text, None)?;
-        return Ok(());
+        answer.number(None);
+        return;
     }
     let mut drain = string.drain(range);
     for end in calls {
-        let c = asked!(drain, end);
-        push_number(text, c.map(u32::from))?;
+        answer.character(asked!(drain, end));
     }
-    push_part(text)?;
-    push_units(text, drain.as_utfstr().as_slice())?;
-    Ok(())
+    answer.part();
+    answer.units(drain.as_utfstr().as_slice());
 }
 
 // Puts a text in the place of a range.
-fn replace<C: FaultUnit + FromHex>(
-    alloc: Global,
+fn replace<C: FaultUnit>(
     string: &mut UtfString<C>,
-    text: &mut String,
+    answer: &mut Answer,
     range: (Bound<usize>, Bound<usize>),
-    units: &str,
+    with: UtfStr<'_, C>,
 ) -> Result<(), NoAnswer> {
-    let with = taken(alloc, units)?;
     if string.as_utfstr().get(range).is_none() {
-        push_number(text, None)?;
+        answer.number(None);
         return Ok(());
     }
-    string.replace_range(range, with.as_utfstr())?;
+    string.replace_range(range, with)?;
     Ok(())
 }
 
 // Keeps the characters that have no bit of the mask.
-fn retain<C: FaultUnit>(
-    string: &mut UtfString<C>,
-    text: &mut String,
-    mask: u32,
-) -> Result<(), NoAnswer> {
+fn retain<C: FaultUnit>(string: &mut UtfString<C>, answer: &mut Answer, mask: u32) {
     let mut calls = 0u32;
     string.retain(|c| {
         calls = calls.saturating_add(1);
         u32::from(c) & mask == 0
     });
-    push_number(text, Some(calls))?;
+    answer.number(Some(calls));
+}
+
+// Makes a call that adds characters or a text at the end.
+fn extend<C: FaultUnit + FromHex>(
+    alloc: Global,
+    string: &mut UtfString<C>,
+    kind: u8,
+    more: &str,
+) -> Result<(), NoAnswer> {
+    match kind {
+        b'c' => string.push(parse::value(more)?)?,
+        b's' => string.push_str(&text_of(alloc, &parse::list::<C>(alloc, more)?)?)?,
+        b'u' => string.push_utfstr(taken(alloc, more)?.as_utfstr())?,
+        b'e' => string.extend_chars(parse::list::<char>(alloc, more)?)?,
+        _ => string.extend_char_refs(&parse::list::<char>(alloc, more)?)?,
+    }
     Ok(())
+}
+
+// Makes a call at a place, and adds what it answers.
+fn call_at<C: FaultUnit + FromHex>(
+    alloc: Global,
+    string: &mut UtfString<C>,
+    answer: &mut Answer,
+    kind: u8,
+    more: &str,
+) -> Result<(), NoAnswer> {
+    match kind {
+        b'r' => remove(string, answer, parse::value(more)?),
+        b't' => truncate(string, answer, parse::value(more)?),
+        b'o' => split_off(string, answer, parse::value(more)?)?,
+        _ => {
+            let (place, more) = parse::parts(more)?;
+            let at = parse::value(place)?;
+            if kind == b'i' {
+                insert(string, answer, at, parse::value(more)?)?;
+            } else {
+                insert_text(string, answer, at, taken(alloc, more)?.as_utfstr())?;
+            }
+        }
+    }
+    Ok(())
+}
+
+// Makes a call at a range, and adds what it answers.
+fn call_in<C: FaultUnit + FromHex>(
+    alloc: Global,
+    string: &mut UtfString<C>,
+    answer: &mut Answer,
+    kind: u8,
+    more: &str,
+) -> Result<(), NoAnswer> {
+    let (range, more) = parse::parts(more)?;
+    let range = parse::range(range)?;
+    if kind == b'd' {
+        drain(string, answer, range, &parse::calls(alloc, more)?);
+        return Ok(());
+    }
+    replace(string, answer, range, taken(alloc, more)?.as_utfstr())
 }
 
 // Makes a call, and adds what it answers.
 fn call<C: FaultUnit + FromHex>(
     alloc: Global,
     string: &mut UtfString<C>,
-    text: &mut String,
+    answer: &mut Answer,
     call: &str,
 ) -> Result<(), NoAnswer> {
     let (kind, more) = parse::kind(call)?;
     match kind {
-        "c" => string.push(parse::value(more)?)?,
-        "s" => string.push_str(&text_of(alloc, &parse::list::<C>(alloc, more)?)?)?,
-        "u" => string.push_utfstr(taken(alloc, more)?.as_utfstr())?,
-        "e" => string.extend_chars(parse::list::<char>(alloc, more)?)?,
-        "n" => string.extend_char_refs(&parse::list::<char>(alloc, more)?)?,
-        "i" | "j" => insert(alloc, string, text, (kind, more))?,
-        "r" | "t" | "o" => cut(string, text, (kind, more))?,
-        "x" | "d" => {
-            let (range, more) = parse::parts(more)?;
-            let range = parse::range(range)?;
-            if kind == "x" {
-                replace(alloc, string, text, range, more)?;
-            } else {
-                drain(alloc, string, text, range, more)?;
-            }
-        }
-        "k" => retain(string, text, parse::value(more)?)?,
-        "p" => push_number(text, string.pop().map(u32::from))?,
-        "l" => string.clear(),
+        b'c' | b's' | b'u' | b'e' | b'n' => extend(alloc, string, kind, more)?,
+        b'i' | b'j' | b'r' | b't' | b'o' => call_at(alloc, string, answer, kind, more)?,
+        b'x' | b'd' => call_in(alloc, string, answer, kind, more)?,
+        b'k' => retain(string, answer, parse::value(more)?),
+        b'p' => answer.character(string.pop()),
+        b'l' => string.clear(),
         _ => return Err(NoAnswer::Unparsed),
     }
     Ok(())
@@ -200,15 +238,49 @@ fn edited<C: FaultUnit + FromHex>(
     mut string: UtfString<C>,
     calls: &[&str],
 ) -> Result<String, NoAnswer> {
-    let mut text = String::new(alloc);
-    push_units(&mut text, string.as_slice())?;
+    let mut answer = Answer::new(alloc);
+    answer.units(string.as_slice());
     for written in calls {
-        push_part(&mut text)?;
-        call(alloc, &mut string, &mut text, written)?;
-        push_part(&mut text)?;
-        push_units(&mut text, string.as_slice())?;
+        answer.part();
+        call(alloc, &mut string, &mut answer, written)?;
+        answer.part();
+        answer.units(string.as_slice());
     }
-    Ok(text)
+    answer.finish()
+}
+
+// What is answered about units that are not well formed, and that no calls follow.
+fn refused<C: ToldUnit>(
+    alloc: Global,
+    error: UtfError<C>,
+    calls: &[&str],
+) -> Result<String, NoAnswer> {
+    if !calls.is_empty() {
+        return Err(NoAnswer::Unparsed);
+    }
+    let mut answer = Answer::new(alloc);
+    answer.first_fault(error.index(), C::told(error.cause()));
+    answer.part();
+    answer.handed_back(error.into_vec());
+    answer.finish()
+}
+
+// What a script answers whose first call is this one.
+fn scripted<C: ToldUnit>(
+    alloc: Global,
+    units: Vec<C>,
+    maker: &str,
+    calls: &[&str],
+) -> Result<String, NoAnswer> {
+    match maker.as_bytes() {
+        b"v" => match UtfString::from_vec(units) {
+            Ok(string) => edited(alloc, string, calls),
+            Err(error) => refused(alloc, error, calls),
+        },
+        b"t" => edited(alloc, of_text(alloc, &units)?, calls),
+        b"f" => edited(alloc, of_chars(alloc, &units)?, calls),
+        _ => Err(NoAnswer::Unparsed),
+    }
 }
 
 /// What the calls of a script answer, and the units that each leaves.
@@ -217,18 +289,8 @@ pub fn script<C: ToldUnit>(alloc: Global, list: &str, question: &str) -> Result<
     for call in question.split('/') {
         calls.push(call)?;
     }
-    let Some((maker, calls)) = calls.as_slice().split_first() else {
-        return Err(NoAnswer::Unparsed);
-    };
-    match made(alloc, parse::list::<C>(alloc, list)?, maker)? {
-        Ok(string) => edited(alloc, string, calls),
-        Err(_) if !calls.is_empty() => Err(NoAnswer::Unparsed),
-        Err(error) => {
-            let mut text = String::new(alloc);
-            push_first_fault(&mut text, error.index(), C::told(error.cause()))?;
-            push_part(&mut text)?;
-            push_handed_back(&mut text, error.into_vec())?;
-            Ok(text)
-        }
+    match calls.as_slice() {
+        [] => Err(NoAnswer::Unparsed),
+        [maker, calls @ ..] => scripted(alloc, parse::list::<C>(alloc, list)?, maker, calls),
     }
 }

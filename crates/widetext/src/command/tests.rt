@@ -3,6 +3,7 @@ ghost use Rattle.std.specs.Prelude.{◌≡◌, ◌<◌, Some, false};
 
 use super::*;
 use std::io;
+use std::process::Abort;
 use std::test::Fail;
 use wide_bytes::{FromRead, FromWrite};
 
@@ -88,6 +89,13 @@ impl SlowSink {
             failed: false,
         }
     }
+
+    /// One that is empty, and doesn't fail.
+    fn whole(alloc: Global, step: usize) -> SlowSink
+        ensures failed { result.failed ≡ false }
+    {
+        SlowSink::new(Vec::new(alloc), step, 0, false)
+    }
 }
 
 impl ByteSink for SlowSink {
@@ -120,7 +128,7 @@ impl ByteSink for SlowSink {
     }
 }
 
-const UTF8: [&str; 1] = ["utf8"];
+const UTF8: &[&str] = &["utf8"];
 
 /// Input, text, line on the fault stream, status.
 type Row = (&'static [u8], &'static [u8], &'static str, u8);
@@ -166,118 +174,206 @@ const ROWS: [Row; 12] = [
     ),
 ];
 
-fn strings(rt: &HostRuntime, words: &[&str]) -> Result<Vec<String>, Fail> {
-    let mut all = Vec::new(rt.alloc());
+/// A run that has ended: its status, and its devices.
+#[derive(Drop)]
+struct Ended<'a> {
+    status: u8,
+    source: Slow<'a>,
+    sink: SlowSink,
+    said: SlowSink,
+}
+
+impl Ended<'_> {
+    // Whether it ended with this status, wrote this text, and said this on the fault stream.
+    fn is(&self, status: u8, text: &[u8], said: &[u8]) -> bool {
+        let mut well = self.status == status;
+        well &= self.sink.bytes.as_slice() == text;
+        well &= self.said.bytes.as_slice() == said;
+        well
+    }
+
+    // Whether it was refused with this line, and wrote no more than the beginning of this text.
+    fn is_refused(&self, line: &[u8], text: &[u8]) -> bool {
+        let mut well = self.status == 1;
+        well &= self.said.bytes.as_slice() == line;
+        well &= text.starts_with(self.sink.bytes.as_slice());
+        well
+    }
+}
+
+// Fails where a row does not hold, and names its input.
+fn check(rt: &impl Abort, holds: bool, input: &[u8]) {
+    assert!(rt; holds, "{input:?}");
+}
+
+fn strings(alloc: Global, words: &[&str]) -> Result<Vec<String>, AllocError> {
+    let mut all = Vec::new(alloc);
     for word in words {
-        all.push(String::from_str(rt.alloc(), word)?)?;
+        all.push(String::from_str(alloc, word)?)?;
     }
     Ok(all)
 }
 
+/// Runs the command.
+fn run<'a>(
+    alloc: Global,
+    words: &[&str],
+    mut source: Slow<'a>,
+    mut sink: SlowSink,
+    mut said: SlowSink,
+) -> Result<Ended<'a>, AllocError>
+    requires source_sound { source.failed ≡ false }
+    requires source_open { source.ended ≡ false }
+    requires sink_sound { sink.failed ≡ false }
+    requires said_sound { said.failed ≡ false }
+{
+    let words = strings(alloc, words)?;
+    let status = command(alloc, &words, &mut source, &mut sink, &mut said);
+    Ok(Ended {
+        status,
+        source,
+        sink,
+        said,
+    })
+}
+
+// Whether a row holds over devices in memory.
+fn holds(alloc: Global, row: Row) -> Result<bool, AllocError> {
+    let (input, text, fault, status) = row;
+    let words = strings(alloc, UTF8)?;
+    let mut source = FromRead::new(input);
+    let mut sink = FromWrite::new(Vec::new(alloc));
+    let mut said = FromWrite::new(Vec::new(alloc));
+    let mut well = status == command(alloc, &words, &mut source, &mut sink, &mut said);
+    well &= sink.into_inner().as_slice() == text;
+    well &= said.into_inner().as_slice() == fault.as_bytes();
+    Ok(well)
+}
+
 #[test]
 fn rows(rt: HostRuntime) -> Result<(), Fail> {
-    let words = strings(&rt, &UTF8)?;
-    for (input, text, fault, status) in ROWS {
-        let mut out = Vec::new(rt.alloc());
-        let mut faults = Vec::new(rt.alloc());
-        {
-            let mut source = FromRead::new(input);
-            let mut sink = FromWrite::new(&mut out);
-            let mut said = FromWrite::new(&mut faults);
-            let answer = command(rt.alloc(), &words, &mut source, &mut sink, &mut said);
-            assert_eq!(rt; answer, status, "{input:?}");
-        }
-        assert_eq!(rt; out.as_slice(), text, "{input:?}");
-        assert_eq!(rt; faults.as_slice(), fault.as_bytes(), "{input:?}");
+    for row in ROWS {
+        check(&rt, holds(rt.alloc(), row)?, row.0);
     }
     Ok(())
+}
+
+// Whether a row holds over devices that move this many bytes a call.
+fn holds_by_steps(alloc: Global, row: Row, step: usize) -> Result<bool, AllocError> {
+    let (input, text, fault, status) = row;
+    let sink = SlowSink::whole(alloc, step);
+    let said = SlowSink::whole(alloc, step);
+    let ran = run(alloc, UTF8, Slow::new(input, step, 0), sink, said)?;
+    Ok(ran.is(status, text, fault.as_bytes()))
 }
 
 #[test]
 fn slow_devices(rt: HostRuntime) -> Result<(), Fail> {
-    let words = strings(&rt, &UTF8)?;
-    for (input, text, fault, status) in ROWS {
+    for row in ROWS {
         for step in [1, 2, 3, 4096] {
-            let mut source = Slow::new(input, step, 0);
-            let mut sink = SlowSink::new(Vec::new(rt.alloc()), step, 0, false);
-            let mut said = SlowSink::new(Vec::new(rt.alloc()), step, 0, false);
-            let answer = command(rt.alloc(), &words, &mut source, &mut sink, &mut said);
-            assert_eq!(rt; answer, status, "{input:?}");
-            assert_eq!(rt; sink.bytes.as_slice(), text, "{input:?}");
-            assert_eq!(rt; said.bytes.as_slice(), fault.as_bytes(), "{input:?}");
+            check(&rt, holds_by_steps(rt.alloc(), row, step)?, row.0);
         }
     }
     Ok(())
+}
+
+// Whether a source that fails after this many calls ends the run, and isn't asked again.
+fn ends_at_source(alloc: Global, row: Row, calls: usize) -> Result<bool, AllocError> {
+    let (input, text, _, _) = row;
+    let fails_at = calls.saturating_add(1);
+    let sink = SlowSink::whole(alloc, 1);
+    let said = SlowSink::whole(alloc, 9);
+    let ran = run(alloc, UTF8, Slow::new(input, 1, fails_at), sink, said)?;
+    Ok(ran.is_refused(b"read fault\n", text) & (ran.source.calls == fails_at))
+}
+
+// The same at each call: one take for each byte, and one that answers the end.
+fn ends_at_each_take(alloc: Global, row: Row) -> Result<bool, AllocError> {
+    let (input, ..) = row;
+    let mut well = ends_at_source(alloc, row, input.len())?;
+    for calls in 0..input.len() {
+        well &= ends_at_source(alloc, row, calls)?;
+    }
+    Ok(well)
 }
 
 #[test]
 fn failing_source(rt: HostRuntime) -> Result<(), Fail> {
-    let words = strings(&rt, &UTF8)?;
-    for (input, text, _, _) in ROWS {
-        // One take for each byte, and one that answers the end.
-        for calls in 0..input.len() + 1 {
-            let fails_at = calls + 1;
-            let mut source = Slow::new(input, 1, fails_at);
-            let mut sink = SlowSink::new(Vec::new(rt.alloc()), 1, 0, false);
-            let mut said = SlowSink::new(Vec::new(rt.alloc()), 9, 0, false);
-            let answer = command(rt.alloc(), &words, &mut source, &mut sink, &mut said);
-            assert_eq!(rt; answer, 1);
-            assert_eq!(rt; said.bytes.as_slice(), b"read fault\n".as_slice());
-            assert!(rt; text.starts_with(sink.bytes.as_slice()));
-            assert_eq!(rt;
-                source.calls,
-                fails_at,
-                "a read that failed isn't tried again"
-            );
-        }
+    for row in ROWS {
+        check(&rt, ends_at_each_take(rt.alloc(), row)?, row.0);
     }
     Ok(())
+}
+
+// Whether a sink that fails once it has this many bytes ends the run, and isn't asked again.
+fn ends_at_sink(
+    alloc: Global,
+    row: Row,
+    written: usize,
+    takes_none: bool,
+) -> Result<bool, AllocError> {
+    let (input, text, _, _) = row;
+    let fails_at = written.saturating_add(1);
+    let sink = SlowSink::new(Vec::new(alloc), 1, fails_at, takes_none);
+    let said = SlowSink::whole(alloc, 9);
+    let ran = run(alloc, UTF8, Slow::new(input, 4096, 0), sink, said)?;
+    let mut well = ran.is_refused(b"write fault\n", text);
+    well &= ran.sink.bytes.len() == written;
+    well &= ran.sink.calls == fails_at;
+    Ok(well)
+}
+
+// The same at each byte of the text, by an error and by taking none.
+fn ends_at_each_put(alloc: Global, row: Row) -> Result<bool, AllocError> {
+    let (_, text, _, _) = row;
+    let mut well = true;
+    for written in 0..text.len() {
+        well &= ends_at_sink(alloc, row, written, false)?;
+        well &= ends_at_sink(alloc, row, written, true)?;
+    }
+    Ok(well)
 }
 
 #[test]
 fn failing_sink(rt: HostRuntime) -> Result<(), Fail> {
-    let words = strings(&rt, &UTF8)?;
-    for (input, text, _, _) in ROWS {
-        for fails_at in 1..=text.len() {
-            for takes_none in [false, true] {
-                let mut source = Slow::new(input, 4096, 0);
-                let mut sink = SlowSink::new(Vec::new(rt.alloc()), 1, fails_at, takes_none);
-                let mut said = SlowSink::new(Vec::new(rt.alloc()), 9, 0, false);
-                let answer = command(rt.alloc(), &words, &mut source, &mut sink, &mut said);
-                assert_eq!(rt; answer, 1);
-                assert_eq!(rt; said.bytes.as_slice(), b"write fault\n".as_slice());
-                assert_eq!(rt;
-                    sink.bytes.as_slice(),
-                    text.get(..fails_at - 1).ok_or("short")?
-                );
-                assert_eq!(rt;
-                    sink.calls,
-                    fails_at,
-                    "a write that failed isn't tried again"
-                );
-            }
-        }
+    for row in ROWS {
+        check(&rt, ends_at_each_put(rt.alloc(), row)?, row.0);
     }
     Ok(())
+}
+
+// Whether a fault stream that fails changes neither the text nor the status.
+fn holds_without_fault_stream(alloc: Global, row: Row) -> Result<bool, AllocError> {
+    let (input, text, _, status) = row;
+    let sink = SlowSink::whole(alloc, 4096);
+    let said = SlowSink::new(Vec::new(alloc), 1, 3, false);
+    let ran = run(alloc, UTF8, Slow::new(input, 4096, 0), sink, said)?;
+    Ok((ran.status == status) & (ran.sink.bytes.as_slice() == text))
 }
 
 #[test]
 fn failing_fault_stream(rt: HostRuntime) -> Result<(), Fail> {
-    let words = strings(&rt, &UTF8)?;
-    for (input, text, _, status) in ROWS {
-        let mut source = Slow::new(input, 4096, 0);
-        let mut sink = SlowSink::new(Vec::new(rt.alloc()), 4096, 0, false);
-        let mut said = SlowSink::new(Vec::new(rt.alloc()), 1, 3, false);
-        let answer = command(rt.alloc(), &words, &mut source, &mut sink, &mut said);
-        assert_eq!(rt; answer, status);
-        assert_eq!(rt; sink.bytes.as_slice(), text);
+    for row in ROWS {
+        check(&rt, holds_without_fault_stream(rt.alloc(), row)?, row.0);
     }
     Ok(())
 }
 
+const USAGE_LINE: &[u8] = b"usage: widetext utf8 [--lossy] | ends UNITS CALLS | edit TEXT EDIT..\n";
+
+// Whether these words are answered with the usage alone, and no device is asked.
+fn are_wrong(alloc: Global, words: &[&str]) -> Result<bool, AllocError> {
+    let sink = SlowSink::whole(alloc, 4096);
+    let said = SlowSink::whole(alloc, 4096);
+    let ran = run(alloc, words, Slow::new(b"a\x00", 4096, 0), sink, said)?;
+    let mut well = ran.is(2, b"", USAGE_LINE);
+    well &= ran.source.calls == 0;
+    well &= ran.sink.calls == 0;
+    Ok(well)
+}
+
 #[test]
 fn wrong_words(rt: HostRuntime) -> Result<(), Fail> {
-    let usage = "usage: widetext utf8 [--lossy] | ends UNITS CALLS | edit TEXT EDIT..\n";
     let all: [&[&str]; 18] = [
         &[],
         &[""],
@@ -299,21 +395,23 @@ fn wrong_words(rt: HostRuntime) -> Result<(), Fail> {
         &["ends", "41", "f"],
     ];
     for wrong in all {
-        let words = strings(&rt, wrong)?;
-        let mut source = Slow::new(b"a\x00", 4096, 0);
-        let mut sink = SlowSink::new(Vec::new(rt.alloc()), 4096, 0, false);
-        let mut said = SlowSink::new(Vec::new(rt.alloc()), 4096, 0, false);
-        let answer = command(rt.alloc(), &words, &mut source, &mut sink, &mut said);
-        assert_eq!(rt; answer, 2, "{wrong:?}");
-        assert_eq!(rt; source.calls, 0, "{wrong:?}");
-        assert_eq!(rt; sink.calls, 0, "{wrong:?}");
-        assert_eq!(rt; said.bytes.as_slice(), usage.as_bytes(), "{wrong:?}");
+        assert!(rt; are_wrong(rt.alloc(), wrong)?, "{wrong:?}");
     }
     Ok(())
 }
 
 /// Units, calls, lines.
 type EndsRow = (&'static str, &'static str, &'static str);
+
+// Whether the row's lines are all that is written, and nothing is read.
+fn ends_as(alloc: Global, row: EndsRow) -> Result<bool, AllocError> {
+    let (units, calls, lines) = row;
+    let sink = SlowSink::whole(alloc, 5);
+    let said = SlowSink::whole(alloc, 5);
+    let source = Slow::new(b"a\x00", 4096, 0);
+    let ran = run(alloc, &["ends", units, calls], source, sink, said)?;
+    Ok(ran.is(0, lines.as_bytes(), b"") & (ran.source.calls == 0))
+}
 
 #[test]
 fn ends(rt: HostRuntime) -> Result<(), Fail> {
@@ -331,70 +429,59 @@ fn ends(rt: HostRuntime) -> Result<(), Fail> {
         ("DC00,D800", "BFF", "fault d800\nfault dc00\nnone\n"),
         ("0041,DC00", "BF", "fault dc00\nU+0041\n"),
     ];
-    for (units, calls, lines) in rows {
-        let words = strings(&rt, &["ends", units, calls])?;
-        let mut source = Slow::new(b"a\x00", 4096, 0);
-        let mut sink = SlowSink::new(Vec::new(rt.alloc()), 5, 0, false);
-        let mut said = SlowSink::new(Vec::new(rt.alloc()), 5, 0, false);
-        let answer = command(rt.alloc(), &words, &mut source, &mut sink, &mut said);
-        assert_eq!(rt; answer, 0, "{units} {calls}");
-        assert_eq!(rt; source.calls, 0, "{units} {calls}");
-        assert_eq!(rt; sink.bytes.as_slice(), lines.as_bytes(), "{units} {calls}");
-        assert!(rt; said.bytes.is_empty(), "{units} {calls}");
+    for row in rows {
+        let (units, calls, _) = row;
+        assert!(rt; ends_as(rt.alloc(), row)?, "{units} {calls}");
     }
     Ok(())
 }
 
+const ENDS: &[&str] = &["ends", "D83D,DE00", "BF"];
+
+const LINES: &[u8] = b"U+1F600\nnone\n";
+
+// Whether `ends` is refused by a sink that fails at this call.
+fn ends_refused(alloc: Global, fails_at: usize) -> Result<bool, AllocError> {
+    let sink = SlowSink::new(Vec::new(alloc), 1, fails_at, false);
+    let said = SlowSink::whole(alloc, 9);
+    let ran = run(alloc, ENDS, Slow::new(b"", 4096, 0), sink, said)?;
+    Ok(ran.is_refused(b"write fault\n", LINES))
+}
+
 #[test]
 fn ends_into_a_failing_sink(rt: HostRuntime) -> Result<(), Fail> {
-    let words = strings(&rt, &["ends", "D83D,DE00", "BF"])?;
-    for calls in 0..8usize {
-        let mut source = Slow::new(b"", 4096, 0);
-        let mut sink = SlowSink::new(Vec::new(rt.alloc()), 1, calls + 1, false);
-        let mut said = SlowSink::new(Vec::new(rt.alloc()), 9, 0, false);
-        let answer = command(rt.alloc(), &words, &mut source, &mut sink, &mut said);
-        assert_eq!(rt; answer, 1);
-        assert_eq!(rt; said.bytes.as_slice(), b"write fault\n".as_slice());
-        assert!(rt; b"U+1F600\nnone\n".starts_with(sink.bytes.as_slice()));
+    for fails_at in [1, 2, 3, 4, 5, 6, 7, 8] {
+        assert!(rt; ends_refused(rt.alloc(), fails_at)?, "{fails_at}");
     }
     Ok(())
+}
+
+// Whether all of the text is written, or memory was refused, and nothing else said or written.
+fn is_whole_or_refused(
+    alloc: Global,
+    words: &[&str],
+    input: &[u8],
+    text: &[u8],
+) -> Result<bool, AllocError> {
+    let sink = SlowSink::new(Vec::with_capacity(alloc, 16)?, 4096, 0, false);
+    let said = SlowSink::new(Vec::with_capacity(alloc, 64)?, 4096, 0, false);
+    let ran = run(alloc, words, Slow::new(input, 3, 0), sink, said)?;
+    Ok(ran.is(0, text, b"") | ran.is(1, b"", b"out of memory\n"))
 }
 
 // Where an allocation is refused, which a run with failing allocations makes happen at each one in turn, the answer is
 // that memory was refused, and nothing else.
 #[test]
 fn refused_memory(rt: HostRuntime) -> Result<(), Fail> {
-    let words = strings(&rt, &UTF8)?;
-    let mut source = Slow::new(b"\x3d\xd8\x00\xde", 3, 0);
-    let mut sink = SlowSink::new(Vec::with_capacity(rt.alloc(), 16)?, 4096, 0, false);
-    let mut said = SlowSink::new(Vec::with_capacity(rt.alloc(), 64)?, 4096, 0, false);
-    let answer = command(rt.alloc(), &words, &mut source, &mut sink, &mut said);
-    if answer == 0 {
-        assert_eq!(rt; sink.bytes.as_slice(), b"\xf0\x9f\x98\x80".as_slice());
-        assert_eq!(rt; said.bytes.as_slice(), b"".as_slice());
-    } else {
-        assert_eq!(rt; answer, 1);
-        assert_eq!(rt; sink.bytes.as_slice(), b"".as_slice());
-        assert_eq!(rt; said.bytes.as_slice(), b"out of memory\n".as_slice());
-    }
+    let input = b"\x3d\xd8\x00\xde";
+    let well = is_whole_or_refused(rt.alloc(), UTF8, input, b"\xf0\x9f\x98\x80")?;
+    assert!(rt; well);
     Ok(())
 }
 
 // The same of `ends`, whose lines are all made before any is written.
 #[test]
 fn refused_memory_of_ends(rt: HostRuntime) -> Result<(), Fail> {
-    let words = strings(&rt, &["ends", "D83D,DE00", "BF"])?;
-    let mut source = Slow::new(b"", 3, 0);
-    let mut sink = SlowSink::new(Vec::with_capacity(rt.alloc(), 16)?, 4096, 0, false);
-    let mut said = SlowSink::new(Vec::with_capacity(rt.alloc(), 64)?, 4096, 0, false);
-    let answer = command(rt.alloc(), &words, &mut source, &mut sink, &mut said);
-    if answer == 0 {
-        assert_eq!(rt; sink.bytes.as_slice(), b"U+1F600\nnone\n".as_slice());
-        assert_eq!(rt; said.bytes.as_slice(), b"".as_slice());
-    } else {
-        assert_eq!(rt; answer, 1);
-        assert_eq!(rt; sink.bytes.as_slice(), b"".as_slice());
-        assert_eq!(rt; said.bytes.as_slice(), b"out of memory\n".as_slice());
-    }
+    assert!(rt; is_whole_or_refused(rt.alloc(), ENDS, b"", LINES)?);
     Ok(())
 }
