@@ -202,8 +202,8 @@ impl Ended<'_> {
 }
 
 // Fails where a row does not hold, and names its input.
-fn check(rt: &impl Abort, holds: bool, input: &[u8]) {
-    assert!(rt; holds, "{input:?}");
+fn check(rt: &impl Abort, holds: Result<bool, AllocError>, input: &[u8]) {
+    assert!(rt; holds == Ok(true), "{input:?}");
 }
 
 fn strings(alloc: Global, words: &[&str]) -> Result<Vec<String>, AllocError> {
@@ -251,11 +251,10 @@ fn holds(alloc: Global, row: Row) -> Result<bool, AllocError> {
 }
 
 #[test]
-fn rows(rt: HostRuntime) -> Result<(), Fail> {
+fn rows(rt: HostRuntime) {
     for row in ROWS {
-        check(&rt, holds(rt.alloc(), row)?, row.0);
+        check(&rt, holds(rt.alloc(), row), row.0);
     }
-    Ok(())
 }
 
 // Whether a row holds over devices that move this many bytes a call.
@@ -267,14 +266,19 @@ fn holds_by_steps(alloc: Global, row: Row, step: usize) -> Result<bool, AllocErr
     Ok(ran.is(status, text, fault.as_bytes()))
 }
 
+// The same by steps of some sizes.
+fn holds_by_each_step(alloc: Global, row: Row) -> Result<bool, AllocError> {
+    let mut well = holds_by_steps(alloc, row, 1)?;
+    well &= holds_by_steps(alloc, row, 2)?;
+    well &= holds_by_steps(alloc, row, 3)?;
+    Ok(well & holds_by_steps(alloc, row, 4096)?)
+}
+
 #[test]
-fn slow_devices(rt: HostRuntime) -> Result<(), Fail> {
+fn slow_devices(rt: HostRuntime) {
     for row in ROWS {
-        for step in [1, 2, 3, 4096] {
-            check(&rt, holds_by_steps(rt.alloc(), row, step)?, row.0);
-        }
+        check(&rt, holds_by_each_step(rt.alloc(), row), row.0);
     }
-    Ok(())
 }
 
 // Whether a source that fails after this many calls ends the run, and isn't asked again.
@@ -298,11 +302,10 @@ fn ends_at_each_take(alloc: Global, row: Row) -> Result<bool, AllocError> {
 }
 
 #[test]
-fn failing_source(rt: HostRuntime) -> Result<(), Fail> {
+fn failing_source(rt: HostRuntime) {
     for row in ROWS {
-        check(&rt, ends_at_each_take(rt.alloc(), row)?, row.0);
+        check(&rt, ends_at_each_take(rt.alloc(), row), row.0);
     }
-    Ok(())
 }
 
 // Whether a sink that fails once it has this many bytes ends the run, and isn't asked again.
@@ -335,11 +338,10 @@ fn ends_at_each_put(alloc: Global, row: Row) -> Result<bool, AllocError> {
 }
 
 #[test]
-fn failing_sink(rt: HostRuntime) -> Result<(), Fail> {
+fn failing_sink(rt: HostRuntime) {
     for row in ROWS {
-        check(&rt, ends_at_each_put(rt.alloc(), row)?, row.0);
+        check(&rt, ends_at_each_put(rt.alloc(), row), row.0);
     }
-    Ok(())
 }
 
 // Whether a fault stream that fails changes neither the text nor the status.
@@ -352,11 +354,10 @@ fn holds_without_fault_stream(alloc: Global, row: Row) -> Result<bool, AllocErro
 }
 
 #[test]
-fn failing_fault_stream(rt: HostRuntime) -> Result<(), Fail> {
+fn failing_fault_stream(rt: HostRuntime) {
     for row in ROWS {
-        check(&rt, holds_without_fault_stream(rt.alloc(), row)?, row.0);
+        check(&rt, holds_without_fault_stream(rt.alloc(), row), row.0);
     }
-    Ok(())
 }
 
 const USAGE_LINE: &[u8] = b"usage: widetext utf8 [--lossy] | ends UNITS CALLS | edit TEXT EDIT..\n";
@@ -373,7 +374,7 @@ fn are_wrong(alloc: Global, words: &[&str]) -> Result<bool, AllocError> {
 }
 
 #[test]
-fn wrong_words(rt: HostRuntime) -> Result<(), Fail> {
+fn wrong_words(rt: HostRuntime) {
     let all: [&[&str]; 18] = [
         &[],
         &[""],
@@ -395,9 +396,8 @@ fn wrong_words(rt: HostRuntime) -> Result<(), Fail> {
         &["ends", "41", "f"],
     ];
     for wrong in all {
-        assert!(rt; are_wrong(rt.alloc(), wrong)?, "{wrong:?}");
+        assert!(rt; are_wrong(rt.alloc(), wrong) == Ok(true), "{wrong:?}");
     }
-    Ok(())
 }
 
 /// Units, calls, lines.
@@ -414,7 +414,7 @@ fn ends_as(alloc: Global, row: EndsRow) -> Result<bool, AllocError> {
 }
 
 #[test]
-fn ends(rt: HostRuntime) -> Result<(), Fail> {
+fn ends(rt: HostRuntime) {
     let rows: [EndsRow; 8] = [
         (
             "D800,0041,DC00",
@@ -431,9 +431,8 @@ fn ends(rt: HostRuntime) -> Result<(), Fail> {
     ];
     for row in rows {
         let (units, calls, _) = row;
-        assert!(rt; ends_as(rt.alloc(), row)?, "{units} {calls}");
+        assert!(rt; ends_as(rt.alloc(), row) == Ok(true), "{units} {calls}");
     }
-    Ok(())
 }
 
 const ENDS: &[&str] = &["ends", "D83D,DE00", "BF"];
@@ -449,11 +448,13 @@ fn ends_refused(alloc: Global, fails_at: usize) -> Result<bool, AllocError> {
 }
 
 #[test]
-fn ends_into_a_failing_sink(rt: HostRuntime) -> Result<(), Fail> {
+fn ends_into_a_failing_sink(rt: HostRuntime) {
     for fails_at in [1, 2, 3, 4, 5, 6, 7, 8] {
-        assert!(rt; ends_refused(rt.alloc(), fails_at)?, "{fails_at}");
+        assert!(rt;
+            ends_refused(rt.alloc(), fails_at) == Ok(true),
+            "{fails_at}"
+        );
     }
-    Ok(())
 }
 
 // Whether all of the text is written, or memory was refused, and nothing else said or written.
