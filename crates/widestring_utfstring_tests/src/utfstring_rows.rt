@@ -227,6 +227,15 @@ fn insert_char<C: FaultUnit>(string: &mut UtfString<C>, at: usize, c: char) -> b
     string.insert(at, c).is_ok()
 }
 
+// Of `axU+1F600`: what comes off its end, and a view of U+1F600 put in before `a`, which comes off after it.
+fn taken_apart<C: FaultUnit + PartialEq>(mut string: UtfString<C>, view: UtfStr<'_, C>) -> bool {
+    let mut well = string.pop() == Some('\u{1f600}');
+    well &= string.pop() == Some('x');
+    well &= insert(&mut string, 0, view);
+    well &= string.pop() == Some('a');
+    well & (string.as_slice() == view.as_slice())
+}
+
 // Edits of `a`, with a view of U+1F600; `after` has the units of `axU+1F600`.
 fn edited<C: FaultUnit + PartialEq>(alloc: Global, smile: &[C], after: &[C]) -> bool {
     let Ok(view) = UtfStr::from_slice(smile) else {
@@ -237,11 +246,7 @@ fn edited<C: FaultUnit + PartialEq>(alloc: Global, smile: &[C], after: &[C]) -> 
     well &= string.push_utfstr(view).is_ok();
     well &= insert_char(&mut string, 1, 'x');
     well &= string.as_slice() == after;
-    well &= string.pop() == Some('\u{1f600}');
-    well &= string.pop() == Some('x');
-    well &= insert(&mut string, 0, view);
-    well &= string.pop() == Some('a');
-    well & (string.as_slice() == smile)
+    well & taken_apart(string, view)
 }
 
 // The text divided behind its first character; `smile` are the units of the second.
