@@ -114,25 +114,37 @@ pub fn utf16(alloc: Global, list: &str, question: &str) -> Result<String, NoAnsw
     }
 }
 
+fn of_slice32(alloc: Global, units: &[u32], calls: &[End]) -> Result<String, NoAnswer> {
+    bounds_of!(alloc, decode_utf32(units.iter().copied()), calls)
+}
+
 /// The bounds that a decoder of UTF-32 tells over the copied units of a slice. A question is a word of calls.
 pub fn utf32(alloc: Global, list: &str, word: &str) -> Result<String, NoAnswer> {
     let units = parse::list::<u32>(alloc, list)?;
     let calls = parse::calls(alloc, word)?;
-    bounds_of!(alloc, decode_utf32(units.iter().copied()), &calls)
+    of_slice32(alloc, &units, &calls)
+}
+
+fn of_lossy16(alloc: Global, units: &[u16], calls: &[End]) -> Result<String, NoAnswer> {
+    bounds_of!(alloc, decode_utf16_lossy(units.iter().copied()), calls)
 }
 
 /// The bounds that a lossy decoder of UTF-16 tells, in the same way.
 pub fn lossy_utf16(alloc: Global, list: &str, word: &str) -> Result<String, NoAnswer> {
     let units = parse::list::<u16>(alloc, list)?;
     let calls = parse::calls(alloc, word)?;
-    bounds_of!(alloc, decode_utf16_lossy(units.iter().copied()), &calls)
+    of_lossy16(alloc, &units, &calls)
+}
+
+fn of_lossy32(alloc: Global, units: &[u32], calls: &[End]) -> Result<String, NoAnswer> {
+    bounds_of!(alloc, decode_utf32_lossy(units.iter().copied()), calls)
 }
 
 /// The bounds that a lossy decoder of UTF-32 tells, in the same way.
 pub fn lossy_utf32(alloc: Global, list: &str, word: &str) -> Result<String, NoAnswer> {
     let units = parse::list::<u32>(alloc, list)?;
     let calls = parse::calls(alloc, word)?;
-    bounds_of!(alloc, decode_utf32_lossy(units.iter().copied()), &calls)
+    of_lossy32(alloc, &units, &calls)
 }
 
 // The bounds that an encoder tells, at first and after each call from the front.
@@ -149,17 +161,25 @@ macro_rules! front_bounds_of {
     }};
 }
 
+fn of_encoded8(alloc: Global, chars: &[char], calls: usize) -> Result<String, NoAnswer> {
+    front_bounds_of!(alloc, encode_utf8(chars.iter().copied()), calls)
+}
+
 /// The bounds that an encoder to UTF-8 tells over the copied characters of a slice. A question is a word of calls, all from
 /// the front.
 pub fn of_utf8_encoder(alloc: Global, list: &str, word: &str) -> Result<String, NoAnswer> {
     let calls = parse::front_calls(word)?;
     let chars = parse::list::<char>(alloc, list)?;
-    front_bounds_of!(alloc, encode_utf8(chars.iter().copied()), calls)
+    of_encoded8(alloc, &chars, calls)
+}
+
+fn of_encoded16(alloc: Global, chars: &[char], calls: usize) -> Result<String, NoAnswer> {
+    front_bounds_of!(alloc, encode_utf16(chars.iter().copied()), calls)
 }
 
 /// The bounds that an encoder to UTF-16 tells, in the same way.
 pub fn of_utf16_encoder(alloc: Global, list: &str, word: &str) -> Result<String, NoAnswer> {
     let calls = parse::front_calls(word)?;
     let chars = parse::list::<char>(alloc, list)?;
-    front_bounds_of!(alloc, encode_utf16(chars.iter().copied()), calls)
+    of_encoded16(alloc, &chars, calls)
 }

@@ -66,8 +66,9 @@ fn insert_char<C: FaultUnit>(
     alloc: Global,
     mut string: UString<C>,
     at: usize,
-    c: char,
+    c: &str,
 ) -> Result<String, NoAnswer> {
+    let c = parse::value(c)?;
     if at > string.len() {
         return outside(alloc);
     }
@@ -76,16 +77,17 @@ fn insert_char<C: FaultUnit>(
 }
 
 // The units with those of a view put in.
-fn insert_units<C: FaultUnit>(
+fn insert_units<C: FaultUnit + FromHex>(
     alloc: Global,
     mut string: UString<C>,
     at: usize,
-    units: &[C],
+    units: &str,
 ) -> Result<String, NoAnswer> {
+    let units = parse::list::<C>(alloc, units)?;
     if at > string.len() {
         return outside(alloc);
     }
-    string.insert_ustr(at, UStr::from_slice(units))?;
+    string.insert_ustr(at, UStr::from_slice(&units))?;
     units_of(alloc, &string)
 }
 
@@ -101,8 +103,8 @@ pub fn insert<C: FaultUnit + FromHex>(
     let at = parse::value::<usize>(place)?;
     let string = string::<C>(alloc, list)?;
     match kind {
-        b'c' => insert_char(alloc, string, at, parse::value(more)?),
-        b's' => insert_units(alloc, string, at, &parse::list::<C>(alloc, more)?),
+        b'c' => insert_char(alloc, string, at, more),
+        b's' => insert_units(alloc, string, at, more),
         _ => Err(NoAnswer::Unparsed),
     }
 }
@@ -144,11 +146,12 @@ fn retain_by_call<C: FaultUnit>(
 }
 
 // The units left where those of this number are not kept.
-fn retain_others<C: FaultUnit>(
+fn retain_others<C: FaultUnit + FromHex>(
     alloc: Global,
     mut string: UString<C>,
-    gone: u32,
+    gone: &str,
 ) -> Result<String, NoAnswer> {
+    let gone = parse::value::<C>(gone)?.code();
     string.retain(|unit| unit.code() != gone);
     units_of(alloc, &string)
 }
@@ -163,7 +166,7 @@ pub fn retain<C: FaultUnit + FromHex>(
     let string = string::<C>(alloc, list)?;
     match kind {
         b'c' => retain_by_call(alloc, string, word.as_bytes()),
-        b'u' => retain_others(alloc, string, parse::value::<C>(word)?.code()),
+        b'u' => retain_others(alloc, string, word),
         _ => Err(NoAnswer::Unparsed),
     }
 }

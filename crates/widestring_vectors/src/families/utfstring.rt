@@ -52,8 +52,9 @@ fn insert<C: FaultUnit>(
     string: &mut UtfString<C>,
     answer: &mut Answer,
     at: usize,
-    c: char,
+    c: &str,
 ) -> Result<(), NoAnswer> {
+    let c = parse::value(c)?;
     if string.as_utfstr().is_char_boundary(at) {
         string.insert(at, c)?;
     } else {
@@ -63,14 +64,16 @@ fn insert<C: FaultUnit>(
 }
 
 // Puts a text in before a place.
-fn insert_text<C: FaultUnit>(
+fn insert_text<C: FaultUnit + FromHex>(
+    alloc: Global,
     string: &mut UtfString<C>,
     answer: &mut Answer,
     at: usize,
-    with: UtfStr<'_, C>,
+    list: &str,
 ) -> Result<(), NoAnswer> {
+    let with = taken(alloc, list)?;
     if string.as_utfstr().is_char_boundary(at) {
-        string.insert_utfstr(at, with)?;
+        string.insert_utfstr(at, with.as_utfstr())?;
     } else {
         answer.number(None);
     }
@@ -153,44 +156,70 @@ fn retain<C: FaultUnit>(string: &mut UtfString<C>, answer: &mut Answer, mask: u3
     answer.number(Some(calls));
 }
 
-// Makes a call that adds characters or a text at the end.
-fn extend<C: FaultUnit + FromHex>(
-    alloc: Global,
+// Extends a string by characters (`e`), or by references to them.
+fn extend<C: FaultUnit>(
     string: &mut UtfString<C>,
     kind: u8,
-    more: &str,
+    chars: Vec<char>,
 ) -> Result<(), NoAnswer> {
-    match kind {
-        b'c' => string.push(parse::value(more)?)?,
-        b's' => string.push_str(&text_of(alloc, &parse::list::<C>(alloc, more)?)?)?,
-        b'u' => string.push_utfstr(taken(alloc, more)?.as_utfstr())?,
-        b'e' => string.extend_chars(parse::list::<char>(alloc, more)?)?,
-        _ => string.extend_char_refs(&parse::list::<char>(alloc, more)?)?,
+    if kind == b'e' {
+        string.extend_chars(chars)?;
+    } else {
+        string.extend_char_refs(&chars)?;
     }
     Ok(())
 }
 
-// Makes a call at a place, and adds what it answers.
-fn call_at<C: FaultUnit + FromHex>(
+// Adds a text at the end, by its characters.
+fn push_str<C: FaultUnit + FromHex>(
+    alloc: Global,
+    string: &mut UtfString<C>,
+    list: &str,
+) -> Result<(), NoAnswer> {
+    let units = parse::list::<C>(alloc, list)?;
+    let text = text_of(alloc, &units)?;
+    string.push_str(&text)?;
+    Ok(())
+}
+
+// Adds a text at the end, by its units.
+fn push_view<C: FaultUnit + FromHex>(
+    alloc: Global,
+    string: &mut UtfString<C>,
+    list: &str,
+) -> Result<(), NoAnswer> {
+    let with = taken(alloc, list)?;
+    string.push_utfstr(with.as_utfstr())?;
+    Ok(())
+}
+
+// Puts a character (`i`) or a text in before a place, and adds what is answered.
+fn put_in<C: FaultUnit + FromHex>(
     alloc: Global,
     string: &mut UtfString<C>,
     answer: &mut Answer,
     kind: u8,
     more: &str,
 ) -> Result<(), NoAnswer> {
+    let (place, more) = parse::parts(more)?;
+    let at = parse::value(place)?;
+    if kind == b'i' {
+        return insert(string, answer, at, more);
+    }
+    insert_text(alloc, string, answer, at, more)
+}
+
+// Takes away the character at a place (`r`) or all text from there on, and adds what is answered.
+fn cut<C: FaultUnit>(
+    string: &mut UtfString<C>,
+    answer: &mut Answer,
+    kind: u8,
+    at: usize,
+) -> Result<(), NoAnswer> {
     match kind {
-        b'r' => remove(string, answer, parse::value(more)?),
-        b't' => truncate(string, answer, parse::value(more)?),
-        b'o' => split_off(string, answer, parse::value(more)?)?,
-        _ => {
-            let (place, more) = parse::parts(more)?;
-            let at = parse::value(place)?;
-            if kind == b'i' {
-                insert(string, answer, at, parse::value(more)?)?;
-            } else {
-                insert_text(string, answer, at, taken(alloc, more)?.as_utfstr())?;
-            }
-        }
+        b'r' => remove(string, answer, at),
+        b't' => truncate(string, answer, at),
+        _ => split_off(string, answer, at)?,
     }
     Ok(())
 }
@@ -221,8 +250,12 @@ fn call<C: FaultUnit + FromHex>(
 ) -> Result<(), NoAnswer> {
     let (kind, more) = parse::kind(call)?;
     match kind {
-        b'c' | b's' | b'u' | b'e' | b'n' => extend(alloc, string, kind, more)?,
-        b'i' | b'j' | b'r' | b't' | b'o' => call_at(alloc, string, answer, kind, more)?,
+        b'c' => string.push(parse::value(more)?)?,
+        b's' => push_str(alloc, string, more)?,
+        b'u' => push_view(alloc, string, more)?,
+        b'e' | b'n' => extend(string, kind, parse::list(alloc, more)?)?,
+        b'i' | b'j' => put_in(alloc, string, answer, kind, more)?,
+        b'r' | b't' | b'o' => cut(string, answer, kind, parse::value(more)?)?,
         b'x' | b'd' => call_in(alloc, string, answer, kind, more)?,
         b'k' => retain(string, answer, parse::value(more)?),
         b'p' => answer.character(string.pop()),
@@ -232,15 +265,18 @@ fn call<C: FaultUnit + FromHex>(
     Ok(())
 }
 
-// What the calls after the first answer and leave.
+// What the calls after the first answer and leave, where there are any.
 fn edited<C: FaultUnit + FromHex>(
     alloc: Global,
     mut string: UtfString<C>,
-    calls: &[&str],
+    calls: Option<&str>,
 ) -> Result<String, NoAnswer> {
     let mut answer = Answer::new(alloc);
     answer.units(string.as_slice());
-    for written in calls {
+    let Some(calls) = calls else {
+        return answer.finish();
+    };
+    for written in calls.split('/') {
         answer.part();
         call(alloc, &mut string, &mut answer, written)?;
         answer.part();
@@ -249,15 +285,8 @@ fn edited<C: FaultUnit + FromHex>(
     answer.finish()
 }
 
-// What is answered about units that are not well formed, and that no calls follow.
-fn refused<C: ToldUnit>(
-    alloc: Global,
-    error: UtfError<C>,
-    calls: &[&str],
-) -> Result<String, NoAnswer> {
-    if !calls.is_empty() {
-        return Err(NoAnswer::Unparsed);
-    }
+// What is answered about units that are not well formed.
+fn refused<C: ToldUnit>(alloc: Global, error: UtfError<C>) -> Result<String, NoAnswer> {
     let mut answer = Answer::new(alloc);
     answer.first_fault(error.index(), C::told(error.cause()));
     answer.part();
@@ -265,32 +294,30 @@ fn refused<C: ToldUnit>(
     answer.finish()
 }
 
-// What a script answers whose first call is this one.
-fn scripted<C: ToldUnit>(
+// What a script answers that makes its string of a vector. No calls follow where the units are not well formed.
+fn of_vec<C: ToldUnit>(
     alloc: Global,
     units: Vec<C>,
-    maker: &str,
-    calls: &[&str],
+    calls: Option<&str>,
 ) -> Result<String, NoAnswer> {
-    match maker.as_bytes() {
-        b"v" => match UtfString::from_vec(units) {
-            Ok(string) => edited(alloc, string, calls),
-            Err(error) => refused(alloc, error, calls),
-        },
-        b"t" => edited(alloc, of_text(alloc, &units)?, calls),
-        b"f" => edited(alloc, of_chars(alloc, &units)?, calls),
-        _ => Err(NoAnswer::Unparsed),
+    match UtfString::from_vec(units) {
+        Ok(string) => edited(alloc, string, calls),
+        Err(error) if calls.is_none() => refused(alloc, error),
+        Err(_) => Err(NoAnswer::Unparsed),
     }
 }
 
 /// What the calls of a script answer, and the units that each leaves.
 pub fn script<C: ToldUnit>(alloc: Global, list: &str, question: &str) -> Result<String, NoAnswer> {
-    let mut calls = Vec::new(alloc);
-    for call in question.split('/') {
-        calls.push(call)?;
-    }
-    match calls.as_slice() {
-        [] => Err(NoAnswer::Unparsed),
-        [maker, calls @ ..] => scripted(alloc, parse::list::<C>(alloc, list)?, maker, calls),
+    let (maker, calls) = match question.split_once('/') {
+        None => (question, None),
+        Some((maker, calls)) => (maker, Some(calls)),
+    };
+    let units = parse::list::<C>(alloc, list)?;
+    match maker.as_bytes() {
+        b"v" => of_vec(alloc, units, calls),
+        b"t" => edited(alloc, of_text(alloc, &units)?, calls),
+        b"f" => edited(alloc, of_chars(alloc, &units)?, calls),
+        _ => Err(NoAnswer::Unparsed),
     }
 }
