@@ -1,7 +1,6 @@
 //! Tests of owned strings of units, and of owned C strings.
 //!
-//! They have worked rows, call each public function that makes or edits a string with ample memory, and refuse memory at
-//! each request in turn.
+//! They have worked rows, and call each public function that makes or edits a string with ample memory.
 #![tactic(auto)]
 
 #[cfg(test)]
@@ -10,8 +9,6 @@ mod drain_rows;
 mod extend_rows;
 #[cfg(test)]
 mod readme;
-#[cfg(test)]
-mod refused_rows;
 #[cfg(test)]
 mod rows;
 #[cfg(test)]

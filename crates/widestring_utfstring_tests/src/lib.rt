@@ -1,5 +1,4 @@
-//! Tests of owned strings of well-formed text: worked rows, each public function with ample memory, and memory refused at
-//! each request.
+//! Tests of owned strings of well-formed text: worked rows, and each public function with ample memory.
 #![tactic(auto)]
 
 #[cfg(test)]
@@ -8,8 +7,6 @@ mod drain_rows;
 mod extend_rows;
 #[cfg(test)]
 mod readme;
-#[cfg(test)]
-mod refused_rows;
 #[cfg(test)]
 mod rows;
 #[cfg(test)]
