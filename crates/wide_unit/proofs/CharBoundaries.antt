@@ -12,7 +12,7 @@ use Rattle.wide_unit.specs.Laws.Places.{IsBoundary-start, IsBoundary-within}
 pub IsBoundary-of_char : (form : EncodingForm) (us : List ℕ) (place : ℕ) → IsCharBoundary form us place → IsBoundary form us place
 IsBoundary-of_char form us zero here = IsBoundary-start form us
 IsBoundary-of_char form us (suc n) here = elim (cases_lt (suc n) (length us)) [
-  inl below ↦ IsBoundary-at form us (suc n) here.0 (here.1 (omega arith) below)
+  | inl below ↦ IsBoundary-at form us (suc n) here.0 (here.1 (omega arith) below)
   | inr past ↦ let e : length us ≡ suc n = omega (arith, here.0) in subst (λ k. IsBoundary form us k) e (IsBoundary-end form us)
 ]
 

@@ -73,7 +73,7 @@ pub chars-of_well_formed : (form : EncodingForm) (us : List ℕ) → IsWellForme
 chars-of_well_formed form us well = no_fault-chars (items form us) well.no_fault
 
 pub IsWellFormed-of_chars : (form : EncodingForm) (us cs : List ℕ) → items form us ≡ map Char cs → IsWellFormed form us
-IsWellFormed-of_chars form us cs e = record { no_fault = λ u at. let f = subst (λ is. Contains is (Fault u)) e at in chars-no_contained cs u f.0 f.1 f.2; }
+IsWellFormed-of_chars form us cs e = record { no_fault = λ u at. let f = subst (λ is. Contains is (Fault u)) e at in chars-no_contained cs u f.0 f.1 f.2 }
 
 -- one item
 pub items-nil : (form : EncodingForm) → items form [] ≡ []

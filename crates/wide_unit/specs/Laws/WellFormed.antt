@@ -10,7 +10,7 @@ module _ (form : EncodingForm) (us vs : List ℕ) (well : IsWellFormed form us) 
   no_first_fault u e = well.no_fault u (subst (λ is. Contains is (Fault u)) (sym e) (0, omega arith, refl))
 
   pub well_formed-rest : (c : ℕ) → items form us ≡ Char c ∷ items form vs → IsWellFormed form vs
-  well_formed-rest c e = record { no_fault = λ u at. well.no_fault u (subst (λ is. Contains is (Fault u)) (sym e) (suc at.0, omega (arith, at.1), at.2)); }
+  well_formed-rest c e = record { no_fault = λ u at. well.no_fault u (subst (λ is. Contains is (Fault u)) (sym e) (suc at.0, omega (arith, at.1), at.2)) }
 
   pub no_last_fault : (u : ℕ) → items form us ≡ items form vs ++ Fault u ∷ [] → ⊥
   no_last_fault u e = well.no_fault u (subst (λ is. Contains is (Fault u)) (sym e) (contains-push (items form vs) (Fault u)))
@@ -20,7 +20,7 @@ module _ (form : EncodingForm) (us vs : List ℕ) (well : IsWellFormed form us) 
       contains-push (j ∷ is) i = let at = contains-push is i in (suc at.0, omega (arith, at.1), at.2)
 
   pub well_formed-front : (c : ℕ) → items form us ≡ items form vs ++ Char c ∷ [] → IsWellFormed form vs
-  well_formed-front c e = record { no_fault = λ u at. well.no_fault u (subst (λ is. Contains is (Fault u)) (sym e) (contains-left (items form vs) (Char c ∷ []) (Fault u) at)); }
+  well_formed-front c e = record { no_fault = λ u at. well.no_fault u (subst (λ is. Contains is (Fault u)) (sym e) (contains-left (items form vs) (Char c ∷ []) (Fault u) at)) }
     where
       contains-left : (is js : List Item) (i : Item) → Contains is i → Contains (is ++ js) i
       contains-left [] js i at = absurd (omega (arith, at.1))

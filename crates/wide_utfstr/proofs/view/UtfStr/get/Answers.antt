@@ -24,7 +24,7 @@ returns-clause-some g c = λ bounds. (
       let end : IsBoundary form us c.in_ok-places.places.end = subst (λ n. IsBoundary form us n) (sym (c.in_ok-places.ensures.end bounds)) part.end in
       let first = c.is_char_boundary.ensures.boundary.1 start in
       elim c.else-is_char_boundary.branch [
-        else-is_char_boundary-via-then-is_char_boundary+else-is_char_boundary-2 w ↦ clash _ (w.is_char_boundary-then-is_char_boundary.ensures.boundary.1 end) w.if-is_char_boundary-2.false
+        | else-is_char_boundary-via-then-is_char_boundary+else-is_char_boundary-2 w ↦ clash _ (w.is_char_boundary-then-is_char_boundary.ensures.boundary.1 end) w.if-is_char_boundary-2.false
         | else-is_char_boundary-via-else-is_char_boundary w ↦ clash _ first w.if-is_char_boundary.false
       ],
 )

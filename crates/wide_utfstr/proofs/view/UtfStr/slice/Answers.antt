@@ -5,7 +5,7 @@ use Rattle.wide_utfstr.proofs.view.UtfStr.slice.Goals as goal
 
 pub invariant_of-result : goal.invariant_of-result
 invariant_of-result g c =
-  let part = IsTextRange-of_chars g.C.Unit.form (map g.C.Unit.number c.args.self.units.now) _ _ c.requires.at_boundaries in record {
-  well_formed = rw (c.range-places.ensures.start, c.range-places.ensures.end) (IsWellFormed-map_part g.C.Unit.form g.C.Unit.number c.args.self.units.now c.args.self.well_formed _ _
-      part.start part.end part.within.forward);
-}
+    let part = IsTextRange-of_chars g.C.Unit.form (map g.C.Unit.number c.args.self.units.now) _ _ c.requires.at_boundaries in record {
+      well_formed = rw (c.range-places.ensures.start, c.range-places.ensures.end) (IsWellFormed-map_part g.C.Unit.form g.C.Unit.number c.args.self.units.now c.args.self.well_formed _ _
+          part.start part.end part.within.forward);
+    }
