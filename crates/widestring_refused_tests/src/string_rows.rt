@@ -97,6 +97,11 @@ static TEXT_OF: [Row<TextOf>; 6] = [
 #[test]
 fn strings_of_any_units(rt: HostRuntime) -> Result<(), Fail> {
     hold_at_both_widths::<_, AnyUnits>(&rt, rt.alloc(), &ROWS)?;
+    Ok(())
+}
+
+#[test]
+fn any_units_alone(rt: HostRuntime) -> Result<(), Fail> {
     hold_at_both_widths::<_, AnyUnits>(&rt, rt.alloc(), &OF_ANY_UNITS)?;
     Ok(())
 }
@@ -104,6 +109,11 @@ fn strings_of_any_units(rt: HostRuntime) -> Result<(), Fail> {
 #[test]
 fn strings_of_text(rt: HostRuntime) -> Result<(), Fail> {
     hold_at_both_widths::<_, WellFormed>(&rt, rt.alloc(), &ROWS)?;
+    Ok(())
+}
+
+#[test]
+fn ways_to_text(rt: HostRuntime) -> Result<(), Fail> {
     hold_at_both_widths::<_, WellFormed>(&rt, rt.alloc(), &TEXT_OF)?;
     Ok(())
 }
