@@ -1,7 +1,8 @@
 -- Places in well-formed units, by the characters before them.
 use Rattle.std.specs.Prelude.{◌≡◌, ◌<◌, ◌≤◌, ℕ, List, length, map, take, drop, slice_index}
 use Rattle.std.specs.List.{splice}
-use Rattle.std.specs.Range.Bound.{Bound, start_index, end_index}
+use Rattle.std.specs.Range.Bound.{start_index, end_index}
+use Rattle.std.specs.declared.ops.Bound.{Bound}
 use Rattle.wide_unit.specs.EncodingForm.{EncodingForm, encode, IsLowSurrogate}
 use Rattle.wide_unit.specs.Items.{chars, IsBoundary}
 use Rattle.wide_unit.specs.Range.{IsWithin}

@@ -1,7 +1,8 @@
 -- Ranges of places in a list.
 use Rattle.std.specs.Prelude.{ℕ, ◌≤◌, List, length, slice_range}
 use Rattle.std.specs.List.{splice}
-use Rattle.std.specs.Range.Bound.{Bound, start_index, end_index}
+use Rattle.std.specs.Range.Bound.{start_index, end_index}
+use Rattle.std.specs.declared.ops.Bound.{Bound}
 
 -- the range runs forward and ends within a list of this length
 pub record IsWithin (from to len : ℕ) : Type 0 where

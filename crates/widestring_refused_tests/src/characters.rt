@@ -12,9 +12,10 @@ enum CharCall {
     // A string of `a` and U+1F600.
     Units,
     Text,
-    // A C string of `a`, or of `a`, a NUL and `b`.
+    // A C string of `a`, of that and a NUL, or of `a`, a NUL and `b`.
     C,
     CUnchecked,
+    CEnded,
     CTruncate,
     // U+1F600 in the place of the first character.
     Set,
@@ -35,6 +36,7 @@ type Units<'a> = Vec<u32, &'a Heap>;
 fn of_c_string<'a>(call: CharCall, memory: Memory<'a>, units: Units<'a>) -> Left<'a, u32> {
     let made = match call {
         CharCall::CTruncate => U32CString::from_chars_truncate(memory.heap, &['a', '\0', 'b']),
+        CharCall::CEnded => U32CString::from_chars(memory.heap, &['a', '\0']),
         CharCall::CUnchecked => U32CString::from_chars_unchecked(memory.heap, &['a']),
         _ => U32CString::from_chars(memory.heap, &['a']),
     };
@@ -115,11 +117,12 @@ impl Kind<u16, CharCall> for Characters {
     }
 }
 
-static ROWS: [Row<CharCall>; 7] = [
+static ROWS: [Row<CharCall>; 8] = [
     (CharCall::Units, Once(0), "", "", "a😀"),
     (CharCall::Text, Once(0), "", "", "a😀"),
     (CharCall::C, Once(0), "", "", "a\0"),
     (CharCall::CUnchecked, Once(0), "", "", "a\0"),
+    (CharCall::CEnded, Once(0), "", "", "a\0"),
     (CharCall::CTruncate, Once(0), "", "", "a\0"),
     (CharCall::Set, Nothing(0), "ab", "", "😀b"),
     (CharCall::IntoVec, Once(3), "a😀", "", ""),
