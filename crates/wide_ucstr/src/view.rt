@@ -1,7 +1,6 @@
 //! Views of wide C strings.
-ghost use Rattle.std.specs.Prelude.{◌≡◌, ℕ, ◌≤◌, ◌↔◌, ◌+◌, ◌++◌, ◌∷◌, ◌==◌, [], length, map, take, drop, slice_range, IsSome, IfOk, IfErr, OnOk, OnErr, IfSome, ⊤};
-ghost use Rattle.std.specs.Range.Bound.{start_index, end_index};
-ghost use Rattle.wide_unit.specs.Range.{IsWithin};
+ghost use Rattle.std.specs.Prelude.{◌≡◌, ℕ, ◌≤◌, ◌↔◌, ◌+◌, ◌++◌, ◌∷◌, ◌==◌, [], length, map, take, drop, IsSome, IfOk, IfErr, OnOk, OnErr, IfSome, ⊤};
+ghost use Rattle.wide_unit.specs.Range.{IsInRange, part_of};
 ghost use Rattle.wide_unit.specs.Items.{items};
 ghost use Rattle.wide_unit.specs.Lossy.{lossy};
 ghost use Rattle.wide_unit.specs.Nul.{HasNoNul, IsFirstNul};
@@ -142,8 +141,8 @@ impl<'a, C: FaultUnit> UCStr<'a, C> {
     /// The part of the contents in a range of places, counted in units; none where the range starts behind its end, ends
     /// behind the contents, or has a bound past the greatest `usize`, as [`wide_unit::range_check`] tells.
     pub fn get<R: RangeBounds<usize>>(self, range: R) -> Option<UStr<'a, C>>
-        ensures some { R.has_bounds range → IsSome result ↔ IsWithin (start_index (R.start_bound range)) (end_index (R.end_bound range) (length (contents_seen self.entry))) (length (contents_seen self.entry)) }
-        ensures part { R.has_bounds range → IfSome result (λ part. units_seen part ≡ slice_range (contents_seen self.entry) (start_index (R.start_bound range)) (end_index (R.end_bound range) (length (contents_seen self.entry)))) }
+        ensures some { R.has_bounds range → IsSome result ↔ IsInRange (contents_seen self.entry) (R.start_bound range) (R.end_bound range) }
+        ensures part { R.has_bounds range → IfSome result (λ part. units_seen part ≡ part_of (contents_seen self.entry) (R.start_bound range) (R.end_bound range)) }
     {
         self.as_ustr().get(range)
     }
@@ -152,8 +151,8 @@ impl<'a, C: FaultUnit> UCStr<'a, C> {
     /// [`wide_unit::range_check`] answers places; no check is made.
     pub fn slice<R: RangeBounds<usize>>(self, range: R) -> UStr<'a, C>
         requires bounds { R.has_bounds range }
-        requires in_range { IsWithin (start_index (R.start_bound range)) (end_index (R.end_bound range) (length (contents_seen self))) (length (contents_seen self)) }
-        ensures { units_seen result ≡ slice_range (contents_seen self.entry) (start_index (R.start_bound range)) (end_index (R.end_bound range) (length (contents_seen self.entry))) }
+        requires in_range { IsInRange (contents_seen self) (R.start_bound range) (R.end_bound range) }
+        ensures { units_seen result ≡ part_of (contents_seen self.entry) (R.start_bound range) (R.end_bound range) }
     {
         self.as_ustr().slice(range)
     }
@@ -161,8 +160,8 @@ impl<'a, C: FaultUnit> UCStr<'a, C> {
     /// As [`UCStr::slice`], under the Rust crate's name.
     pub fn get_unchecked<R: RangeBounds<usize>>(self, range: R) -> UStr<'a, C>
         requires bounds { R.has_bounds range }
-        requires in_range { IsWithin (start_index (R.start_bound range)) (end_index (R.end_bound range) (length (contents_seen self))) (length (contents_seen self)) }
-        ensures { units_seen result ≡ slice_range (contents_seen self.entry) (start_index (R.start_bound range)) (end_index (R.end_bound range) (length (contents_seen self.entry))) }
+        requires in_range { IsInRange (contents_seen self) (R.start_bound range) (R.end_bound range) }
+        ensures { units_seen result ≡ part_of (contents_seen self.entry) (R.start_bound range) (R.end_bound range) }
     {
         self.slice(range)
     }

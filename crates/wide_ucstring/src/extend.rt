@@ -2,10 +2,9 @@
 //!
 //! The items go in by order, each whole or not at all. Where one finds no memory, the string holds those before it; that item
 //! and the rest of the iterator are dropped. Memory is asked for item by item.
-ghost use Rattle.std.specs.Prelude.{◌≡◌, ◌<◌, ◌≤◌, ◌+◌, ◌++◌, [], length, map, OnOk, OnErr, IfOk, IfErr};
+ghost use Rattle.std.specs.Prelude.{◌≤◌, map};
 ghost use Rattle.std.specs.Iterator.{IsFiniteIterable};
-ghost use Rattle.wide_ustring.specs.Extended.{AddsAll, AddsUpTo};
-ghost use Rattle.wide_ustring.specs.Units.{Units, ustring_len};
+ghost use Rattle.wide_ustring.specs.Extended.{Adds, Collects};
 ghost use Rattle.wide_ucstr.specs.CString.{contents};
 ghost use Rattle.wide_ucstr.specs.View.{contents_seen};
 
@@ -14,59 +13,37 @@ use std::alloc::Allocator;
 use wide_error::{FaultUnit, OutOfMemory};
 use wide_ucstr::UCStr;
 use wide_ustring::UString;
-use wide_ustring::extend::{Piece, extend};
+use wide_ustring::extend::{Growing, Piece, extend, from_iter};
 
-impl<C: FaultUnit, B: Allocator> Piece<C> for UCString<C, B> {
+/// The marker of C strings as items: they give a string their contents, without their NULs.
+pub struct OfCStrings;
+
+impl<C: FaultUnit, A: Allocator> Piece<UString<C, A>, OfCStrings> for UCStr<'_, C> {
+    ghost text = { λ s. map C.number (contents_seen s) };
+
+    fn push_to(self, string: &mut UString<C, A>) -> Result<(), OutOfMemory> {
+        string.push(self.as_ustr())
+    }
+}
+
+impl<C: FaultUnit, A: Allocator, B: Allocator> Piece<UString<C, A>, OfCStrings> for UCString<C, B> {
     ghost text = { λ s. map C.number (contents s.units) };
 
-    fn push_to<A: Allocator>(self, string: &mut UString<C, A>) -> Result<(), OutOfMemory> {
+    fn push_to(self, string: &mut UString<C, A>) -> Result<(), OutOfMemory> {
         string.push(self.as_ucstr().as_ustr())
     }
 }
 
-// Puts a view's contents at the end. No impl of `Piece` does it, since both the trait and the view are of other crates.
-fn push_contents<C: FaultUnit, A: Allocator>(
-    string: &mut UString<C, A>,
-    view: UCStr<'_, C>,
-) -> Result<(), OutOfMemory>
-    ensures ok { OnOk result (map C.number string.new.units ≡ map C.number string.old.units ++ map C.number (contents_seen view.entry)) }
-    ensures err { OnErr result (string.new ≡ string.old) }
-    ensures full { OnErr result (string.old.capacity < ustring_len string.old + length (map C.number (contents_seen view.entry))) }
-    ensures capacity { string.old.capacity ≤ string.new.capacity }
-{
-    string.push(view.as_ustr())
-}
-
-// Puts the views' contents at the end, one after another.
-fn extend_by_contents<'a, C: FaultUnit + 'a, A: Allocator, U: IntoIterator<Item = UCStr<'a, C>>>(
-    string: &mut UString<C, A>,
-    views: U,
-) -> Result<(), OutOfMemory>
-    requires { IsFiniteIterable U.into_iter_gives U.IntoIter.can_next U.IntoIter.remaining views }
-    ensures ok { OnOk result (AddsAll U.into_iter_gives U.IntoIter.next_gives (λ s. map C.number (contents_seen s)) views (map C.number string.old.units) (map C.number string.new.units)) }
-    ensures err { OnErr result (AddsUpTo U.into_iter_gives U.IntoIter.next_gives (λ s. map C.number (contents_seen s)) views (map C.number string.old.units) (map C.number string.new.units) string.new.capacity) }
-    ensures capacity { string.old.capacity ≤ string.new.capacity }
-{
-    for view in views {
-        push_contents(string, view)?;
-    }
-    Ok(())
-}
-
 /// What a string of units does with C strings: calls of the string, in a trait since its crate knows no C string.
-pub trait UStringInUcstring<C: FaultUnit, A: Allocator>: Sized {
-    // The units, and how many fit with no allocation.
-    ghost seen: { Self → Units C };
-
+pub trait UStringInUcstring<C: FaultUnit, A: Allocator>: Growing + Sized {
     /// The C strings' contents at the end. On want of memory those of the items before the refused one are there.
     fn extend_ucstrings<B: Allocator, U: IntoIterator<Item = UCString<C, B>>>(
         &mut self,
         items: U,
     ) -> Result<(), OutOfMemory>
         requires { IsFiniteIterable U.into_iter_gives U.IntoIter.can_next U.IntoIter.remaining items }
-        ensures ok { OnOk result (AddsAll U.into_iter_gives U.IntoIter.next_gives (λ s. map C.number (contents s.units)) items (map C.number (seen self.old).units) (map C.number (seen self.new).units)) }
-        ensures err { OnErr result (AddsUpTo U.into_iter_gives U.IntoIter.next_gives (λ s. map C.number (contents s.units)) items (map C.number (seen self.old).units) (map C.number (seen self.new).units) (seen self.new).capacity) }
-        ensures capacity { (seen self.old).capacity ≤ (seen self.new).capacity };
+        ensures added { Adds result U.into_iter_gives U.IntoIter.next_gives (λ s. map C.number (contents s.units)) items Self.seen self.old self.new }
+        ensures capacity { (Self.seen self.old).capacity ≤ (Self.seen self.new).capacity };
 
     /// A string of the C strings' contents. The error is the string of the items before the one that found no memory.
     fn from_iter_ucstrings<B: Allocator, U: IntoIterator<Item = UCString<C, B>>>(
@@ -74,13 +51,10 @@ pub trait UStringInUcstring<C: FaultUnit, A: Allocator>: Sized {
         items: U,
     ) -> Result<Self, Self>
         requires { IsFiniteIterable U.into_iter_gives U.IntoIter.can_next U.IntoIter.remaining items }
-        ensures ok { IfOk result (λ s. AddsAll U.into_iter_gives U.IntoIter.next_gives (λ s. map C.number (contents s.units)) items [] (map C.number (seen s).units)) }
-        ensures err { IfErr result (λ s. AddsUpTo U.into_iter_gives U.IntoIter.next_gives (λ s. map C.number (contents s.units)) items [] (map C.number (seen s).units) (seen s).capacity) };
+        ensures { Collects result U.into_iter_gives U.IntoIter.next_gives (λ s. map C.number (contents s.units)) items Self.seen };
 }
 
 impl<C: FaultUnit, A: Allocator> UStringInUcstring<C, A> for UString<C, A> {
-    ghost seen = { λ s. s };
-
     fn extend_ucstrings<B: Allocator, U: IntoIterator<Item = UCString<C, B>>>(
         &mut self,
         items: U,
@@ -92,11 +66,7 @@ impl<C: FaultUnit, A: Allocator> UStringInUcstring<C, A> for UString<C, A> {
         alloc: A,
         items: U,
     ) -> Result<Self, Self> {
-        let mut string = UString::new(alloc);
-        match extend(&mut string, items) {
-            Ok(()) => Ok(string),
-            Err(_refused) => Err(string),
-        }
+        from_iter(UString::new(alloc), items)
     }
 }
 
@@ -106,22 +76,18 @@ pub trait UStringOverUcstrs<
     C: FaultUnit + 'a,
     A: Allocator,
     U: IntoIterator<Item = UCStr<'a, C>>,
->: Sized {
-    // The units, and how many fit with no allocation.
-    ghost seen: { Self → Units C };
-
+>: Growing
+    + Sized {
     /// The views' contents at the end. On want of memory those of the items before the refused one are there.
     fn extend_ucstrs(&mut self, items: U) -> Result<(), OutOfMemory>
         requires { IsFiniteIterable U.into_iter_gives U.IntoIter.can_next U.IntoIter.remaining items }
-        ensures ok { OnOk result (AddsAll U.into_iter_gives U.IntoIter.next_gives (λ s. map C.number (contents_seen s)) items (map C.number (seen self.old).units) (map C.number (seen self.new).units)) }
-        ensures err { OnErr result (AddsUpTo U.into_iter_gives U.IntoIter.next_gives (λ s. map C.number (contents_seen s)) items (map C.number (seen self.old).units) (map C.number (seen self.new).units) (seen self.new).capacity) }
-        ensures capacity { (seen self.old).capacity ≤ (seen self.new).capacity };
+        ensures added { Adds result U.into_iter_gives U.IntoIter.next_gives (λ s. map C.number (contents_seen s)) items Self.seen self.old self.new }
+        ensures capacity { (Self.seen self.old).capacity ≤ (Self.seen self.new).capacity };
 
     /// A string of the views' contents. The error is the string of the items before the one that found no memory.
     fn from_iter_ucstrs(alloc: A, items: U) -> Result<Self, Self>
         requires { IsFiniteIterable U.into_iter_gives U.IntoIter.can_next U.IntoIter.remaining items }
-        ensures ok { IfOk result (λ s. AddsAll U.into_iter_gives U.IntoIter.next_gives (λ s. map C.number (contents_seen s)) items [] (map C.number (seen s).units)) }
-        ensures err { IfErr result (λ s. AddsUpTo U.into_iter_gives U.IntoIter.next_gives (λ s. map C.number (contents_seen s)) items [] (map C.number (seen s).units) (seen s).capacity) };
+        ensures { Collects result U.into_iter_gives U.IntoIter.next_gives (λ s. map C.number (contents_seen s)) items Self.seen };
 }
 
 impl<'a, C: FaultUnit + 'a, A: Allocator, U: IntoIterator<Item = UCStr<'a, C>>> UStringOverUcstrs<
@@ -130,17 +96,11 @@ impl<'a, C: FaultUnit + 'a, A: Allocator, U: IntoIterator<Item = UCStr<'a, C>>> 
     A,
     U,
 > for UString<C, A> {
-    ghost seen = { λ s. s };
-
     fn extend_ucstrs(&mut self, items: U) -> Result<(), OutOfMemory> {
-        extend_by_contents(self, items)
+        extend(self, items)
     }
 
     fn from_iter_ucstrs(alloc: A, items: U) -> Result<Self, Self> {
-        let mut string = UString::new(alloc);
-        match extend_by_contents(&mut string, items) {
-            Ok(()) => Ok(string),
-            Err(_refused) => Err(string),
-        }
+        from_iter(UString::new(alloc), items)
     }
 }

@@ -6,7 +6,7 @@ mod ucstring;
 mod view;
 
 pub use extend::{
-    UStringInUcstring, UStringInUcstring as U16StringInUcstring,
+    OfCStrings, UStringInUcstring, UStringInUcstring as U16StringInUcstring,
     UStringInUcstring as U32StringInUcstring, UStringOverUcstrs,
     UStringOverUcstrs as U16StringOverUcstrs, UStringOverUcstrs as U32StringOverUcstrs,
 };

@@ -1,5 +1,8 @@
 -- Places in well-formed units, by the characters before them.
-use Rattle.std.specs.Prelude.{◌≡◌, ◌<◌, ◌≤◌, ℕ, List, length, take, drop, slice_index}
+use Rattle.std.specs.Prelude.{◌≡◌, ◌<◌, ◌≤◌, ℕ, List, length, map, take, drop, slice_index}
+use Rattle.std.specs.List.{splice}
+use Rattle.std.specs.Range.Bound.{start_index, end_index}
+use Rattle.std.specs.declared.ops.Bound.{Bound}
 use Rattle.wide_unit.specs.EncodingForm.{EncodingForm, encode, IsLowSurrogate}
 use Rattle.wide_unit.specs.Items.{chars, IsBoundary}
 use Rattle.wide_unit.specs.Range.{IsWithin}
@@ -35,3 +38,27 @@ pub record IsCharRange (form : EncodingForm) (units : List ℕ) (from to : ℕ) 
   pub within : IsWithin from to (length units)
   pub start : IsCharBoundary form units from
   pub end : IsCharBoundary form units to
+
+-- The characters of units of any width, which `number` tells the numbers of.
+module _ {C : Type 0} (form : EncodingForm) (number : C → ℕ) where
+  abbrev pub text_of : List C → List ℕ
+  text_of us = chars form (map number us)
+
+  -- how many characters stand before a place
+  abbrev pub text_before : List C → ℕ → ℕ
+  text_before us place = chars_before form (map number us) place
+
+  -- the characters with others in the place of those between two places
+  abbrev pub text_spliced : List C → ℕ → ℕ → List ℕ → List ℕ
+  text_spliced us from to put = splice (text_of us) (text_before us from) (text_before us to) put
+
+  -- the bounds of a range stand in order and within the units, and at boundaries
+  abbrev pub IsTextPart : List C → Bound ℕ → Bound ℕ → Type 0
+  IsTextPart us start end = IsTextRange form (map number us) (start_index start) (end_index end (length us))
+
+  abbrev pub IsCharPart : List C → Bound ℕ → Bound ℕ → Type 0
+  IsCharPart us start end = IsCharRange form (map number us) (start_index start) (end_index end (length us))
+
+  -- the characters with others in the place of those of a range
+  abbrev pub text_replaced : List C → Bound ℕ → Bound ℕ → List ℕ → List ℕ
+  text_replaced us start end put = text_spliced us (start_index start) (end_index end (length us)) put

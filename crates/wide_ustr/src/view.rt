@@ -1,7 +1,6 @@
 //! Views of units, well formed or not.
-ghost use Rattle.std.specs.Prelude.{◌≡◌, ◌≤◌, ◌↔◌, ◌++◌, ◌==◌, [], length, map, take, drop, slice_range, IsSome, IfSome};
-ghost use Rattle.std.specs.Range.Bound.{start_index, end_index};
-ghost use Rattle.wide_unit.specs.Range.{IsWithin};
+ghost use Rattle.std.specs.Prelude.{◌≡◌, ◌≤◌, ◌↔◌, ◌++◌, ◌==◌, [], length, map, take, drop, IsSome, IfSome};
+ghost use Rattle.wide_unit.specs.Range.{IsInRange, part_of};
 ghost use Rattle.wide_unit.specs.Items.{items};
 ghost use Rattle.wide_unit.specs.Lossy.{lossy};
 ghost use Rattle.wide_ustr.specs.Indexed.{indexed, indexed_lossy};
@@ -67,8 +66,8 @@ impl<'a, C: FaultUnit> UStr<'a, C> {
     /// The part of the view in a range of places, counted in units; none where the range starts behind its end, ends behind
     /// the view, or has a bound past the greatest `usize`, as [`range_check`] tells.
     pub fn get<R: RangeBounds<usize>>(self, range: R) -> Option<Self>
-        ensures some { R.has_bounds range → IsSome result ↔ IsWithin (start_index (R.start_bound range)) (end_index (R.end_bound range) (length (units_seen self.entry))) (length (units_seen self.entry)) }
-        ensures part { R.has_bounds range → IfSome result (λ part. units_seen part ≡ slice_range (units_seen self.entry) (start_index (R.start_bound range)) (end_index (R.end_bound range) (length (units_seen self.entry)))) }
+        ensures some { R.has_bounds range → IsSome result ↔ IsInRange (units_seen self.entry) (R.start_bound range) (R.end_bound range) }
+        ensures part { R.has_bounds range → IfSome result (λ part. units_seen part ≡ part_of (units_seen self.entry) (R.start_bound range) (R.end_bound range)) }
     {
         let places = range_check(range, self.units.len())?;
         Some(UStr {
@@ -80,8 +79,8 @@ impl<'a, C: FaultUnit> UStr<'a, C> {
     /// places; no check is made.
     pub fn slice<R: RangeBounds<usize>>(self, range: R) -> Self
         requires bounds { R.has_bounds range }
-        requires in_range { IsWithin (start_index (R.start_bound range)) (end_index (R.end_bound range) (length (units_seen self))) (length (units_seen self)) }
-        ensures { units_seen result ≡ slice_range (units_seen self.entry) (start_index (R.start_bound range)) (end_index (R.end_bound range) (length (units_seen self.entry))) }
+        requires in_range { IsInRange (units_seen self) (R.start_bound range) (R.end_bound range) }
+        ensures { units_seen result ≡ part_of (units_seen self.entry) (R.start_bound range) (R.end_bound range) }
     {
         let places = slice::range(range, ..self.units.len());
         UStr {
@@ -92,8 +91,8 @@ impl<'a, C: FaultUnit> UStr<'a, C> {
     /// As [`UStr::slice`], under the Rust crate's name.
     pub fn get_unchecked<R: RangeBounds<usize>>(self, range: R) -> Self
         requires bounds { R.has_bounds range }
-        requires in_range { IsWithin (start_index (R.start_bound range)) (end_index (R.end_bound range) (length (units_seen self))) (length (units_seen self)) }
-        ensures { units_seen result ≡ slice_range (units_seen self.entry) (start_index (R.start_bound range)) (end_index (R.end_bound range) (length (units_seen self.entry))) }
+        requires in_range { IsInRange (units_seen self) (R.start_bound range) (R.end_bound range) }
+        ensures { units_seen result ≡ part_of (units_seen self.entry) (R.start_bound range) (R.end_bound range) }
     {
         self.slice(range)
     }

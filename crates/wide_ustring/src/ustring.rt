@@ -8,7 +8,7 @@ ghost use Rattle.std.specs.Str.{chars};
 ghost use Rattle.std.specs.Range.Bound.{start_index, end_index};
 ghost use Rattle.wide_unit.specs.EncodingForm.{code_units, encode};
 ghost use Rattle.wide_unit.specs.Items.{chars as text_chars, IsWellFormed};
-ghost use Rattle.wide_unit.specs.Range.{IsWithin};
+ghost use Rattle.wide_unit.specs.Range.{IsWithin, IsInRange, part_of, part_replaced};
 ghost use Rattle.wide_ustr.specs.View.{units_seen};
 ghost use Rattle.wide_unit.specs.Unit.{item_of};
 ghost use Rattle.wide_ustring.specs.Units.{ustring_len, HasRoomFor};
@@ -292,8 +292,8 @@ impl<C: FaultUnit, A: Allocator> UString<C, A> {
         with: UStr<'_, C>,
     ) -> Result<(), OutOfMemory>
         requires bounds { R.has_bounds range }
-        requires in_range { IsWithin (start_index (R.start_bound range)) (end_index (R.end_bound range) (ustring_len self.old)) (ustring_len self.old) }
-        ensures ok { OnOk result (self.new.units ≡ splice self.old.units (start_index (R.start_bound range)) (end_index (R.end_bound range) (ustring_len self.old)) (units_seen with.entry)) }
+        requires in_range { IsInRange self.old.units (R.start_bound range) (R.end_bound range) }
+        ensures ok { OnOk result (self.new.units ≡ part_replaced self.old.units (R.start_bound range) (R.end_bound range) (units_seen with.entry)) }
         ensures err { OnErr result (self.new ≡ self.old) }
         ensures succeeds { ustring_len self.old + length (units_seen with.entry) ≤ self.old.capacity + (end_index (R.end_bound range) (ustring_len self.old) - start_index (R.start_bound range)) → IsOk result }
         ensures capacity { self.old.capacity ≤ self.new.capacity }
@@ -351,12 +351,12 @@ impl<C: FaultUnit, A: Allocator> UString<C, A> {
     /// gone, also where it was not read to the end. [`wide_unit::range_check`] must answer places for the range.
     pub fn drain<R: RangeBounds<usize>>(&mut self, range: R) -> Drain<'_, C, A>
         requires bounds { R.has_bounds range }
-        requires in_range { IsWithin (start_index (R.start_bound range)) (end_index (R.end_bound range) (ustring_len self.old)) (ustring_len self.old) }
-        ensures rest { drain_rest result ≡ slice_range self.old.units (start_index (R.start_bound range)) (end_index (R.end_bound range) (ustring_len self.old)) }
+        requires in_range { IsInRange self.old.units (R.start_bound range) (R.end_bound range) }
+        ensures rest { drain_rest result ≡ part_of self.old.units (R.start_bound range) (R.end_bound range) }
         ensures runs { YieldsInOrder (DrainGives {C = C} {A = A}) drain_rest }
         ensures runs_back { YieldsInReverse (DrainGivesBack {C = C} {A = A}) drain_rest }
         ensures lender { drain_lender result ≡ self.entry.ghost_name }
-        ensures leaves { drain_leaves result ≡ splice self.old.units (start_index (R.start_bound range)) (end_index (R.end_bound range) (ustring_len self.old)) [] }
+        ensures leaves { drain_leaves result ≡ part_replaced self.old.units (R.start_bound range) (R.end_bound range) [] }
         ensures capacity { drain_capacity result ≡ self.old.capacity }
         ensures stays { DrainStays result }
     {

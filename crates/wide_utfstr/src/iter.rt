@@ -3,7 +3,7 @@ ghost use Rattle.std.specs.Prelude.{◌≡◌, ◌+◌, ◌/◌, ◌<◌, ◌≤
 ghost use Rattle.std.specs.Iterator.{YieldsFirst, YieldsLast, at_most, UpTo};
 ghost use Rattle.std.specs.Iterator.SizeHint.{IsWithinCount};
 ghost use Rattle.wide_unit.specs.Items.{chars};
-ghost use Rattle.wide_utfstr.specs.View.{units_seen};
+ghost use Rattle.wide_utfstr.specs.View.{units_seen, text_seen};
 
 use crate::view::UtfStr;
 use std::alloc::AllocError;
@@ -15,8 +15,8 @@ use wide_unit::Unit;
 fn hint_of<C: Unit>(text: UtfStr<'_, C>) -> (usize, Option<usize>)
     ensures least { result.0 ≡ length (units_seen text.entry) / C.MAX_CHAR_LEN }
     ensures most { result.1 ≡ Some (length (units_seen text.entry)) }
-    ensures lower { result.0 ≤ length (chars C.form (map C.number (units_seen text.entry))) }
-    ensures upper { length (chars C.form (map C.number (units_seen text.entry))) ≤ length (units_seen text.entry) }
+    ensures lower { result.0 ≤ length (text_seen text.entry) }
+    ensures upper { length (text_seen text.entry) ≤ length (units_seen text.entry) }
 {
     // A call for its contract: no character takes more units than the greatest length.
     let _longest = C::char_len('\u{10000}');

@@ -1,11 +1,11 @@
 //! Views of well-formed text.
-ghost use Rattle.std.specs.Prelude.{◌≡◌, ◌+◌, ◌<◌, ◌≤◌, ◌↔◌, ◌++◌, ◌∷◌, ◌==◌, [], length, map, take, drop, slice_get, slice_range, Some, None, IsTrue, IsSome, IsOk, OnOk, IfOk, IfErr, IfNone, IfSome, ⊤};
-ghost use Rattle.std.specs.Range.Bound.{start_index, end_index};
+ghost use Rattle.std.specs.Prelude.{◌≡◌, ◌+◌, ◌<◌, ◌≤◌, ◌↔◌, ◌++◌, ◌∷◌, ◌==◌, [], length, map, take, drop, slice_get, Some, None, IsTrue, IsSome, IsOk, OnOk, IfOk, IfErr, IfNone, IfSome, ⊤};
+ghost use Rattle.wide_unit.specs.Range.{part_of};
 ghost use Rattle.std.specs.List.{All};
 ghost use Rattle.wide_unit.specs.EncodingForm.{Utf16, Utf32, code_units, encode};
 ghost use Rattle.wide_unit.specs.Utf8.{utf8};
 ghost use Rattle.wide_unit.specs.Items.{chars, IsWellFormed, IsFirstFault, IsBoundary};
-ghost use Rattle.wide_unit.specs.Places.{IsPlaceOf, IsTextRange, IsCharBoundary, IsCharRange};
+ghost use Rattle.wide_unit.specs.Places.{IsPlaceOf, IsCharBoundary, IsTextPart, IsCharPart};
 ghost use Rattle.wide_error.specs.UtfError.{index_of, unit_of, vec_of};
 ghost use Rattle.wide_iter.specs.Encoder8.{bytes_left};
 ghost use Rattle.wide_iter.specs.Encoder16.{units_left as units16_left};
@@ -60,7 +60,7 @@ pub fn check<C: Unit>(units: &[C]) -> Result<(), (usize, C)>
 }
 
 impl<'a, C: Unit> UtfStr<'a, C> {
-    ghost use Rattle.wide_utfstr.specs.View.{units_seen};
+    ghost use Rattle.wide_utfstr.specs.View.{units_seen, text_seen};
     ghost use Rattle.wide_utfstr.specs.Iter.{chars_left, chars_rest, indices_left, offset_of, IndicesRun};
     ghost use Rattle.wide_utfstr.specs.Indexed.{indexed_chars};
 
@@ -108,7 +108,7 @@ impl<'a, C: Unit> UtfStr<'a, C> {
 
     /// How many characters there are. It reads each unit once.
     pub fn char_count(self) -> usize
-        ensures { result ≡ length (chars C.form (map C.number (units_seen self.entry))) }
+        ensures { result ≡ length (text_seen self.entry) }
     {
         self.chars().count()
     }
@@ -116,7 +116,7 @@ impl<'a, C: Unit> UtfStr<'a, C> {
     /// The offset, in units, at which character number `index` begins, counted from 0: the unit length of the first `index`
     /// characters, so that their number has the offset of the end. None past it. It reads the units before the offset.
     pub fn unit_offset(self, index: usize) -> Option<usize>
-        ensures some { IsSome result ↔ (index ≤ length (chars C.form (map C.number (units_seen self.entry)))) }
+        ensures some { IsSome result ↔ (index ≤ length (text_seen self.entry)) }
         ensures place { IfSome result (IsPlaceOf C.form (map C.number (units_seen self.entry)) index) }
         ensures char_boundary { IfSome result (IsCharBoundary C.form (map C.number (units_seen self.entry))) }
     {
@@ -131,9 +131,9 @@ impl<'a, C: Unit> UtfStr<'a, C> {
     /// The part of the view in a range of places, counted in units; none where the range starts behind its end, ends behind
     /// the view or has a bound past the greatest `usize`, as [`range_check`] tells, or where an end of it is no boundary.
     pub fn get<R: RangeBounds<usize>>(self, range: R) -> Option<Self>
-        ensures some { R.has_bounds range → IsSome result ↔ IsTextRange C.form (map C.number (units_seen self.entry)) (start_index (R.start_bound range)) (end_index (R.end_bound range) (length (units_seen self.entry))) }
-        ensures char_range { R.has_bounds range → IsSome result ↔ IsCharRange C.form (map C.number (units_seen self.entry)) (start_index (R.start_bound range)) (end_index (R.end_bound range) (length (units_seen self.entry))) }
-        ensures part { R.has_bounds range → IfSome result (λ part. units_seen part ≡ slice_range (units_seen self.entry) (start_index (R.start_bound range)) (end_index (R.end_bound range) (length (units_seen self.entry)))) }
+        ensures some { R.has_bounds range → IsSome result ↔ IsTextPart C.form C.number (units_seen self.entry) (R.start_bound range) (R.end_bound range) }
+        ensures char_range { R.has_bounds range → IsSome result ↔ IsCharPart C.form C.number (units_seen self.entry) (R.start_bound range) (R.end_bound range) }
+        ensures part { R.has_bounds range → IfSome result (λ part. units_seen part ≡ part_of (units_seen self.entry) (R.start_bound range) (R.end_bound range)) }
     {
         let places = range_check(range, self.units.len())?;
         if self.is_char_boundary(places.start) && self.is_char_boundary(places.end) {
@@ -148,8 +148,8 @@ impl<'a, C: Unit> UtfStr<'a, C> {
     /// places, and these must be boundaries; no check is made.
     pub fn slice<R: RangeBounds<usize>>(self, range: R) -> Self
         requires bounds { R.has_bounds range }
-        requires at_boundaries { IsCharRange C.form (map C.number (units_seen self)) (start_index (R.start_bound range)) (end_index (R.end_bound range) (length (units_seen self))) }
-        ensures { units_seen result ≡ slice_range (units_seen self.entry) (start_index (R.start_bound range)) (end_index (R.end_bound range) (length (units_seen self.entry))) }
+        requires at_boundaries { IsCharPart C.form C.number (units_seen self) (R.start_bound range) (R.end_bound range) }
+        ensures { units_seen result ≡ part_of (units_seen self.entry) (R.start_bound range) (R.end_bound range) }
     {
         let places = slice::range(range, ..self.units.len());
         UtfStr {
@@ -160,8 +160,8 @@ impl<'a, C: Unit> UtfStr<'a, C> {
     /// As [`UtfStr::slice`], under the Rust crate's name.
     pub fn get_unchecked<R: RangeBounds<usize>>(self, range: R) -> Self
         requires bounds { R.has_bounds range }
-        requires at_boundaries { IsCharRange C.form (map C.number (units_seen self)) (start_index (R.start_bound range)) (end_index (R.end_bound range) (length (units_seen self))) }
-        ensures { units_seen result ≡ slice_range (units_seen self.entry) (start_index (R.start_bound range)) (end_index (R.end_bound range) (length (units_seen self.entry))) }
+        requires at_boundaries { IsCharPart C.form C.number (units_seen self) (R.start_bound range) (R.end_bound range) }
+        ensures { units_seen result ≡ part_of (units_seen self.entry) (R.start_bound range) (R.end_bound range) }
     {
         self.slice(range)
     }
@@ -179,7 +179,7 @@ impl<'a, C: Unit> UtfStr<'a, C> {
 
     /// The characters, from both ends.
     pub fn chars(self) -> Chars<'a, C>
-        ensures characters { chars_left C.form C.number result ≡ chars C.form (map C.number (units_seen self.entry)) }
+        ensures characters { chars_left C.form C.number result ≡ text_seen self.entry }
         ensures units { chars_rest result ≡ units_seen self.entry }
     {
         Chars { text: self }
@@ -187,7 +187,7 @@ impl<'a, C: Unit> UtfStr<'a, C> {
 
     /// The characters, each with the offset, in units, at which it begins in the view, from both ends.
     pub fn char_indices(self) -> CharIndices<'a, C>
-        ensures characters { indices_left C.form C.number result ≡ indexed_chars C.form 0 (chars C.form (map C.number (units_seen self.entry))) }
+        ensures characters { indices_left C.form C.number result ≡ indexed_chars C.form 0 (text_seen self.entry) }
         ensures offset { offset_of result ≡ 0 }
         ensures boundaries { All (λ at. IsCharBoundary C.form (map C.number (units_seen self.entry)) at.0) (indices_left C.form C.number result) }
         ensures runs { IndicesRun result }
@@ -197,15 +197,15 @@ impl<'a, C: Unit> UtfStr<'a, C> {
 
     /// The UTF-8 bytes of the characters (Unicode Standard, D92), from the front.
     pub fn encode_utf8(self) -> EncodeUtf8<Chars<'a, C>>
-        ensures { bytes_left (chars_left C.form C.number) result ≡ utf8 (chars C.form (map C.number (units_seen self.entry))) }
+        ensures { bytes_left (chars_left C.form C.number) result ≡ utf8 (text_seen self.entry) }
     {
         encode_utf8(self.chars())
     }
 
     // The first character, and the text after it.
     pub(crate) fn split_first_char(self) -> Option<(char, Self)>
-        ensures none { IfNone result (chars C.form (map C.number (units_seen self.entry)) ≡ []) }
-        ensures some { IfSome result (λ r. chars C.form (map C.number (units_seen self.entry)) ≡ r.0 ∷ chars C.form (map C.number (units_seen r.1))) }
+        ensures none { IfNone result (text_seen self.entry ≡ []) }
+        ensures some { IfSome result (λ r. text_seen self.entry ≡ r.0 ∷ text_seen r.1) }
         ensures length { IfSome result (λ r. length (units_seen r.1) + length (code_units C.form r.0) ≡ length (units_seen self.entry)) }
         ensures shorter { IfSome result (λ r. length (units_seen r.1) < length (units_seen self.entry)) }
     {
@@ -216,8 +216,8 @@ impl<'a, C: Unit> UtfStr<'a, C> {
 
     // The last character, and the text before it.
     pub(crate) fn split_last_char(self) -> Option<(Self, char)>
-        ensures none { IfNone result (chars C.form (map C.number (units_seen self.entry)) ≡ []) }
-        ensures some { IfSome result (λ r. chars C.form (map C.number (units_seen self.entry)) ≡ chars C.form (map C.number (units_seen r.0)) ++ r.1 ∷ []) }
+        ensures none { IfNone result (text_seen self.entry ≡ []) }
+        ensures some { IfSome result (λ r. text_seen self.entry ≡ text_seen r.0 ++ r.1 ∷ []) }
         ensures shorter { IfSome result (λ r. length (units_seen r.0) < length (units_seen self.entry)) }
     {
         let (rest, item) = split_last(self.units)?;
@@ -227,7 +227,7 @@ impl<'a, C: Unit> UtfStr<'a, C> {
 }
 
 impl<'a, C: FaultUnit> UtfStr<'a, C> {
-    ghost use Rattle.wide_utfstr.specs.View.{units_seen};
+    ghost use Rattle.wide_utfstr.specs.View.{units_seen, text_seen};
 
     /// A view of the units, where they are well formed. Each unit is read once.
     ///
@@ -306,7 +306,7 @@ impl<'a, C: FaultUnit> UtfStr<'a, C> {
 }
 
 impl<'a> UtfStr<'a, u16> {
-    ghost use Rattle.wide_utfstr.specs.View.{units_seen};
+    ghost use Rattle.wide_utfstr.specs.View.{units_seen, text_seen};
     ghost use Rattle.wide_utfstr.specs.Iter.{code_units_rest, chars_left};
 
     /// The units, from both ends.
@@ -325,7 +325,7 @@ impl<'a> UtfStr<'a, u16> {
 }
 
 impl<'a> UtfStr<'a, u32> {
-    ghost use Rattle.wide_utfstr.specs.View.{units_seen};
+    ghost use Rattle.wide_utfstr.specs.View.{units_seen, text_seen};
     ghost use Rattle.wide_utfstr.specs.Iter.{chars_left};
 
     /// Character number `index`, counted from 0, which is below the length: in UTF-32 each unit is a character.
@@ -349,7 +349,7 @@ impl<'a> UtfStr<'a, u32> {
 }
 
 impl<C: Unit> Default for UtfStr<'_, C> {
-    ghost use Rattle.wide_utfstr.specs.View.{units_seen};
+    ghost use Rattle.wide_utfstr.specs.View.{units_seen, text_seen};
 
     ghost is_default = { λ view. units_seen view ≡ [] };
 

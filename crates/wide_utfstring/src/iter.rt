@@ -4,7 +4,7 @@ ghost use Rattle.std.specs.Iterator.{at_most, UpTo};
 ghost use Rattle.std.specs.Iterator.SizeHint.{IsWithinCount};
 ghost use Rattle.std.specs.List.{splice};
 ghost use Rattle.wide_unit.specs.Items.{chars, IsWellFormed};
-ghost use Rattle.wide_utfstr.specs.View.{units_seen};
+ghost use Rattle.wide_utfstr.specs.View.{units_seen, text_seen};
 
 use crate::UtfString;
 use std::alloc::{Allocator, Global};
@@ -59,7 +59,7 @@ impl<C: FaultUnit, A: Allocator> DrainUtf<'_, C, A> {
 
     /// The text that is left.
     pub fn as_utfstr(&self) -> UtfStr<'_, C>
-        ensures characters { chars C.form (map C.number (units_seen result)) ≡ drain_rest self.now }
+        ensures characters { text_seen result ≡ drain_rest self.now }
         ensures units { units_seen result ≡ drain_units self.now }
     {
         let string = &*self.string;

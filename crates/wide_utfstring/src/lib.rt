@@ -6,11 +6,6 @@ mod iter;
 mod utfstring;
 mod view;
 
-pub use extend::{
-    TextPiece, UStringInUtfstring, UStringInUtfstring as U16StringInUtfstring,
-    UStringInUtfstring as U32StringInUtfstring, UStringOverUtfstrs,
-    UStringOverUtfstrs as U16StringOverUtfstrs, UStringOverUtfstrs as U32StringOverUtfstrs,
-};
 pub use iter::{DrainUtf, DrainUtf16, DrainUtf32};
 pub use utfstring::{Utf16String, Utf32String, UtfString, WideUtfString};
 pub use view::{

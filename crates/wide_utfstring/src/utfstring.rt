@@ -1,9 +1,9 @@
 //! Owned strings of well-formed text.
-ghost use Rattle.std.specs.Prelude.{◌≡◌, ◌==◌, ◌+◌, ◌-◌, ◌<◌, ◌≤◌, ◌++◌, ◌∷◌, [], ◌↔◌, ◌⊎◌, min, max, length, map, take, drop, slice_range, IsNone, IfSome, IsOk, IfOk, IfErr, OnOk, OnErr, vec_capacity, Vec};
+ghost use Rattle.std.specs.Prelude.{◌≡◌, ◌==◌, ◌+◌, ◌-◌, ◌<◌, ◌≤◌, ◌++◌, ◌∷◌, [], ◌↔◌, ◌⊎◌, min, max, length, map, take, drop, IsNone, IfSome, IsOk, IfOk, IfErr, OnOk, OnErr, vec_capacity, Vec};
 ghost use Rattle.wide_unit.specs.EncodingForm.{code_units, encode};
 ghost use Rattle.wide_unit.specs.Items.{chars, IsWellFormed};
-ghost use Rattle.wide_unit.specs.Places.{chars_before};
-ghost use Rattle.wide_unit.specs.Range.{IsWithin};
+ghost use Rattle.wide_unit.specs.Places.{text_of, text_before, text_spliced, IsCharPart, text_replaced};
+ghost use Rattle.wide_unit.specs.Range.{IsWithin, part_of, part_replaced};
 ghost use Rattle.std.specs.List.{splice};
 ghost use Rattle.std.specs.List.Retain.{IsFiltered};
 ghost use Rattle.std.specs.Range.Bound.{start_index, end_index};
@@ -12,7 +12,7 @@ ghost use Rattle.wide_ustr.specs.View.{units_seen as ustr_units};
 ghost use Rattle.wide_ustring.specs.Units.{ustring_len, HasRoomFor};
 ghost use Rattle.wide_ucstr.specs.CString.{contents};
 ghost use Rattle.wide_unit.specs.Places.{IsCharBoundary, IsCharRange};
-ghost use Rattle.wide_utfstr.specs.View.{units_seen};
+ghost use Rattle.wide_utfstr.specs.View.{units_seen, text_seen};
 ghost use Rattle.wide_error.specs.UtfError.{index_of};
 ghost use Rattle.wide_utfstring.specs.Faults.{IsFaultOf};
 
@@ -167,7 +167,7 @@ impl<C: FaultUnit, A: Allocator> UtfString<C, A> {
     /// The text of a `&str`.
     pub fn from_str(alloc: A, text: &str) -> Result<Self, OutOfMemory>
         ensures units { IfOk result (λ s. map C.number s.units ≡ encode C.form (str_chars text.now)) }
-        ensures text { IfOk result (λ s. chars C.form (map C.number s.units) ≡ str_chars text.now) }
+        ensures text { IfOk result (λ s. text_of C.form C.number s.units ≡ str_chars text.now) }
         ensures succeeds { str_chars text.now ≡ [] → IsOk result }
     {
         Ok(UtfString {
@@ -280,7 +280,7 @@ impl<C: FaultUnit, A: Allocator> UtfString<C, A> {
     /// The character at the end.
     pub fn push(&mut self, c: char) -> Result<(), OutOfMemory>
         ensures units { OnOk result (map C.number self.new.units ≡ map C.number self.old.units ++ code_units C.form c) }
-        ensures text { OnOk result (chars C.form (map C.number self.new.units) ≡ chars C.form (map C.number self.old.units) ++ c ∷ []) }
+        ensures text { OnOk result (text_of C.form C.number self.new.units ≡ text_of C.form C.number self.old.units ++ c ∷ []) }
         ensures err { OnErr result (self.new ≡ self.old) }
         ensures succeeds { HasRoomFor self.old (length (code_units C.form c)) → IsOk result }
         ensures capacity { self.old.capacity ≤ self.new.capacity }
@@ -291,7 +291,7 @@ impl<C: FaultUnit, A: Allocator> UtfString<C, A> {
     /// As [`UtfString::push`]: what `fmt::Write` is in the Rust crate, with an error that names the want of memory.
     pub fn write_char(&mut self, c: char) -> Result<(), OutOfMemory>
         ensures units { OnOk result (map C.number self.new.units ≡ map C.number self.old.units ++ code_units C.form c) }
-        ensures text { OnOk result (chars C.form (map C.number self.new.units) ≡ chars C.form (map C.number self.old.units) ++ c ∷ []) }
+        ensures text { OnOk result (text_of C.form C.number self.new.units ≡ text_of C.form C.number self.old.units ++ c ∷ []) }
         ensures err { OnErr result (self.new ≡ self.old) }
         ensures succeeds { HasRoomFor self.old (length (code_units C.form c)) → IsOk result }
         ensures capacity { self.old.capacity ≤ self.new.capacity }
@@ -302,7 +302,7 @@ impl<C: FaultUnit, A: Allocator> UtfString<C, A> {
     /// The characters of a text at the end.
     pub fn push_str(&mut self, text: &str) -> Result<(), OutOfMemory>
         ensures units { OnOk result (map C.number self.new.units ≡ map C.number self.old.units ++ encode C.form (str_chars text.now)) }
-        ensures text { OnOk result (chars C.form (map C.number self.new.units) ≡ chars C.form (map C.number self.old.units) ++ str_chars text.now) }
+        ensures text { OnOk result (text_of C.form C.number self.new.units ≡ text_of C.form C.number self.old.units ++ str_chars text.now) }
         ensures err { OnErr result (self.new ≡ self.old) }
         ensures succeeds { HasRoomFor self.old (length (encode C.form (str_chars text.now))) → IsOk result }
         ensures capacity { self.old.capacity ≤ self.new.capacity }
@@ -313,7 +313,7 @@ impl<C: FaultUnit, A: Allocator> UtfString<C, A> {
     /// As [`UtfString::push_str`]: what `fmt::Write` is in the Rust crate, with an error that names the want of memory.
     pub fn write_str(&mut self, text: &str) -> Result<(), OutOfMemory>
         ensures units { OnOk result (map C.number self.new.units ≡ map C.number self.old.units ++ encode C.form (str_chars text.now)) }
-        ensures text { OnOk result (chars C.form (map C.number self.new.units) ≡ chars C.form (map C.number self.old.units) ++ str_chars text.now) }
+        ensures text { OnOk result (text_of C.form C.number self.new.units ≡ text_of C.form C.number self.old.units ++ str_chars text.now) }
         ensures err { OnErr result (self.new ≡ self.old) }
         ensures succeeds { HasRoomFor self.old (length (encode C.form (str_chars text.now))) → IsOk result }
         ensures capacity { self.old.capacity ≤ self.new.capacity }
@@ -324,7 +324,7 @@ impl<C: FaultUnit, A: Allocator> UtfString<C, A> {
     /// The text of a view at the end.
     pub fn push_utfstr(&mut self, text: UtfStr<'_, C>) -> Result<(), OutOfMemory>
         ensures units { OnOk result (self.new.units ≡ self.old.units ++ units_seen text.entry) }
-        ensures text { OnOk result (chars C.form (map C.number self.new.units) ≡ chars C.form (map C.number self.old.units) ++ chars C.form (map C.number (units_seen text.entry))) }
+        ensures text { OnOk result (text_of C.form C.number self.new.units ≡ text_of C.form C.number self.old.units ++ text_seen text.entry) }
         ensures err { OnErr result (self.new ≡ self.old) }
         ensures succeeds { HasRoomFor self.old (length (units_seen text.entry)) → IsOk result }
         ensures capacity { self.old.capacity ≤ self.new.capacity }
@@ -335,7 +335,7 @@ impl<C: FaultUnit, A: Allocator> UtfString<C, A> {
     /// Takes the last character away, and answers it; none where the string is empty.
     pub fn pop(&mut self) -> Option<char>
         ensures none { IsNone result ↔ (self.old.units ≡ []) }
-        ensures taken { IfSome result (λ c. chars C.form (map C.number self.old.units) ≡ chars C.form (map C.number self.new.units) ++ c ∷ []) }
+        ensures taken { IfSome result (λ c. text_of C.form C.number self.old.units ≡ text_of C.form C.number self.new.units ++ c ∷ []) }
         ensures front { self.new.units ≡ take (ustring_len self.new) self.old.units }
         ensures capacity { self.new.capacity ≡ self.old.capacity }
     {
@@ -350,7 +350,7 @@ impl<C: FaultUnit, A: Allocator> UtfString<C, A> {
     pub fn insert(&mut self, at: usize, c: char) -> Result<(), OutOfMemory>
         requires { IsCharBoundary C.form (map C.number self.old.units) at }
         ensures units { OnOk result (map C.number self.new.units ≡ splice (map C.number self.old.units) at at (code_units C.form c)) }
-        ensures text { OnOk result (chars C.form (map C.number self.new.units) ≡ splice (chars C.form (map C.number self.old.units)) (chars_before C.form (map C.number self.old.units) at) (chars_before C.form (map C.number self.old.units) at) (c ∷ [])) }
+        ensures text { OnOk result (text_of C.form C.number self.new.units ≡ text_spliced C.form C.number self.old.units at at (c ∷ [])) }
         ensures err { OnErr result (self.new ≡ self.old) }
         ensures succeeds { HasRoomFor self.old (length (code_units C.form c)) → IsOk result }
         ensures capacity { self.old.capacity ≤ self.new.capacity }
@@ -362,7 +362,7 @@ impl<C: FaultUnit, A: Allocator> UtfString<C, A> {
     pub fn insert_utfstr(&mut self, at: usize, text: UtfStr<'_, C>) -> Result<(), OutOfMemory>
         requires { IsCharBoundary C.form (map C.number self.old.units) at }
         ensures units { OnOk result (self.new.units ≡ splice self.old.units at at (units_seen text.entry)) }
-        ensures text { OnOk result (chars C.form (map C.number self.new.units) ≡ splice (chars C.form (map C.number self.old.units)) (chars_before C.form (map C.number self.old.units) at) (chars_before C.form (map C.number self.old.units) at) (chars C.form (map C.number (units_seen text.entry)))) }
+        ensures text { OnOk result (text_of C.form C.number self.new.units ≡ text_spliced C.form C.number self.old.units at at (text_seen text.entry)) }
         ensures err { OnErr result (self.new ≡ self.old) }
         ensures succeeds { HasRoomFor self.old (length (units_seen text.entry)) → IsOk result }
         ensures capacity { self.old.capacity ≤ self.new.capacity }
@@ -374,7 +374,7 @@ impl<C: FaultUnit, A: Allocator> UtfString<C, A> {
     pub fn truncate(&mut self, len: usize)
         requires { (ustring_len self.old ≤ len) ⊎ IsCharBoundary C.form (map C.number self.old.units) len }
         ensures units { self.new.units ≡ take len self.old.units }
-        ensures text { chars C.form (map C.number self.new.units) ≡ take (chars_before C.form (map C.number self.old.units) len) (chars C.form (map C.number self.old.units)) }
+        ensures text { text_of C.form C.number self.new.units ≡ take (text_before C.form C.number self.old.units len) (text_of C.form C.number self.old.units) }
         ensures capacity { self.new.capacity ≡ self.old.capacity }
     {
         self.string.truncate(len);
@@ -387,9 +387,9 @@ impl<C: FaultUnit, A: Allocator> UtfString<C, A> {
         A: Clone,
         requires { IsCharBoundary C.form (map C.number self.old.units) at }
         ensures rest { IfOk result (λ rest. rest.units ≡ drop at self.old.units) }
-        ensures rest_text { IfOk result (λ rest. chars C.form (map C.number rest.units) ≡ drop (chars_before C.form (map C.number self.old.units) at) (chars C.form (map C.number self.old.units))) }
+        ensures rest_text { IfOk result (λ rest. text_of C.form C.number rest.units ≡ drop (text_before C.form C.number self.old.units at) (text_of C.form C.number self.old.units)) }
         ensures ok { OnOk result (self.new.units ≡ take at self.old.units) }
-        ensures text { OnOk result (chars C.form (map C.number self.new.units) ≡ take (chars_before C.form (map C.number self.old.units) at) (chars C.form (map C.number self.old.units))) }
+        ensures text { OnOk result (text_of C.form C.number self.new.units ≡ take (text_before C.form C.number self.old.units at) (text_of C.form C.number self.old.units)) }
         ensures err { OnErr result (self.new ≡ self.old) }
         ensures capacity { self.new.capacity ≡ self.old.capacity }
     {
@@ -404,8 +404,8 @@ impl<C: FaultUnit, A: Allocator> UtfString<C, A> {
         requires boundary { IsCharBoundary C.form (map C.number self.old.units) at }
         requires below { at < ustring_len self.old }
         ensures units { map C.number self.new.units ≡ splice (map C.number self.old.units) at (at + length (code_units C.form result)) [] }
-        ensures text { chars C.form (map C.number self.new.units) ≡ splice (chars C.form (map C.number self.old.units)) (chars_before C.form (map C.number self.old.units) at) (chars_before C.form (map C.number self.old.units) at + 1) [] }
-        ensures taken { drop (chars_before C.form (map C.number self.old.units) at) (chars C.form (map C.number self.old.units)) ≡ result ∷ drop (chars_before C.form (map C.number self.old.units) at + 1) (chars C.form (map C.number self.old.units)) }
+        ensures text { text_of C.form C.number self.new.units ≡ splice (text_of C.form C.number self.old.units) (text_before C.form C.number self.old.units at) (text_before C.form C.number self.old.units at + 1) [] }
+        ensures taken { drop (text_before C.form C.number self.old.units at) (text_of C.form C.number self.old.units) ≡ result ∷ drop (text_before C.form C.number self.old.units at + 1) (text_of C.form C.number self.old.units) }
         ensures capacity { self.new.capacity ≡ self.old.capacity }
     {
         let code = self.string.remove_char(at);
@@ -424,9 +424,9 @@ impl<C: FaultUnit, A: Allocator> UtfString<C, A> {
         with: UtfStr<'_, C>,
     ) -> Result<(), OutOfMemory>
         requires bounds { R.has_bounds range }
-        requires at_boundaries { IsCharRange C.form (map C.number self.old.units) (start_index (R.start_bound range)) (end_index (R.end_bound range) (ustring_len self.old)) }
-        ensures units { OnOk result (self.new.units ≡ splice self.old.units (start_index (R.start_bound range)) (end_index (R.end_bound range) (ustring_len self.old)) (units_seen with.entry)) }
-        ensures text { OnOk result (chars C.form (map C.number self.new.units) ≡ splice (chars C.form (map C.number self.old.units)) (chars_before C.form (map C.number self.old.units) (start_index (R.start_bound range))) (chars_before C.form (map C.number self.old.units) (end_index (R.end_bound range) (ustring_len self.old))) (chars C.form (map C.number (units_seen with.entry)))) }
+        requires at_boundaries { IsCharPart C.form C.number self.old.units (R.start_bound range) (R.end_bound range) }
+        ensures units { OnOk result (self.new.units ≡ part_replaced self.old.units (R.start_bound range) (R.end_bound range) (units_seen with.entry)) }
+        ensures text { OnOk result (text_of C.form C.number self.new.units ≡ text_replaced C.form C.number self.old.units (R.start_bound range) (R.end_bound range) (text_seen with.entry)) }
         ensures err { OnErr result (self.new ≡ self.old) }
         ensures succeeds { ustring_len self.old + length (units_seen with.entry) ≤ self.old.capacity + (end_index (R.end_bound range) (ustring_len self.old) - start_index (R.start_bound range)) → IsOk result }
         ensures capacity { self.old.capacity ≤ self.new.capacity }
@@ -440,7 +440,7 @@ impl<C: FaultUnit, A: Allocator> UtfString<C, A> {
     pub fn splice_str(&mut self, from: usize, to: usize, text: &str) -> Result<(), OutOfMemory>
         requires { IsCharRange C.form (map C.number self.old.units) from to }
         ensures units { OnOk result (map C.number self.new.units ≡ splice (map C.number self.old.units) from to (encode C.form (str_chars text.now))) }
-        ensures text { OnOk result (chars C.form (map C.number self.new.units) ≡ splice (chars C.form (map C.number self.old.units)) (chars_before C.form (map C.number self.old.units) from) (chars_before C.form (map C.number self.old.units) to) (str_chars text.now)) }
+        ensures text { OnOk result (text_of C.form C.number self.new.units ≡ text_spliced C.form C.number self.old.units from to (str_chars text.now)) }
         ensures err { OnErr result (self.new ≡ self.old) }
         ensures succeeds { ustring_len self.old + length (encode C.form (str_chars text.now)) ≤ self.old.capacity + (to - from) → IsOk result }
         ensures capacity { self.old.capacity ≤ self.new.capacity }
@@ -452,7 +452,7 @@ impl<C: FaultUnit, A: Allocator> UtfString<C, A> {
     /// memory, and each unit moves at most once.
     pub fn retain<F: FnMut(char) -> bool>(&mut self, keep: F)
         requires { F.IsAlwaysCallable keep }
-        ensures filtered { IsFiltered F.step keep (chars C.form (map C.number self.old.units)) (chars C.form (map C.number self.new.units)) }
+        ensures filtered { IsFiltered F.step keep (text_of C.form C.number self.old.units) (text_of C.form C.number self.new.units) }
         ensures capacity { self.new.capacity ≡ self.old.capacity }
     {
         self.string.retain_chars(keep);
@@ -488,12 +488,12 @@ impl<C: FaultUnit, A: Allocator> UtfString<C, A> {
     /// must be boundaries.
     pub fn drain<R: RangeBounds<usize>>(&mut self, range: R) -> DrainUtf<'_, C, A>
         requires bounds { R.has_bounds range }
-        requires in_range { IsCharRange C.form (map C.number self.old.units) (start_index (R.start_bound range)) (end_index (R.end_bound range) (ustring_len self.old)) }
-        ensures rest { drain_rest result ≡ chars C.form (map C.number (slice_range self.old.units (start_index (R.start_bound range)) (end_index (R.end_bound range) (ustring_len self.old)))) }
+        requires in_range { IsCharPart C.form C.number self.old.units (R.start_bound range) (R.end_bound range) }
+        ensures rest { drain_rest result ≡ text_of C.form C.number (part_of self.old.units (R.start_bound range) (R.end_bound range)) }
         ensures runs { DrainRuns result }
         ensures runs_back { DrainRunsBack result }
         ensures lender { drain_lender result ≡ self.entry.ghost_name }
-        ensures leaves { drain_leaves result ≡ splice self.old.units (start_index (R.start_bound range)) (end_index (R.end_bound range) (ustring_len self.old)) [] }
+        ensures leaves { drain_leaves result ≡ part_replaced self.old.units (R.start_bound range) (R.end_bound range) [] }
         ensures capacity { drain_capacity result ≡ self.old.capacity }
         ensures stays { DrainStays result }
     {

@@ -1,8 +1,10 @@
 //! Wide strings: text in units of 16 or 32 bits, UTF-16 and UTF-32, well formed or not.
 //!
-//! A port of Rust's crate of this name, under the same paths. Each module is a crate of its own, which this one
-//! re-exports; it has no code.
+//! A port of Rust's crate of this name, under the same paths. Each module is a crate of its own, or is put together
+//! of two, which this one re-exports; it has no code.
 #![tactic(auto)]
+
+pub mod utfstring;
 
 pub use wide_bytes as bytes;
 pub use wide_error as error;
@@ -22,5 +24,4 @@ pub use wide_ustring as ustring;
 pub use wide_ustring::{U16String, U32String, WideString};
 pub use wide_utfstr as utfstr;
 pub use wide_utfstr::{Utf16Str, Utf32Str, WideUtfStr};
-pub use wide_utfstring as utfstring;
 pub use wide_utfstring::{Utf16String, Utf32String, WideUtfString};

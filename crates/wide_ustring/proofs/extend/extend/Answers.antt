@@ -1,17 +1,16 @@
-use Rattle.std.proofs.Common.{rules, arith, ap, ◌∙◌, map, length}
-use Rattle.std.proofs.lemmas.List.{length-map}
-use Rattle.wide_ustring.proofs.Extends.{Yields-one_more, OnErr-always}
+use Rattle.std.proofs.Common.{rules, arith, ap, ◌∙◌, length}
+use Rattle.wide_ustring.proofs.Extends.{Yields-one_more, Adds-at_err}
 use Rattle.wide_ustring.proofs.extend.extend.Goals as goal
 
-pub returns-in_err-push_to-clause-err : goal.returns-in_err-push_to-clause-err
-returns-in_err-push_to-clause-err g c =
-    OnErr-always c.from_residual.result (record {
+pub returns-in_err-push_to-clause-added : goal.returns-in_err-push_to-clause-added
+returns-in_err-push_to-clause-added g c =
+    Adds-at_err c.from_residual.result c.args.pieces g.S.Growing.seen c.args.string.now c.push_to.new.string c.from_residual.ensures.0 (record {
       iterator = c.into_iter-piece-iterator.result;
       items = c.loop-piece.yielded;
       refused = c.in-Some.piece;
       later = c.next.new.self;
       from = c.into_iter-piece-iterator.ensures.into_iter_gives;
       given = Yields-one_more g.U.IntoIter.Iterator.next_gives _ c.loop-piece.piece-iterator c.next.new.self c.loop-piece.yielded c.in-Some.piece (search rules) (search rules);
-      units = ap (λ s. map g.C.Unit.number s.units) c.in_err-push_to.ensures.err ∙ c.loop-piece.invariant.added;
-      full = omega (arith, c.in_err-push_to.ensures.full, ap (λ s. s.capacity) c.in_err-push_to.ensures.err, ap (λ s. length s.units) c.in_err-push_to.ensures.err, length-map c.push_to.new.string.units g.C.Unit.number);
+      units = ap (λ s. (g.S.Growing.seen s).units) c.in_err-push_to.ensures.err ∙ c.loop-piece.invariant.added;
+      full = omega (arith, c.in_err-push_to.ensures.full, ap (λ s. (g.S.Growing.seen s).capacity) c.in_err-push_to.ensures.err, ap (λ s. length (g.S.Growing.seen s).units) c.in_err-push_to.ensures.err);
     })

@@ -1,9 +1,9 @@
-use Rattle.std.proofs.Common.{◌≡◌, ◌≤◌, ◌++◌, map}
+use Rattle.std.proofs.Common.{◌≡◌, ◌≤◌, ◌++◌}
 use Rattle.std.specs.List.{flat_map}
 use Rattle.wide_ustring.proofs.extend.extend.Given as goal
 
 abbrev pub invariant-loop-piece : goal.invariant-loop-piece
 invariant-loop-piece g l = record {
-  added : map g.C.Unit.number l.string.units ≡ map g.C.Unit.number l.initial.string.units ++ flat_map g.P.Piece.text l.yielded;
-  room : l.initial.string.capacity ≤ l.string.capacity;
+  added : (g.S.Growing.seen l.string).units ≡ (g.S.Growing.seen l.initial.string).units ++ flat_map g.P.Piece.text l.yielded;
+  room : (g.S.Growing.seen l.initial.string).capacity ≤ (g.S.Growing.seen l.string).capacity;
 }

@@ -1,4 +1,0 @@
-use Rattle.wide_ustring.proofs.ustring.UString.from_iter_strings.Goals as goal
-
-pub returns-in-Err-clause-err : goal.returns-in-Err-clause-err
-returns-in-Err-clause-err g c = rw c.new-string.ensures.units at c.in-Err.ensures.err

@@ -1,0 +1,10 @@
+//! Owned strings of well-formed text, and what strings of any units do with it.
+
+pub use wide_utfextend::{
+    OfText, U16StringInUtfstring, U16StringOverUtfstrs, U32StringInUtfstring, U32StringOverUtfstrs,
+    UStringInUtfstring, UStringOverUtfstrs,
+};
+pub use wide_utfstring::{
+    DrainUtf, DrainUtf16, DrainUtf32, Utf16StrInUtfstring, Utf16String, Utf32StrInUtfstring,
+    Utf32String, UtfStrInUtfstring, UtfString, WideUtfString,
+};
