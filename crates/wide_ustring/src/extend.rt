@@ -28,8 +28,8 @@ impl<C: FaultUnit, A: Allocator> Growing for UString<C, A> {
 /// An item whose units can be put at the end of a string: a character, a text, a view or a string. The trait is this port's
 /// own; crates above implement it for their types.
 ///
-/// The marker `M` is a type of the crate that implements the trait: by it a crate may put views of a second crate into the
-/// strings of a third.
+/// The marker `M` of an impl for views of a second crate and strings of a third is a type of the impl's own crate, since Rust
+/// asks for one; any other impl has [`Whole`].
 pub trait Piece<S: Growing, M> {
     // The numbers of its units.
     ghost text: { Self → List ℕ };
@@ -42,7 +42,7 @@ pub trait Piece<S: Growing, M> {
         ensures capacity { (S.seen string.old).capacity ≤ (S.seen string.new).capacity };
 }
 
-/// The marker of the items whose impl needs none of its own: those that the string's crate knows, or that know the string.
+/// The marker of the impls in the crate of their string, which need none of their own.
 pub struct Whole;
 
 impl<C: FaultUnit, A: Allocator> Piece<UString<C, A>, Whole> for char {
