@@ -13,6 +13,22 @@ use widestring::iter::{
 };
 use widestring::{ucstr, ucstring, ustr, ustring, utfstr, utfstring};
 
+// The traits, with those under which calls stand that name types of later modules, by width too.
+pub use widestring::bytes::{ByteSink, ByteSource};
+pub use widestring::error::FaultUnit;
+pub use widestring::ucstring::{
+    U16CStrInUcstring, U16StringInUcstring, U16StringOverUcstrs, U32CStrInUcstring,
+    U32StringInUcstring, U32StringOverUcstrs, UCStrInUcstring, UStringInUcstring,
+    UStringOverUcstrs,
+};
+pub use widestring::unit::Unit;
+pub use widestring::ustring::{U16StrInUstring, U32StrInUstring, UStrInUstring};
+pub use widestring::utfstring::{
+    U16StringInUtfstring, U16StringOverUtfstrs, U32StringInUtfstring, U32StringOverUtfstrs,
+    UStringInUtfstring, UStringOverUtfstrs, Utf16StrInUtfstring, Utf32StrInUtfstring,
+    UtfStrInUtfstring,
+};
+
 // Names of the root.
 pub type Roots<'a> = (
     (widestring::U16Str<'a>, widestring::U32Str<'a>),
