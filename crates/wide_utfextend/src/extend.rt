@@ -54,21 +54,6 @@ pub trait UStringOverUtfstrs<
         ensures { Collects result U.into_iter_gives U.IntoIter.next_gives (λ s. map C.number (units_seen s)) items Self.seen };
 }
 
-impl<'a, C: FaultUnit + 'a, A: Allocator, U: IntoIterator<Item = UtfStr<'a, C>>> UStringOverUtfstrs<
-    'a,
-    C,
-    A,
-    U,
-> for UString<C, A> {
-    fn extend_utfstrs(&mut self, items: U) -> Result<(), OutOfMemory> {
-        extend(self, items)
-    }
-
-    fn from_iter_utfstrs(alloc: A, items: U) -> Result<Self, Self> {
-        from_iter(UString::new(alloc), items)
-    }
-}
-
 /// As [`UStringOverUtfstrs`], the calls that take strings of well-formed text.
 pub trait UStringInUtfstring<C: FaultUnit, A: Allocator>: Growing + Sized {
     /// The strings' units at the end. On want of memory those of the items before the refused one are there.
@@ -87,6 +72,21 @@ pub trait UStringInUtfstring<C: FaultUnit, A: Allocator>: Growing + Sized {
     ) -> Result<Self, Self>
         requires { IsFiniteIterable U.into_iter_gives U.IntoIter.can_next U.IntoIter.remaining items }
         ensures { Collects result U.into_iter_gives U.IntoIter.next_gives (λ s. map C.number s.units) items Self.seen };
+}
+
+impl<'a, C: FaultUnit + 'a, A: Allocator, U: IntoIterator<Item = UtfStr<'a, C>>> UStringOverUtfstrs<
+    'a,
+    C,
+    A,
+    U,
+> for UString<C, A> {
+    fn extend_utfstrs(&mut self, items: U) -> Result<(), OutOfMemory> {
+        extend(self, items)
+    }
+
+    fn from_iter_utfstrs(alloc: A, items: U) -> Result<Self, Self> {
+        from_iter(UString::new(alloc), items)
+    }
 }
 
 impl<C: FaultUnit, A: Allocator> UStringInUtfstring<C, A> for UString<C, A> {
