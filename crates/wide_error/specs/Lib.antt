@@ -1,4 +1,3 @@
-pub mod UtfError
 pub mod Nul
 pub mod Texts
 pub mod NulError

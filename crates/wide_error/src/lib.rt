@@ -9,8 +9,6 @@
 
 pub mod error;
 pub mod nul;
-pub mod utf;
 
 pub use error::{DecodeUtf16Error, DecodeUtf32Error, OutOfMemory, TranscodeError};
 pub use nul::{ContainsNul, MissingNulTerminator, NulError, UCStringError};
-pub use utf::{FaultUnit, Utf16Error, Utf32Error, UtfError};

@@ -12,7 +12,8 @@ ghost use Rattle.wide_ucstr.specs.CString.{IsCString};
 
 use std::alloc::AllocError;
 use std::ops::RangeBounds;
-use wide_error::{ContainsNul, FaultUnit, MissingNulTerminator, NulError};
+use wide_error::{ContainsNul, MissingNulTerminator, NulError};
+use wide_utferror::FaultUnit;
 use wide_unit::{Unit, first_nul};
 use wide_ustr::{CharIndices, CharIndicesLossy, Chars, CharsLossy, UStr};
 

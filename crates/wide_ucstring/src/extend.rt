@@ -10,7 +10,8 @@ ghost use Rattle.wide_ucstr.specs.View.{contents_seen};
 
 use crate::UCString;
 use std::alloc::Allocator;
-use wide_error::{FaultUnit, OutOfMemory};
+use wide_error::OutOfMemory;
+use wide_utferror::FaultUnit;
 use wide_ucstr::UCStr;
 use wide_ustring::UString;
 use wide_ustring::extend::{Growing, Piece, extend, from_iter};

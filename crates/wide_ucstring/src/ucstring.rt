@@ -12,7 +12,8 @@ ghost use Rattle.wide_ucstring.specs.Refused.{RefusesInnerNul, RefusesInnerNulOf
 
 use std::alloc::{Allocator, Global};
 use std::marker::Model;
-use wide_error::{ContainsNul, FaultUnit, OutOfMemory, UCStringError};
+use wide_error::{ContainsNul, OutOfMemory, UCStringError};
+use wide_utferror::FaultUnit;
 use wide_ucstr::UCStr;
 use wide_unit::first_nul;
 use wide_ustr::UStr;

@@ -9,7 +9,7 @@ ghost use Rattle.wide_ustr.specs.Indexed.{indexed_item, taken_length};
 use crate::places::Places;
 use std::alloc::AllocError;
 use std::iter::FusedIterator;
-use wide_error::FaultUnit;
+use wide_utferror::FaultUnit;
 use wide_unit::{split_first, split_last};
 
 // The character, or U+FFFD in place of a fault.

@@ -22,7 +22,8 @@ use std::alloc::{Allocator, Global};
 use std::marker::Model;
 use std::ops::RangeBounds;
 use std::slice;
-use wide_error::{FaultUnit, OutOfMemory};
+use wide_error::OutOfMemory;
+use wide_utferror::FaultUnit;
 use wide_unit::{Unit, split_first, split_last};
 use wide_ustr::UStr;
 

@@ -8,7 +8,8 @@ ghost use Rattle.wide_ustring.specs.Extended.{Adds, Collects};
 ghost use Rattle.wide_utfstr.specs.View.{units_seen};
 
 use std::alloc::Allocator;
-use wide_error::{FaultUnit, OutOfMemory};
+use wide_error::OutOfMemory;
+use wide_utferror::FaultUnit;
 use wide_ustring::UString;
 use wide_ustring::extend::{Growing, Piece, extend, from_iter};
 use wide_utfstr::UtfStr;

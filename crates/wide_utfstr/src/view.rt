@@ -6,7 +6,7 @@ ghost use Rattle.wide_unit.specs.EncodingForm.{Utf16, Utf32, code_units, encode}
 ghost use Rattle.wide_unit.specs.Utf8.{utf8};
 ghost use Rattle.wide_unit.specs.Items.{chars, IsWellFormed, IsFirstFault, IsBoundary};
 ghost use Rattle.wide_unit.specs.Places.{IsPlaceOf, IsCharBoundary, IsTextPart, IsCharPart};
-ghost use Rattle.wide_error.specs.UtfError.{index_of, unit_of, vec_of};
+ghost use Rattle.wide_utferror.specs.UtfError.{index_of, unit_of, vec_of};
 ghost use Rattle.wide_iter.specs.Encoder8.{bytes_left};
 ghost use Rattle.wide_iter.specs.Encoder16.{units_left as units16_left};
 ghost use Rattle.wide_iter.specs.Encoder32.{units_left as units32_left};
@@ -17,7 +17,7 @@ use crate::iter::{CharIndices, Chars, CharsUtf16, CharsUtf32, CodeUnits};
 use std::alloc::AllocError;
 use std::ops::RangeBounds;
 use std::slice;
-use wide_error::{FaultUnit, UtfError};
+use wide_utferror::{FaultUnit, UtfError};
 use wide_iter::{EncodeUtf8, EncodeUtf16, EncodeUtf32, encode_utf8, encode_utf16, encode_utf32};
 use wide_ucstr::UCStr;
 use wide_unit::{Unit, range_check, split_first, split_last};

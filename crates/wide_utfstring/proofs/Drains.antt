@@ -2,7 +2,7 @@
 use Rattle.std.proofs.Common.{◌≡◌, ℕ, ◌+◌, ◌-◌, List, [], ◌∷◌, ◌++◌, length, refl, ap, subst, ◌∙◌, arith}
 use Rattle.std.specs.Iterator.Runs.{YieldsInOrder, YieldsInReverse}
 use Rattle.std.proofs.iter.runs.Sources.{from_front, from_back, as_is, as_is_back}
-use Rattle.wide_error.specs.declared.utf.FaultUnit.{Ghosts as Faults}
+use Rattle.wide_utferror.specs.declared.error.FaultUnit.{Ghosts as Faults}
 use Rattle.wide_unit.specs.declared.unit.Unit.{Ghosts}
 use Rattle.wide_unit.specs.EncodingForm.{code_units}
 use Rattle.wide_utfstring.specs.Drain.{drain_rest, DrainGives, DrainGivesBack, DrainKeeps, DrainStays}

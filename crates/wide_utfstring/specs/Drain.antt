@@ -4,7 +4,7 @@ use Rattle.std.specs.Borrow.{GName}
 use Rattle.std.specs.Iterator.{Yields, YieldsFirst, YieldsLast}
 use Rattle.std.specs.Iterator.Runs.{YieldsInOrder, YieldsInReverse}
 use Rattle.std.specs.List.{splice}
-use Rattle.wide_error.specs.declared.utf.FaultUnit.{Ghosts as Faults}
+use Rattle.wide_utferror.specs.declared.error.FaultUnit.{Ghosts as Faults}
 use Rattle.wide_unit.specs.declared.unit.Unit.{Ghosts}
 use Rattle.wide_unit.specs.Items.{chars}
 use Rattle.wide_utfstring.specs.declared.iter.DrainUtf.{DrainUtf}

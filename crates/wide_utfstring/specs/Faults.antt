@@ -3,8 +3,8 @@ use Rattle.std.specs.Prelude.{◌≡◌, ℕ, map, Some}
 use Rattle.std.specs.declared.vec.Vec.{Vec}
 use Rattle.wide_unit.specs.EncodingForm.{EncodingForm}
 use Rattle.wide_unit.specs.Items.{IsFirstFault}
-use Rattle.wide_error.specs.UtfError.{index_of, unit_of, vec_of}
-use Rattle.wide_error.specs.declared.utf.UtfError.{UtfError}
+use Rattle.wide_utferror.specs.UtfError.{index_of, unit_of, vec_of}
+use Rattle.wide_utferror.specs.declared.error.UtfError.{UtfError}
 
 -- the first fault of the units is told, and the vector is handed back
 abbrev pub IsFaultOf : {C A : Type 0} → EncodingForm → (C → ℕ) → Vec C A → UtfError C A → Type 0

@@ -11,7 +11,8 @@ ghost use Rattle.wide_utfstr.specs.View.{units_seen};
 
 use crate::UtfString;
 use std::alloc::Allocator;
-use wide_error::{FaultUnit, OutOfMemory};
+use wide_error::OutOfMemory;
+use wide_utferror::FaultUnit;
 use wide_ustring::extend::{Growing, Piece, Whole, extend, from_iter};
 use wide_utfstr::UtfStr;
 

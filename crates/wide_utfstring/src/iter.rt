@@ -9,7 +9,7 @@ ghost use Rattle.wide_utfstr.specs.View.{units_seen, text_seen};
 use crate::UtfString;
 use std::alloc::{Allocator, Global};
 use std::iter::FusedIterator;
-use wide_error::FaultUnit;
+use wide_utferror::FaultUnit;
 use wide_utfstr::UtfStr;
 
 /// The characters of a range, from both ends. When it is dropped the whole range is gone from the string, whatever was read.

@@ -13,7 +13,7 @@ ghost use Rattle.wide_ustring.specs.Units.{ustring_len, HasRoomFor};
 ghost use Rattle.wide_ucstr.specs.CString.{contents};
 ghost use Rattle.wide_unit.specs.Places.{IsCharBoundary, IsCharRange};
 ghost use Rattle.wide_utfstr.specs.View.{units_seen, text_seen};
-ghost use Rattle.wide_error.specs.UtfError.{index_of};
+ghost use Rattle.wide_utferror.specs.UtfError.{index_of};
 ghost use Rattle.wide_utfstring.specs.Faults.{IsFaultOf};
 
 use crate::iter::DrainUtf;
@@ -21,7 +21,8 @@ use std::alloc::{Allocator, Global};
 use std::marker::Model;
 use std::ops::RangeBounds;
 use std::slice;
-use wide_error::{FaultUnit, OutOfMemory, UtfError};
+use wide_error::OutOfMemory;
+use wide_utferror::{FaultUnit, UtfError};
 use wide_ucstring::UCString;
 use wide_unit::split_last;
 use wide_ustr::UStr;

@@ -4,7 +4,8 @@ ghost use Rattle.std.specs.List.{repeat};
 
 use crate::UtfString;
 use std::alloc::Allocator;
-use wide_error::{FaultUnit, OutOfMemory};
+use wide_error::OutOfMemory;
+use wide_utferror::FaultUnit;
 use wide_ustring::UStrInUstring;
 use wide_utfstr::UtfStr;
 

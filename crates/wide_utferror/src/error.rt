@@ -1,12 +1,12 @@
 //! Units that are not well formed.
 
 ghost use Rattle.std.specs.Prelude.{◌≡◌, ℕ, Option};
-ghost use Rattle.wide_error.specs.UtfError.{index_of, unit_of, vec_of};
+ghost use Rattle.wide_utferror.specs.UtfError.{index_of, unit_of, vec_of};
 
-use crate::error::{DecodeUtf16Error, DecodeUtf32Error};
 use std::alloc::{Allocator, Global};
 use std::error::Error;
 use std::fmt;
+use wide_error::{DecodeUtf16Error, DecodeUtf32Error};
 use wide_unit::Unit;
 
 /// A unit as the fault that a decoder finds in it: `u16` as a [`DecodeUtf16Error`], `u32` as a [`DecodeUtf32Error`].

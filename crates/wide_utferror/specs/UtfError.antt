@@ -1,7 +1,7 @@
 -- What an error of units that are not well formed holds.
 use Rattle.std.specs.Prelude.{ℕ, Option}
 use Rattle.std.specs.declared.vec.Vec.{Vec}
-use Rattle.wide_error.specs.declared.utf.UtfError.{UtfError}
+use Rattle.wide_utferror.specs.declared.error.UtfError.{UtfError}
 
 module _ {C A : Type 0} where
   -- the index of the first fault, its unit, and the vector to hand back
