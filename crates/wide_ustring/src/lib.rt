@@ -1,6 +1,7 @@
 //! Owned strings of units of 16 or 32 bits, well formed or not.
 #![tactic(auto)]
 
+mod compare;
 pub mod extend;
 mod iter;
 mod room;

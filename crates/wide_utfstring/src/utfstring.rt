@@ -22,11 +22,11 @@ use std::marker::Model;
 use std::ops::RangeBounds;
 use std::slice;
 use wide_error::OutOfMemory;
-use wide_utferror::{FaultUnit, UtfError};
 use wide_ucstring::UCString;
 use wide_unit::split_last;
 use wide_ustr::UStr;
 use wide_ustring::UString;
+use wide_utferror::{FaultUnit, UtfError};
 use wide_utfstr::{UtfStr, check};
 
 /// An owned string of well-formed text (Unicode Standard, D85), by its type: no call leaves one that isn't.
@@ -34,7 +34,7 @@ use wide_utfstr::{UtfStr, check};
 /// Places and lengths are counted in units. A call that finds no memory answers [`OutOfMemory`] and has changed nothing.
 #[derive(Drop)]
 pub struct UtfString<C: FaultUnit, A: Allocator = Global> {
-    string: UString<C, A>,
+    pub(crate) string: UString<C, A>,
 }
 
 /// An owned string of UTF-16.

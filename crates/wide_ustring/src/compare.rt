@@ -1,0 +1,62 @@
+//! Equality, order and hash of owned strings: those of their units. Room and allocator don't count.
+ghost use Rattle.std.specs.Cmp.{on_equiv, on_per, on_po, on_total};
+ghost use Rattle.std.specs.Cmp.Lexicographic.{pointwise, slice_cmp, slice_partial_cmp, lists_equiv, lists_per, lists_po, lists_total, lists_agrees, lists_ties};
+ghost use Rattle.std.specs.Hash as fed;
+ghost use Rattle.std.specs.Hash.{on_Alike, items_Alike};
+
+use crate::ustring::UString;
+use std::alloc::Allocator;
+use std::cmp::Ordering;
+use std::hash::{Hash, Hasher};
+
+impl<C: PartialEq, A: Allocator> PartialEq for UString<C, A> {
+    ghost eq = { λ x y. pointwise C.eq x.units y.units };
+
+    ghost laws = { on_per (λ x. x.units) (lists_per C.laws) };
+
+    /// Whether both have the same units.
+    fn eq(&self, other: &Self) -> bool {
+        self.units == other.units
+    }
+}
+
+impl<C: Eq, A: Allocator> Eq for UString<C, A> {
+    ghost laws = { on_equiv (λ x. x.units) (lists_equiv C.Eq.laws) };
+}
+
+impl<C: PartialOrd, A: Allocator> PartialOrd for UString<C, A> {
+    ghost partial_cmp = { λ x y. slice_partial_cmp C.partial_cmp x.units y.units };
+
+    ghost laws = { on_po (λ x. x.units) (lists_po C.PartialOrd.laws) };
+
+    /// The lexicographic order of the units.
+    fn partial_cmp(&self, other: &Self) -> Option<Ordering> {
+        self.units.partial_cmp(&other.units)
+    }
+}
+
+impl<C: Ord, A: Allocator> Ord for UString<C, A> {
+    ghost cmp = { λ x y. slice_cmp C.cmp x.units y.units };
+
+    ghost total = { on_total (λ x. x.units) (lists_total C.total) };
+
+    ghost matches_partial_cmp = { λ x y. lists_agrees C.matches_partial_cmp x.units y.units };
+
+    ghost matches_eq = { λ x y. lists_ties C.cmp C.matches_eq x.units y.units };
+
+    /// The lexicographic order of the units.
+    fn cmp(&self, other: &Self) -> Ordering {
+        self.units.cmp(&other.units)
+    }
+}
+
+impl<C: Hash, A: Allocator> Hash for UString<C, A> {
+    ghost hash_input = { λ s. fed.slice C.hash_input s.units };
+
+    ghost respects_eq = { (on_Alike (λ s. s.units) (items_Alike (record { fed = C.respects_eq }))).fed };
+
+    /// Hashes as the slice of the units does.
+    fn hash<H: Hasher>(&self, state: &mut H) {
+        self.units.as_slice().hash(state);
+    }
+}
