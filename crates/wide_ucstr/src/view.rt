@@ -13,9 +13,9 @@ ghost use Rattle.wide_ucstr.specs.CString.{IsCString};
 use std::alloc::AllocError;
 use std::ops::RangeBounds;
 use wide_error::{ContainsNul, MissingNulTerminator, NulError};
-use wide_utferror::FaultUnit;
 use wide_unit::{Unit, first_nul};
 use wide_ustr::{CharIndices, CharIndicesLossy, Chars, CharsLossy, UStr};
+use wide_utferror::FaultUnit;
 
 /// A view of a wide C string: units of which the last is the only NUL, by its type.
 ///

@@ -13,11 +13,11 @@ ghost use Rattle.wide_ucstring.specs.Refused.{RefusesInnerNul, RefusesInnerNulOf
 use std::alloc::{Allocator, Global};
 use std::marker::Model;
 use wide_error::{ContainsNul, OutOfMemory, UCStringError};
-use wide_utferror::FaultUnit;
 use wide_ucstr::UCStr;
 use wide_unit::first_nul;
 use wide_ustr::UStr;
 use wide_ustring::UString;
+use wide_utferror::FaultUnit;
 
 /// An owned wide C string: units of which the last is the only NUL, by its type.
 ///

@@ -23,9 +23,9 @@ use std::marker::Model;
 use std::ops::RangeBounds;
 use std::slice;
 use wide_error::OutOfMemory;
-use wide_utferror::FaultUnit;
 use wide_unit::{Unit, split_first, split_last};
 use wide_ustr::UStr;
+use wide_utferror::FaultUnit;
 
 /// An owned string of units of 16 or 32 bits, of any values: text that may be well formed or not.
 ///

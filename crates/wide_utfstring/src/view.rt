@@ -5,8 +5,8 @@ ghost use Rattle.std.specs.List.{repeat};
 use crate::UtfString;
 use std::alloc::Allocator;
 use wide_error::OutOfMemory;
-use wide_utferror::FaultUnit;
 use wide_ustring::UStrInUstring;
+use wide_utferror::FaultUnit;
 use wide_utfstr::UtfStr;
 
 /// What a view of well-formed text does with owned strings: calls of the view, in a trait since the view's crate knows no owned
