@@ -8,8 +8,8 @@ ghost use Rattle.wide_ustr.specs.Indexed.{indexed, indexed_lossy};
 use crate::iter::{CharIndices, CharIndicesLossy, Chars, CharsLossy};
 use std::ops::RangeBounds;
 use std::slice;
-use wide_utferror::FaultUnit;
 use wide_unit::range_check;
+use wide_utferror::FaultUnit;
 
 /// A view of units of 16 or 32 bits, of any values: text that may be well formed or not.
 ///

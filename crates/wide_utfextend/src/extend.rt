@@ -9,9 +9,9 @@ ghost use Rattle.wide_utfstr.specs.View.{units_seen};
 
 use std::alloc::Allocator;
 use wide_error::OutOfMemory;
-use wide_utferror::FaultUnit;
 use wide_ustring::UString;
 use wide_ustring::extend::{Growing, Piece, extend, from_iter};
+use wide_utferror::FaultUnit;
 use wide_utfstr::UtfStr;
 use wide_utfstring::UtfString;
 
