@@ -1,0 +1,41 @@
+//! Comparisons of strings, told by their units.
+ghost use Rattle.std.specs.Prelude.{◌≡◌, ◌↔◌, IsTrue};
+ghost use Rattle.std.specs.Cmp.Lexicographic.{slice_cmp};
+ghost use Rattle.std.specs.Hash as fed;
+ghost use Rattle.std.specs.List.{fold};
+ghost use Rattle.std.specs.Ordering.{nat_cmp};
+
+use std::cmp::Ordering;
+use std::hash::{Hash, Hasher};
+use widestring::{U16String, U32CString, Utf16String};
+
+/// Whether two strings of 16-bit units are equal, and how they are ordered.
+pub fn compared(left: &U16String, right: &U16String) -> (bool, Ordering)
+    ensures equal { IsTrue result.0 ↔ (left.now.units ≡ right.now.units) }
+    ensures order { result.1 ≡ slice_cmp nat_cmp left.now.units right.now.units }
+{
+    (left == right, left.cmp(right))
+}
+
+/// The same of two C strings of 32-bit units.
+pub fn compared_c_strings(left: &U32CString, right: &U32CString) -> (bool, Ordering)
+    ensures equal { IsTrue result.0 ↔ (left.now.units ≡ right.now.units) }
+    ensures order { result.1 ≡ slice_cmp nat_cmp left.now.units right.now.units }
+{
+    (left == right, left.cmp(right))
+}
+
+/// The same of two texts of UTF-16.
+pub fn compared_texts(left: &Utf16String, right: &Utf16String) -> (bool, Ordering)
+    ensures equal { IsTrue result.0 ↔ (left.now.units ≡ right.now.units) }
+    ensures order { result.1 ≡ slice_cmp nat_cmp left.now.units right.now.units }
+{
+    (left == right, left.cmp(right))
+}
+
+/// What a text feeds a hasher: what the slice of its units does, so that equal texts hash alike.
+pub fn hashed<H: Hasher>(text: &Utf16String, state: &mut H)
+    ensures { state.new ≡ fold H.write state.old (fed.slice fed.u16 text.now.units) }
+{
+    text.hash(state);
+}
