@@ -17,6 +17,7 @@ mod hints;
 mod items;
 mod lossy;
 mod offsets;
+mod texts;
 mod ucstring;
 mod ustring;
 mod utfstring;
@@ -97,11 +98,15 @@ pub enum Family {
     Utfstring16,
     /// Scripts of calls of strings of UTF-32.
     Utfstring32,
+    /// Lines, trims, printing, escapes, case and comparisons of 16-bit units.
+    Texts16,
+    /// The same of 32-bit units.
+    Texts32,
 }
 
 impl Family {
     /// All families, in the order in which they are printed.
-    pub const ALL: [Family; 35] = [
+    pub const ALL: [Family; 37] = [
         Family::Items16,
         Family::Items32,
         Family::Lossy16,
@@ -137,6 +142,8 @@ impl Family {
         Family::Ucstring32,
         Family::Utfstring16,
         Family::Utfstring32,
+        Family::Texts16,
+        Family::Texts32,
     ];
 
     /// The family's name, which is its file's without `.txt`.
@@ -177,6 +184,8 @@ impl Family {
             Family::Ucstring32 => "ucstring32",
             Family::Utfstring16 => "utfstring16",
             Family::Utfstring32 => "utfstring32",
+            Family::Texts16 => "texts16",
+            Family::Texts32 => "texts32",
         }
     }
 
@@ -230,6 +239,8 @@ impl Family {
             Family::Ucstring32 => ucstring::made::<u32>(alloc, list, question),
             Family::Utfstring16 => utfstring::script::<u16>(alloc, list, question),
             Family::Utfstring32 => utfstring::script::<u32>(alloc, list, question),
+            Family::Texts16 => texts::utf16(alloc, list, question),
+            Family::Texts32 => texts::utf32(alloc, list, question),
         }
     }
 }

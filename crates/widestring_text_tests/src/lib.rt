@@ -1,0 +1,15 @@
+//! Tests of lines, trims, printing, escapes, case and comparisons, of texts and of any units, at both widths.
+#![tactic(auto)]
+
+#[cfg(test)]
+mod compare_rows;
+#[cfg(test)]
+mod line_rows;
+#[cfg(test)]
+mod print_rows;
+#[cfg(test)]
+mod rows;
+#[cfg(test)]
+mod sinks;
+#[cfg(test)]
+mod text_rows;
