@@ -7,7 +7,7 @@ ghost use Rattle.wide_bytes.specs.Transcoded.{transcoded};
 use crate::devices::{ByteSink, ByteSource};
 use crate::mode::Mode;
 use crate::moving::{put_all, take_all};
-use crate::text::push_characters;
+use crate::text::{push_characters, push_lossy_characters};
 use std::alloc::Global;
 use wide_error::TranscodeError;
 
@@ -15,16 +15,17 @@ use wide_error::TranscodeError;
 /// (Unicode Standard, D91, D92 and D98).
 ///
 /// A byte order mark at the front tells the byte order and is dropped; without one the order is little endian. One
-/// zero unit at the end is dropped, where the number of bytes is even; both are the Rust crate's rules for files. In [`Mode::Strict`] the characters before the
-/// first fault are written.
+/// zero unit at the end is dropped, where the number of bytes is even; both are the Rust crate's rules for files. In
+/// [`Mode::Strict`] the characters before the first fault are written, in [`Mode::Lossy`] all of them, with U+FFFD in the place of
+/// each fault.
 ///
 /// The source must not have failed or ended, and the sink must not have failed. No read or write that failed is tried
 /// again, and the sink isn't flushed.
 ///
 /// # Errors
 ///
-/// - [`TranscodeError::Utf16`]: the first fault, its index counted in units after the mark. The text before it is
-///   written. It comes before `OddLength`.
+/// - [`TranscodeError::Utf16`]: in [`Mode::Strict`] the first fault, its index counted in units after the mark. The text
+///   before it is written. It comes before `OddLength`.
 /// - [`TranscodeError::OddLength`]: the number of bytes is odd. The text of the whole units is written.
 /// - [`TranscodeError::Read`] and [`TranscodeError::Write`]: the source, or the sink, failed in this call. What was
 ///   written is a beginning of the text of the bytes that were read.
@@ -54,6 +55,10 @@ pub fn transcode<S: ByteSource, K: ByteSink>(
     let mut text = String::new(alloc);
     let fault = match mode {
         Mode::Strict => push_characters(&mut text, &bytes)?,
+        Mode::Lossy => {
+            push_lossy_characters(&mut text, &bytes)?;
+            None
+        }
     };
     put_all(sink, text.as_bytes())?;
     if let Some((index, unit)) = fault {

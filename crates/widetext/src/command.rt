@@ -4,14 +4,14 @@ ghost use Rattle.std.specs.Prelude.{◌≡◌, ◌≤◌, ℕ, List, Result, OnE
 ghost use Rattle.wide_error.specs.declared.error.TranscodeError.{TranscodeError};
 ghost use Rattle.wide_bytes.specs.Run.{Ends, Moves, fails_to_read, fails_to_write};
 ghost use Rattle.wide_bytes.specs.Transcoded.{transcoded};
-ghost use Rattle.wide_bytes.specs.declared.mode.Mode.TheVariants.{Strict};
-ghost use Rattle.widetext.specs.Command.{AsksForUtf8, IsUnknown, status_of};
+ghost use Rattle.wide_bytes.specs.declared.mode.Mode.{Mode};
+ghost use Rattle.widetext.specs.Command.{AsksForUtf8, AsksForNoUtf8, IsUnknown, status_of};
 
 use crate::words::{Request, parse_words};
 use std::alloc::{AllocError, Global};
 use std::fmt;
 use std::fmt::Write;
-use wide_bytes::{ByteSink, ByteSource, Mode, put_all, transcode};
+use wide_bytes::{ByteSink, ByteSource, put_all, transcode};
 use wide_error::{DecodeUtf16Error, OutOfMemory, TranscodeError};
 use wide_iter::{End, read_ends16};
 
@@ -89,10 +89,10 @@ pub fn command<S: ByteSource, K: ByteSink, F: ByteSink>(
     requires sink_sound { K.has_failed sink.old ≡ false }
     requires faults_sound { F.has_failed faults.old ≡ false }
 
-    // The words `utf8`: the status is that of one run of `transcode`.
-    ensures utf8 { AsksForUtf8 words.now → (answer : Result (Unit {0}) TranscodeError) × (bytes : List ℕ) × (written : List ℕ)
+    // The word `utf8`, with its option: the status is that of one run of `transcode`.
+    ensures utf8 { (mode : Mode) → AsksForUtf8 mode words.now → (answer : Result (Unit {0}) TranscodeError) × (bytes : List ℕ) × (written : List ℕ)
         × Moves (S.left source.old) (S.left source.new) (K.held sink.old) (K.held sink.new) bytes written
-        × Ends answer (S.has_ended source.new) (transcoded Strict) bytes written
+        × Ends answer (S.has_ended source.new) (transcoded mode) bytes written
         × (S.has_failed source.new ≡ fails_to_read answer)
         × (K.has_failed sink.new ≡ fails_to_write answer)
         × (result ≡ status_of answer) }
@@ -101,12 +101,12 @@ pub fn command<S: ByteSource, K: ByteSink, F: ByteSink>(
     ensures quiet { result ≡ 0 → faults.new ≡ faults.old }
 
     // All other words read nothing, and wrong ones write nothing but the usage.
-    ensures reads { ¬ (AsksForUtf8 words.now) → source.new ≡ source.old }
+    ensures reads { AsksForNoUtf8 words.now → source.new ≡ source.old }
     ensures unknown { IsUnknown words.now → result ≡ 2 }
     ensures wrong { result ≡ 2 → sink.new ≡ sink.old }
 
     // Of other words all output is made before any is written: a refusal writes nothing, unless the output itself failed.
-    ensures whole { ¬ (AsksForUtf8 words.now) → result ≡ 1 → K.has_failed sink.new ≡ false → sink.new ≡ sink.old }
+    ensures whole { AsksForNoUtf8 words.now → result ≡ 1 → K.has_failed sink.new ≡ false → sink.new ≡ sink.old }
     ensures statuses { result ≤ 2 }
 {
     let request = match parse_words(alloc, words) {
@@ -121,7 +121,7 @@ pub fn command<S: ByteSource, K: ByteSink, F: ByteSink>(
         }
     };
     let answer = match request {
-        Request::Utf8 => transcode(alloc, source, sink, Mode::Strict),
+        Request::Utf8(mode) => transcode(alloc, source, sink, mode),
         Request::Ends { units, ends } => write_answers(alloc, sink, &units, &ends),
     };
     match answer {

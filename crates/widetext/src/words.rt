@@ -1,15 +1,17 @@
 //! What the words of the program ask for.
 ghost use Rattle.std.specs.Prelude.{◌≡◌, ◌≢◌};
+ghost use Rattle.wide_bytes.specs.declared.mode.Mode.{Mode};
 ghost use Rattle.widetext.specs.Command.{AsksForUtf8, IsUnknown};
 
 use std::alloc::{AllocError, Global};
+use wide_bytes::Mode;
 use wide_iter::End;
 
 /// What the words ask for.
 #[derive(Drop)]
 pub enum Request {
-    /// The UTF-8 text of standard input.
-    Utf8,
+    /// The UTF-8 text of standard input, with its faults treated so.
+    Utf8(Mode),
     /// What a decoder of the units answers to the calls.
     Ends {
         /// The units to decode.
@@ -62,7 +64,7 @@ fn parse_ends_request(
     units: &str,
     calls: &str,
 ) -> Result<Option<Request>, AllocError>
-    ensures { result ≢ Ok (Some Request.Utf8) }
+    ensures { (mode : Mode) → result ≢ Ok (Some (Request.Utf8 mode)) }
 {
     let Some(units) = parse_units(alloc, units)? else {
         return Ok(None);
@@ -75,14 +77,17 @@ fn parse_ends_request(
 
 /// What the words ask for, where they are in order.
 pub fn parse_words(alloc: Global, words: &[String]) -> Result<Option<Request>, AllocError>
-    ensures utf8 { AsksForUtf8 words.now → result ≡ Ok (Some Request.Utf8) }
-    ensures utf8_alone { result ≡ Ok (Some Request.Utf8) → AsksForUtf8 words.now }
+    ensures utf8 { (mode : Mode) → AsksForUtf8 mode words.now → result ≡ Ok (Some (Request.Utf8 mode)) }
+    ensures utf8_alone { (mode : Mode) → result ≡ Ok (Some (Request.Utf8 mode)) → AsksForUtf8 mode words.now }
     ensures unknown { IsUnknown words.now → result ≡ Ok None }
 {
     match words {
-        [word] if word.as_str() == "utf8" => Ok(Some(Request::Utf8)),
         [word, units, calls] if word.as_str() == "ends" => {
             parse_ends_request(alloc, units.as_str(), calls.as_str())
+        }
+        [word] if word.as_str() == "utf8" => Ok(Some(Request::Utf8(Mode::Strict))),
+        [word, option] if word.as_str() == "utf8" && option.as_str() == "--lossy" => {
+            Ok(Some(Request::Utf8(Mode::Lossy)))
         }
         _ => Ok(None),
     }

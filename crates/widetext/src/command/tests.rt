@@ -130,36 +130,46 @@ impl ByteSink for SlowSink {
 
 const UTF8: &[&str] = &["utf8"];
 
-/// Input, text, line on the fault stream, status.
-type Row = (&'static [u8], &'static [u8], &'static str, u8);
+const LOSSY: &[&str] = &["utf8", "--lossy"];
 
-const ROWS: [Row; 12] = [
+/// Words, input, text, line on the fault stream, status.
+type Row = (
+    &'static [&'static str],
+    &'static [u8],
+    &'static [u8],
+    &'static str,
+    u8,
+);
+
+const NONE: &str = "";
+
+const ODD: &str = "file not encoded as UTF-16\n";
+
+const ROWS: [Row; 20] = [
     (
+        UTF8,
         b"\xff\xfe\x3d\xd8\x00\xde\x41\x00",
         b"\xf0\x9f\x98\x80\x41",
-        "",
+        NONE,
         0,
     ),
-    (b"", b"", "", 0),
-    (b"\xff\xfe\x00\x00", b"", "", 0),
-    (b"\xfe\xff\x00\x61\x00\x00", b"a", "", 0),
-    (b"\x61\x00\x62", b"a", "file not encoded as UTF-16\n", 1),
-    (b"\xff\xfe\xff\xfe", b"\xef\xbb\xbf", "", 0),
-    (b"\x00\x00\x00\x00", b"\x00", "", 0),
+    (UTF8, b"", b"", NONE, 0),
+    (UTF8, b"\xff\xfe\x00\x00", b"", NONE, 0),
+    (UTF8, b"\xfe\xff\x00\x61\x00\x00", b"a", NONE, 0),
+    (UTF8, b"\x61\x00\x62", b"a", ODD, 1),
+    (UTF8, b"\xff\xfe\xff\xfe", b"\xef\xbb\xbf", NONE, 0),
+    (UTF8, b"\x00\x00\x00\x00", b"\x00", NONE, 0),
+    (UTF8, b"\x61\x00\x00\x00\x62", b"\x61\x00", ODD, 1),
     (
-        b"\x61\x00\x00\x00\x62",
-        b"\x61\x00",
-        "file not encoded as UTF-16\n",
-        1,
-    ),
-    (
+        UTF8,
         b"\x3d\xd8\x00",
         b"",
         "unpaired UTF-16 surrogate d83d at index 0\n",
         1,
     ),
-    (b"\x41", b"", "file not encoded as UTF-16\n", 1),
+    (UTF8, b"\x41", b"", ODD, 1),
     (
+        UTF8,
         b"\x00\xd8\x41\x00",
         b"",
         "unpaired UTF-16 surrogate d800 at index 0\n",
@@ -167,10 +177,44 @@ const ROWS: [Row; 12] = [
     ),
     // The index counts units after the mark, two of them for the pair.
     (
+        UTF8,
         b"\xfe\xff\xd8\x3d\xde\x00\x00\x41\xdc\x00",
         b"\xf0\x9f\x98\x80\x41",
         "unpaired UTF-16 surrogate dc00 at index 3\n",
         1,
+    ),
+    (
+        LOSSY,
+        b"\xff\xfe\x3d\xd8\x00\xde\x41\x00",
+        b"\xf0\x9f\x98\x80\x41",
+        NONE,
+        0,
+    ),
+    (LOSSY, b"\x00\xd8\x41\x00", b"\xef\xbf\xbd\x41", NONE, 0),
+    (LOSSY, b"\x3d\xd8\x00", b"\xef\xbf\xbd", ODD, 1),
+    (LOSSY, b"\x61\x00\x62", b"a", ODD, 1),
+    // One for each fault, also where faults stand side by side.
+    (
+        LOSSY,
+        b"\x00\xdc\x00\xd8\x00\xd8",
+        b"\xef\xbf\xbd\xef\xbf\xbd\xef\xbf\xbd",
+        NONE,
+        0,
+    ),
+    (
+        LOSSY,
+        b"\xfe\xff\xd8\x3d\xde\x00\xdc\x00\x00\x00",
+        b"\xf0\x9f\x98\x80\xef\xbf\xbd",
+        NONE,
+        0,
+    ),
+    (LOSSY, b"\xff\xfe", b"", NONE, 0),
+    (
+        LOSSY,
+        b"\xfd\xff\x00\xd8",
+        b"\xef\xbf\xbd\xef\xbf\xbd",
+        NONE,
+        0,
     ),
 ];
 
@@ -239,8 +283,8 @@ fn run<'a>(
 
 // Whether a row holds over devices in memory.
 fn holds(alloc: Global, row: Row) -> Result<bool, AllocError> {
-    let (input, text, fault, status) = row;
-    let words = strings(alloc, UTF8)?;
+    let (words, input, text, fault, status) = row;
+    let words = strings(alloc, words)?;
     let mut source = FromRead::new(input);
     let mut sink = FromWrite::new(Vec::new(alloc));
     let mut said = FromWrite::new(Vec::new(alloc));
@@ -253,16 +297,16 @@ fn holds(alloc: Global, row: Row) -> Result<bool, AllocError> {
 #[test]
 fn rows(rt: HostRuntime) {
     for row in ROWS {
-        check(&rt, holds(rt.alloc(), row), row.0);
+        check(&rt, holds(rt.alloc(), row), row.1);
     }
 }
 
 // Whether a row holds over devices that move this many bytes a call.
 fn holds_by_steps(alloc: Global, row: Row, step: usize) -> Result<bool, AllocError> {
-    let (input, text, fault, status) = row;
+    let (words, input, text, fault, status) = row;
     let sink = SlowSink::whole(alloc, step);
     let said = SlowSink::whole(alloc, step);
-    let ran = run(alloc, UTF8, Slow::new(input, step, 0), sink, said)?;
+    let ran = run(alloc, words, Slow::new(input, step, 0), sink, said)?;
     Ok(ran.is(status, text, fault.as_bytes()))
 }
 
@@ -277,23 +321,23 @@ fn holds_by_each_step(alloc: Global, row: Row) -> Result<bool, AllocError> {
 #[test]
 fn slow_devices(rt: HostRuntime) {
     for row in ROWS {
-        check(&rt, holds_by_each_step(rt.alloc(), row), row.0);
+        check(&rt, holds_by_each_step(rt.alloc(), row), row.1);
     }
 }
 
 // Whether a source that fails after this many calls ends the run, and isn't asked again.
 fn ends_at_source(alloc: Global, row: Row, calls: usize) -> Result<bool, AllocError> {
-    let (input, text, _, _) = row;
+    let (words, input, text, _, _) = row;
     let fails_at = calls.saturating_add(1);
     let sink = SlowSink::whole(alloc, 1);
     let said = SlowSink::whole(alloc, 9);
-    let ran = run(alloc, UTF8, Slow::new(input, 1, fails_at), sink, said)?;
+    let ran = run(alloc, words, Slow::new(input, 1, fails_at), sink, said)?;
     Ok(ran.is_refused(b"read fault\n", text) & (ran.source.calls == fails_at))
 }
 
 // The same at each call: one take for each byte, and one that answers the end.
 fn ends_at_each_take(alloc: Global, row: Row) -> Result<bool, AllocError> {
-    let (input, ..) = row;
+    let (_, input, ..) = row;
     let mut well = ends_at_source(alloc, row, input.len())?;
     for calls in 0..input.len() {
         well &= ends_at_source(alloc, row, calls)?;
@@ -304,7 +348,7 @@ fn ends_at_each_take(alloc: Global, row: Row) -> Result<bool, AllocError> {
 #[test]
 fn failing_source(rt: HostRuntime) {
     for row in ROWS {
-        check(&rt, ends_at_each_take(rt.alloc(), row), row.0);
+        check(&rt, ends_at_each_take(rt.alloc(), row), row.1);
     }
 }
 
@@ -315,11 +359,11 @@ fn ends_at_sink(
     written: usize,
     takes_none: bool,
 ) -> Result<bool, AllocError> {
-    let (input, text, _, _) = row;
+    let (words, input, text, _, _) = row;
     let fails_at = written.saturating_add(1);
     let sink = SlowSink::new(Vec::new(alloc), 1, fails_at, takes_none);
     let said = SlowSink::whole(alloc, 9);
-    let ran = run(alloc, UTF8, Slow::new(input, 4096, 0), sink, said)?;
+    let ran = run(alloc, words, Slow::new(input, 4096, 0), sink, said)?;
     let mut well = ran.is_refused(b"write fault\n", text);
     well &= ran.sink.bytes.len() == written;
     well &= ran.sink.calls == fails_at;
@@ -328,7 +372,7 @@ fn ends_at_sink(
 
 // The same at each byte of the text, by an error and by taking none.
 fn ends_at_each_put(alloc: Global, row: Row) -> Result<bool, AllocError> {
-    let (_, text, _, _) = row;
+    let (_, _, text, _, _) = row;
     let mut well = true;
     for written in 0..text.len() {
         well &= ends_at_sink(alloc, row, written, false)?;
@@ -340,23 +384,23 @@ fn ends_at_each_put(alloc: Global, row: Row) -> Result<bool, AllocError> {
 #[test]
 fn failing_sink(rt: HostRuntime) {
     for row in ROWS {
-        check(&rt, ends_at_each_put(rt.alloc(), row), row.0);
+        check(&rt, ends_at_each_put(rt.alloc(), row), row.1);
     }
 }
 
 // Whether a fault stream that fails changes neither the text nor the status.
 fn holds_without_fault_stream(alloc: Global, row: Row) -> Result<bool, AllocError> {
-    let (input, text, _, status) = row;
+    let (words, input, text, _, status) = row;
     let sink = SlowSink::whole(alloc, 4096);
     let said = SlowSink::new(Vec::new(alloc), 1, 3, false);
-    let ran = run(alloc, UTF8, Slow::new(input, 4096, 0), sink, said)?;
+    let ran = run(alloc, words, Slow::new(input, 4096, 0), sink, said)?;
     Ok((ran.status == status) & (ran.sink.bytes.as_slice() == text))
 }
 
 #[test]
 fn failing_fault_stream(rt: HostRuntime) {
     for row in ROWS {
-        check(&rt, holds_without_fault_stream(rt.alloc(), row), row.0);
+        check(&rt, holds_without_fault_stream(rt.alloc(), row), row.1);
     }
 }
 
@@ -375,13 +419,15 @@ fn are_wrong(alloc: Global, words: &[&str]) -> Result<bool, AllocError> {
 
 #[test]
 fn wrong_words(rt: HostRuntime) {
-    let all: [&[&str]; 18] = [
+    let all: [&[&str]; 20] = [
         &[],
         &[""],
         &["utf-8"],
         &["UTF8"],
         &["utf8", ""],
-        &["utf8", "--lossy"],
+        &["utf8", "--Lossy"],
+        &["utf8", "--lossy", ""],
+        &["--lossy"],
         &["edit", "a"],
         &["ends"],
         &["ends", "0041"],
