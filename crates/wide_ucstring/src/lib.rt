@@ -2,6 +2,7 @@
 #![tactic(auto)]
 
 mod compare;
+mod display;
 mod extend;
 mod ucstring;
 mod view;

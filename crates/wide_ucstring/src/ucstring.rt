@@ -23,6 +23,8 @@ use wide_utferror::FaultUnit;
 ///
 /// The units before the NUL are its contents. A constructor that answers an error hands back the vector that it was given,
 /// or the copy that it made, where a NUL stands in the way; where memory was refused, only a vector that it was given.
+///
+/// `{:?}` prints what that of [`UCString::as_ucstr`] does: the NUL comes last, as `\0`.
 #[derive(Drop)]
 pub struct UCString<C: FaultUnit, A: Allocator = Global> {
     pub(crate) string: UString<C, A>,

@@ -2,6 +2,7 @@
 #![tactic(auto)]
 
 mod compare;
+mod display;
 pub mod extend;
 mod iter;
 mod room;
