@@ -4,3 +4,6 @@ pub mod Walk
 pub mod IndexedLemmas
 pub mod Indices
 pub mod Counts
+mod Trims
+mod Trimmed
+mod Same

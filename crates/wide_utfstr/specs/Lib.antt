@@ -1,3 +1,4 @@
 pub mod View
+pub mod Trim
 pub mod Indexed
 pub mod Iter

@@ -1,7 +1,9 @@
 //! Views of well-formed text, in units of 16 or 32 bits: UTF-16 and UTF-32.
 #![tactic(auto)]
 
+mod compared;
 mod iter;
+mod trim;
 mod view;
 
 pub use iter::{
