@@ -6,3 +6,6 @@ pub mod Texts
 pub mod Nuls
 pub mod Faults
 pub mod CharBoundaries
+pub mod Printed
+pub mod Kept
+pub mod Debugged

@@ -7,12 +7,14 @@
 
 pub mod laws;
 mod nul;
+mod print;
 mod range;
 mod split;
 mod unit;
 mod utf8;
 
 pub use nul::first_nul;
+pub use print::write_escape;
 pub use range::range_check;
 pub use split::{split_first, split_last};
 pub use unit::Unit;
