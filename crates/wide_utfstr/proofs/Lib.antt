@@ -7,3 +7,4 @@ pub mod Counts
 mod Trims
 mod Trimmed
 mod Same
+mod Escaped

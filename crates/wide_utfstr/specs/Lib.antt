@@ -2,3 +2,5 @@ pub mod View
 pub mod Trim
 pub mod Indexed
 pub mod Iter
+pub mod Hand
+pub mod Escapes

@@ -2,10 +2,12 @@
 #![tactic(auto)]
 
 mod compared;
+mod escapes;
 mod iter;
 mod trim;
 mod view;
 
+pub use escapes::{EscapeDebug, EscapeDefault, EscapeUnicode};
 pub use iter::{
     CharIndices, CharIndicesUtf16, CharIndicesUtf32, Chars, CharsUtf16, CharsUtf32, CodeUnits,
 };
