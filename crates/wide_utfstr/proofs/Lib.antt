@@ -8,3 +8,4 @@ mod Trims
 mod Trimmed
 mod Same
 mod Escaped
+mod Displayed

@@ -2,6 +2,7 @@
 #![tactic(auto)]
 
 mod compared;
+mod display;
 mod escapes;
 mod iter;
 mod trim;

@@ -27,7 +27,10 @@ use wide_utferror::{FaultUnit, UtfError};
 ///
 /// It is a slice by another name, and is copied freely; views are equal where their units are, and ordered as these. No call
 /// takes memory.
-#[derive(Debug, PartialEq, Eq, PartialOrd, Ord, Hash)]
+///
+/// `{}` prints its characters, and `{:?}` prints them between quotes, each as `char::escape_debug` gives it. The options of the
+/// hole change nothing, and an error of the sink is handed on at once.
+#[derive(PartialEq, Eq, PartialOrd, Ord, Hash)]
 pub struct UtfStr<'a, C: Unit> {
     units: &'a [C],
     ghost well_formed: { IsWellFormed C.form (map C.number units.now) },
