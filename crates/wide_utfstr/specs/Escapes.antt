@@ -1,5 +1,5 @@
 -- What the iterators over the escapes of a well-formed view have left.
-use Rattle.std.specs.Prelude.{◌≡◌, ℕ, ◌+◌, ◌*◌, length, true, if◌then◌else◌, List, ◌++◌, Option, Some, None}
+use Rattle.std.specs.Prelude.{◌≡◌, ℕ, ◌+◌, ◌*◌, length, true, if◌then◌else◌, List, [], ◌∷◌, ◌++◌, Option, Some, None}
 use Rattle.std.specs.Char.{is_ascii}
 use Rattle.std.specs.Char.Escape.{escape_unicode, escape_default}
 use Rattle.std.specs.Char.Iter.{escape_rest, escape_left}
@@ -13,6 +13,10 @@ use Rattle.wide_utfstr.specs.declared.escapes.Escapes.{Escapes}
 use Rattle.wide_utfstr.specs.declared.escapes.EscapeUnicode.{EscapeUnicode}
 use Rattle.wide_utfstr.specs.declared.escapes.EscapeDefault.{EscapeDefault}
 use Rattle.wide_utfstr.specs.declared.escapes.EscapeDebug.{EscapeDebug}
+
+-- the bytes between quotes
+abbrev pub in_quotes : List ℕ → List ℕ
+in_quotes bs = 34 ∷ (bs ++ 34 ∷ [])
 
 module _ {C : Type 0} {g : Ghosts C} where
   -- the characters whose escapes were not begun yet
@@ -43,6 +47,9 @@ module _ {C : Type 0} {g : Ghosts C} where
   abbrev pub debug_most : EscapeDebug C g → ℕ
   debug_most s = escapes_most s.escapes
 
-  -- what is printed of it; past ASCII nothing is said
+  -- what is printed of it, as it stands and between quotes; past ASCII nothing is said
   abbrev pub debug_left_output : EscapeDebug C g → Option (List ℕ)
   debug_left_output s = if list_all is_ascii (escapes_rest s.escapes) then Some (utf8 (debug_left s)) else None
+
+  abbrev pub debug_left_quoted : EscapeDebug C g → Option (List ℕ)
+  debug_left_quoted s = if list_all is_ascii (escapes_rest s.escapes) then Some (in_quotes (utf8 (debug_left s))) else None

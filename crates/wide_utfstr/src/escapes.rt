@@ -106,7 +106,7 @@ impl<C: Unit> Clone for Escapes<'_, C> {
 impl<C: Unit> Copy for Escapes<'_, C> {}
 
 impl<'a, C: Unit> Escapes<'a, C> {
-    ghost use Rattle.wide_utfstr.specs.Escapes.{escapes_rest, escapes_left, escapes_most};
+    ghost use Rattle.wide_utfstr.specs.Escapes.{escapes_rest, escapes_left, escapes_most, in_quotes};
 
     fn new(rest: UtfStr<'a, C>) -> Self
         ensures rest { escapes_rest result ≡ text_seen rest.entry }
@@ -147,6 +147,15 @@ impl<'a, C: Unit> Escapes<'a, C> {
             write_escape(f, E::escape(c))?;
         }
         Ok(())
+    }
+
+    // Writes the same between quotes.
+    fn write_quoted<E: Escaping, W: fmt::Write>(&self, f: &mut fmt::Formatter<W>) -> fmt::Result
+        ensures { list_all E.is_told (escapes_rest self.now) ≡ true → WritesOnOk W.write_str_gives f.old result (in_quotes (utf8 (escapes_left E.escaped self.now))) f.new }
+    {
+        f.write_str("\"")?;
+        self.write::<E, W>(f)?;
+        f.write_str("\"")
     }
 }
 
@@ -208,6 +217,17 @@ impl<C: Unit> fmt::Display for EscapeUnicode<'_, C> {
     }
 }
 
+impl<C: Unit> fmt::Debug for EscapeUnicode<'_, C> {
+    ghost use Rattle.wide_utfstr.specs.Escapes.{unicode_left, in_quotes};
+
+    ghost debug_output = { λ s. Some (in_quotes (utf8 (unicode_left s))) };
+
+    /// Prints what is left, between quotes.
+    fn fmt<W: fmt::Write>(&self, f: &mut fmt::Formatter<W>) -> fmt::Result {
+        self.escapes.write_quoted::<AsUnicode, W>(f)
+    }
+}
+
 /// The escapes of a view's characters: of each, what [`char::escape_default`] gives.
 ///
 /// It gives them from the front, stays ended, and takes no memory. Made by [`UtfStr::escape_default`](crate::UtfStr::escape_default).
@@ -266,6 +286,17 @@ impl<C: Unit> fmt::Display for EscapeDefault<'_, C> {
     }
 }
 
+impl<C: Unit> fmt::Debug for EscapeDefault<'_, C> {
+    ghost use Rattle.wide_utfstr.specs.Escapes.{default_left, in_quotes};
+
+    ghost debug_output = { λ s. Some (in_quotes (utf8 (default_left s))) };
+
+    /// Prints what is left, between quotes.
+    fn fmt<W: fmt::Write>(&self, f: &mut fmt::Formatter<W>) -> fmt::Result {
+        self.escapes.write_quoted::<AsDefault, W>(f)
+    }
+}
+
 /// The escapes of a view's characters: of each, what [`char::escape_debug`] gives.
 ///
 /// It gives them from the front, stays ended, and takes no memory. Made by [`UtfStr::escape_debug`](crate::UtfStr::escape_debug).
@@ -321,6 +352,17 @@ impl<C: Unit> fmt::Display for EscapeDebug<'_, C> {
     /// Prints what is left.
     fn fmt<W: fmt::Write>(&self, f: &mut fmt::Formatter<W>) -> fmt::Result {
         self.escapes.write::<AsDebug, W>(f)
+    }
+}
+
+impl<C: Unit> fmt::Debug for EscapeDebug<'_, C> {
+    ghost use Rattle.wide_utfstr.specs.Escapes.{debug_left_quoted};
+
+    ghost debug_output = { debug_left_quoted };
+
+    /// Prints what is left, between quotes.
+    fn fmt<W: fmt::Write>(&self, f: &mut fmt::Formatter<W>) -> fmt::Result {
+        self.escapes.write_quoted::<AsDebug, W>(f)
     }
 }
 
