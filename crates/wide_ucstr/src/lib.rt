@@ -3,6 +3,7 @@
 //! `specs/` says what a C string is; the functions of [`laws`] have its laws as their contracts.
 #![tactic(auto)]
 
+mod display;
 pub mod laws;
 mod view;
 
@@ -10,4 +11,5 @@ pub use view::{U16CStr, U32CStr, UCStr, WideCStr};
 pub use wide_ustr::{
     CharIndices, CharIndicesLossy, CharIndicesLossyUtf16, CharIndicesLossyUtf32, CharIndicesUtf16,
     CharIndicesUtf32, Chars, CharsLossy, CharsLossyUtf16, CharsLossyUtf32, CharsUtf16, CharsUtf32,
+    Display, DisplaySkipping,
 };
