@@ -6,3 +6,5 @@ pub mod Texts
 pub mod Nuls
 pub mod Faults
 pub mod CharBoundaries
+mod Feeds
+mod Ordered

@@ -5,13 +5,17 @@
 //! [`laws`] have the laws of these definitions as their contracts.
 #![tactic(auto)]
 
+mod compare;
 pub mod laws;
+mod line;
 mod nul;
 mod range;
 mod split;
 mod unit;
 mod utf8;
 
+pub use compare::{order_of_units, same_units};
+pub use line::split_line;
 pub use nul::first_nul;
 pub use range::range_check;
 pub use split::{split_first, split_last};
