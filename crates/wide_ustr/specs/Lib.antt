@@ -1,3 +1,4 @@
 pub mod View
 pub mod Indexed
 pub mod Iter
+pub mod Lines

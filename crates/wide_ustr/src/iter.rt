@@ -9,8 +9,8 @@ ghost use Rattle.wide_ustr.specs.Indexed.{indexed_item, taken_length};
 use crate::places::Places;
 use std::alloc::AllocError;
 use std::iter::FusedIterator;
-use wide_utferror::FaultUnit;
 use wide_unit::{split_first, split_last};
+use wide_utferror::FaultUnit;
 
 // The character, or U+FFFD in place of a fault.
 fn lossy_char<C: FaultUnit>(item: Result<char, C>) -> char

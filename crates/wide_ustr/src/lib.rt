@@ -2,6 +2,8 @@
 #![tactic(auto)]
 
 mod iter;
+pub mod laws;
+mod lines;
 mod places;
 mod view;
 
@@ -9,4 +11,5 @@ pub use iter::{
     CharIndices, CharIndicesLossy, CharIndicesLossyUtf16, CharIndicesLossyUtf32, CharIndicesUtf16,
     CharIndicesUtf32, Chars, CharsLossy, CharsLossyUtf16, CharsLossyUtf32, CharsUtf16, CharsUtf32,
 };
+pub use lines::{LineView, Lines};
 pub use view::{U16Str, U32Str, UStr, WideChar, WideStr};

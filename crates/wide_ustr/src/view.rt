@@ -8,13 +8,14 @@ ghost use Rattle.wide_ustr.specs.Indexed.{indexed, indexed_lossy};
 use crate::iter::{CharIndices, CharIndicesLossy, Chars, CharsLossy};
 use std::ops::RangeBounds;
 use std::slice;
-use wide_utferror::FaultUnit;
 use wide_unit::range_check;
+use wide_utferror::FaultUnit;
 
 /// A view of units of 16 or 32 bits, of any values: text that may be well formed or not.
 ///
-/// It is a slice by another name, and is copied freely. No call takes memory.
-#[derive(Clone, Copy)]
+/// It is a slice by another name, and is copied freely. No call takes memory. Views are equal, ordered and hashed as their units
+/// are: the order is that of the units' numbers, as of words in a lexicon, and not that of the characters.
+#[derive(Clone, Copy, PartialEq, Eq, PartialOrd, Ord, Hash)]
 pub struct UStr<'a, C> {
     units: &'a [C],
 }
