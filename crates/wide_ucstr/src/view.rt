@@ -13,15 +13,16 @@ ghost use Rattle.wide_ucstr.specs.CString.{IsCString};
 use std::alloc::AllocError;
 use std::ops::RangeBounds;
 use wide_error::{ContainsNul, MissingNulTerminator, NulError};
-use wide_utferror::FaultUnit;
 use wide_unit::{Unit, first_nul};
 use wide_ustr::{CharIndices, CharIndicesLossy, Chars, CharsLossy, UStr};
+use wide_utferror::FaultUnit;
 
 /// A view of a wide C string: units of which the last is the only NUL, by its type.
 ///
 /// The units before the NUL are its contents. Places and lengths count those, in units. It is a slice by another name, and
-/// is copied freely. No call takes memory.
-#[derive(Debug)]
+/// is copied freely. No call takes memory. C strings are equal, ordered and hashed as their units with the NUL are; since a NUL is
+/// the least unit, the order is that of their contents, by the units' numbers.
+#[derive(Debug, PartialEq, Eq, PartialOrd, Ord, Hash)]
 pub struct UCStr<'a, C: Unit> {
     units: &'a [C],
     ghost c_string: { IsCString (map C.number units.now) } by { Prim.hlevel props },
