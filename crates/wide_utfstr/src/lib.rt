@@ -1,9 +1,15 @@
 //! Views of well-formed text, in units of 16 or 32 bits: UTF-16 and UTF-32.
 #![tactic(auto)]
 
+mod compared_units;
 mod iter;
+mod lines;
 mod view;
 
+pub use compared_units::{
+    UCStrInUtfstr, UCStrInUtfstr as U16CStrInUtfstr, UCStrInUtfstr as U32CStrInUtfstr,
+    UStrInUtfstr, UStrInUtfstr as U16StrInUtfstr, UStrInUtfstr as U32StrInUtfstr,
+};
 pub use iter::{
     CharIndices, CharIndicesUtf16, CharIndicesUtf32, Chars, CharsUtf16, CharsUtf32, CodeUnits,
 };

@@ -17,11 +17,11 @@ use crate::iter::{CharIndices, Chars, CharsUtf16, CharsUtf32, CodeUnits};
 use std::alloc::AllocError;
 use std::ops::RangeBounds;
 use std::slice;
-use wide_utferror::{FaultUnit, UtfError};
 use wide_iter::{EncodeUtf8, EncodeUtf16, EncodeUtf32, encode_utf8, encode_utf16, encode_utf32};
 use wide_ucstr::UCStr;
 use wide_unit::{Unit, range_check, split_first, split_last};
 use wide_ustr::UStr;
+use wide_utferror::{FaultUnit, UtfError};
 
 /// A view of units that are well formed (Unicode Standard, D85), by its type: no call can make one that isn't.
 ///
