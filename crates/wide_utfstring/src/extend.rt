@@ -12,8 +12,8 @@ ghost use Rattle.wide_utfstr.specs.View.{units_seen};
 use crate::UtfString;
 use std::alloc::Allocator;
 use wide_error::OutOfMemory;
-use wide_utferror::FaultUnit;
 use wide_ustring::extend::{Growing, Piece, Whole, extend, from_iter};
+use wide_utferror::FaultUnit;
 use wide_utfstr::UtfStr;
 
 impl<C: FaultUnit, A: Allocator> Growing for UtfString<C, A> {

@@ -22,11 +22,11 @@ use std::marker::Model;
 use std::ops::RangeBounds;
 use std::slice;
 use wide_error::OutOfMemory;
-use wide_utferror::{FaultUnit, UtfError};
 use wide_ucstring::UCString;
 use wide_unit::split_last;
 use wide_ustr::UStr;
 use wide_ustring::UString;
+use wide_utferror::{FaultUnit, UtfError};
 use wide_utfstr::{UtfStr, check};
 
 /// An owned string of well-formed text (Unicode Standard, D85), by its type: no call leaves one that isn't.
