@@ -8,3 +8,6 @@ pub mod Faults
 pub mod CharBoundaries
 mod Feeds
 mod Ordered
+pub mod Printed
+pub mod Kept
+pub mod Debugged

@@ -2,3 +2,4 @@ pub mod View
 pub mod Indexed
 pub mod Iter
 pub mod Lines
+pub mod Printed

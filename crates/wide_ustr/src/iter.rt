@@ -9,11 +9,11 @@ ghost use Rattle.wide_ustr.specs.Indexed.{indexed_item, taken_length};
 use crate::places::Places;
 use std::alloc::AllocError;
 use std::iter::FusedIterator;
-use wide_unit::{split_first, split_last};
+use wide_unit::{Unit, split_first, split_last};
 use wide_utferror::FaultUnit;
 
 // The character, or U+FFFD in place of a fault.
-fn lossy_char<C: FaultUnit>(item: Result<char, C>) -> char
+fn lossy_char<C: Unit>(item: Result<char, C>) -> char
     ensures { result ≡ lossy_of (item_of C.number item) }
 {
     match item {
@@ -34,7 +34,7 @@ fn answer<C: FaultUnit>(item: Result<char, C>) -> Result<char, C::Fault>
 
 // The bounds on the characters of units that are all still to come: at least one for as many units as a character takes at
 // most, and at most one for each.
-fn unit_hint<C: FaultUnit>(units: &[C]) -> (usize, Option<usize>)
+fn unit_hint<C: Unit>(units: &[C]) -> (usize, Option<usize>)
     ensures least { result.0 ≡ length units.now / C.MAX_CHAR_LEN }
     ensures most { result.1 ≡ Some (length units.now) }
 {
@@ -43,7 +43,9 @@ fn unit_hint<C: FaultUnit>(units: &[C]) -> (usize, Option<usize>)
 
 /// The characters of a view, and as errors the units that belong to none. Made by
 /// [`UStr::chars`](crate::UStr::chars).
-#[derive(Clone, Debug, Drop)]
+///
+/// `{:?}` prints what is left, as that of a view of those units does.
+#[derive(Clone, Drop)]
 pub struct Chars<'a, C> {
     pub(crate) rest: &'a [C],
 }
@@ -103,7 +105,9 @@ impl<C: FaultUnit> FusedIterator for Chars<'_, C> {}
 
 /// The characters of a view, with U+FFFD for each unit that belongs to none. Made by
 /// [`UStr::chars_lossy`](crate::UStr::chars_lossy).
-#[derive(Clone, Debug, Drop)]
+///
+/// `{:?}` prints what is left, as that of a view does: between quotes, each character escaped. A fault is the escape of U+FFFD.
+#[derive(Clone, Drop)]
 pub struct CharsLossy<'a, C> {
     pub(crate) rest: &'a [C],
 }
@@ -114,7 +118,7 @@ pub type CharsLossyUtf16<'a> = CharsLossy<'a, u16>;
 /// The lossy characters of a view of 32-bit units.
 pub type CharsLossyUtf32<'a> = CharsLossy<'a, u32>;
 
-impl<C: FaultUnit> Iterator for CharsLossy<'_, C> {
+impl<C: Unit> Iterator for CharsLossy<'_, C> {
     ghost use Rattle.wide_ustr.specs.Iter.{lossy_left, chars_lossy_rest};
 
     type Item = char;
@@ -140,7 +144,7 @@ impl<C: FaultUnit> Iterator for CharsLossy<'_, C> {
     }
 }
 
-impl<C: FaultUnit> DoubleEndedIterator for CharsLossy<'_, C> {
+impl<C: Unit> DoubleEndedIterator for CharsLossy<'_, C> {
     ghost use Rattle.wide_ustr.specs.Iter.{lossy_left};
 
     ghost next_back_gives = { YieldsLast (lossy_left C.form C.number) };
@@ -159,7 +163,7 @@ impl ExactSizeIterator for CharsLossy<'_, u32> {
     }
 }
 
-impl<C: FaultUnit> FusedIterator for CharsLossy<'_, C> {}
+impl<C: Unit> FusedIterator for CharsLossy<'_, C> {}
 
 /// The characters of a view and the units that belong to none, each with the offset, in units, at which it begins. Made by
 /// [`UStr::char_indices`](crate::UStr::char_indices).
@@ -268,7 +272,7 @@ pub type CharIndicesLossyUtf16<'a> = CharIndicesLossy<'a, u16>;
 /// The lossy characters of a view of 32-bit units, with their offsets.
 pub type CharIndicesLossyUtf32<'a> = CharIndicesLossy<'a, u32>;
 
-impl<'a, C: FaultUnit> CharIndicesLossy<'a, C> {
+impl<'a, C: Unit> CharIndicesLossy<'a, C> {
     ghost use Rattle.wide_ustr.specs.Iter.{indices_lossy_rest, lossy_offset_of};
 
     pub(crate) fn new(units: &'a [C]) -> Self
@@ -304,7 +308,7 @@ impl<C: Copy> Clone for CharIndicesLossy<'_, C> {
     }
 }
 
-impl<C: FaultUnit> Iterator for CharIndicesLossy<'_, C> {
+impl<C: Unit> Iterator for CharIndicesLossy<'_, C> {
     ghost use Rattle.wide_ustr.specs.Iter.{indices_lossy_left, indices_lossy_rest, lossy_offset_of, given_length};
 
     type Item = (usize, char);
@@ -329,7 +333,7 @@ impl<C: FaultUnit> Iterator for CharIndicesLossy<'_, C> {
     }
 }
 
-impl<C: FaultUnit> DoubleEndedIterator for CharIndicesLossy<'_, C> {
+impl<C: Unit> DoubleEndedIterator for CharIndicesLossy<'_, C> {
     ghost use Rattle.wide_ustr.specs.Iter.{indices_lossy_left, lossy_offset_of};
 
     ghost next_back_gives = { λ s r t. YieldsLast (indices_lossy_left C.form C.number) s r t × (lossy_offset_of t ≡ lossy_offset_of s) };
@@ -347,4 +351,4 @@ impl ExactSizeIterator for CharIndicesLossy<'_, u32> {
     }
 }
 
-impl<C: FaultUnit> FusedIterator for CharIndicesLossy<'_, C> {}
+impl<C: Unit> FusedIterator for CharIndicesLossy<'_, C> {}

@@ -1,12 +1,14 @@
 //! Views of units of 16 or 32 bits, well formed or not.
 #![tactic(auto)]
 
+mod display;
 mod iter;
 pub mod laws;
 mod lines;
 mod places;
 mod view;
 
+pub use display::{Display, DisplaySkipping};
 pub use iter::{
     CharIndices, CharIndicesLossy, CharIndicesLossyUtf16, CharIndicesLossyUtf32, CharIndicesUtf16,
     CharIndicesUtf32, Chars, CharsLossy, CharsLossyUtf16, CharsLossyUtf32, CharsUtf16, CharsUtf32,

@@ -5,19 +5,24 @@ ghost use Rattle.wide_unit.specs.Items.{items};
 ghost use Rattle.wide_unit.specs.Lossy.{lossy};
 ghost use Rattle.wide_ustr.specs.Indexed.{indexed, indexed_lossy};
 
+use crate::display::{Display, DisplaySkipping};
 use crate::iter::{CharIndices, CharIndicesLossy, Chars, CharsLossy};
 use std::ops::RangeBounds;
 use std::slice;
-use wide_unit::range_check;
+use wide_unit::{Unit, range_check};
 use wide_utferror::FaultUnit;
 
 /// A view of units of 16 or 32 bits, of any values: text that may be well formed or not.
 ///
 /// It is a slice by another name, and is copied freely. No call takes memory. Views are equal, ordered and hashed as their units
 /// are: the order is that of the units' numbers, as of words in a lexicon, and not that of the characters.
+///
+/// `{:?}` prints the units between quotes: each character by its escape, as `char::escape_debug` gives it, and each unit that
+/// belongs to none as `\<H>`, its number in upper-case hexadecimal. The options of the hole change nothing, and an error of the
+/// sink is handed on at once.
 #[derive(Clone, Copy, PartialEq, Eq, PartialOrd, Ord, Hash)]
 pub struct UStr<'a, C> {
-    units: &'a [C],
+    pub(crate) units: &'a [C],
 }
 
 /// A view of 16-bit units.
@@ -32,9 +37,9 @@ pub type WideChar = u32;
 /// A view of wide units.
 pub type WideStr<'a> = U32Str<'a>;
 
-impl<'a, C: FaultUnit> UStr<'a, C> {
+impl<'a, C> UStr<'a, C> {
     ghost use Rattle.wide_ustr.specs.View.{units_seen};
-    ghost use Rattle.wide_ustr.specs.Iter.{items_left, lossy_left, indices_left, indices_lossy_left, offset_of, lossy_offset_of};
+    ghost use Rattle.wide_ustr.specs.Printed.{displayed, displayed_skipping};
 
     /// A view of the units.
     pub fn from_slice(units: &'a [C]) -> Self
@@ -109,12 +114,24 @@ impl<'a, C: FaultUnit> UStr<'a, C> {
         (UStr { units: front }, UStr { units: back })
     }
 
-    /// The characters, and as errors the units that belong to none (Unicode Standard, D84a), from both ends.
-    pub fn chars(self) -> Chars<'a, C>
-        ensures { items_left C.form C.number result ≡ items C.form (map C.number (units_seen self.entry)) }
+    /// What prints the text of the view, with U+FFFD for each unit that belongs to no character.
+    pub fn display(self) -> Display<'a, C>
+        ensures { displayed result ≡ self.entry }
     {
-        Chars { rest: self.units }
+        Display { view: self }
     }
+
+    /// What prints the text of the view without the units that belong to no character, and without any U+FFFD of the text.
+    pub fn display_skipping(self) -> DisplaySkipping<'a, C>
+        ensures { displayed_skipping result ≡ self.entry }
+    {
+        DisplaySkipping { view: self }
+    }
+}
+
+impl<'a, C: Unit> UStr<'a, C> {
+    ghost use Rattle.wide_ustr.specs.View.{units_seen};
+    ghost use Rattle.wide_ustr.specs.Iter.{lossy_left, indices_lossy_left, lossy_offset_of};
 
     /// The characters, with U+FFFD for each unit that belongs to none, from both ends.
     pub fn chars_lossy(self) -> CharsLossy<'a, C>
@@ -123,20 +140,32 @@ impl<'a, C: FaultUnit> UStr<'a, C> {
         CharsLossy { rest: self.units }
     }
 
-    /// As [`UStr::chars`], each with the offset, in units, at which it begins in the view.
-    pub fn char_indices(self) -> CharIndices<'a, C>
-        ensures items { indices_left C.form C.number result ≡ indexed C.form 0 (items C.form (map C.number (units_seen self.entry))) }
-        ensures offset { offset_of result ≡ 0 }
-    {
-        CharIndices::new(self.units)
-    }
-
     /// As [`UStr::chars_lossy`], each with the offset, in units, at which it begins in the view.
     pub fn char_indices_lossy(self) -> CharIndicesLossy<'a, C>
         ensures items { indices_lossy_left C.form C.number result ≡ indexed_lossy C.form 0 (items C.form (map C.number (units_seen self.entry))) }
         ensures offset { lossy_offset_of result ≡ 0 }
     {
         CharIndicesLossy::new(self.units)
+    }
+}
+
+impl<'a, C: FaultUnit> UStr<'a, C> {
+    ghost use Rattle.wide_ustr.specs.View.{units_seen};
+    ghost use Rattle.wide_ustr.specs.Iter.{items_left, indices_left, offset_of};
+
+    /// The characters, and as errors the units that belong to none (Unicode Standard, D84a), from both ends.
+    pub fn chars(self) -> Chars<'a, C>
+        ensures { items_left C.form C.number result ≡ items C.form (map C.number (units_seen self.entry)) }
+    {
+        Chars { rest: self.units }
+    }
+
+    /// As [`UStr::chars`], each with the offset, in units, at which it begins in the view.
+    pub fn char_indices(self) -> CharIndices<'a, C>
+        ensures items { indices_left C.form C.number result ≡ indexed C.form 0 (items C.form (map C.number (units_seen self.entry))) }
+        ensures offset { offset_of result ≡ 0 }
+    {
+        CharIndices::new(self.units)
     }
 }
 

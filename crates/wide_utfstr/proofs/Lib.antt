@@ -4,3 +4,8 @@ pub mod Walk
 pub mod IndexedLemmas
 pub mod Indices
 pub mod Counts
+mod Trims
+mod Trimmed
+mod Same
+mod Escaped
+mod Displayed

@@ -1,3 +1,6 @@
 pub mod View
+pub mod Trim
 pub mod Indexed
 pub mod Iter
+pub mod Hand
+pub mod Escapes

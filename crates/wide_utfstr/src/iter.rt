@@ -24,7 +24,9 @@ fn hint_of<C: Unit>(text: UtfStr<'_, C>) -> (usize, Option<usize>)
 }
 
 /// The characters of a well-formed view. Made by [`UtfStr::chars`](crate::UtfStr::chars).
-#[derive(Debug, Drop)]
+///
+/// `{}` and `{:?}` print the characters that are left, as those of a view.
+#[derive(Drop)]
 pub struct Chars<'a, C: Unit> {
     pub(crate) text: UtfStr<'a, C>,
 }

@@ -25,8 +25,12 @@ use wide_utferror::{FaultUnit, UtfError};
 
 /// A view of units that are well formed (Unicode Standard, D85), by its type: no call can make one that isn't.
 ///
-/// It is a slice by another name, and is copied freely. No call takes memory.
-#[derive(Debug)]
+/// It is a slice by another name, and is copied freely; views are equal where their units are, and ordered as these. No call
+/// takes memory.
+///
+/// `{}` prints its characters, and `{:?}` prints them between quotes, each as `char::escape_debug` gives it. The options of the
+/// hole change nothing, and an error of the sink is handed on at once.
+#[derive(PartialEq, Eq, PartialOrd, Ord, Hash)]
 pub struct UtfStr<'a, C: Unit> {
     units: &'a [C],
     ghost well_formed: { IsWellFormed C.form (map C.number units.now) },
@@ -208,6 +212,7 @@ impl<'a, C: Unit> UtfStr<'a, C> {
         ensures some { IfSome result (λ r. text_seen self.entry ≡ r.0 ∷ text_seen r.1) }
         ensures length { IfSome result (λ r. length (units_seen r.1) + length (code_units C.form r.0) ≡ length (units_seen self.entry)) }
         ensures shorter { IfSome result (λ r. length (units_seen r.1) < length (units_seen self.entry)) }
+        ensures rest { IfSome result (λ r. units_seen r.1 ≡ drop (length (code_units C.form r.0)) (units_seen self.entry)) }
     {
         let (item, rest) = split_first(self.units)?;
         let Ok(c) = item else { unreachable!() };
@@ -219,6 +224,7 @@ impl<'a, C: Unit> UtfStr<'a, C> {
         ensures none { IfNone result (text_seen self.entry ≡ []) }
         ensures some { IfSome result (λ r. text_seen self.entry ≡ text_seen r.0 ++ r.1 ∷ []) }
         ensures shorter { IfSome result (λ r. length (units_seen r.0) < length (units_seen self.entry)) }
+        ensures rest { IfSome result (λ r. units_seen r.0 ≡ take (length (units_seen r.0)) (units_seen self.entry)) }
     {
         let (rest, item) = split_last(self.units)?;
         let Ok(c) = item else { unreachable!() };

@@ -1,8 +1,5 @@
-use Rattle.std.proofs.Common.{[], ap, map, refl, arith, sym, subst, length, ◌≡◌}
-use Rattle.std.specs.List.{All}
+use Rattle.std.proofs.Common.{[], ap, map, refl}
 use Rattle.wide_unit.specs.Items.{chars}
-use Rattle.wide_unit.specs.Places.{IsCharBoundary}
-use Rattle.wide_utfstr.specs.Indexed.{indexed_chars}
 use Rattle.wide_utfstr.proofs.Indices.{boundaries_from, indices_in_order}
 use Rattle.wide_utfstr.proofs.view.UtfStr.char_indices.Goals as goal
 

@@ -1,4 +1,4 @@
-use Rattle.std.proofs.Common.{refl, ◌≡◌, Bool, true, false, map, sym, subst}
+use Rattle.std.proofs.Common.{◌≡◌, Bool, true, false, map, sym, subst}
 use Rattle.wide_unit.specs.Laws.Splices.{IsWellFormed-map_part}
 use Rattle.wide_unit.specs.Items.{IsBoundary}
 use Rattle.wide_utfstr.proofs.view.UtfStr.get.Goals.{else-is_char_boundary-via-then-is_char_boundary+else-is_char_boundary-2, else-is_char_boundary-via-else-is_char_boundary}

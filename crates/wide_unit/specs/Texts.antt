@@ -1,0 +1,53 @@
+-- What is printed of a list of code units.
+use Rattle.std.specs.Prelude.{ℕ, ◌==◌, nat_lt, Bool, true, not, if◌then◌else◌, List, [], ◌∷◌, ◌++◌, map, Option, Some, None, codes}
+use Rattle.std.specs.Char.Escape.{backslash, escape_default}
+use Rattle.std.specs.Fmt.{digits}
+use Rattle.std.specs.List.{filter, flat_map, list_all}
+use Rattle.wide_unit.specs.EncodingForm.{EncodingForm}
+use Rattle.wide_unit.specs.Segmentation.{Item, Char, Fault}
+use Rattle.wide_unit.specs.Items.{items}
+use Rattle.wide_unit.specs.Lossy.{lossy}
+use Rattle.wide_unit.specs.Utf8.{utf8}
+
+-- the UTF-8 of the lossy text
+abbrev pub display_text : EncodingForm → List ℕ → List ℕ
+display_text form us = utf8 (lossy (items form us))
+
+-- the same without any U+FFFD
+abbrev pub is_kept : ℕ → Bool
+is_kept c = not (c == 0xFFFD)
+
+abbrev pub skipping_text : EncodingForm → List ℕ → List ℕ
+skipping_text form us = utf8 (filter is_kept (lossy (items form us)))
+
+-- how `{:?}` writes an ASCII character between quotes: NUL is `\0`
+abbrev pub escape_debug : ℕ → List ℕ
+escape_debug c = if c == 0 then backslash ∷ 48 ∷ [] else escape_default c
+
+-- the character's escape; a fault's number as `\<H>`, in upper-case hexadecimal with no zero in front
+abbrev pub debug_item : Item → List ℕ
+debug_item (Char c) = utf8 (escape_debug c)
+debug_item (Fault u) = codes "\\<" ++ (digits 16 true u ++ codes ">")
+
+-- the items, one after the other, between quotes
+abbrev pub quoted : List Item → List ℕ
+quoted is = 34 ∷ (flat_map debug_item is ++ 34 ∷ [])
+
+abbrev pub debug_text : EncodingForm → List ℕ → List ℕ
+debug_text form us = quoted (items form us)
+
+-- the item is an ASCII character or a fault
+abbrev pub is_plain : Item → Bool
+is_plain (Char c) = nat_lt c 0x80
+is_plain (Fault u) = true
+
+-- What `{:?}` writes of items, of units, and of their lossy characters, where all characters are ASCII. Past ASCII a character
+-- is itself or its code, as std's tables of what prints have it, and nothing is said.
+abbrev pub quoted_output : List Item → Option (List ℕ)
+quoted_output is = if list_all is_plain is then Some (quoted is) else None
+
+abbrev pub debug_output : EncodingForm → List ℕ → Option (List ℕ)
+debug_output form us = quoted_output (items form us)
+
+abbrev pub lossy_debug_output : EncodingForm → List ℕ → Option (List ℕ)
+lossy_debug_output form us = quoted_output (map Char (lossy (items form us)))

@@ -1,0 +1,122 @@
+//! What is printed of a view, and of its characters that are still to come.
+ghost use Rattle.std.specs.Prelude.{map, Some};
+ghost use Rattle.wide_unit.specs.Texts.{display_text, skipping_text, debug_output, lossy_debug_output};
+ghost use Rattle.wide_ustr.specs.View.{units_seen};
+
+use crate::iter::{Chars, CharsLossy};
+use crate::view::UStr;
+use std::fmt;
+use wide_unit::{Unit, split_first, write_escape};
+
+/// Prints the text of a view with U+FFFD for each unit that belongs to no character (Unicode Standard, section 3.9). Made by
+/// [`UStr::display`](crate::UStr::display).
+///
+/// The options of a hole, as its width and fill, change nothing. No call takes memory. An error of the sink is handed on at
+/// once, and nothing more is written.
+#[derive(Clone, Copy)]
+pub struct Display<'a, C> {
+    pub(crate) view: UStr<'a, C>,
+}
+
+impl<C: Unit> fmt::Display for Display<'_, C> {
+    ghost use Rattle.wide_ustr.specs.Printed.{displayed};
+
+    ghost output = { λ d. Some (display_text C.form (map C.number (units_seen (displayed d)))) };
+
+    ghost styled_output = { λ d _. Some (display_text C.form (map C.number (units_seen (displayed d)))) };
+
+    fn fmt<W: fmt::Write>(&self, f: &mut fmt::Formatter<W>) -> fmt::Result {
+        for c in self.view.chars_lossy() {
+            f.write_char(c)?;
+        }
+        Ok(())
+    }
+}
+
+/// Prints the text of a view without the units that belong to no character, and without any U+FFFD of the text. Made by
+/// [`UStr::display_skipping`](crate::UStr::display_skipping).
+///
+/// The options of a hole, as its width and fill, change nothing. No call takes memory. An error of the sink is handed on at
+/// once, and nothing more is written.
+#[derive(Clone, Copy)]
+pub struct DisplaySkipping<'a, C> {
+    pub(crate) view: UStr<'a, C>,
+}
+
+impl<C: Unit> fmt::Display for DisplaySkipping<'_, C> {
+    ghost use Rattle.wide_ustr.specs.Printed.{displayed_skipping};
+
+    ghost output = { λ d. Some (skipping_text C.form (map C.number (units_seen (displayed_skipping d)))) };
+
+    ghost styled_output = { λ d _. Some (skipping_text C.form (map C.number (units_seen (displayed_skipping d)))) };
+
+    fn fmt<W: fmt::Write>(&self, f: &mut fmt::Formatter<W>) -> fmt::Result {
+        for shown in self.view.chars_lossy() {
+            if shown != char::REPLACEMENT_CHARACTER {
+                f.write_char(shown)?;
+            }
+        }
+        Ok(())
+    }
+}
+
+impl<C: Unit> fmt::Debug for UStr<'_, C> {
+    ghost debug_output = { λ view. debug_output C.form (map C.number (units_seen view)) };
+
+    fn fmt<W: fmt::Write>(&self, f: &mut fmt::Formatter<W>) -> fmt::Result {
+        f.write_str("\"")?;
+        let mut rest = self.units;
+        while let Some((item, tail)) = split_first(rest) {
+            match item {
+                Ok(c) => write_escape(f, c.escape_debug())?,
+                Err(unit) => write!(f, "\\<{:X}>", unit.code())?,
+            }
+            rest = tail;
+        }
+        f.write_str("\"")
+    }
+}
+
+impl<C: Unit> fmt::Debug for Display<'_, C> {
+    ghost use Rattle.wide_ustr.specs.Printed.{displayed};
+
+    ghost debug_output = { λ d. debug_output C.form (map C.number (units_seen (displayed d))) };
+
+    fn fmt<W: fmt::Write>(&self, f: &mut fmt::Formatter<W>) -> fmt::Result {
+        fmt::Debug::fmt(&self.view, f)
+    }
+}
+
+impl<C: Unit> fmt::Debug for DisplaySkipping<'_, C> {
+    ghost use Rattle.wide_ustr.specs.Printed.{displayed_skipping};
+
+    ghost debug_output = { λ d. debug_output C.form (map C.number (units_seen (displayed_skipping d))) };
+
+    fn fmt<W: fmt::Write>(&self, f: &mut fmt::Formatter<W>) -> fmt::Result {
+        fmt::Debug::fmt(&self.view, f)
+    }
+}
+
+impl<C: Unit> fmt::Debug for Chars<'_, C> {
+    ghost use Rattle.wide_ustr.specs.Iter.{chars_rest};
+
+    ghost debug_output = { λ s. debug_output C.form (map C.number (chars_rest s)) };
+
+    fn fmt<W: fmt::Write>(&self, f: &mut fmt::Formatter<W>) -> fmt::Result {
+        fmt::Debug::fmt(&UStr::from_slice(self.rest), f)
+    }
+}
+
+impl<C: Unit> fmt::Debug for CharsLossy<'_, C> {
+    ghost use Rattle.wide_ustr.specs.Iter.{chars_lossy_rest};
+
+    ghost debug_output = { λ s. lossy_debug_output C.form (map C.number (chars_lossy_rest s)) };
+
+    fn fmt<W: fmt::Write>(&self, f: &mut fmt::Formatter<W>) -> fmt::Result {
+        f.write_str("\"")?;
+        for c in UStr::from_slice(self.rest).chars_lossy() {
+            write_escape(f, c.escape_debug())?;
+        }
+        f.write_str("\"")
+    }
+}

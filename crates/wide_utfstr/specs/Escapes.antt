@@ -1,0 +1,48 @@
+-- What the iterators over the escapes of a well-formed view have left.
+use Rattle.std.specs.Prelude.{◌≡◌, ℕ, ◌+◌, ◌*◌, length, true, if◌then◌else◌, List, ◌++◌, Option, Some, None}
+use Rattle.std.specs.Char.{is_ascii}
+use Rattle.std.specs.Char.Escape.{escape_unicode, escape_default}
+use Rattle.std.specs.Char.Iter.{escape_rest, escape_left}
+use Rattle.std.specs.List.{flat_map, list_all}
+use Rattle.wide_unit.specs.Texts.{escape_debug}
+use Rattle.wide_unit.specs.Utf8.{utf8}
+use Rattle.wide_unit.specs.declared.unit.Unit.{Ghosts}
+use Rattle.wide_utfstr.specs.Hand.{hand_rest, hand_left}
+use Rattle.wide_utfstr.specs.View.{text_seen}
+use Rattle.wide_utfstr.specs.declared.escapes.Escapes.{Escapes}
+use Rattle.wide_utfstr.specs.declared.escapes.EscapeUnicode.{EscapeUnicode}
+use Rattle.wide_utfstr.specs.declared.escapes.EscapeDefault.{EscapeDefault}
+use Rattle.wide_utfstr.specs.declared.escapes.EscapeDebug.{EscapeDebug}
+
+module _ {C : Type 0} {g : Ghosts C} where
+  -- the characters whose escapes were not begun yet
+  abbrev pub escapes_rest : Escapes C g → List ℕ
+  escapes_rest s = text_seen s.rest
+
+  -- what is left of the escape that was begun, and the escapes of those, where `escaped` is a character's
+  abbrev pub escapes_left : (ℕ → List ℕ) → Escapes C g → List ℕ
+  escapes_left escaped s = hand_rest escape_rest s.current ++ flat_map escaped (escapes_rest s)
+
+  -- no more characters than that are to come: ten for each escape
+  abbrev pub escapes_most : Escapes C g → ℕ
+  escapes_most s = hand_left escape_left s.current + 10 * length (escapes_rest s)
+
+  abbrev pub unicode_left : EscapeUnicode C g → List ℕ
+  unicode_left s = escapes_left escape_unicode s.escapes
+
+  abbrev pub default_left : EscapeDefault C g → List ℕ
+  default_left s = escapes_left escape_default s.escapes
+
+  -- the same of `escape_debug`, where the characters that were not begun yet are ASCII
+  abbrev pub debug_left : EscapeDebug C g → List ℕ
+  debug_left s = escapes_left escape_debug s.escapes
+
+  abbrev pub HasAsciiLeft : EscapeDebug C g → Type 0
+  HasAsciiLeft s = list_all is_ascii (escapes_rest s.escapes) ≡ true
+
+  abbrev pub debug_most : EscapeDebug C g → ℕ
+  debug_most s = escapes_most s.escapes
+
+  -- what is printed of it; past ASCII nothing is said
+  abbrev pub debug_left_output : EscapeDebug C g → Option (List ℕ)
+  debug_left_output s = if list_all is_ascii (escapes_rest s.escapes) then Some (utf8 (debug_left s)) else None

@@ -1,0 +1,48 @@
+-- Characters without the White_Space at their ends (Unicode Character Database, PropList).
+use Rattle.std.specs.Prelude.{◌≡◌, ℕ, true, List, [], ◌∷◌, ◌++◌}
+use Rattle.std.specs.Char.{is_whitespace}
+use Rattle.std.specs.List.{All}
+
+abbrev pub IsWhiteSpace : ℕ → Type 0
+IsWhiteSpace c = is_whitespace c ≡ true
+
+-- the first, or the last, of the characters, where there are any, is no White_Space
+abbrev pub BeginsWithText : List ℕ → Type 0
+BeginsWithText cs = (c : ℕ) (others : List ℕ) → cs ≡ c ∷ others → ¬ (IsWhiteSpace c)
+
+abbrev pub EndsWithText : List ℕ → Type 0
+EndsWithText cs = (c : ℕ) (others : List ℕ) → cs ≡ others ++ c ∷ [] → ¬ (IsWhiteSpace c)
+
+-- the rest of the characters after their longest front of White_Space
+pub record IsTrimmedStart (cs rest : List ℕ) : Type 0 where
+  pub front : List ℕ
+  pub joined : cs ≡ front ++ rest
+  pub white : All IsWhiteSpace front
+  pub longest : BeginsWithText rest
+
+-- the rest before their longest back of White_Space
+pub record IsTrimmedEnd (cs rest : List ℕ) : Type 0 where
+  pub back : List ℕ
+  pub joined : cs ≡ rest ++ back
+  pub white : All IsWhiteSpace back
+  pub longest : EndsWithText rest
+
+-- the rest between the two
+pub record IsTrimmed (cs rest : List ℕ) : Type 0 where
+  pub front : List ℕ
+  pub back : List ℕ
+  pub joined : cs ≡ front ++ (rest ++ back)
+  pub white_front : All IsWhiteSpace front
+  pub white_back : All IsWhiteSpace back
+  pub first : BeginsWithText rest
+  pub last : EndsWithText rest
+
+-- Which units the rest is: those that the units end with, begin with, or have between others.
+abbrev pub IsBackOf : {C : Type 0} → List C → List C → Type 0
+IsBackOf {C} us rest = (front : List C) × (us ≡ front ++ rest)
+
+abbrev pub IsFrontOf : {C : Type 0} → List C → List C → Type 0
+IsFrontOf {C} us rest = (back : List C) × (us ≡ rest ++ back)
+
+abbrev pub IsMiddleOf : {C : Type 0} → List C → List C → Type 0
+IsMiddleOf {C} us rest = (front : List C) × (back : List C) × (us ≡ front ++ (rest ++ back))

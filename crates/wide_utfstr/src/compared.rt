@@ -1,0 +1,69 @@
+//! Well-formed text compared with text of other types, character by character.
+ghost use Rattle.std.specs.Prelude.{◌≡◌, ◌↔◌, IsTrue};
+ghost use Rattle.std.specs.Str.{chars as str_chars};
+ghost use Rattle.wide_utfstr.specs.View.{text_seen};
+
+use crate::view::{Utf16Str, Utf32Str, UtfStr};
+use wide_unit::Unit;
+
+// Whether two texts have the same characters.
+fn same_text<C: Unit, D: Unit>(left: UtfStr<'_, C>, right: UtfStr<'_, D>) -> bool
+    ensures { IsTrue result ↔ (text_seen left.entry ≡ text_seen right.entry) }
+{
+    let mut theirs = right.chars();
+    for c in left.chars() {
+        if theirs.next() != Some(c) {
+            return false;
+        }
+    }
+    theirs.next().is_none()
+}
+
+impl<C: Unit> UtfStr<'_, C> {
+    /// Whether the characters are those of the `str`. Both are read once, as far as they agree and one character more.
+    pub fn eq_str(self, text: &str) -> bool
+        ensures { IsTrue result ↔ (text_seen self.entry ≡ str_chars text.now) }
+    {
+        let mut ours = self.chars();
+        for c in text.chars() {
+            let Some(our) = ours.next() else {
+                return false;
+            };
+            if our != c {
+                return false;
+            }
+        }
+        ours.next().is_none()
+    }
+}
+
+impl UtfStr<'_, u16> {
+    /// Whether the characters are those of the UTF-32 text. Both are read once, as far as they agree and one character more.
+    pub fn eq_utf32(self, other: Utf32Str<'_>) -> bool
+        ensures { IsTrue result ↔ (text_seen self.entry ≡ text_seen other.entry) }
+    {
+        same_text(self, other)
+    }
+}
+
+impl UtfStr<'_, u32> {
+    /// Whether the characters are those of the UTF-16 text. Both are read once, as far as they agree and one character more.
+    pub fn eq_utf16(self, other: Utf16Str<'_>) -> bool
+        ensures { IsTrue result ↔ (text_seen self.entry ≡ text_seen other.entry) }
+    {
+        same_text(self, other)
+    }
+
+    /// Whether the characters are those of the slice. Both are read once, as far as they agree and one character more.
+    pub fn eq_chars(self, chars: &[char]) -> bool
+        ensures { IsTrue result ↔ (text_seen self.entry ≡ chars.now) }
+    {
+        let mut ours = self.chars();
+        for c in chars {
+            if ours.next() != Some(*c) {
+                return false;
+            }
+        }
+        ours.next().is_none()
+    }
+}
