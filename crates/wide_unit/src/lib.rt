@@ -6,6 +6,7 @@
 #![tactic(auto)]
 
 mod compare;
+mod first;
 pub mod laws;
 mod line;
 mod nul;

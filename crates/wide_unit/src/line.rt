@@ -1,25 +1,10 @@
 //! The lines of a slice of units.
-ghost use Rattle.std.specs.Prelude.{◌≡◌, ◌≢◌, ◌-◌, ◌<◌, ◌↔◌, [], length, map, take, drop, slice_index, IsNone, IfNone, IfSome};
-ghost use Rattle.std.specs.List.{All};
+ghost use Rattle.std.specs.Prelude.{◌≡◌, ◌-◌, ◌<◌, ◌↔◌, [], length, map, take, drop, IsNone, IfNone, IfSome};
 ghost use Rattle.wide_unit.specs.Items.{items};
-ghost use Rattle.wide_unit.specs.Lines.{line_feed, lines_of, IsFirstLine};
+ghost use Rattle.wide_unit.specs.Lines.{lines_of, IsFirstLine};
 
+use crate::first::first_of;
 use crate::unit::Unit;
-
-// The place of the first line feed.
-fn first_feed<C: Unit>(units: &[C]) -> Option<usize>
-    ensures none { IfNone result (All (λ u. C.number u ≢ line_feed) units.now) }
-    ensures before { IfSome result (λ place. All (λ u. C.number u ≢ line_feed) (take place units.now)) }
-    ensures within { IfSome result (λ place. place < length units.now) }
-    ensures at { IfSome result (λ place. slice_index (map C.number units.now) place ≡ line_feed) }
-{
-    for place in 0..units.len() {
-        if units[place].code() == 0xA {
-            return Some(place);
-        }
-    }
-    None
-}
 
 /// The first line of the units, and the units after it. A line feed (U+000A) ends the line, and with it one carriage return
 /// (U+000D) right before it; neither belongs to a line. Without a line feed all units are the line, a carriage return at the
@@ -38,7 +23,7 @@ pub fn split_line<C: Unit>(units: &[C]) -> Option<(&[C], &[C])>
     if units.is_empty() {
         return None;
     }
-    let Some(place) = first_feed(units) else {
+    let Some(place) = first_of(units, 0xA) else {
         let (line, rest) = units.split_at(units.len());
         return Some((line, rest));
     };
