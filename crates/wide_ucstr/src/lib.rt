@@ -3,10 +3,12 @@
 //! `specs/` says what a C string is; the functions of [`laws`] have its laws as their contracts.
 #![tactic(auto)]
 
+mod compare;
 mod display;
 pub mod laws;
 mod view;
 
+pub use compare::{UStrInUcstr, UStrInUcstr as U16StrInUcstr, UStrInUcstr as U32StrInUcstr};
 pub use view::{U16CStr, U32CStr, UCStr, WideCStr};
 pub use wide_ustr::{
     CharIndices, CharIndicesLossy, CharIndicesLossyUtf16, CharIndicesLossyUtf32, CharIndicesUtf16,

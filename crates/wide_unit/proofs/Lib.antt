@@ -6,6 +6,8 @@ pub mod Texts
 pub mod Nuls
 pub mod Faults
 pub mod CharBoundaries
+mod Feeds
+mod Ordered
 pub mod Printed
 pub mod Kept
 pub mod Debugged

@@ -1,18 +1,28 @@
--- NULs in the numbers of units that are read one after another.
-use Rattle.std.proofs.Common.{◌≡◌, ℕ, ◌+◌, ◌<◌, List, length, map, get_or, inl, inr, arith, ap, sym, ◌∙◌}
-use Rattle.std.proofs.lemmas.List.{get_or-map, length-map}
-use Rattle.std.proofs.lemmas.Bool.{cases_lt}
-use Rattle.wide_unit.specs.Nul.{NoNulBefore, IsFirstNul}
+-- NULs among units, by the numbers of the units.
+use Rattle.std.proofs.Common.{◌≡◌, ◌≢◌, ℕ, ◌<◌, ◌≤◌, List, length, map, take, get_or, Option, Some, None, arith, sym, ◌∙◌, subst}
+use Rattle.std.specs.Prelude.{IfNone, IfSome, MatchOption}
+use Rattle.std.specs.List.{All, take-map}
+use Rattle.std.proofs.lemmas.List.{get_or-take, length-map, length-take}
+use Rattle.std.proofs.lemmas.List.Elements.{All-map, All-get_or}
+use Rattle.wide_unit.specs.Nul.{NoNulBefore, HasNoNul, IsFirstNul}
 
-module _ {X : Type 0} (number : X → ℕ) (xs : List X) (place : ℕ) (x : X) (within : place < length xs) (is : x ≡ get_or xs place x) where
-  number_at : get_or (map number xs) place 0 ≡ number x
-  number_at = get_or-map number xs place x 0 within ∙ ap number (sym is)
+module _ {X : Type 0} (number : X → ℕ) (xs : List X) where
+  no_nul : All (λ x. number x ≢ 0) xs → HasNoNul (map number xs)
+  no_nul none place lt nul = All-get_or (λ u. u ≢ 0) (map number xs) place 0 lt (All-map (λ u. u ≢ 0) number xs none) nul.1
 
-  pub no_nul_more : NoNulBefore (map number xs) place → ¬ (number x ≡ 0) → NoNulBefore (map number xs) (place + 1)
-  no_nul_more before other earlier lt nul = elim (cases_lt earlier place) [
-    | inl below ↦ before earlier below nul
-    | inr from ↦ let here : earlier ≡ place = omega (arith, lt, from) in other (sym number_at ∙ ap (λ i. get_or (map number xs) i 0) (sym here) ∙ nul.1)
-  ]
+  no_nul_before : (place : ℕ) → All (λ x. number x ≢ 0) (take place xs) → NoNulBefore (map number xs) place
+  no_nul_before place none earlier lt nul =
+      let us = map number xs in
+      let front : All (λ u. u ≢ 0) (take place us) = subst (All (λ u. u ≢ 0)) (sym (take-map number place xs)) (All-map (λ u. u ≢ 0) number (take place xs) none) in
+      let inside : earlier < length (take place us) = omega (arith, lt, nul.0, length-take place us) in
+      All-get_or (λ u. u ≢ 0) (take place us) earlier 0 inside front (get_or-take place us earlier 0 lt ∙ nul.1)
 
-  pub first_nul_here : NoNulBefore (map number xs) place → number x ≡ 0 → IsFirstNul (map number xs) place
-  first_nul_here before zero = record { at = (rw length-map within, number_at ∙ zero); before = before }
+  -- the first unit of the number 0 is the first NUL
+  pub first_nul_of : (place : Option ℕ)
+      → IfNone place (All (λ x. number x ≢ 0) xs)
+      → IfSome place (λ p. All (λ x. number x ≢ 0) (take p xs))
+      → IfSome place (λ p. p < length xs)
+      → IfSome place (λ p. get_or (map number xs) p 0 ≡ 0)
+      → MatchOption place (HasNoNul (map number xs)) (IsFirstNul (map number xs))
+  first_nul_of None none before within at = no_nul none
+  first_nul_of (Some p) none before within at = record { at = (rw length-map within, at); before = no_nul_before p before }

@@ -12,3 +12,4 @@ pub mod Texts
 pub mod Encodings
 pub mod WellFormed
 pub mod Utf8
+pub mod Lines

@@ -6,6 +6,7 @@ pub mod Segmentation
 pub mod Items
 pub mod Places
 pub mod Lossy
+pub mod Lines
 pub mod Texts
 pub mod Unit
 pub mod Range

@@ -2,11 +2,15 @@
 use Rattle.std.specs.Prelude.{◌≡◌, ◌≢◌, ℕ, ◌≤◌, ◌↔◌, List, [], ◌∷◌, ◌++◌, map, length, take, drop, slice_range, Some, None}
 use Rattle.std.specs.Char.{IsScalar, encode_utf8}
 use Rattle.std.specs.List.{All, Contains, splice}
+use Rattle.std.specs.declared.cmp.Ordering.TheVariants.{Equal}
+use Rattle.std.specs.Ordering.{nat_cmp}
+use Rattle.std.specs.Cmp.Lexicographic.{slice_cmp}
 use Rattle.wide_unit.specs.EncodingForm.{EncodingForm, Utf16, Utf32, encode, IsCodeUnit}
 use Rattle.wide_unit.specs.Segmentation.{Item, Char, Fault, IsSegmentation, IsSegmentation16, IsSegmentation32, IsLooseSegmentation}
 use Rattle.wide_unit.specs.Items.{items, chars, IsWellFormed, IsBoundary, first_fault, IsFirstFault}
 use Rattle.wide_unit.specs.Places.{IsPlaceOf, IsCharBoundary, chars_before}
 use Rattle.wide_unit.specs.Lossy.{lossy}
+use Rattle.wide_unit.specs.Lines.{line_feed, without_return, lines_of}
 use Rattle.wide_unit.specs.Utf8.{utf8_bytes, utf8}
 use Rattle.wide_unit.specs.CodePoint.{code_point_at}
 
@@ -131,3 +135,20 @@ CodePointOfText = (c : ℕ) (cs : List ℕ) → IsScalar c → code_point_at (ut
 
 abbrev pub CodePointOfNone : Type 0
 CodePointOfNone = code_point_at (utf8 []) ≡ None
+
+-- lists of numbers compare as equal exactly where they are
+abbrev pub OrderAgreesWithEquality : Type 0
+OrderAgreesWithEquality = (us vs : List ℕ) → (slice_cmp nat_cmp us vs ≡ Equal) ↔ (us ≡ vs)
+
+-- no units have no lines, and units without a line feed are one line
+abbrev pub NoUnitsNoLines : Type 0
+NoUnitsNoLines = (form : EncodingForm) → lines_of (items form []) ≡ []
+
+abbrev pub UnendedIsOneLine : Type 0
+UnendedIsOneLine = (form : EncodingForm) (us : List ℕ) → us ≢ [] → All (λ u. u ≢ line_feed) us → lines_of (items form us) ≡ items form us ∷ []
+
+-- the first line feed among the units ends the first line, which loses a carriage return at its end, and the lines after it are
+-- those of the units behind it
+abbrev pub FeedEndsLine : Type 0
+FeedEndsLine = (form : EncodingForm) (front back : List ℕ) → All (λ u. u ≢ line_feed) front
+    → lines_of (items form (front ++ line_feed ∷ back)) ≡ without_return (items form front) ∷ lines_of (items form back)

@@ -5,7 +5,10 @@
 //! [`laws`] have the laws of these definitions as their contracts.
 #![tactic(auto)]
 
+mod compare;
+mod first;
 pub mod laws;
+mod line;
 mod nul;
 mod print;
 mod range;
@@ -13,6 +16,8 @@ mod split;
 mod unit;
 mod utf8;
 
+pub use compare::{order_of_units, same_units};
+pub use line::split_line;
 pub use nul::first_nul;
 pub use print::write_escape;
 pub use range::range_check;

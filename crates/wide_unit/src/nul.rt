@@ -2,6 +2,7 @@
 ghost use Rattle.std.specs.Prelude.{map, MatchOption};
 ghost use Rattle.wide_unit.specs.Nul.{HasNoNul, IsFirstNul};
 
+use crate::first::first_of;
 use crate::unit::Unit;
 
 /// The place of the first NUL, the unit whose number is 0: how many units stand before it. None where there is no NUL. No
@@ -9,10 +10,5 @@ use crate::unit::Unit;
 pub fn first_nul<C: Unit>(units: &[C]) -> Option<usize>
     ensures { MatchOption result (HasNoNul (map C.number units.now)) (IsFirstNul (map C.number units.now)) }
 {
-    for place in 0..units.len() {
-        if units[place].code() == 0 {
-            return Some(place);
-        }
-    }
-    None
+    first_of(units, 0)
 }

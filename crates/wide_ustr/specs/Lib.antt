@@ -1,4 +1,5 @@
 pub mod View
 pub mod Indexed
 pub mod Iter
+pub mod Lines
 pub mod Printed

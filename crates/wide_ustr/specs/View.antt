@@ -1,7 +1,14 @@
 -- What a view of units shows.
-use Rattle.std.specs.Prelude.{List}
+use Rattle.std.specs.Prelude.{ℕ, List, map}
+use Rattle.wide_unit.specs.EncodingForm.{EncodingForm}
+use Rattle.wide_unit.specs.Segmentation.{Item}
+use Rattle.wide_unit.specs.Items.{items}
 use Rattle.wide_ustr.specs.declared.view.UStr.{UStr}
 
 -- its units
 abbrev pub units_seen : {C : Type 0} → UStr C → List C
 units_seen view = view.units.now
+
+-- the characters of its units, and the units that belong to none
+abbrev pub items_seen : {C : Type 0} → EncodingForm → (C → ℕ) → UStr C → List Item
+items_seen form number view = items form (map number (units_seen view))

@@ -3,6 +3,8 @@
 
 mod display;
 mod iter;
+pub mod laws;
+mod lines;
 mod places;
 mod view;
 
@@ -11,4 +13,5 @@ pub use iter::{
     CharIndices, CharIndicesLossy, CharIndicesLossyUtf16, CharIndicesLossyUtf32, CharIndicesUtf16,
     CharIndicesUtf32, Chars, CharsLossy, CharsLossyUtf16, CharsLossyUtf32, CharsUtf16, CharsUtf32,
 };
+pub use lines::{LineView, Lines};
 pub use view::{U16Str, U32Str, UStr, WideChar, WideStr};

@@ -1,6 +1,8 @@
 -- What a well-formed view shows.
 use Rattle.std.specs.Prelude.{ℕ, List, map}
-use Rattle.wide_unit.specs.Items.{chars}
+use Rattle.wide_unit.specs.EncodingForm.{EncodingForm}
+use Rattle.wide_unit.specs.Segmentation.{Item}
+use Rattle.wide_unit.specs.Items.{items, chars}
 use Rattle.wide_unit.specs.declared.unit.Unit.{Ghosts}
 use Rattle.wide_utfstr.specs.declared.view.UtfStr.{UtfStr}
 
@@ -11,3 +13,7 @@ units_seen view = view.units.now
 -- its characters
 abbrev pub text_seen : {C : Type 0} {g : Ghosts C} → UtfStr C g → List ℕ
 text_seen {g = g} view = chars g.form (map g.number view.units.now)
+
+-- the items of its units, which are its characters alone
+abbrev pub items_seen : {C : Type 0} {g : Ghosts C} → EncodingForm → (C → ℕ) → UtfStr C g → List Item
+items_seen form number view = items form (map number (units_seen view))

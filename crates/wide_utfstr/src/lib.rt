@@ -2,12 +2,18 @@
 #![tactic(auto)]
 
 mod compared;
+mod compared_units;
 mod display;
 mod escapes;
 mod iter;
+mod lines;
 mod trim;
 mod view;
 
+pub use compared_units::{
+    UCStrInUtfstr, UCStrInUtfstr as U16CStrInUtfstr, UCStrInUtfstr as U32CStrInUtfstr,
+    UStrInUtfstr, UStrInUtfstr as U16StrInUtfstr, UStrInUtfstr as U32StrInUtfstr,
+};
 pub use escapes::{EscapeDebug, EscapeDefault, EscapeUnicode};
 pub use iter::{
     CharIndices, CharIndicesUtf16, CharIndicesUtf32, Chars, CharsUtf16, CharsUtf32, CodeUnits,

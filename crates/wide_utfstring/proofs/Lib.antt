@@ -4,3 +4,4 @@ pub mod Removed
 pub mod Units32
 pub mod Drained
 pub mod Drains
+mod Cased

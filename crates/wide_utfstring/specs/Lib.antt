@@ -1,2 +1,3 @@
 pub mod Drain
 pub mod Faults
+pub mod Case

@@ -1,6 +1,7 @@
 //! Owned strings of well-formed text, in units of 16 or 32 bits: UTF-16 and UTF-32.
 #![tactic(auto)]
 
+mod case;
 mod compare;
 mod extend;
 mod iter;

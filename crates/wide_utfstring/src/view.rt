@@ -1,8 +1,12 @@
 //! The calls of a view that make a string.
 ghost use Rattle.std.specs.Prelude.{◌≡◌, [], List, IsOk, IfOk};
-ghost use Rattle.std.specs.List.{repeat};
+ghost use Rattle.std.specs.List.{repeat, flat_map};
+ghost use Rattle.std.specs.Char.Unicode.ToLowercase.{to_lowercase};
+ghost use Rattle.std.specs.Char.Unicode.ToUppercase.{to_uppercase};
+ghost use Rattle.wide_unit.specs.Places.{text_of};
 
 use crate::UtfString;
+use crate::case::{Case, in_case};
 use std::alloc::Allocator;
 use wide_error::OutOfMemory;
 use wide_ustring::UStrInUstring;
@@ -24,6 +28,28 @@ pub trait UtfStrInUtfstring<C: FaultUnit> {
         ensures units { IfOk result (λ s. s.units ≡ repeat count (text self)) }
         ensures succeeds { count ≡ 0 → IsOk result }
         ensures empty { text self ≡ [] → IsOk result };
+
+    /// A string of the text in lower case: each character becomes its full lower-case mapping, up to three characters (Unicode
+    /// Standard, section 3.13, rule R2), as [`char::to_lowercase`] gives it. Neither what stands beside a character nor a language
+    /// counts, so that a capital sigma at the end of a word becomes U+03C3 as within one.
+    ///
+    /// # Errors
+    ///
+    /// Memory was refused. It is asked for first for as many units as the text has, and again only where the text grows beyond.
+    fn to_lowercase<A: Allocator>(self, alloc: A) -> Result<UtfString<C, A>, OutOfMemory>
+        ensures text { IfOk result (λ s. text_of C.form C.number s.units ≡ flat_map to_lowercase (text_of C.form C.number (text self))) }
+        ensures empty { text self ≡ [] → IsOk result };
+
+    /// A string of the text in upper case: each character becomes its full upper-case mapping, up to three characters (Unicode
+    /// Standard, section 3.13, rule R1), as [`char::to_uppercase`] gives it. Neither what stands beside a character nor a language
+    /// counts.
+    ///
+    /// # Errors
+    ///
+    /// Memory was refused. It is asked for first for as many units as the text has, and again only where the text grows beyond.
+    fn to_uppercase<A: Allocator>(self, alloc: A) -> Result<UtfString<C, A>, OutOfMemory>
+        ensures text { IfOk result (λ s. text_of C.form C.number s.units ≡ flat_map to_uppercase (text_of C.form C.number (text self))) }
+        ensures empty { text self ≡ [] → IsOk result };
 }
 
 impl<C: FaultUnit> UtfStrInUtfstring<C> for UtfStr<'_, C> {
@@ -39,5 +65,13 @@ impl<C: FaultUnit> UtfStrInUtfstring<C> for UtfStr<'_, C> {
     fn repeat<A: Allocator>(self, alloc: A, count: usize) -> Result<UtfString<C, A>, OutOfMemory> {
         let string = self.as_ustr().repeat(alloc, count)?;
         Ok(UtfString::from_ustring_unchecked(string))
+    }
+
+    fn to_lowercase<A: Allocator>(self, alloc: A) -> Result<UtfString<C, A>, OutOfMemory> {
+        in_case(self, Case::Lower, alloc)
+    }
+
+    fn to_uppercase<A: Allocator>(self, alloc: A) -> Result<UtfString<C, A>, OutOfMemory> {
+        in_case(self, Case::Upper, alloc)
     }
 }

@@ -1,0 +1,39 @@
+-- Lines of a text that may have faults.
+use Rattle.std.specs.Prelude.{◌≡◌, ℕ, ◌==◌, Bool, false, if◌then◌else◌, List, [], ◌∷◌}
+use Rattle.std.specs.List.{slice_split}
+use Rattle.wide_unit.specs.EncodingForm.{EncodingForm}
+use Rattle.wide_unit.specs.Segmentation.{Item, Char, Fault}
+use Rattle.wide_unit.specs.Items.{items, IsWellFormed}
+
+abbrev pub line_feed : ℕ
+line_feed = 0xA
+
+abbrev pub carriage_return : ℕ
+carriage_return = 0xD
+
+abbrev pub is_line_feed : Item → Bool
+is_line_feed (Char c) = c == line_feed
+is_line_feed (Fault u) = false
+
+-- the piece without one carriage return at its end, where one is there
+abbrev pub without_return : List Item → List Item
+without_return [] = []
+without_return (Char c ∷ []) = if c == carriage_return then [] else Char c ∷ []
+without_return (Fault u ∷ []) = Fault u ∷ []
+without_return (i ∷ j ∷ is) = i ∷ without_return (j ∷ is)
+
+-- the last piece is no line where it is empty, and each other one loses a carriage return at its end
+abbrev pub lines_of_pieces : List (List Item) → List (List Item)
+lines_of_pieces [] = []
+lines_of_pieces ([] ∷ []) = []
+lines_of_pieces ((i ∷ is) ∷ []) = (i ∷ is) ∷ []
+lines_of_pieces (p ∷ q ∷ ps) = without_return p ∷ lines_of_pieces (q ∷ ps)
+
+-- the items are cut at each line feed, which belongs to no piece
+abbrev pub lines_of : List Item → List (List Item)
+lines_of is = lines_of_pieces (slice_split is_line_feed is)
+
+-- the first line of the units, and the units after it; they are well formed where all are
+pub record IsFirstLine (form : EncodingForm) (units line rest : List ℕ) : Type 0 where
+  pub lines : lines_of (items form units) ≡ items form line ∷ lines_of (items form rest)
+  pub well_formed : IsWellFormed form units → IsWellFormed form line × IsWellFormed form rest

@@ -1,0 +1,37 @@
+//! The lines of a slice of units.
+ghost use Rattle.std.specs.Prelude.{◌≡◌, ◌-◌, ◌<◌, ◌↔◌, [], length, map, take, drop, IsNone, IfNone, IfSome};
+ghost use Rattle.wide_unit.specs.Items.{items};
+ghost use Rattle.wide_unit.specs.Lines.{lines_of, IsFirstLine};
+
+use crate::first::first_of;
+use crate::unit::Unit;
+
+/// The first line of the units, and the units after it. A line feed (U+000A) ends the line, and with it one carriage return
+/// (U+000D) right before it; neither belongs to a line. Without a line feed all units are the line, a carriage return at the
+/// end among them. None where there are no units.
+///
+/// Both parts are slices of the units. The units before the line's end are read once, and none behind it. In both forms a line
+/// feed is one unit, and no other character has such a unit, so that a fault ends no line. The call is this port's own.
+pub fn split_line<C: Unit>(units: &[C]) -> Option<(&[C], &[C])>
+    ensures none { IsNone result ↔ (units.now ≡ []) }
+    ensures no_lines { IfNone result (lines_of (items C.form (map C.number units.now)) ≡ []) }
+    ensures first { IfSome result (λ r. IsFirstLine C.form (map C.number units.now) (map C.number r.0.now) (map C.number r.1.now)) }
+    ensures line { IfSome result (λ r. r.0.now ≡ take (length r.0.now) units.now) }
+    ensures rest { IfSome result (λ r. r.1.now ≡ drop (length units.now - length r.1.now) units.now) }
+    ensures shorter { IfSome result (λ r. length r.1.now < length units.now) }
+{
+    if units.is_empty() {
+        return None;
+    }
+    let Some(place) = first_of(units, 0xA) else {
+        let (line, rest) = units.split_at(units.len());
+        return Some((line, rest));
+    };
+    let (_, rest) = units.split_at(place + 1);
+    if let [line @ .., last] = &units[..place] {
+        if last.code() == 0xD {
+            return Some((line, rest));
+        }
+    }
+    Some((&units[..place], rest))
+}

@@ -1,0 +1,33 @@
+//! The lines of well-formed text.
+ghost use Rattle.std.specs.Prelude.{◌≡◌, map};
+ghost use Rattle.wide_unit.specs.Items.{items};
+ghost use Rattle.wide_unit.specs.Lines.{lines_of};
+ghost use Rattle.wide_ustr.specs.Lines.{lines_left};
+ghost use Rattle.wide_utfstr.specs.View.{units_seen, items_seen};
+
+use crate::view::UtfStr;
+use wide_unit::{Unit, split_line};
+use wide_ustr::{LineView, Lines};
+
+impl<C: Unit> LineView for UtfStr<'_, C> {
+    ghost items_seen = { items_seen C.form C.number };
+
+    fn first_line(self) -> Option<(Self, Self)> {
+        let (line, rest) = split_line(self.as_slice())?;
+        Some((
+            UtfStr::from_slice_unchecked(line),
+            UtfStr::from_slice_unchecked(rest),
+        ))
+    }
+}
+
+impl<C: Unit> UtfStr<'_, C> {
+    /// The lines, each a well-formed view of a part of the units, from the front. The text is cut at each line feed (U+000A), which
+    /// belongs to no line; a line that one ended loses one carriage return (U+000D) at its end, and the last piece is no line
+    /// where it is empty.
+    pub fn lines(self) -> Lines<Self>
+        ensures { lines_left (items_seen C.form C.number) result ≡ lines_of (items C.form (map C.number (units_seen self.entry))) }
+    {
+        Lines::new(self)
+    }
+}
