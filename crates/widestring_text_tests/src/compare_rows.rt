@@ -67,7 +67,11 @@ fn compares<C: FaultUnit + Ord + Hash>(
         contents.cmp_ustr(text.as_ustr()).reverse(),
     ];
     let last_is_right = equal[11];
-    Ok(equal[..11].iter().all(|e| *e == same) && last_is_right && orders.iter().all(|o| *o == order))
+    Ok(
+        equal[..11].iter().all(|e| *e == same)
+            && last_is_right
+            && orders.iter().all(|o| *o == order),
+    )
 }
 
 fn all_compare<C: FaultUnit + Ord + Hash>(alloc: Global) -> Result<bool, UCStringError<C>> {

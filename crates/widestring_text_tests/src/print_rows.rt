@@ -80,9 +80,15 @@ fn drained<C: FaultUnit>(alloc: Global) -> Result<[bool; 4], OutOfMemory> {
     let mut string = UtfString::<C>::from_str(alloc, "a\t😀b")?;
     let mut drain = string.drain(..);
     let _first = drain.next();
-    let unread = [prints(alloc, &drain, "\t😀b")?, shows(alloc, &drain, "\"\\t😀b\"")?];
+    let unread = [
+        prints(alloc, &drain, "\t😀b")?,
+        shows(alloc, &drain, "\"\\t😀b\"")?,
+    ];
     let _last = drain.next_back();
-    let read = [prints(alloc, &drain, "\t😀")?, shows(alloc, &drain, "\"\\t😀\"")?];
+    let read = [
+        prints(alloc, &drain, "\t😀")?,
+        shows(alloc, &drain, "\"\\t😀\"")?,
+    ];
     Ok([unread[0], unread[1], read[0], read[1]])
 }
 

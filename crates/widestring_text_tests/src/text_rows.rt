@@ -8,34 +8,54 @@ use widestring::utfstring::{UtfStrInUtfstring, UtfString};
 
 // A text, and what its trims at the start, at the end and at both leave.
 static TRIMS: [[&str; 4]; 8] = [
-    [" Hello\tworld\t", "Hello\tworld\t", " Hello\tworld", "Hello\tworld"],
+    [
+        " Hello\tworld\t",
+        "Hello\tworld\t",
+        " Hello\tworld",
+        "Hello\tworld",
+    ],
     ["      💕Heart ", "💕Heart ", "      💕Heart", "💕Heart"],
     [" Heart💕      ", "Heart💕      ", " Heart💕", "Heart💕"],
     ["\u{a0}x\u{3000}", "x\u{3000}", "\u{a0}x", "x"],
     ["  ", "", "", ""],
     ["", "", "", ""],
     ["x", "x", "x", "x"],
-    ["\u{200b} \u{feff}", "\u{200b} \u{feff}", "\u{200b} \u{feff}", "\u{200b} \u{feff}"],
+    [
+        "\u{200b} \u{feff}",
+        "\u{200b} \u{feff}",
+        "\u{200b} \u{feff}",
+        "\u{200b} \u{feff}",
+    ],
 ];
 
 // The characters of White_Space, and those beside them.
 static WHITE_SPACE: [char; 25] = [
     '\u{9}', '\u{a}', '\u{b}', '\u{c}', '\u{d}', '\u{20}', '\u{85}', '\u{a0}', '\u{1680}',
-    '\u{2000}', '\u{2001}', '\u{2002}', '\u{2003}', '\u{2004}', '\u{2005}', '\u{2006}',
-    '\u{2007}', '\u{2008}', '\u{2009}', '\u{200a}', '\u{2028}', '\u{2029}', '\u{202f}',
-    '\u{205f}', '\u{3000}',
+    '\u{2000}', '\u{2001}', '\u{2002}', '\u{2003}', '\u{2004}', '\u{2005}', '\u{2006}', '\u{2007}',
+    '\u{2008}', '\u{2009}', '\u{200a}', '\u{2028}', '\u{2029}', '\u{202f}', '\u{205f}', '\u{3000}',
 ];
+
 static OTHERS: [char; 22] = [
     '\u{8}', '\u{e}', '\u{1f}', '\u{21}', '\u{84}', '\u{86}', '\u{9f}', '\u{a1}', '\u{167f}',
-    '\u{1681}', '\u{180e}', '\u{1fff}', '\u{200b}', '\u{2027}', '\u{202a}', '\u{202e}',
-    '\u{2030}', '\u{205e}', '\u{2060}', '\u{2fff}', '\u{3001}', '\u{feff}',
+    '\u{1681}', '\u{180e}', '\u{1fff}', '\u{200b}', '\u{2027}', '\u{202a}', '\u{202e}', '\u{2030}',
+    '\u{205e}', '\u{2060}', '\u{2fff}', '\u{3001}', '\u{feff}',
 ];
 
 // A text and its three escapes: as a literal, with letters for the usual controls, and each character by its number.
 static ESCAPES: [[&str; 4]; 4] = [
     ["a\n", "a\\n", "a\\n", "\\u{61}\\u{a}"],
-    ["\0\t\r\"'\\", "\\0\\t\\r\\\"\\'\\\\", "\\u{0}\\t\\r\\\"\\'\\\\", "\\u{0}\\u{9}\\u{d}\\u{22}\\u{27}\\u{5c}"],
-    ["\u{1}~\u{7f}", "\\u{1}~\\u{7f}", "\\u{1}~\\u{7f}", "\\u{1}\\u{7e}\\u{7f}"],
+    [
+        "\0\t\r\"'\\",
+        "\\0\\t\\r\\\"\\'\\\\",
+        "\\u{0}\\t\\r\\\"\\'\\\\",
+        "\\u{0}\\u{9}\\u{d}\\u{22}\\u{27}\\u{5c}",
+    ],
+    [
+        "\u{1}~\u{7f}",
+        "\\u{1}~\\u{7f}",
+        "\\u{1}~\\u{7f}",
+        "\\u{1}\\u{7e}\\u{7f}",
+    ],
     ["", "", "", ""],
 ];
 
@@ -110,8 +130,10 @@ fn all_are_escaped<C: FaultUnit>(alloc: Global) -> Result<bool, OutOfMemory> {
     }
     let string = UtfString::<C>::from_str(alloc, "é\"\t😀")?;
     let view = string.as_utfstr();
-    Ok(gives(view.escape_default(), "\\u{e9}\\\"\\t\\u{1f600}")
-        && gives(view.escape_unicode(), "\\u{e9}\\u{22}\\u{9}\\u{1f600}"))
+    Ok(
+        gives(view.escape_default(), "\\u{e9}\\\"\\t\\u{1f600}")
+            && gives(view.escape_unicode(), "\\u{e9}\\u{22}\\u{9}\\u{1f600}"),
+    )
 }
 
 fn all_have_cases<C: FaultUnit>(alloc: Global) -> Result<bool, OutOfMemory> {
