@@ -11,8 +11,11 @@ use wide_unit::{Unit, split_first, write_escape};
 /// Prints the text of a view with U+FFFD for each unit that belongs to no character (Unicode Standard, section 3.9). Made by
 /// [`UStr::display`](crate::UStr::display).
 ///
-/// The options of a hole, as its width and fill, change nothing. No call takes memory. An error of the sink is handed on at
-/// once, and nothing more is written.
+/// The options of a hole, as its width and fill, change nothing. So `{:#}` prints what `{}` does, where the Rust crate leaves
+/// out each U+FFFD: for that there is [`UStr::display_skipping`](crate::UStr::display_skipping). No call takes memory. An
+/// error of the sink is handed on at once, and nothing more is written.
+///
+/// `{:?}` prints what that of the view does.
 #[derive(Clone, Copy)]
 pub struct Display<'a, C> {
     pub(crate) view: UStr<'a, C>,
@@ -38,6 +41,8 @@ impl<C: Unit> fmt::Display for Display<'_, C> {
 ///
 /// The options of a hole, as its width and fill, change nothing. No call takes memory. An error of the sink is handed on at
 /// once, and nothing more is written.
+///
+/// `{:?}` prints what that of the view does.
 #[derive(Clone, Copy)]
 pub struct DisplaySkipping<'a, C> {
     pub(crate) view: UStr<'a, C>,

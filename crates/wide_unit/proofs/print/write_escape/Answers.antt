@@ -1,4 +1,4 @@
-use Rattle.std.proofs.Common.{◌≡◌, [], ap, encode_utf8, encode_utf8_all, refl, take, drop, rules}
+use Rattle.std.proofs.Common.{◌≡◌, [], ap, encode_utf8, encode_utf8_all, refl, true, take, drop, rules}
 use Rattle.std.specs.Char.Iter.{escape_rest}
 use Rattle.wide_unit.proofs.Printed.{printed-none, printed-more, printed-all}
 use Rattle.wide_unit.proofs.print.write_escape.Goals as goal
@@ -11,7 +11,7 @@ loop-c-preserved g c = (
   search rules,
   λ plain.
       let so_far = c.loop-c.invariant.1 plain in
-      printed-more (encode_utf8 c.in-Some.c) (encode_utf8_all (escape_rest c.next.new.self)) so_far (c.in_ok-write_char.ensures.writes so_far.wrote.plain refl) (ap encode_utf8_all c.in-Some.ensures.steps.1.0),
+      printed-more (encode_utf8 c.in-Some.c) (encode_utf8_all (escape_rest c.next.new.self)) so_far (c.in_ok-write_char.ensures.writes so_far.wrote.plain (refl {a = true})) (ap encode_utf8_all c.in-Some.ensures.steps.1.0),
 )
 
 pub returns : goal.returns
