@@ -162,7 +162,8 @@ impl<'a, C: Unit> Escapes<'a, C> {
 
 /// The escapes of a view's characters: of each, `\u{..}` with its number in hexadecimal, in lower case with no zero in front.
 ///
-/// It gives them from the front, stays ended, and takes no memory. Made by [`UtfStr::escape_unicode`](crate::UtfStr::escape_unicode).
+/// It gives them from the front, stays ended, and takes no memory. Made by
+/// [`UtfStr::escape_unicode`](crate::UtfStr::escape_unicode).
 #[derive(Drop)]
 pub struct EscapeUnicode<'a, C: Unit> {
     escapes: Escapes<'a, C>,
@@ -231,7 +232,8 @@ impl<C: Unit> fmt::Debug for EscapeUnicode<'_, C> {
 
 /// The escapes of a view's characters: of each, what [`char::escape_default`] gives.
 ///
-/// It gives them from the front, stays ended, and takes no memory. Made by [`UtfStr::escape_default`](crate::UtfStr::escape_default).
+/// It gives them from the front, stays ended, and takes no memory. Made by
+/// [`UtfStr::escape_default`](crate::UtfStr::escape_default).
 #[derive(Drop)]
 pub struct EscapeDefault<'a, C: Unit> {
     escapes: Escapes<'a, C>,
@@ -300,7 +302,8 @@ impl<C: Unit> fmt::Debug for EscapeDefault<'_, C> {
 
 /// The escapes of a view's characters: of each, what [`char::escape_debug`] gives.
 ///
-/// It gives them from the front, stays ended, and takes no memory. Made by [`UtfStr::escape_debug`](crate::UtfStr::escape_debug).
+/// It gives them from the front, stays ended, and takes no memory. Made by
+/// [`UtfStr::escape_debug`](crate::UtfStr::escape_debug).
 #[derive(Drop)]
 pub struct EscapeDebug<'a, C: Unit> {
     escapes: Escapes<'a, C>,
