@@ -1,10 +1,10 @@
 -- What is left of characters without the White_Space at an end is one list.
-use Rattle.std.proofs.Common.{◌≡◌, ℕ, List, [], ◌∷◌, ◌++◌, sym, ◌∙◌, ap}
+use Rattle.std.proofs.Common.{◌≡◌, ℕ, List, [], ◌∷◌, ◌++◌, refl, sym, ◌∙◌, ap, subst}
 use Rattle.std.proofs.lemmas.List.{reverse-append, reverse-reverse}
-use Rattle.std.proofs.lemmas.List.Elements.{All-nil, All-head, All-tail, All-push, All-same}
+use Rattle.std.proofs.lemmas.List.Elements.{All-nil, All-head, All-tail, All-push, All-same, All-append}
 use Rattle.std.specs.Prelude.{reverse}
 use Rattle.std.specs.List.{All}
-use Rattle.wide_utfstr.specs.Trim.{IsWhiteSpace, BeginsWithText, EndsWithText, IsTrimmedStart, IsTrimmedEnd}
+use Rattle.wide_utfstr.specs.Trim.{IsWhiteSpace, BeginsWithText, EndsWithText, IsTrimmedStart, IsTrimmedEnd, IsTrimmed}
 
 fronts-same : (front before rest left : List ℕ) → front ++ rest ≡ before ++ left → All IsWhiteSpace front → All IsWhiteSpace before → BeginsWithText rest → BeginsWithText left → rest ≡ left
 fronts-same [] [] rest left e white also begins starts = e
@@ -39,3 +39,34 @@ pub trimmed_end-same : (cs rest left : List ℕ) → IsTrimmedEnd cs rest → Is
 trimmed_end-same cs rest left a b =
     let same = trimmed_start-same (reverse cs) (reverse rest) (reverse left) (trimmed_start-reverse cs rest a) (trimmed_start-reverse cs left b) in
     sym (reverse-reverse rest) ∙ ap reverse same ∙ reverse-reverse left
+
+-- from both ends: where nothing is left all are White_Space, and else the two ends are trimmed one after the other
+white-back : (front back : List ℕ) → All IsWhiteSpace (front ++ back) → All IsWhiteSpace back
+white-back [] back white = white
+white-back (c ∷ front) back white = white-back front back (All-tail IsWhiteSpace c (front ++ back) white)
+
+begins-more : (c : ℕ) (rest back : List ℕ) → BeginsWithText (c ∷ rest) → BeginsWithText (c ∷ rest ++ back)
+begins-more c rest back begins d others e white = begins c rest refl (subst IsWhiteSpace (sym (first e)) white)
+  where
+    first : {xs ys : List ℕ} {x y : ℕ} → x ∷ xs ≡ y ∷ ys → x ≡ y
+    first e = cc
+
+start-of : (cs : List ℕ) (c : ℕ) (rest : List ℕ) (a : IsTrimmed cs (c ∷ rest)) → IsTrimmedStart cs (c ∷ rest ++ a.back)
+start-of cs c rest a = record { front = a.front; joined = a.joined; white = a.white_front; longest = begins-more c rest a.back a.first }
+
+end-of : (cs mid rest : List ℕ) (a : IsTrimmed cs rest) → mid ≡ rest ++ a.back → IsTrimmedEnd mid rest
+end-of cs mid rest a e = record { back = a.back; joined = e; white = a.white_back; longest = a.last }
+
+not-all_white : (cs : List ℕ) (c : ℕ) (rest : List ℕ) → IsTrimmed cs [] → IsTrimmed cs (c ∷ rest) → ⊥
+not-all_white cs c rest none some =
+    let all : All IsWhiteSpace (some.front ++ (c ∷ rest ++ some.back)) = subst (All IsWhiteSpace) (sym none.joined ∙ some.joined) (All-append IsWhiteSpace none.front none.back none.white_front none.white_back) in
+    some.first c rest refl (All-head IsWhiteSpace c (rest ++ some.back) (white-back some.front (c ∷ rest ++ some.back) all))
+
+pub trimmed-same : (cs rest left : List ℕ) → IsTrimmed cs rest → IsTrimmed cs left → rest ≡ left
+trimmed-same cs [] [] a b = refl
+trimmed-same cs [] (c ∷ left) a b = absurd (not-all_white cs c left a b)
+trimmed-same cs (c ∷ rest) [] a b = absurd (not-all_white cs c rest b a)
+trimmed-same cs (c ∷ rest) (d ∷ left) a b =
+    let mid = c ∷ rest ++ a.back in
+    let same : mid ≡ d ∷ left ++ b.back = trimmed_start-same cs mid (d ∷ left ++ b.back) (start-of cs c rest a) (start-of cs d left b) in
+    trimmed_end-same mid (c ∷ rest) (d ∷ left) (end-of cs mid (c ∷ rest) a refl) (end-of cs mid (d ∷ left) b same)

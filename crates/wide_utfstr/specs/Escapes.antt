@@ -1,8 +1,9 @@
 -- What the iterators over the escapes of a well-formed view have left.
-use Rattle.std.specs.Prelude.{◌≡◌, ℕ, ◌+◌, ◌*◌, length, true, if◌then◌else◌, List, [], ◌∷◌, ◌++◌, Option, Some, None}
+use Rattle.std.specs.Prelude.{◌≡◌, ℕ, ◌+◌, ◌*◌, length, true, if◌then◌else◌, List, [], ◌∷◌, ◌++◌, Option, Some, None, IfNone}
 use Rattle.std.specs.Char.{is_ascii}
 use Rattle.std.specs.Char.Escape.{escape_unicode, escape_default}
 use Rattle.std.specs.Char.Iter.{escape_rest, escape_left}
+use Rattle.std.specs.Iterator.{YieldsFirst}
 use Rattle.std.specs.List.{flat_map, list_all}
 use Rattle.wide_unit.specs.Texts.{escape_debug}
 use Rattle.wide_unit.specs.Utf8.{utf8}
@@ -46,6 +47,10 @@ module _ {C : Type 0} {g : Ghosts C} where
 
   abbrev pub debug_most : EscapeDebug C g → ℕ
   debug_most s = escapes_most s.escapes
+
+  -- a call gave the first of what is left, where that is told, and nothing only where nothing is left
+  abbrev pub DebugGives : EscapeDebug C g → Option ℕ → EscapeDebug C g → Type 0
+  DebugGives s r t = (HasAsciiLeft s → YieldsFirst debug_left s r t × HasAsciiLeft t) × IfNone r ((debug_most s ≡ 0) × (debug_most t ≡ 0))
 
   -- what is printed of it, as it stands and between quotes; past ASCII nothing is said
   abbrev pub debug_left_output : EscapeDebug C g → Option (List ℕ)

@@ -1,5 +1,5 @@
 //! The characters of well-formed text, each escaped.
-ghost use Rattle.std.specs.Prelude.{◌≡◌, ◌<◌, ◌≤◌, ℕ, Bool, List, length, true, Some, None, IfSome, encode_utf8_all, ⊤};
+ghost use Rattle.std.specs.Prelude.{◌≡◌, ◌<◌, ◌≤◌, ℕ, Bool, List, length, true, Some, None, IfSome, IfNone, encode_utf8_all, ⊤};
 ghost use Rattle.std.specs.Char.{is_ascii};
 ghost use Rattle.std.specs.Char.Escape.{escape_unicode, escape_default};
 ghost use Rattle.std.specs.Char.Iter.{escape_rest, escape_left, escape_end};
@@ -123,6 +123,7 @@ impl<'a, C: Unit> Escapes<'a, C> {
         ensures first { list_all E.is_told (escapes_rest self.old) ≡ true → YieldsFirst (escapes_left E.escaped) self.old result self.new }
         ensures told { list_all E.is_told (escapes_rest self.old) ≡ true → list_all E.is_told (escapes_rest self.new) ≡ true }
         ensures fewer { IfSome result (λ _. escapes_most self.new < escapes_most self.old) }
+        ensures ended { IfNone result ((escapes_most self.old ≡ 0) × (escapes_most self.new ≡ 0)) }
     {
         if let Some(mut current) = self.current {
             if let Some(c) = current.next() {
@@ -161,7 +162,8 @@ impl<'a, C: Unit> Escapes<'a, C> {
 
 /// The escapes of a view's characters: of each, `\u{..}` with its number in hexadecimal, in lower case with no zero in front.
 ///
-/// It gives them from the front, stays ended, and takes no memory. Made by [`UtfStr::escape_unicode`](crate::UtfStr::escape_unicode).
+/// It gives them from the front, stays ended, and takes no memory. Made by
+/// [`UtfStr::escape_unicode`](crate::UtfStr::escape_unicode).
 #[derive(Drop)]
 pub struct EscapeUnicode<'a, C: Unit> {
     escapes: Escapes<'a, C>,
@@ -230,7 +232,8 @@ impl<C: Unit> fmt::Debug for EscapeUnicode<'_, C> {
 
 /// The escapes of a view's characters: of each, what [`char::escape_default`] gives.
 ///
-/// It gives them from the front, stays ended, and takes no memory. Made by [`UtfStr::escape_default`](crate::UtfStr::escape_default).
+/// It gives them from the front, stays ended, and takes no memory. Made by
+/// [`UtfStr::escape_default`](crate::UtfStr::escape_default).
 #[derive(Drop)]
 pub struct EscapeDefault<'a, C: Unit> {
     escapes: Escapes<'a, C>,
@@ -299,7 +302,8 @@ impl<C: Unit> fmt::Debug for EscapeDefault<'_, C> {
 
 /// The escapes of a view's characters: of each, what [`char::escape_debug`] gives.
 ///
-/// It gives them from the front, stays ended, and takes no memory. Made by [`UtfStr::escape_debug`](crate::UtfStr::escape_debug).
+/// It gives them from the front, stays ended, and takes no memory. Made by
+/// [`UtfStr::escape_debug`](crate::UtfStr::escape_debug).
 #[derive(Drop)]
 pub struct EscapeDebug<'a, C: Unit> {
     escapes: Escapes<'a, C>,
@@ -319,11 +323,11 @@ impl<C: Unit> Clone for EscapeDebug<'_, C> {
 }
 
 impl<C: Unit> Iterator for EscapeDebug<'_, C> {
-    ghost use Rattle.wide_utfstr.specs.Escapes.{debug_left, debug_most, HasAsciiLeft};
+    ghost use Rattle.wide_utfstr.specs.Escapes.{debug_most, DebugGives};
 
     type Item = char;
 
-    ghost next_gives = { λ s r t. HasAsciiLeft s → YieldsFirst debug_left s r t × HasAsciiLeft t };
+    ghost next_gives = { DebugGives };
 
     ghost remaining = { λ s. at_most (debug_most s) };
 
