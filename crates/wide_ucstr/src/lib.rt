@@ -4,6 +4,7 @@
 #![tactic(auto)]
 
 mod compare;
+mod display;
 pub mod laws;
 mod view;
 
@@ -12,4 +13,5 @@ pub use view::{U16CStr, U32CStr, UCStr, WideCStr};
 pub use wide_ustr::{
     CharIndices, CharIndicesLossy, CharIndicesLossyUtf16, CharIndicesLossyUtf32, CharIndicesUtf16,
     CharIndicesUtf32, Chars, CharsLossy, CharsLossyUtf16, CharsLossyUtf32, CharsUtf16, CharsUtf32,
+    Display, DisplaySkipping,
 };

@@ -6,6 +6,7 @@ ghost use Rattle.wide_unit.specs.Lossy.{lossy};
 ghost use Rattle.wide_unit.specs.Nul.{HasNoNul, IsFirstNul};
 ghost use Rattle.wide_ustr.specs.View.{units_seen};
 ghost use Rattle.wide_ustr.specs.Indexed.{indexed, indexed_lossy};
+ghost use Rattle.wide_ustr.specs.Printed.{displayed, displayed_skipping};
 ghost use Rattle.wide_ustr.specs.Iter.{items_left, lossy_left, indices_left, indices_lossy_left, offset_of, lossy_offset_of};
 ghost use Rattle.std.proofs.Props.{props};
 ghost use Rattle.wide_ucstr.specs.CString.{IsCString};
@@ -14,7 +15,7 @@ use std::alloc::AllocError;
 use std::ops::RangeBounds;
 use wide_error::{ContainsNul, MissingNulTerminator, NulError};
 use wide_unit::{Unit, first_nul};
-use wide_ustr::{CharIndices, CharIndicesLossy, Chars, CharsLossy, UStr};
+use wide_ustr::{CharIndices, CharIndicesLossy, Chars, CharsLossy, Display, DisplaySkipping, UStr};
 use wide_utferror::FaultUnit;
 
 /// A view of a wide C string: units of which the last is the only NUL, by its type.
@@ -22,9 +23,11 @@ use wide_utferror::FaultUnit;
 /// The units before the NUL are its contents. Places and lengths count those, in units. It is a slice by another name, and
 /// is copied freely. No call takes memory. C strings are equal, ordered and hashed as their units with the NUL are; since a NUL is
 /// the least unit, the order is that of their contents, by the units' numbers.
-#[derive(Debug, PartialEq, Eq, PartialOrd, Ord, Hash)]
+///
+/// `{:?}` prints what that of [`UCStr::as_ustr_with_nul`] does: the NUL comes last, as `\0`.
+#[derive(PartialEq, Eq, PartialOrd, Ord, Hash)]
 pub struct UCStr<'a, C: Unit> {
-    units: &'a [C],
+    pub(crate) units: &'a [C],
     ghost c_string: { IsCString (map C.number units.now) } by { Prim.hlevel props },
 }
 
@@ -191,6 +194,20 @@ impl<'a, C: FaultUnit> UCStr<'a, C> {
         ensures { lossy_left C.form C.number result ≡ lossy (items C.form (map C.number (contents_seen self.entry))) }
     {
         self.as_ustr().chars_lossy()
+    }
+
+    /// What prints the text of the contents, with U+FFFD for each unit that belongs to no character.
+    pub fn display(self) -> Display<'a, C>
+        ensures { units_seen (displayed result) ≡ contents_seen self.entry }
+    {
+        self.as_ustr().display()
+    }
+
+    /// What prints the text of the contents without the units that belong to no character, and without any U+FFFD of the text.
+    pub fn display_skipping(self) -> DisplaySkipping<'a, C>
+        ensures { units_seen (displayed_skipping result) ≡ contents_seen self.entry }
+    {
+        self.as_ustr().display_skipping()
     }
 
     /// As [`UCStr::chars`], each with the offset, in units, at which it begins in the contents.

@@ -11,10 +11,10 @@ ghost use Rattle.wide_ucstr.specs.View.{contents_seen};
 use crate::UCString;
 use std::alloc::Allocator;
 use wide_error::OutOfMemory;
-use wide_utferror::FaultUnit;
 use wide_ucstr::UCStr;
 use wide_ustring::UString;
 use wide_ustring::extend::{Growing, Piece, extend, from_iter};
+use wide_utferror::FaultUnit;
 
 /// The marker of C strings as items: they give a string their contents, without their NULs.
 pub struct OfCStrings;

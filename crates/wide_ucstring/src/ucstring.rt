@@ -13,16 +13,18 @@ ghost use Rattle.wide_ucstring.specs.Refused.{RefusesInnerNul, RefusesInnerNulOf
 use std::alloc::{Allocator, Global};
 use std::marker::Model;
 use wide_error::{ContainsNul, OutOfMemory, UCStringError};
-use wide_utferror::FaultUnit;
 use wide_ucstr::UCStr;
 use wide_unit::first_nul;
 use wide_ustr::UStr;
 use wide_ustring::UString;
+use wide_utferror::FaultUnit;
 
 /// An owned wide C string: units of which the last is the only NUL, by its type.
 ///
 /// The units before the NUL are its contents. A constructor that answers an error hands back the vector that it was given,
 /// or the copy that it made, where a NUL stands in the way; where memory was refused, only a vector that it was given.
+///
+/// `{:?}` prints what that of [`UCString::as_ucstr`] does: the NUL comes last, as `\0`.
 #[derive(Drop)]
 pub struct UCString<C: FaultUnit, A: Allocator = Global> {
     pub(crate) string: UString<C, A>,

@@ -9,10 +9,10 @@ use crate::UCString;
 use crate::ucstring::{end, with_room};
 use std::alloc::Allocator;
 use wide_error::OutOfMemory;
-use wide_utferror::FaultUnit;
 use wide_ucstr::UCStr;
 use wide_ustr::UStr;
 use wide_ustring::{UStrInUstring, UString};
+use wide_utferror::FaultUnit;
 
 /// What a view of a C string does with owned strings: calls of the view, in a trait since the view's crate knows no owned
 /// string.

@@ -13,8 +13,8 @@ ghost use Rattle.wide_ustring.specs.Units.{Units};
 use crate::UString;
 use std::alloc::Allocator;
 use wide_error::OutOfMemory;
-use wide_utferror::FaultUnit;
 use wide_ustr::UStr;
+use wide_utferror::FaultUnit;
 
 /// A string that can grow at its end. The trait is this port's own; crates above implement it for their strings.
 pub trait Growing {

@@ -1,6 +1,7 @@
 //! Owned strings of units of 16 or 32 bits, well formed or not.
 #![tactic(auto)]
 
+mod display;
 pub mod extend;
 mod iter;
 mod room;

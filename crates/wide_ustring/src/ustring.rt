@@ -23,13 +23,15 @@ use std::marker::Model;
 use std::ops::RangeBounds;
 use std::slice;
 use wide_error::OutOfMemory;
-use wide_utferror::FaultUnit;
 use wide_unit::{Unit, split_first, split_last};
 use wide_ustr::UStr;
+use wide_utferror::FaultUnit;
 
 /// An owned string of units of 16 or 32 bits, of any values: text that may be well formed or not.
 ///
 /// Places and lengths are counted in units. A call that finds no memory answers [`OutOfMemory`] and has changed nothing.
+///
+/// `{:?}` prints what that of [`UString::as_ustr`] does.
 #[derive(Drop)]
 pub struct UString<C, A: Allocator = Global> {
     pub(crate) units: Vec<C, A>,

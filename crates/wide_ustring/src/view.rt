@@ -5,8 +5,8 @@ ghost use Rattle.std.specs.List.{repeat};
 use crate::UString;
 use std::alloc::Allocator;
 use wide_error::OutOfMemory;
-use wide_utferror::FaultUnit;
 use wide_ustr::UStr;
+use wide_utferror::FaultUnit;
 
 /// What a view of units does with owned strings: calls of the view, in a trait since the view's crate knows no owned string.
 pub trait UStrInUstring<C> {
