@@ -2,6 +2,7 @@
 #![tactic(auto)]
 
 mod case;
+mod display;
 mod extend;
 mod iter;
 mod utfstring;
