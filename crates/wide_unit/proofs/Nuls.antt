@@ -1,5 +1,5 @@
 -- NULs among units, by the numbers of the units.
-use Rattle.std.proofs.Common.{◌≡◌, ◌≢◌, ℕ, ◌<◌, ◌≤◌, List, length, map, take, get_or, Option, Some, None, arith, sym, ◌∙◌, subst}
+use Rattle.std.proofs.Common.{◌≡◌, ◌≢◌, ℕ, ◌<◌, List, length, map, take, get_or, Option, Some, None, arith, sym, ◌∙◌, subst}
 use Rattle.std.specs.Prelude.{IfNone, IfSome, MatchOption}
 use Rattle.std.specs.List.{All, take-map}
 use Rattle.std.proofs.lemmas.List.{get_or-take, length-map, length-take}

@@ -14,6 +14,8 @@ use wide_utfstr::UtfStr;
 
 /// The characters of a range, from both ends. When it is dropped the whole range is gone from the string, whatever was read.
 /// Made by [`UtfString::drain`].
+///
+/// `{}` prints the text that is left, and `{:?}` what that of [`DrainUtf::as_utfstr`] does.
 // Once the range is gone the string is shorter than `total`, and its places are no longer known to be boundaries.
 pub struct DrainUtf<'a, C: FaultUnit, A: Allocator = Global> {
     pub(crate) string: &'a mut UtfString<C, A>,

@@ -3,6 +3,7 @@
 
 mod case;
 mod compare;
+mod display;
 mod extend;
 mod iter;
 mod utfstring;

@@ -32,6 +32,8 @@ use wide_utfstr::{UtfStr, check};
 /// An owned string of well-formed text (Unicode Standard, D85), by its type: no call leaves one that isn't.
 ///
 /// Places and lengths are counted in units. A call that finds no memory answers [`OutOfMemory`] and has changed nothing.
+///
+/// `{}` prints the text, and `{:?}` what that of [`UtfString::as_utfstr`] does.
 #[derive(Drop)]
 pub struct UtfString<C: FaultUnit, A: Allocator = Global> {
     pub(crate) string: UString<C, A>,

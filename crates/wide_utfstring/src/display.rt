@@ -1,0 +1,55 @@
+//! What is printed of an owned string, and of a drain.
+ghost use Rattle.std.specs.Prelude.{map, Some};
+ghost use Rattle.wide_unit.specs.Places.{text_of};
+ghost use Rattle.wide_unit.specs.Texts.{debug_output};
+ghost use Rattle.wide_unit.specs.Utf8.{utf8};
+
+use crate::UtfString;
+use crate::iter::DrainUtf;
+use std::alloc::Allocator;
+use std::fmt;
+use wide_utferror::FaultUnit;
+
+impl<C: FaultUnit, A: Allocator> fmt::Display for UtfString<C, A> {
+    ghost output = { λ s. Some (utf8 (text_of C.form C.number s.units)) };
+
+    ghost styled_output = { λ s _. Some (utf8 (text_of C.form C.number s.units)) };
+
+    /// Prints the characters, whatever options the hole has.
+    fn fmt<W: fmt::Write>(&self, f: &mut fmt::Formatter<W>) -> fmt::Result {
+        fmt::Display::fmt(&self.as_utfstr(), f)
+    }
+}
+
+impl<C: FaultUnit, A: Allocator> fmt::Debug for UtfString<C, A> {
+    ghost debug_output = { λ s. debug_output C.form (map C.number s.units) };
+
+    /// Prints a quote, the characters as [`char::escape_debug`] gives them, and a quote.
+    fn fmt<W: fmt::Write>(&self, f: &mut fmt::Formatter<W>) -> fmt::Result {
+        fmt::Debug::fmt(&self.as_utfstr(), f)
+    }
+}
+
+impl<C: FaultUnit, A: Allocator> fmt::Display for DrainUtf<'_, C, A> {
+    ghost use Rattle.wide_utfstring.specs.Drain.{drain_rest};
+
+    ghost output = { λ d. Some (utf8 (drain_rest d)) };
+
+    ghost styled_output = { λ d _. Some (utf8 (drain_rest d)) };
+
+    /// Prints the characters that are left, whatever options the hole has.
+    fn fmt<W: fmt::Write>(&self, f: &mut fmt::Formatter<W>) -> fmt::Result {
+        fmt::Display::fmt(&self.as_utfstr(), f)
+    }
+}
+
+impl<C: FaultUnit, A: Allocator> fmt::Debug for DrainUtf<'_, C, A> {
+    ghost use Rattle.wide_utfstring.specs.Drain.{drain_units};
+
+    ghost debug_output = { λ d. debug_output C.form (map C.number (drain_units d)) };
+
+    /// Prints a quote, the characters that are left as [`char::escape_debug`] gives them, and a quote.
+    fn fmt<W: fmt::Write>(&self, f: &mut fmt::Formatter<W>) -> fmt::Result {
+        fmt::Debug::fmt(&self.as_utfstr(), f)
+    }
+}
