@@ -4,15 +4,13 @@ use std::alloc::Global;
 use std::cmp::Ordering;
 use std::hash::{DefaultHasher, Hash, Hasher};
 use std::test::Fail;
-use widestring::error::{FaultUnit, UCStringError};
-use widestring::ucstr::UStrInUcstr;
+use widestring::error::FaultUnit;
+use widestring::ucstr::{UCStr, UStrInUcstr};
 use widestring::ucstring::UCString;
-use widestring::utfstr::{UCStrInUtfstr, UStrInUtfstr};
+use widestring::ustr::UStr;
+use widestring::utfstr::{UCStrInUtfstr, UStrInUtfstr, UtfStr};
 use widestring::utfstring::UtfString;
-use widestring::{
-    U16CStr, U16CString, U16Str, U16String, U32CStr, U32Str, Utf16Str, Utf16String, Utf32Str,
-    Utf32String,
-};
+use widestring::{U16CStr, U16CString, U16Str, U16String, U32CStr, U32Str, Utf16Str, Utf32Str};
 
 // Two texts, and their order.
 static PAIRS: [(&str, &str, Ordering); 8] = [
@@ -32,103 +30,178 @@ fn hash_of(value: &impl Hash) -> u64 {
     hasher.finish()
 }
 
+// Whether a text is equal to the other's views just where `same` says.
+fn are_equal<C: FaultUnit + PartialEq>(
+    text: UtfStr<'_, C>,
+    other: UtfStr<'_, C>,
+    contents: UCStr<'_, C>,
+    same: bool,
+) -> bool {
+    (text == other) == same
+        && text.eq_ustr(other.as_ustr()) == same
+        && text.eq_ucstr(contents) == same
+        && contents.eq_utfstr(text) == same
+        && text.as_ustr().eq_utfstr(other) == same
+}
+
+fn are_equal_units<C: FaultUnit + PartialEq>(
+    view: UStr<'_, C>,
+    other: UStr<'_, C>,
+    contents: UCStr<'_, C>,
+    same: bool,
+) -> bool {
+    (view == other) == same && view.eq_ucstr(contents) == same && contents.eq_ustr(view) == same
+}
+
+fn are_ordered<C: FaultUnit + Ord>(
+    text: UtfStr<'_, C>,
+    other: UtfStr<'_, C>,
+    contents: UCStr<'_, C>,
+    order: Ordering,
+) -> bool {
+    let view = text.as_ustr();
+    text.cmp(&other) == order
+        && view.cmp(&other.as_ustr()) == order
+        && view.cmp_ucstr(contents) == order
+        && contents.cmp_ustr(view).reverse() == order
+}
+
+fn views_compare<C: FaultUnit + Ord>(
+    text: UtfStr<'_, C>,
+    other: UtfStr<'_, C>,
+    contents: UCStr<'_, C>,
+    order: Ordering,
+) -> bool {
+    let same = order == Ordering::Equal;
+    are_equal(text, other, contents, same)
+        && are_equal_units(text.as_ustr(), other.as_ustr(), contents, same)
+        && are_ordered(text, other, contents, order)
+}
+
+fn strings_compare<C: FaultUnit + Ord + Hash>(
+    text: &UtfString<C>,
+    other: &UtfString<C>,
+    order: Ordering,
+) -> bool {
+    (text == other) == (order == Ordering::Equal)
+        && text.cmp(other) == order
+        && (hash_of(text) == hash_of(other)) == (order == Ordering::Equal)
+        && hash_of(text) == hash_of(&text.as_utfstr())
+}
+
 // Whether views and strings of two texts compare so.
 fn compares<C: FaultUnit + Ord + Hash>(
     alloc: Global,
     left: &str,
     right: &str,
     order: Ordering,
-) -> Result<bool, UCStringError<C>> {
-    let same = order == Ordering::Equal;
-    let ours = UtfString::<C>::from_str(alloc, left)?;
-    let theirs = UtfString::<C>::from_str(alloc, right)?;
-    let c_string = UCString::<C>::from_str(alloc, right)?;
-    let (text, other) = (ours.as_utfstr(), theirs.as_utfstr());
-    let contents = c_string.as_ucstr();
-    let equal = [
-        text == other,
-        ours == theirs,
-        text.eq_ustr(other.as_ustr()),
-        text.eq_ucstr(contents),
-        text.eq_str(right),
-        text.as_ustr() == other.as_ustr(),
-        text.as_ustr().eq_ucstr(contents),
-        text.as_ustr().eq_utfstr(other),
-        contents.eq_ustr(text.as_ustr()),
-        contents.eq_utfstr(text),
-        hash_of(&text) == hash_of(&other),
-        hash_of(&ours) == hash_of(&text.as_ustr()),
-    ];
-    let orders = [
-        text.cmp(&other),
-        ours.cmp(&theirs),
-        text.as_ustr().cmp(&other.as_ustr()),
-        text.as_ustr().cmp_ucstr(contents),
-        contents.cmp_ustr(text.as_ustr()).reverse(),
-    ];
-    let last_is_right = equal[11];
-    Ok(
-        equal[..11].iter().all(|e| *e == same)
-            && last_is_right
-            && orders.iter().all(|o| *o == order),
-    )
+) -> bool {
+    let Ok(text) = UtfString::<C>::from_str(alloc, left) else {
+        return false;
+    };
+    let Ok(other) = UtfString::<C>::from_str(alloc, right) else {
+        return false;
+    };
+    let is_right = strings_compare(&text, &other, order)
+        && text.as_utfstr().eq_str(right) == (order == Ordering::Equal);
+    match UCString::<C>::from_str(alloc, right) {
+        Ok(string) => {
+            is_right
+                && views_compare(
+                    text.as_utfstr(),
+                    other.as_utfstr(),
+                    string.as_ucstr(),
+                    order,
+                )
+        }
+        Err(_) => false,
+    }
 }
 
-fn all_compare<C: FaultUnit + Ord + Hash>(alloc: Global) -> Result<bool, UCStringError<C>> {
+fn all_compare<C: FaultUnit + Ord + Hash>(alloc: Global) -> bool {
     for (left, right, order) in &PAIRS {
-        if !compares::<C>(alloc, left, right, *order)? {
-            return Ok(false);
+        if !compares::<C>(alloc, left, right, *order) {
+            return false;
         }
     }
-    Ok(true)
+    true
+}
+
+// Whether texts of both widths compare so.
+fn widths_compare(text: Utf16Str<'_>, wide: Utf32Str<'_>, chars: &[char], same: bool) -> bool {
+    text.eq_utf32(wide) == same && wide.eq_utf16(text) == same && wide.eq_chars(chars) == same
 }
 
 #[test]
 fn one_type_and_another(rt: HostRuntime) -> Result<(), Fail> {
-    let text = Utf16String::from_str(rt.alloc(), "a😀")?;
-    let wide = Utf32String::from_str(rt.alloc(), "a😀")?;
-    let (text, wide) = (text.as_utfstr(), wide.as_utfstr());
-    let shorter = Utf32Str::from_slice(&[0x61])?;
+    let text = Utf16Str::from_slice(&[0x61, 0xd83d, 0xde00])?;
+    let wide = Utf32Str::from_slice(&[0x61, 0x1_f600])?;
+    let shorter = Utf16Str::from_slice(&[0x61])?;
+    let half = U16Str::from_slice(&[0x61, 0xd83d]);
     let rows = [
-        all_compare::<u16>(rt.alloc())?,
-        all_compare::<u32>(rt.alloc())?,
-        text.eq_utf32(wide),
-        wide.eq_utf16(text),
-        !text.eq_utf32(shorter),
-        !shorter.eq_utf16(text),
-        wide.eq_chars(&['a', '😀']),
-        !wide.eq_chars(&['a']),
-        !shorter.eq_chars(&['a', '😀']),
-        !text.eq_ustr(U16Str::from_slice(&[0x61, 0xd83d])),
-        !U16Str::from_slice(&[0x61, 0xd83d]).eq_utfstr(text),
+        all_compare::<u16>(rt.alloc()),
+        all_compare::<u32>(rt.alloc()),
+        widths_compare(text, wide, &['a', '😀'], true),
+        widths_compare(shorter, wide, &['a'], false),
+        widths_compare(shorter, wide, &['a', '😀', '😀'], false),
+        !text.eq_ustr(half),
+        !half.eq_utfstr(text),
     ];
     all_hold(&rt, &rows);
     Ok(())
 }
 
 #[test]
-fn one_type(rt: HostRuntime) -> Result<(), Fail> {
+fn orders(rt: HostRuntime) -> Result<(), Fail> {
     let private = Utf16Str::from_slice(&[0xe000])?;
     let beyond = Utf16Str::from_slice(&[0xd800, 0xdc00])?;
     let wide_private = Utf32Str::from_slice(&[0xe000])?;
     let wide_beyond = Utf32Str::from_slice(&[0x1_0000])?;
-    let mut roomy = U16String::with_capacity(rt.alloc(), 10)?;
-    roomy.push_char('a')?;
-    let tight = U16String::from_str(rt.alloc(), "a")?;
-    let low = U16CString::from_str(rt.alloc(), "a\u{1}")?;
-    let short = U16CString::from_str(rt.alloc(), "a")?;
     let rows = [
         private > beyond,
         wide_private < wide_beyond,
         U32Str::from_slice(&[0x11_0000]) > U32Str::from_slice(&[0xd800]),
-        roomy == tight && roomy.cmp(&tight) == Ordering::Equal,
-        hash_of(&roomy) == hash_of(&tight),
-        low > short && low != short,
-        hash_of(&low) == hash_of(&low.as_ucstr()),
-        U16CStr::from_slice(&[0x61, 0])? == short.as_ucstr(),
         U32CStr::default() < U32CStr::from_slice(&[1, 0])?,
-        short.as_ucstr().cmp_ustr(U16Str::from_slice(&[0x61, 0])) == Ordering::Less,
+        U16CStr::default().cmp_ustr(U16Str::from_slice(&[0])) == Ordering::Less,
     ];
     all_hold(&rt, &rows);
     Ok(())
+}
+
+// Whether strings of the same units and other room are equal, and hash alike.
+fn room_counts_for_nothing(alloc: Global) -> bool {
+    let Ok(mut roomy) = U16String::with_capacity(alloc, 10) else {
+        return false;
+    };
+    let is_filled = roomy.push_char('a').is_ok();
+    match U16String::from_str(alloc, "a") {
+        Ok(tight) => {
+            is_filled
+                && roomy == tight
+                && roomy.cmp(&tight) == Ordering::Equal
+                && hash_of(&roomy) == hash_of(&tight)
+        }
+        Err(_) => false,
+    }
+}
+
+fn c_strings_compare(alloc: Global) -> bool {
+    let Ok(longer) = U16CString::from_str(alloc, "a\u{1}") else {
+        return false;
+    };
+    match U16CString::from_str(alloc, "a") {
+        Ok(short) => {
+            longer > short && longer != short && hash_of(&longer) == hash_of(&longer.as_ucstr())
+        }
+        Err(_) => false,
+    }
+}
+
+#[test]
+fn strings(rt: HostRuntime) {
+    let rows = [
+        room_counts_for_nothing(rt.alloc()),
+        c_strings_compare(rt.alloc()),
+    ];
+    all_hold(&rt, &rows);
 }

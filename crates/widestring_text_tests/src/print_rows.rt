@@ -2,106 +2,202 @@
 use crate::rows::all_hold;
 use crate::sinks::{prints, shows};
 use std::alloc::Global;
-use std::test::Fail;
-use widestring::error::{FaultUnit, OutOfMemory};
+use widestring::error::FaultUnit;
+use widestring::ucstr::UCStr;
+use widestring::ucstring::UCString;
+use widestring::ustr::UStr;
+use widestring::ustring::UString;
+use widestring::utfstr::UtfStr;
 use widestring::utfstring::UtfString;
-use widestring::{U16CStr, U16CString, U16Str, U16String, U32CStr, U32CString, U32Str, U32String};
 
-#[test]
-fn units(rt: HostRuntime) -> Result<(), Fail> {
-    let faulty = U16Str::from_slice(&[0x41, 0xfffd, 0xd800]);
-    let wide = U32Str::from_slice(&[0x41, 0xfffd, 0xd800, 0x1_f600]);
-    let quoted = U16Str::from_slice(&[0x22, 0xd800, 0xdc0a, 0x5c, 0xdfff]);
-    let too_high = U32Str::from_slice(&[0x11_0000]);
-    let string = U16String::from_vec([0x41, 0xd800].to_vec(rt.alloc())?);
-    let wide_string = U32String::from_vec([0x41, 0xabcdef0].to_vec(rt.alloc())?);
-    let rows = [
-        prints(rt.alloc(), &faulty.display(), "A\u{fffd}\u{fffd}")?,
-        prints(rt.alloc(), &faulty.display_skipping(), "A")?,
-        prints(rt.alloc(), &wide.display(), "A\u{fffd}\u{fffd}😀")?,
-        prints(rt.alloc(), &wide.display_skipping(), "A😀")?,
-        prints(rt.alloc(), &U16Str::default().display(), "")?,
-        shows(rt.alloc(), &quoted, "\"\\\"𐀊\\\\\\<DFFF>\"")?,
-        shows(rt.alloc(), &quoted.display(), "\"\\\"𐀊\\\\\\<DFFF>\"")?,
-        shows(rt.alloc(), &too_high, "\"\\<110000>\"")?,
-        shows(rt.alloc(), &too_high.display_skipping(), "\"\\<110000>\"")?,
-        shows(rt.alloc(), &string, "\"A\\<D800>\"")?,
-        shows(rt.alloc(), &wide_string, "\"A\\<ABCDEF0>\"")?,
-        shows(rt.alloc(), &U16Str::default(), "\"\"")?,
-    ];
-    all_hold(&rt, &rows);
-    Ok(())
+// Units, and what they print: with U+FFFD for each fault, without any U+FFFD, and for debugging.
+type Row<C> = (&'static [C], &'static str, &'static str, &'static str);
+
+static UNITS16: [Row<u16>; 4] = [
+    (&[], "", "", "\"\""),
+    (&[0x41, 0xd83d, 0xde00], "A😀", "A😀", "\"A😀\""),
+    (
+        &[0x41, 0xd800, 0xd800],
+        "A\u{fffd}\u{fffd}",
+        "A",
+        "\"A\\<D800>\\<D800>\"",
+    ),
+    (
+        &[0x22, 0xdc0a, 0x5c],
+        "\"\u{fffd}\\",
+        "\"\\",
+        "\"\\\"\\<DC0A>\\\\\"",
+    ),
+];
+
+static UNITS32: [Row<u32>; 4] = [
+    (&[], "", "", "\"\""),
+    (&[0x41, 0x1_f600], "A😀", "A😀", "\"A😀\""),
+    (&[0x11_0000], "\u{fffd}", "", "\"\\<110000>\""),
+    (
+        &[0x41, 0xd800, 0xabc_def0, 0x9],
+        "A\u{fffd}\u{fffd}\t",
+        "A\t",
+        "\"A\\<D800>\\<ABCDEF0>\\t\"",
+    ),
+];
+
+// U+FFFD of the text itself.
+static REPLACED16: [u16; 3] = [0x41, 0xfffd, 0xd800];
+
+static REPLACED32: [u32; 3] = [0x41, 0xfffd, 0xd800];
+
+// C strings with their NUL, and the same.
+static C_STRINGS16: [Row<u16>; 2] = [
+    (&[0x41, 0xd800, 0], "A\u{fffd}", "A", "\"A\\<D800>\\0\""),
+    (&[0], "", "", "\"\\0\""),
+];
+
+static C_STRINGS32: [Row<u32>; 2] = [
+    (
+        &[0x41, 0x11_0000, 0],
+        "A\u{fffd}",
+        "A",
+        "\"A\\<110000>\\0\"",
+    ),
+    (&[0], "", "", "\"\\0\""),
+];
+
+fn displays<C: FaultUnit>(alloc: Global, view: UStr<'_, C>, lossy: &str, skipping: &str) -> bool {
+    prints(alloc, &view.display(), lossy) && prints(alloc, &view.display_skipping(), skipping)
 }
 
-#[test]
-fn c_strings(rt: HostRuntime) -> Result<(), Fail> {
-    let view = U16CStr::from_slice(&[0x41, 0xd800, 0])?;
-    let wide = U32CStr::from_slice(&[0x41, 0xfffd, 0x11_0000, 0])?;
-    let string = U16CString::from_str(rt.alloc(), "a\"")?;
-    let wide_string = U32CString::new(rt.alloc())?;
-    let rows = [
-        prints(rt.alloc(), &view.display(), "A\u{fffd}")?,
-        prints(rt.alloc(), &view.display_skipping(), "A")?,
-        prints(rt.alloc(), &wide.display(), "A\u{fffd}\u{fffd}")?,
-        prints(rt.alloc(), &wide.display_skipping(), "A")?,
-        shows(rt.alloc(), &view, "\"A\\<D800>\\0\"")?,
-        shows(rt.alloc(), &wide, "\"A\u{fffd}\\<110000>\\0\"")?,
-        shows(rt.alloc(), &string, "\"a\\\"\\0\"")?,
-        shows(rt.alloc(), &wide_string, "\"\\0\"")?,
-    ];
-    all_hold(&rt, &rows);
-    Ok(())
+fn debugs<C: FaultUnit>(alloc: Global, view: UStr<'_, C>, text: &str) -> bool {
+    shows(alloc, &view, text)
+        && shows(alloc, &view.display(), text)
+        && shows(alloc, &view.display_skipping(), text)
+        && shows(alloc, &view.chars(), text)
 }
 
-// What a text, its iterators and a drain of its middle print.
-fn texts<C: FaultUnit>(alloc: Global) -> Result<[bool; 9], OutOfMemory> {
-    let mut string = UtfString::<C>::from_str(alloc, "a\t😀b")?;
-    let view = string.as_utfstr();
-    let mut chars = view.chars();
+fn string_shows<C: FaultUnit>(alloc: Global, units: &[C], text: &str) -> bool {
+    match units.to_vec(alloc) {
+        Ok(units) => shows(alloc, &UString::from_vec(units), text),
+        Err(_) => false,
+    }
+}
+
+fn all_units<C: FaultUnit>(alloc: Global, rows: &[Row<C>]) -> bool {
+    for (units, lossy, skipping, debug) in rows {
+        let view = UStr::from_slice(units);
+        let is_right = displays(alloc, view, lossy, skipping)
+            && debugs(alloc, view, debug)
+            && string_shows(alloc, units, debug);
+        if !is_right {
+            return false;
+        }
+    }
+    true
+}
+
+fn c_string_shows<C: FaultUnit>(alloc: Global, units: &[C], text: &str) -> bool {
+    let Ok(units) = units.to_vec(alloc) else {
+        return false;
+    };
+    match UCString::from_vec(units) {
+        Ok(string) => shows(alloc, &string, text),
+        Err(_) => false,
+    }
+}
+
+fn all_c_strings<C: FaultUnit>(alloc: Global, rows: &[Row<C>]) -> bool {
+    for (units, lossy, skipping, debug) in rows {
+        let Ok(view) = UCStr::from_slice(units) else {
+            return false;
+        };
+        let is_right = prints(alloc, &view.display(), lossy)
+            && prints(alloc, &view.display_skipping(), skipping)
+            && shows(alloc, &view, debug)
+            && c_string_shows(alloc, units, debug);
+        if !is_right {
+            return false;
+        }
+    }
+    true
+}
+
+// What a text, what is left of its characters, and its escapes print.
+fn view_prints<C: FaultUnit>(alloc: Global, text: UtfStr<'_, C>) -> bool {
+    let mut chars = text.chars();
     let _first = chars.next();
     let _last = chars.next_back();
-    let mut escape = view.escape_unicode();
+    prints(alloc, &text, "a\t😀b")
+        && shows(alloc, &text, "\"a\\t😀b\"")
+        && prints(alloc, &chars, "\t😀")
+        && shows(alloc, &chars, "\"\\t😀\"")
+}
+
+fn escapes_print<C: FaultUnit>(alloc: Global, text: UtfStr<'_, C>) -> bool {
+    let mut escape = text.escape_unicode();
     let _backslash = escape.next();
-    let rows = [
-        prints(alloc, &view, "a\t😀b")?,
-        shows(alloc, &view, "\"a\\t😀b\"")?,
-        prints(alloc, &string, "a\t😀b")?,
-        shows(alloc, &string, "\"a\\t😀b\"")?,
-        prints(alloc, &chars, "\t😀")?,
-        shows(alloc, &chars, "\"\\t😀\"")?,
-        prints(alloc, &view.escape_debug(), "a\\t😀b")?,
-        prints(alloc, &view.escape_default(), "a\\t\\u{1f600}b")?,
-        prints(alloc, &escape, "u{61}\\u{9}\\u{1f600}\\u{62}")?,
-    ];
-    Ok(rows)
+    prints(alloc, &text.escape_debug(), "a\\t😀b")
+        && prints(alloc, &text.escape_default(), "a\\t\\u{1f600}b")
+        && prints(alloc, &escape, "u{61}\\u{9}\\u{1f600}\\u{62}")
 }
 
-fn drained<C: FaultUnit>(alloc: Global) -> Result<[bool; 4], OutOfMemory> {
-    let mut string = UtfString::<C>::from_str(alloc, "a\t😀b")?;
+fn text_prints<C: FaultUnit>(alloc: Global) -> bool {
+    match UtfString::<C>::from_str(alloc, "a\t😀b") {
+        Ok(string) => {
+            view_prints(alloc, string.as_utfstr())
+                && escapes_print(alloc, string.as_utfstr())
+                && prints(alloc, &string, "a\t😀b")
+                && shows(alloc, &string, "\"a\\t😀b\"")
+        }
+        Err(_) => false,
+    }
+}
+
+// What a drain has left once it gave its first and its last character, or none.
+fn drain_prints<C: FaultUnit>(alloc: Global, gives: bool, text: &str, debug: &str) -> bool {
+    let Ok(mut string) = UtfString::<C>::from_str(alloc, "a\t😀b") else {
+        return false;
+    };
     let mut drain = string.drain(..);
-    let _first = drain.next();
-    let unread = [
-        prints(alloc, &drain, "\t😀b")?,
-        shows(alloc, &drain, "\"\\t😀b\"")?,
-    ];
-    let _last = drain.next_back();
-    let read = [
-        prints(alloc, &drain, "\t😀")?,
-        shows(alloc, &drain, "\"\\t😀\"")?,
-    ];
-    Ok([unread[0], unread[1], read[0], read[1]])
+    if gives {
+        let _first = drain.next();
+        let _last = drain.next_back();
+    }
+    prints(alloc, &drain, text) && shows(alloc, &drain, debug)
 }
 
 #[test]
-fn texts_of_both_widths(rt: HostRuntime) -> Result<(), Fail> {
-    all_hold(&rt, &texts::<u16>(rt.alloc())?);
-    all_hold(&rt, &texts::<u32>(rt.alloc())?);
-    Ok(())
+fn units(rt: HostRuntime) {
+    let alloc = rt.alloc();
+    let rows = [
+        all_units(alloc, &UNITS16),
+        all_units(alloc, &UNITS32),
+        displays(
+            alloc,
+            UStr::from_slice(&REPLACED16),
+            "A\u{fffd}\u{fffd}",
+            "A",
+        ),
+        displays(
+            alloc,
+            UStr::from_slice(&REPLACED32),
+            "A\u{fffd}\u{fffd}",
+            "A",
+        ),
+        all_c_strings(alloc, &C_STRINGS16),
+        all_c_strings(alloc, &C_STRINGS32),
+    ];
+    all_hold(&rt, &rows);
 }
 
 #[test]
-fn drains_of_both_widths(rt: HostRuntime) -> Result<(), Fail> {
-    all_hold(&rt, &drained::<u16>(rt.alloc())?);
-    all_hold(&rt, &drained::<u32>(rt.alloc())?);
-    Ok(())
+fn texts(rt: HostRuntime) {
+    let alloc = rt.alloc();
+    let rows = [
+        text_prints::<u16>(alloc),
+        text_prints::<u32>(alloc),
+        drain_prints::<u16>(alloc, true, "\t😀", "\"\\t😀\""),
+        drain_prints::<u32>(alloc, true, "\t😀", "\"\\t😀\""),
+        drain_prints::<u16>(alloc, false, "a\t😀b", "\"a\\t😀b\""),
+        drain_prints::<u32>(alloc, false, "a\t😀b", "\"a\\t😀b\""),
+    ];
+    all_hold(&rt, &rows);
 }

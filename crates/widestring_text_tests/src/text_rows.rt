@@ -1,8 +1,9 @@
 //! Trims, escapes and case of texts.
+ghost use Rattle.std.specs.Iterator.{IsFinite};
+
 use crate::rows::all_hold;
 use std::alloc::Global;
-use std::test::Fail;
-use widestring::error::{FaultUnit, OutOfMemory};
+use widestring::error::FaultUnit;
 use widestring::utfstr::UtfStr;
 use widestring::utfstring::{UtfStrInUtfstring, UtfString};
 
@@ -68,44 +69,44 @@ static CASES: [[&str; 3]; 5] = [
     ["ﬃ😀1", "ﬃ😀1", "FFI😀1"],
 ];
 
-fn is_trimmed<C: FaultUnit>(alloc: Global, row: [&str; 4]) -> Result<bool, OutOfMemory> {
-    let [text, start, end, both] = row;
-    let string = UtfString::<C>::from_str(alloc, text)?;
-    let view = string.as_utfstr();
-    let at_start = view.trim_start().eq_str(start);
-    let at_end = view.trim_end().eq_str(end);
-    Ok(at_start && at_end && view.trim().eq_str(both))
+fn view_is_trimmed<C: FaultUnit>(text: UtfStr<'_, C>, start: &str, end: &str, both: &str) -> bool {
+    text.trim_start().eq_str(start) && text.trim_end().eq_str(end) && text.trim().eq_str(both)
 }
 
-fn all_are_trimmed<C: FaultUnit>(alloc: Global) -> Result<bool, OutOfMemory> {
-    for row in TRIMS {
-        if !is_trimmed::<C>(alloc, row)? {
-            return Ok(false);
+fn all_are_trimmed<C: FaultUnit>(alloc: Global) -> bool {
+    for [text, start, end, both] in &TRIMS {
+        let is_right = match UtfString::<C>::from_str(alloc, text) {
+            Ok(string) => view_is_trimmed(string.as_utfstr(), start, end, both),
+            Err(_) => false,
+        };
+        if !is_right {
+            return false;
         }
     }
-    Ok(true)
+    true
 }
 
-// Whether each character is taken from around an `x`, or none is.
-fn all_are_white<C: FaultUnit>(
-    alloc: Global,
-    chars: &[char],
-    white: bool,
-) -> Result<bool, OutOfMemory> {
+// Whether a character is taken from around an `x`.
+fn is_white<C: FaultUnit>(alloc: Global, c: char) -> bool {
+    match UtfString::<C>::from_iter_chars(alloc, [c, 'x', c]) {
+        Ok(string) => string.as_utfstr().trim().eq_str("x"),
+        Err(_) => false,
+    }
+}
+
+fn all_are_white<C: FaultUnit>(alloc: Global, chars: &[char], white: bool) -> bool {
     for c in chars {
-        let mut string = UtfString::<C>::new(alloc);
-        string.push(*c)?;
-        string.push('x')?;
-        string.push(*c)?;
-        if string.as_utfstr().trim().eq_str("x") != white {
-            return Ok(false);
+        if is_white::<C>(alloc, *c) != white {
+            return false;
         }
     }
-    Ok(true)
+    true
 }
 
 // Whether an iterator gives the characters of a text, and then none.
-fn gives(mut chars: impl Iterator<Item = char>, text: &str) -> bool {
+fn gives<I: Iterator<Item = char>>(mut chars: I, text: &str) -> bool
+    requires { I.can_next chars × IsFinite (I.remaining chars) }
+{
     for c in text.chars() {
         if chars.next() != Some(c) {
             return false;
@@ -114,70 +115,95 @@ fn gives(mut chars: impl Iterator<Item = char>, text: &str) -> bool {
     chars.next().is_none() && chars.next().is_none()
 }
 
-fn is_escaped<C: FaultUnit>(view: UtfStr<'_, C>, row: [&str; 4]) -> bool {
-    let [_, debug, default, unicode] = row;
-    gives(view.escape_debug(), debug)
-        && gives(view.escape_default(), default)
-        && gives(view.escape_unicode(), unicode)
+fn is_escaped<C: FaultUnit>(
+    text: UtfStr<'_, C>,
+    debug: &str,
+    default: &str,
+    unicode: &str,
+) -> bool {
+    gives(text.escape_debug(), debug)
+        && gives(text.escape_default(), default)
+        && gives(text.escape_unicode(), unicode)
 }
 
-fn all_are_escaped<C: FaultUnit>(alloc: Global) -> Result<bool, OutOfMemory> {
-    for row in ESCAPES {
-        let string = UtfString::<C>::from_str(alloc, row[0])?;
-        if !is_escaped(string.as_utfstr(), row) {
-            return Ok(false);
+fn all_are_escaped<C: FaultUnit>(alloc: Global) -> bool {
+    for [text, debug, default, unicode] in &ESCAPES {
+        let is_right = match UtfString::<C>::from_str(alloc, text) {
+            Ok(string) => is_escaped(string.as_utfstr(), debug, default, unicode),
+            Err(_) => false,
+        };
+        if !is_right {
+            return false;
         }
     }
-    let string = UtfString::<C>::from_str(alloc, "é\"\t😀")?;
-    let view = string.as_utfstr();
-    Ok(
-        gives(view.escape_default(), "\\u{e9}\\\"\\t\\u{1f600}")
-            && gives(view.escape_unicode(), "\\u{e9}\\u{22}\\u{9}\\u{1f600}"),
-    )
+    true
 }
 
-fn all_have_cases<C: FaultUnit>(alloc: Global) -> Result<bool, OutOfMemory> {
-    for [text, lower, upper] in CASES {
-        let string = UtfString::<C>::from_str(alloc, text)?;
-        let lowered = string.as_utfstr().to_lowercase(alloc)?;
-        let raised = string.as_utfstr().to_uppercase(alloc)?;
-        if !lowered.as_utfstr().eq_str(lower) || !raised.as_utfstr().eq_str(upper) {
-            return Ok(false);
+// Of characters past ASCII.
+fn is_escaped_by_number<C: FaultUnit>(alloc: Global) -> bool {
+    match UtfString::<C>::from_str(alloc, "é\"\t😀") {
+        Ok(string) => {
+            let text = string.as_utfstr();
+            gives(text.escape_default(), "\\u{e9}\\\"\\t\\u{1f600}")
+                && gives(text.escape_unicode(), "\\u{e9}\\u{22}\\u{9}\\u{1f600}")
+        }
+        Err(_) => false,
+    }
+}
+
+fn has_cases<C: FaultUnit>(alloc: Global, text: UtfStr<'_, C>, lower: &str, upper: &str) -> bool {
+    let is_lowered = match text.to_lowercase(alloc) {
+        Ok(string) => string.as_utfstr().eq_str(lower),
+        Err(_) => false,
+    };
+    match text.to_uppercase(alloc) {
+        Ok(string) => is_lowered && string.as_utfstr().eq_str(upper),
+        Err(_) => false,
+    }
+}
+
+fn all_have_cases<C: FaultUnit>(alloc: Global) -> bool {
+    for [text, lower, upper] in &CASES {
+        let is_right = match UtfString::<C>::from_str(alloc, text) {
+            Ok(string) => has_cases(alloc, string.as_utfstr(), lower, upper),
+            Err(_) => false,
+        };
+        if !is_right {
+            return false;
         }
     }
-    Ok(true)
+    true
 }
 
 #[test]
-fn trims(rt: HostRuntime) -> Result<(), Fail> {
+fn trims(rt: HostRuntime) {
     let rows = [
-        all_are_trimmed::<u16>(rt.alloc())?,
-        all_are_trimmed::<u32>(rt.alloc())?,
-        all_are_white::<u16>(rt.alloc(), &WHITE_SPACE, true)?,
-        all_are_white::<u32>(rt.alloc(), &WHITE_SPACE, true)?,
-        all_are_white::<u16>(rt.alloc(), &OTHERS, false)?,
-        all_are_white::<u32>(rt.alloc(), &OTHERS, false)?,
+        all_are_trimmed::<u16>(rt.alloc()),
+        all_are_trimmed::<u32>(rt.alloc()),
+        all_are_white::<u16>(rt.alloc(), &WHITE_SPACE, true),
+        all_are_white::<u32>(rt.alloc(), &WHITE_SPACE, true),
+        all_are_white::<u16>(rt.alloc(), &OTHERS, false),
+        all_are_white::<u32>(rt.alloc(), &OTHERS, false),
     ];
     all_hold(&rt, &rows);
-    Ok(())
 }
 
 #[test]
-fn escapes(rt: HostRuntime) -> Result<(), Fail> {
+fn escapes(rt: HostRuntime) {
     let rows = [
-        all_are_escaped::<u16>(rt.alloc())?,
-        all_are_escaped::<u32>(rt.alloc())?,
+        all_are_escaped::<u16>(rt.alloc()),
+        all_are_escaped::<u32>(rt.alloc()),
+        is_escaped_by_number::<u16>(rt.alloc()),
+        is_escaped_by_number::<u32>(rt.alloc()),
     ];
     all_hold(&rt, &rows);
-    Ok(())
 }
 
 #[test]
-fn cases(rt: HostRuntime) -> Result<(), Fail> {
+fn cases(rt: HostRuntime) {
     let rows = [
-        all_have_cases::<u16>(rt.alloc())?,
-        all_have_cases::<u32>(rt.alloc())?,
+        all_have_cases::<u16>(rt.alloc()),
+        all_have_cases::<u32>(rt.alloc()),
     ];
     all_hold(&rt, &rows);
-    Ok(())
 }

@@ -6,6 +6,8 @@
 //! and a NUL; `p` and `P` what the units, lossily, and the text print; `d`, `e` and `u` the escapes as in debug text, by default
 //! and by number; `w` and `W` the text in lower and in upper case. `c` is the order of the units and other units, `k` that
 //! of the units and the contents of a C string: `<`, `=` or `>`; `x` is whether the text and another are equal, `1` or `0`.
+ghost use Rattle.std.specs.Iterator.{IsFinite};
+
 use crate::families::ucstring::text_of;
 use crate::parse::{self, FromHex, NoAnswer};
 use crate::show::Answer;
@@ -20,7 +22,9 @@ use widestring::utfstr::UtfStr;
 use widestring::utfstring::UtfStrInUtfstring;
 use widestring::{Utf16Str, Utf16String, Utf32Str, Utf32String};
 
-fn characters(alloc: Global, chars: impl Iterator<Item = char>) -> Result<String, NoAnswer> {
+fn characters<I: Iterator<Item = char>>(alloc: Global, chars: I) -> Result<String, NoAnswer>
+    requires { I.can_next chars × IsFinite (I.remaining chars) }
+{
     let mut answer = Answer::new(alloc);
     for c in chars {
         answer.character(Some(c));
@@ -123,11 +127,7 @@ fn of_units<C: FaultUnit + FromHex + Ord>(
 }
 
 // What is asked of a text.
-fn of_text<C: FaultUnit>(
-    alloc: Global,
-    kind: u8,
-    text: UtfStr<'_, C>,
-) -> Result<String, NoAnswer> {
+fn of_text<C: FaultUnit>(alloc: Global, kind: u8, text: UtfStr<'_, C>) -> Result<String, NoAnswer> {
     match kind {
         b'L' => lines_of_text(alloc, text),
         b't' => units(alloc, text.trim().as_slice()),
