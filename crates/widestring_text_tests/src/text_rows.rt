@@ -88,10 +88,9 @@ fn all_are_trimmed<C: FaultUnit>(alloc: Global) -> bool {
 
 // Whether a character is taken from around an `x`.
 fn is_white<C: FaultUnit>(alloc: Global, c: char) -> bool {
-    match UtfString::<C>::from_iter_chars(alloc, [c, 'x', c]) {
-        Ok(string) => string.as_utfstr().trim().eq_str("x"),
-        Err(_) => false,
-    }
+    let mut string = UtfString::<C>::new(alloc);
+    let is_made = string.push(c).is_ok() && string.push('x').is_ok() && string.push(c).is_ok();
+    is_made && string.as_utfstr().trim().eq_str("x")
 }
 
 fn all_are_white<C: FaultUnit>(alloc: Global, chars: &[char], white: bool) -> bool {
@@ -103,16 +102,17 @@ fn all_are_white<C: FaultUnit>(alloc: Global, chars: &[char], white: bool) -> bo
     true
 }
 
-// Whether an iterator gives the characters of a text, and then none.
-fn gives<I: Iterator<Item = char>>(mut chars: I, text: &str) -> bool
+// Whether an iterator gives the characters of a text.
+fn gives<I: Iterator<Item = char>>(chars: I, text: &str) -> bool
     requires { I.can_next chars × IsFinite (I.remaining chars) }
 {
-    for c in text.chars() {
-        if chars.next() != Some(c) {
+    let mut expected = text.chars();
+    for c in chars {
+        if expected.next() != Some(c) {
             return false;
         }
     }
-    chars.next().is_none() && chars.next().is_none()
+    expected.next().is_none()
 }
 
 fn is_escaped<C: FaultUnit>(
