@@ -19,3 +19,4 @@ pub use iter::{
     CharIndices, CharIndicesUtf16, CharIndicesUtf32, Chars, CharsUtf16, CharsUtf32, CodeUnits,
 };
 pub use view::{Utf16Str, Utf32Str, UtfStr, WideUtfStr, check};
+pub use wide_ustr::Lines;

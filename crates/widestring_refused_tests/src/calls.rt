@@ -16,6 +16,9 @@ pub enum StringCall {
     FromStr,
     FromView,
     Repeat(usize),
+    // Of text alone.
+    Lowercase,
+    Uppercase,
     // One of `a` and U+1F600, or of the other units twice where they are a C string and the string is one of any units.
     FromItems,
     // Those that edit.
@@ -76,7 +79,9 @@ impl StringCall {
             | StringCall::WithCapacity(_)
             | StringCall::FromStr
             | StringCall::FromView
-            | StringCall::Repeat(_) => true,
+            | StringCall::Repeat(_)
+            | StringCall::Lowercase
+            | StringCall::Uppercase => true,
             _ => false,
         }
     }

@@ -4,10 +4,10 @@ use crate::calls::Items::{
 };
 use crate::calls::StringCall;
 use crate::calls::StringCall::{
-    Clear, Drain, Extend, FromItems, FromStr, FromView, InsertChar, InsertView, Keep, New, Pop,
-    Push, PushSlice, PushStr, PushView, Remove, Repeat, ReplaceRange, Reserve, ReserveExact,
-    Retain, ShrinkTo, ShrinkToFit, SpliceStr, SplitOff, Truncate, TryClone, WithCapacity,
-    WriteChar, WriteStr,
+    Clear, Drain, Extend, FromItems, FromStr, FromView, InsertChar, InsertView, Keep, Lowercase,
+    New, Pop, Push, PushSlice, PushStr, PushView, Remove, Repeat, ReplaceRange, Reserve,
+    ReserveExact, Retain, ShrinkTo, ShrinkToFit, SpliceStr, SplitOff, Truncate, TryClone,
+    Uppercase, WithCapacity, WriteChar, WriteStr,
 };
 use crate::driver::Asks::{ForRoom, ForRoomAfter, Nothing, Once};
 use crate::driver::{Asks, Row, SMILE, hold_at_both_widths};
@@ -85,6 +85,13 @@ static OF_ANY_UNITS: [Row<StringCall>; 15] = [
     (SplitOff, Once(0), "a½b", "½b", "a"),
 ];
 
+// Of text alone.
+static CASES: [Row<StringCall>; 3] = [
+    (Lowercase, Once(0), "", "a😀b", "a😀b"),
+    (Uppercase, Once(0), "", "😀", "😀"),
+    (Lowercase, Nothing(0), "", "", ""),
+];
+
 static TEXT_OF: [Row<TextOf>; 6] = [
     (TextOf::Vec, Nothing(0), "a😀b", "", "a😀b"),
     (TextOf::VecUnchecked, Nothing(0), "a😀b", "", "a😀b"),
@@ -109,6 +116,7 @@ fn any_units_alone(rt: HostRuntime) -> Result<(), Fail> {
 #[test]
 fn strings_of_text(rt: HostRuntime) -> Result<(), Fail> {
     hold_at_both_widths::<_, WellFormed>(&rt, rt.alloc(), &ROWS)?;
+    hold_at_both_widths::<_, WellFormed>(&rt, rt.alloc(), &CASES)?;
     Ok(())
 }
 

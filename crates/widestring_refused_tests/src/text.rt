@@ -20,6 +20,8 @@ fn made<'a, C: Width>(
         StringCall::FromStr => UtfString::from_str(heap, TEXT),
         StringCall::FromView => view.to_utfstring(heap),
         StringCall::Repeat(count) => view.repeat(heap, count),
+        StringCall::Lowercase => view.to_lowercase(heap),
+        StringCall::Uppercase => view.to_uppercase(heap),
         _ => Ok(UtfString::new(heap)),
     }
 }

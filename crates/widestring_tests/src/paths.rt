@@ -16,13 +16,18 @@ use widestring::{ucstr, ucstring, ustr, ustring, utfstr, utfstring};
 // The traits, with those under which calls stand that name types of later modules, by width too.
 pub use widestring::bytes::{ByteSink, ByteSource};
 pub use widestring::error::FaultUnit;
+pub use widestring::ucstr::{U16StrInUcstr, U32StrInUcstr, UStrInUcstr};
 pub use widestring::ucstring::{
     U16CStrInUcstring, U16StringInUcstring, U16StringOverUcstrs, U32CStrInUcstring,
     U32StringInUcstring, U32StringOverUcstrs, UCStrInUcstring, UStringInUcstring,
     UStringOverUcstrs,
 };
 pub use widestring::unit::Unit;
+pub use widestring::ustr::LineView;
 pub use widestring::ustring::{U16StrInUstring, U32StrInUstring, UStrInUstring};
+pub use widestring::utfstr::{
+    U16CStrInUtfstr, U16StrInUtfstr, U32CStrInUtfstr, U32StrInUtfstr, UCStrInUtfstr, UStrInUtfstr,
+};
 pub use widestring::utfstring::{
     U16StringInUtfstring, U16StringOverUtfstrs, U32StringInUtfstring, U32StringOverUtfstrs,
     UStringInUtfstring, UStringOverUtfstrs, Utf16StrInUtfstring, Utf32StrInUtfstring,
@@ -88,6 +93,21 @@ pub type TextIterators<'a> = (
     (utfstr::CharIndicesUtf16<'a>, utfstr::CharIndicesUtf32<'a>),
     (ustring::Drain<'a, u16>, ustring::Drain<'a, u32>),
     (utfstring::DrainUtf16<'a>, utfstring::DrainUtf32<'a>),
+);
+
+// Lines and escapes of text, and what prints views.
+pub type Texts<'a> = (
+    (
+        utfstr::EscapeDebug<'a, u16>,
+        utfstr::EscapeDefault<'a, u16>,
+        utfstr::EscapeUnicode<'a, u32>,
+    ),
+    (
+        utfstr::Lines<utfstr::UtfStr<'a, u16>>,
+        ustr::Lines<ustr::UStr<'a, u32>>,
+    ),
+    (ustr::Display<'a, u16>, ustr::DisplaySkipping<'a, u32>),
+    (ucstr::Display<'a, u16>, ucstr::DisplaySkipping<'a, u32>),
 );
 
 // The generic types that the names of a width stand for.

@@ -1,6 +1,7 @@
 //! Code units, at both widths.
 use crate::rows::all_hold;
-use widestring::unit::{Unit, first_nul, laws};
+use std::cmp::Ordering;
+use widestring::unit::{Unit, first_nul, laws, order_of_units, same_units, split_line};
 
 // Whether a unit that is alone is read as its character.
 fn is_alone<C: Unit>(unit: C, c: char) -> bool {
@@ -97,6 +98,8 @@ fn laws_are_there() {
     laws::worked_items();
     laws::worked_lossy();
     laws::worked_fault();
+    laws::order_agrees();
+    laws::lines_of_units();
 }
 
 #[test]
@@ -107,6 +110,40 @@ fn first_nuls(rt: HostRuntime) {
         first_nul(&[0x61u16, 0, 0]) == Some(1),
         first_nul(&[0u32]) == Some(0),
         first_nul(&[0x1_0000u32, 0x62, 0]) == Some(2),
+    ];
+    all_hold(&rt, &rows);
+}
+
+#[test]
+fn comparisons_of_units(rt: HostRuntime) {
+    let rows = [
+        same_units(&[0x61u16, 0xd800], &[0x61, 0xd800]),
+        !same_units(&[0x61u16], &[0x61, 0]),
+        same_units::<u32>(&[], &[]),
+        !same_units(&[0x61u32], &[0x62]),
+        order_of_units(&[0xd800u16], &[0xe000]) == Ordering::Less,
+        order_of_units(&[0x61u16, 0], &[0x61]) == Ordering::Greater,
+        order_of_units(&[0x11_0000u32], &[0x11_0000]) == Ordering::Equal,
+        order_of_units::<u32>(&[], &[0]) == Ordering::Less,
+    ];
+    all_hold(&rt, &rows);
+}
+
+// Whether the units before a line's end, and those behind it, are these.
+fn is_split<C: Unit>(units: &[C], line: &[C], rest: &[C]) -> bool {
+    match split_line(units) {
+        Some((first, others)) => same_units(first, line) && same_units(others, rest),
+        None => false,
+    }
+}
+
+#[test]
+fn first_lines(rt: HostRuntime) {
+    let rows = [
+        split_line::<u16>(&[]).is_none(),
+        is_split(&[0x61u16, 0xd, 0xa, 0x62], &[0x61], &[0x62]),
+        is_split(&[0x61u32, 0xd], &[0x61, 0xd], &[]),
+        is_split(&[0xau32, 0xa], &[], &[0xa]),
     ];
     all_hold(&rt, &rows);
 }
