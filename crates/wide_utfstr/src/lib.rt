@@ -7,6 +7,7 @@ mod display;
 mod escapes;
 mod iter;
 mod lines;
+mod text;
 mod trim;
 mod view;
 

@@ -26,7 +26,7 @@ use wide_utferror::{FaultUnit, UtfError};
 /// A view of units that are well formed (Unicode Standard, D85), by its type: no call can make one that isn't.
 ///
 /// It is a slice by another name, and is copied freely; views are equal where their units are, and ordered as these. No call
-/// takes memory.
+/// takes memory but those that are handed an allocator.
 ///
 /// `{}` prints its characters, and `{:?}` prints them between quotes, each as `char::escape_debug` gives it. The options of the
 /// hole change nothing, and an error of the sink is handed on at once.
