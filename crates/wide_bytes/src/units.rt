@@ -7,9 +7,9 @@ ghost use Rattle.wide_bytes.specs.UnitsOfBytes.{units_left};
 
 use super::order::{BoM, byte_order};
 
-/// The code units of the whole pairs of `bytes`.
+/// The code units of bytes that are not read yet, from the front. Made by [`units`]; this port's own.
 #[derive(Clone, Copy, Debug)]
-pub(crate) struct UnitsOfBytes<'a> {
+pub struct UnitsOfBytes<'a> {
     order: BoM,
     bytes: &'a [u8],
 }
@@ -79,8 +79,10 @@ fn without_zero_pair(bytes: &[u8]) -> &[u8]
     }
 }
 
-/// The code units that `bytes` mean: without the mark, and where the number of bytes is even without one last zero unit.
-pub(crate) fn units(bytes: &[u8]) -> UnitsOfBytes<'_>
+/// The code units that the bytes of a file of UTF-16 mean (Unicode Standard, D98): those of their whole pairs in the order of the
+/// byte order mark at the front, which is dropped, or little endian without one; and where the number of bytes is even, without one
+/// last zero unit. No memory is taken. The call is this port's own.
+pub fn units(bytes: &[u8]) -> UnitsOfBytes<'_>
     ensures { units_left result ≡ units_of_bytes bytes.now }
 {
     let order = byte_order(bytes).unwrap_or(BoM::Little);

@@ -6,6 +6,7 @@
 mod compare;
 mod display;
 pub mod laws;
+mod text;
 mod view;
 
 pub use compare::{UStrInUcstr, UStrInUcstr as U16StrInUcstr, UStrInUcstr as U32StrInUcstr};

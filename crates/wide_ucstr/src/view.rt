@@ -21,7 +21,7 @@ use wide_utferror::FaultUnit;
 /// A view of a wide C string: units of which the last is the only NUL, by its type.
 ///
 /// The units before the NUL are its contents. Places and lengths count those, in units. It is a slice by another name, and
-/// is copied freely. No call takes memory.
+/// is copied freely. No call takes memory but those that are handed an allocator.
 ///
 /// C strings are equal, ordered and hashed as their units with the NUL are; since a NUL is the least unit, the order is that of
 /// their contents, by the units' numbers. `{:?}` prints what that of [`UCStr::as_ustr_with_nul`] does: the NUL comes last, as `\0`.

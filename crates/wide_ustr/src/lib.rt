@@ -6,6 +6,7 @@ mod iter;
 pub mod laws;
 mod lines;
 mod places;
+mod text;
 mod view;
 
 pub use display::{Display, DisplaySkipping};

@@ -14,8 +14,9 @@ use wide_utferror::FaultUnit;
 
 /// A view of units of 16 or 32 bits, of any values: text that may be well formed or not.
 ///
-/// It is a slice by another name, and is copied freely. No call takes memory. Views are equal, ordered and hashed as their units
-/// are: the order is that of the units' numbers, as of words in a lexicon, and not that of the characters.
+/// It is a slice by another name, and is copied freely. No call takes memory but those that are handed an allocator. Views are
+/// equal, ordered and hashed as their units are: the order is that of the units' numbers, as of words in a lexicon, and not that
+/// of the characters.
 ///
 /// `{:?}` prints the units between quotes: each character by its escape, as `char::escape_debug` gives it, and each unit that
 /// belongs to none as `\<H>`, its number in upper-case hexadecimal. The options of the hole change nothing, and an error of the

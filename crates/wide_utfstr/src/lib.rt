@@ -7,6 +7,7 @@ mod display;
 mod escapes;
 mod iter;
 mod lines;
+mod text;
 mod trim;
 mod view;
 
@@ -18,5 +19,6 @@ pub use escapes::{EscapeDebug, EscapeDefault, EscapeUnicode};
 pub use iter::{
     CharIndices, CharIndicesUtf16, CharIndicesUtf32, Chars, CharsUtf16, CharsUtf32, CodeUnits,
 };
-pub use view::{Utf16Str, Utf32Str, UtfStr, WideUtfStr, check};
+pub use view::{Utf16Str, Utf32Str, UtfStr, WideUtfStr};
+pub use wide_unit::check;
 pub use wide_ustr::Lines;

@@ -1,5 +1,5 @@
 -- The characters of a `str` are scalar values, and so are those that are picked from well-formed units: their encoding is well formed.
-use Rattle.std.proofs.Common.{◌≡◌, ℕ, suc, zero, List, [], ◌∷◌, true, subst, arith}
+use Rattle.std.proofs.Common.{◌≡◌, ℕ, suc, zero, List, [], ◌∷◌, true, ap, ◌∙◌, subst, arith}
 use Rattle.std.specs.Char.{IsScalar}
 use Rattle.std.specs.List.{All, Contains}
 use Rattle.std.specs.Prelude.{slice_index_or}
@@ -7,9 +7,12 @@ use Rattle.std.specs.Str.{IsUtf8, all_scalars}
 use Rattle.std.specs.Str.{chars as str_chars}
 use Rattle.std.proofs.lemmas.Bool.{and_parts}
 use Rattle.std.proofs.lemmas.List.{get_or_default}
+use Rattle.std.proofs.lemmas.Str.{encodes-chars}
 use Rattle.std.proofs.lemmas.Str.{scalars-chars as all_scalars-chars}
 use Rattle.wide_unit.specs.EncodingForm.{EncodingForm, encode}
 use Rattle.wide_unit.specs.Items.{chars, IsWellFormed}
+use Rattle.wide_unit.specs.Utf8.{utf8}
+use Rattle.wide_unit.specs.Laws.Utf8.{utf8-encode_utf8_all}
 use Rattle.wide_unit.specs.Laws.Places.{chars-encode, IsWellFormed-encode, scalars-chars}
 
 pub All-of_all_scalars : (cs : List ℕ) → all_scalars cs ≡ true → All IsScalar cs
@@ -26,6 +29,10 @@ module _ (form : EncodingForm) (bs : List ℕ) (text : IsUtf8 bs) where
 
   pub chars-text : chars form (encode form (str_chars bs)) ≡ str_chars bs
   chars-text = chars-encode form (str_chars bs) (scalars-text bs text)
+
+  -- put into units and read back, it is the text
+  pub text-back : utf8 (chars form (encode form (str_chars bs))) ≡ bs
+  text-back = ap utf8 chars-text ∙ utf8-encode_utf8_all (str_chars bs) ∙ encodes-chars bs text
 
 pub scalars-picked : (form : EncodingForm) (us picked : List ℕ) → IsWellFormed form us → ((c : ℕ) → Contains picked c → Contains (chars form us) c) → All IsScalar picked
 scalars-picked form us picked well are k d within =

@@ -1,0 +1,73 @@
+//! Texts of C strings in UTF-8.
+ghost use Rattle.std.specs.Prelude.{◌≡◌, map, IfOk, IfErr, IfSome, IfNone, OnOk, None, string_bytes};
+ghost use Rattle.wide_unit.specs.EncodingForm.{Utf16, Utf32};
+ghost use Rattle.wide_unit.specs.Items.{items, chars, IsWellFormed, IsFirstFault};
+ghost use Rattle.wide_unit.specs.Lossy.{lossy};
+ghost use Rattle.wide_unit.specs.Utf8.{utf8};
+ghost use Rattle.wide_utferror.specs.UtfError.{index_of, unit_of, vec_of};
+ghost use Rattle.wide_ucstr.specs.View.{contents_seen};
+
+use crate::view::UCStr;
+use std::alloc::Allocator;
+use wide_error::OutOfMemory;
+use wide_utferror::{FaultUnit, Utf16ConvertError, Utf32ConvertError};
+
+impl<C: FaultUnit> UCStr<'_, C> {
+    /// The text of the contents in UTF-8, with U+FFFD for each unit that belongs to no character (Unicode Standard, section
+    /// 3.9), and without the NUL.
+    ///
+    /// It reads the units twice, and asks for memory once, for as many bytes as the text has.
+    ///
+    /// # Errors
+    ///
+    /// The allocation was refused.
+    pub fn to_string_lossy<A: Allocator>(self, alloc: A) -> Result<String<A>, OutOfMemory>
+        ensures { IfOk result (λ text. string_bytes text ≡ utf8 (lossy (items C.form (map C.number (contents_seen self.entry))))) }
+    {
+        self.as_ustr().to_string_lossy(alloc)
+    }
+}
+
+impl UCStr<'_, u16> {
+    ghost use Rattle.wide_utferror.specs.Converted.{utf16_fault};
+
+    /// The text of the contents in UTF-8, where they are well formed (Unicode Standard, D85), without the NUL.
+    ///
+    /// It reads the units three times at most, and asks for memory once, for as many bytes as the text has.
+    ///
+    /// # Errors
+    ///
+    /// The first fault, by its index in units, with no vector to hand back; it is found before memory is asked for. Else the
+    /// allocation was refused.
+    pub fn to_string<A: Allocator>(self, alloc: A) -> Result<String<A>, Utf16ConvertError>
+        ensures text { IfOk result (λ text. string_bytes text ≡ utf8 (chars Utf16 (contents_seen self.entry))) }
+        ensures well_formed { OnOk result (IsWellFormed Utf16 (contents_seen self.entry)) }
+        ensures fault { IfErr result (λ e. IfSome (utf16_fault e) (λ fault. IsFirstFault Utf16 (contents_seen self.entry) (index_of fault) (unit_of fault))) }
+        ensures no_vector { IfErr result (λ e. IfSome (utf16_fault e) (λ fault. vec_of fault ≡ None)) }
+        ensures refused { IfErr result (λ e. IfNone (utf16_fault e) (IsWellFormed Utf16 (contents_seen self.entry))) }
+    {
+        self.as_ustr().to_string(alloc)
+    }
+}
+
+impl UCStr<'_, u32> {
+    ghost use Rattle.wide_utferror.specs.Converted.{utf32_fault};
+
+    /// The text of the contents in UTF-8, where they are well formed (Unicode Standard, D85), without the NUL.
+    ///
+    /// It reads the units three times at most, and asks for memory once, for as many bytes as the text has.
+    ///
+    /// # Errors
+    ///
+    /// The first fault, by its index in units, with no vector to hand back; it is found before memory is asked for. Else the
+    /// allocation was refused.
+    pub fn to_string<A: Allocator>(self, alloc: A) -> Result<String<A>, Utf32ConvertError>
+        ensures text { IfOk result (λ text. string_bytes text ≡ utf8 (chars Utf32 (contents_seen self.entry))) }
+        ensures well_formed { OnOk result (IsWellFormed Utf32 (contents_seen self.entry)) }
+        ensures fault { IfErr result (λ e. IfSome (utf32_fault e) (λ fault. IsFirstFault Utf32 (contents_seen self.entry) (index_of fault) (unit_of fault))) }
+        ensures no_vector { IfErr result (λ e. IfSome (utf32_fault e) (λ fault. vec_of fault ≡ None)) }
+        ensures refused { IfErr result (λ e. IfNone (utf32_fault e) (IsWellFormed Utf32 (contents_seen self.entry))) }
+    {
+        self.as_ustr().to_string(alloc)
+    }
+}

@@ -1,0 +1,94 @@
+//! Texts of views in UTF-8.
+ghost use Rattle.std.specs.Prelude.{◌≡◌, ◌-◌, ◌^◌, min, length, map, IfOk, IfErr, IfSome, IfNone, OnOk, None, string_bytes};
+ghost use Rattle.wide_unit.specs.EncodingForm.{Utf16, Utf32};
+ghost use Rattle.wide_unit.specs.Items.{items, chars, IsWellFormed, IsFirstFault};
+ghost use Rattle.wide_unit.specs.Lossy.{lossy};
+ghost use Rattle.wide_unit.specs.Utf8.{utf8};
+ghost use Rattle.wide_utferror.specs.UtfError.{index_of, unit_of, vec_of};
+ghost use Rattle.wide_ustr.specs.View.{units_seen};
+
+use crate::view::UStr;
+use std::alloc::Allocator;
+use wide_error::OutOfMemory;
+use wide_unit::{Unit, check};
+use wide_utferror::{Utf16ConvertError, Utf32ConvertError, UtfError};
+
+impl<C: Unit> UStr<'_, C> {
+    // How many bytes the lossy text has in UTF-8, or the greatest number where they are more.
+    fn lossy_len(self) -> usize
+        ensures { result ≡ min (length (utf8 (lossy (items C.form (map C.number (units_seen self.entry)))))) (2 ^ 64 - 1) }
+    {
+        let mut len = 0usize;
+        for c in self.chars_lossy() {
+            len = len.saturating_add(c.len_utf8());
+        }
+        len
+    }
+
+    /// The text of the view in UTF-8, with U+FFFD for each unit that belongs to no character (Unicode Standard, section 3.9).
+    ///
+    /// It reads the units twice, and asks for memory once, for as many bytes as the text has.
+    ///
+    /// # Errors
+    ///
+    /// The allocation was refused.
+    pub fn to_string_lossy<A: Allocator>(self, alloc: A) -> Result<String<A>, OutOfMemory>
+        ensures { IfOk result (λ text. string_bytes text ≡ utf8 (lossy (items C.form (map C.number (units_seen self.entry))))) }
+    {
+        let mut text = String::with_capacity(alloc, self.lossy_len())?;
+        for c in self.chars_lossy() {
+            text.push(c)?;
+        }
+        Ok(text)
+    }
+}
+
+impl UStr<'_, u16> {
+    ghost use Rattle.wide_utferror.specs.Converted.{utf16_fault};
+
+    /// The text of the view in UTF-8, where it is well formed (Unicode Standard, D85).
+    ///
+    /// It reads the units three times at most, and asks for memory once, for as many bytes as the text has.
+    ///
+    /// # Errors
+    ///
+    /// The first fault, by its index in units, with no vector to hand back; it is found before memory is asked for. Else the
+    /// allocation was refused.
+    pub fn to_string<A: Allocator>(self, alloc: A) -> Result<String<A>, Utf16ConvertError>
+        ensures text { IfOk result (λ text. string_bytes text ≡ utf8 (chars Utf16 (units_seen self.entry))) }
+        ensures well_formed { OnOk result (IsWellFormed Utf16 (units_seen self.entry)) }
+        ensures fault { IfErr result (λ e. IfSome (utf16_fault e) (λ fault. IsFirstFault Utf16 (units_seen self.entry) (index_of fault) (unit_of fault))) }
+        ensures no_vector { IfErr result (λ e. IfSome (utf16_fault e) (λ fault. vec_of fault ≡ None)) }
+        ensures refused { IfErr result (λ e. IfNone (utf16_fault e) (IsWellFormed Utf16 (units_seen self.entry))) }
+    {
+        match check(self.units) {
+            Ok(()) => Ok(self.to_string_lossy(alloc)?),
+            Err((index, unit)) => Err(Utf16ConvertError::Utf16(UtfError::new(index, unit, None))),
+        }
+    }
+}
+
+impl UStr<'_, u32> {
+    ghost use Rattle.wide_utferror.specs.Converted.{utf32_fault};
+
+    /// The text of the view in UTF-8, where it is well formed (Unicode Standard, D85).
+    ///
+    /// It reads the units three times at most, and asks for memory once, for as many bytes as the text has.
+    ///
+    /// # Errors
+    ///
+    /// The first fault, by its index in units, with no vector to hand back; it is found before memory is asked for. Else the
+    /// allocation was refused.
+    pub fn to_string<A: Allocator>(self, alloc: A) -> Result<String<A>, Utf32ConvertError>
+        ensures text { IfOk result (λ text. string_bytes text ≡ utf8 (chars Utf32 (units_seen self.entry))) }
+        ensures well_formed { OnOk result (IsWellFormed Utf32 (units_seen self.entry)) }
+        ensures fault { IfErr result (λ e. IfSome (utf32_fault e) (λ fault. IsFirstFault Utf32 (units_seen self.entry) (index_of fault) (unit_of fault))) }
+        ensures no_vector { IfErr result (λ e. IfSome (utf32_fault e) (λ fault. vec_of fault ≡ None)) }
+        ensures refused { IfErr result (λ e. IfNone (utf32_fault e) (IsWellFormed Utf32 (units_seen self.entry))) }
+    {
+        match check(self.units) {
+            Ok(()) => Ok(self.to_string_lossy(alloc)?),
+            Err((index, unit)) => Err(Utf32ConvertError::Utf32(UtfError::new(index, unit, None))),
+        }
+    }
+}

@@ -1,0 +1,25 @@
+//! Texts of well-formed views in UTF-8.
+ghost use Rattle.std.specs.Prelude.{◌≡◌, IfOk, string_bytes};
+ghost use Rattle.wide_unit.specs.Utf8.{utf8};
+ghost use Rattle.wide_utfstr.specs.View.{text_seen};
+
+use crate::view::UtfStr;
+use std::alloc::Allocator;
+use wide_error::OutOfMemory;
+use wide_unit::Unit;
+use wide_ustr::UStr;
+
+impl<C: Unit> UtfStr<'_, C> {
+    /// The text of the view in UTF-8.
+    ///
+    /// It reads the units twice, and asks for memory once, for as many bytes as the text has.
+    ///
+    /// # Errors
+    ///
+    /// The allocation was refused.
+    pub fn to_string<A: Allocator>(self, alloc: A) -> Result<String<A>, OutOfMemory>
+        ensures { IfOk result (λ text. string_bytes text ≡ utf8 (text_seen self.entry)) }
+    {
+        UStr::from_slice(self.as_slice()).to_string_lossy(alloc)
+    }
+}
