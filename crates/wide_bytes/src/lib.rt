@@ -16,4 +16,4 @@ pub use mode::Mode;
 pub use moving::put_all;
 pub use order::{BoM, byte_order};
 pub use transcoding::transcode;
-pub use units::{UnitsOfBytes, units};
+pub use units::{UnitsOfBytes, units_of_bytes};

@@ -7,7 +7,7 @@ ghost use Rattle.wide_bytes.specs.UnitsOfBytes.{units_left};
 
 use super::order::{BoM, byte_order};
 
-/// The code units of bytes that are not read yet, from the front. Made by [`units`]; this port's own.
+/// The code units of bytes that are not read yet, from the front. Made by [`units_of_bytes`]; this port's own.
 #[derive(Clone, Copy, Debug)]
 pub struct UnitsOfBytes<'a> {
     order: BoM,
@@ -82,7 +82,7 @@ fn without_zero_pair(bytes: &[u8]) -> &[u8]
 /// The code units that the bytes of a file of UTF-16 mean (Unicode Standard, D98): those of their whole pairs in the order of the
 /// byte order mark at the front, which is dropped, or little endian without one; and where the number of bytes is even, without one
 /// last zero unit. No memory is taken. The call is this port's own.
-pub fn units(bytes: &[u8]) -> UnitsOfBytes<'_>
+pub fn units_of_bytes(bytes: &[u8]) -> UnitsOfBytes<'_>
     ensures { units_left result ≡ units_of_bytes bytes.now }
 {
     let order = byte_order(bytes).unwrap_or(BoM::Little);

@@ -5,37 +5,16 @@ ghost use Rattle.wide_unit.specs.Items.{IsWellFormed};
 ghost use Rattle.wide_bytes.specs.Bytes.{units_of_bytes, is_odd};
 ghost use Rattle.wide_include.specs.Include.{TellsOfBytes};
 
-use crate::units::units;
-use std::alloc::{AllocError, Allocator, Global};
-use wide_error::Utf16Error;
+use std::alloc::{AllocError, Allocator};
+use wide_bytes::units_of_bytes;
+use wide_utferror::Utf16BytesError;
 use wide_utfstring::Utf16String;
-
-/// Why bytes were made no string. (To stand in wide_error.)
-#[derive(Drop)]
-pub enum Utf16BytesError<A: Allocator = Global> {
-    /// The last byte is half of a unit.
-    OddLength,
-    /// The units are not well formed.
-    Utf16(Utf16Error<A>),
-    /// An allocation was refused.
-    OutOfMemory,
-}
-
-impl<A: Allocator> From<AllocError> for Utf16BytesError<A> {
-    ghost use Rattle.wide_utferror.specs.declared.convert.Utf16BytesError.TheVariants.{OutOfMemory};
-
-    ghost from_gives = { λ _ e. e ≡ OutOfMemory };
-
-    fn from(_refused: AllocError) -> Utf16BytesError<A> {
-        Utf16BytesError::OutOfMemory
-    }
-}
 
 // The units that the bytes mean. Memory is asked for once.
 fn unit_vec<A: Allocator>(alloc: A, bytes: &[u8]) -> Result<Vec<u16, A>, AllocError>
     ensures { IfOk result (λ v. v.items ≡ units_of_bytes bytes.now) }
 {
-    let source = units(bytes);
+    let source = units_of_bytes(bytes);
     let (len, _) = source.size_hint();
     let mut found = Vec::with_capacity(alloc, len)?;
     for unit in source {
@@ -44,14 +23,15 @@ fn unit_vec<A: Allocator>(alloc: A, bytes: &[u8]) -> Result<Vec<u16, A>, AllocEr
     Ok(found)
 }
 
-/// The text of a file of UTF-16: of the units that its bytes mean, in the order of the mark at the front, which is dropped, or
-/// little endian without one, and without one last zero unit (Unicode Standard, section 3.10).
+/// The text of a file of UTF-16: of the units that its bytes mean (Unicode Standard, D98), in the order of the byte order mark at
+/// the front, which is dropped, or little endian without one, and without one last zero unit. Memory is asked for once.
 ///
 /// # Errors
 ///
-/// - [`Utf16BytesError::OddLength`]: the number of bytes is odd.
-/// - [`Utf16BytesError::Utf16`]: the first fault of the units, with their vector.
-/// - [`Utf16BytesError::OutOfMemory`]: memory was refused.
+/// - [`Utf16BytesError::OddLength`]: the number of bytes is odd. It comes before any memory is taken.
+/// - [`Utf16BytesError::OutOfMemory`]: an allocation was refused.
+/// - [`Utf16BytesError::Utf16`]: the first fault of the units, its index counted in units without the mark, with the vector of
+///   these units.
 pub fn include_utf16str<A: Allocator>(
     alloc: A,
     bytes: &[u8],

@@ -4,10 +4,10 @@
 //! of two, which this one re-exports; it has no code.
 #![tactic(auto)]
 
+pub mod bytes;
 pub mod error;
 pub mod utfstring;
 
-pub use wide_bytes as bytes;
 pub use wide_iter as iter;
 pub use wide_iter::{
     decode_utf16, decode_utf16_lossy, decode_utf32, decode_utf32_lossy, encode_utf8, encode_utf16,

@@ -1,9 +1,9 @@
-use Rattle.std.proofs.Common.{rules, ◌≡◌, List, ℕ, false, map, subst, ◌∙◌, refl}
+use Rattle.std.proofs.Common.{rules, ◌≡◌, false, subst, ◌∙◌}
 use Rattle.std.proofs.lemmas.List.{map-id}
 use Rattle.wide_unit.specs.EncodingForm.{Utf16}
 use Rattle.wide_unit.specs.Items.{IsWellFormed, IsFirstFault}
 use Rattle.wide_utferror.specs.UtfError.{index_of, unit_of}
-use Rattle.wide_bytes.specs.Bytes.{units_of_bytes, is_odd}
+use Rattle.wide_bytes.specs.Bytes.{is_odd}
 use Rattle.wide_include.proofs.include.include_utf16str.Goals as goal
 
 pub returns-in-Ok-clause-ok : goal.returns-in-Ok-clause-ok
