@@ -8,6 +8,7 @@ ghost use Rattle.std.specs.Str.{chars};
 ghost use Rattle.std.specs.Range.Bound.{start_index, end_index};
 ghost use Rattle.wide_unit.specs.EncodingForm.{code_units, encode};
 ghost use Rattle.wide_unit.specs.Items.{chars as text_chars, IsWellFormed};
+ghost use Rattle.wide_unit.specs.Utf8.{utf8};
 ghost use Rattle.wide_unit.specs.Range.{IsWithin, IsInRange, part_of, part_replaced};
 ghost use Rattle.wide_ustr.specs.View.{units_seen};
 ghost use Rattle.wide_unit.specs.Unit.{item_of};
@@ -126,6 +127,7 @@ impl<C: FaultUnit, A: Allocator> UString<C, A> {
     /// The units of a text.
     pub fn from_str(alloc: A, text: &str) -> Result<Self, OutOfMemory>
         ensures units { IfOk result (λ s. map C.number s.units ≡ encode C.form (chars text.now)) }
+        ensures read_back { IfOk result (λ s. utf8 (text_chars C.form (map C.number s.units)) ≡ text.now) }
         ensures succeeds { chars text.now ≡ [] → IsOk result }
     {
         let mut units = Vec::new(alloc);

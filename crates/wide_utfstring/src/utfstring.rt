@@ -2,6 +2,7 @@
 ghost use Rattle.std.specs.Prelude.{◌≡◌, ◌==◌, ◌+◌, ◌-◌, ◌<◌, ◌≤◌, ◌++◌, ◌∷◌, [], ◌↔◌, ◌⊎◌, min, max, length, map, take, drop, IsNone, IfSome, IsOk, IfOk, IfErr, OnOk, OnErr, vec_capacity, Vec};
 ghost use Rattle.wide_unit.specs.EncodingForm.{code_units, encode};
 ghost use Rattle.wide_unit.specs.Items.{chars, IsWellFormed};
+ghost use Rattle.wide_unit.specs.Utf8.{utf8};
 ghost use Rattle.wide_unit.specs.Places.{text_of, text_before, text_spliced, IsCharPart, text_replaced};
 ghost use Rattle.wide_unit.specs.Range.{IsWithin, part_of, part_replaced};
 ghost use Rattle.std.specs.List.{splice};
@@ -171,6 +172,7 @@ impl<C: FaultUnit, A: Allocator> UtfString<C, A> {
     pub fn from_str(alloc: A, text: &str) -> Result<Self, OutOfMemory>
         ensures units { IfOk result (λ s. map C.number s.units ≡ encode C.form (str_chars text.now)) }
         ensures text { IfOk result (λ s. text_of C.form C.number s.units ≡ str_chars text.now) }
+        ensures read_back { IfOk result (λ s. utf8 (text_of C.form C.number s.units) ≡ text.now) }
         ensures succeeds { str_chars text.now ≡ [] → IsOk result }
     {
         Ok(UtfString {

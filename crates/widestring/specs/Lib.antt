@@ -8,6 +8,7 @@ pub use Rattle.wide_unit.specs.Lossy
 pub use Rattle.wide_unit.specs.Unit
 pub use Rattle.wide_unit.specs.Utf8
 pub use Rattle.wide_utferror.specs.UtfError
+pub use Rattle.wide_utferror.specs.Converted
 pub use Rattle.wide_iter.specs.Answers
 pub use Rattle.wide_ustring.specs.Units
 pub use Rattle.wide_ucstr.specs.CString

@@ -5,5 +5,6 @@ pub use wide_error::{
     TranscodeError, UCStringError,
 };
 pub use wide_utferror::{
-    FaultUnit, Utf16BytesError, Utf16ConvertError, Utf16Error, Utf32ConvertError, Utf32Error, UtfError,
+    FaultUnit, Utf16BytesError, Utf16ConvertError, Utf16Error, Utf32ConvertError, Utf32Error,
+    UtfError,
 };

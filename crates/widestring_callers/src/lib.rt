@@ -8,3 +8,4 @@ pub mod compare;
 pub mod edits;
 pub mod faults;
 pub mod places32;
+pub mod texts;

@@ -6,3 +6,6 @@ invariant_of-result g c = rw c.in_ok-from_str.ensures.units (IsWellFormed-text g
 
 pub returns-clause-text : goal.returns-clause-text
 returns-clause-text g c = rw c.in_ok-from_str.ensures.units (chars-text g.C.Unit.form c.args.text.now c.utf8.text)
+
+pub returns-clause-read_back : goal.returns-clause-read_back
+returns-clause-read_back g c = c.in_ok-from_str.ensures.read_back
