@@ -3,7 +3,7 @@ ghost use Rattle.std.specs.Prelude.{◌≡◌, ◌≤◌, map, Ok, IfOk};
 ghost use Rattle.std.specs.Iterator.{IsFiniteIterable};
 ghost use Rattle.wide_unit.specs.Texts.{debug_output};
 ghost use Rattle.wide_ustr.specs.View.{units_seen};
-ghost use Rattle.wide_ustring.specs.Cow.{cow_units, IfOwned};
+ghost use Rattle.wide_ustring.specs.CowUnits.{cow_units, IfOwned};
 ghost use Rattle.wide_ustring.specs.Extended.{Adds, Collects, numbered};
 
 use crate::extend::{Piece, Whole, extend, from_iter};

@@ -10,5 +10,7 @@ pub use Rattle.wide_unit.specs.Utf8
 pub use Rattle.wide_utferror.specs.UtfError
 pub use Rattle.wide_iter.specs.Answers
 pub use Rattle.wide_ustring.specs.Units
+pub use Rattle.wide_ustring.specs.CowUnits
 pub use Rattle.wide_ucstr.specs.CString
+pub use Rattle.wide_ucstring.specs.CowCString
 pub use Rattle.wide_utfstr.specs.View
