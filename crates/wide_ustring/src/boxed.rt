@@ -1,5 +1,5 @@
-//! Units in a block that was shrunk to them, and that does not grow.
-ghost use Rattle.std.specs.Prelude.{◌≡◌, ◌≤◌, map, IsOk, IfOk, IfErr};
+//! Units in a block of their own size, which does not grow.
+ghost use Rattle.std.specs.Prelude.{◌≡◌, ◌<◌, ◌≤◌, length, map, IsOk, IfOk, IfErr};
 ghost use Rattle.std.specs.Iterator.{IsFiniteIterable};
 ghost use Rattle.wide_unit.specs.Texts.{debug_output};
 ghost use Rattle.wide_ustr.specs.View.{units_seen};
@@ -9,37 +9,39 @@ ghost use Rattle.wide_ustring.specs.Units.{ustring_len};
 use crate::extend::{Piece, Whole, extend, from_iter};
 use crate::ustring::UString;
 use std::alloc::{Allocator, Global};
-use std::boxed::BoxedSlice;
 use std::fmt;
 use std::marker::Model;
 use wide_error::OutOfMemory;
 use wide_ustr::UStr;
 use wide_utferror::FaultUnit;
 
-/// Units of any values in a boxed slice, which does not grow: what `Box<U16Str>` and `Box<U32Str>` are in the Rust crate.
+/// Units of any values in a block of their own size, which does not grow: what `Box<U16Str>` and `Box<U32Str>` are in the
+/// Rust crate.
 ///
 /// Two of them are compared through their views, by [`BoxedUStr::as_ustr`]. `{:?}` prints what that of this view does.
 #[derive(Drop)]
 pub struct BoxedUStr<C, A: Allocator = Global> {
-    units: BoxedSlice<C, A>,
+    // A string with no spare room. std's `BoxedSlice` would keep what room its vector had, and tells nothing of it.
+    string: UString<C, A>,
 }
 
-/// 16-bit units in a boxed slice.
+/// 16-bit units in a block of their own size.
 pub type BoxedU16Str<A = Global> = BoxedUStr<u16, A>;
 
-/// 32-bit units in a boxed slice.
+/// 32-bit units in a block of their own size.
 pub type BoxedU32Str<A = Global> = BoxedUStr<u32, A>;
 
 impl<C, A: Allocator> Model for BoxedUStr<C, A> {
-    ghost use Rattle.std.specs.Prelude.{List};
+    ghost use Rattle.std.specs.Prelude.{◌≡◌, List, length};
     ghost use Rattle.std.specs.Coded.{coded_list};
-    ghost use Rattle.std.specs.Box.{boxed_slice_items};
 
     ghost Value = { List C };
 
     ghost coded = { coded_list C.code };
 
-    ghost view = { λ s. boxed_slice_items s.units };
+    ghost view = { λ s. s.string.units };
+
+    ghost invariant = { λ s. s.string.capacity ≡ length s.string.units };
 }
 
 impl<C: FaultUnit, A: Allocator> BoxedUStr<C, A> {
@@ -47,35 +49,37 @@ impl<C: FaultUnit, A: Allocator> BoxedUStr<C, A> {
     pub fn as_ustr(&self) -> UStr<'_, C>
         ensures { units_seen result ≡ self.now }
     {
-        UStr::from_slice(self.units.as_slice())
+        self.string.as_ustr()
     }
 
-    /// The units as a string, in the block that they stand in. It takes no memory; the room is that of the block.
+    /// The units as a string, in the block that they stand in: one with no room beyond its length. It takes no memory.
     pub fn into_ustring(self) -> UString<C, A>
-        ensures { result.units ≡ self }
+        ensures units { result.units ≡ self }
+        ensures capacity { result.capacity ≡ length self }
     {
-        let BoxedUStr { units } = self;
-        UString::from_vec(units.into_vec())
+        let BoxedUStr { string } = self;
+        string
     }
 }
 
 impl<C: FaultUnit, A: Allocator> UString<C, A> {
-    /// The units in a boxed slice. Their block is shrunk as by [`UString::shrink_to_fit`]; where it has no room to give back
-    /// no memory is asked for.
+    /// The units in a block of their own size. The string's block is shrunk as by [`UString::shrink_to_fit`]; where it has no
+    /// spare room no memory is asked for.
     ///
     /// # Errors
     ///
-    /// A smaller block was refused. The string is handed back as it was, with its room.
+    /// The smaller block was refused. The string is handed back with its units and its block, which has spare room still. std
+    /// promises of a block that is to shrink no more than that it does not grow, and so does this call of one handed back.
     pub fn into_boxed_ustr(mut self) -> Result<BoxedUStr<C, A>, Self>
         ensures units { IfOk result (λ boxed. boxed ≡ self.units) }
-        ensures refused { IfErr result (λ s. s ≡ self) }
+        ensures refused { IfErr result (λ s. s.units ≡ self.units) }
+        ensures room { IfErr result (λ s. s.capacity ≤ self.capacity) }
+        ensures spare { IfErr result (λ s. ustring_len s < s.capacity) }
         ensures succeeds { self.capacity ≤ ustring_len self → IsOk result }
     {
         match self.shrink_to_fit() {
-            Ok(()) => Ok(BoxedUStr {
-                units: self.into_vec().into_boxed_slice(),
-            }),
-            Err(_refused) => Err(self),
+            Ok(()) if self.capacity() == self.len() => Ok(BoxedUStr { string: self }),
+            _ => Err(self),
         }
     }
 
