@@ -1,2 +1,3 @@
+pub mod CowCString
 pub mod Made
 pub mod Refused

@@ -1,12 +1,16 @@
 //! Owned wide C strings: units of 16 or 32 bits that end in their only NUL.
 #![tactic(auto)]
 
+mod boxed;
 mod compare;
+mod cow;
 mod display;
 mod extend;
 mod ucstring;
 mod view;
 
+pub use boxed::{BoxedU16CStr, BoxedU32CStr, BoxedUCStr};
+pub use cow::{CowU16CStr, CowU32CStr, CowUCStr};
 pub use extend::{
     OfCStrings, UStringInUcstring, UStringInUcstring as U16StringInUcstring,
     UStringInUcstring as U32StringInUcstring, UStringOverUcstrs,

@@ -3,3 +3,4 @@ pub mod Taken
 pub mod Lends
 pub mod Drain
 pub mod Extended
+pub mod CowUnits

@@ -1,7 +1,9 @@
 //! Owned strings of units of 16 or 32 bits, well formed or not.
 #![tactic(auto)]
 
+mod boxed;
 mod compare;
+mod cow;
 mod display;
 pub mod extend;
 mod iter;
@@ -9,6 +11,8 @@ mod room;
 mod ustring;
 mod view;
 
+pub use boxed::{BoxedU16Str, BoxedU32Str, BoxedUStr};
+pub use cow::{CowU16Str, CowU32Str, CowUStr};
 pub use iter::Drain;
 pub use ustring::{U16String, U32String, UString, WideString};
 pub use view::{UStrInUstring, UStrInUstring as U16StrInUstring, UStrInUstring as U32StrInUstring};

@@ -11,5 +11,7 @@ pub use Rattle.wide_utferror.specs.UtfError
 pub use Rattle.wide_utferror.specs.Converted
 pub use Rattle.wide_iter.specs.Answers
 pub use Rattle.wide_ustring.specs.Units
+pub use Rattle.wide_ustring.specs.CowUnits
 pub use Rattle.wide_ucstr.specs.CString
+pub use Rattle.wide_ucstring.specs.CowCString
 pub use Rattle.wide_utfstr.specs.View

@@ -65,6 +65,14 @@ pub type Roots<'a> = (
     ),
 );
 
+// Units and C strings that are borrowed or owned, and those in a boxed slice.
+pub type CowsAndBoxes<'a> = (
+    (ustring::CowU16Str<'a>, ustring::CowU32Str<'a>),
+    (ustring::BoxedU16Str, ustring::BoxedU32Str),
+    (ucstring::CowU16CStr<'a>, ucstring::CowU32CStr<'a>),
+    (ucstring::BoxedU16CStr, ucstring::BoxedU32CStr),
+);
+
 // Iterators over views of units, and over C strings.
 pub type UnitIterators<'a> = (
     (ustr::CharsUtf16<'a>, ustr::CharsUtf32<'a>),
@@ -126,6 +134,8 @@ pub type Generic<'a> = (
         utfstring::UtfString<u16>,
     ),
     utfstring::DrainUtf<'a, u16>,
+    (ustring::CowUStr<'a, u16>, ustring::BoxedUStr<u16>),
+    (ucstring::CowUCStr<'a, u16>, ucstring::BoxedUCStr<u16>),
 );
 
 // Decoders, encoders and devices.

@@ -1,0 +1,69 @@
+//! C strings that are borrowed where they can be, and owned where they had to be made.
+ghost use Rattle.std.specs.Prelude.{◌≡◌, map, Ok, IfOk};
+ghost use Rattle.wide_unit.specs.Texts.{debug_output};
+ghost use Rattle.wide_ucstr.specs.View.{units_with_nul};
+ghost use Rattle.wide_ucstring.specs.CowCString.{cow_units_with_nul, IfOwned};
+
+use crate::ucstring::UCString;
+use std::alloc::{Allocator, Global};
+use std::fmt;
+use wide_error::OutOfMemory;
+use wide_ucstr::UCStr;
+use wide_ustring::UStrInUstring;
+use wide_utferror::FaultUnit;
+
+/// A C string that is borrowed, or owned: what `Cow<'_, U16CStr>` and `Cow<'_, U32CStr>` are in the Rust crate.
+///
+/// Two of them are compared through their views, by [`CowUCStr::as_ucstr`]. `{:?}` prints what that of this view does.
+#[derive(Drop)]
+pub enum CowUCStr<'a, C: FaultUnit, A: Allocator = Global> {
+    /// A view of units that stand elsewhere.
+    Borrowed(UCStr<'a, C>),
+    /// A C string of its own.
+    Owned(UCString<C, A>),
+}
+
+/// A C string of 16-bit units that is borrowed, or owned.
+pub type CowU16CStr<'a, A = Global> = CowUCStr<'a, u16, A>;
+
+/// A C string of 32-bit units that is borrowed, or owned.
+pub type CowU32CStr<'a, A = Global> = CowUCStr<'a, u32, A>;
+
+impl<'a, C: FaultUnit, A: Allocator> CowUCStr<'a, C, A> {
+    /// A view of the C string. It takes no memory.
+    pub fn as_ucstr(&self) -> UCStr<'_, C>
+        ensures { units_with_nul result ≡ cow_units_with_nul self.now }
+    {
+        match self {
+            CowUCStr::Borrowed(view) => *view,
+            CowUCStr::Owned(string) => string.as_ucstr(),
+        }
+    }
+
+    /// The C string as an owned one. Where it is borrowed, memory is asked for once, for a copy of its units and the NUL; an
+    /// owned one is answered itself, with its room, and takes no memory.
+    ///
+    /// # Errors
+    ///
+    /// The C string is borrowed, and there was no memory for the copy.
+    pub fn into_owned(self, alloc: A) -> Result<UCString<C, A>, OutOfMemory>
+        ensures units { IfOk result (λ s. s.units ≡ cow_units_with_nul self.entry) }
+        ensures owned { IfOwned self.entry (λ s. result ≡ Ok s) }
+    {
+        match self {
+            CowUCStr::Borrowed(view) => {
+                let string = view.as_ustr_with_nul().to_ustring(alloc)?;
+                Ok(UCString { string })
+            }
+            CowUCStr::Owned(string) => Ok(string),
+        }
+    }
+}
+
+impl<C: FaultUnit, A: Allocator> fmt::Debug for CowUCStr<'_, C, A> {
+    ghost debug_output = { λ s. debug_output C.form (map C.number (cow_units_with_nul s)) };
+
+    fn fmt<W: fmt::Write>(&self, f: &mut fmt::Formatter<W>) -> fmt::Result {
+        fmt::Debug::fmt(&self.as_ucstr(), f)
+    }
+}
