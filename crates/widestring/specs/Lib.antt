@@ -12,3 +12,4 @@ pub use Rattle.wide_iter.specs.Answers
 pub use Rattle.wide_ustring.specs.Units
 pub use Rattle.wide_ucstr.specs.CString
 pub use Rattle.wide_utfstr.specs.View
+pub use Rattle.wide_utfstring.specs.CowText
