@@ -1,14 +1,21 @@
 -- The first fault, and the characters before it.
-use Rattle.std.proofs.Common.{◌≡◌, ℕ, ◌+◌, ◌<◌, List, [], ◌∷◌, ◌++◌, Option, Some, None, Result, Ok, Err, refl, sym, ◌∙◌, ap, subst, arith, rules, length, length-append}
-use Rattle.std.specs.Prelude.{map, IsOk, IfErr, OnOk, ◌↔◌}
-use Rattle.std.specs.List.{Contains}
+use Rattle.std.proofs.Common.{◌≡◌, ℕ, ◌<◌, List, [], ◌∷◌, ◌++◌, Option, Some, None, refl, sym, ◌∙◌, ap, subst, arith, rules, length, length-append, take, drop, suc, zero}
+use Rattle.std.specs.Prelude.{map, ◌↔◌}
+use Rattle.std.specs.Char.{IsScalar}
+use Rattle.std.specs.List.{All, Contains}
 use Rattle.std.specs.Option.{option_map}
+use Rattle.std.proofs.Math.Seq.{take-append_seam}
+use Rattle.std.proofs.lemmas.List.{take-append-drop}
 use Rattle.std.proofs.lemmas.List.Elements.{Contains-append_right}
 use Rattle.wide_unit.specs.EncodingForm.{EncodingForm, encode}
 use Rattle.wide_unit.specs.Segmentation.{Item, Char, Fault, units_of}
 use Rattle.wide_unit.specs.Items.{items, chars, leading_characters, first_fault_unit, first_fault, IsWellFormed, IsFirstFault}
-use Rattle.wide_unit.specs.Laws.Items.{units_of-items, units_of-chars, IsWellFormed-of_chars, chars-of_well_formed}
+use Rattle.wide_unit.specs.Lossy.{lossy}
+use Rattle.wide_unit.specs.Laws.Chains.{Chain}
+use Rattle.wide_unit.specs.Laws.Items.{items-chain, units_of-items, units_of-chars, IsWellFormed-of_chars, chars-of_well_formed}
 use Rattle.wide_unit.specs.Laws.Boundaries.{units_of-append}
+use Rattle.wide_unit.specs.Laws.Lossy.{lossy-after}
+use Rattle.wide_unit.specs.Laws.Places.{IsWellFormed-encode}
 
 leading-of : (front : List ℕ) (u : ℕ) (rest : List Item) → leading_characters (map Char front ++ Fault u ∷ rest) ≡ front
 leading-of [] u rest = refl
@@ -57,14 +64,38 @@ first_fault-split form us index u e =
 pub IsFirstFault-of : (form : EncodingForm) (us front : List ℕ) (rest : List Item) (index u : ℕ) → items form us ≡ map Char front ++ Fault u ∷ rest → length (encode form front) ≡ index → IsFirstFault form us index u
 IsFirstFault-of form us front rest index u split at = ap (first_fault form) split ∙ first_fault-behind form front u rest ∙ ap (λ n. Some (n, u)) at
 
+-- the units are those of the characters before it, the fault, and others
+fault-joined : (form : EncodingForm) (us front : List ℕ) (u : ℕ) (rest : List Item) → items form us ≡ map Char front ++ Fault u ∷ rest → us ≡ encode form front ++ u ∷ units_of form rest
+fault-joined form us front u rest split =
+    sym (units_of-items form us) ∙ ap (units_of form) split ∙ units_of-append form (map Char front) (Fault u ∷ rest) ∙ ap (λ xs. xs ++ u ∷ units_of form rest) (units_of-chars form front)
+
 -- its index is one of the units
 pub first_fault-below : (form : EncodingForm) (us : List ℕ) (index u : ℕ) → IsFirstFault form us index u → index < length us
 first_fault-below form us index u e =
     let (front, rest, split, at) = first_fault-split form us index u e in
-    let joined : us ≡ encode form front ++ u ∷ units_of form rest =
-    sym (units_of-items form us) ∙ ap (units_of form) split ∙ units_of-append form (map Char front) (Fault u ∷ rest) ∙ ap (λ xs. xs ++ u ∷ units_of form rest) (units_of-chars form front)
+    omega (arith, ap length (fault-joined form us front u rest split), length-append (encode form front) (u ∷ units_of form rest), at)
+
+-- characters that items begin with are scalar values
+front-scalars : (form : EncodingForm) (cs : List ℕ) (is : List Item) → Chain form (map Char cs ++ is) → All IsScalar cs
+front-scalars form [] is chain k d within = absurd (omega (arith, within))
+front-scalars form (c ∷ cs) is chain zero d within = chain.0
+front-scalars form (c ∷ cs) is chain (suc k) d within = front-scalars form cs is chain.2 k d (omega (arith, within))
+
+-- the units before it are well formed
+pub first_fault-front : (form : EncodingForm) (us : List ℕ) (index u : ℕ) → IsFirstFault form us index u → IsWellFormed form (take index us)
+first_fault-front form us index u e =
+    let (front, rest, split, at) = first_fault-split form us index u e in
+    let scalars : All IsScalar front = front-scalars form front (Fault u ∷ rest) (subst (Chain form) split (items-chain form us)) in
+    let cut : take index us ≡ encode form front =
+    ap (λ n. take n us) (sym at) ∙ ap (take (length (encode form front))) (fault-joined form us front u rest split) ∙ take-append_seam (encode form front) (u ∷ units_of form rest)
     in
-    omega (arith, ap length joined, length-append (encode form front) (u ∷ units_of form rest), at)
+    subst (IsWellFormed form) (sym cut) (IsWellFormed-encode form front scalars)
+
+-- and stay as they are in the lossy text
+pub lossy-behind_front : (form : EncodingForm) (us : List ℕ) (index u : ℕ) → IsFirstFault form us index u
+    → encode form (lossy (items form us)) ≡ take index us ++ encode form (lossy (items form (drop index us)))
+lossy-behind_front form us index u e =
+    ap (λ xs. encode form (lossy (items form xs))) (sym (take-append-drop index us)) ∙ lossy-after form (take index us) (drop index us) (first_fault-front form us index u e)
 
 contains_after : (is js : List Item) (i : Item) → Contains (is ++ i ∷ js) i
 contains_after is js i = Contains-append_right is (i ∷ js) i (search rules)

@@ -5,6 +5,7 @@ pub mod Lengths
 pub mod Texts
 pub mod Nuls
 pub mod Faults
+mod Whole
 pub mod CharBoundaries
 mod Feeds
 mod Ordered

@@ -1,5 +1,5 @@
 -- The items of a list of code units, and what is said of texts by them: the Standard's D84 and D85.
-use Rattle.std.specs.Prelude.{◌≡◌, ℕ, List, [], ◌∷◌, ◌++◌, map, length, Option, Some, None}
+use Rattle.std.specs.Prelude.{◌≡◌, ℕ, List, [], ◌∷◌, ◌++◌, length, Option, Some, None}
 use Rattle.std.specs.List.{Contains}
 use Rattle.std.specs.Option.{option_map}
 use Rattle.wide_unit.specs.EncodingForm.{EncodingForm, encode}

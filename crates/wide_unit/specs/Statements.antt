@@ -58,6 +58,22 @@ LossyIsScalars = (form : EncodingForm) (us : List ℕ) → All IsScalar (lossy (
 abbrev pub LossyKeepsWellFormed : Type 0
 LossyKeepsWellFormed = (form : EncodingForm) (us : List ℕ) → IsWellFormed form us → encode form (lossy (items form us)) ≡ us
 
+-- the encoding of lossy text is well formed, and its own lossy text
+abbrev pub LossyIsWellFormed : Type 0
+LossyIsWellFormed = (form : EncodingForm) (us : List ℕ) → IsWellFormed form (encode form (lossy (items form us)))
+
+abbrev pub LossyOnceIsEnough : Type 0
+LossyOnceIsEnough = (form : EncodingForm) (us : List ℕ) → encode form (lossy (items form (encode form (lossy (items form us))))) ≡ encode form (lossy (items form us))
+
+-- it has as many units as the units that it is made from
+abbrev pub LossyKeepsLength : Type 0
+LossyKeepsLength = (form : EncodingForm) (us : List ℕ) → length (encode form (lossy (items form us))) ≡ length us
+
+-- the units before the first fault are well formed, and lossy text has them as they are
+abbrev pub LossyKeepsFront : Type 0
+LossyKeepsFront = (form : EncodingForm) (us : List ℕ) (index u : ℕ) → IsFirstFault form us index u
+    → IsWellFormed form (take index us) × (encode form (lossy (items form us)) ≡ take index us ++ encode form (lossy (items form (drop index us))))
+
 -- the encoding of characters is well formed, and decodes to them
 abbrev pub EncodingIsWellFormed : Type 0
 EncodingIsWellFormed = (form : EncodingForm) (cs : List ℕ) → All IsScalar cs → IsWellFormed form (encode form cs)

@@ -15,6 +15,7 @@ mod range;
 mod split;
 mod unit;
 mod utf8;
+mod validation;
 
 pub use compare::{order_of_units, same_units};
 pub use line::split_line;
@@ -24,3 +25,4 @@ pub use range::range_check;
 pub use split::{split_first, split_last};
 pub use unit::Unit;
 pub use utf8::{length_as_utf16, length_as_utf32, next_code_point};
+pub use validation::check;

@@ -1,1 +1,2 @@
 pub mod UtfError
+pub mod Converted

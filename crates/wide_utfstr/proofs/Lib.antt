@@ -1,4 +1,3 @@
-pub mod Whole
 pub mod Boundary
 pub mod Walk
 pub mod IndexedLemmas

@@ -18,4 +18,5 @@ pub use escapes::{EscapeDebug, EscapeDefault, EscapeUnicode};
 pub use iter::{
     CharIndices, CharIndicesUtf16, CharIndicesUtf32, Chars, CharsUtf16, CharsUtf32, CodeUnits,
 };
-pub use view::{Utf16Str, Utf32Str, UtfStr, WideUtfStr, check};
+pub use view::{Utf16Str, Utf32Str, UtfStr, WideUtfStr};
+pub use wide_unit::check;

@@ -19,7 +19,7 @@ use std::ops::RangeBounds;
 use std::slice;
 use wide_iter::{EncodeUtf8, EncodeUtf16, EncodeUtf32, encode_utf8, encode_utf16, encode_utf32};
 use wide_ucstr::UCStr;
-use wide_unit::{Unit, range_check, split_first, split_last};
+use wide_unit::{Unit, check, range_check, split_first, split_last};
 use wide_ustr::UStr;
 use wide_utferror::{FaultUnit, UtfError};
 
@@ -44,24 +44,6 @@ pub type Utf32Str<'a> = UtfStr<'a, u32>;
 
 /// A view of well-formed wide units.
 pub type WideUtfStr<'a> = Utf32Str<'a>;
-
-/// Whether the units are well formed (Unicode Standard, D85). The error is the first fault: its index, in units, and its
-/// unit. Each unit is read once.
-pub fn check<C: Unit>(units: &[C]) -> Result<(), (usize, C)>
-    ensures ok { OnOk result (IsWellFormed C.form (map C.number units.now)) }
-    ensures err { IfErr result (λ fault. IsFirstFault C.form (map C.number units.now) fault.0 (C.number fault.1)) }
-    ensures within { IfErr result (λ fault. fault.0 < length units.now) }
-    ensures well_formed { IsOk result ↔ IsWellFormed C.form (map C.number units.now) }
-{
-    let mut rest = units;
-    while let Some((item, tail)) = split_first(rest) {
-        if let Err(unit) = item {
-            return Err((units.len() - rest.len(), unit));
-        }
-        rest = tail;
-    }
-    Ok(())
-}
 
 impl<'a, C: Unit> UtfStr<'a, C> {
     ghost use Rattle.wide_utfstr.specs.View.{units_seen, text_seen};

@@ -1,14 +1,18 @@
--- Lossy text is text, and that of well-formed units is their own.
-use Rattle.std.proofs.Common.{◌≡◌, ℕ, suc, zero, List, [], ◌∷◌, refl, ◌∙◌, ap, arith}
+-- Lossy text is text, as long as the units, and that of well-formed units is their own.
+use Rattle.std.proofs.Common.{◌≡◌, ℕ, suc, zero, List, [], ◌∷◌, ◌++◌, refl, sym, ◌∙◌, ap, arith, length, length-append}
 use Rattle.std.specs.Prelude.{map}
 use Rattle.std.specs.Char.{IsScalar}
 use Rattle.std.specs.List.{All}
-use Rattle.wide_unit.specs.EncodingForm.{EncodingForm, encode}
-use Rattle.wide_unit.specs.Segmentation.{Item, Char, Fault}
+use Rattle.std.proofs.lemmas.List.{map-append}
+use Rattle.std.proofs.lemmas.List.Concat.{flat_map-append}
+use Rattle.wide_unit.specs.EncodingForm.{EncodingForm, Utf16, Utf32, code_units, encode}
+use Rattle.wide_unit.specs.Segmentation.{Item, Char, Fault, units_of}
 use Rattle.wide_unit.specs.Items.{items, IsWellFormed, chars}
-use Rattle.wide_unit.specs.Lossy.{lossy}
+use Rattle.wide_unit.specs.Lossy.{lossy, lossy_char}
 use Rattle.wide_unit.specs.Laws.Chains.{Chain}
-use Rattle.wide_unit.specs.Laws.Items.{items-chain, chars-of_well_formed, encode-of_items}
+use Rattle.wide_unit.specs.Laws.Items.{items-chain, chars-of_well_formed, encode-of_items, units_of-items}
+use Rattle.wide_unit.specs.Laws.Ends.{items-append_left}
+use Rattle.wide_unit.specs.Laws.Places.{IsWellFormed-encode}
 
 lossy-chars : (cs : List ℕ) → lossy (map Char cs) ≡ cs
 lossy-chars [] = refl
@@ -29,3 +33,37 @@ lossy-scalars form (Fault u ∷ is) chain (suc k) d within = lossy-scalars form 
 
 pub scalars-lossy : (form : EncodingForm) (us : List ℕ) → All IsScalar (lossy (items form us))
 scalars-lossy form us = lossy-scalars form (items form us) (items-chain form us)
+
+pub well_formed-lossy : (form : EncodingForm) (us : List ℕ) → IsWellFormed form (encode form (lossy (items form us)))
+well_formed-lossy form us = IsWellFormed-encode form (lossy (items form us)) (scalars-lossy form us)
+
+-- doing it twice is doing it once
+pub lossy-twice : (form : EncodingForm) (us : List ℕ) → encode form (lossy (items form (encode form (lossy (items form us))))) ≡ encode form (lossy (items form us))
+lossy-twice form us = encode-lossy form (encode form (lossy (items form us))) (well_formed-lossy form us)
+
+-- U+FFFD takes one unit, as a fault does
+one_replacement : (form : EncodingForm) → length (code_units form 0xFFFD) ≡ 1
+one_replacement Utf16 = refl
+one_replacement Utf32 = refl
+
+lengths : (form : EncodingForm) (is : List Item) → length (encode form (lossy is)) ≡ length (units_of form is)
+lengths form [] = refl
+lengths form (Char c ∷ is) = omega (arith, length-append (code_units form c) (encode form (lossy is)), length-append (code_units form c) (units_of form is), lengths form is)
+lengths form (Fault u ∷ is) = omega (arith, length-append (code_units form 0xFFFD) (encode form (lossy is)), one_replacement form, lengths form is)
+
+pub length-lossy : (form : EncodingForm) (us : List ℕ) → length (encode form (lossy (items form us))) ≡ length us
+length-lossy form us = lengths form (items form us) ∙ ap length (units_of-items form us)
+
+-- behind well-formed units, which stay as they are
+pub lossy-after : (form : EncodingForm) (a b : List ℕ) → IsWellFormed form a → encode form (lossy (items form (a ++ b))) ≡ a ++ encode form (lossy (items form b))
+lossy-after form a b well =
+    let xs = lossy (items form a) in
+    let ys = lossy (items form b) in
+    ap (λ is. encode form (lossy is)) (items-append_left form a b well) ∙ ap (λ cs. encode form cs) (map-append lossy_char (items form a) (items form b))
+    ∙ flat_map-append (code_units form) xs ys ∙ ap (λ us. us ++ encode form ys) (encode-lossy form a well)
+
+-- the same of units by their numbers
+pub lossy-split : {C : Type 0} (form : EncodingForm) (number : C → ℕ) (units front back : List C) → front ++ back ≡ units → IsWellFormed form (map number front)
+    → map number front ++ encode form (lossy (items form (map number back))) ≡ encode form (lossy (items form (map number units)))
+lossy-split form number units front back e well =
+    sym (ap (λ us. encode form (lossy (items form us))) (ap (map number) (sym e) ∙ map-append number front back) ∙ lossy-after form (map number front) (map number back) well)

@@ -1,4 +1,5 @@
-use Rattle.wide_unit.specs.Laws.Lossy.{scalars-lossy, encode-lossy}
+use Rattle.wide_unit.specs.Laws.Lossy.{scalars-lossy, encode-lossy, well_formed-lossy, lossy-twice, length-lossy}
+use Rattle.wide_unit.proofs.Faults.{first_fault-front, lossy-behind_front}
 use Rattle.wide_unit.proofs.laws.lossy_text.Goals as goal
 
 pub returns-clause-scalars : goal.returns-clause-scalars
@@ -6,3 +7,15 @@ returns-clause-scalars c = scalars-lossy
 
 pub returns-clause-keeps : goal.returns-clause-keeps
 returns-clause-keeps c = encode-lossy
+
+pub returns-clause-well_formed : goal.returns-clause-well_formed
+returns-clause-well_formed c = well_formed-lossy
+
+pub returns-clause-once : goal.returns-clause-once
+returns-clause-once c = lossy-twice
+
+pub returns-clause-length : goal.returns-clause-length
+returns-clause-length c = length-lossy
+
+pub returns-clause-front : goal.returns-clause-front
+returns-clause-front c = λ form us index u fault. (first_fault-front form us index u fault, lossy-behind_front form us index u fault)

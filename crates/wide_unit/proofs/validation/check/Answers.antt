@@ -5,8 +5,8 @@ use Rattle.wide_unit.specs.Segmentation.{Char, Fault}
 use Rattle.wide_unit.specs.Unit.{item_of}
 use Rattle.wide_unit.proofs.Front.{first_of_nil}
 use Rattle.wide_unit.proofs.Faults.{first_fault-not_well_formed}
-use Rattle.wide_utfstr.proofs.Whole.{chars-end, chars-more, chars-fault}
-use Rattle.wide_utfstr.proofs.view.check.Goals as goal
+use Rattle.wide_unit.proofs.Whole.{chars-end, chars-more, chars-fault}
+use Rattle.wide_unit.proofs.validation.check.Goals as goal
 
 pub returns-in-Err-clause-err : goal.returns-in-Err-clause-err
 returns-in-Err-clause-err g c =
