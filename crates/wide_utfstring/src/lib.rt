@@ -4,10 +4,12 @@
 mod boxed;
 mod case;
 mod compare;
+mod convert;
 mod cow;
 mod display;
 mod extend;
 mod iter;
+mod lossy;
 mod utfstring;
 mod view;
 
