@@ -1,10 +1,10 @@
--- The two ways in which a text is the lossy one of units.
-use Rattle.std.proofs.Common.{◌≡◌, ℕ, List, sym, ap, subst, ◌∙◌}
+-- Lossy text that is made of a well-formed front and the rest, and the two ways in which a text is the lossy one of units.
+use Rattle.std.proofs.Common.{◌≡◌, ℕ, List, ◌++◌, sym, ap, subst, ◌∙◌}
 use Rattle.std.specs.Prelude.{map}
 use Rattle.wide_unit.specs.EncodingForm.{EncodingForm, encode}
 use Rattle.wide_unit.specs.Items.{items, IsWellFormed, IsFirstFault}
 use Rattle.wide_unit.specs.Lossy.{lossy}
-use Rattle.wide_unit.specs.Laws.Lossy.{encode-lossy, well_formed-lossy}
+use Rattle.wide_unit.specs.Laws.Lossy.{encode-lossy, well_formed-lossy, lossy-split}
 use Rattle.wide_unit.specs.declared.unit.Unit.{Ghosts}
 use Rattle.wide_unit.proofs.Faults.{first_fault-not_well_formed}
 use Rattle.wide_ustring.specs.Units.{Units}
@@ -12,6 +12,13 @@ use Rattle.wide_utfstr.specs.View.{units_seen}
 use Rattle.wide_utfstr.specs.declared.view.UtfStr.{UtfStr}
 use Rattle.wide_utfstring.specs.CowText.{IsLossyOf}
 use Rattle.wide_utfstring.specs.declared.cow.CowUtfStr.TheVariants.{Borrowed, Owned}
+
+module _ {C : Type 0} (form : EncodingForm) (number : C → ℕ) (units : List C) where
+  -- a text that has the well-formed front, and that lossy text of the rest follows
+  pub lossy_joined : (front back text : List C) (rest : List ℕ) → front ++ back ≡ units → IsWellFormed form (map number front) → text ≡ front → rest ≡ lossy (items form (map number back))
+      → map number text ++ encode form rest ≡ encode form (lossy (items form (map number units)))
+  lossy_joined front back text rest whole well same left =
+      ap (λ us. map number us ++ encode form rest) same ∙ ap (λ cs. map number front ++ encode form cs) left ∙ lossy-split form number units front back whole well
 
 module _ {C A F : Type 0} {g : Ghosts C} (form : EncodingForm) (number : C → ℕ) (units : List C) where
   pub lossy_borrowed : (view : UtfStr C g) → IsWellFormed form (map number units) → units_seen view ≡ units → IsLossyOf {C = C} {A = A} {F = F} {g = g} form number units (Borrowed view)

@@ -17,8 +17,8 @@ use wide_utfstr::UtfStr;
 /// Well-formed text (Unicode Standard, D85) in a block of its own size, which doesn't grow: what `Box<Utf16Str>` and
 /// `Box<Utf32Str>` are in the Rust crate.
 ///
-/// Two of them are compared through their views, by [`BoxedUtfStr::as_utfstr`]. `{}` prints the text, and `{:?}` what that of this
-/// view does.
+/// Two of them are compared through their views, by [`BoxedUtfStr::as_utfstr`]. `{}` prints the text, and `{:?}` what that of
+/// this view does.
 #[derive(Drop)]
 pub struct BoxedUtfStr<C: FaultUnit, A: Allocator = Global> {
     units: BoxedSlice<C, A>,

@@ -16,8 +16,8 @@ use wide_utfstr::UtfStr;
 /// Well-formed text that is borrowed where it can be, and owned where it had to be made: what `Cow<Utf16Str>` and
 /// `Cow<Utf32Str>` are in the Rust crate.
 ///
-/// Two of them are compared through their views, by [`CowUtfStr::as_utfstr`]. `{}` prints the text, and `{:?}` what that of this
-/// view does.
+/// Two of them are compared through their views, by [`CowUtfStr::as_utfstr`]. `{}` prints the text, and `{:?}` what that of
+/// this view does.
 #[derive(Drop)]
 pub enum CowUtfStr<'a, C: FaultUnit, A: Allocator = Global> {
     /// A view of units that stand elsewhere.
