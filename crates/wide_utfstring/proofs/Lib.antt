@@ -5,3 +5,5 @@ pub mod Units32
 pub mod Drained
 pub mod Drains
 mod Cased
+mod Lossies
+mod Copies

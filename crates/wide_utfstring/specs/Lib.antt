@@ -1,3 +1,4 @@
 pub mod Drain
 pub mod Faults
 pub mod Case
+pub mod CowText

@@ -1,11 +1,11 @@
-//! What is printed of an owned string, and of a drain.
+//! What is printed of an owned string, of text that may be borrowed, of text in a block of its own size, and of a drain.
 ghost use Rattle.std.specs.Prelude.{map, Some};
 ghost use Rattle.wide_unit.specs.Places.{text_of};
 ghost use Rattle.wide_unit.specs.Texts.{debug_output};
 ghost use Rattle.wide_unit.specs.Utf8.{utf8};
 
-use crate::UtfString;
 use crate::iter::DrainUtf;
+use crate::{BoxedUtfStr, CowUtfStr, UtfString};
 use std::alloc::Allocator;
 use std::fmt;
 use wide_utferror::FaultUnit;
@@ -23,6 +23,50 @@ impl<C: FaultUnit, A: Allocator> fmt::Display for UtfString<C, A> {
 
 impl<C: FaultUnit, A: Allocator> fmt::Debug for UtfString<C, A> {
     ghost debug_output = { λ s. debug_output C.form (map C.number s.units) };
+
+    /// Prints a quote, the characters as [`char::escape_debug`] gives them, and a quote.
+    fn fmt<W: fmt::Write>(&self, f: &mut fmt::Formatter<W>) -> fmt::Result {
+        fmt::Debug::fmt(&self.as_utfstr(), f)
+    }
+}
+
+impl<C: FaultUnit, A: Allocator> fmt::Display for CowUtfStr<'_, C, A> {
+    ghost use Rattle.wide_utfstring.specs.CowText.{cow_units};
+
+    ghost output = { λ s. Some (utf8 (text_of C.form C.number (cow_units s))) };
+
+    ghost styled_output = { λ s _. Some (utf8 (text_of C.form C.number (cow_units s))) };
+
+    /// Prints the characters, whatever options the hole has.
+    fn fmt<W: fmt::Write>(&self, f: &mut fmt::Formatter<W>) -> fmt::Result {
+        fmt::Display::fmt(&self.as_utfstr(), f)
+    }
+}
+
+impl<C: FaultUnit, A: Allocator> fmt::Debug for CowUtfStr<'_, C, A> {
+    ghost use Rattle.wide_utfstring.specs.CowText.{cow_units};
+
+    ghost debug_output = { λ s. debug_output C.form (map C.number (cow_units s)) };
+
+    /// Prints a quote, the characters as [`char::escape_debug`] gives them, and a quote.
+    fn fmt<W: fmt::Write>(&self, f: &mut fmt::Formatter<W>) -> fmt::Result {
+        fmt::Debug::fmt(&self.as_utfstr(), f)
+    }
+}
+
+impl<C: FaultUnit, A: Allocator> fmt::Display for BoxedUtfStr<C, A> {
+    ghost output = { λ s. Some (utf8 (text_of C.form C.number s)) };
+
+    ghost styled_output = { λ s _. Some (utf8 (text_of C.form C.number s)) };
+
+    /// Prints the characters, whatever options the hole has.
+    fn fmt<W: fmt::Write>(&self, f: &mut fmt::Formatter<W>) -> fmt::Result {
+        fmt::Display::fmt(&self.as_utfstr(), f)
+    }
+}
+
+impl<C: FaultUnit, A: Allocator> fmt::Debug for BoxedUtfStr<C, A> {
+    ghost debug_output = { λ s. debug_output C.form (map C.number s) };
 
     /// Prints a quote, the characters as [`char::escape_debug`] gives them, and a quote.
     fn fmt<W: fmt::Write>(&self, f: &mut fmt::Formatter<W>) -> fmt::Result {

@@ -15,3 +15,4 @@ pub use Rattle.wide_ustring.specs.CowUnits
 pub use Rattle.wide_ucstr.specs.CString
 pub use Rattle.wide_ucstring.specs.CowCString
 pub use Rattle.wide_utfstr.specs.View
+pub use Rattle.wide_utfstring.specs.CowText

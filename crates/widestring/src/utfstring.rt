@@ -5,6 +5,7 @@ pub use wide_utfextend::{
     UStringInUtfstring, UStringOverUtfstrs,
 };
 pub use wide_utfstring::{
-    DrainUtf, DrainUtf16, DrainUtf32, Utf16StrInUtfstring, Utf16String, Utf32StrInUtfstring,
-    Utf32String, UtfStrInUtfstring, UtfString, WideUtfString,
+    BoxedUtf16Str, BoxedUtf32Str, BoxedUtfStr, CowUtf16Str, CowUtf32Str, CowUtfStr, DrainUtf,
+    DrainUtf16, DrainUtf32, Utf16StrInUtfstring, Utf16String, Utf32StrInUtfstring, Utf32String,
+    UtfStrInUtfstring, UtfString, WideUtfString,
 };

@@ -118,6 +118,20 @@ pub type Texts<'a> = (
     (ucstr::Display<'a, u16>, ucstr::DisplaySkipping<'a, u32>),
 );
 
+// Well-formed text that is borrowed or owned, and well-formed text in a block of its own size.
+pub type OtherTexts<'a> = (
+    (
+        utfstring::CowUtfStr<'a, u16>,
+        utfstring::CowUtf16Str<'a>,
+        utfstring::CowUtf32Str<'a>,
+    ),
+    (
+        utfstring::BoxedUtfStr<u16>,
+        utfstring::BoxedUtf16Str,
+        utfstring::BoxedUtf32Str,
+    ),
+);
+
 // The generic types that the names of a width stand for.
 pub type Generic<'a> = (
     (

@@ -1,0 +1,35 @@
+-- What a contract sees of text that is borrowed where it can be.
+use Rattle.std.specs.Prelude.{◌≡◌, ◌↔◌, ℕ, List, map}
+use Rattle.wide_unit.specs.declared.unit.Unit.{Ghosts}
+use Rattle.wide_unit.specs.EncodingForm.{EncodingForm, encode}
+use Rattle.wide_unit.specs.Items.{items, IsWellFormed}
+use Rattle.wide_unit.specs.Lossy.{lossy}
+use Rattle.wide_ustring.specs.Units.{Units}
+use Rattle.wide_utfstr.specs.View.{units_seen}
+use Rattle.wide_utfstring.specs.declared.cow.CowUtfStr.{CowUtfStr}
+use Rattle.wide_utfstring.specs.declared.cow.CowUtfStr.TheVariants.{Borrowed, Owned}
+
+module _ {C A F : Type 0} {g : Ghosts C} where
+  -- its units
+  abbrev pub cow_units : CowUtfStr C A F g → List C
+  cow_units (Borrowed view) = units_seen view
+  cow_units (Owned string) = string.units
+
+  -- it is a view of units that stand elsewhere
+  abbrev pub IsBorrowed : CowUtfStr C A F g → Type 0
+  IsBorrowed (Borrowed view) = Unit {0}
+  IsBorrowed (Owned string) = ⊥
+
+  -- a fact about the string, where it is owned
+  abbrev pub IfOwned : CowUtfStr C A F g → (Units C → Type 0) → Type 0
+  IfOwned (Borrowed view) P = Unit {0}
+  IfOwned (Owned string) P = P string
+
+  -- the text of the units with U+FFFD for each fault, which is its own lossy text; borrowed exactly where the units are well
+  -- formed, and then these units
+  pub record IsLossyOf (form : EncodingForm) (number : C → ℕ) (units : List C) (text : CowUtfStr C A F g) : Type 0 where
+    pub encoded : map number (cow_units text) ≡ encode form (lossy (items form (map number units)))
+    pub well_formed : IsWellFormed form (map number (cow_units text))
+    pub once : encode form (lossy (items form (map number (cow_units text)))) ≡ map number (cow_units text)
+    pub borrowed : IsBorrowed text ↔ IsWellFormed form (map number units)
+    pub same : IsBorrowed text → cow_units text ≡ units

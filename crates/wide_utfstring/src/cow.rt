@@ -1,0 +1,101 @@
+//! Well-formed text that is borrowed where it can be.
+ghost use Rattle.std.specs.Prelude.{◌≡◌, ◌≤◌, map, Ok, IfOk};
+ghost use Rattle.std.specs.Iterator.{IsFiniteIterable};
+ghost use Rattle.wide_ustring.specs.Extended.{Adds, Collects, numbered};
+ghost use Rattle.wide_utfstr.specs.View.{units_seen};
+ghost use Rattle.wide_utfstring.specs.CowText.{cow_units};
+
+use crate::UtfString;
+use crate::view::UtfStrInUtfstring;
+use std::alloc::{Allocator, Global};
+use wide_error::OutOfMemory;
+use wide_ustring::extend::{Piece, Whole, extend, from_iter};
+use wide_utferror::FaultUnit;
+use wide_utfstr::UtfStr;
+
+/// Well-formed text that is borrowed where it can be, and owned where it had to be made: what `Cow<Utf16Str>` and
+/// `Cow<Utf32Str>` are in the Rust crate.
+///
+/// Two of them are compared through their views, by [`CowUtfStr::as_utfstr`]. `{}` prints the text, and `{:?}` what that of
+/// this view does.
+#[derive(Drop)]
+pub enum CowUtfStr<'a, C: FaultUnit, A: Allocator = Global> {
+    /// A view of units that stand elsewhere.
+    Borrowed(UtfStr<'a, C>),
+    /// A string of its own.
+    Owned(UtfString<C, A>),
+}
+
+/// UTF-16 that is borrowed where it can be.
+pub type CowUtf16Str<'a, A = Global> = CowUtfStr<'a, u16, A>;
+
+/// UTF-32 that is borrowed where it can be.
+pub type CowUtf32Str<'a, A = Global> = CowUtfStr<'a, u32, A>;
+
+impl<'a, C: FaultUnit, A: Allocator> CowUtfStr<'a, C, A> {
+    ghost use Rattle.wide_utfstring.specs.CowText.{IfOwned};
+
+    /// A view of the text. It takes no memory.
+    pub fn as_utfstr(&self) -> UtfStr<'_, C>
+        ensures { units_seen result ≡ cow_units self.now }
+    {
+        match self {
+            CowUtfStr::Borrowed(view) => *view,
+            CowUtfStr::Owned(string) => string.as_utfstr(),
+        }
+    }
+
+    /// The string of the text: where it is borrowed a copy, for which memory is asked for once, and else the owned string itself,
+    /// with its room, which takes no memory.
+    ///
+    /// # Errors
+    ///
+    /// Memory was refused for the copy. The text stands where it was borrowed from.
+    pub fn into_owned(self, alloc: A) -> Result<UtfString<C, A>, OutOfMemory>
+        ensures units { IfOk result (λ s. s.units ≡ cow_units self.entry) }
+        ensures owned { IfOwned self.entry (λ s. result ≡ Ok s) }
+    {
+        match self {
+            CowUtfStr::Borrowed(view) => view.to_utfstring(alloc),
+            CowUtfStr::Owned(string) => Ok(string),
+        }
+    }
+}
+
+impl<C: FaultUnit, A: Allocator, B: Allocator> Piece<UtfString<C, A>, Whole>
+    for CowUtfStr<'_, C, B> {
+    ghost text = { λ s. map C.number (cow_units s) };
+
+    fn push_to(self, string: &mut UtfString<C, A>) -> Result<(), OutOfMemory> {
+        string.push_utfstr(self.as_utfstr())
+    }
+}
+
+impl<C: FaultUnit, A: Allocator> UtfString<C, A> {
+    /// The texts at the end. On want of memory those of the items before the refused one are there.
+    pub fn extend_cows<'a, B: Allocator, U: IntoIterator<Item = CowUtfStr<'a, C, B>>>(
+        &mut self,
+        items: U,
+    ) -> Result<(), OutOfMemory>
+    where
+        C: 'a,
+        requires { IsFiniteIterable U.into_iter_gives U.IntoIter.can_next U.IntoIter.remaining items }
+        ensures added { Adds result U.into_iter_gives U.IntoIter.next_gives (λ s. map C.number (cow_units s)) items (numbered C.number) self.old self.new }
+        ensures capacity { self.old.capacity ≤ self.new.capacity }
+    {
+        extend(self, items)
+    }
+
+    /// A string of the texts. The error is the string of the items before the one that found no memory.
+    pub fn from_iter_cows<'a, B: Allocator, U: IntoIterator<Item = CowUtfStr<'a, C, B>>>(
+        alloc: A,
+        items: U,
+    ) -> Result<Self, Self>
+    where
+        C: 'a,
+        requires { IsFiniteIterable U.into_iter_gives U.IntoIter.can_next U.IntoIter.remaining items }
+        ensures { Collects result U.into_iter_gives U.IntoIter.next_gives (λ s. map C.number (cow_units s)) items (numbered C.number) }
+    {
+        from_iter(UtfString::new(alloc), items)
+    }
+}

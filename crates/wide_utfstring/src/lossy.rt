@@ -1,0 +1,79 @@
+//! Well-formed text of any units, with U+FFFD in the place of each fault.
+ghost use Rattle.std.specs.Prelude.{◌≡◌, ◌≤◌, length, map, take, IsOk, IfOk};
+ghost use Rattle.wide_unit.specs.EncodingForm.{encode};
+ghost use Rattle.wide_unit.specs.Items.{items, IsWellFormed};
+ghost use Rattle.wide_unit.specs.Lossy.{lossy};
+ghost use Rattle.wide_ustr.specs.View.{units_seen as ustr_units};
+ghost use Rattle.wide_ucstr.specs.View.{contents_seen};
+ghost use Rattle.wide_utfstring.specs.CowText.{IsLossyOf};
+
+use crate::{CowUtfStr, UtfString};
+use std::alloc::Allocator;
+use wide_error::OutOfMemory;
+use wide_ucstr::UCStr;
+use wide_unit::check;
+use wide_ustr::UStr;
+use wide_utferror::FaultUnit;
+use wide_utfstr::UtfStr;
+
+impl<C: FaultUnit, A: Allocator> UtfString<C, A> {
+    /// The text of the units, with U+FFFD in the place of each unit that belongs to no character, one for each (Unicode Standard,
+    /// section 3.9, "U+FFFD Substitution of Maximal Subparts"). Where the units are well formed (D85) it is a view of the units
+    /// themselves, and takes no memory. Else it is a string, which has as many units as there are, and memory is asked for once.
+    ///
+    /// # Errors
+    ///
+    /// Memory was refused for a string. Well-formed units never fail.
+    pub fn from_slice_lossy<'a>(
+        alloc: A,
+        units: &'a [C],
+    ) -> Result<CowUtfStr<'a, C, A>, OutOfMemory>
+        ensures text { IfOk result (IsLossyOf C.form C.number units.now) }
+        ensures succeeds { IsWellFormed C.form (map C.number units.now) → IsOk result }
+    {
+        match check(units) {
+            Ok(()) => Ok(CowUtfStr::Borrowed(UtfStr::from_slice_unchecked(units))),
+            Err((index, _unit)) => Ok(CowUtfStr::Owned(UtfString::lossy_copy(
+                alloc, units, index,
+            )?)),
+        }
+    }
+
+    // The text of units that are well formed before this index, with U+FFFD for each fault.
+    fn lossy_copy(alloc: A, units: &[C], index: usize) -> Result<Self, OutOfMemory>
+        requires within { index ≤ length units.now }
+        requires front { IsWellFormed C.form (map C.number (take index units.now)) }
+        ensures { IfOk result (λ s. map C.number s.units ≡ encode C.form (lossy (items C.form (map C.number units.now)))) }
+    {
+        let (front, rest) = units.split_at(index);
+        // U+FFFD takes one unit, as the fault in whose place it stands, so that all fits.
+        let mut text = UtfString::with_capacity(alloc, units.len())?;
+        text.push_utfstr(UtfStr::from_slice_unchecked(front))?;
+        for c in UStr::from_slice(rest).chars_lossy() {
+            text.push(c)?;
+        }
+        Ok(text)
+    }
+
+    /// As [`UtfString::from_slice_lossy`], of the units of a view.
+    pub fn from_ustr_lossy<'a>(
+        alloc: A,
+        view: UStr<'a, C>,
+    ) -> Result<CowUtfStr<'a, C, A>, OutOfMemory>
+        ensures text { IfOk result (IsLossyOf C.form C.number (ustr_units view.entry)) }
+        ensures succeeds { IsWellFormed C.form (map C.number (ustr_units view.entry)) → IsOk result }
+    {
+        UtfString::from_slice_lossy(alloc, view.as_slice())
+    }
+
+    /// As [`UtfString::from_slice_lossy`], of the contents of a C string, without its NUL.
+    pub fn from_ucstr_lossy<'a>(
+        alloc: A,
+        view: UCStr<'a, C>,
+    ) -> Result<CowUtfStr<'a, C, A>, OutOfMemory>
+        ensures text { IfOk result (IsLossyOf C.form C.number (contents_seen view.entry)) }
+        ensures succeeds { IsWellFormed C.form (map C.number (contents_seen view.entry)) → IsOk result }
+    {
+        UtfString::from_slice_lossy(alloc, view.as_slice())
+    }
+}
