@@ -1,5 +1,5 @@
 //! Texts of C strings in UTF-8.
-ghost use Rattle.std.specs.Prelude.{◌≡◌, map, IfOk, IfErr, IfSome, IfNone, OnOk, None, string_bytes};
+ghost use Rattle.std.specs.Prelude.{◌≡◌, [], map, IsOk, IfOk, IfErr, IfSome, IfNone, OnOk, None, string_bytes};
 ghost use Rattle.wide_unit.specs.EncodingForm.{Utf16, Utf32};
 ghost use Rattle.wide_unit.specs.Items.{items, chars, IsWellFormed, IsFirstFault};
 ghost use Rattle.wide_unit.specs.Lossy.{lossy};
@@ -16,13 +16,15 @@ impl<C: FaultUnit> UCStr<'_, C> {
     /// The text of the contents in UTF-8, with U+FFFD for each unit that belongs to no character (Unicode Standard, section
     /// 3.9), and without the NUL.
     ///
-    /// It reads the units twice, and asks for memory once, for as many bytes as the text has.
+    /// It reads the units twice, and asks for memory once, for as many bytes as the text has: for
+    /// none where there are no units.
     ///
     /// # Errors
     ///
     /// The allocation was refused.
     pub fn to_string_lossy<A: Allocator>(self, alloc: A) -> Result<String<A>, OutOfMemory>
-        ensures { IfOk result (λ text. string_bytes text ≡ utf8 (lossy (items C.form (map C.number (contents_seen self.entry))))) }
+        ensures text { IfOk result (λ text. string_bytes text ≡ utf8 (lossy (items C.form (map C.number (contents_seen self.entry))))) }
+        ensures succeeds { contents_seen self.entry ≡ [] → IsOk result }
     {
         self.as_ustr().to_string_lossy(alloc)
     }
@@ -33,7 +35,8 @@ impl UCStr<'_, u16> {
 
     /// The text of the contents in UTF-8, where they are well formed (Unicode Standard, D85), without the NUL.
     ///
-    /// It reads the units three times at most, and asks for memory once, for as many bytes as the text has.
+    /// It reads the units three times at most, and asks for memory once, for as many bytes as the text has: for
+    /// none where there are no units.
     ///
     /// # Errors
     ///
@@ -45,6 +48,7 @@ impl UCStr<'_, u16> {
         ensures fault { IfErr result (λ e. IfSome (utf16_fault e) (λ fault. IsFirstFault Utf16 (contents_seen self.entry) (index_of fault) (unit_of fault))) }
         ensures no_vector { IfErr result (λ e. IfSome (utf16_fault e) (λ fault. vec_of fault ≡ None)) }
         ensures refused { IfErr result (λ e. IfNone (utf16_fault e) (IsWellFormed Utf16 (contents_seen self.entry))) }
+        ensures succeeds { contents_seen self.entry ≡ [] → IsOk result }
     {
         self.as_ustr().to_string(alloc)
     }
@@ -55,7 +59,8 @@ impl UCStr<'_, u32> {
 
     /// The text of the contents in UTF-8, where they are well formed (Unicode Standard, D85), without the NUL.
     ///
-    /// It reads the units three times at most, and asks for memory once, for as many bytes as the text has.
+    /// It reads the units three times at most, and asks for memory once, for as many bytes as the text has: for
+    /// none where there are no units.
     ///
     /// # Errors
     ///
@@ -67,6 +72,7 @@ impl UCStr<'_, u32> {
         ensures fault { IfErr result (λ e. IfSome (utf32_fault e) (λ fault. IsFirstFault Utf32 (contents_seen self.entry) (index_of fault) (unit_of fault))) }
         ensures no_vector { IfErr result (λ e. IfSome (utf32_fault e) (λ fault. vec_of fault ≡ None)) }
         ensures refused { IfErr result (λ e. IfNone (utf32_fault e) (IsWellFormed Utf32 (contents_seen self.entry))) }
+        ensures succeeds { contents_seen self.entry ≡ [] → IsOk result }
     {
         self.as_ustr().to_string(alloc)
     }

@@ -1,7 +1,7 @@
 //! Texts of well-formed views in UTF-8.
-ghost use Rattle.std.specs.Prelude.{◌≡◌, IfOk, string_bytes};
+ghost use Rattle.std.specs.Prelude.{◌≡◌, [], IsOk, IfOk, string_bytes};
 ghost use Rattle.wide_unit.specs.Utf8.{utf8};
-ghost use Rattle.wide_utfstr.specs.View.{text_seen};
+ghost use Rattle.wide_utfstr.specs.View.{units_seen, text_seen};
 
 use crate::view::UtfStr;
 use std::alloc::Allocator;
@@ -12,13 +12,15 @@ use wide_ustr::UStr;
 impl<C: Unit> UtfStr<'_, C> {
     /// The text of the view in UTF-8.
     ///
-    /// It reads the units twice, and asks for memory once, for as many bytes as the text has.
+    /// It reads the units twice, and asks for memory once, for as many bytes as the text has: for
+    /// none where there are no units.
     ///
     /// # Errors
     ///
     /// The allocation was refused.
     pub fn to_string<A: Allocator>(self, alloc: A) -> Result<String<A>, OutOfMemory>
-        ensures { IfOk result (λ text. string_bytes text ≡ utf8 (text_seen self.entry)) }
+        ensures text { IfOk result (λ text. string_bytes text ≡ utf8 (text_seen self.entry)) }
+        ensures succeeds { units_seen self.entry ≡ [] → IsOk result }
     {
         UStr::from_slice(self.as_slice()).to_string_lossy(alloc)
     }

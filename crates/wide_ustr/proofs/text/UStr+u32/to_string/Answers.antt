@@ -9,4 +9,4 @@ use Rattle.wide_ustr.proofs.text.UStr+u32.to_string.Goals as goal
 
 pub returns-in_ok-to_string_lossy-in-Ok-clause-text : goal.returns-in_ok-to_string_lossy-in-Ok-clause-text
 returns-in_ok-to_string_lossy-in-Ok-clause-text g c =
-    c.in_ok-to_string_lossy-in-Ok.ensures ∙ ap utf8 (lossy-well_formed Utf32 _ c.in-Ok.ensures.ok) ∙ ap (λ us. utf8 (chars Utf32 us)) (map-id (units_seen c.args.self))
+    c.in_ok-to_string_lossy-in-Ok.ensures.text ∙ ap utf8 (lossy-well_formed Utf32 _ c.in-Ok.ensures.ok) ∙ ap (λ us. utf8 (chars Utf32 us)) (map-id (units_seen c.args.self))

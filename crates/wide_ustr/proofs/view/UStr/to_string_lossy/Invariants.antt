@@ -1,4 +1,4 @@
-use Rattle.std.proofs.Common.{◌≡◌, ◌++◌, map, string_bytes}
+use Rattle.std.proofs.Common.{◌≡◌, [], ◌++◌, map, string_bytes}
 use Rattle.wide_unit.specs.Items.{items}
 use Rattle.wide_unit.specs.Lossy.{lossy}
 use Rattle.wide_unit.specs.Utf8.{utf8}
@@ -10,4 +10,5 @@ abbrev pub invariant-loop-c : goal.invariant-loop-c
 invariant-loop-c g l =
     let form = g.C.Unit.form in
     let number = g.C.Unit.number in
-    string_bytes l.text ++ utf8 (lossy_left form number l.c-iterator) ≡ utf8 (lossy (items form (map number (units_seen l.self))))
+    (string_bytes l.text ++ utf8 (lossy_left form number l.c-iterator) ≡ utf8 (lossy (items form (map number (units_seen l.self)))))
+    × (units_seen l.self ≡ [] → lossy_left form number l.c-iterator ≡ [])
