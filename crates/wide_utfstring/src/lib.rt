@@ -1,4 +1,5 @@
-//! Owned strings of well-formed text, in units of 16 or 32 bits: UTF-16 and UTF-32.
+//! Owned strings of well-formed text, in units of 16 or 32 bits: UTF-16 and UTF-32; and text that may be borrowed, or that
+//! stands in a block of its own size.
 #![tactic(auto)]
 
 mod boxed;
