@@ -1,8 +1,10 @@
-//! Tests of lines, trims, printing, escapes, case and comparisons, of texts and of any units, at both widths.
+//! Tests of lines, trims, printing, escapes, case, comparisons and conversions, of texts and of any units, at both widths.
 #![tactic(auto)]
 
 #[cfg(test)]
 mod compare_rows;
+#[cfg(test)]
+mod conversion_rows;
 #[cfg(test)]
 mod line_rows;
 #[cfg(test)]

@@ -1,0 +1,296 @@
+//! Conversions: lossy text, text in UTF-8, copies, borrowed, owned and boxed forms, and files of UTF-16.
+use crate::rows::all_hold;
+use std::alloc::Global;
+use widestring::bytes::include_utf16str;
+use widestring::error::{FaultUnit, Utf16BytesError, Utf16ConvertError, Utf32ConvertError};
+use widestring::ucstring::{CowUCStr, UCString};
+use widestring::ustr::UStr;
+use widestring::ustring::{CowUStr, UString};
+use widestring::utfstring::{CowUtfStr, UtfString};
+use widestring::{U16CStr, U16Str, U32Str, Utf16String, Utf32String};
+
+// Units, their lossy text, and whether that is borrowed.
+static LOSSY16: [(&[u16], &[u16], bool); 6] = [
+    (&[0xd83d, 0xde00, 0xd800], &[0xd83d, 0xde00, 0xfffd], false),
+    (&[0xd83d, 0xde00], &[0xd83d, 0xde00], true),
+    (&[0xd800, 0xdc00, 0xd800], &[0xd800, 0xdc00, 0xfffd], false),
+    (
+        &[0xd800, 0xd800, 0xdc00, 0xdc00],
+        &[0xfffd, 0xd800, 0xdc00, 0xfffd],
+        false,
+    ),
+    (&[], &[], true),
+    (&[0xfffd], &[0xfffd], true),
+];
+
+static LOSSY32: [(&[u32], &[u32], bool); 4] = [
+    (&[0xd800, 0xdc00, 0x41], &[0xfffd, 0xfffd, 0x41], false),
+    (&[0x1_f600, 0x11_0000], &[0x1_f600, 0xfffd], false),
+    (&[0x10_ffff], &[0x10_ffff], true),
+    (&[], &[], true),
+];
+
+fn is_lossy<C: FaultUnit + PartialEq>(
+    made: &CowUtfStr<'_, C>,
+    text: &[C],
+    is_borrowed: bool,
+) -> bool {
+    let right_form = match made {
+        CowUtfStr::Borrowed(_) => is_borrowed,
+        CowUtfStr::Owned(_) => !is_borrowed,
+    };
+    right_form && made.as_utfstr().as_slice() == text
+}
+
+fn all_are_lossy<C: FaultUnit + PartialEq>(alloc: Global, rows: &[(&[C], &[C], bool)]) -> bool {
+    for (units, text, is_borrowed) in rows {
+        let is_right = match UtfString::from_slice_lossy(alloc, units) {
+            Ok(made) => is_lossy(&made, text, *is_borrowed),
+            Err(_) => false,
+        };
+        let of_view = match UtfString::from_ustr_lossy(alloc, UStr::from_slice(units)) {
+            Ok(made) => is_lossy(&made, text, *is_borrowed),
+            Err(_) => false,
+        };
+        if !is_right || !of_view {
+            return false;
+        }
+    }
+    true
+}
+
+fn contents_are_lossy(alloc: Global) -> bool {
+    let Ok(view) = U16CStr::from_slice(&[0x41, 0xdc00, 0]) else {
+        return false;
+    };
+    match UtfString::from_ucstr_lossy(alloc, view) {
+        Ok(made) => is_lossy(&made, &[0x41, 0xfffd], false),
+        Err(_) => false,
+    }
+}
+
+// Whether the texts of units, of the contents of a C string and of well-formed text are this one.
+fn all_are<C: FaultUnit>(alloc: Global, text: &str) -> bool {
+    let Ok(string) = UtfString::<C>::from_str(alloc, text) else {
+        return false;
+    };
+    let of_text = match string.as_utfstr().to_string(alloc) {
+        Ok(copy) => copy.as_str() == text,
+        Err(_) => false,
+    };
+    let of_units = match string.as_ustr().to_string_lossy(alloc) {
+        Ok(copy) => copy.as_str() == text,
+        Err(_) => false,
+    };
+    match UCString::<C>::from_str(alloc, text) {
+        Ok(string) => match string.as_ucstr().to_string_lossy(alloc) {
+            Ok(copy) => of_text && of_units && copy.as_str() == text,
+            Err(_) => false,
+        },
+        Err(_) => false,
+    }
+}
+
+fn texts16(alloc: Global) -> bool {
+    let is_told = match U16Str::from_slice(&[0xd83d, 0x41]).to_string(alloc) {
+        Err(Utf16ConvertError::Utf16(fault)) => fault.index() == 0,
+        _ => false,
+    };
+    let is_lossy = match U16Str::from_slice(&[0xd83d, 0x41]).to_string_lossy(alloc) {
+        Ok(text) => text.as_str() == "\u{fffd}A",
+        Err(_) => false,
+    };
+    let is_text = match U16Str::from_slice(&[0x41]).to_string(alloc) {
+        Ok(text) => text.as_str() == "A",
+        Err(_) => false,
+    };
+    is_told && is_lossy && is_text
+}
+
+fn texts32(alloc: Global) -> bool {
+    let is_told = match U32Str::from_slice(&[0x41, 0x11_0000]).to_string(alloc) {
+        Err(Utf32ConvertError::Utf32(fault)) => fault.index() == 1,
+        _ => false,
+    };
+    match U32Str::from_slice(&[0x41, 0x11_0000]).to_string_lossy(alloc) {
+        Ok(text) => is_told && text.as_str() == "A\u{fffd}",
+        Err(_) => false,
+    }
+}
+
+fn copies16(alloc: Global) -> bool {
+    match Utf16String::from_ustr(alloc, U16Str::from_slice(&[0x41, 0xdc00])) {
+        Err(Utf16ConvertError::Utf16(fault)) => {
+            fault.index() == 1
+                && match fault.into_vec() {
+                    Some(units) => units.as_slice() == [0x41, 0xdc00].as_slice(),
+                    None => false,
+                }
+        }
+        _ => false,
+    }
+}
+
+fn copies32(alloc: Global) -> bool {
+    match Utf32String::from_ustr(alloc, U32Str::from_slice(&[0x41, 0x1_f600])) {
+        Ok(string) => string.as_utfstr().eq_str("A😀"),
+        Err(_) => false,
+    }
+}
+
+// Borrowed text made a string, and a string that goes into a box and comes back.
+fn boxes<C: FaultUnit>(alloc: Global) -> bool {
+    let Ok(string) = UtfString::<C>::from_str(alloc, "a😀") else {
+        return false;
+    };
+    let is_owned = match CowUtfStr::Borrowed(string.as_utfstr()).into_owned(alloc) {
+        Ok(copy) => copy.as_utfstr().eq_str("a😀"),
+        Err(_) => false,
+    };
+    match string.into_boxed_utfstr() {
+        Ok(boxed) => {
+            is_owned
+                && boxed.as_utfstr().eq_str("a😀")
+                && boxed.into_utfstring().as_utfstr().eq_str("a😀")
+        }
+        Err(_) => false,
+    }
+}
+
+fn boxes_of_units<C: FaultUnit>(alloc: Global) -> bool {
+    let Ok(string) = UString::<C>::from_str(alloc, "a😀") else {
+        return false;
+    };
+    let is_owned = match CowUStr::Borrowed(string.as_ustr()).into_owned(alloc) {
+        Ok(copy) => copy.len() == string.len(),
+        Err(_) => false,
+    };
+    let len = string.len();
+    match string.into_boxed_ustr() {
+        Ok(boxed) => {
+            let is_right = is_owned && boxed.as_ustr().len() == len;
+            let back = boxed.into_ustring();
+            is_right && back.len() == len && back.capacity() == len
+        }
+        Err(_) => false,
+    }
+}
+
+fn boxes_of_c_strings<C: FaultUnit>(alloc: Global) -> bool {
+    let Ok(string) = UCString::<C>::from_str(alloc, "ab") else {
+        return false;
+    };
+    let is_owned = match CowUCStr::Borrowed(string.as_ucstr()).into_owned(alloc) {
+        Ok(copy) => copy.as_ucstr().as_slice_with_nul().len() == 3,
+        Err(_) => false,
+    };
+    match string.into_boxed_ucstr() {
+        Ok(boxed) => {
+            is_owned
+                && boxed.as_ucstr().len() == 2
+                && boxed.into_ucstring().as_ucstr().as_slice_with_nul().len() == 3
+        }
+        Err(_) => false,
+    }
+}
+
+// Extended by borrowed and boxed text.
+fn extends<C: FaultUnit>(alloc: Global) -> bool {
+    let Ok(text) = UtfString::<C>::from_str(alloc, "é") else {
+        return false;
+    };
+    let mut string = UtfString::<C>::new(alloc);
+    let is_added = string
+        .extend_cows([CowUtfStr::<C, Global>::Borrowed(text.as_utfstr())])
+        .is_ok();
+    match text.into_boxed_utfstr() {
+        Ok(boxed) => {
+            is_added && string.extend_boxed([boxed]).is_ok() && string.as_utfstr().eq_str("éé")
+        }
+        Err(_) => false,
+    }
+}
+
+// A file: its text, or else the index of its first fault, or that its length is odd.
+fn is_included(alloc: Global, bytes: &[u8], text: &str) -> bool {
+    match include_utf16str(alloc, bytes) {
+        Ok(string) => string.as_utfstr().eq_str(text),
+        Err(_) => false,
+    }
+}
+
+fn is_faulty(alloc: Global, bytes: &[u8], index: usize, units: &[u16]) -> bool {
+    match include_utf16str(alloc, bytes) {
+        Err(Utf16BytesError::Utf16(fault)) => {
+            fault.index() == index
+                && match fault.into_vec() {
+                    Some(vec) => vec.as_slice() == units,
+                    None => false,
+                }
+        }
+        _ => false,
+    }
+}
+
+fn is_odd(alloc: Global, bytes: &[u8]) -> bool {
+    match include_utf16str(alloc, bytes) {
+        Err(Utf16BytesError::OddLength) => true,
+        _ => false,
+    }
+}
+
+#[test]
+fn lossy_texts(rt: HostRuntime) {
+    let rows = [
+        all_are_lossy(rt.alloc(), &LOSSY16),
+        all_are_lossy(rt.alloc(), &LOSSY32),
+        contents_are_lossy(rt.alloc()),
+    ];
+    all_hold(&rt, &rows);
+}
+
+#[test]
+fn texts_and_copies(rt: HostRuntime) {
+    let rows = [
+        all_are::<u16>(rt.alloc(), "aé€😀"),
+        all_are::<u32>(rt.alloc(), "aé€😀"),
+        all_are::<u16>(rt.alloc(), ""),
+        texts16(rt.alloc()),
+        texts32(rt.alloc()),
+        copies16(rt.alloc()),
+        copies32(rt.alloc()),
+    ];
+    all_hold(&rt, &rows);
+}
+
+#[test]
+fn borrowed_and_boxed(rt: HostRuntime) {
+    let rows = [
+        boxes::<u16>(rt.alloc()),
+        boxes::<u32>(rt.alloc()),
+        boxes_of_units::<u16>(rt.alloc()),
+        boxes_of_units::<u32>(rt.alloc()),
+        boxes_of_c_strings::<u16>(rt.alloc()),
+        boxes_of_c_strings::<u32>(rt.alloc()),
+        extends::<u16>(rt.alloc()),
+        extends::<u32>(rt.alloc()),
+    ];
+    all_hold(&rt, &rows);
+}
+
+#[test]
+fn files(rt: HostRuntime) {
+    let rows = [
+        is_included(rt.alloc(), b"\xfe\xff\x00\x61\x00\x00", "a"),
+        is_odd(rt.alloc(), b"\x41"),
+        is_faulty(rt.alloc(), b"\x00\xdc", 0, &[0xdc00]),
+        is_faulty(
+            rt.alloc(),
+            b"\xff\xfe\x41\x00\x00\xdc\x00\x00",
+            1,
+            &[0x41, 0xdc00],
+        ),
+        is_included(rt.alloc(), b"", ""),
+    ];
+    all_hold(&rt, &rows);
+}
