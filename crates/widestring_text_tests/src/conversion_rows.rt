@@ -6,6 +6,7 @@ use widestring::error::{FaultUnit, Utf16BytesError, Utf16ConvertError, Utf32Conv
 use widestring::ucstring::{CowUCStr, UCString};
 use widestring::ustr::UStr;
 use widestring::ustring::{CowUStr, UString};
+use widestring::utfstr::UtfStr;
 use widestring::utfstring::{CowUtfStr, UtfString};
 use widestring::{U16CStr, U16Str, U32Str, Utf16String, Utf32String};
 
@@ -91,29 +92,31 @@ fn all_are<C: FaultUnit>(alloc: Global, text: &str) -> bool {
     }
 }
 
-fn texts16(alloc: Global) -> bool {
-    let is_told = match U16Str::from_slice(&[0xd83d, 0x41]).to_string(alloc) {
-        Err(Utf16ConvertError::Utf16(fault)) => fault.index() == 0,
-        _ => false,
-    };
-    let is_lossy = match U16Str::from_slice(&[0xd83d, 0x41]).to_string_lossy(alloc) {
-        Ok(text) => text.as_str() == "\u{fffd}A",
-        Err(_) => false,
-    };
-    let is_text = match U16Str::from_slice(&[0x41]).to_string(alloc) {
-        Ok(text) => text.as_str() == "A",
-        Err(_) => false,
-    };
-    is_told && is_lossy && is_text
+// The index of the fault that keeps units from being text.
+fn fault16(alloc: Global, units: &[u16]) -> Option<usize> {
+    match U16Str::from_slice(units).to_string(alloc) {
+        Err(Utf16ConvertError::Utf16(fault)) => Some(fault.index()),
+        _ => None,
+    }
 }
 
-fn texts32(alloc: Global) -> bool {
-    let is_told = match U32Str::from_slice(&[0x41, 0x11_0000]).to_string(alloc) {
-        Err(Utf32ConvertError::Utf32(fault)) => fault.index() == 1,
-        _ => false,
-    };
-    match U32Str::from_slice(&[0x41, 0x11_0000]).to_string_lossy(alloc) {
-        Ok(text) => is_told && text.as_str() == "A\u{fffd}",
+fn fault32(alloc: Global, units: &[u32]) -> Option<usize> {
+    match U32Str::from_slice(units).to_string(alloc) {
+        Err(Utf32ConvertError::Utf32(fault)) => Some(fault.index()),
+        _ => None,
+    }
+}
+
+fn is_text16(alloc: Global, units: &[u16], text: &str) -> bool {
+    match U16Str::from_slice(units).to_string(alloc) {
+        Ok(copy) => copy.as_str() == text,
+        Err(_) => false,
+    }
+}
+
+fn is_lossy_text<C: FaultUnit>(alloc: Global, units: &[C], text: &str) -> bool {
+    match UStr::from_slice(units).to_string_lossy(alloc) {
+        Ok(copy) => copy.as_str() == text,
         Err(_) => false,
     }
 }
@@ -194,19 +197,25 @@ fn boxes_of_c_strings<C: FaultUnit>(alloc: Global) -> bool {
     }
 }
 
+fn borrowed<C: FaultUnit>(text: UtfStr<'_, C>) -> [CowUtfStr<'_, C>; 1] {
+    [CowUtfStr::Borrowed(text)]
+}
+
+// A string extended by borrowed text.
+fn of_borrowed<C: FaultUnit>(alloc: Global, text: UtfStr<'_, C>) -> UtfString<C> {
+    match UtfString::from_iter_cows(alloc, borrowed(text)) {
+        Ok(string) | Err(string) => string,
+    }
+}
+
 // Extended by borrowed and boxed text.
 fn extends<C: FaultUnit>(alloc: Global) -> bool {
     let Ok(text) = UtfString::<C>::from_str(alloc, "é") else {
         return false;
     };
-    let mut string = UtfString::<C>::new(alloc);
-    let is_added = string
-        .extend_cows([CowUtfStr::<C, Global>::Borrowed(text.as_utfstr())])
-        .is_ok();
+    let mut string = of_borrowed(alloc, text.as_utfstr());
     match text.into_boxed_utfstr() {
-        Ok(boxed) => {
-            is_added && string.extend_boxed([boxed]).is_ok() && string.as_utfstr().eq_str("éé")
-        }
+        Ok(boxed) => string.extend_boxed([boxed]).is_ok() && string.as_utfstr().eq_str("éé"),
         Err(_) => false,
     }
 }
@@ -255,8 +264,11 @@ fn texts_and_copies(rt: HostRuntime) {
         all_are::<u16>(rt.alloc(), "aé€😀"),
         all_are::<u32>(rt.alloc(), "aé€😀"),
         all_are::<u16>(rt.alloc(), ""),
-        texts16(rt.alloc()),
-        texts32(rt.alloc()),
+        fault16(rt.alloc(), &[0xd83d, 0x41]) == Some(0),
+        fault32(rt.alloc(), &[0x41, 0x11_0000]) == Some(1),
+        is_text16(rt.alloc(), &[0x41], "A"),
+        is_lossy_text(rt.alloc(), &[0xd83du16, 0x41], "\u{fffd}A"),
+        is_lossy_text(rt.alloc(), &[0x41u32, 0x11_0000], "A\u{fffd}"),
         copies16(rt.alloc()),
         copies32(rt.alloc()),
     ];
