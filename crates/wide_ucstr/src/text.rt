@@ -1,5 +1,5 @@
 //! Texts of C strings in UTF-8.
-ghost use Rattle.std.specs.Prelude.{◌≡◌, [], map, IsOk, IfOk, IfErr, IfSome, IfNone, OnOk, None, string_bytes};
+ghost use Rattle.std.specs.Prelude.{◌≡◌, ◌<◌, [], length, map, IsOk, IfOk, IfErr, IfSome, IfNone, OnOk, None, string_bytes};
 ghost use Rattle.wide_unit.specs.EncodingForm.{Utf16, Utf32};
 ghost use Rattle.wide_unit.specs.Items.{items, chars, IsWellFormed, IsFirstFault};
 ghost use Rattle.wide_unit.specs.Lossy.{lossy};
@@ -16,8 +16,7 @@ impl<C: FaultUnit> UCStr<'_, C> {
     /// The text of the contents in UTF-8, with U+FFFD for each unit that belongs to no character (Unicode Standard, section
     /// 3.9), and without the NUL.
     ///
-    /// It reads the units twice, and asks for memory once, for as many bytes as the text has: for
-    /// none where there are no units.
+    /// It reads the units twice, and asks for memory once, for as many bytes as the text has: none where there are no units.
     ///
     /// # Errors
     ///
@@ -35,8 +34,8 @@ impl UCStr<'_, u16> {
 
     /// The text of the contents in UTF-8, where they are well formed (Unicode Standard, D85), without the NUL.
     ///
-    /// It reads the units three times at most, and asks for memory once, for as many bytes as the text has: for
-    /// none where there are no units.
+    /// It reads the units three times at most, and asks for memory once, for as many bytes as the text has: none where there
+    /// are no units.
     ///
     /// # Errors
     ///
@@ -46,6 +45,7 @@ impl UCStr<'_, u16> {
         ensures text { IfOk result (λ text. string_bytes text ≡ utf8 (chars Utf16 (contents_seen self.entry))) }
         ensures well_formed { OnOk result (IsWellFormed Utf16 (contents_seen self.entry)) }
         ensures fault { IfErr result (λ e. IfSome (utf16_fault e) (λ fault. IsFirstFault Utf16 (contents_seen self.entry) (index_of fault) (unit_of fault))) }
+        ensures within { IfErr result (λ e. IfSome (utf16_fault e) (λ fault. index_of fault < length (contents_seen self.entry))) }
         ensures no_vector { IfErr result (λ e. IfSome (utf16_fault e) (λ fault. vec_of fault ≡ None)) }
         ensures refused { IfErr result (λ e. IfNone (utf16_fault e) (IsWellFormed Utf16 (contents_seen self.entry))) }
         ensures succeeds { contents_seen self.entry ≡ [] → IsOk result }
@@ -59,8 +59,8 @@ impl UCStr<'_, u32> {
 
     /// The text of the contents in UTF-8, where they are well formed (Unicode Standard, D85), without the NUL.
     ///
-    /// It reads the units three times at most, and asks for memory once, for as many bytes as the text has: for
-    /// none where there are no units.
+    /// It reads the units three times at most, and asks for memory once, for as many bytes as the text has: none where there
+    /// are no units.
     ///
     /// # Errors
     ///
@@ -70,6 +70,7 @@ impl UCStr<'_, u32> {
         ensures text { IfOk result (λ text. string_bytes text ≡ utf8 (chars Utf32 (contents_seen self.entry))) }
         ensures well_formed { OnOk result (IsWellFormed Utf32 (contents_seen self.entry)) }
         ensures fault { IfErr result (λ e. IfSome (utf32_fault e) (λ fault. IsFirstFault Utf32 (contents_seen self.entry) (index_of fault) (unit_of fault))) }
+        ensures within { IfErr result (λ e. IfSome (utf32_fault e) (λ fault. index_of fault < length (contents_seen self.entry))) }
         ensures no_vector { IfErr result (λ e. IfSome (utf32_fault e) (λ fault. vec_of fault ≡ None)) }
         ensures refused { IfErr result (λ e. IfNone (utf32_fault e) (IsWellFormed Utf32 (contents_seen self.entry))) }
         ensures succeeds { contents_seen self.entry ≡ [] → IsOk result }

@@ -1,5 +1,5 @@
 //! Texts of views in UTF-8.
-ghost use Rattle.std.specs.Prelude.{◌≡◌, ◌-◌, ◌^◌, min, length, [], map, IsOk, IfOk, IfErr, IfSome, IfNone, OnOk, None, string_bytes};
+ghost use Rattle.std.specs.Prelude.{◌≡◌, ◌<◌, ◌-◌, ◌^◌, min, length, [], map, IsOk, IfOk, IfErr, IfSome, IfNone, OnOk, None, string_bytes};
 ghost use Rattle.wide_unit.specs.EncodingForm.{Utf16, Utf32};
 ghost use Rattle.wide_unit.specs.Items.{items, chars, IsWellFormed, IsFirstFault};
 ghost use Rattle.wide_unit.specs.Lossy.{lossy};
@@ -27,8 +27,7 @@ impl<C: Unit> UStr<'_, C> {
 
     /// The text of the view in UTF-8, with U+FFFD for each unit that belongs to no character (Unicode Standard, section 3.9).
     ///
-    /// It reads the units twice, and asks for memory once, for as many bytes as the text has: for
-    /// none where there are no units.
+    /// It reads the units twice, and asks for memory once, for as many bytes as the text has: none where there are no units.
     ///
     /// # Errors
     ///
@@ -50,8 +49,8 @@ impl UStr<'_, u16> {
 
     /// The text of the view in UTF-8, where it is well formed (Unicode Standard, D85).
     ///
-    /// It reads the units three times at most, and asks for memory once, for as many bytes as the text has: for
-    /// none where there are no units.
+    /// It reads the units three times at most, and asks for memory once, for as many bytes as the text has: none where there
+    /// are no units.
     ///
     /// # Errors
     ///
@@ -61,6 +60,7 @@ impl UStr<'_, u16> {
         ensures text { IfOk result (λ text. string_bytes text ≡ utf8 (chars Utf16 (units_seen self.entry))) }
         ensures well_formed { OnOk result (IsWellFormed Utf16 (units_seen self.entry)) }
         ensures fault { IfErr result (λ e. IfSome (utf16_fault e) (λ fault. IsFirstFault Utf16 (units_seen self.entry) (index_of fault) (unit_of fault))) }
+        ensures within { IfErr result (λ e. IfSome (utf16_fault e) (λ fault. index_of fault < length (units_seen self.entry))) }
         ensures no_vector { IfErr result (λ e. IfSome (utf16_fault e) (λ fault. vec_of fault ≡ None)) }
         ensures refused { IfErr result (λ e. IfNone (utf16_fault e) (IsWellFormed Utf16 (units_seen self.entry))) }
         ensures succeeds { units_seen self.entry ≡ [] → IsOk result }
@@ -77,8 +77,8 @@ impl UStr<'_, u32> {
 
     /// The text of the view in UTF-8, where it is well formed (Unicode Standard, D85).
     ///
-    /// It reads the units three times at most, and asks for memory once, for as many bytes as the text has: for
-    /// none where there are no units.
+    /// It reads the units three times at most, and asks for memory once, for as many bytes as the text has: none where there
+    /// are no units.
     ///
     /// # Errors
     ///
@@ -88,6 +88,7 @@ impl UStr<'_, u32> {
         ensures text { IfOk result (λ text. string_bytes text ≡ utf8 (chars Utf32 (units_seen self.entry))) }
         ensures well_formed { OnOk result (IsWellFormed Utf32 (units_seen self.entry)) }
         ensures fault { IfErr result (λ e. IfSome (utf32_fault e) (λ fault. IsFirstFault Utf32 (units_seen self.entry) (index_of fault) (unit_of fault))) }
+        ensures within { IfErr result (λ e. IfSome (utf32_fault e) (λ fault. index_of fault < length (units_seen self.entry))) }
         ensures no_vector { IfErr result (λ e. IfSome (utf32_fault e) (λ fault. vec_of fault ≡ None)) }
         ensures refused { IfErr result (λ e. IfNone (utf32_fault e) (IsWellFormed Utf32 (units_seen self.entry))) }
         ensures succeeds { units_seen self.entry ≡ [] → IsOk result }

@@ -11,6 +11,7 @@ use Rattle.wide_utferror.specs.declared.convert.Utf16BytesError.{Utf16BytesError
 use Rattle.wide_utferror.specs.declared.convert.Utf16BytesError.TheVariants.{OddLength, Utf16 as BytesUtf16, OutOfMemory as NoMemoryBytes}
 
 module _ {A : Type 0} where
+  -- what `{}` prints: the text of the cause
   abbrev pub utf16_convert_error_text : Utf16ConvertError A → List ℕ
   utf16_convert_error_text (Utf16 e) = utf16_error_text (index_of e) (unit_of e)
   utf16_convert_error_text OutOfMemory = out_of_memory_text

@@ -12,8 +12,7 @@ use wide_ustr::UStr;
 impl<C: Unit> UtfStr<'_, C> {
     /// The text of the view in UTF-8.
     ///
-    /// It reads the units twice, and asks for memory once, for as many bytes as the text has: for
-    /// none where there are no units.
+    /// It reads the units twice, and asks for memory once, for as many bytes as the text has: none where there are no units.
     ///
     /// # Errors
     ///
