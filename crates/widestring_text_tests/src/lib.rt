@@ -10,6 +10,8 @@ mod line_rows;
 #[cfg(test)]
 mod print_rows;
 #[cfg(test)]
+mod readme;
+#[cfg(test)]
 mod rows;
 #[cfg(test)]
 mod sinks;

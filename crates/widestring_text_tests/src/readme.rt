@@ -1,0 +1,17 @@
+//! The code of README.md on damaged text, word for word.
+use std::test::Fail;
+use widestring::{Utf16Str, Utf16String};
+
+#[test]
+fn damaged(rt: HostRuntime) -> Result<(), Fail> {
+    let units = [0x61, 0xd800, 0xd, 0xa, 0x20, 0x62];
+    let Err(fault) = Utf16Str::from_slice(&units) else {
+        panic!(rt; "half of a pair stands at place 1")
+    };
+    assert_eq!(rt; fault.index(), 1);
+    let mended = Utf16String::from_slice_lossy(rt.alloc(), &units)?;
+    let mut lines = mended.as_utfstr().lines();
+    assert!(rt; lines.next().is_some_and(|line| line.eq_str("a\u{fffd}")));
+    assert!(rt; lines.next().is_some_and(|line| line.trim().eq_str("b")));
+    Ok(())
+}
