@@ -74,6 +74,15 @@ fn debugs<C: FaultUnit>(alloc: Global, view: UStr<'_, C>, text: &str) -> bool {
         && shows(alloc, &view.chars(), text)
 }
 
+// For debugging, lossy characters stand as they are, U+FFFD too.
+fn lossy_shows<C: FaultUnit>(alloc: Global, units: &[C]) -> bool {
+    shows(
+        alloc,
+        &UStr::from_slice(units).chars_lossy(),
+        "\"A\u{fffd}\u{fffd}\"",
+    )
+}
+
 fn string_shows<C: FaultUnit>(alloc: Global, units: &[C], text: &str) -> bool {
     match units.to_vec(alloc) {
         Ok(units) => shows(alloc, &UString::from_vec(units), text),
@@ -182,6 +191,8 @@ fn units(rt: HostRuntime) {
             "A\u{fffd}\u{fffd}",
             "A",
         ),
+        lossy_shows(alloc, &REPLACED16),
+        lossy_shows(alloc, &REPLACED32),
         all_c_strings(alloc, &C_STRINGS16),
         all_c_strings(alloc, &C_STRINGS32),
     ];
