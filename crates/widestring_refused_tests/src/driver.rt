@@ -11,8 +11,8 @@ pub const SMILE: char = '😀';
 pub const TEXT: &str = "a😀";
 
 // A width of units, at which a table is spelled.
-pub trait Width: FaultUnit + PartialEq {
-    // The units of a letter: of `a`, `b`, NUL and U+1F600, or, at `½`, half of a pair.
+pub trait Width: FaultUnit + PartialEq + 'static {
+    // The units of a letter: of `a`, `b`, NUL, U+FFFD and U+1F600, or, at `½`, half of a pair.
     fn letter(letter: char) -> (Self, Option<Self>);
 }
 
@@ -22,6 +22,7 @@ impl Width for u16 {
             'a' => (0x61, None),
             'b' => (0x62, None),
             '½' => (0xd83d, None),
+            '\u{fffd}' => (0xfffd, None),
             '😀' => (0xd83d, Some(0xde00)),
             _ => (0, None),
         }
@@ -34,6 +35,7 @@ impl Width for u32 {
             'a' => (0x61, None),
             'b' => (0x62, None),
             '½' => (0xd83d, None),
+            '\u{fffd}' => (0xfffd, None),
             '😀' => (0x1_f600, None),
             _ => (0, None),
         }

@@ -9,6 +9,8 @@ mod calls;
 #[cfg(test)]
 mod characters;
 #[cfg(test)]
+mod conversions;
+#[cfg(test)]
 mod driver;
 #[cfg(test)]
 mod rows;

@@ -10,6 +10,7 @@ macro_rules! asked {
     };
 }
 
+mod conversions;
 mod drain;
 mod encode;
 mod from_slice;
@@ -102,11 +103,19 @@ pub enum Family {
     Texts16,
     /// The same of 32-bit units.
     Texts32,
+    /// Lossy text of 16-bit units.
+    LossyText16,
+    /// Lossy text of 32-bit units.
+    LossyText32,
+    /// The text of 16-bit units, or its first fault.
+    ToString16,
+    /// The text of 32-bit units, or its first fault.
+    ToString32,
 }
 
 impl Family {
     /// All families, in the order in which they are printed.
-    pub const ALL: [Family; 37] = [
+    pub const ALL: [Family; 41] = [
         Family::Items16,
         Family::Items32,
         Family::Lossy16,
@@ -144,6 +153,10 @@ impl Family {
         Family::Utfstring32,
         Family::Texts16,
         Family::Texts32,
+        Family::LossyText16,
+        Family::LossyText32,
+        Family::ToString16,
+        Family::ToString32,
     ];
 
     /// The family's name, which is its file's without `.txt`.
@@ -186,6 +199,10 @@ impl Family {
             Family::Utfstring32 => "utfstring32",
             Family::Texts16 => "texts16",
             Family::Texts32 => "texts32",
+            Family::LossyText16 => "lossy_text16",
+            Family::LossyText32 => "lossy_text32",
+            Family::ToString16 => "to_string16",
+            Family::ToString32 => "to_string32",
         }
     }
 
@@ -193,7 +210,10 @@ impl Family {
     pub fn fault(self) -> Option<&'static str> {
         match self {
             Family::Hints16 | Family::HintsLossy16 => Some("utf16-hint-held"),
-            Family::FromSlice16 | Family::Utfstring16 => Some("utf16-error-index"),
+            Family::FromSlice16 | Family::Utfstring16 | Family::ToString16 => {
+                Some("utf16-error-index")
+            }
+            Family::LossyText16 => Some("from-slice-lossy-inside-a-pair"),
             Family::HintsEncode8 => Some("utf8-encoder-hint-held"),
             Family::HintsEncode16 => Some("utf16-encoder-hint-held"),
             Family::Insert16 | Family::Insert32 => Some("insert-ustr-panics"),
@@ -241,6 +261,10 @@ impl Family {
             Family::Utfstring32 => utfstring::script::<u32>(alloc, list, question),
             Family::Texts16 => texts::utf16(alloc, list, question),
             Family::Texts32 => texts::utf32(alloc, list, question),
+            Family::LossyText16 => conversions::lossy::<u16>(alloc, list, question),
+            Family::LossyText32 => conversions::lossy::<u32>(alloc, list, question),
+            Family::ToString16 => conversions::text16(alloc, list, question),
+            Family::ToString32 => conversions::text32(alloc, list, question),
         }
     }
 }

@@ -116,6 +116,13 @@ impl Answer {
         self.hex(u64::from(unit));
     }
 
+    /// Adds the index of a first fault.
+    pub fn fault_at(&mut self, index: usize) {
+        self.gap();
+        self.word("!");
+        self.hex(index as u64);
+    }
+
     /// Adds a number in hexadecimal, or a `-` for none.
     pub fn number(&mut self, number: Option<u32>) {
         self.gap();

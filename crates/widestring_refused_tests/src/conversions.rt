@@ -1,0 +1,231 @@
+//! Conversions: lossy text, text in UTF-8, and borrowed and boxed forms.
+use crate::driver::Asks::{Nothing, Once};
+use crate::driver::{Kind, Left, Memory, Room, Row, TEXT, Width, hold_at_both_widths, wrong};
+use std::alloc::Global;
+use std::test::Fail;
+use widestring::error::OutOfMemory;
+use widestring::ucstr::UCStr;
+use widestring::ucstring::{CowUCStr, UCString};
+use widestring::ustr::UStr;
+use widestring::ustring::{CowUStr, UString};
+use widestring::utfstr::UtfStr;
+use widestring::utfstring::{CowUtfStr, UtfString};
+use widestring_test_memory::Heap;
+
+// A conversion: of the other units, or into a box and back.
+#[derive(Clone, Copy)]
+pub enum Conversion {
+    // Lossy text, which is made.
+    Lossy,
+    // Lossy text, which is borrowed.
+    Sound,
+    // Text in UTF-8, lossily and not, that is `a😀`.
+    Utf8Lossy,
+    Utf8,
+    // A string of a view.
+    Owned,
+    // The string itself.
+    Kept,
+    Boxed,
+}
+
+impl Room for Conversion {}
+
+type Text<'a, C> = UtfString<C, &'a Heap>;
+
+// Lossy text of units, where it is made or borrowed as it should be.
+fn lossy<'a, C: Width>(
+    heap: &'a Heap,
+    units: Vec<C, &'a Heap>,
+    other: &[C],
+    is_borrowed: bool,
+) -> Left<'a, C> {
+    match UtfString::from_slice_lossy(heap, other) {
+        Ok(CowUtfStr::Owned(text)) => (text.into_vec(), Ok(!is_borrowed)),
+        Ok(CowUtfStr::Borrowed(text)) => (units, Ok(is_borrowed && text.as_slice() == other)),
+        Err(OutOfMemory) => (units, Err(OutOfMemory)),
+    }
+}
+
+fn utf8_lossy<'a, C: Width>(heap: &'a Heap, units: Vec<C, &'a Heap>, other: &[C]) -> Left<'a, C> {
+    match UStr::from_slice(other).to_string_lossy(heap) {
+        Ok(text) => (units, Ok(text.as_str() == TEXT)),
+        Err(OutOfMemory) => (units, Err(OutOfMemory)),
+    }
+}
+
+fn kept_units<'a, C: Width>(memory: Memory<'a>, units: Vec<C, &'a Heap>) -> Left<'a, C> {
+    let owned: CowUStr<'a, C, &'a Heap> = CowUStr::Owned(UString::from_vec(units));
+    match owned.into_owned(memory.heap) {
+        Ok(string) => (string.into_vec(), Ok(true)),
+        Err(OutOfMemory) => wrong(memory),
+    }
+}
+
+// Strings of any units.
+pub struct OfUnits;
+
+impl<C: Width> Kind<C, Conversion> for OfUnits {
+    fn make<'a>(
+        call: Conversion,
+        memory: Memory<'a>,
+        units: Vec<C, &'a Heap>,
+        other: &[C],
+    ) -> Left<'a, C> {
+        match call {
+            Conversion::Lossy => lossy(memory.heap, units, other, false),
+            Conversion::Sound => lossy(memory.heap, units, other, true),
+            Conversion::Utf8Lossy => utf8_lossy(memory.heap, units, other),
+            Conversion::Owned => {
+                match CowUStr::Borrowed(UStr::from_slice(other)).into_owned(memory.heap) {
+                    Ok(string) => (string.into_vec(), Ok(true)),
+                    Err(OutOfMemory) => (units, Err(OutOfMemory)),
+                }
+            }
+            Conversion::Kept => kept_units(memory, units),
+            _ => match UString::from_vec(units).into_boxed_ustr() {
+                Ok(boxed) => (boxed.into_ustring().into_vec(), Ok(true)),
+                Err(string) => (string.into_vec(), Err(OutOfMemory)),
+            },
+        }
+    }
+}
+
+fn kept_text<'a, C: Width>(memory: Memory<'a>, text: Text<'a, C>) -> Left<'a, C> {
+    let owned: CowUtfStr<'a, C, &'a Heap> = CowUtfStr::Owned(text);
+    match owned.into_owned(memory.heap) {
+        Ok(made) => (made.into_vec(), Ok(true)),
+        Err(OutOfMemory) => wrong(memory),
+    }
+}
+
+fn text_of<'a, C: Width>(
+    call: Conversion,
+    memory: Memory<'a>,
+    text: Text<'a, C>,
+    view: UtfStr<'_, C>,
+) -> Left<'a, C> {
+    match call {
+        Conversion::Utf8 => match view.to_string(memory.heap) {
+            Ok(utf8) => (text.into_vec(), Ok(utf8.as_str() == TEXT)),
+            Err(OutOfMemory) => (text.into_vec(), Err(OutOfMemory)),
+        },
+        Conversion::Owned => match CowUtfStr::Borrowed(view).into_owned(memory.heap) {
+            Ok(made) => (made.into_vec(), Ok(true)),
+            Err(OutOfMemory) => (text.into_vec(), Err(OutOfMemory)),
+        },
+        Conversion::Kept => kept_text(memory, text),
+        _ => match text.into_boxed_utfstr() {
+            Ok(boxed) => (boxed.into_utfstring().into_vec(), Ok(true)),
+            Err(text) => (text.into_vec(), Err(OutOfMemory)),
+        },
+    }
+}
+
+// Strings of well-formed text.
+pub struct OfText;
+
+impl<C: Width> Kind<C, Conversion> for OfText {
+    fn make<'a>(
+        call: Conversion,
+        memory: Memory<'a>,
+        units: Vec<C, &'a Heap>,
+        other: &[C],
+    ) -> Left<'a, C> {
+        let Ok(view) = UtfStr::from_slice(other) else {
+            return wrong(memory);
+        };
+        match UtfString::from_vec(units) {
+            Ok(text) => text_of(call, memory, text, view),
+            Err(_) => wrong(memory),
+        }
+    }
+}
+
+// C strings, whose units end in NUL.
+pub struct OfCStrings;
+
+fn kept_c_string<'a, C: Width>(memory: Memory<'a>, string: UCString<C, &'a Heap>) -> Left<'a, C> {
+    let owned: CowUCStr<'a, C, &'a Heap> = CowUCStr::Owned(string);
+    match owned.into_owned(memory.heap) {
+        Ok(made) => (made.into_vec_with_nul(), Ok(true)),
+        Err(OutOfMemory) => wrong(memory),
+    }
+}
+
+fn c_string_of<'a, C: Width>(
+    call: Conversion,
+    memory: Memory<'a>,
+    string: UCString<C, &'a Heap>,
+    view: UCStr<'_, C>,
+) -> Left<'a, C> {
+    match call {
+        Conversion::Utf8Lossy => match view.to_string_lossy(memory.heap) {
+            Ok(utf8) => (string.into_vec_with_nul(), Ok(utf8.as_str() == TEXT)),
+            Err(OutOfMemory) => (string.into_vec_with_nul(), Err(OutOfMemory)),
+        },
+        Conversion::Owned => match CowUCStr::Borrowed(view).into_owned(memory.heap) {
+            Ok(made) => (made.into_vec_with_nul(), Ok(true)),
+            Err(OutOfMemory) => (string.into_vec_with_nul(), Err(OutOfMemory)),
+        },
+        Conversion::Kept => kept_c_string(memory, string),
+        _ => match string.into_boxed_ucstr() {
+            Ok(boxed) => (boxed.into_ucstring().into_vec_with_nul(), Ok(true)),
+            Err(string) => (string.into_vec_with_nul(), Err(OutOfMemory)),
+        },
+    }
+}
+
+impl<C: Width> Kind<C, Conversion> for OfCStrings {
+    fn make<'a>(
+        call: Conversion,
+        memory: Memory<'a>,
+        units: Vec<C, &'a Heap>,
+        other: &[C],
+    ) -> Left<'a, C> {
+        let Ok(view) = UCStr::from_slice(other) else {
+            return wrong(memory);
+        };
+        match UCString::from_vec(units) {
+            Ok(string) => c_string_of(call, memory, string, view),
+            Err(_) => wrong(memory),
+        }
+    }
+}
+
+static OF_UNITS: [Row<Conversion>; 9] = [
+    (Conversion::Lossy, Once(0), "", "a½", "a\u{fffd}"),
+    (Conversion::Lossy, Once(0), "", "½½😀", "\u{fffd}\u{fffd}😀"),
+    (Conversion::Sound, Nothing(0), "", "a😀", ""),
+    (Conversion::Sound, Nothing(0), "", "", ""),
+    (Conversion::Utf8Lossy, Once(0), "", "a😀", ""),
+    (Conversion::Owned, Once(0), "", "½b", "½b"),
+    (Conversion::Kept, Nothing(2), "½b", "", "½b"),
+    (Conversion::Boxed, Once(2), "½b", "", "½b"),
+    (Conversion::Boxed, Nothing(0), "½b", "", "½b"),
+];
+
+static OF_TEXT: [Row<Conversion>; 5] = [
+    (Conversion::Utf8, Once(0), "", "a😀", ""),
+    (Conversion::Owned, Once(0), "", "a😀", "a😀"),
+    (Conversion::Kept, Nothing(2), "a😀", "", "a😀"),
+    (Conversion::Boxed, Once(2), "a😀", "", "a😀"),
+    (Conversion::Boxed, Nothing(0), "a😀", "", "a😀"),
+];
+
+static OF_C_STRINGS: [Row<Conversion>; 5] = [
+    (Conversion::Utf8Lossy, Once(0), "\0", "a😀\0", "\0"),
+    (Conversion::Owned, Once(0), "\0", "½b\0", "½b\0"),
+    (Conversion::Kept, Nothing(2), "½\0", "\0", "½\0"),
+    (Conversion::Boxed, Once(2), "½\0", "\0", "½\0"),
+    (Conversion::Boxed, Nothing(0), "½\0", "\0", "½\0"),
+];
+
+#[test]
+fn conversions(rt: HostRuntime) -> Result<(), Fail> {
+    let alloc: Global = rt.alloc();
+    hold_at_both_widths::<_, OfUnits>(&rt, alloc, &OF_UNITS)?;
+    hold_at_both_widths::<_, OfText>(&rt, alloc, &OF_TEXT)?;
+    hold_at_both_widths::<_, OfCStrings>(&rt, alloc, &OF_C_STRINGS)?;
+    Ok(())
+}

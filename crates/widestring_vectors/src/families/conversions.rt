@@ -1,0 +1,78 @@
+//! Conversions of units of either width. `l` asks for their lossy text, whose answer begins with a `b` where it is borrowed and
+//! with an `o` where it is owned, and `y` for the bytes of that text in UTF-8; `s` for the bytes of their text, or the index of
+//! the fault after a `!`.
+use crate::parse::{self, NoAnswer};
+use crate::show::Answer;
+use std::alloc::Global;
+use widestring::error::{FaultUnit, Utf16ConvertError, Utf32ConvertError};
+use widestring::ustr::UStr;
+use widestring::utfstring::{CowUtfStr, UtfString};
+use widestring::{U16Str, U32Str};
+
+fn bytes_of(alloc: Global, text: &str) -> Result<String, NoAnswer> {
+    let mut answer = Answer::new(alloc);
+    for byte in text.bytes() {
+        answer.number(Some(u32::from(byte)));
+    }
+    answer.finish()
+}
+
+fn made<C: FaultUnit>(alloc: Global, units: &[C]) -> Result<String, NoAnswer> {
+    let made = UtfString::from_slice_lossy(alloc, units)?;
+    let mut answer = Answer::new(alloc);
+    match &made {
+        CowUtfStr::Borrowed(_) => answer.word("b"),
+        CowUtfStr::Owned(_) => answer.word("o"),
+    }
+    answer.units(made.as_utfstr().as_slice());
+    answer.finish()
+}
+
+/// What is answered about the lossy text of units.
+pub fn lossy<C: FaultUnit + parse::FromHex>(
+    alloc: Global,
+    list: &str,
+    question: &str,
+) -> Result<String, NoAnswer> {
+    let units = parse::list::<C>(alloc, list)?;
+    match question.as_bytes() {
+        [b'l'] => made(alloc, &units),
+        [b'y'] => {
+            let text = UStr::from_slice(&units).to_string_lossy(alloc)?;
+            bytes_of(alloc, &text)
+        }
+        _ => Err(NoAnswer::Unparsed),
+    }
+}
+
+fn fault_at(alloc: Global, index: usize) -> Result<String, NoAnswer> {
+    let mut answer = Answer::new(alloc);
+    answer.fault_at(index);
+    answer.finish()
+}
+
+/// What is answered about the text of 16-bit units.
+pub fn text16(alloc: Global, list: &str, question: &str) -> Result<String, NoAnswer> {
+    let units = parse::list::<u16>(alloc, list)?;
+    if question != "s" {
+        return Err(NoAnswer::Unparsed);
+    }
+    match U16Str::from_slice(&units).to_string(alloc) {
+        Ok(text) => bytes_of(alloc, &text),
+        Err(Utf16ConvertError::Utf16(fault)) => fault_at(alloc, fault.index()),
+        Err(Utf16ConvertError::OutOfMemory) => Err(NoAnswer::OutOfMemory),
+    }
+}
+
+/// What is answered about the text of 32-bit units.
+pub fn text32(alloc: Global, list: &str, question: &str) -> Result<String, NoAnswer> {
+    let units = parse::list::<u32>(alloc, list)?;
+    if question != "s" {
+        return Err(NoAnswer::Unparsed);
+    }
+    match U32Str::from_slice(&units).to_string(alloc) {
+        Ok(text) => bytes_of(alloc, &text),
+        Err(Utf32ConvertError::Utf32(fault)) => fault_at(alloc, fault.index()),
+        Err(Utf32ConvertError::OutOfMemory) => Err(NoAnswer::OutOfMemory),
+    }
+}
