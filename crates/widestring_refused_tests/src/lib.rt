@@ -11,6 +11,8 @@ mod characters;
 #[cfg(test)]
 mod conversions;
 #[cfg(test)]
+mod copies;
+#[cfg(test)]
 mod driver;
 #[cfg(test)]
 mod rows;

@@ -9,9 +9,14 @@ fn damaged(rt: HostRuntime) -> Result<(), Fail> {
         panic!(rt; "half of a pair stands at place 1")
     };
     assert_eq!(rt; fault.index(), 1);
-    let mended = Utf16String::from_slice_lossy(rt.alloc(), &units)?;
-    let mut lines = mended.as_utfstr().lines();
+    let lossy = Utf16String::from_slice_lossy(rt.alloc(), &units)?;
+    let mut lines = lossy.as_utfstr().lines();
     assert!(rt; lines.next().is_some_and(|line| line.eq_str("a\u{fffd}")));
     assert!(rt; lines.next().is_some_and(|line| line.trim().eq_str("b")));
+    let mut mended = lossy.into_owned(rt.alloc())?;
+    mended.retain(|c| c != '\u{fffd}');
+    mended.push_str("\r\n")?;
+    let text = mended.as_utfstr().to_string(rt.alloc())?;
+    assert_eq!(rt; text.as_str(), "a\r\n b\r\n");
     Ok(())
 }
