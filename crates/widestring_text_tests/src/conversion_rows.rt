@@ -1,5 +1,6 @@
 //! Conversions: lossy text, text in UTF-8, copies, borrowed, owned and boxed forms, and files of UTF-16.
 use crate::rows::all_hold;
+use crate::sinks::{prints, shows};
 use std::alloc::Global;
 use widestring::bytes::include_utf16str;
 use widestring::error::{FaultUnit, Utf16BytesError, Utf16ConvertError, Utf32ConvertError};
@@ -153,6 +154,8 @@ fn boxes<C: FaultUnit>(alloc: Global) -> bool {
     match string.into_boxed_utfstr() {
         Ok(boxed) => {
             is_owned
+                && prints(alloc, &boxed, "a😀")
+                && shows(alloc, &boxed, "\"a😀\"")
                 && boxed.as_utfstr().eq_str("a😀")
                 && boxed.into_utfstring().as_utfstr().eq_str("a😀")
         }
@@ -171,7 +174,9 @@ fn boxes_of_units<C: FaultUnit>(alloc: Global) -> bool {
     let len = string.len();
     match string.into_boxed_ustr() {
         Ok(boxed) => {
-            let is_right = is_owned && boxed.as_ustr().len() == len;
+            let is_right = is_owned
+                && shows(alloc, &boxed, "\"a😀\"")
+                && boxed.as_ustr().len() == len;
             let back = boxed.into_ustring();
             is_right && back.len() == len && back.capacity() == len
         }
@@ -190,6 +195,7 @@ fn boxes_of_c_strings<C: FaultUnit>(alloc: Global) -> bool {
     match string.into_boxed_ucstr() {
         Ok(boxed) => {
             is_owned
+                && shows(alloc, &boxed, "\"ab\\0\"")
                 && boxed.as_ucstr().len() == 2
                 && boxed.into_ucstring().as_ucstr().as_slice_with_nul().len() == 3
         }
@@ -248,12 +254,32 @@ fn is_odd(alloc: Global, bytes: &[u8]) -> bool {
     }
 }
 
+// What lossy text prints, and a borrowed view.
+fn lossy_prints(alloc: Global) -> bool {
+    match UtfString::from_slice_lossy(alloc, &[0x41u16, 0xd800]) {
+        Ok(made) => { prints(alloc, &made, "A\u{fffd}") && shows(alloc, &made, "\"A\u{fffd}\"") }
+        Err(_) => false,
+    }
+}
+
+fn borrowed_show<'a>(alloc: Global, view: U16Str<'a>, c_string: U16CStr<'a>) -> bool {
+    let units: CowUStr<'a, u16> = CowUStr::Borrowed(view);
+    let ended: CowUCStr<'a, u16> = CowUCStr::Borrowed(c_string);
+    shows(alloc, &units, "\"A\\<D800>\"") && shows(alloc, &ended, "\"\\0\"")
+}
+
 #[test]
 fn lossy_texts(rt: HostRuntime) {
     let rows = [
         all_are_lossy(rt.alloc(), &LOSSY16),
         all_are_lossy(rt.alloc(), &LOSSY32),
         contents_are_lossy(rt.alloc()),
+        lossy_prints(rt.alloc()),
+        borrowed_show(
+            rt.alloc(),
+            U16Str::from_slice(&[0x41, 0xd800]),
+            U16CStr::default(),
+        ),
     ];
     all_hold(&rt, &rows);
 }

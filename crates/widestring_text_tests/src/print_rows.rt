@@ -148,11 +148,23 @@ fn escapes_print<C: FaultUnit>(alloc: Global, text: UtfStr<'_, C>) -> bool {
         && prints(alloc, &escape, "u{61}\\u{9}\\u{1f600}\\u{62}")
 }
 
+// For debugging, between quotes.
+fn escapes_show<C: FaultUnit>(alloc: Global, text: UtfStr<'_, C>) -> bool {
+    shows(alloc, &text.escape_debug(), "\"a\\t😀b\"")
+        && shows(alloc, &text.escape_default(), "\"a\\t\\u{1f600}b\"")
+        && shows(
+            alloc,
+            &text.escape_unicode(),
+            "\"\\u{61}\\u{9}\\u{1f600}\\u{62}\"",
+        )
+}
+
 fn text_prints<C: FaultUnit>(alloc: Global) -> bool {
     match UtfString::<C>::from_str(alloc, "a\t😀b") {
         Ok(string) => {
             view_prints(alloc, string.as_utfstr())
                 && escapes_print(alloc, string.as_utfstr())
+                && escapes_show(alloc, string.as_utfstr())
                 && prints(alloc, &string, "a\t😀b")
                 && shows(alloc, &string, "\"a\\t😀b\"")
         }
@@ -171,6 +183,25 @@ fn drain_prints<C: FaultUnit>(alloc: Global, gives: bool, text: &str, debug: &st
         let _last = drain.next_back();
     }
     prints(alloc, &drain, text) && shows(alloc, &drain, debug)
+}
+
+// What the middle of three characters prints: those that are left between both ends, and a drain of it that is not read.
+fn middle_prints<C: FaultUnit>(alloc: Global) -> bool {
+    let Ok(mut string) = UtfString::<C>::from_str(alloc, "a😀b") else {
+        return false;
+    };
+    let mut chars = string.as_utfstr().chars();
+    let _first = chars.next();
+    let _last = chars.next_back();
+    let is_right = prints(alloc, &chars, "😀");
+    let start = string.as_utfstr().unit_offset(1);
+    let end = string.as_utfstr().unit_offset(2);
+    match (start, end) {
+        (Some(start), Some(end)) if start <= end => {
+            is_right && prints(alloc, &string.drain(start..end), "😀")
+        }
+        _ => false,
+    }
 }
 
 #[test]
@@ -203,6 +234,8 @@ fn units(rt: HostRuntime) {
 fn texts(rt: HostRuntime) {
     let alloc = rt.alloc();
     let rows = [
+        middle_prints::<u16>(alloc),
+        middle_prints::<u32>(alloc),
         text_prints::<u16>(alloc),
         text_prints::<u32>(alloc),
         drain_prints::<u16>(alloc, true, "\t😀", "\"\\t😀\""),
