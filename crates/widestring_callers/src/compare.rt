@@ -4,10 +4,11 @@ ghost use Rattle.std.specs.Cmp.Lexicographic.{slice_cmp};
 ghost use Rattle.std.specs.Hash as fed;
 ghost use Rattle.std.specs.List.{fold};
 ghost use Rattle.std.specs.Ordering.{nat_cmp};
+ghost use Rattle.widestring.specs.View.{units_seen};
 
 use std::cmp::Ordering;
 use std::hash::{Hash, Hasher};
-use widestring::{U16String, U32CString, Utf16String};
+use widestring::{U16String, U32CString, Utf16Str, Utf16String, Utf32Str};
 
 /// Whether two strings of 16-bit units are equal, and how they are ordered.
 pub fn compared(left: &U16String, right: &U16String) -> (bool, Ordering)
@@ -31,6 +32,21 @@ pub fn compared_texts(left: &Utf16String, right: &Utf16String) -> (bool, Orderin
     ensures order { result.1 ≡ slice_cmp nat_cmp left.now.units right.now.units }
 {
     (left == right, left.cmp(right))
+}
+
+/// The same of two views of UTF-16.
+pub fn compared_views(left: Utf16Str<'_>, right: Utf16Str<'_>) -> (bool, Ordering)
+    ensures equal { IsTrue result.0 ↔ (units_seen left.entry ≡ units_seen right.entry) }
+    ensures order { result.1 ≡ slice_cmp nat_cmp (units_seen left.entry) (units_seen right.entry) }
+{
+    (left == right, left.cmp(&right))
+}
+
+/// What a view of UTF-32 feeds a hasher: what the slice of its units does.
+pub fn hashed_view<H: Hasher>(view: Utf32Str<'_>, state: &mut H)
+    ensures { state.new ≡ fold H.write state.old (fed.slice fed.u32 (units_seen view.entry)) }
+{
+    view.hash(state);
 }
 
 /// What a text feeds a hasher: what the slice of its units does, so that equal texts hash alike.

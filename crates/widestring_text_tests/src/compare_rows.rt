@@ -10,7 +10,9 @@ use widestring::ucstring::UCString;
 use widestring::ustr::UStr;
 use widestring::utfstr::{UCStrInUtfstr, UStrInUtfstr, UtfStr};
 use widestring::utfstring::UtfString;
-use widestring::{U16CStr, U16CString, U16Str, U16String, U32CStr, U32Str, Utf16Str, Utf32Str};
+use widestring::{
+    U16CStr, U16CString, U16Str, U16String, U32CStr, U32Str, Utf16Str, Utf32Str, ucstr, ustr,
+};
 
 // Two texts, and their order.
 static PAIRS: [(&str, &str, Ordering); 8] = [
@@ -146,6 +148,30 @@ fn one_type_and_another(rt: HostRuntime) -> Result<(), Fail> {
         widths_compare(shorter, wide, &['a', '😀', '😀'], false),
         !text.eq_ustr(half),
         !half.eq_utfstr(text),
+    ];
+    all_hold(&rt, &rows);
+    Ok(())
+}
+
+// The laws of order and hash, which make the calls that they speak of.
+#[test]
+fn laws_are_there(rt: HostRuntime) -> Result<(), Fail> {
+    let (less, more) = (U16Str::from_slice(&[0xd800]), U16Str::from_slice(&[0xe000]));
+    let wide = U32Str::from_slice(&[0x11_0000]);
+    let (short, longer) = (U16CStr::default(), U16CStr::from_slice(&[1, 0])?);
+    let wide_c_string = U32CStr::default();
+    let mut state = DefaultHasher::new();
+    ustr::laws::hash_of_units(less, &mut state);
+    let mut c_state = DefaultHasher::new();
+    ucstr::laws::hash_of_units(longer, &mut c_state);
+    let rows = [
+        ustr::laws::comparisons_of_units16(less, more) == (false, Ordering::Less),
+        ustr::laws::comparisons_of_units32(wide, wide) == (true, Ordering::Equal),
+        ucstr::laws::comparisons_of_units16(longer, short) == (false, Ordering::Greater),
+        ucstr::laws::comparisons_of_units32(wide_c_string, wide_c_string)
+            == (true, Ordering::Equal),
+        state.finish() == hash_of(&less),
+        c_state.finish() == hash_of(&longer),
     ];
     all_hold(&rt, &rows);
     Ok(())
