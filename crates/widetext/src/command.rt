@@ -84,8 +84,7 @@ fn write_edits<K: ByteSink>(
     requires { K.has_failed sink.old ≡ false }
     ensures refused { OnErr result (K.has_failed sink.new ≡ false → sink.new ≡ sink.old) }
 {
-    let lines = edit_lines(alloc, text, edits)?;
-    put_all(sink, lines.as_bytes())
+    put_all(sink, edit_lines(alloc, text, edits)?.as_bytes())
 }
 
 /// Does what the words after the program's name say, and answers the exit status: 0 on success, 1 after a refusal,

@@ -3,7 +3,7 @@
 use crate::edit_words::EditWord;
 use std::alloc::{AllocError, Global};
 use std::fmt::Write;
-use wide_edit::{Edit, Reply, Stopped, run_both};
+use wide_edit::{Reply, run_both};
 use wide_error::OutOfMemory;
 use wide_utfstring::{Utf16String, Utf32String};
 
@@ -50,18 +50,33 @@ fn push_strings(
 }
 
 /// A line for each reply to the edits of a text, and what UTF-16 and UTF-32 hold of it then.
-pub fn edit_lines(alloc: Global, text: &str, words: &[EditWord<'_>]) -> Result<String, OutOfMemory> {
+pub fn edit_lines(
+    alloc: Global,
+    text: &str,
+    words: &[EditWord<'_>],
+) -> Result<String, OutOfMemory> {
     let mut edits = Vec::with_capacity(alloc, words.len())?;
     for word in words {
         edits.push(word.edit())?;
     }
     let mut narrow = Utf16String::from_str(alloc, text)?;
     let mut wide = Utf32String::from_str(alloc, text)?;
-    let mut narrow_replies = Vec::new(alloc);
-    let mut wide_replies = Vec::new(alloc);
-    run_both(alloc, &mut narrow, &mut wide, &edits, &mut narrow_replies, &mut wide_replies)?;
+    let mut replies = Vec::new(alloc);
+    let mut same_replies = Vec::new(alloc);
+    if run_both(
+        alloc,
+        &mut narrow,
+        &mut wide,
+        &edits,
+        &mut replies,
+        &mut same_replies,
+    )
+    .is_err()
+    {
+        return Err(OutOfMemory);
+    }
     let mut lines = String::new(alloc);
-    for reply in &narrow_replies {
+    for reply in &replies {
         push_reply(&mut lines, reply)?;
     }
     push_strings(&mut lines, &narrow, &wide)?;

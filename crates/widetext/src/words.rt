@@ -97,10 +97,9 @@ fn parse_edit_request<'a>(
     }
 }
 
-/// What the words ask for, where they are in order.
-pub fn parse_words(alloc: Global, words: &[String]) -> Result<Option<Request<'_>>, AllocError>
-    ensures utf8 { (mode : Mode) → AsksForUtf8 mode words.now → result ≡ Ok (Some (Request.Utf8 mode)) }
-    ensures utf8_alone { (mode : Mode) → result ≡ Ok (Some (Request.Utf8 mode)) → AsksForUtf8 mode words.now }
+// What the words ask for that reads no input, where they are in order.
+fn parse_other_words(alloc: Global, words: &[String]) -> Result<Option<Request<'_>>, AllocError>
+    ensures no_utf8 { (mode : Mode) → result ≢ Ok (Some (Request.Utf8 mode)) }
     ensures unknown { IsUnknown words.now → result ≡ Ok None }
 {
     match words {
@@ -110,10 +109,21 @@ pub fn parse_words(alloc: Global, words: &[String]) -> Result<Option<Request<'_>
         [word, text, edits @ ..] if word.as_str() == "edit" => {
             parse_edit_request(alloc, text.as_str(), edits)
         }
+        _ => Ok(None),
+    }
+}
+
+/// What the words ask for, where they are in order.
+pub fn parse_words(alloc: Global, words: &[String]) -> Result<Option<Request<'_>>, AllocError>
+    ensures utf8 { (mode : Mode) → AsksForUtf8 mode words.now → result ≡ Ok (Some (Request.Utf8 mode)) }
+    ensures utf8_alone { (mode : Mode) → result ≡ Ok (Some (Request.Utf8 mode)) → AsksForUtf8 mode words.now }
+    ensures unknown { IsUnknown words.now → result ≡ Ok None }
+{
+    match words {
         [word] if word.as_str() == "utf8" => Ok(Some(Request::Utf8(Mode::Strict))),
         [word, option] if word.as_str() == "utf8" && option.as_str() == "--lossy" => {
             Ok(Some(Request::Utf8(Mode::Lossy)))
         }
-        _ => Ok(None),
+        _ => parse_other_words(alloc, words),
     }
 }
