@@ -3,7 +3,7 @@ ghost use Rattle.std.specs.Prelude.{◌≡◌, ◌≤◌, [], length, map, vec_c
 ghost use Rattle.wide_unit.specs.Places.{text_of};
 ghost use Rattle.wide_utfstr.specs.View.{text_seen};
 ghost use Rattle.wide_edit.specs.Step.{changed};
-ghost use Rattle.wide_edit.specs.Run.{IsMade, HasReplyRoom};
+ghost use Rattle.wide_edit.specs.Edited.{IsMade, HasReplyRoom};
 ghost use Rattle.wide_edit.specs.Found.{first_number, second_number, CanHold, IsFoundAt};
 ghost use Rattle.wide_edit.specs.declared.edits.Edit.TheVariants as edit_of;
 

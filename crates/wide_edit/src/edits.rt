@@ -2,7 +2,7 @@
 ghost use Rattle.std.specs.Prelude.{◌≡◌, ℕ, List, length, IfOk, OnOk};
 ghost use Rattle.wide_unit.specs.EncodingForm.{EncodingForm, encode};
 ghost use Rattle.wide_edit.specs.Step.{step, answer_of};
-ghost use Rattle.wide_edit.specs.Run.{HasReplyRoom};
+ghost use Rattle.wide_edit.specs.Edited.{HasReplyRoom};
 
 use std::alloc::Global;
 use std::error::Error;

@@ -1,7 +1,7 @@
 //! Lists of edits, of one text and of two.
 ghost use Rattle.std.specs.Prelude.{◌≡◌, ◌<◌, length, take, IfErr, OnOk, OnErr};
 ghost use Rattle.wide_unit.specs.EncodingForm.{encode};
-ghost use Rattle.wide_edit.specs.Run.{HasStepped, HasRun};
+ghost use Rattle.wide_edit.specs.Edited.{HasStepped, HasRun};
 
 use crate::edits::{Edit, Reply, Stopped, TextEdit};
 use std::alloc::Global;

@@ -2,7 +2,7 @@
 ghost use Rattle.std.specs.Prelude.{◌≡◌, map, IsOk, OnOk, IfOk};
 ghost use Rattle.wide_unit.specs.Places.{text_of};
 ghost use Rattle.wide_edit.specs.Step.{step, chars_in};
-ghost use Rattle.wide_edit.specs.Run.{HasReplyRoom};
+ghost use Rattle.wide_edit.specs.Edited.{HasReplyRoom};
 ghost use Rattle.wide_edit.specs.Found.{CanHold};
 
 use crate::arms::apply_at;

@@ -1,5 +1,5 @@
 use Rattle.std.proofs.Common.{◌≡◌, take}
-use Rattle.wide_edit.specs.Run.{HasRun}
+use Rattle.wide_edit.specs.Edited.{HasRun}
 use Rattle.wide_edit.proofs.lockstep.make_all.Given as goal
 
 -- as many edits are made as were gone over
