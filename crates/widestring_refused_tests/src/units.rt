@@ -1,5 +1,7 @@
 //! Strings of any units.
-use crate::calls::{Items, StringCall, halves, strings, ucstrings, ustrings, utfstrings};
+use crate::calls::{
+    Items, StringCall, boxed_ustrs, cow_ustrs, halves, strings, ucstrings, ustrings, utfstrings,
+};
 use crate::driver::{Kind, Left, Memory, SMILE, TEXT, Width};
 use std::alloc::Global;
 use widestring::error::OutOfMemory;
@@ -27,11 +29,27 @@ fn made<'a, C: Width>(
     }
 }
 
-// Of the other units twice where they are a C string, else of characters. The error is what was made before the refusal.
-fn made_of_items<'a, C: Width>(heap: &'a Heap, other: &[C]) -> Result<Units<'a, C>, Units<'a, C>> {
-    match UCStr::from_slice(other) {
-        Ok(view) => UString::from_iter_ucstrs(heap, [view, view]),
-        Err(_) => UString::from_iter_chars(heap, ['a', SMILE]),
+// The error is what was made before the refusal.
+fn made_of_items<'a, C: Width>(
+    items: Items,
+    memory: Memory<'a>,
+    other: &[C],
+) -> Result<Units<'a, C>, Units<'a, C>> {
+    let heap = memory.heap;
+    match items {
+        Items::Ucstrs => match UCStr::from_slice(other) {
+            Ok(view) => UString::from_iter_ucstrs(heap, [view, view]),
+            Err(_) => Err(UString::new(heap)),
+        },
+        Items::Boxed => match boxed_ustrs(memory.alloc) {
+            Ok((a, smile)) => UString::from_iter_boxed(heap, [a, smile]),
+            Err(OutOfMemory) => Err(UString::new(heap)),
+        },
+        Items::Cows => match cow_ustrs(memory.alloc, other) {
+            Ok((a, smile)) => UString::from_iter_cows(heap, [a, smile]),
+            Err(OutOfMemory) => Err(UString::new(heap)),
+        },
+        _ => UString::from_iter_chars(heap, ['a', SMILE]),
     }
 }
 
@@ -76,6 +94,14 @@ fn extend<C: Width>(
         Items::Ucstrings => {
             let (a, smile) = ucstrings(alloc)?;
             s.extend_ucstrings([a, smile])
+        }
+        Items::Boxed => {
+            let (a, smile) = boxed_ustrs(alloc)?;
+            s.extend_boxed([a, smile])
+        }
+        Items::Cows => {
+            let (a, smile) = cow_ustrs(alloc, other)?;
+            s.extend_cows([a, smile])
         }
     }
 }
@@ -154,8 +180,8 @@ impl<C: Width> Kind<C, StringCall> for AnyUnits {
         units: Vec<C, &'a Heap>,
         other: &[C],
     ) -> Left<'a, C> {
-        if let StringCall::FromItems = call {
-            return match made_of_items(memory.heap, other) {
+        if let StringCall::FromItems(items) = call {
+            return match made_of_items(items, memory, other) {
                 Ok(s) => (s.into_vec(), Ok(true)),
                 Err(s) => (s.into_vec(), Err(OutOfMemory)),
             };
