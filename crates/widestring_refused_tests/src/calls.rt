@@ -20,7 +20,7 @@ pub enum StringCall {
     // Of text alone.
     Lowercase,
     Uppercase,
-    // One of items: characters where these are no `Ucstrs`, `Boxed` or `Cows`.
+    // One of items.
     FromItems(Items),
     // Those that edit.
     Push(char),

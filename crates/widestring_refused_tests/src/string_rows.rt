@@ -20,7 +20,7 @@ use std::test::Fail;
 const ADDS: Asks = ForRoomAfter("a");
 
 // Of both kinds.
-static ROWS: [Row<StringCall>; 49] = [
+static ROWS: [Row<StringCall>; 54] = [
     (New, Nothing(0), "", "", ""),
     (WithCapacity(0), Nothing(0), "", "", ""),
     (WithCapacity(3), Once(0), "", "", ""),
@@ -30,6 +30,11 @@ static ROWS: [Row<StringCall>; 49] = [
     (Repeat(0), Nothing(0), "", "a😀", ""),
     (Repeat(3), Once(0), "", "a😀", "a😀a😀a😀"),
     (FromItems(Chars), Once(0), "", "", "a😀"),
+    (FromItems(CharRefs), Once(0), "", "", "a😀"),
+    (FromItems(Strs), Once(0), "", "", "a😀"),
+    (FromItems(Strings), Once(0), "", "", "a😀"),
+    (FromItems(Utfstrs), Once(0), "", "a😀", "a😀"),
+    (FromItems(Utfstrings), Once(0), "", "", "a😀"),
     (FromItems(Boxed), Once(0), "", "", "a😀"),
     (FromItems(Cows), Once(0), "", "a😀", "a😀"),
     (Push('b'), ForRoom, "a", "", "ab"),
@@ -73,10 +78,13 @@ static ROWS: [Row<StringCall>; 49] = [
 ];
 
 // Of strings of any units.
-static OF_ANY_UNITS: [Row<StringCall>; 15] = [
+static OF_ANY_UNITS: [Row<StringCall>; 18] = [
     (FromView, Once(0), "", "½b", "½b"),
     (Repeat(3), Once(0), "", "½b", "½b½b½b"),
+    (FromItems(Ustrs), Once(0), "", "a😀", "a😀"),
+    (FromItems(Ustrings), Once(0), "", "", "a😀"),
     (FromItems(Ucstrs), Once(0), "", "½b\0", "½b½b"),
+    (FromItems(Ucstrings), Once(0), "", "", "a😀"),
     (Push('a'), ForRoom, "½", "", "½a"),
     (PushView, ForRoom, "a", "½b", "a½b"),
     (PushSlice, ForRoom, "a", "½b", "a½b"),

@@ -26,23 +26,36 @@ fn made<'a, C: Width>(
     }
 }
 
-// The error is what was made before the refusal.
+// The error is what was made before the refusal, and nothing where there were no items.
 fn made_of_items<'a, C: Width>(
     items: Items,
     memory: Memory<'a>,
     view: UtfStr<'_, C>,
 ) -> Result<Text<'a, C>, Text<'a, C>> {
     let heap = memory.heap;
+    let none = Err(UtfString::new(heap));
     match items {
+        Items::Chars => UtfString::from_iter_chars(heap, ['a', SMILE]),
+        Items::CharRefs => UtfString::from_iter_char_refs(heap, &['a', SMILE]),
+        Items::Strs => UtfString::from_iter_strs(heap, ["a", "😀"]),
+        Items::Strings => match strings(memory.alloc) {
+            Ok((a, smile)) => UtfString::from_iter_strings(heap, [a, smile]),
+            Err(OutOfMemory) => none,
+        },
+        Items::Utfstrs => UtfString::from_iter_utfstrs(heap, halves(view)),
+        Items::Utfstrings => match utfstrings(memory.alloc) {
+            Ok((a, smile)) => UtfString::from_iter_utfstrings(heap, [a, smile]),
+            Err(OutOfMemory) => none,
+        },
         Items::Boxed => match boxed_utfstrs(memory.alloc) {
             Ok((a, smile)) => UtfString::from_iter_boxed(heap, [a, smile]),
-            Err(OutOfMemory) => Err(UtfString::new(heap)),
+            Err(OutOfMemory) => none,
         },
         Items::Cows => match cow_utfstrs(memory.alloc, view) {
             Ok((a, smile)) => UtfString::from_iter_cows(heap, [a, smile]),
-            Err(OutOfMemory) => Err(UtfString::new(heap)),
+            Err(OutOfMemory) => none,
         },
-        _ => UtfString::from_iter_chars(heap, ['a', SMILE]),
+        _ => none,
     }
 }
 

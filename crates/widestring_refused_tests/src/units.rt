@@ -29,27 +29,66 @@ fn made<'a, C: Width>(
     }
 }
 
-// The error is what was made before the refusal.
+// The error is what was made before the refusal, and nothing where there were no items.
+fn made_of_units<'a, C: Width>(
+    items: Items,
+    memory: Memory<'a>,
+    other: &[C],
+) -> Result<Units<'a, C>, Units<'a, C>> {
+    let heap = memory.heap;
+    let none = Err(UString::new(heap));
+    match items {
+        Items::Ustrs => {
+            let (a, smile) = UStr::from_slice(other).split_at(other.len().min(1));
+            UString::from_iter_ustrs(heap, [a, smile])
+        }
+        Items::Ucstrs => match UCStr::from_slice(other) {
+            Ok(view) => UString::from_iter_ucstrs(heap, [view, view]),
+            Err(_) => none,
+        },
+        Items::Ustrings => match ustrings(memory.alloc) {
+            Ok((a, smile)) => UString::from_iter_ustrings(heap, [a, smile]),
+            Err(OutOfMemory) => none,
+        },
+        Items::Ucstrings => match ucstrings(memory.alloc) {
+            Ok((a, smile)) => UString::from_iter_ucstrings(heap, [a, smile]),
+            Err(OutOfMemory) => none,
+        },
+        Items::Boxed => match boxed_ustrs(memory.alloc) {
+            Ok((a, smile)) => UString::from_iter_boxed(heap, [a, smile]),
+            Err(OutOfMemory) => none,
+        },
+        _ => match cow_ustrs(memory.alloc, other) {
+            Ok((a, smile)) => UString::from_iter_cows(heap, [a, smile]),
+            Err(OutOfMemory) => none,
+        },
+    }
+}
+
 fn made_of_items<'a, C: Width>(
     items: Items,
     memory: Memory<'a>,
     other: &[C],
 ) -> Result<Units<'a, C>, Units<'a, C>> {
     let heap = memory.heap;
+    let none = Err(UString::new(heap));
     match items {
-        Items::Ucstrs => match UCStr::from_slice(other) {
-            Ok(view) => UString::from_iter_ucstrs(heap, [view, view]),
-            Err(_) => Err(UString::new(heap)),
+        Items::Chars => UString::from_iter_chars(heap, ['a', SMILE]),
+        Items::CharRefs => UString::from_iter_char_refs(heap, &['a', SMILE]),
+        Items::Strs => UString::from_iter_strs(heap, ["a", "😀"]),
+        Items::Strings => match strings(memory.alloc) {
+            Ok((a, smile)) => UString::from_iter_strings(heap, [a, smile]),
+            Err(OutOfMemory) => none,
         },
-        Items::Boxed => match boxed_ustrs(memory.alloc) {
-            Ok((a, smile)) => UString::from_iter_boxed(heap, [a, smile]),
-            Err(OutOfMemory) => Err(UString::new(heap)),
+        Items::Utfstrs => match UtfStr::from_slice(other) {
+            Ok(text) => UString::from_iter_utfstrs(heap, halves(text)),
+            Err(_) => none,
         },
-        Items::Cows => match cow_ustrs(memory.alloc, other) {
-            Ok((a, smile)) => UString::from_iter_cows(heap, [a, smile]),
-            Err(OutOfMemory) => Err(UString::new(heap)),
+        Items::Utfstrings => match utfstrings(memory.alloc) {
+            Ok((a, smile)) => UString::from_iter_utfstrings(heap, [a, smile]),
+            Err(OutOfMemory) => none,
         },
-        _ => UString::from_iter_chars(heap, ['a', SMILE]),
+        _ => made_of_units(items, memory, other),
     }
 }
 
