@@ -62,12 +62,12 @@ impl<C: FaultUnit, A: Allocator> BoxedUCStr<C, A> {
 }
 
 impl<C: FaultUnit, A: Allocator> UCString<C, A> {
-    /// The C string, with its NUL, in a block of its own size. Its block is shrunk; where it has no spare room no memory is
-    /// asked for.
+    /// The C string, with its NUL, in a block of its own size. The string's block is shrunk; where it has no spare room no
+    /// memory is asked for.
     ///
     /// # Errors
     ///
-    /// The smaller block was refused. The C string is handed back with its units and its block, which has spare room still,
+    /// The smaller block was refused. The string is handed back with its units and its block, which has spare room still,
     /// as by [`wide_ustring::UString::into_boxed_ustr`].
     pub fn into_boxed_ucstr(self) -> Result<BoxedUCStr<C, A>, Self>
         ensures units { IfOk result (λ boxed. boxed ≡ self.units) }

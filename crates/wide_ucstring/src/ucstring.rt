@@ -2,7 +2,9 @@
 ghost use Rattle.std.specs.Prelude.{◌≡◌, ◌≤◌, ◌+◌, ◌++◌, ◌∷◌, [], max, length, map, IfOk, IfErr, vec_capacity};
 ghost use Rattle.std.specs.Str.{chars};
 ghost use Rattle.wide_unit.specs.EncodingForm.{encode};
+ghost use Rattle.wide_unit.specs.Items.{chars as text_chars};
 ghost use Rattle.wide_unit.specs.Nul.{HasNoNul};
+ghost use Rattle.wide_unit.specs.Utf8.{utf8};
 ghost use Rattle.wide_ustr.specs.View.{units_seen};
 ghost use Rattle.wide_ustring.specs.Units.{Units};
 ghost use Rattle.wide_ucstr.specs.CString.{IsCString, contents};
@@ -237,6 +239,7 @@ impl<C: FaultUnit, A: Allocator> UCString<C, A> {
     /// vector of them.
     pub fn from_str(alloc: A, text: &str) -> Result<Self, UCStringError<C, A>>
         ensures made { IfOk result (λ s. EndsAsGiven (encode C.form (chars text.now)) (map C.number s.units)) }
+        ensures read_back { IfOk result (λ s. HasNoNul (encode C.form (chars text.now)) → utf8 (text_chars C.form (map C.number (contents s.units))) ≡ text.now) }
         ensures ok { IfOk result (λ s. HasNoInnerNul (encode C.form (chars text.now))) }
         ensures refused { IfErr result (RefusesInnerNulOfCopy C.number (encode C.form (chars text.now))) }
     {
@@ -270,6 +273,7 @@ impl<C: FaultUnit, A: Allocator> UCString<C, A> {
     /// the vector of them.
     pub fn from_str_literal(alloc: A, text: &str) -> Result<Self, UCStringError<C, A>>
         ensures made { IfOk result (λ s. map C.number s.units ≡ encode C.form (chars text.now) ++ 0 ∷ []) }
+        ensures read_back { IfOk result (λ s. utf8 (text_chars C.form (map C.number (contents s.units))) ≡ text.now) }
         ensures ok { IfOk result (λ s. HasNoNul (encode C.form (chars text.now))) }
         ensures refused { IfErr result (RefusesNulOfCopy C.number (encode C.form (chars text.now))) }
     {

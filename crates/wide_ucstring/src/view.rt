@@ -1,5 +1,5 @@
 //! The calls of a view of a C string that make a string.
-ghost use Rattle.std.specs.Prelude.{◌≡◌, List, IfOk};
+ghost use Rattle.std.specs.Prelude.{◌≡◌, [], List, IsOk, IfOk};
 ghost use Rattle.std.specs.List.{repeat};
 ghost use Rattle.wide_ustr.specs.View.{units_seen};
 ghost use Rattle.wide_ucstr.specs.CString.{contents};
@@ -24,9 +24,10 @@ pub trait UCStrInUcstring<C: FaultUnit> {
     fn to_ucstring<A: Allocator>(self, alloc: A) -> Result<UCString<C, A>, OutOfMemory>
         ensures { IfOk result (λ s. contents s.units ≡ text self) };
 
-    /// A string of the view's contents, without the NUL.
+    /// A string of the view's contents, without the NUL. Memory is asked for once, and not at all where there are none.
     fn to_ustring<A: Allocator>(self, alloc: A) -> Result<UString<C, A>, OutOfMemory>
-        ensures { IfOk result (λ s. s.units ≡ text self) };
+        ensures units { IfOk result (λ s. s.units ≡ text self) }
+        ensures succeeds { text self ≡ [] → IsOk result };
 
     /// A C string of the view's contents, so many times. A length past the greatest `usize` counts as want of memory.
     fn repeat<A: Allocator>(self, alloc: A, count: usize) -> Result<UCString<C, A>, OutOfMemory>

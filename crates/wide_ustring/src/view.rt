@@ -13,9 +13,10 @@ pub trait UStrInUstring<C> {
     // The units that are seen.
     ghost text: { Self → List C };
 
-    /// A string of the view's units.
+    /// A string of the view's units. Memory is asked for once, and not at all where there are none.
     fn to_ustring<A: Allocator>(self, alloc: A) -> Result<UString<C, A>, OutOfMemory>
-        ensures { IfOk result (λ s. s.units ≡ text self) };
+        ensures units { IfOk result (λ s. s.units ≡ text self) }
+        ensures succeeds { text self ≡ [] → IsOk result };
 
     /// A string of the view's units, so many times. A length past the greatest `usize` counts as want of memory.
     fn repeat<A: Allocator>(self, alloc: A, count: usize) -> Result<UString<C, A>, OutOfMemory>
@@ -30,9 +31,9 @@ impl<C: FaultUnit> UStrInUstring<C> for UStr<'_, C> {
     ghost text = { units_seen };
 
     fn to_ustring<A: Allocator>(self, alloc: A) -> Result<UString<C, A>, OutOfMemory> {
-        Ok(UString {
-            units: Vec::from_slice(alloc, self.as_slice())?,
-        })
+        let mut units = Vec::with_capacity(alloc, self.len())?;
+        units.extend_from_slice(self.as_slice())?;
+        Ok(UString { units })
     }
 
     #[tactic(auto, using(crate::proofs::Repeats::repeat_more, crate::proofs::Repeats::repeat_empty))]

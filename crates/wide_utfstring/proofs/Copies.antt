@@ -1,17 +1,14 @@
 -- Units of a copy, which are their own numbers.
 use Rattle.std.proofs.Common.{◌≡◌, ℕ, List, subst, ◌∙◌}
-use Rattle.std.specs.Prelude.{map, Vec, vec_capacity}
+use Rattle.std.specs.Prelude.{Vec, vec_capacity}
 use Rattle.std.proofs.lemmas.List.{map-id}
 use Rattle.wide_unit.specs.EncodingForm.{EncodingForm}
-use Rattle.wide_unit.specs.Items.{IsWellFormed, IsFirstFault}
+use Rattle.wide_unit.specs.Items.{IsFirstFault}
 use Rattle.wide_utferror.specs.UtfError.{index_of, unit_of}
 use Rattle.wide_utferror.specs.declared.error.UtfError.{UtfError}
 use Rattle.wide_utfstring.specs.Faults.{IsFaultOf, IsFaultOfCopy}
 
 module _ (form : EncodingForm) (copy units : List ℕ) (same : copy ≡ units) where
-  pub well_formed-of_copy : IsWellFormed form (map (λ u. u) copy) → IsWellFormed form units
-  well_formed-of_copy well = subst (IsWellFormed form) (map-id copy ∙ same) well
-
   pub fault-of_copy : {A : Type 0} (room : ℕ) (e : UtfError ℕ A)
       → ((vec : Vec ℕ A) × (vec.items ≡ copy) × (vec_capacity vec ≡ room) × IsFaultOf form (λ u. u) vec e) → IsFaultOfCopy form units e
   fault-of_copy room e told =

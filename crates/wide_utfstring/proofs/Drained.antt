@@ -1,18 +1,14 @@
 -- What is left of well-formed text once a character is taken from its front or its back, and how many characters there are.
-use Rattle.std.proofs.Common.{◌≡◌, ◌≢◌, ℕ, suc, nat_eq, if◌then◌else◌, eq-eqb, ◌+◌, ◌-◌, ◌*◌, ◌≤◌, ◌<◌, List, [], ◌∷◌, ◌++◌, inl, inr, sym, ◌∙◌, ap, subst, arith, length, length-append, length-drop, map, take, drop, slice_range}
+use Rattle.std.proofs.Common.{◌≡◌, ◌≢◌, ℕ, nat_eq, if◌then◌else◌, eq-eqb, ◌+◌, ◌-◌, ◌≤◌, List, [], ◌∷◌, ◌++◌, inl, inr, sym, ◌∙◌, ap, subst, arith, length, length-append, length-drop, map, take, drop, slice_range}
 use Rattle.std.proofs.lemmas.List.{append-nil, drop-drop, drop-take, take-take, take-map, drop-map, length-map, length-take-le, take-append-drop}
 use Rattle.std.proofs.lemmas.List.Concat.{flat_map-append}
-use Rattle.std.proofs.lemmas.Bool.{cases_eq, cases_lt}
+use Rattle.std.proofs.lemmas.Bool.{cases_eq}
 use Rattle.std.proofs.lemmas.Bool.Decides.{nat_tests}
 use Rattle.std.proofs.Math.Seq.{take-append_seam}
-use Rattle.std.proofs.Math.Nat.{mul-le-mul_right}
-use Rattle.std.proofs.lemmas.Grind.{div_ceil_times}
-use Rattle.std.specs.Int.{div_ceil}
 use Rattle.std.specs.List.{splice}
-use Rattle.wide_unit.specs.EncodingForm.{EncodingForm, Utf16, Utf32, code_units, encode}
+use Rattle.wide_unit.specs.EncodingForm.{EncodingForm, code_units, encode}
 use Rattle.wide_unit.specs.Items.{chars, IsWellFormed}
 use Rattle.wide_unit.specs.Places.{IsPlaceOf}
-use Rattle.wide_unit.specs.Laws.Forms.{code_units-cases}
 use Rattle.wide_unit.specs.Laws.Places.{IsPlaceOf-front, encode-chars, IsWellFormed-take, IsWellFormed-drop, IsBoundary-within}
 use Rattle.wide_unit.specs.Laws.Splices.{chars-nil}
 

@@ -1,5 +1,5 @@
 //! Well-formed text in a block of its own size.
-ghost use Rattle.std.specs.Prelude.{◌≡◌, ◌≤◌, map, IsOk, IfOk, IfErr};
+ghost use Rattle.std.specs.Prelude.{◌≡◌, ◌<◌, ◌≤◌, length, map, IsOk, IfOk, IfErr};
 ghost use Rattle.std.specs.Iterator.{IsFiniteIterable};
 ghost use Rattle.wide_ustring.specs.Extended.{Adds, Collects, numbered};
 ghost use Rattle.wide_ustring.specs.Units.{ustring_len};
@@ -7,21 +7,21 @@ ghost use Rattle.wide_utfstr.specs.View.{units_seen};
 
 use crate::UtfString;
 use std::alloc::{Allocator, Global};
-use std::boxed::BoxedSlice;
 use std::marker::Model;
 use wide_error::OutOfMemory;
+use wide_ustring::BoxedUStr;
 use wide_ustring::extend::{Piece, Whole, extend, from_iter};
 use wide_utferror::FaultUnit;
 use wide_utfstr::UtfStr;
 
-/// Well-formed text (Unicode Standard, D85) in a block of its own size, which doesn't grow: what `Box<Utf16Str>` and
+/// Well-formed text (Unicode Standard, D85) in a block of its own size, which does not grow: what `Box<Utf16Str>` and
 /// `Box<Utf32Str>` are in the Rust crate.
 ///
 /// Two of them are compared through their views, by [`BoxedUtfStr::as_utfstr`]. `{}` prints the text, and `{:?}` what that of
 /// this view does.
 #[derive(Drop)]
 pub struct BoxedUtfStr<C: FaultUnit, A: Allocator = Global> {
-    units: BoxedSlice<C, A>,
+    units: BoxedUStr<C, A>,
 }
 
 /// UTF-16 in a block of its own size.
@@ -33,16 +33,15 @@ pub type BoxedUtf32Str<A = Global> = BoxedUtfStr<u32, A>;
 impl<C: FaultUnit, A: Allocator> Model for BoxedUtfStr<C, A> {
     ghost use Rattle.std.specs.Prelude.{List, map};
     ghost use Rattle.std.specs.Coded.{coded_list};
-    ghost use Rattle.std.specs.Box.{boxed_slice_items};
     ghost use Rattle.wide_unit.specs.Items.{IsWellFormed};
 
     ghost Value = { List C };
 
     ghost coded = { coded_list C.code };
 
-    ghost view = { λ s. boxed_slice_items s.units };
+    ghost view = { λ s. s.units };
 
-    ghost invariant = { λ s. IsWellFormed C.form (map C.number (boxed_slice_items s.units)) };
+    ghost invariant = { λ s. IsWellFormed C.form (map C.number s.units) };
 }
 
 impl<C: FaultUnit, A: Allocator> BoxedUtfStr<C, A> {
@@ -50,15 +49,18 @@ impl<C: FaultUnit, A: Allocator> BoxedUtfStr<C, A> {
     pub fn as_utfstr(&self) -> UtfStr<'_, C>
         ensures { units_seen result ≡ self.now }
     {
-        UtfStr::from_slice_unchecked(self.units.as_slice())
+        UtfStr::from_slice_unchecked(self.units.as_ustr().as_slice())
     }
 
-    /// The string of the text, in the same block. It takes no memory.
+    /// The text as a string, in the block that it stands in: one with no room beyond its length. It takes no memory.
     pub fn into_utfstring(self) -> UtfString<C, A>
-        ensures { result.units ≡ self }
+        ensures units { result.units ≡ self }
+        ensures capacity { result.capacity ≡ length self }
     {
         let BoxedUtfStr { units } = self;
-        UtfString::from_vec_unchecked(units.into_vec())
+        UtfString {
+            string: units.into_ustring(),
+        }
     }
 }
 
@@ -71,21 +73,23 @@ impl<C: FaultUnit, A: Allocator, B: Allocator> Piece<UtfString<C, A>, Whole> for
 }
 
 impl<C: FaultUnit, A: Allocator> UtfString<C, A> {
-    /// The text in a block of its own size. No memory is taken where the string has no room beyond its length.
+    /// The text in a block of its own size. The string's block is shrunk; where it has no spare room no memory is asked for.
     ///
     /// # Errors
     ///
-    /// Where the smaller block is refused the error is the string itself, with its room.
-    pub fn into_boxed_utfstr(mut self) -> Result<BoxedUtfStr<C, A>, Self>
+    /// The smaller block was refused. The string is handed back with its units and its block, which has spare room still,
+    /// as by [`wide_ustring::UString::into_boxed_ustr`].
+    pub fn into_boxed_utfstr(self) -> Result<BoxedUtfStr<C, A>, Self>
         ensures units { IfOk result (λ boxed. boxed ≡ self.units) }
-        ensures err { IfErr result (λ s. s ≡ self) }
+        ensures refused { IfErr result (λ s. s.units ≡ self.units) }
+        ensures room { IfErr result (λ s. s.capacity ≤ self.capacity) }
+        ensures spare { IfErr result (λ s. ustring_len s < s.capacity) }
         ensures succeeds { self.capacity ≤ ustring_len self → IsOk result }
     {
-        match self.shrink_to_fit() {
-            Ok(()) => Ok(BoxedUtfStr {
-                units: self.into_vec().into_boxed_slice(),
-            }),
-            Err(_refused) => Err(self),
+        let UtfString { string } = self;
+        match string.into_boxed_ustr() {
+            Ok(units) => Ok(BoxedUtfStr { units }),
+            Err(string) => Err(UtfString { string }),
         }
     }
 

@@ -1,5 +1,5 @@
 //! Copies of views as well-formed text.
-ghost use Rattle.std.specs.Prelude.{◌≡◌, ◌<◌, length, IfOk, IfErr, IfSome, OnOk};
+ghost use Rattle.std.specs.Prelude.{◌≡◌, ◌<◌, [], length, IsOk, IfOk, IfErr, IfSome, OnOk};
 ghost use Rattle.wide_unit.specs.EncodingForm.{Utf16, Utf32};
 ghost use Rattle.wide_unit.specs.Items.{IsWellFormed};
 ghost use Rattle.wide_ustr.specs.View.{units_seen};
@@ -17,7 +17,7 @@ use wide_utferror::{Utf16ConvertError, Utf32ConvertError};
 
 impl<A: Allocator> UtfString<u16, A> {
     /// A copy of a view's units, where they are well formed (Unicode Standard, D85). Memory for the copy is asked for once,
-    /// before the units are checked.
+    /// before the units are checked, and not at all where there are none.
     ///
     /// # Errors
     ///
@@ -28,12 +28,9 @@ impl<A: Allocator> UtfString<u16, A> {
         ensures ok { OnOk result (IsWellFormed Utf16 (units_seen view.entry)) }
         ensures fault { IfErr result (λ e. IfSome (utf16_fault e) (IsFaultOfCopy Utf16 (units_seen view.entry))) }
         ensures within { IfErr result (λ e. IfSome (utf16_fault e) (λ fault. index_of fault < length (units_seen view.entry))) }
+        ensures succeeds { units_seen view.entry ≡ [] → IsOk result }
     {
-        let copy = view.to_ustring(alloc)?;
-        match UtfString::from_ustring(copy) {
-            Ok(string) => Ok(string),
-            Err(fault) => Err(Utf16ConvertError::Utf16(fault)),
-        }
+        Ok(UtfString::from_ustring(view.to_ustring(alloc)?)?)
     }
 
     /// As `from_ustr`, of the contents of a C string, without its NUL.
@@ -42,6 +39,7 @@ impl<A: Allocator> UtfString<u16, A> {
         ensures ok { OnOk result (IsWellFormed Utf16 (contents_seen view.entry)) }
         ensures fault { IfErr result (λ e. IfSome (utf16_fault e) (IsFaultOfCopy Utf16 (contents_seen view.entry))) }
         ensures within { IfErr result (λ e. IfSome (utf16_fault e) (λ fault. index_of fault < length (contents_seen view.entry))) }
+        ensures succeeds { contents_seen view.entry ≡ [] → IsOk result }
     {
         UtfString::<u16, A>::from_ustr(alloc, view.as_ustr())
     }
@@ -49,7 +47,7 @@ impl<A: Allocator> UtfString<u16, A> {
 
 impl<A: Allocator> UtfString<u32, A> {
     /// A copy of a view's units, where they are well formed (Unicode Standard, D85). Memory for the copy is asked for once,
-    /// before the units are checked.
+    /// before the units are checked, and not at all where there are none.
     ///
     /// # Errors
     ///
@@ -60,12 +58,9 @@ impl<A: Allocator> UtfString<u32, A> {
         ensures ok { OnOk result (IsWellFormed Utf32 (units_seen view.entry)) }
         ensures fault { IfErr result (λ e. IfSome (utf32_fault e) (IsFaultOfCopy Utf32 (units_seen view.entry))) }
         ensures within { IfErr result (λ e. IfSome (utf32_fault e) (λ fault. index_of fault < length (units_seen view.entry))) }
+        ensures succeeds { units_seen view.entry ≡ [] → IsOk result }
     {
-        let copy = view.to_ustring(alloc)?;
-        match UtfString::from_ustring(copy) {
-            Ok(string) => Ok(string),
-            Err(fault) => Err(Utf32ConvertError::Utf32(fault)),
-        }
+        Ok(UtfString::from_ustring(view.to_ustring(alloc)?)?)
     }
 
     /// As `from_ustr`, of the contents of a C string, without its NUL.
@@ -74,6 +69,7 @@ impl<A: Allocator> UtfString<u32, A> {
         ensures ok { OnOk result (IsWellFormed Utf32 (contents_seen view.entry)) }
         ensures fault { IfErr result (λ e. IfSome (utf32_fault e) (IsFaultOfCopy Utf32 (contents_seen view.entry))) }
         ensures within { IfErr result (λ e. IfSome (utf32_fault e) (λ fault. index_of fault < length (contents_seen view.entry))) }
+        ensures succeeds { contents_seen view.entry ≡ [] → IsOk result }
     {
         UtfString::<u32, A>::from_ustr(alloc, view.as_ustr())
     }

@@ -19,9 +19,10 @@ pub trait UtfStrInUtfstring<C: FaultUnit> {
     // The units that are seen.
     ghost text: { Self → List C };
 
-    /// A string of the view's text.
+    /// A string of the view's text. Memory is asked for once, and not at all where there is none.
     fn to_utfstring<A: Allocator>(self, alloc: A) -> Result<UtfString<C, A>, OutOfMemory>
-        ensures { IfOk result (λ s. s.units ≡ text self) };
+        ensures units { IfOk result (λ s. s.units ≡ text self) }
+        ensures succeeds { text self ≡ [] → IsOk result };
 
     /// A string of the view's text, so many times. A length past the greatest `usize` counts as want of memory.
     fn repeat<A: Allocator>(self, alloc: A, count: usize) -> Result<UtfString<C, A>, OutOfMemory>

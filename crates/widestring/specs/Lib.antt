@@ -5,6 +5,7 @@ pub use Rattle.wide_unit.specs.Items
 pub use Rattle.wide_unit.specs.Places
 pub use Rattle.wide_unit.specs.Range
 pub use Rattle.wide_unit.specs.Lossy
+pub use Rattle.wide_unit.specs.Nul
 pub use Rattle.wide_unit.specs.Unit
 pub use Rattle.wide_unit.specs.Utf8
 pub use Rattle.wide_utferror.specs.UtfError

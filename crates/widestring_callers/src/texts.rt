@@ -1,9 +1,12 @@
 //! Text that is put into wide strings, and taken out again.
-ghost use Rattle.std.specs.Prelude.{◌≡◌, IfOk, string_bytes};
+ghost use Rattle.std.specs.Prelude.{◌≡◌, IfOk, IfSome, string_bytes};
+ghost use Rattle.std.specs.Str.{chars};
+ghost use Rattle.widestring.specs.EncodingForm.{Utf16, encode};
+ghost use Rattle.widestring.specs.Nul.{HasNoNul};
 
 use std::alloc::Global;
 use widestring::error::{OutOfMemory, Utf16ConvertError, Utf32ConvertError};
-use widestring::{U16String, U32String, Utf16String, Utf32String};
+use widestring::{U16CString, U16String, U32CString, U32String, Utf16String, Utf32String};
 
 /// The text, by way of UTF-16 that may be ill formed.
 pub fn through_utf16(alloc: Global, text: &str) -> Result<String, Utf16ConvertError>
@@ -35,4 +38,29 @@ pub fn through_text32(alloc: Global, text: &str) -> Result<String, OutOfMemory>
 {
     let string = Utf32String::from_str(alloc, text)?;
     string.as_utfstr().to_string(alloc)
+}
+
+/// The text, by way of a C string of UTF-16; none where memory was refused, or the text holds a NUL.
+pub fn through_c_string16(alloc: Global, text: &str) -> Option<String>
+    ensures { IfSome result (λ same. string_bytes same ≡ text.now) }
+{
+    let string = U16CString::from_str_literal(alloc, text).ok()?;
+    string.as_ucstr().to_string(alloc).ok()
+}
+
+/// The text, by way of a C string of UTF-32; none where memory was refused, or the text holds a NUL.
+pub fn through_c_string32(alloc: Global, text: &str) -> Option<String>
+    ensures { IfSome result (λ same. string_bytes same ≡ text.now) }
+{
+    let string = U32CString::from_str_literal(alloc, text).ok()?;
+    string.as_ucstr().to_string(alloc).ok()
+}
+
+/// A text that holds no NUL, by way of a C string of UTF-16; none where memory was refused.
+pub fn through_c_string_of_text(alloc: Global, text: &str) -> Option<String>
+    requires { HasNoNul (encode Utf16 (chars text.now)) }
+    ensures { IfSome result (λ same. string_bytes same ≡ text.now) }
+{
+    let string = U16CString::from_str(alloc, text).ok()?;
+    string.as_ucstr().to_string(alloc).ok()
 }

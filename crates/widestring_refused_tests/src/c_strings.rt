@@ -153,7 +153,7 @@ impl<C: Width> Kind<C, CCall> for CStrings {
     }
 }
 
-static ROWS: [Row<CCall>; 29] = [
+static ROWS: [Row<CCall>; 30] = [
     (CCall::New, Once(0), "", "", "\0"),
     (CCall::FromUstr, Once(0), "", "", "\0"),
     (CCall::FromUstr, Once(0), "", "½", "½\0"),
@@ -179,6 +179,7 @@ static ROWS: [Row<CCall>; 29] = [
     (CCall::TryClone, Once(0), "½\0", "½\0", "½\0"),
     (CCall::Repeat, Once(0), "½\0", "½½\0", "½\0"),
     (CCall::ToUstring, Once(0), "½\0", "½", "½\0"),
+    (CCall::ToUstring, Nothing(0), "\0", "", "\0"),
     (CCall::IntoVec, Nothing(0), "½b\0", "", "½b"),
     (CCall::IntoVecWithNul, Nothing(0), "½b\0", "", "½b\0"),
     (CCall::IntoUstring, Nothing(0), "½b\0", "", "½b"),

@@ -3,9 +3,10 @@ use crate::driver::{Room, Width};
 use std::alloc::Global;
 use widestring::error::OutOfMemory;
 use widestring::ucstring::UCString;
-use widestring::ustring::UString;
+use widestring::ustr::UStr;
+use widestring::ustring::{BoxedUStr, CowUStr, UString};
 use widestring::utfstr::UtfStr;
-use widestring::utfstring::UtfString;
+use widestring::utfstring::{BoxedUtfStr, CowUtfStr, UtfString};
 
 // A call, by the other units, `a` and U+1F600, the latter alone or what stands here. A string of text has no `PushSlice`.
 #[derive(Clone, Copy)]
@@ -19,8 +20,8 @@ pub enum StringCall {
     // Of text alone.
     Lowercase,
     Uppercase,
-    // One of `a` and U+1F600, or of the other units twice where they are a C string and the string is one of any units.
-    FromItems,
+    // One of items.
+    FromItems(Items),
     // Those that edit.
     Push(char),
     PushView,
@@ -87,8 +88,8 @@ impl StringCall {
     }
 }
 
-// The items `a` and U+1F600, as what; views are those of the other units, or of `Ucstrs` these twice. Those of any units and
-// C strings are for a string of any units alone.
+// The items `a` and U+1F600, as what; views are those of the other units, or of `Ucstrs` these twice. Of `Cows` the first is
+// borrowed from the other units, and the second is owned. Those of any units and C strings are for a string of any units alone.
 #[derive(Clone, Copy)]
 pub enum Items {
     Chars,
@@ -101,6 +102,8 @@ pub enum Items {
     Ustrings,
     Ucstrs,
     Ucstrings,
+    Boxed,
+    Cows,
 }
 
 // The two characters of a view.
@@ -134,4 +137,54 @@ pub fn ucstrings<C: Width>(alloc: Global) -> Result<(UCString<C>, UCString<C>), 
         Ok(smile) => Ok((a, smile)),
         Err(_) => Err(OutOfMemory),
     }
+}
+
+fn boxed_ustr<C: Width>(string: UString<C>) -> Result<BoxedUStr<C>, OutOfMemory> {
+    match string.into_boxed_ustr() {
+        Ok(boxed) => Ok(boxed),
+        Err(_) => Err(OutOfMemory),
+    }
+}
+
+pub fn boxed_ustrs<C: Width>(alloc: Global) -> Result<(BoxedUStr<C>, BoxedUStr<C>), OutOfMemory> {
+    let (a, smile) = ustrings(alloc)?;
+    match (boxed_ustr(a), boxed_ustr(smile)) {
+        (Ok(a), Ok(smile)) => Ok((a, smile)),
+        _ => Err(OutOfMemory),
+    }
+}
+
+pub fn cow_ustrs<C: Width>(
+    alloc: Global,
+    other: &[C],
+) -> Result<(CowUStr<'_, C>, CowUStr<'_, C>), OutOfMemory> {
+    let (_a, smile) = ustrings(alloc)?;
+    let a = UStr::from_slice(other).split_at(other.len().min(1)).0;
+    Ok((CowUStr::Borrowed(a), CowUStr::Owned(smile)))
+}
+
+fn boxed_utfstr<C: Width>(string: UtfString<C>) -> Result<BoxedUtfStr<C>, OutOfMemory> {
+    match string.into_boxed_utfstr() {
+        Ok(boxed) => Ok(boxed),
+        Err(_) => Err(OutOfMemory),
+    }
+}
+
+pub fn boxed_utfstrs<C: Width>(
+    alloc: Global,
+) -> Result<(BoxedUtfStr<C>, BoxedUtfStr<C>), OutOfMemory> {
+    let (a, smile) = utfstrings(alloc)?;
+    match (boxed_utfstr(a), boxed_utfstr(smile)) {
+        (Ok(a), Ok(smile)) => Ok((a, smile)),
+        _ => Err(OutOfMemory),
+    }
+}
+
+pub fn cow_utfstrs<C: Width>(
+    alloc: Global,
+    view: UtfStr<'_, C>,
+) -> Result<(CowUtfStr<'_, C>, CowUtfStr<'_, C>), OutOfMemory> {
+    let (_a, smile) = utfstrings(alloc)?;
+    let [a, _] = halves(view);
+    Ok((CowUtfStr::Borrowed(a), CowUtfStr::Owned(smile)))
 }

@@ -1,4 +1,5 @@
 //! Conversions: lossy text, text in UTF-8, and borrowed and boxed forms.
+use crate::conversions::Handed::{CString, Slice, View};
 use crate::driver::Asks::{Nothing, Once};
 use crate::driver::{Kind, Left, Memory, Room, Row, TEXT, Width, hold_at_both_widths, wrong};
 use std::alloc::Global;
@@ -12,13 +13,21 @@ use widestring::utfstr::UtfStr;
 use widestring::utfstring::{CowUtfStr, UtfString};
 use widestring_test_memory::Heap;
 
+// What the other units are handed over as: themselves, a view, or a C string, whose contents count.
+#[derive(Clone, Copy)]
+pub enum Handed {
+    Slice,
+    View,
+    CString,
+}
+
 // A conversion: of the other units, or into a box and back.
 #[derive(Clone, Copy)]
 pub enum Conversion {
     // Lossy text, which is made.
-    Lossy,
+    Lossy(Handed),
     // Lossy text, which is borrowed.
-    Sound,
+    Sound(Handed),
     // Text in UTF-8, lossily and not, that is `a😀`.
     Utf8Lossy,
     Utf8,
@@ -33,16 +42,38 @@ impl Room for Conversion {}
 
 type Text<'a, C> = UtfString<C, &'a Heap>;
 
-// Lossy text of units, where it is made or borrowed as it should be.
+// Lossy text of the other units, and the units that it is of.
+fn lossy_text<'a, 'b, C: Width>(
+    handed: Handed,
+    memory: Memory<'a>,
+    other: &'b [C],
+) -> (Result<CowUtfStr<'b, C, &'a Heap>, OutOfMemory>, &'b [C]) {
+    let heap = memory.heap;
+    match handed {
+        Handed::Slice => (UtfString::from_slice_lossy(heap, other), other),
+        Handed::View => (
+            UtfString::from_ustr_lossy(heap, UStr::from_slice(other)),
+            other,
+        ),
+        Handed::CString => match UCStr::from_slice(other) {
+            Ok(view) => (UtfString::from_ucstr_lossy(heap, view), view.as_slice()),
+            Err(_) => (Err(OutOfMemory), other),
+        },
+    }
+}
+
+// What is left of it, where it is made or borrowed as it should be.
 fn lossy<'a, C: Width>(
-    heap: &'a Heap,
+    handed: Handed,
+    memory: Memory<'a>,
     units: Vec<C, &'a Heap>,
     other: &[C],
     is_borrowed: bool,
 ) -> Left<'a, C> {
-    match UtfString::from_slice_lossy(heap, other) {
+    let (made, whole) = lossy_text(handed, memory, other);
+    match made {
         Ok(CowUtfStr::Owned(text)) => (text.into_vec(), Ok(!is_borrowed)),
-        Ok(CowUtfStr::Borrowed(text)) => (units, Ok(is_borrowed && text.as_slice() == other)),
+        Ok(CowUtfStr::Borrowed(text)) => (units, Ok(is_borrowed && text.as_slice() == whole)),
         Err(OutOfMemory) => (units, Err(OutOfMemory)),
     }
 }
@@ -73,8 +104,8 @@ impl<C: Width> Kind<C, Conversion> for OfUnits {
         other: &[C],
     ) -> Left<'a, C> {
         match call {
-            Conversion::Lossy => lossy(memory.heap, units, other, false),
-            Conversion::Sound => lossy(memory.heap, units, other, true),
+            Conversion::Lossy(handed) => lossy(handed, memory, units, other, false),
+            Conversion::Sound(handed) => lossy(handed, memory, units, other, true),
             Conversion::Utf8Lossy => utf8_lossy(memory.heap, units, other),
             Conversion::Owned => {
                 match CowUStr::Borrowed(UStr::from_slice(other)).into_owned(memory.heap) {
@@ -193,11 +224,28 @@ impl<C: Width> Kind<C, Conversion> for OfCStrings {
     }
 }
 
-static OF_UNITS: [Row<Conversion>; 9] = [
-    (Conversion::Lossy, Once(0), "", "a½", "a\u{fffd}"),
-    (Conversion::Lossy, Once(0), "", "½½😀", "\u{fffd}\u{fffd}😀"),
-    (Conversion::Sound, Nothing(0), "", "a😀", ""),
-    (Conversion::Sound, Nothing(0), "", "", ""),
+static OF_UNITS: [Row<Conversion>; 14] = [
+    (Conversion::Lossy(Slice), Once(0), "", "a½", "a\u{fffd}"),
+    (
+        Conversion::Lossy(Slice),
+        Once(0),
+        "",
+        "½½😀",
+        "\u{fffd}\u{fffd}😀",
+    ),
+    (
+        Conversion::Lossy(View),
+        Once(0),
+        "",
+        "½😀½",
+        "\u{fffd}😀\u{fffd}",
+    ),
+    (Conversion::Lossy(CString), Once(0), "", "½a\0", "\u{fffd}a"),
+    (Conversion::Sound(Slice), Nothing(0), "", "a😀", ""),
+    (Conversion::Sound(Slice), Nothing(0), "", "", ""),
+    (Conversion::Sound(View), Nothing(0), "", "😀b", ""),
+    (Conversion::Sound(CString), Nothing(0), "", "a😀\0", ""),
+    (Conversion::Sound(CString), Nothing(0), "", "\0", ""),
     (Conversion::Utf8Lossy, Once(0), "", "a😀", ""),
     (Conversion::Owned, Once(0), "", "½b", "½b"),
     (Conversion::Kept, Nothing(2), "½b", "", "½b"),

@@ -159,9 +159,11 @@ impl Kind<u32, Copying> for OfOneWidth {
     }
 }
 
-static ROWS: [Row<Copying>; 8] = [
+static ROWS: [Row<Copying>; 10] = [
+    (Copying::OfUnits, Nothing(0), "", "", ""),
     (Copying::OfUnits, Once(0), "", "a😀", "a😀"),
     (Copying::OfUnits, Once(0), "", "a½b", "a½b"),
+    (Copying::OfContents, Nothing(0), "", "\0", ""),
     (Copying::OfContents, Once(0), "", "a😀\0", "a😀"),
     (Copying::OfContents, Once(0), "", "a½\0", "a½"),
     (Copying::Utf8, Once(0), "", "a😀", ""),

@@ -1,6 +1,7 @@
 //! Strings of any units, and strings of text.
 use crate::calls::Items::{
-    CharRefs, Chars, Strings, Strs, Ucstrings, Ucstrs, Ustrings, Ustrs, Utfstrings, Utfstrs,
+    Boxed, CharRefs, Chars, Cows, Strings, Strs, Ucstrings, Ucstrs, Ustrings, Ustrs, Utfstrings,
+    Utfstrs,
 };
 use crate::calls::StringCall;
 use crate::calls::StringCall::{
@@ -19,15 +20,23 @@ use std::test::Fail;
 const ADDS: Asks = ForRoomAfter("a");
 
 // Of both kinds.
-static ROWS: [Row<StringCall>; 44] = [
+static ROWS: [Row<StringCall>; 54] = [
     (New, Nothing(0), "", "", ""),
     (WithCapacity(0), Nothing(0), "", "", ""),
     (WithCapacity(3), Once(0), "", "", ""),
     (FromStr, Once(0), "", "", "a😀"),
+    (FromView, Nothing(0), "", "", ""),
     (FromView, Once(0), "", "a😀", "a😀"),
     (Repeat(0), Nothing(0), "", "a😀", ""),
     (Repeat(3), Once(0), "", "a😀", "a😀a😀a😀"),
-    (FromItems, Once(0), "", "", "a😀"),
+    (FromItems(Chars), Once(0), "", "", "a😀"),
+    (FromItems(CharRefs), Once(0), "", "", "a😀"),
+    (FromItems(Strs), Once(0), "", "", "a😀"),
+    (FromItems(Strings), Once(0), "", "", "a😀"),
+    (FromItems(Utfstrs), Once(0), "", "a😀", "a😀"),
+    (FromItems(Utfstrings), Once(0), "", "", "a😀"),
+    (FromItems(Boxed), Once(0), "", "", "a😀"),
+    (FromItems(Cows), Once(0), "", "a😀", "a😀"),
     (Push('b'), ForRoom, "a", "", "ab"),
     (Push(SMILE), ForRoom, "a", "", "a😀"),
     (PushView, ForRoom, "a", "😀", "a😀"),
@@ -54,6 +63,8 @@ static ROWS: [Row<StringCall>; 44] = [
     (Extend(Strings), ADDS, "", "", "a😀"),
     (Extend(Utfstrs), ADDS, "", "a😀", "a😀"),
     (Extend(Utfstrings), ADDS, "", "", "a😀"),
+    (Extend(Boxed), ADDS, "", "", "a😀"),
+    (Extend(Cows), ADDS, "", "a😀", "a😀"),
     (TryClone, Once(0), "a😀", "a😀", "a😀"),
     (SplitOff, Once(0), "a😀", "😀", "a"),
     (Keep, Nothing(3), "a😀b", "", "a😀b"),
@@ -67,10 +78,13 @@ static ROWS: [Row<StringCall>; 44] = [
 ];
 
 // Of strings of any units.
-static OF_ANY_UNITS: [Row<StringCall>; 15] = [
+static OF_ANY_UNITS: [Row<StringCall>; 18] = [
     (FromView, Once(0), "", "½b", "½b"),
     (Repeat(3), Once(0), "", "½b", "½b½b½b"),
-    (FromItems, Once(0), "", "½b\0", "½b½b"),
+    (FromItems(Ustrs), Once(0), "", "a😀", "a😀"),
+    (FromItems(Ustrings), Once(0), "", "", "a😀"),
+    (FromItems(Ucstrs), Once(0), "", "½b\0", "½b½b"),
+    (FromItems(Ucstrings), Once(0), "", "", "a😀"),
     (Push('a'), ForRoom, "½", "", "½a"),
     (PushView, ForRoom, "a", "½b", "a½b"),
     (PushSlice, ForRoom, "a", "½b", "a½b"),

@@ -1,5 +1,5 @@
 //! Strings of well-formed text.
-use crate::calls::{Items, StringCall, halves, strings, utfstrings};
+use crate::calls::{Items, StringCall, boxed_utfstrs, cow_utfstrs, halves, strings, utfstrings};
 use crate::driver::{Kind, Left, Memory, Room, SMILE, TEXT, Width, wrong};
 use std::alloc::Global;
 use widestring::error::{FaultUnit, OutOfMemory};
@@ -26,6 +26,39 @@ fn made<'a, C: Width>(
     }
 }
 
+// The error is what was made before the refusal, and nothing where there were no items.
+fn made_of_items<'a, C: Width>(
+    items: Items,
+    memory: Memory<'a>,
+    view: UtfStr<'_, C>,
+) -> Result<Text<'a, C>, Text<'a, C>> {
+    let heap = memory.heap;
+    let none = Err(UtfString::new(heap));
+    match items {
+        Items::Chars => UtfString::from_iter_chars(heap, ['a', SMILE]),
+        Items::CharRefs => UtfString::from_iter_char_refs(heap, &['a', SMILE]),
+        Items::Strs => UtfString::from_iter_strs(heap, ["a", "😀"]),
+        Items::Strings => match strings(memory.alloc) {
+            Ok((a, smile)) => UtfString::from_iter_strings(heap, [a, smile]),
+            Err(OutOfMemory) => none,
+        },
+        Items::Utfstrs => UtfString::from_iter_utfstrs(heap, halves(view)),
+        Items::Utfstrings => match utfstrings(memory.alloc) {
+            Ok((a, smile)) => UtfString::from_iter_utfstrings(heap, [a, smile]),
+            Err(OutOfMemory) => none,
+        },
+        Items::Boxed => match boxed_utfstrs(memory.alloc) {
+            Ok((a, smile)) => UtfString::from_iter_boxed(heap, [a, smile]),
+            Err(OutOfMemory) => none,
+        },
+        Items::Cows => match cow_utfstrs(memory.alloc, view) {
+            Ok((a, smile)) => UtfString::from_iter_cows(heap, [a, smile]),
+            Err(OutOfMemory) => none,
+        },
+        _ => none,
+    }
+}
+
 fn extend<C: Width>(
     items: Items,
     alloc: Global,
@@ -44,6 +77,14 @@ fn extend<C: Width>(
         Items::Utfstrings => {
             let (a, smile) = utfstrings(alloc)?;
             s.extend_utfstrings([a, smile])
+        }
+        Items::Boxed => {
+            let (a, smile) = boxed_utfstrs(alloc)?;
+            s.extend_boxed([a, smile])
+        }
+        Items::Cows => {
+            let (a, smile) = cow_utfstrs(alloc, view)?;
+            s.extend_cows([a, smile])
         }
         _ => Err(OutOfMemory),
     }
@@ -141,8 +182,8 @@ impl<C: Width> Kind<C, StringCall> for WellFormed {
         let Ok(view) = UtfStr::from_slice(other) else {
             return wrong(memory);
         };
-        if let StringCall::FromItems = call {
-            return match UtfString::from_iter_chars(memory.heap, ['a', SMILE]) {
+        if let StringCall::FromItems(items) = call {
+            return match made_of_items(items, memory, view) {
                 Ok(s) => (s.into_vec(), Ok(true)),
                 Err(s) => (s.into_vec(), Err(OutOfMemory)),
             };

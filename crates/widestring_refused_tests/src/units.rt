@@ -1,5 +1,7 @@
 //! Strings of any units.
-use crate::calls::{Items, StringCall, halves, strings, ucstrings, ustrings, utfstrings};
+use crate::calls::{
+    Items, StringCall, boxed_ustrs, cow_ustrs, halves, strings, ucstrings, ustrings, utfstrings,
+};
 use crate::driver::{Kind, Left, Memory, SMILE, TEXT, Width};
 use std::alloc::Global;
 use widestring::error::OutOfMemory;
@@ -27,11 +29,66 @@ fn made<'a, C: Width>(
     }
 }
 
-// Of the other units twice where they are a C string, else of characters. The error is what was made before the refusal.
-fn made_of_items<'a, C: Width>(heap: &'a Heap, other: &[C]) -> Result<Units<'a, C>, Units<'a, C>> {
-    match UCStr::from_slice(other) {
-        Ok(view) => UString::from_iter_ucstrs(heap, [view, view]),
-        Err(_) => UString::from_iter_chars(heap, ['a', SMILE]),
+// The error is what was made before the refusal, and nothing where there were no items.
+fn made_of_units<'a, C: Width>(
+    items: Items,
+    memory: Memory<'a>,
+    other: &[C],
+) -> Result<Units<'a, C>, Units<'a, C>> {
+    let heap = memory.heap;
+    let none = Err(UString::new(heap));
+    match items {
+        Items::Ustrs => {
+            let (a, smile) = UStr::from_slice(other).split_at(other.len().min(1));
+            UString::from_iter_ustrs(heap, [a, smile])
+        }
+        Items::Ucstrs => match UCStr::from_slice(other) {
+            Ok(view) => UString::from_iter_ucstrs(heap, [view, view]),
+            Err(_) => none,
+        },
+        Items::Ustrings => match ustrings(memory.alloc) {
+            Ok((a, smile)) => UString::from_iter_ustrings(heap, [a, smile]),
+            Err(OutOfMemory) => none,
+        },
+        Items::Ucstrings => match ucstrings(memory.alloc) {
+            Ok((a, smile)) => UString::from_iter_ucstrings(heap, [a, smile]),
+            Err(OutOfMemory) => none,
+        },
+        Items::Boxed => match boxed_ustrs(memory.alloc) {
+            Ok((a, smile)) => UString::from_iter_boxed(heap, [a, smile]),
+            Err(OutOfMemory) => none,
+        },
+        _ => match cow_ustrs(memory.alloc, other) {
+            Ok((a, smile)) => UString::from_iter_cows(heap, [a, smile]),
+            Err(OutOfMemory) => none,
+        },
+    }
+}
+
+fn made_of_items<'a, C: Width>(
+    items: Items,
+    memory: Memory<'a>,
+    other: &[C],
+) -> Result<Units<'a, C>, Units<'a, C>> {
+    let heap = memory.heap;
+    let none = Err(UString::new(heap));
+    match items {
+        Items::Chars => UString::from_iter_chars(heap, ['a', SMILE]),
+        Items::CharRefs => UString::from_iter_char_refs(heap, &['a', SMILE]),
+        Items::Strs => UString::from_iter_strs(heap, ["a", "😀"]),
+        Items::Strings => match strings(memory.alloc) {
+            Ok((a, smile)) => UString::from_iter_strings(heap, [a, smile]),
+            Err(OutOfMemory) => none,
+        },
+        Items::Utfstrs => match UtfStr::from_slice(other) {
+            Ok(text) => UString::from_iter_utfstrs(heap, halves(text)),
+            Err(_) => none,
+        },
+        Items::Utfstrings => match utfstrings(memory.alloc) {
+            Ok((a, smile)) => UString::from_iter_utfstrings(heap, [a, smile]),
+            Err(OutOfMemory) => none,
+        },
+        _ => made_of_units(items, memory, other),
     }
 }
 
@@ -76,6 +133,14 @@ fn extend<C: Width>(
         Items::Ucstrings => {
             let (a, smile) = ucstrings(alloc)?;
             s.extend_ucstrings([a, smile])
+        }
+        Items::Boxed => {
+            let (a, smile) = boxed_ustrs(alloc)?;
+            s.extend_boxed([a, smile])
+        }
+        Items::Cows => {
+            let (a, smile) = cow_ustrs(alloc, other)?;
+            s.extend_cows([a, smile])
         }
     }
 }
@@ -154,8 +219,8 @@ impl<C: Width> Kind<C, StringCall> for AnyUnits {
         units: Vec<C, &'a Heap>,
         other: &[C],
     ) -> Left<'a, C> {
-        if let StringCall::FromItems = call {
-            return match made_of_items(memory.heap, other) {
+        if let StringCall::FromItems(items) = call {
+            return match made_of_items(items, memory, other) {
                 Ok(s) => (s.into_vec(), Ok(true)),
                 Err(s) => (s.into_vec(), Err(OutOfMemory)),
             };

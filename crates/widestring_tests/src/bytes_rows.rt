@@ -6,6 +6,7 @@ use std::io;
 use std::io::{Read, Write};
 use widestring::bytes::{
     BoM, ByteSink, ByteSource, FromRead, FromWrite, Mode, byte_order, laws, put_all, transcode,
+    units_of_bytes,
 };
 use widestring::error::TranscodeError;
 
@@ -22,6 +23,30 @@ fn marks(rt: HostRuntime) {
     ];
     all_hold(&rt, &rows);
     laws::worked_units();
+}
+
+// Whether bytes are these units, and none after them.
+fn has_units(bytes: &[u8], units: &[u16]) -> bool {
+    let mut given = units_of_bytes(bytes);
+    for unit in units {
+        if given.next() != Some(*unit) {
+            return false;
+        }
+    }
+    given.next().is_none()
+}
+
+#[test]
+fn units_of_files(rt: HostRuntime) {
+    let rows = [
+        has_units(b"", &[]),
+        has_units(b"\x41", &[]),
+        has_units(b"\x3d\xd8\x00\xde", &[0xd83d, 0xde00]),
+        has_units(b"\xff\xfe\x61\x00\x00\xdc", &[0x61, 0xdc00]),
+        has_units(b"\xfe\xff\x00\x61\x00\x00", &[0x61]),
+        has_units(b"\x61\x00\x00\x00\x62", &[0x61, 0]),
+    ];
+    all_hold(&rt, &rows);
 }
 
 // Whether this is the UTF-8 text of UTF-16 bytes.

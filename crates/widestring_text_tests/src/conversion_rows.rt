@@ -4,12 +4,13 @@ use crate::sinks::{prints, shows};
 use std::alloc::Global;
 use widestring::bytes::include_utf16str;
 use widestring::error::{FaultUnit, Utf16BytesError, Utf16ConvertError, Utf32ConvertError};
+use widestring::ucstr::UCStr;
 use widestring::ucstring::{CowUCStr, UCString};
 use widestring::ustr::UStr;
-use widestring::ustring::{CowUStr, UString};
+use widestring::ustring::{BoxedUStr, CowUStr, UStrInUstring, UString};
 use widestring::utfstr::UtfStr;
-use widestring::utfstring::{CowUtfStr, UtfString};
-use widestring::{U16CStr, U16Str, U32Str, Utf16String, Utf32String};
+use widestring::utfstring::{BoxedUtfStr, CowUtfStr, UtfString};
+use widestring::{U16CStr, U16Str, U32CStr, U32Str, Utf16String, Utf32String};
 
 // Units, their lossy text, and whether that is borrowed.
 static LOSSY16: [(&[u16], &[u16], bool); 6] = [
@@ -115,6 +116,34 @@ fn is_text16(alloc: Global, units: &[u16], text: &str) -> bool {
     }
 }
 
+// The same of the contents of a C string, strictly and lossily.
+fn contents_are_text16(alloc: Global, units: &[u16], text: &str) -> bool {
+    let Ok(view) = U16CStr::from_slice(units) else {
+        return false;
+    };
+    match view.to_string(alloc) {
+        Ok(copy) => copy.as_str() == text && contents_are_lossy_text(alloc, view, text),
+        Err(_) => false,
+    }
+}
+
+fn contents_are_text32(alloc: Global, units: &[u32], text: &str) -> bool {
+    let Ok(view) = U32CStr::from_slice(units) else {
+        return false;
+    };
+    match view.to_string(alloc) {
+        Ok(copy) => copy.as_str() == text && contents_are_lossy_text(alloc, view, text),
+        Err(_) => false,
+    }
+}
+
+fn contents_are_lossy_text<C: FaultUnit>(alloc: Global, view: UCStr<'_, C>, text: &str) -> bool {
+    match view.to_string_lossy(alloc) {
+        Ok(copy) => copy.as_str() == text,
+        Err(_) => false,
+    }
+}
+
 fn is_lossy_text<C: FaultUnit>(alloc: Global, units: &[C], text: &str) -> bool {
     match UStr::from_slice(units).to_string_lossy(alloc) {
         Ok(copy) => copy.as_str() == text,
@@ -207,23 +236,73 @@ fn borrowed<C: FaultUnit>(text: UtfStr<'_, C>) -> [CowUtfStr<'_, C>; 1] {
     [CowUtfStr::Borrowed(text)]
 }
 
-// A string extended by borrowed text.
-fn of_borrowed<C: FaultUnit>(alloc: Global, text: UtfStr<'_, C>) -> UtfString<C> {
-    match UtfString::from_iter_cows(alloc, borrowed(text)) {
-        Ok(string) | Err(string) => string,
+// Whether what items made is this text; where memory is refused they make that of the items before.
+fn is_text<C: FaultUnit>(made: Result<UtfString<C>, UtfString<C>>, text: &str) -> bool {
+    match made {
+        Ok(string) => string.as_utfstr().eq_str(text),
+        Err(_) => false,
     }
 }
 
-// Extended by borrowed and boxed text.
-fn extends<C: FaultUnit>(alloc: Global) -> bool {
-    let Ok(text) = UtfString::<C>::from_str(alloc, "é") else {
-        return false;
+fn boxed<C: FaultUnit>(alloc: Global, text: &str) -> Option<BoxedUtfStr<C>> {
+    match UtfString::from_str(alloc, text) {
+        Ok(string) => string.into_boxed_utfstr().ok(),
+        Err(_) => None,
+    }
+}
+
+// Strings made of boxed text and of borrowed text, which is that of the units, and one extended by each.
+fn extends<C: FaultUnit>(alloc: Global, units: &[C]) -> [bool; 6] {
+    let Ok(text) = UtfStr::from_slice(units) else {
+        return [false; 6];
     };
-    let mut string = of_borrowed(alloc, text.as_utfstr());
-    match text.into_boxed_utfstr() {
-        Ok(boxed) => string.extend_boxed([boxed]).is_ok() && string.as_utfstr().eq_str("éé"),
+    let mut string = UtfString::new(alloc);
+    [
+        is_text(UtfString::from_iter_cows(alloc, borrowed(text)), "é"),
+        is_text(
+            UtfString::<C>::from_iter_boxed(alloc, boxed(alloc, "a😀")),
+            "a😀",
+        ),
+        string.extend_cows(borrowed(text)).is_ok(),
+        string.as_utfstr().eq_str("é"),
+        string.extend_boxed(boxed(alloc, "a😀")).is_ok(),
+        string.as_utfstr().eq_str("éa😀"),
+    ]
+}
+
+fn borrowed_units<C>(units: &[C]) -> [CowUStr<'_, C>; 1] {
+    [CowUStr::Borrowed(UStr::from_slice(units))]
+}
+
+fn is_of<C: FaultUnit + PartialEq>(made: Result<UString<C>, UString<C>>, units: &[C]) -> bool {
+    match made {
+        Ok(string) => string.as_slice() == units,
         Err(_) => false,
     }
+}
+
+fn boxed_units<C: FaultUnit>(alloc: Global, units: &[C]) -> Option<BoxedUStr<C>> {
+    match UStr::from_slice(units).to_ustring(alloc) {
+        Ok(string) => string.into_boxed_ustr().ok(),
+        Err(_) => None,
+    }
+}
+
+// The same of any units, by the front of these, and then the rest.
+fn extends_units<C: FaultUnit + PartialEq>(alloc: Global, units: &[C], front: usize) -> [bool; 6] {
+    let (first, rest) = units.split_at(front.min(units.len()));
+    let mut string = UString::new(alloc);
+    [
+        is_of(UString::from_iter_cows(alloc, borrowed_units(units)), units),
+        is_of(
+            UString::from_iter_boxed(alloc, boxed_units(alloc, units)),
+            units,
+        ),
+        string.extend_cows(borrowed_units(first)).is_ok(),
+        string.as_slice() == first,
+        string.extend_boxed(boxed_units(alloc, rest)).is_ok(),
+        string.as_slice() == units,
+    ]
 }
 
 // A file: its text, or else the index of its first fault, or that its length is odd.
@@ -293,6 +372,9 @@ fn texts_and_copies(rt: HostRuntime) {
         fault16(rt.alloc(), &[0xd83d, 0x41]) == Some(0),
         fault32(rt.alloc(), &[0x41, 0x11_0000]) == Some(1),
         is_text16(rt.alloc(), &[0x41], "A"),
+        all_are::<u16>(rt.alloc(), "A"),
+        contents_are_text16(rt.alloc(), &[0x41, 0], "A"),
+        contents_are_text32(rt.alloc(), &[0x1_f600, 0], "😀"),
         is_lossy_text(rt.alloc(), &[0xd83du16, 0x41], "\u{fffd}A"),
         is_lossy_text(rt.alloc(), &[0x41u32, 0x11_0000], "A\u{fffd}"),
         copies16(rt.alloc()),
@@ -310,10 +392,26 @@ fn borrowed_and_boxed(rt: HostRuntime) {
         boxes_of_units::<u32>(rt.alloc()),
         boxes_of_c_strings::<u16>(rt.alloc()),
         boxes_of_c_strings::<u32>(rt.alloc()),
-        extends::<u16>(rt.alloc()),
-        extends::<u32>(rt.alloc()),
     ];
     all_hold(&rt, &rows);
+}
+
+#[test]
+fn extended_by_borrowed_and_boxed_text(rt: HostRuntime) {
+    all_hold(&rt, &extends(rt.alloc(), &[0xe9u16]));
+    all_hold(&rt, &extends(rt.alloc(), &[0xe9u32]));
+}
+
+#[test]
+fn extended_by_borrowed_and_boxed_units(rt: HostRuntime) {
+    all_hold(
+        &rt,
+        &extends_units(rt.alloc(), &[0x61u16, 0xd83d, 0xde00, 0xd83d], 2),
+    );
+    all_hold(
+        &rt,
+        &extends_units(rt.alloc(), &[0x61u32, 0xd83d, 0x11_0000], 2),
+    );
 }
 
 #[test]

@@ -2,9 +2,11 @@
 use crate::rows::all_hold;
 use crate::sinks::{prints, shows};
 use std::alloc::Global;
+use std::fmt;
 use widestring::error::FaultUnit;
 use widestring::ucstr::UCStr;
 use widestring::ucstring::UCString;
+use widestring::unit::write_escape;
 use widestring::ustr::UStr;
 use widestring::ustring::UString;
 use widestring::utfstr::UtfStr;
@@ -242,6 +244,29 @@ fn texts(rt: HostRuntime) {
         drain_prints::<u32>(alloc, true, "\t😀", "\"\\t😀\""),
         drain_prints::<u16>(alloc, false, "a\t😀b", "\"a\\t😀b\""),
         drain_prints::<u32>(alloc, false, "a\t😀b", "\"a\\t😀b\""),
+    ];
+    all_hold(&rt, &rows);
+}
+
+// A value that prints a character's escape.
+#[derive(Drop)]
+struct Escaped(char);
+
+impl fmt::Display for Escaped {
+    fn fmt<W: fmt::Write>(&self, f: &mut fmt::Formatter<W>) -> fmt::Result {
+        write_escape(f, self.0.escape_debug())
+    }
+}
+
+#[test]
+fn escapes_of_characters(rt: HostRuntime) {
+    let alloc = rt.alloc();
+    let rows = [
+        prints(alloc, &Escaped('a'), "a"),
+        prints(alloc, &Escaped('\0'), "\\0"),
+        prints(alloc, &Escaped('\n'), "\\n"),
+        prints(alloc, &Escaped('"'), "\\\""),
+        prints(alloc, &Escaped('\u{1f}'), "\\u{1f}"),
     ];
     all_hold(&rt, &rows);
 }

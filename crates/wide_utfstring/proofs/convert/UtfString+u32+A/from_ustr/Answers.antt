@@ -1,9 +1,10 @@
+use Rattle.std.proofs.lemmas.Result.{err_from_is_err_and}
 use Rattle.wide_unit.specs.EncodingForm.{Utf32}
-use Rattle.wide_utfstring.proofs.Copies.{well_formed-of_copy, fault-of_copy}
+use Rattle.wide_utfstring.proofs.Copies.{fault-of_copy}
 use Rattle.wide_utfstring.proofs.convert.UtfString+u32+A.from_ustr.Goals as goal
 
-pub returns-in-Ok-clause-ok : goal.returns-in-Ok-clause-ok
-returns-in-Ok-clause-ok g c = well_formed-of_copy Utf32 c.in_ok-copy.copy.units _ c.in_ok-copy.ensures c.in-Ok.ensures.ok
-
-pub returns-in-Err-clause-fault : goal.returns-in-Err-clause-fault
-returns-in-Err-clause-fault g c = fault-of_copy Utf32 c.in_ok-copy.copy.units _ c.in_ok-copy.ensures _ c.in-Err.fault c.in-Err.ensures.fault
+pub returns-in_err-from_ustring-clause-fault : goal.returns-in_err-from_ustring-clause-fault
+returns-in_err-from_ustring-clause-fault g c =
+    let made = err_from_is_err_and c.from_residual-in_err-from_ustring.result c.from_residual-in_err-from_ustring.ensures.1 in
+    let copy = c.in_ok-to_ustring in
+    rw (made.1, made.2) (fault-of_copy Utf32 copy.field-0.units _ copy.ensures.units _ c.in_err-from_ustring.field-0.0 c.in_err-from_ustring.ensures.fault)
