@@ -17,3 +17,5 @@ pub use Rattle.wide_ucstr.specs.CString
 pub use Rattle.wide_ucstring.specs.CowCString
 pub use Rattle.wide_utfstr.specs.View
 pub use Rattle.wide_utfstring.specs.CowText
+pub use Rattle.wide_edit.specs.Step
+pub use Rattle.wide_edit.specs.Edited

@@ -5,6 +5,7 @@
 #![tactic(auto)]
 
 pub mod bytes;
+pub mod edit;
 pub mod error;
 pub mod utfstring;
 

@@ -7,5 +7,6 @@
 pub mod compare;
 pub mod edits;
 pub mod faults;
+pub mod lockstep;
 pub mod places32;
 pub mod texts;

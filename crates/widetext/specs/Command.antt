@@ -27,11 +27,18 @@ module _ {A : Type 0} where
   AsksForEnds (word ∷ units ∷ calls ∷ []) = string_bytes word ≡ codes "ends"
   AsksForEnds (word ∷ units ∷ calls ∷ fourth ∷ others) = ⊥
 
+  -- the word `edit` and a text, and no edits or some
+  abbrev pub AsksForEdits : List (String A) → Type 0
+  AsksForEdits [] = ⊥
+  AsksForEdits (word ∷ []) = ⊥
+  AsksForEdits (word ∷ text ∷ edits) = string_bytes word ≡ codes "edit"
+
   -- no request begins so
   pub record IsUnknown (words : List (String A)) : Type 0 where
     pub no_strict : ¬ (AsksForUtf8 Strict words)
     pub no_lossy : ¬ (AsksForUtf8 Lossy words)
     pub no_ends : ¬ (AsksForEnds words)
+    pub no_edits : ¬ (AsksForEdits words)
 
 -- 0 is success, 1 is a refusal
 abbrev pub status_of : {T E : Type 0} → Result T E → ℕ

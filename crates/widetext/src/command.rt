@@ -7,6 +7,8 @@ ghost use Rattle.wide_bytes.specs.Transcoded.{transcoded};
 ghost use Rattle.wide_bytes.specs.declared.mode.Mode.{Mode};
 ghost use Rattle.widetext.specs.Command.{AsksForUtf8, AsksForNoUtf8, IsUnknown, status_of};
 
+use crate::edit_lines::edit_lines;
+use crate::edit_words::EditWord;
 use crate::words::{Request, parse_words};
 use std::alloc::{AllocError, Global};
 use std::fmt;
@@ -72,6 +74,19 @@ fn write_answers<K: ByteSink>(
     put_all(sink, lines.as_bytes())
 }
 
+// What the edits of a text answer and make of it. All lines are made before any is written.
+fn write_edits<K: ByteSink>(
+    alloc: Global,
+    sink: &mut K,
+    text: &str,
+    edits: &[EditWord<'_>],
+) -> Result<(), TranscodeError>
+    requires { K.has_failed sink.old ≡ false }
+    ensures refused { OnErr result (K.has_failed sink.new ≡ false → sink.new ≡ sink.old) }
+{
+    put_all(sink, edit_lines(alloc, text, edits)?.as_bytes())
+}
+
 /// Does what the words after the program's name say, and answers the exit status: 0 on success, 1 after a refusal,
 /// whose text is a line on `faults`, and 2 at wrong words, with the usage on `faults` and nothing on `sink`.
 ///
@@ -123,6 +138,7 @@ pub fn command<S: ByteSource, K: ByteSink, F: ByteSink>(
     let answer = match request {
         Request::Utf8(mode) => transcode(alloc, source, sink, mode),
         Request::Ends { units, ends } => write_answers(alloc, sink, &units, &ends),
+        Request::Edit { text, edits } => write_edits(alloc, sink, text, &edits),
     };
     match answer {
         Ok(()) => 0,

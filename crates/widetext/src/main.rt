@@ -2,6 +2,8 @@
 #![tactic(auto)]
 
 mod command;
+mod edit_lines;
+mod edit_words;
 mod words;
 
 use command::{USAGE, WRONG_USAGE, command, report};

@@ -3,13 +3,14 @@ ghost use Rattle.std.specs.Prelude.{◌≡◌, ◌≢◌};
 ghost use Rattle.wide_bytes.specs.declared.mode.Mode.{Mode};
 ghost use Rattle.widetext.specs.Command.{AsksForUtf8, IsUnknown};
 
+use crate::edit_words::{EditWord, parse_edit_words};
 use std::alloc::{AllocError, Global};
 use wide_bytes::Mode;
 use wide_iter::End;
 
 /// What the words ask for.
 #[derive(Drop)]
-pub enum Request {
+pub enum Request<'a> {
     /// The UTF-8 text of standard input, with its faults treated so.
     Utf8(Mode),
     /// What a decoder of the units answers to the calls.
@@ -18,6 +19,13 @@ pub enum Request {
         units: Vec<u16>,
         /// The ends that items are asked of.
         ends: Vec<End>,
+    },
+    /// What edits make of a text, and what they answer.
+    Edit {
+        /// The text before the edits.
+        text: &'a str,
+        /// The edits, in order.
+        edits: Vec<EditWord<'a>>,
     },
 }
 
@@ -59,11 +67,11 @@ fn parse_ends(alloc: Global, word: &str) -> Result<Option<Vec<End>>, AllocError>
 }
 
 // What `ends UNITS CALLS` asks for. Both words are read before any other thing is done.
-fn parse_ends_request(
+fn parse_ends_request<'a>(
     alloc: Global,
     units: &str,
     calls: &str,
-) -> Result<Option<Request>, AllocError>
+) -> Result<Option<Request<'a>>, AllocError>
     ensures { (mode : Mode) → result ≢ Ok (Some (Request.Utf8 mode)) }
 {
     let Some(units) = parse_units(alloc, units)? else {
@@ -75,20 +83,47 @@ fn parse_ends_request(
     Ok(Some(Request::Ends { units, ends }))
 }
 
-/// What the words ask for, where they are in order.
-pub fn parse_words(alloc: Global, words: &[String]) -> Result<Option<Request>, AllocError>
-    ensures utf8 { (mode : Mode) → AsksForUtf8 mode words.now → result ≡ Ok (Some (Request.Utf8 mode)) }
-    ensures utf8_alone { (mode : Mode) → result ≡ Ok (Some (Request.Utf8 mode)) → AsksForUtf8 mode words.now }
+// What `edit TEXT EDIT..` asks for.
+fn parse_edit_request<'a>(
+    alloc: Global,
+    text: &'a str,
+    words: &'a [String],
+) -> Result<Option<Request<'a>>, AllocError>
+    ensures { (mode : Mode) → result ≢ Ok (Some (Request.Utf8 mode)) }
+{
+    match parse_edit_words(alloc, words)? {
+        Some(edits) => Ok(Some(Request::Edit { text, edits })),
+        None => Ok(None),
+    }
+}
+
+// What the words ask for that reads no input, where they are in order.
+fn parse_other_words(alloc: Global, words: &[String]) -> Result<Option<Request<'_>>, AllocError>
+    ensures no_utf8 { (mode : Mode) → result ≢ Ok (Some (Request.Utf8 mode)) }
     ensures unknown { IsUnknown words.now → result ≡ Ok None }
 {
     match words {
         [word, units, calls] if word.as_str() == "ends" => {
             parse_ends_request(alloc, units.as_str(), calls.as_str())
         }
+        [word, text, edits @ ..] if word.as_str() == "edit" => {
+            parse_edit_request(alloc, text.as_str(), edits)
+        }
+        _ => Ok(None),
+    }
+}
+
+/// What the words ask for, where they are in order.
+pub fn parse_words(alloc: Global, words: &[String]) -> Result<Option<Request<'_>>, AllocError>
+    ensures utf8 { (mode : Mode) → AsksForUtf8 mode words.now → result ≡ Ok (Some (Request.Utf8 mode)) }
+    ensures utf8_alone { (mode : Mode) → result ≡ Ok (Some (Request.Utf8 mode)) → AsksForUtf8 mode words.now }
+    ensures unknown { IsUnknown words.now → result ≡ Ok None }
+{
+    match words {
         [word] if word.as_str() == "utf8" => Ok(Some(Request::Utf8(Mode::Strict))),
         [word, option] if word.as_str() == "utf8" && option.as_str() == "--lossy" => {
             Ok(Some(Request::Utf8(Mode::Lossy)))
         }
-        _ => Ok(None),
+        _ => parse_other_words(alloc, words),
     }
 }

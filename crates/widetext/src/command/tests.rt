@@ -419,7 +419,7 @@ fn are_wrong(alloc: Global, words: &[&str]) -> Result<bool, AllocError> {
 
 #[test]
 fn wrong_words(rt: HostRuntime) {
-    let all: [&[&str]; 20] = [
+    let all: [&[&str]; 45] = [
         &[],
         &[""],
         &["utf-8"],
@@ -428,7 +428,33 @@ fn wrong_words(rt: HostRuntime) {
         &["utf8", "--Lossy"],
         &["utf8", "--lossy", ""],
         &["--lossy"],
-        &["edit", "a"],
+        &["edit"],
+        &["edit", "a", ""],
+        &["edit", "a", "b"],
+        &["edit", "a", "pop="],
+        &["edit", "a", "clear=a"],
+        &["edit", "a", "Pop"],
+        &["edit", "a", "push"],
+        &["edit", "a", "push="],
+        &["edit", "a", "push=xy"],
+        &["edit", "a", "pushstr"],
+        &["edit", "a", "retain"],
+        &["edit", "a", "truncate="],
+        &["edit", "a", "truncate=+1"],
+        &["edit", "a", "truncate=-1"],
+        &["edit", "a", "truncate=18446744073709551616"],
+        &["edit", "a", "insert=0"],
+        &["edit", "a", "insert=0,"],
+        &["edit", "a", "insert=0,xy"],
+        &["edit", "a", "insert=,x"],
+        &["edit", "a", "insertstr=0"],
+        &["edit", "a", "remove=1,"],
+        &["edit", "a", "drain=0"],
+        &["edit", "a", "drain=0,1,2"],
+        &["edit", "a", "replace=0,1"],
+        &["edit", "a", "splitoff=a"],
+        // A wrong word behind edits that are in order is found before any is made.
+        &["edit", "a", "clear", "pop", "drain=0,x"],
         &["ends"],
         &["ends", "0041"],
         &["ends", "0041", "F", ""],
@@ -530,5 +556,99 @@ fn refused_memory(rt: HostRuntime) -> Result<(), Fail> {
 #[test]
 fn refused_memory_of_ends(rt: HostRuntime) -> Result<(), Fail> {
     assert!(rt; is_whole_or_refused(rt.alloc(), ENDS, b"", LINES)?);
+    Ok(())
+}
+
+/// The words behind `edit`, and the lines.
+type EditRow = (&'static [&'static str], &'static str);
+
+// Whether the row's lines are all that is written, and nothing is read.
+fn edits_as(alloc: Global, row: EditRow) -> Result<bool, AllocError> {
+    let (edits, lines) = row;
+    let mut words = Vec::new(alloc);
+    words.push("edit")?;
+    words.extend_from_slice(edits)?;
+    let sink = SlowSink::whole(alloc, 5);
+    let said = SlowSink::whole(alloc, 5);
+    let source = Slow::new(b"a\x00", 4096, 0);
+    let ran = run(alloc, &words, source, sink, said)?;
+    Ok(ran.is(0, lines.as_bytes(), b"") & (ran.source.calls == 0))
+}
+
+static EDIT_ROWS: [EditRow; 9] = [
+    (
+        &[
+            "a\u{1f600}b",
+            "insert=2,\u{e9}",
+            "remove=1",
+            "truncate=9",
+            "insert=7,x",
+            "replace=0,2,\u{24b62}",
+        ],
+        "done\nchar \\u{1f600}\ndone\nbadplace\ndone\ntext \\u{24b62}b\nutf16 D852 DF62 0062\nutf32 00024B62 00000062\n",
+    ),
+    (
+        &["", "pop", "insert=0,x", "splitoff=1", "drain=0,2"],
+        "nochar\ndone\nchars \nbadrange\ntext x\nutf16 0078\nutf32 00000078\n",
+    ),
+    (
+        &[
+            "\u{1f600}\u{1f600}a",
+            "retain=a,\u{1f600}",
+            "drain=2,1",
+            "remove=3",
+            "splitoff=1",
+        ],
+        "done\nbadrange\nbadplace\nchars \\u{1f600}a\ntext \\u{1f600}\nutf16 D83D DE00\nutf32 0001F600\n",
+    ),
+    (&["a", "clear"], "done\ntext \nutf16\nutf32\n"),
+    (&["a"], "text a\nutf16 0061\nutf32 00000061\n"),
+    // What stands behind a comma that ends a number is text, other commas too.
+    (
+        &[
+            "",
+            "pushstr=a,b",
+            "insertstr=1,,",
+            "replace=3,4,=,",
+            "pushstr=",
+            "push=,",
+        ],
+        "done\ndone\ndone\ndone\ndone\ntext a,,=,,\nutf16 0061 002C 002C 003D 002C 002C\nutf32 00000061 0000002C 0000002C 0000003D 0000002C 0000002C\n",
+    ),
+    // The escapes of `char::escape_default`.
+    (
+        &["\t\n\"\\", "pop", "push='", "drain=0,2"],
+        "char \\\\\ndone\nchars \\t\\n\ntext \\\"\\'\nutf16 0022 0027\nutf32 00000022 00000027\n",
+    ),
+    (
+        &[
+            "ab",
+            "truncate=18446744073709551615",
+            "remove=18446744073709551615",
+            "drain=18446744073709551615,0",
+            "insert=007,c",
+        ],
+        "done\nbadplace\nbadrange\nbadplace\ntext ab\nutf16 0061 0062\nutf32 00000061 00000062\n",
+    ),
+    (
+        &["abc", "retain=", "pushstr=xyz", "truncate=1"],
+        "done\ndone\ndone\ntext x\nutf16 0078\nutf32 00000078\n",
+    ),
+];
+
+#[test]
+fn edits(rt: HostRuntime) {
+    for row in EDIT_ROWS {
+        assert!(rt; edits_as(rt.alloc(), row) == Ok(true), "{}", row.1);
+    }
+}
+
+const EDIT: &[&str] = &["edit", "a", "push=b", "splitoff=0"];
+
+// Edits where an allocation is refused: all lines are made before any is written.
+#[test]
+fn refused_memory_of_edits(rt: HostRuntime) -> Result<(), Fail> {
+    let lines = b"done\nchars ab\ntext \nutf16\nutf32\n";
+    assert!(rt; is_whole_or_refused(rt.alloc(), EDIT, b"", lines)?);
     Ok(())
 }

@@ -1,0 +1,4 @@
+pub mod Runs
+pub mod Made
+pub mod Lengths
+pub mod Places

@@ -1,0 +1,6 @@
+use Rattle.std.proofs.Common.{rules, refl}
+use Rattle.std.proofs.lemmas.Fn.{filter_same}
+use Rattle.wide_edit.proofs.arms.retain.Goals as goal
+
+pub returns : goal.returns
+returns g c = record { text = filter_same _ _ _ (λ x b f' k. search rules) _ _ c.retain.ensures.filtered; answer = refl }

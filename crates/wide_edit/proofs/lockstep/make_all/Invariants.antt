@@ -1,0 +1,12 @@
+use Rattle.std.proofs.Common.{◌≡◌, take}
+use Rattle.wide_edit.specs.Edited.{HasRun}
+use Rattle.wide_edit.proofs.lockstep.make_all.Given as goal
+
+-- as many edits are made as were gone over
+abbrev pub invariant-loop-edit : goal.invariant-loop-edit
+invariant-loop-edit g l =
+    let text = g.T.TextEdit.text in
+    record {
+      count : l.done ≡ l.edit-index;
+      made : HasRun (text l.fn.text) (take l.edit-index l.edits) (text l.text) l.fn.replies.items l.replies.items;
+    }

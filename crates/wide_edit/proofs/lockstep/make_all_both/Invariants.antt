@@ -1,0 +1,14 @@
+use Rattle.std.proofs.Common.{◌≡◌, take}
+use Rattle.wide_edit.specs.Edited.{HasRun}
+use Rattle.wide_edit.proofs.lockstep.make_all_both.Given as goal
+
+-- as many edits are made in both as were gone over
+abbrev pub invariant-loop-edit : goal.invariant-loop-edit
+invariant-loop-edit g l =
+    let first_text = g.T.TextEdit.text in
+    let second_text = g.U.TextEdit.text in
+    record {
+      count : l.done ≡ l.edit-index;
+      made_first : HasRun (first_text l.fn.first) (take l.edit-index l.edits) (first_text l.first) l.fn.first_replies.items l.first_replies.items;
+      made_second : HasRun (second_text l.fn.second) (take l.edit-index l.edits) (second_text l.second) l.fn.second_replies.items l.second_replies.items;
+    }

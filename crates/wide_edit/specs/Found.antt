@@ -1,0 +1,57 @@
+-- The places of an edit, in characters and in units, and the room that it needs.
+use Rattle.std.specs.Prelude.{ℕ, ◌≤◌, ◌↔◌, List, length, Option, IsSome, IfSome}
+use Rattle.wide_unit.specs.EncodingForm.{EncodingForm, encode}
+use Rattle.wide_unit.specs.Items.{chars}
+use Rattle.wide_unit.specs.Places.{IsPlaceOf, IsCharBoundary, IsCharRange}
+use Rattle.wide_ustring.specs.Units.{Units}
+use Rattle.wide_edit.specs.declared.edits.Edit.{Edit}
+use Rattle.wide_edit.specs.declared.edits.Edit.TheVariants.{Push, PushStr, Pop, Truncate, Insert, InsertStr, Remove, Retain, Drain, Replace, SplitOff, Clear}
+
+-- the first number of an edit, or 0 where it has none
+abbrev pub first_number : Edit → ℕ
+first_number (Push c) = 0
+first_number (PushStr t) = 0
+first_number Pop = 0
+first_number (Truncate m) = m
+first_number (Insert i c) = i
+first_number (InsertStr i t) = i
+first_number (Remove i) = i
+first_number (Retain keep) = 0
+first_number (Drain a b) = a
+first_number (Replace a b t) = a
+first_number (SplitOff i) = i
+first_number Clear = 0
+
+-- the second number of an edit, or 0 where it has none
+abbrev pub second_number : Edit → ℕ
+second_number (Push c) = 0
+second_number (PushStr t) = 0
+second_number Pop = 0
+second_number (Truncate m) = 0
+second_number (Insert i c) = 0
+second_number (InsertStr i t) = 0
+second_number (Remove i) = 0
+second_number (Retain keep) = 0
+second_number (Drain a b) = b
+second_number (Replace a b t) = b
+second_number (SplitOff i) = 0
+second_number Clear = 0
+
+-- the encoding of these characters fits in the string with no allocation
+abbrev pub CanHold : {C : Type 0} → EncodingForm → Units C → List ℕ → Type 0
+CanHold form s cs = length (encode form cs) ≤ s.capacity
+
+module _ (form : EncodingForm) (units : List ℕ) where
+  -- the search for character number `index` found the place at which it begins, or none where there are fewer
+  pub record IsFoundAt (index : ℕ) (found : Option ℕ) : Type 0 where
+    pub some : IsSome found ↔ (index ≤ length (chars form units))
+    pub place : IfSome found (IsPlaceOf form units index)
+    pub boundary : IfSome found (IsCharBoundary form units)
+
+  -- the places, in units, of the characters from number `from` up to number `to`, which are a range
+  pub record IsFoundRange (from to start end : ℕ) : Type 0 where
+    pub forward : from ≤ to
+    pub within : to ≤ length (chars form units)
+    pub starts : IsPlaceOf form units from start
+    pub ends : IsPlaceOf form units to end
+    pub range : IsCharRange form units start end

@@ -1,0 +1,87 @@
+-- What edits mean: each one makes a list of characters a new list, and gives an answer.
+use Rattle.std.specs.Prelude.{ℕ, ◌+◌, ◌-◌, List, [], ◌∷◌, length, take, drop, Bool, ◌&&◌, if◌then◌else◌, nat_le, nat_lt, nat_eq, slice_range}
+use Rattle.std.specs.List.{splice, list_any, filter}
+use Rattle.std.specs.Str.{chars}
+use Rattle.wide_edit.specs.declared.edits.Edit.{Edit}
+use Rattle.wide_edit.specs.declared.edits.Edit.TheVariants.{Push, PushStr, Pop, Truncate, Insert, InsertStr, Remove, Retain, Drain, Replace, SplitOff, Clear}
+use Rattle.wide_edit.specs.declared.edits.Reply.{Reply}
+use Rattle.wide_edit.specs.declared.edits.Reply.TheVariants as reply
+
+-- a reply as data: the characters that it holds, and not where they lie
+pub data Answer : Type 0 where
+  Done : Answer
+  Char : (c : ℕ) → Answer
+  NoChar : Answer
+  Chars : (cs : List ℕ) → Answer
+  BadPlace : Answer
+  BadRange : Answer
+
+-- the answer that a reply gives
+abbrev pub answer_of : Reply → Answer
+answer_of reply.Done = Done
+answer_of (reply.Char c) = Char c
+answer_of reply.NoChar = NoChar
+answer_of (reply.Chars cs) = Chars cs.items
+answer_of reply.BadPlace = BadPlace
+answer_of reply.BadRange = BadRange
+
+-- the first of these characters, where there is one
+abbrev pub first_char : List ℕ → Answer
+first_char [] = NoChar
+first_char (c ∷ cs) = Char c
+
+-- places `a` and `b` are a range of so many characters: it runs forward, and ends within them
+abbrev pub is_range : ℕ → ℕ → ℕ → Bool
+is_range a b count = nat_le a b && nat_le b count
+
+-- whether a character occurs in a list
+abbrev pub occurs : List ℕ → ℕ → Bool
+occurs keep c = list_any (λ k. nat_eq k c) keep
+
+-- the new list that an edit makes of the list `l`: `l` itself where the edit is refused
+abbrev pub changed : List ℕ → Edit → List ℕ
+changed l (Push c) = splice l (length l) (length l) (c ∷ [])
+changed l (PushStr t) = splice l (length l) (length l) (chars t.now)
+changed l Pop = splice l (length l - 1) (length l) []
+changed l (Truncate m) = take m l
+changed l (Insert i c) = if nat_le i (length l) then splice l i i (c ∷ []) else l
+changed l (InsertStr i t) = if nat_le i (length l) then splice l i i (chars t.now) else l
+changed l (Remove i) = if nat_lt i (length l) then splice l i (i + 1) [] else l
+changed l (Retain keep) = filter (occurs keep.now) l
+changed l (Drain a b) = if is_range a b (length l) then splice l a b [] else l
+changed l (Replace a b t) = if is_range a b (length l) then splice l a b (chars t.now) else l
+changed l (SplitOff i) = if nat_le i (length l) then take i l else l
+changed l Clear = []
+
+-- the answer of an edit of the list `l`
+abbrev pub answer : List ℕ → Edit → Answer
+answer l (Push c) = Done
+answer l (PushStr t) = Done
+answer l Pop = first_char (drop (length l - 1) l)
+answer l (Truncate m) = Done
+answer l (Insert i c) = if nat_le i (length l) then Done else BadPlace
+answer l (InsertStr i t) = if nat_le i (length l) then Done else BadPlace
+answer l (Remove i) = if nat_lt i (length l) then first_char (drop i l) else BadPlace
+answer l (Retain keep) = Done
+answer l (Drain a b) = if is_range a b (length l) then Chars (slice_range l a b) else BadRange
+answer l (Replace a b t) = if is_range a b (length l) then Done else BadRange
+answer l (SplitOff i) = if nat_le i (length l) then Chars (drop i l) else BadPlace
+answer l Clear = Done
+
+-- one edit: the new list, and the answer
+abbrev pub step : List ℕ → Edit → List ℕ × Answer
+step l edit = (changed l edit, answer l edit)
+
+-- edits one after another, each of the list that those before it made: the last list, and the list of answers
+abbrev pub meaning : List ℕ → List Edit → List ℕ × List Answer
+meaning l [] = (l, [])
+meaning l (edit ∷ edits) = ((meaning (step l edit).0 edits).0, (step l edit).1 ∷ (meaning (step l edit).0 edits).1)
+
+-- how many characters an answer holds in a list
+abbrev pub chars_in : Answer → ℕ
+chars_in Done = 0
+chars_in (Char c) = 0
+chars_in NoChar = 0
+chars_in (Chars cs) = length cs
+chars_in BadPlace = 0
+chars_in BadRange = 0

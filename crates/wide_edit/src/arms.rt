@@ -1,0 +1,231 @@
+//! The twelve edits of a well-formed string, each made in units at places that were found, in memory that was found.
+ghost use Rattle.std.specs.Prelude.{◌≡◌, ◌≤◌, [], length, map, vec_capacity};
+ghost use Rattle.wide_unit.specs.Places.{text_of};
+ghost use Rattle.wide_utfstr.specs.View.{text_seen};
+ghost use Rattle.wide_edit.specs.Step.{changed};
+ghost use Rattle.wide_edit.specs.Edited.{IsMade, HasReplyRoom};
+ghost use Rattle.wide_edit.specs.Found.{first_number, second_number, CanHold, IsFoundAt};
+ghost use Rattle.wide_edit.specs.declared.edits.Edit.TheVariants as edit_of;
+
+use crate::edits::{Edit, Reply};
+use crate::found::{range_at, recall};
+use wide_utferror::FaultUnit;
+use wide_utfstr::UtfStr;
+use wide_utfstring::UtfString;
+
+// The characters of a view, in room that was found for them.
+fn copy<C: FaultUnit>(text: UtfStr<'_, C>, mut room: Vec<char>) -> Vec<char>
+    requires empty { room.items ≡ [] }
+    requires fits { length (text_seen text) ≤ vec_capacity room }
+    ensures { result.items ≡ text_seen text.entry }
+{
+    let mut rest = text.chars();
+    while let Some(c) = rest.next() {
+        room.push_reserved(c);
+    }
+    room
+}
+
+fn push<C: FaultUnit>(s: &mut UtfString<C>, c: char) -> Reply
+    requires { CanHold C.form s.old (changed (text_of C.form C.number s.old.units) (edit_of.Push c)) }
+    ensures { IsMade (text_of C.form C.number s.old.units) (edit_of.Push c) (text_of C.form C.number s.new.units) result }
+{
+    recall(s);
+    let _room_was_found = s.push(c);
+    Reply::Done
+}
+
+fn push_str<C: FaultUnit>(s: &mut UtfString<C>, text: &str) -> Reply
+    requires { CanHold C.form s.old (changed (text_of C.form C.number s.old.units) (edit_of.PushStr text)) }
+    ensures { IsMade (text_of C.form C.number s.old.units) (edit_of.PushStr text.entry) (text_of C.form C.number s.new.units) result }
+{
+    recall(s);
+    let _room_was_found = s.push_str(text);
+    Reply::Done
+}
+
+fn pop<C: FaultUnit>(s: &mut UtfString<C>) -> Reply
+    ensures { IsMade (text_of C.form C.number s.old.units) edit_of.Pop (text_of C.form C.number s.new.units) result }
+{
+    match s.pop() {
+        Some(c) => Reply::Char(c),
+        None => Reply::NoChar,
+    }
+}
+
+fn truncate<C: FaultUnit>(s: &mut UtfString<C>, len: usize, found: Option<usize>) -> Reply
+    requires { IsFoundAt C.form (map C.number s.old.units) len found }
+    ensures { IsMade (text_of C.form C.number s.old.units) (edit_of.Truncate len) (text_of C.form C.number s.new.units) result }
+{
+    recall(s);
+    match found {
+        Some(at) => {
+            s.truncate(at);
+            Reply::Done
+        }
+        None => Reply::Done,
+    }
+}
+
+fn insert<C: FaultUnit>(s: &mut UtfString<C>, index: usize, found: Option<usize>, c: char) -> Reply
+    requires found { IsFoundAt C.form (map C.number s.old.units) index found }
+    requires ready { CanHold C.form s.old (changed (text_of C.form C.number s.old.units) (edit_of.Insert index c)) }
+    ensures { IsMade (text_of C.form C.number s.old.units) (edit_of.Insert index c) (text_of C.form C.number s.new.units) result }
+{
+    recall(s);
+    match found {
+        Some(at) => {
+            let _room_was_found = s.insert(at, c);
+            Reply::Done
+        }
+        None => Reply::BadPlace,
+    }
+}
+
+fn insert_str<C: FaultUnit>(
+    s: &mut UtfString<C>,
+    index: usize,
+    found: Option<usize>,
+    text: &str,
+) -> Reply
+    requires found { IsFoundAt C.form (map C.number s.old.units) index found }
+    requires ready { CanHold C.form s.old (changed (text_of C.form C.number s.old.units) (edit_of.InsertStr index text)) }
+    ensures { IsMade (text_of C.form C.number s.old.units) (edit_of.InsertStr index text.entry) (text_of C.form C.number s.new.units) result }
+{
+    recall(s);
+    match found {
+        Some(at) => {
+            let _room_was_found = s.splice_str(at, at, text);
+            Reply::Done
+        }
+        None => Reply::BadPlace,
+    }
+}
+
+fn remove<C: FaultUnit>(s: &mut UtfString<C>, index: usize, found: Option<usize>) -> Reply
+    requires { IsFoundAt C.form (map C.number s.old.units) index found }
+    ensures { IsMade (text_of C.form C.number s.old.units) (edit_of.Remove index) (text_of C.form C.number s.new.units) result }
+{
+    recall(s);
+    match found {
+        Some(at) => {
+            if at == s.len() {
+                return Reply::BadPlace;
+            }
+            Reply::Char(s.remove(at))
+        }
+        None => Reply::BadPlace,
+    }
+}
+
+fn retain<C: FaultUnit>(s: &mut UtfString<C>, keep: &[char]) -> Reply
+    ensures { IsMade (text_of C.form C.number s.old.units) (edit_of.Retain keep.entry) (text_of C.form C.number s.new.units) result }
+{
+    s.retain(|c| keep.contains(&c));
+    Reply::Done
+}
+
+fn drain<C: FaultUnit>(
+    s: &mut UtfString<C>,
+    from: usize,
+    to: usize,
+    start: Option<usize>,
+    end: Option<usize>,
+    room: Vec<char>,
+) -> Reply
+    requires start { IsFoundAt C.form (map C.number s.old.units) from start }
+    requires end { IsFoundAt C.form (map C.number s.old.units) to end }
+    requires room { HasReplyRoom (text_of C.form C.number s.old.units) (edit_of.Drain from to) room }
+    ensures { IsMade (text_of C.form C.number s.old.units) (edit_of.Drain from to) (text_of C.form C.number s.new.units) result }
+{
+    recall(s);
+    match range_at(s, from, to, start, end) {
+        Some(range) => {
+            let taken = copy(s.as_utfstr().slice(range.start..range.end), room);
+            let _takes_no_room = s.replace_range(range.start..range.end, UtfStr::default());
+            Reply::Chars(taken)
+        }
+        None => Reply::BadRange,
+    }
+}
+
+fn replace<C: FaultUnit>(
+    s: &mut UtfString<C>,
+    from: usize,
+    to: usize,
+    start: Option<usize>,
+    end: Option<usize>,
+    text: &str,
+) -> Reply
+    requires start { IsFoundAt C.form (map C.number s.old.units) from start }
+    requires end { IsFoundAt C.form (map C.number s.old.units) to end }
+    requires ready { CanHold C.form s.old (changed (text_of C.form C.number s.old.units) (edit_of.Replace from to text)) }
+    ensures { IsMade (text_of C.form C.number s.old.units) (edit_of.Replace from to text.entry) (text_of C.form C.number s.new.units) result }
+{
+    recall(s);
+    match range_at(s, from, to, start, end) {
+        Some(range) => {
+            let _room_was_found = s.splice_str(range.start, range.end, text);
+            Reply::Done
+        }
+        None => Reply::BadRange,
+    }
+}
+
+fn split_off<C: FaultUnit>(
+    s: &mut UtfString<C>,
+    index: usize,
+    found: Option<usize>,
+    room: Vec<char>,
+) -> Reply
+    requires found { IsFoundAt C.form (map C.number s.old.units) index found }
+    requires room { HasReplyRoom (text_of C.form C.number s.old.units) (edit_of.SplitOff index) room }
+    ensures { IsMade (text_of C.form C.number s.old.units) (edit_of.SplitOff index) (text_of C.form C.number s.new.units) result }
+{
+    match found {
+        Some(at) => {
+            let (_front, back) = s.as_utfstr().split_at(at);
+            let taken = copy(back, room);
+            s.truncate(at);
+            Reply::Chars(taken)
+        }
+        None => Reply::BadPlace,
+    }
+}
+
+fn clear<C: FaultUnit>(s: &mut UtfString<C>) -> Reply
+    ensures { IsMade (text_of C.form C.number s.old.units) edit_of.Clear (text_of C.form C.number s.new.units) result }
+{
+    s.clear();
+    Reply::Done
+}
+
+// Makes the edit, whose places were found, in the memory that was found for it.
+pub(crate) fn apply_at<C: FaultUnit>(
+    s: &mut UtfString<C>,
+    edit: Edit<'_>,
+    start: Option<usize>,
+    end: Option<usize>,
+    room: Vec<char>,
+) -> Reply
+    requires start { IsFoundAt C.form (map C.number s.old.units) (first_number edit) start }
+    requires end { IsFoundAt C.form (map C.number s.old.units) (second_number edit) end }
+    requires ready { CanHold C.form s.old (changed (text_of C.form C.number s.old.units) edit) }
+    requires room { HasReplyRoom (text_of C.form C.number s.old.units) edit room }
+    ensures { IsMade (text_of C.form C.number s.old.units) edit.entry (text_of C.form C.number s.new.units) result }
+{
+    match edit {
+        Edit::Push(c) => push(s, c),
+        Edit::PushStr(text) => push_str(s, text),
+        Edit::Pop => pop(s),
+        Edit::Truncate(len) => truncate(s, len, start),
+        Edit::Insert(index, c) => insert(s, index, start, c),
+        Edit::InsertStr(index, text) => insert_str(s, index, start, text),
+        Edit::Remove(index) => remove(s, index, start),
+        Edit::Retain(keep) => retain(s, keep),
+        Edit::Drain(from, to) => drain(s, from, to, start, end, room),
+        Edit::Replace(from, to, text) => replace(s, from, to, start, end, text),
+        Edit::SplitOff(index) => split_off(s, index, start, room),
+        Edit::Clear => clear(s),
+    }
+}

@@ -1,0 +1,12 @@
+//! Edits as data, whose places are counted in characters, and texts that carry them out.
+#![tactic(auto)]
+
+mod arms;
+mod edits;
+mod found;
+mod lockstep;
+mod memory;
+mod utf;
+
+pub use edits::{Edit, Reply, Stopped, TextEdit};
+pub use lockstep::{run, run_both};

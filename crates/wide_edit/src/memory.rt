@@ -1,0 +1,82 @@
+//! The memory that an edit takes: of a well-formed string, and for the characters of its reply.
+ghost use Rattle.std.specs.Prelude.{◌≡◌, ◌-◌, length, map};
+ghost use Rattle.wide_unit.specs.EncodingForm.{encode};
+ghost use Rattle.wide_unit.specs.Places.{text_of};
+ghost use Rattle.wide_ustring.specs.Units.{ustring_len};
+ghost use Rattle.wide_edit.specs.Step.{changed, answer, chars_in};
+ghost use Rattle.wide_edit.specs.Found.{first_number, second_number, IsFoundAt};
+
+use crate::edits::Edit;
+use crate::found::{range_at, recall};
+use wide_utferror::FaultUnit;
+use wide_utfstring::UtfString;
+
+// How many units more the string has once the edit is made; 0 where it has no more.
+pub(crate) fn growth<C: FaultUnit>(
+    s: &UtfString<C>,
+    edit: Edit<'_>,
+    start: Option<usize>,
+    end: Option<usize>,
+) -> usize
+    requires start { IsFoundAt C.form (map C.number s.now.units) (first_number edit) start }
+    requires end { IsFoundAt C.form (map C.number s.now.units) (second_number edit) end }
+    ensures { result ≡ length (encode C.form (changed (text_of C.form C.number s.now.units) edit.entry)) - ustring_len s.now }
+{
+    recall(s);
+    match edit {
+        Edit::Push(c) => C::char_len(c),
+        Edit::PushStr(text) => C::text_len(text),
+        Edit::Insert(_, c) => match start {
+            Some(_at) => C::char_len(c),
+            None => 0,
+        },
+        Edit::InsertStr(_, text) => match start {
+            Some(_at) => C::text_len(text),
+            None => 0,
+        },
+        Edit::Replace(from, to, text) => match range_at(s, from, to, start, end) {
+            Some(range) => C::text_len(text).saturating_sub(range.end - range.start),
+            None => 0,
+        },
+        Edit::Pop => 0,
+        Edit::Truncate(_) => 0,
+        Edit::Remove(_) => 0,
+        Edit::Retain(_) => 0,
+        Edit::Drain(_, _) => 0,
+        Edit::SplitOff(_) => 0,
+        Edit::Clear => 0,
+    }
+}
+
+// How many characters the reply holds in a list. It reads the units behind the place of a `SplitOff`, and no others.
+pub(crate) fn reply_len<C: FaultUnit>(
+    s: &UtfString<C>,
+    edit: Edit<'_>,
+    start: Option<usize>,
+    end: Option<usize>,
+) -> usize
+    requires start { IsFoundAt C.form (map C.number s.now.units) (first_number edit) start }
+    requires end { IsFoundAt C.form (map C.number s.now.units) (second_number edit) end }
+    ensures { result ≡ chars_in (answer (text_of C.form C.number s.now.units) edit.entry) }
+{
+    match edit {
+        Edit::Drain(from, to) => match range_at(s, from, to, start, end) {
+            Some(_range) => to - from,
+            None => 0,
+        },
+        Edit::SplitOff(_) => match start {
+            Some(at) => s.as_utfstr().split_at(at).1.char_count(),
+            None => 0,
+        },
+        Edit::Push(_) => 0,
+        Edit::PushStr(_) => 0,
+        Edit::Pop => 0,
+        Edit::Truncate(_) => 0,
+        Edit::Insert(_, _) => 0,
+        Edit::InsertStr(_, _) => 0,
+        Edit::Remove(_) => 0,
+        Edit::Retain(_) => 0,
+        Edit::Replace(_, _, _) => 0,
+        Edit::Clear => 0,
+    }
+}

@@ -1,0 +1,60 @@
+//! Well-formed strings as texts that edits change.
+ghost use Rattle.std.specs.Prelude.{◌≡◌, map, IsOk, OnOk, IfOk};
+ghost use Rattle.wide_unit.specs.Places.{text_of};
+ghost use Rattle.wide_edit.specs.Step.{step, chars_in};
+ghost use Rattle.wide_edit.specs.Edited.{HasReplyRoom};
+ghost use Rattle.wide_edit.specs.Found.{CanHold};
+
+use crate::arms::apply_at;
+use crate::edits::{Edit, Reply, TextEdit};
+use crate::found::{find, numbers_of, recall};
+use crate::memory::{growth, reply_len};
+use std::alloc::Global;
+use wide_error::OutOfMemory;
+use wide_utferror::FaultUnit;
+use wide_utfstring::UtfString;
+
+impl<C: FaultUnit> TextEdit for UtfString<C> {
+    ghost use Rattle.wide_unit.specs.Places.{text_of};
+    ghost use Rattle.wide_edit.specs.Step.{step};
+    ghost use Rattle.wide_edit.specs.Found.{CanHold};
+
+    ghost text = { λ s. text_of C.form C.number s.units };
+
+    ghost units = { λ s. map C.number s.units };
+
+    ghost form = { C.form };
+
+    ghost is_ready = { λ s edit. CanHold C.form s (step (text_of C.form C.number s.units) edit).0 };
+
+    fn char_count(&self) -> usize {
+        self.as_utfstr().char_count()
+    }
+
+    fn unit_count(&self) -> usize {
+        recall(self);
+        self.len()
+    }
+
+    fn prepare(&mut self, alloc: Global, edit: Edit<'_>) -> Result<Vec<char>, OutOfMemory>
+        ensures ready { OnOk result (CanHold C.form self.new (step (text_of C.form C.number self.new.units) edit.entry).0) }
+        ensures room { IfOk result (λ room. HasReplyRoom (text_of C.form C.number self.new.units) edit.entry room) }
+        ensures text { text_of C.form C.number self.new.units ≡ text_of C.form C.number self.old.units }
+        ensures units { map C.number self.new.units ≡ map C.number self.old.units }
+        ensures succeeds { CanHold C.form self.old (step (text_of C.form C.number self.old.units) edit.entry).0 → chars_in (step (text_of C.form C.number self.old.units) edit.entry).1 ≡ 0 → IsOk result }
+    {
+        recall(self);
+        let (first, second) = numbers_of(edit);
+        let start = find(self, first);
+        let end = find(self, second);
+        self.reserve(growth(self, edit, start, end))?;
+        Ok(Vec::with_capacity(alloc, reply_len(self, edit, start, end))?)
+    }
+
+    fn apply(&mut self, edit: Edit<'_>, room: Vec<char>) -> Reply {
+        let (first, second) = numbers_of(edit);
+        let start = find(self, first);
+        let end = find(self, second);
+        apply_at(self, edit, start, end, room)
+    }
+}

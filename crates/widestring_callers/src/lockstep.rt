@@ -1,0 +1,97 @@
+//! Edits as data: of one text, and of two that are alike in two encodings.
+ghost use Rattle.std.specs.Prelude.{◌≡◌, ◌<◌, [], ◌∷◌, map, IfOk, IfErr, OnOk};
+ghost use Rattle.std.specs.Str.{chars as str_chars};
+ghost use Rattle.widestring.specs.EncodingForm.{Utf16, Utf32, encode};
+ghost use Rattle.widestring.specs.Items.{chars};
+ghost use Rattle.widestring.specs.Step.{meaning, answer_of, Done, Char, BadPlace};
+
+use std::alloc::Global;
+use widestring::edit::{Edit, Reply, Stopped, TextEdit, run, run_both};
+use widestring::error::OutOfMemory;
+use widestring::{Utf16String, Utf32String};
+
+/// Five edits of `a😀b` in both encodings, the last of which puts one character in the place of two.
+pub fn edit_both(
+    alloc: Global,
+    first: &mut Utf16String,
+    second: &mut Utf32String,
+    put: &str,
+    first_replies: &mut Vec<Reply>,
+    second_replies: &mut Vec<Reply>,
+) -> Result<(), Stopped>
+    requires first { chars Utf16 first.old.units ≡ 0x61 ∷ 0x1F600 ∷ 0x62 ∷ [] }
+    requires second { chars Utf32 second.old.units ≡ 0x61 ∷ 0x1F600 ∷ 0x62 ∷ [] }
+    requires put { str_chars put.now ≡ 0x24B62 ∷ [] }
+    requires first_replies { first_replies.old.items ≡ [] }
+    requires second_replies { second_replies.old.items ≡ [] }
+    ensures first { OnOk result (chars Utf16 first.new.units ≡ 0x24B62 ∷ 0x62 ∷ []) }
+    ensures second { OnOk result (chars Utf32 second.new.units ≡ 0x24B62 ∷ 0x62 ∷ []) }
+    ensures units16 { OnOk result (first.new.units ≡ 0xD852 ∷ 0xDF62 ∷ 0x62 ∷ []) }
+    ensures units32 { OnOk result (second.new.units ≡ 0x24B62 ∷ 0x62 ∷ []) }
+    ensures first_answers { OnOk result (map answer_of first_replies.new.items ≡ Done ∷ Char 0x1F600 ∷ Done ∷ BadPlace ∷ Done ∷ []) }
+    ensures second_answers { OnOk result (map answer_of second_replies.new.items ≡ Done ∷ Char 0x1F600 ∷ Done ∷ BadPlace ∷ Done ∷ []) }
+    ensures stopped { IfErr result (λ stopped. stopped.done < 5) }
+{
+    let edits = [
+        Edit::Insert(2, 'é'),
+        Edit::Remove(1),
+        Edit::Truncate(9),
+        Edit::Insert(7, 'x'),
+        Edit::Replace(0, 2, put),
+    ];
+    run_both(alloc, first, second, &edits, first_replies, second_replies)
+}
+
+/// The same edits of one text, of any kind.
+pub fn edit_one<T: TextEdit>(
+    alloc: Global,
+    text: &mut T,
+    put: &str,
+    replies: &mut Vec<Reply>,
+) -> Result<(), Stopped>
+    requires text { T.text text.old ≡ 0x61 ∷ 0x1F600 ∷ 0x62 ∷ [] }
+    requires put { str_chars put.now ≡ 0x24B62 ∷ [] }
+    requires replies { replies.old.items ≡ [] }
+    ensures text { OnOk result (T.text text.new ≡ 0x24B62 ∷ 0x62 ∷ []) }
+    ensures answers { OnOk result (map answer_of replies.new.items ≡ Done ∷ Char 0x1F600 ∷ Done ∷ BadPlace ∷ Done ∷ []) }
+    ensures stopped { IfErr result (λ stopped. stopped.done < 5) }
+{
+    let edits = [
+        Edit::Insert(2, 'é'),
+        Edit::Remove(1),
+        Edit::Truncate(9),
+        Edit::Insert(7, 'x'),
+        Edit::Replace(0, 2, put),
+    ];
+    run(alloc, text, &edits, replies)
+}
+
+/// Two texts that begin alike end alike, whatever the edits are.
+pub fn edits_keep_alike(
+    alloc: Global,
+    first: &mut Utf16String,
+    second: &mut Utf32String,
+    edits: &[Edit<'_>],
+    first_replies: &mut Vec<Reply>,
+    second_replies: &mut Vec<Reply>,
+) -> Result<(), Stopped>
+    requires alike { chars Utf16 first.old.units ≡ chars Utf32 second.old.units }
+    requires first_replies { first_replies.old.items ≡ [] }
+    requires second_replies { second_replies.old.items ≡ [] }
+    ensures alike { chars Utf16 first.new.units ≡ chars Utf32 second.new.units }
+    ensures answers { map answer_of first_replies.new.items ≡ map answer_of second_replies.new.items }
+{
+    run_both(alloc, first, second, edits, first_replies, second_replies)
+}
+
+/// The text that edits make of a text, in UTF-16.
+pub fn edited(alloc: Global, text: &str, edits: &[Edit<'_>]) -> Result<Utf16String, OutOfMemory>
+    ensures { IfOk result (λ string. string.units ≡ encode Utf16 (meaning (str_chars text.now) edits.now).0) }
+{
+    let mut string = Utf16String::from_str(alloc, text)?;
+    let mut replies = Vec::new(alloc);
+    match run(alloc, &mut string, edits, &mut replies) {
+        Ok(()) => Ok(string),
+        Err(_stopped) => Err(OutOfMemory),
+    }
+}

@@ -1,0 +1,108 @@
+//! The words of the program that name edits.
+
+use std::alloc::{AllocError, Global};
+use wide_edit::Edit;
+
+/// What a word names: an edit, which lends its text from the word.
+#[derive(Drop)]
+pub enum EditWord<'a> {
+    /// An edit that holds all that it needs.
+    Whole(Edit<'a>),
+    /// Keeps the characters that occur in the list.
+    Retain(Vec<char>),
+}
+
+impl EditWord<'_> {
+    /// The edit.
+    pub fn edit(&self) -> Edit<'_> {
+        match self {
+            EditWord::Whole(edit) => *edit,
+            EditWord::Retain(keep) => Edit::Retain(keep),
+        }
+    }
+}
+
+// The number of decimal digits, without a sign.
+fn parse_number(digits: &str) -> Option<usize> {
+    if !digits.bytes().all(|digit| digit.is_ascii_digit()) {
+        return None;
+    }
+    digits.parse().ok()
+}
+
+// The only character of a text.
+fn only_char(text: &str) -> Option<char> {
+    let mut chars = text.chars();
+    let only = chars.next()?;
+    match chars.next() {
+        Some(_) => None,
+        None => Some(only),
+    }
+}
+
+// A number, and what stands behind the comma that follows it.
+fn number_and_rest(values: &str) -> Option<(usize, &str)> {
+    let (digits, rest) = values.split_once(',')?;
+    Some((parse_number(digits)?, rest))
+}
+
+// The edit of this name at a place, with what stands behind the place.
+fn parse_edit_at<'a>(name: &str, values: &'a str) -> Option<Edit<'a>> {
+    let (first, rest) = number_and_rest(values)?;
+    match name {
+        "insert" => Some(Edit::Insert(first, only_char(rest)?)),
+        "insertstr" => Some(Edit::InsertStr(first, rest)),
+        "drain" => Some(Edit::Drain(first, parse_number(rest)?)),
+        "replace" => {
+            let (second, text) = number_and_rest(rest)?;
+            Some(Edit::Replace(first, second, text))
+        }
+        _ => None,
+    }
+}
+
+// The edit of this name with these values, but `retain`.
+fn parse_edit<'a>(name: &str, values: &'a str) -> Option<Edit<'a>> {
+    match name {
+        "push" => Some(Edit::Push(only_char(values)?)),
+        "pushstr" => Some(Edit::PushStr(values)),
+        "truncate" => Some(Edit::Truncate(parse_number(values)?)),
+        "remove" => Some(Edit::Remove(parse_number(values)?)),
+        "splitoff" => Some(Edit::SplitOff(parse_number(values)?)),
+        _ => parse_edit_at(name, values),
+    }
+}
+
+// What a word names.
+fn parse_edit_word(alloc: Global, word: &str) -> Result<Option<EditWord<'_>>, AllocError> {
+    let Some((name, values)) = word.split_once('=') else {
+        return Ok(match word {
+            "pop" => Some(EditWord::Whole(Edit::Pop)),
+            "clear" => Some(EditWord::Whole(Edit::Clear)),
+            _ => None,
+        });
+    };
+    if name != "retain" {
+        return Ok(parse_edit(name, values).map(EditWord::Whole));
+    }
+    let mut keep = Vec::with_capacity(alloc, values.len())?;
+    for c in values.chars() {
+        keep.push(c)?;
+    }
+    Ok(Some(EditWord::Retain(keep)))
+}
+
+/// What the words name, in order, where each is in order.
+pub fn parse_edit_words(
+    alloc: Global,
+    words: &[String],
+) -> Result<Option<Vec<EditWord<'_>>>, AllocError> {
+    let mut edits = Vec::with_capacity(alloc, words.len())?;
+    for word in words {
+        match parse_edit_word(alloc, word)? {
+            Some(edit) => edits.push(edit)?,
+            None => return Ok(None),
+        }
+    }
+    Ok(Some(edits))
+}
