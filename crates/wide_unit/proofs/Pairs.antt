@@ -7,7 +7,7 @@ use Rattle.wide_unit.specs.Items.{BeginsWithChars}
 use Rattle.wide_unit.specs.Searches.{is_high, is_low}
 use Rattle.wide_unit.specs.Laws.Forms.{unit-cases, surrogate-of_fault, IsHigh, IsLow, pair16}
 use Rattle.wide_unit.specs.Laws.Ends.{items-first_char, items-first_pair}
-use Rattle.wide_unit.proofs.Whole.{chars-more}
+use Rattle.wide_unit.proofs.Whole.{chars-none, chars-more}
 use Rattle.wide_unit.proofs.Masks.{same_lanes}
 
 bool-cases : (b : Bool) → (b ≡ true) ⊎ (b ≡ false)
@@ -29,9 +29,23 @@ neither u from to a b = grind (arith, from, to, a, b)
 alone : (u : ℕ) → u < 2 ^ 16 → is_high u ≡ false → is_low u ≡ false → ¬ (IsFault Utf16 u)
 alone u below a b fault = let at = surrogate-of_fault u below fault in neither u at.0 at.1 a b
 
+-- the units up to here are those of characters
+abbrev pub TextTo : List ℕ → ℕ → Type 0
+TextTo us n = BeginsWithChars Utf16 us (drop n us)
+
+-- those up to here, or up to here and with the low surrogate that stands here
+abbrev pub PairsTo : List ℕ → ℕ → Type 0
+PairsTo us n = ((is_low (get_or us n 0) ≡ false) × TextTo us n) ⊎ ((is_low (get_or us n 0) ≡ true) × TextTo us (suc n))
+
+pub pairs-none : (us : List ℕ) → is_low (get_or us 0 0) ≡ false → PairsTo us 0
+pairs-none us first = inl (first, chars-none Utf16 us)
+
 module _ (us : List ℕ) (fits : (k : ℕ) → Fits w16 (get_or us k 0)) where
   abbrev Text : ℕ → Type 0
-  Text n = BeginsWithChars Utf16 us (drop n us)
+  Text = TextTo us
+
+  abbrev UpTo : ℕ → Type 0
+  UpTo = PairsTo us
 
   text-one : (n : ℕ) → n < length us → Text n → is_high (get_or us n 0) ≡ false → is_low (get_or us n 0) ≡ false → Text (suc n)
   text-one n within so_far a b = elim (unit-cases Utf16 (get_or us n 0)) [
@@ -44,10 +58,6 @@ module _ (us : List ℕ) (fits : (k : ℕ) → Fits w16 (get_or us k 0)) where
       let pair = pair16 (get_or us n 0) (get_or us (suc n) 0) (high-is _ a) (low-is _ b) in
       chars-more Utf16 us (drop n us) (drop (suc (suc n)) us) pair.0 so_far
       (items-first_pair Utf16 (drop n us) (drop (suc (suc n)) us) (get_or us n 0) (get_or us (suc n) 0) pair.0 (drop-cons us n 0 (omega arith) ∙ ap (λ xs. get_or us n 0 ∷ xs) (drop-cons us (suc n) 0 within)) pair.1 pair.2)
-
-  -- up to here, or with the low surrogate that stands here
-  abbrev UpTo : ℕ → Type 0
-  UpTo n = ((is_low (get_or us n 0) ≡ false) × Text n) ⊎ ((is_low (get_or us n 0) ≡ true) × Text (suc n))
 
   more : (n : ℕ) → suc n < length us → is_high (get_or us n 0) ≡ is_low (get_or us (suc n) 0) → UpTo n → UpTo (suc n)
   more n within same (inl at) = elim (bool-cases (is_high (get_or us n 0))) [
@@ -74,13 +84,13 @@ module _ (us : List ℕ) (fits : (k : ℕ) → Fits w16 (get_or us k 0)) where
       let right : get_or (take j (drop (m + 1) us)) k 0 ≡ get_or us (suc (m + k)) 0 = get_or-take j (drop (m + 1) us) k 0 (omega arith) ∙ get_or-drop (m + 1) us k 0 ∙ ap (λ n. get_or us n 0) next in
       sym (ap is_high left) ∙ h ∙ ap is_low right
 
-  pub block : (m : ℕ) → m + 17 ≤ length us → is_low (get_or us m 0) ≡ false → ((k : ℕ) → k < 16 → is_high (get_or us (m + k) 0) ≡ is_low (get_or us (suc (m + k)) 0)) → Text m → UpTo (m + 16)
-  block m room first same so_far = steps m 16 (omega arith) same (inl (first, so_far))
+  pub block : (m : ℕ) → m + 17 ≤ length us → ((k : ℕ) → k < 16 → is_high (get_or us (m + k) 0) ≡ is_low (get_or us (suc (m + k)) 0)) → UpTo m → UpTo (m + 16)
+  block m room same so_far = steps m 16 (omega arith) same so_far
 
-  pub block-even : (m : ℕ) → UpTo (m + 16) → is_low (get_or us (m + 16) 0) ≡ false → Text (m + 16)
-  block-even m (inl at) e = at.1
-  block-even m (inr at) e = let f : true ≡ false = sym at.0 ∙ e in absurd cc
+  pub even : (m : ℕ) → UpTo m → is_low (get_or us m 0) ≡ false → Text m
+  even m (inl at) e = at.1
+  even m (inr at) e = let f : true ≡ false = sym at.0 ∙ e in absurd cc
 
-  pub block-odd : (m : ℕ) → UpTo (m + 16) → is_low (get_or us (m + 16) 0) ≡ true → Text (m + 17)
-  block-odd m (inl at) e = let f : true ≡ false = sym e ∙ at.0 in absurd cc
-  block-odd m (inr at) e = let n : suc (m + 16) ≡ m + 17 = omega arith in subst Text n at.1
+  pub odd : (m : ℕ) → UpTo m → is_low (get_or us m 0) ≡ true → Text (m + 1)
+  odd m (inl at) e = let f : true ≡ false = sym e ∙ at.0 in absurd cc
+  odd m (inr at) e = let n : suc m ≡ m + 1 = omega arith in subst Text n at.1

@@ -200,26 +200,26 @@ fn low_bits(block: &[u16]) -> u64
     lanes.simd_eq(u16x16::splat(0xdc00)).to_bitmask()
 }
 
-/// How many units stand in the blocks at the front that have pairs and no fault: the units of characters.
+/// How many units at the front are passed by blocks, all of them units of characters, surrogate pairs among them.
 ///
-/// The lanes of a block and of the block one unit on are compared: where the high surrogates of the first are just the low ones
-/// of the second, each high one has its low one behind it, and each low one but the first a high one before it.
+/// The lanes of a block are compared with those one unit on: where the high surrogates of the first are just the low ones of the
+/// second, each high one has its low one behind it, and each low one but the first a high one before it.
 pub(crate) fn leading_pairs(units: &[u16]) -> usize
     ensures within { result ≤ length units.now }
     ensures text { BeginsWithChars Utf16 units.now (drop result units.now) }
 {
-    let mut at = 0;
-    while units.len() - at >= 17 {
-        let highs = high_bits(&units[at..at + 16]);
-        let lows = low_bits(&units[at + 1..at + 17]);
-        if highs == 0 || highs != lows || is_low_surrogate(units[at]) {
-            return at;
-        }
-        at += if is_low_surrogate(units[at + 16]) {
-            17
-        } else {
-            16
-        };
+    if units.len() < 17 || is_low_surrogate(units[0]) {
+        return 0;
     }
-    at
+    let mut at = 0;
+    while units.len() - at >= 17
+        && high_bits(&units[at..at + 16]) == low_bits(&units[at + 1..at + 17])
+    {
+        at += 16;
+    }
+    if is_low_surrogate(units[at]) {
+        at + 1
+    } else {
+        at
+    }
 }

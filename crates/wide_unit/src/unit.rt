@@ -72,8 +72,8 @@ pub trait Unit: Copy {
     fn leading_scalars(units: &[Self]) -> usize
         ensures { IsFirstPlace (IsFault form) (map number units.now) result };
 
-    /// How many units stand in the blocks at the front that have surrogate pairs and no fault: they are those of characters.
-    /// None in UTF-32.
+    /// How many units at the front are passed by blocks, all of them units of characters, surrogate pairs among them. None in
+    /// UTF-32.
     fn leading_pairs(units: &[Self]) -> usize
         ensures within { result ≤ length units.now }
         ensures text { BeginsWithChars form (map number units.now) (map number (drop result units.now)) };

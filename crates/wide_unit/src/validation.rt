@@ -5,9 +5,6 @@ ghost use Rattle.wide_unit.specs.Items.{IsWellFormed, IsFirstFault, BeginsWithCh
 use crate::split::split_first;
 use crate::unit::Unit;
 
-// With fewer units than these the blocks of pairs are not begun, and one item after the other is sooner passed.
-const FEW: usize = 17;
-
 // The units behind those at the front that alone are characters.
 #[inline(always)]
 fn behind_scalars<C: Unit>(units: &[C]) -> &[C]
@@ -17,7 +14,7 @@ fn behind_scalars<C: Unit>(units: &[C]) -> &[C]
     &units[C::leading_scalars(units)..]
 }
 
-// The units behind the blocks with surrogate pairs at the front.
+// The units behind the blocks at the front that have surrogate pairs and no fault.
 #[inline(always)]
 fn behind_pairs<C: Unit>(units: &[C]) -> &[C]
     ensures within { length result.now ≤ length units.now }
@@ -32,9 +29,6 @@ fn behind_blocks<C: Unit>(units: &[C]) -> &[C]
     ensures within { length result.now ≤ length units.now }
     ensures text { BeginsWithChars C.form (map C.number units.now) (map C.number result.now) }
 {
-    if units.len() < FEW {
-        return units;
-    }
     behind_pairs(behind_scalars(units))
 }
 
@@ -46,14 +40,12 @@ pub fn check<C: Unit>(units: &[C]) -> Result<(), (usize, C)>
     ensures within { IfErr result (λ fault. fault.0 < length units.now) }
     ensures well_formed { IsOk result ↔ IsWellFormed C.form (map C.number units.now) }
 {
-    let mut rest = units;
-    while !rest.is_empty() {
-        rest = behind_blocks(rest);
-        match split_first(rest) {
-            None => return Ok(()),
-            Some((Err(unit), _)) => return Err((units.len() - rest.len(), unit)),
-            Some((Ok(_), tail)) => rest = tail,
+    let mut rest = behind_blocks(units);
+    while let Some((item, tail)) = split_first(rest) {
+        if let Err(unit) = item {
+            return Err((units.len() - rest.len(), unit));
         }
+        rest = tail;
     }
     Ok(())
 }
