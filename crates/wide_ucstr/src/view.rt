@@ -49,7 +49,7 @@ impl<'a, C: FaultUnit> UCStr<'a, C> {
     ghost use Rattle.wide_ucstr.specs.View.{units_with_nul, contents_seen};
     ghost use Rattle.wide_ucstr.specs.Faults.{IsNulFault};
 
-    /// A view of the units, where the last of them is their only NUL. Each unit is read once at most.
+    /// A view of the units, where the last of them is their only NUL. It reads them in one pass at most.
     ///
     /// # Errors
     ///
@@ -72,7 +72,7 @@ impl<'a, C: FaultUnit> UCStr<'a, C> {
         }
     }
 
-    /// A view of the units up to and with the first NUL. No unit behind it is read.
+    /// A view of the units up to and with the first NUL. Units are read by blocks, up to the one that holds it.
     ///
     /// # Errors
     ///

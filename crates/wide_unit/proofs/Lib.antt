@@ -12,3 +12,6 @@ mod Ordered
 pub mod Printed
 pub mod Kept
 pub mod Debugged
+mod Alone
+mod Masks
+mod Pairs

@@ -4,14 +4,10 @@ use Rattle.std.specs.Prelude.{map}
 use Rattle.std.proofs.lemmas.List.{append-nil, map_push}
 use Rattle.wide_unit.specs.EncodingForm.{EncodingForm, encode}
 use Rattle.wide_unit.specs.Segmentation.{Item, Char, Fault, units_of}
-use Rattle.wide_unit.specs.Items.{items, IsWellFormed, IsFirstFault}
+use Rattle.wide_unit.specs.Items.{items, IsWellFormed, IsFirstFault, BeginsWithChars}
 use Rattle.wide_unit.specs.Laws.Items.{IsWellFormed-of_chars, units_of-items, units_of-chars}
 use Rattle.wide_unit.specs.Laws.Boundaries.{units_of-append}
 use Rattle.wide_unit.proofs.Faults.{IsFirstFault-of}
-
--- so far all are characters
-abbrev pub BeginsWithChars : EncodingForm → List ℕ → List ℕ → Type 0
-BeginsWithChars form us rest = (cs : List ℕ) × (items form us ≡ map Char cs ++ items form rest)
 
 pub chars-none : (form : EncodingForm) (us : List ℕ) → BeginsWithChars form us us
 chars-none form us = ([], refl)

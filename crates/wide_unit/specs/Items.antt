@@ -1,5 +1,5 @@
 -- The items of a list of code units, and what is said of texts by them: the Standard's D84 and D85.
-use Rattle.std.specs.Prelude.{◌≡◌, ℕ, List, [], ◌∷◌, ◌++◌, length, Option, Some, None}
+use Rattle.std.specs.Prelude.{◌≡◌, ℕ, List, [], ◌∷◌, ◌++◌, map, length, Option, Some, None}
 use Rattle.std.specs.List.{Contains}
 use Rattle.std.specs.Option.{option_map}
 use Rattle.wide_unit.specs.EncodingForm.{EncodingForm, encode}
@@ -50,3 +50,7 @@ first_fault form is = option_map (λ u. (length (encode form (leading_characters
 -- the units have a fault, and the first has this index and this unit
 abbrev pub IsFirstFault : EncodingForm → List ℕ → ℕ → ℕ → Type 0
 IsFirstFault form units index u = first_fault form (items form units) ≡ Some (index, u)
+
+-- the units are those of characters, and then the rest
+abbrev pub BeginsWithChars : EncodingForm → List ℕ → List ℕ → Type 0
+BeginsWithChars form us rest = (cs : List ℕ) × (items form us ≡ map Char cs ++ items form rest)

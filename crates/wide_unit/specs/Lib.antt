@@ -11,5 +11,6 @@ pub mod Texts
 pub mod Unit
 pub mod Range
 pub mod Nul
+pub mod Searches
 pub mod Statements
 pub mod Laws

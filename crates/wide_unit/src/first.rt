@@ -4,17 +4,16 @@ ghost use Rattle.std.specs.List.{All};
 
 use crate::unit::Unit;
 
-// The place of the first unit of the number, where there is one. No unit behind it is read.
-pub(crate) fn first_of<C: Unit>(units: &[C], number: u32) -> Option<usize>
+// The place of the first unit of the number, where there is one. Units are read by blocks, so some behind it may be.
+pub(crate) fn first_of<C: Unit>(units: &[C], number: u16) -> Option<usize>
     ensures none { IfNone result (All (λ u. C.number u ≢ number) units.now) }
     ensures before { IfSome result (λ place. All (λ u. C.number u ≢ number) (take place units.now)) }
     ensures within { IfSome result (λ place. place < length units.now) }
     ensures at { IfSome result (λ place. slice_index (map C.number units.now) place ≡ number) }
 {
-    for place in 0..units.len() {
-        if units[place].code() == number {
-            return Some(place);
-        }
+    let place = C::place_of(number, units);
+    if place < units.len() {
+        return Some(place);
     }
     None
 }

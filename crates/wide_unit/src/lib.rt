@@ -7,6 +7,7 @@
 
 mod compare;
 mod first;
+mod lanes;
 pub mod laws;
 mod line;
 mod nul;

@@ -10,7 +10,8 @@ use crate::unit::Unit;
 /// (U+000D) right before it; neither belongs to a line. Without a line feed all units are the line, a carriage return at the
 /// end among them. None where there are no units.
 ///
-/// Both parts are slices of the units, and no unit behind the line feed is read. In both forms a line feed is one unit, and no
+/// Both parts are slices of the units, which are read by blocks of sixteen, or of eight in UTF-32, up to the one that holds the
+/// line feed. In both forms a line feed is one unit, and no
 /// other character has such a unit, so that units are enough to find it. The call is this port's own.
 pub fn split_line<C: Unit>(units: &[C]) -> Option<(&[C], &[C])>
     ensures none { IsNone result ↔ (units.now ≡ []) }

@@ -1,15 +1,17 @@
 //! The code units of UTF-16 and of UTF-32.
-ghost use Rattle.std.specs.Prelude.{◌≡◌, ◌≢◌, ◌≤◌, ◌<◌, ℕ, ◌↔◌, ◌∷◌, [], List, IsTrue, MatchOption, length, refl};
+ghost use Rattle.std.specs.Prelude.{◌≡◌, ◌≢◌, ◌≤◌, ◌<◌, ℕ, ◌↔◌, ◌∷◌, [], List, IsTrue, MatchOption, length, map, drop, refl};
 ghost use Rattle.std.specs.Char.{IsScalar};
 ghost use Rattle.std.specs.Str.{chars};
 ghost use Rattle.wide_unit.specs.EncodingForm.{EncodingForm, Utf16, Utf32, code_units, encode, IsFault, IsPair, IsCodeUnit, IsHighSurrogate, IsLowSurrogate};
 ghost use Rattle.wide_unit.specs.Segmentation.{Item, Char, IsSegmentation};
-ghost use Rattle.wide_unit.specs.Items.{items};
+ghost use Rattle.wide_unit.specs.Items.{items, BeginsWithChars};
 ghost use Rattle.wide_unit.specs.Unit.{numbers_of};
+ghost use Rattle.wide_unit.specs.Searches.{IsFirstPlace, first_place, is_unit};
 ghost use Rattle.std.proofs.Common.{rules};
 ghost use Rattle.wide_unit.specs.Laws.Forms.{code_units-no_low_first};
 ghost use Rattle.wide_unit.specs.Laws.Items.{items-code_units, segmentation-unique};
 
+use crate::lanes::{first_no_scalar, first_same_16, first_same_32, first_surrogate, leading_pairs};
 use crate::utf8::{length_as_utf16, length_as_utf32};
 
 /// A code unit: `u16` for UTF-16, `u32` for UTF-32 (Unicode Standard, D77).
@@ -64,6 +66,21 @@ pub trait Unit: Copy {
     /// The number that the unit is.
     fn code(self) -> u32
         ensures { result ≡ number self };
+
+    /// How many units stand before the first that alone is no character, a surrogate in UTF-16: all, where there is none. They
+    /// are read by blocks.
+    fn leading_scalars(units: &[Self]) -> usize
+        ensures { IsFirstPlace (IsFault form) (map number units.now) result };
+
+    /// How many units at the front are passed by blocks, all of them units of characters, surrogate pairs among them. None in
+    /// UTF-32.
+    fn leading_pairs(units: &[Self]) -> usize
+        ensures within { result ≤ length units.now }
+        ensures text { BeginsWithChars form (map number units.now) (map number (drop result units.now)) };
+
+    /// How many units stand before the first of this number: all, where there is none. They are read by blocks.
+    fn place_of(code: u16, units: &[Self]) -> usize
+        ensures { result ≡ first_place (is_unit code) (map number units.now) };
 
     /// True of every unit: calling it tells a contract that the number is at most FFFF, or FFFFFFFF in UTF-32.
     fn in_range(self) -> bool
@@ -169,6 +186,18 @@ impl Unit for u16 {
         u32::from(self)
     }
 
+    fn leading_scalars(units: &[u16]) -> usize {
+        first_surrogate(units)
+    }
+
+    fn leading_pairs(units: &[u16]) -> usize {
+        leading_pairs(units)
+    }
+
+    fn place_of(code: u16, units: &[u16]) -> usize {
+        first_same_16(units, code)
+    }
+
     #[inline]
     fn in_range(self) -> bool {
         true
@@ -239,6 +268,19 @@ impl Unit for u32 {
     #[inline]
     fn code(self) -> u32 {
         self
+    }
+
+    fn leading_scalars(units: &[u32]) -> usize {
+        first_no_scalar(units)
+    }
+
+    #[inline]
+    fn leading_pairs(_units: &[u32]) -> usize {
+        0
+    }
+
+    fn place_of(code: u16, units: &[u32]) -> usize {
+        first_same_32(units, u32::from(code))
     }
 
     #[inline]

@@ -1,19 +1,46 @@
 //! Whether units are well formed.
-ghost use Rattle.std.specs.Prelude.{◌<◌, ◌↔◌, length, map, IsOk, OnOk, IfErr};
-ghost use Rattle.wide_unit.specs.Items.{IsWellFormed, IsFirstFault};
+ghost use Rattle.std.specs.Prelude.{◌<◌, ◌≤◌, ◌↔◌, length, map, IsOk, OnOk, IfErr};
+ghost use Rattle.wide_unit.specs.Items.{IsWellFormed, IsFirstFault, BeginsWithChars};
 
 use crate::split::split_first;
 use crate::unit::Unit;
 
+// The units behind those at the front that alone are characters.
+#[inline(always)]
+fn behind_scalars<C: Unit>(units: &[C]) -> &[C]
+    ensures within { length result.now ≤ length units.now }
+    ensures text { BeginsWithChars C.form (map C.number units.now) (map C.number result.now) }
+{
+    &units[C::leading_scalars(units)..]
+}
+
+// The units behind the blocks at the front that have surrogate pairs and no fault.
+#[inline(always)]
+fn behind_pairs<C: Unit>(units: &[C]) -> &[C]
+    ensures within { length result.now ≤ length units.now }
+    ensures text { BeginsWithChars C.form (map C.number units.now) (map C.number result.now) }
+{
+    &units[C::leading_pairs(units)..]
+}
+
+// The units behind those at the front that are passed by blocks, all of them characters.
+#[inline(always)]
+fn behind_blocks<C: Unit>(units: &[C]) -> &[C]
+    ensures within { length result.now ≤ length units.now }
+    ensures text { BeginsWithChars C.form (map C.number units.now) (map C.number result.now) }
+{
+    behind_pairs(behind_scalars(units))
+}
+
 /// Whether the units are well formed (Unicode Standard, D85). The error is the first fault: its index, in units, and its
-/// unit. Each unit is read once.
+/// unit. Units without surrogates and units of surrogate pairs are passed by blocks, the rest one item after the other.
 pub fn check<C: Unit>(units: &[C]) -> Result<(), (usize, C)>
     ensures ok { OnOk result (IsWellFormed C.form (map C.number units.now)) }
     ensures err { IfErr result (λ fault. IsFirstFault C.form (map C.number units.now) fault.0 (C.number fault.1)) }
     ensures within { IfErr result (λ fault. fault.0 < length units.now) }
     ensures well_formed { IsOk result ↔ IsWellFormed C.form (map C.number units.now) }
 {
-    let mut rest = units;
+    let mut rest = behind_blocks(units);
     while let Some((item, tail)) = split_first(rest) {
         if let Err(unit) = item {
             return Err((units.len() - rest.len(), unit));

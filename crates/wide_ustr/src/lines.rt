@@ -48,7 +48,7 @@ impl<V: LineView> Iterator for Lines<V> {
 
     ghost remaining = { λ s. at_most (length (lines_left V.items_seen s)) };
 
-    /// The next line. No unit behind the line feed that ends it is read.
+    /// The next line. Units are read by blocks, up to the one that holds the line feed that ends it.
     fn next(&mut self) -> Option<V> {
         let (line, rest) = self.rest.first_line()?;
         self.rest = rest;

@@ -217,7 +217,7 @@ impl<'a, C: Unit> UtfStr<'a, C> {
 impl<'a, C: FaultUnit> UtfStr<'a, C> {
     ghost use Rattle.wide_utfstr.specs.View.{units_seen, text_seen};
 
-    /// A view of the units, where they are well formed. Each unit is read once.
+    /// A view of the units, where they are well formed. It reads them in one pass, by blocks.
     ///
     /// # Errors
     ///

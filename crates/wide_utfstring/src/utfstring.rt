@@ -87,7 +87,7 @@ impl<C: FaultUnit, A: Allocator> UtfString<C, A> {
         })
     }
 
-    /// The text of a vector's units, where they are well formed. Each unit is read once, and no memory is taken.
+    /// The text of a vector's units, where they are well formed. It reads them in one pass, by blocks, and takes no memory.
     ///
     /// # Errors
     ///

@@ -5,6 +5,8 @@ pub use Rattle.wide_unit.specs.Items
 pub use Rattle.wide_unit.specs.Places
 pub use Rattle.wide_unit.specs.Range
 pub use Rattle.wide_unit.specs.Lossy
+pub use Rattle.wide_unit.specs.Lines
+pub use Rattle.wide_unit.specs.Texts
 pub use Rattle.wide_unit.specs.Nul
 pub use Rattle.wide_unit.specs.Unit
 pub use Rattle.wide_unit.specs.Utf8
@@ -16,6 +18,8 @@ pub use Rattle.wide_ustring.specs.CowUnits
 pub use Rattle.wide_ucstr.specs.CString
 pub use Rattle.wide_ucstring.specs.CowCString
 pub use Rattle.wide_utfstr.specs.View
+pub use Rattle.wide_utfstr.specs.Trim
+pub use Rattle.wide_utfstr.specs.Escapes
 pub use Rattle.wide_utfstring.specs.CowText
 pub use Rattle.wide_edit.specs.Step
 pub use Rattle.wide_edit.specs.Edited

@@ -1,0 +1,225 @@
+//! Searches in a slice of units by lanes: sixteen 16-bit units, or eight 32-bit units, in one step.
+ghost use Rattle.std.specs.Prelude.{◌≡◌, ◌≤◌, ℕ, length, map, drop};
+ghost use Rattle.std.specs.Simd.Lanes.{mask_l};
+ghost use Rattle.std.proofs.Common.{rules};
+ghost use Rattle.wide_unit.specs.Searches.{is_high, is_low, is_surrogate, is_no_scalar, is_unit, first_place};
+ghost use Rattle.wide_unit.specs.EncodingForm.{Utf16};
+ghost use Rattle.wide_unit.specs.Items.{BeginsWithChars};
+
+use std::simd::prelude::*;
+
+// A test of units: of one alone, and of a block of `N` in one step.
+trait Test<C: Copy, const N: usize>: Copy {
+    ghost use Rattle.std.specs.Prelude.{Bool, ℕ};
+
+    // Whether a unit passes.
+    ghost passes: { Self → C → Bool };
+
+    // Whether the unit passes.
+    fn accepts(self, unit: C) -> bool
+        ensures { result ≡ passes self unit };
+
+    // Bit k is set where unit k passes.
+    fn bits(self, block: &[C]) -> u64
+        requires { length block.now ≡ N }
+        ensures { result ≡ mask_l (map (passes self) block.now) };
+}
+
+// The place of the first unit that passes, or the length where there is none.
+#[inline(always)]
+fn first_of_16<T: Test<u16, 16>>(units: &[u16], test: T) -> usize
+    ensures { result ≡ first_place (T.passes test) units.now }
+{
+    let (blocks, _) = units.as_chunks::<16>();
+    for (i, block) in blocks.iter().enumerate() {
+        let bits = test.bits(block);
+        if bits != 0 {
+            return i * 16 + bits.trailing_zeros() as usize;
+        }
+    }
+    for k in blocks.len() * 16..units.len() {
+        if test.accepts(units[k]) {
+            return k;
+        }
+    }
+    units.len()
+}
+
+// As `first_of_16`, of 32-bit units.
+#[inline(always)]
+fn first_of_32<T: Test<u32, 8>>(units: &[u32], test: T) -> usize
+    ensures { result ≡ first_place (T.passes test) units.now }
+{
+    let (blocks, _) = units.as_chunks::<8>();
+    for (i, block) in blocks.iter().enumerate() {
+        let bits = test.bits(block);
+        if bits != 0 {
+            return i * 8 + bits.trailing_zeros() as usize;
+        }
+    }
+    for k in blocks.len() * 8..units.len() {
+        if test.accepts(units[k]) {
+            return k;
+        }
+    }
+    units.len()
+}
+
+// A surrogate, D800 to DFFF.
+#[derive(Clone, Copy)]
+struct Surrogate;
+
+impl Test<u16, 16> for Surrogate {
+    ghost passes = { λ _. is_surrogate };
+
+    #[inline(always)]
+    fn accepts(self, unit: u16) -> bool {
+        0xd800 <= unit && unit <= 0xdfff
+    }
+
+    #[inline(always)]
+    fn bits(self, block: &[u16]) -> u64 {
+        let lanes = u16x16::from_slice(block) & u16x16::splat(0xf800);
+        lanes.simd_eq(u16x16::splat(0xd800)).to_bitmask()
+    }
+}
+
+// A unit that is no Unicode scalar value: a surrogate, or greater than 10FFFF.
+#[derive(Clone, Copy)]
+struct NoScalar;
+
+impl Test<u32, 8> for NoScalar {
+    ghost passes = { λ _. is_no_scalar };
+
+    #[inline(always)]
+    fn accepts(self, unit: u32) -> bool {
+        (0xd800 <= unit && unit <= 0xdfff) || 0x10_ffff < unit
+    }
+
+    // A surrogate is raised to the greatest number, and then one comparison finds both kinds.
+    #[inline(always)]
+    fn bits(self, block: &[u32]) -> u64 {
+        let units = u32x8::from_slice(block);
+        let surrogates = (units & u32x8::splat(0xffff_f800)).simd_eq(u32x8::splat(0xd800));
+        surrogates
+            .select(u32x8::splat(0xffff_ffff), units)
+            .simd_gt(u32x8::splat(0x10_ffff))
+            .to_bitmask()
+    }
+}
+
+// One unit alone.
+#[derive(Clone, Copy)]
+struct Same<C> {
+    unit: C,
+}
+
+impl Test<u16, 16> for Same<u16> {
+    ghost passes = { λ same. is_unit same.unit };
+
+    #[inline(always)]
+    fn accepts(self, unit: u16) -> bool {
+        unit == self.unit
+    }
+
+    #[inline(always)]
+    fn bits(self, block: &[u16]) -> u64 {
+        u16x16::from_slice(block)
+            .simd_eq(u16x16::splat(self.unit))
+            .to_bitmask()
+    }
+}
+
+impl Test<u32, 8> for Same<u32> {
+    ghost passes = { λ same. is_unit same.unit };
+
+    #[inline(always)]
+    fn accepts(self, unit: u32) -> bool {
+        unit == self.unit
+    }
+
+    #[inline(always)]
+    fn bits(self, block: &[u32]) -> u64 {
+        u32x8::from_slice(block)
+            .simd_eq(u32x8::splat(self.unit))
+            .to_bitmask()
+    }
+}
+
+/// The place of the first surrogate, or the length where there is none.
+pub fn first_surrogate(units: &[u16]) -> usize
+    ensures { result ≡ first_place is_surrogate units.now }
+{
+    first_of_16(units, Surrogate)
+}
+
+/// The place of the first unit that is no Unicode scalar value, or the length where there is none.
+pub fn first_no_scalar(units: &[u32]) -> usize
+    ensures { result ≡ first_place is_no_scalar units.now }
+{
+    first_of_32(units, NoScalar)
+}
+
+/// The place of the first unit that is this one, or the length where there is none.
+pub(crate) fn first_same_16(units: &[u16], unit: u16) -> usize
+    ensures { result ≡ first_place (is_unit unit) units.now }
+{
+    first_of_16(units, Same { unit })
+}
+
+/// As [`first_same_16`], of 32-bit units.
+pub(crate) fn first_same_32(units: &[u32], unit: u32) -> usize
+    ensures { result ≡ first_place (is_unit unit) units.now }
+{
+    first_of_32(units, Same { unit })
+}
+
+fn is_low_surrogate(unit: u16) -> bool
+    ensures { result ≡ is_low unit }
+{
+    0xdc00 <= unit && unit <= 0xdfff
+}
+
+// Bit k is set where unit k is a high surrogate.
+#[inline(always)]
+fn high_bits(block: &[u16]) -> u64
+    requires { length block.now ≡ 16 }
+    ensures { result ≡ mask_l (map is_high block.now) }
+{
+    let lanes = u16x16::from_slice(block) & u16x16::splat(0xfc00);
+    lanes.simd_eq(u16x16::splat(0xd800)).to_bitmask()
+}
+
+// Bit k is set where unit k is a low surrogate.
+#[inline(always)]
+fn low_bits(block: &[u16]) -> u64
+    requires { length block.now ≡ 16 }
+    ensures { result ≡ mask_l (map is_low block.now) }
+{
+    let lanes = u16x16::from_slice(block) & u16x16::splat(0xfc00);
+    lanes.simd_eq(u16x16::splat(0xdc00)).to_bitmask()
+}
+
+/// How many units at the front are passed by blocks, all of them units of characters, surrogate pairs among them.
+///
+/// The lanes of a block are compared with those one unit on: where the high surrogates of the first are just the low ones of the
+/// second, each high one has its low one behind it, and each low one but the first a high one before it.
+pub(crate) fn leading_pairs(units: &[u16]) -> usize
+    ensures within { result ≤ length units.now }
+    ensures text { BeginsWithChars Utf16 units.now (drop result units.now) }
+{
+    if units.len() < 17 || is_low_surrogate(units[0]) {
+        return 0;
+    }
+    let mut at = 0;
+    while units.len() - at >= 17
+        && high_bits(&units[at..at + 16]) == low_bits(&units[at + 1..at + 17])
+    {
+        at += 16;
+    }
+    if is_low_surrogate(units[at]) {
+        at + 1
+    } else {
+        at
+    }
+}

@@ -1,0 +1,12 @@
+use Rattle.std.proofs.Common.{ℕ, map, subst, sym}
+use Rattle.std.proofs.lemmas.List.{map-id}
+use Rattle.widestring.specs.EncodingForm.{Utf32}
+use Rattle.widestring.specs.Items.{IsFirstFault}
+use Rattle.widestring_c.proofs.search.wide_utf32_first_fault.Goals as goal
+
+pub returns-in-Err-clause-fault : goal.returns-in-Err-clause-fault
+returns-in-Err-clause-fault c = λ below.
+    let units = c.args.units.now in
+    let unit = c.in-Err.fault.unit in
+    let at : IsFirstFault Utf32 (map (λ (u : ℕ). u) units) c.index.result unit = subst (λ place. IsFirstFault Utf32 (map (λ (u : ℕ). u) units) place unit) (sym c.index.ensures) c.in-Err.ensures.fault in
+    (unit, subst (λ us. IsFirstFault Utf32 us c.index.result unit) (map-id units) at)

@@ -1,0 +1,59 @@
+//! Where the first fault or the first NUL stands.
+ghost use Rattle.std.specs.Prelude.{◌≡◌, ◌<◌, ◌≤◌, ◌↔◌, ℕ, length};
+ghost use Rattle.widestring.specs.EncodingForm.{Utf16, Utf32};
+ghost use Rattle.widestring.specs.Items.{IsFirstFault, IsWellFormed};
+ghost use Rattle.widestring.specs.Nul.{HasNoNul, IsFirstNul};
+
+use widestring::{U16CStr, U32CStr, Utf16Str, Utf32Str};
+
+/// The place of the first fault of UTF-16 (Unicode Standard, D91), or the length where the units are well formed.
+#[unsafe(no_mangle)]
+pub extern "C" fn wide_utf16_first_fault(units: &[u16]) -> usize
+    ensures well_formed { (result ≡ length units.now) ↔ IsWellFormed Utf16 units.now }
+    ensures fault { result < length units.now → (unit : ℕ) × IsFirstFault Utf16 units.now result unit }
+    ensures within { result ≤ length units.now }
+{
+    match Utf16Str::from_slice(units) {
+        Ok(_text) => units.len(),
+        Err(fault) => fault.index(),
+    }
+}
+
+/// The place of the first fault of UTF-32 (Unicode Standard, D90), or the length where the units are well formed.
+#[unsafe(no_mangle)]
+pub extern "C" fn wide_utf32_first_fault(units: &[u32]) -> usize
+    ensures well_formed { (result ≡ length units.now) ↔ IsWellFormed Utf32 units.now }
+    ensures fault { result < length units.now → (unit : ℕ) × IsFirstFault Utf32 units.now result unit }
+    ensures within { result ≤ length units.now }
+{
+    match Utf32Str::from_slice(units) {
+        Ok(_text) => units.len(),
+        Err(fault) => fault.index(),
+    }
+}
+
+/// The place of the first NUL, or the length where there is none.
+#[unsafe(no_mangle)]
+pub extern "C" fn wide_utf16_first_nul(units: &[u16]) -> usize
+    ensures none { (result ≡ length units.now) ↔ HasNoNul units.now }
+    ensures first { result < length units.now → IsFirstNul units.now result }
+    ensures within { result ≤ length units.now }
+{
+    match U16CStr::from_slice_truncate(units) {
+        Ok(string) => string.len(),
+        Err(_missing) => units.len(),
+    }
+}
+
+/// The place of the first NUL, or the length where there is none.
+#[unsafe(no_mangle)]
+pub extern "C" fn wide_utf32_first_nul(units: &[u32]) -> usize
+    ensures none { (result ≡ length units.now) ↔ HasNoNul units.now }
+    ensures first { result < length units.now → IsFirstNul units.now result }
+    ensures within { result ≤ length units.now }
+{
+    match U32CStr::from_slice_truncate(units) {
+        Ok(string) => string.len(),
+        Err(_missing) => units.len(),
+    }
+}
