@@ -1,10 +1,16 @@
--- What the making of edits leaves in a text and in a list of replies.
+-- What edits ask for, and what they leave in a text and in a list of replies.
 use Rattle.std.specs.Prelude.{◌≡◌, ℕ, ◌≤◌, List, [], ◌∷◌, ◌++◌, map, length, take, drop, vec_capacity}
 use Rattle.std.specs.declared.alloc.Global.{Global}
 use Rattle.std.specs.declared.vec.Vec.{Vec}
+use Rattle.wide_unit.specs.EncodingForm.{EncodingForm, encode}
+use Rattle.wide_ustring.specs.Units.{Units}
 use Rattle.wide_edit.specs.Step.{answer_of, step, meaning, chars_in}
 use Rattle.wide_edit.specs.declared.edits.Edit.{Edit}
 use Rattle.wide_edit.specs.declared.edits.Reply.{Reply}
+
+-- the encoding of these characters fits in the string with no allocation
+abbrev pub CanHold : {C : Type 0} → EncodingForm → Units C → List ℕ → Type 0
+CanHold form s cs = length (encode form cs) ≤ s.capacity
 
 -- the room holds nothing, and the characters of the edit's answer fit
 pub record HasReplyRoom (l : List ℕ) (edit : Edit) (room : Vec ℕ Global) : Type 0 where

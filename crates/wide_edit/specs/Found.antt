@@ -1,9 +1,8 @@
--- The places of an edit, in characters and in units, and the room that it needs.
+-- The places of an edit, in characters and in units.
 use Rattle.std.specs.Prelude.{ℕ, ◌≤◌, ◌↔◌, List, length, Option, IsSome, IfSome}
-use Rattle.wide_unit.specs.EncodingForm.{EncodingForm, encode}
+use Rattle.wide_unit.specs.EncodingForm.{EncodingForm}
 use Rattle.wide_unit.specs.Items.{chars}
 use Rattle.wide_unit.specs.Places.{IsPlaceOf, IsCharBoundary, IsCharRange}
-use Rattle.wide_ustring.specs.Units.{Units}
 use Rattle.wide_edit.specs.declared.edits.Edit.{Edit}
 use Rattle.wide_edit.specs.declared.edits.Edit.TheVariants.{Push, PushStr, Pop, Truncate, Insert, InsertStr, Remove, Retain, Drain, Replace, SplitOff, Clear}
 
@@ -36,10 +35,6 @@ second_number (Drain a b) = b
 second_number (Replace a b t) = b
 second_number (SplitOff i) = 0
 second_number Clear = 0
-
--- the encoding of these characters fits in the string with no allocation
-abbrev pub CanHold : {C : Type 0} → EncodingForm → Units C → List ℕ → Type 0
-CanHold form s cs = length (encode form cs) ≤ s.capacity
 
 module _ (form : EncodingForm) (units : List ℕ) where
   -- the search for character number `index` found the place at which it begins, or none where there are fewer

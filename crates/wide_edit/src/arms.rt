@@ -1,10 +1,13 @@
 //! The twelve edits of a well-formed string, each made in units at places that were found, in memory that was found.
+//!
+//! A place that was searched for and not found is past the end. Where a call could find no memory, its answer is not read: the
+//! room for what it puts in was found before.
 ghost use Rattle.std.specs.Prelude.{◌≡◌, ◌≤◌, [], length, map, vec_capacity};
 ghost use Rattle.wide_unit.specs.Places.{text_of};
 ghost use Rattle.wide_utfstr.specs.View.{text_seen};
 ghost use Rattle.wide_edit.specs.Step.{changed};
-ghost use Rattle.wide_edit.specs.Edited.{IsMade, HasReplyRoom};
-ghost use Rattle.wide_edit.specs.Found.{first_number, second_number, CanHold, IsFoundAt};
+ghost use Rattle.wide_edit.specs.Edited.{CanHold, IsMade, HasReplyRoom};
+ghost use Rattle.wide_edit.specs.Found.{first_number, second_number, IsFoundAt};
 ghost use Rattle.wide_edit.specs.declared.edits.Edit.TheVariants as edit_of;
 
 use crate::edits::{Edit, Reply};

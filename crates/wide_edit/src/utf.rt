@@ -2,8 +2,7 @@
 ghost use Rattle.std.specs.Prelude.{◌≡◌, map, IsOk, OnOk, IfOk};
 ghost use Rattle.wide_unit.specs.Places.{text_of};
 ghost use Rattle.wide_edit.specs.Step.{step, chars_in};
-ghost use Rattle.wide_edit.specs.Edited.{HasReplyRoom};
-ghost use Rattle.wide_edit.specs.Found.{CanHold};
+ghost use Rattle.wide_edit.specs.Edited.{CanHold, HasReplyRoom};
 
 use crate::arms::apply_at;
 use crate::edits::{Edit, Reply, TextEdit};
@@ -17,7 +16,7 @@ use wide_utfstring::UtfString;
 impl<C: FaultUnit> TextEdit for UtfString<C> {
     ghost use Rattle.wide_unit.specs.Places.{text_of};
     ghost use Rattle.wide_edit.specs.Step.{step};
-    ghost use Rattle.wide_edit.specs.Found.{CanHold};
+    ghost use Rattle.wide_edit.specs.Edited.{CanHold};
 
     ghost text = { λ s. text_of C.form C.number s.units };
 

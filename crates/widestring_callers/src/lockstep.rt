@@ -1,9 +1,9 @@
 //! Edits as data: of one text, and of two that are alike in two encodings.
-ghost use Rattle.std.specs.Prelude.{◌≡◌, ◌<◌, [], ◌∷◌, map, IfOk, IfErr, OnOk};
+ghost use Rattle.std.specs.Prelude.{◌≡◌, ◌<◌, [], ◌∷◌, map, IfOk, IfErr, OnOk, OnErr};
 ghost use Rattle.std.specs.Str.{chars as str_chars};
 ghost use Rattle.widestring.specs.EncodingForm.{Utf16, Utf32, encode};
 ghost use Rattle.widestring.specs.Items.{chars};
-ghost use Rattle.widestring.specs.Step.{meaning, answer_of, Done, Char, BadPlace};
+ghost use Rattle.widestring.specs.Step.{step, meaning, answer_of, Done, Char, BadPlace};
 
 use std::alloc::Global;
 use widestring::edit::{Edit, Reply, Stopped, TextEdit, run, run_both};
@@ -64,6 +64,20 @@ pub fn edit_one<T: TextEdit>(
         Edit::Replace(0, 2, put),
     ];
     run(alloc, text, &edits, replies)
+}
+
+/// One edit, whose memory is found first.
+pub fn edit_now<T: TextEdit>(
+    alloc: Global,
+    text: &mut T,
+    edit: Edit<'_>,
+) -> Result<Reply, OutOfMemory>
+    ensures text { OnOk result (T.text text.new ≡ (step (T.text text.old) edit.entry).0) }
+    ensures reply { IfOk result (λ reply. answer_of reply ≡ (step (T.text text.old) edit.entry).1) }
+    ensures err { OnErr result (T.text text.new ≡ T.text text.old) }
+{
+    let room = text.prepare(alloc, edit)?;
+    Ok(text.apply(edit, room))
 }
 
 /// Two texts that begin alike end alike, whatever the edits are.

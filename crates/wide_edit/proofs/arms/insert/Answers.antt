@@ -1,7 +1,7 @@
 use Rattle.std.proofs.Common.{arith, ap, ◌∙◌, map, length, ◌∷◌, []}
 use Rattle.std.specs.List.{splice}
 use Rattle.wide_unit.specs.Places.{text_of}
-use Rattle.wide_edit.specs.Found.{CanHold}
+use Rattle.wide_edit.specs.Edited.{CanHold}
 use Rattle.wide_edit.proofs.Made.{in_place, made-insert, refused-insert}
 use Rattle.wide_edit.proofs.Lengths.{size-splice, size-one}
 use Rattle.wide_edit.proofs.Places.{got, found_some, found_none, before-place}

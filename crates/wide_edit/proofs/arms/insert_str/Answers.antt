@@ -2,7 +2,7 @@ use Rattle.std.proofs.Common.{arith, ap, ◌∙◌, map, length}
 use Rattle.std.specs.List.{splice}
 use Rattle.std.specs.Str.{chars}
 use Rattle.wide_unit.specs.Places.{text_of}
-use Rattle.wide_edit.specs.Found.{CanHold}
+use Rattle.wide_edit.specs.Edited.{CanHold}
 use Rattle.wide_edit.proofs.Made.{in_place, made-insert_str, refused-insert_str}
 use Rattle.wide_edit.proofs.Lengths.{size-splice}
 use Rattle.wide_edit.proofs.Places.{no_units, got, found_some, found_none, before-place}

@@ -4,7 +4,7 @@ use Rattle.std.specs.Str.{chars}
 use Rattle.wide_unit.specs.Places.{chars_before}
 use Rattle.wide_unit.specs.Laws.Places.{place-IsPlaceOf}
 use Rattle.wide_unit.specs.Places.{text_of}
-use Rattle.wide_edit.specs.Found.{CanHold}
+use Rattle.wide_edit.specs.Edited.{CanHold}
 use Rattle.wide_edit.proofs.Made.{in_range, made-replace, refused-replace}
 use Rattle.wide_edit.proofs.Lengths.{size-splice}
 use Rattle.wide_edit.proofs.Places.{got, before-place, range-forward}
