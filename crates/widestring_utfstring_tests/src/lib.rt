@@ -4,6 +4,8 @@
 #[cfg(test)]
 mod drain_rows;
 #[cfg(test)]
+mod edit_rows;
+#[cfg(test)]
 mod extend_rows;
 #[cfg(test)]
 mod readme;
