@@ -76,6 +76,12 @@ fn cuts<C: FaultUnit + PartialEq>(
     Ok(cut & holds(UCString::from_ustr_truncate(alloc, view), contents))
 }
 
+// Its only NUL stands at the start of its second block of sixteen.
+const SECOND_BLOCK: [u16; 20] = [
+    0x61, 0x61, 0x61, 0x61, 0x61, 0x61, 0x61, 0x61, 0x61, 0x61, 0x61, 0x61, 0x61, 0x61, 0x61, 0x61,
+    0, 0x61, 0x61, 0x61,
+];
+
 #[test]
 fn vectors(rt: HostRuntime) -> Result<(), Fail> {
     let rows = [
@@ -85,6 +91,7 @@ fn vectors(rt: HostRuntime) -> Result<(), Fail> {
         accepts::<u16>(rt.alloc(), &[0xd800], &[0xd800])?,
         refuses::<u16>(rt.alloc(), &[0, 0], 0)?,
         refuses::<u16>(rt.alloc(), &[0x61, 0, 0x62], 1)?,
+        refuses(rt.alloc(), &SECOND_BLOCK, 16)?,
     ];
     all_hold(&rt, &rows);
     Ok(())
