@@ -2,12 +2,14 @@
 //! the UTF-8 text of a source of UTF-16 into a sink.
 #![tactic(auto)]
 
+mod blocks;
 mod devices;
 pub mod laws;
+mod lossy;
 mod mode;
 mod moving;
 mod order;
-mod text;
+mod pieces;
 mod transcoding;
 mod units;
 

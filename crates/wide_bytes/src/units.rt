@@ -16,7 +16,7 @@ pub struct UnitsOfBytes<'a> {
 
 // The code unit of two bytes.
 #[inline(always)]
-fn unit_in(order: BoM, first: u8, second: u8) -> u16
+pub(crate) fn unit_in(order: BoM, first: u8, second: u8) -> u16
     ensures { result ≡ unit_in order first second }
 {
     let (first, second) = (u16::from(first), u16::from(second));
@@ -58,7 +58,7 @@ impl Iterator for UnitsOfBytes<'_> {
 }
 
 // The bytes behind the mark.
-fn without_mark(bytes: &[u8]) -> &[u8]
+pub(crate) fn without_mark(bytes: &[u8]) -> &[u8]
     ensures { result.now ≡ without_mark bytes.now }
 {
     if byte_order(bytes).is_some() {
