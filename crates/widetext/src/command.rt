@@ -121,7 +121,7 @@ pub fn command<S: ByteSource, K: ByteSink, F: ByteSink>(
         }
     };
     let answer = match request {
-        Request::Utf8(mode) => transcode(alloc, source, sink, mode),
+        Request::Utf8(mode) => transcode(source, sink, mode),
         Request::Ends { units, ends } => write_answers(alloc, sink, &units, &ends),
     };
     match answer {
