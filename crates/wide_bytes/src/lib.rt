@@ -4,12 +4,14 @@
 
 mod blocks;
 mod devices;
+mod holding;
 pub mod laws;
 mod lossy;
 mod mode;
 mod moving;
 mod order;
 mod pieces;
+mod steps;
 mod transcoding;
 mod units;
 

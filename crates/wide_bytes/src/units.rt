@@ -1,8 +1,8 @@
 //! The UTF-16 code units of bytes, read one by one.
 
-ghost use Rattle.std.specs.Prelude.{◌≡◌, ◌-◌, [], ◌∷◌, length, take, nat_eq, IfSome, if◌then◌else◌};
+ghost use Rattle.std.specs.Prelude.{◌≡◌, ◌≤◌, ◌/◌, ◌-◌, [], ◌∷◌, length, take, nat_eq, IfSome, if◌then◌else◌};
 ghost use Rattle.std.specs.List.{ends_with};
-ghost use Rattle.wide_bytes.specs.Bytes.{unit_in, units_of_bytes, without_mark};
+ghost use Rattle.wide_bytes.specs.Bytes.{unit_in, units_in, units_of_bytes, without_mark};
 ghost use Rattle.wide_bytes.specs.UnitsOfBytes.{units_left};
 
 use super::order::{BoM, byte_order};
@@ -23,6 +23,28 @@ pub(crate) fn unit_in(order: BoM, first: u8, second: u8) -> u16
     match order {
         BoM::Little => first + 0x100 * second,
         BoM::Big => 0x100 * first + second,
+    }
+}
+
+#[inline(always)]
+fn fill_units_in(order: BoM, bytes: &[u8], units: &mut [u16])
+    requires { length bytes.now / 2 ≤ length units.old }
+    ensures { take (length bytes.now / 2) units.new ≡ units_in order bytes.now }
+{
+    for k in 0..bytes.len() / 2 {
+        units[k] = unit_in(order, bytes[2 * k], bytes[2 * k + 1]);
+    }
+}
+
+/// Stores the code units of the whole pairs of bytes at the front of `units`.
+pub(crate) fn fill_units(order: BoM, bytes: &[u8], units: &mut [u16])
+    requires { length bytes.now / 2 ≤ length units.old }
+    ensures { take (length bytes.now / 2) units.new ≡ units_in order bytes.now }
+{
+    // Each order is compiled apart.
+    match order {
+        BoM::Little => fill_units_in(BoM::Little, bytes, units),
+        BoM::Big => fill_units_in(BoM::Big, bytes, units),
     }
 }
 
