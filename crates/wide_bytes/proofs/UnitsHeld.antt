@@ -1,10 +1,11 @@
 -- From units back to bytes: encodings, and what stops them.
-use Rattle.std.proofs.Common.{◌≡◌, ℕ, zero, suc, ◌+◌, ◌-◌, ◌*◌, ◌/◌, ◌%◌, ◌<◌, ◌≤◌, ◌⊎◌, inl, inr, List, [], ◌∷◌, ◌++◌, Option, Some, None, length, get_or, take, drop, refl, sym, ap, ◌∙◌, subst, arith, length-take-le, length-drop}
+use Rattle.std.proofs.Common.{◌≡◌, ℕ, zero, suc, ◌+◌, ◌-◌, ◌*◌, ◌/◌, ◌%◌, ◌<◌, ◌≤◌, ◌⊎◌, inl, inr, List, [], ◌∷◌, ◌++◌, Option, Some, None, length, get_or, take, drop, refl, sym, ap, ◌∙◌, subst, arith, length-take-le, length-drop, w8, Fits}
 use Rattle.std.proofs.lemmas.List.{take_all}
 use Rattle.wide_unit.specs.EncodingForm.{Utf16, IsHighSurrogate, IsLowSurrogate}
 use Rattle.wide_bytes.specs.Bytes.{unit_in, units_in}
 use Rattle.wide_bytes.specs.Encoded.{Encoded, EncodedUnits, BeginsWithFault, AreCutShort, StopsBefore, IsCertainFault, IsCutShort, StopsAt}
 use Rattle.wide_bytes.specs.declared.order.BoM.{BoM}
+use Rattle.wide_bytes.specs.declared.order.BoM.TheVariants.{Little, Big}
 use Rattle.wide_bytes.proofs.Encodings.{certain-low, certain-high}
 
 -- ---- fronts and rests of the units
@@ -123,3 +124,9 @@ filled order (suc n) (a ∷ b ∷ bytes) (u ∷ us) half room same =
 
 pub units-filled : (order : BoM) (bytes us : List ℕ) (n : ℕ) → length bytes / 2 ≤ n → length bytes / 2 ≤ length us → AreUnitsOf order bytes us n → take (length bytes / 2) us ≡ units_in order bytes
 units-filled order bytes us n over room same = filled order (length bytes / 2) bytes us refl room (λ j within. same j (omega arith))
+
+pub swapped : (bytes us vs : List ℕ) (n : ℕ) → ((i : ℕ) → Fits w8 (get_or bytes i 0)) → AreUnitsOf Little bytes us n → ((k : ℕ) → k < n → get_or vs k 0 ≡ get_or us k 0 % 0x100 * 0x100 + get_or us k 0 / 0x100) → AreUnitsOf Big bytes vs n
+swapped bytes us vs n fits little swap j within =
+    let a = (fits (2 * j)).fits in
+    let b = (fits (2 * j + 1)).fits in
+    omega (arith, little j within, swap j within, a, b)

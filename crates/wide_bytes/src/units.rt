@@ -1,8 +1,9 @@
 //! The UTF-16 code units of bytes, read one by one.
 
-ghost use Rattle.std.specs.Prelude.{◌≡◌, ◌≤◌, ◌/◌, ◌-◌, [], ◌∷◌, length, take, nat_eq, IfSome, if◌then◌else◌};
+ghost use Rattle.std.specs.Prelude.{◌≡◌, ◌≤◌, ◌<◌, ◌+◌, ◌*◌, ◌/◌, ◌%◌, ◌-◌, ℕ, slice_index, [], ◌∷◌, length, take, nat_eq, IfSome, if◌then◌else◌};
 ghost use Rattle.std.specs.List.{ends_with};
 ghost use Rattle.wide_bytes.specs.Bytes.{unit_in, units_in, units_of_bytes, without_mark};
+ghost use Rattle.wide_bytes.specs.declared.order.BoM.TheVariants.{Little};
 ghost use Rattle.wide_bytes.specs.UnitsOfBytes.{units_left};
 
 use super::order::{BoM, byte_order};
@@ -26,13 +27,25 @@ pub(crate) fn unit_in(order: BoM, first: u8, second: u8) -> u16
     }
 }
 
-#[inline(always)]
-fn fill_units_in(order: BoM, bytes: &[u8], units: &mut [u16])
+// Stores little-endian units.
+fn fill_little(bytes: &[u8], units: &mut [u16])
     requires { length bytes.now / 2 ≤ length units.old }
-    ensures { take (length bytes.now / 2) units.new ≡ units_in order bytes.now }
+    ensures long { length units.new ≡ length units.old }
+    ensures units { (k : ℕ) → k < length bytes.now / 2 → slice_index units.new k ≡ unit_in Little (slice_index bytes.now (2 * k)) (slice_index bytes.now (2 * k + 1)) }
 {
     for k in 0..bytes.len() / 2 {
-        units[k] = unit_in(order, bytes[2 * k], bytes[2 * k + 1]);
+        units[k] = unit_in(BoM::Little, bytes[2 * k], bytes[2 * k + 1]);
+    }
+}
+
+// Changes the order of the bytes of the first `count` units.
+fn swap_bytes(units: &mut [u16], count: usize)
+    requires { count ≤ length units.old }
+    ensures long { length units.new ≡ length units.old }
+    ensures units { (k : ℕ) → k < count → slice_index units.new k ≡ slice_index units.old k % 0x100 * 0x100 + slice_index units.old k / 0x100 }
+{
+    for k in 0..count {
+        units[k] = units[k] % 0x100 * 0x100 + units[k] / 0x100;
     }
 }
 
@@ -41,10 +54,11 @@ pub(crate) fn fill_units(order: BoM, bytes: &[u8], units: &mut [u16])
     requires { length bytes.now / 2 ≤ length units.old }
     ensures { take (length bytes.now / 2) units.new ≡ units_in order bytes.now }
 {
-    // Each order is compiled apart.
+    // Little-endian bytes are copied as they are, and swapped by vectors.
+    fill_little(bytes, units);
     match order {
-        BoM::Little => fill_units_in(BoM::Little, bytes, units),
-        BoM::Big => fill_units_in(BoM::Big, bytes, units),
+        BoM::Little => {}
+        BoM::Big => swap_bytes(units, bytes.len() / 2),
     }
 }
 
