@@ -1,17 +1,17 @@
 -- Bytes that begin with two known ones, by what stands behind the mark.
-use Rattle.std.proofs.Common.{◌≡◌, ℕ, ◌+◌, ◌-◌, ◌^◌, ◌%◌, ◌<◌, ◌≤◌, Bool, true, false, eqb, cond, inl, inr, List, [], ◌∷◌, ◌++◌, Option, Some, None, length, take, drop, refl, sym, ap, ◌∙◌, subst, arith, length-append, length-drop, append_assoc}
+use Rattle.std.proofs.Common.{◌≡◌, ℕ, ◌-◌, ◌%◌, ◌≤◌, Bool, true, false, eqb, cond, inl, inr, List, [], ◌∷◌, ◌++◌, Option, None, length, drop, refl, sym, ap, ◌∙◌, subst, arith, length-append, length-drop, append_assoc}
 use Rattle.std.specs.Prelude.{Result, Ok, Err, is_some, unwrap_or}
-use Rattle.wide_unit.specs.EncodingForm.{Utf16, encode}
+use Rattle.wide_unit.specs.EncodingForm.{Utf16}
 use Rattle.wide_unit.specs.Items.{items, leading_characters, first_fault}
 use Rattle.wide_unit.specs.Lossy.{lossy}
 use Rattle.wide_unit.specs.Utf8.{utf8}
 use Rattle.wide_unit.specs.Laws.Items.{items-nil}
 use Rattle.wide_bytes.specs.Bytes.{mark_of, order_of, without_mark, without_last_zero, units_in, units_of_bytes, is_odd}
 use Rattle.wide_bytes.specs.Transcoded.{Transcoded, Clean, HalfUnit, transcoded, ending_of}
-use Rattle.wide_bytes.specs.Run.{IsBeginningOf, Ends}
+use Rattle.wide_bytes.specs.Run.{Ends}
 use Rattle.wide_bytes.specs.Pieces.{units_behind, transcoded_behind, WantsRoom, Starts}
 use Rattle.wide_bytes.specs.declared.order.BoM.{BoM}
-use Rattle.wide_bytes.specs.declared.order.BoM.TheVariants.{Little, Big}
+use Rattle.wide_bytes.specs.declared.order.BoM.TheVariants.{Little}
 use Rattle.wide_bytes.specs.declared.mode.Mode.{Mode}
 use Rattle.wide_bytes.specs.declared.mode.Mode.TheVariants.{Strict, Lossy}
 use Rattle.wide_bytes.proofs.Pairs.{units_in-short}

@@ -1,18 +1,18 @@
 -- What has been transcoded so far, of bytes behind the mark.
-use Rattle.std.proofs.Common.{◌≡◌, ◌≢◌, ℕ, zero, suc, ◌+◌, ◌-◌, ◌*◌, ◌/◌, ◌%◌, ◌^◌, ◌<◌, ◌≤◌, ◌⊎◌, inl, inr, true, false, Bool, eqb, cond, List, [], ◌∷◌, ◌++◌, Option, Some, None, length, get_or, take, drop, refl, sym, ap, ◌∙◌, subst, arith, length-append, length-drop, length-take-le, append_assoc, ne_eqb}
-use Rattle.std.proofs.lemmas.List.{append-nil, take-append-drop, take_all, drop_all}
+use Rattle.std.proofs.Common.{◌≡◌, ◌≢◌, ℕ, zero, suc, ◌+◌, ◌-◌, ◌*◌, ◌/◌, ◌%◌, ◌<◌, ◌≤◌, ◌⊎◌, inl, inr, true, false, Bool, eqb, cond, List, [], ◌∷◌, ◌++◌, Some, None, length, get_or, take, drop, refl, sym, ap, ◌∙◌, subst, arith, length-append, length-drop, length-take-le, append_assoc, ne_eqb}
+use Rattle.std.proofs.lemmas.List.{append-nil, take-append-drop, take_all}
 use Rattle.std.proofs.lemmas.List.Concat.{flat_map-append}
 use Rattle.std.specs.Prelude.{nat_eq, map}
 use Rattle.std.specs.Option.{option_map}
 use Rattle.std.specs.List.{ends_with}
-use Rattle.wide_unit.specs.EncodingForm.{Utf16, code_units, encode, IsHighSurrogate, IsLowSurrogate}
+use Rattle.wide_unit.specs.EncodingForm.{Utf16, encode}
 use Rattle.wide_unit.specs.Segmentation.{Item, Char, Fault}
 use Rattle.wide_unit.specs.Items.{items, leading_characters, first_fault_unit}
 use Rattle.wide_unit.specs.Utf8.{utf8, utf8_bytes}
 use Rattle.wide_unit.specs.Laws.Items.{items-encode, items-nil, IsWellFormed-of_chars}
 use Rattle.wide_unit.specs.Laws.Ends.{items-append_left, items-front_low, items-front_high}
 use Rattle.wide_bytes.specs.Bytes.{unit_in, units_in, is_odd, without_last_zero}
-use Rattle.wide_bytes.specs.Encoded.{Encoded, IsUnpaired, IsCertainFault, IsHeld, HoldsAt}
+use Rattle.wide_bytes.specs.Encoded.{Encoded, IsUnpaired}
 use Rattle.wide_bytes.specs.Transcoded.{Transcoded, Ending, Clean, HalfUnit, Unpaired, ending_of}
 use Rattle.wide_bytes.specs.Run.{IsBeginningOf}
 use Rattle.wide_bytes.specs.Pieces.{units_behind, transcoded_behind}
@@ -85,12 +85,12 @@ shortened front tail none = elim (snoc tail) [
     front_of = refl;
   }
   | inr some ↦ (
-    let init = some.0 in
-    let l = some.1 in
-    let whole : front ++ tail ≡ (front ++ init) ++ l ∷ [] = ap (λ us. front ++ us) some.2 ∙ sym (append_assoc front init (l ∷ [])) in
-    let e : without_last_zero (front ++ tail) ≡ cond (eqb 0 l) (front ++ init) ((front ++ init) ++ l ∷ []) = ap (λ us. without_last_zero us) whole ∙ dropped-zero (front ++ init) l in
-    by_last front tail init l (eqb 0 l) some.2 (is_zero l) e
-  )
+      let init = some.0 in
+      let l = some.1 in
+      let whole : front ++ tail ≡ (front ++ init) ++ l ∷ [] = ap (λ us. front ++ us) some.2 ∙ sym (append_assoc front init (l ∷ [])) in
+      let e : without_last_zero (front ++ tail) ≡ cond (eqb 0 l) (front ++ init) ((front ++ init) ++ l ∷ []) = ap (λ us. without_last_zero us) whole ∙ dropped-zero (front ++ init) l in
+      by_last front tail init l (eqb 0 l) some.2 (is_zero l) e
+      )
 ]
   where
     by_last : (front tail init : List ℕ) (l : ℕ) (t : Bool) → tail ≡ init ++ l ∷ [] → (t ≡ true → l ≡ 0) → without_last_zero (front ++ tail) ≡ cond t (front ++ init) ((front ++ init) ++ l ∷ []) → Shortened front tail (without_last_zero (front ++ tail))
@@ -111,10 +111,10 @@ behind order passed rest even none =
         front_of = sym (append-nil (units_in order rest));
       }
       | inr both ↦ (
-        let same : units_behind order (passed ++ rest) ≡ without_last_zero (units_in order passed ++ units_in order rest) =
-        ap (λ t. cond t (units_in order (passed ++ rest)) (without_last_zero (units_in order (passed ++ rest)))) both.0 ∙ ap (λ us. without_last_zero us) whole in
-        subst (λ us. Shortened (units_in order passed) (units_in order rest) us) (sym same) (shortened (units_in order passed) (units_in order rest) (λ e. none (no_units rest (omega (arith, both.1, length-append passed rest)) e)))
-      )
+          let same : units_behind order (passed ++ rest) ≡ without_last_zero (units_in order passed ++ units_in order rest) =
+          ap (λ t. cond t (units_in order (passed ++ rest)) (without_last_zero (units_in order (passed ++ rest)))) both.0 ∙ ap (λ us. without_last_zero us) whole in
+          subst (λ us. Shortened (units_in order passed) (units_in order rest) us) (sym same) (shortened (units_in order passed) (units_in order rest) (λ e. none (no_units rest (omega (arith, both.1, length-append passed rest)) e)))
+          )
     ]
   where
     parity : (n : ℕ) → (eqb (n % 2) 1 ≡ true) ⊎ ((eqb (n % 2) 1 ≡ false) × (n % 2 ≡ 0))
@@ -124,6 +124,7 @@ behind order passed rest even none =
         by_rest zero low = inr (refl, refl)
         by_rest (suc zero) low = inl refl
         by_rest (suc (suc m)) low = absurd (omega arith)
+
     no_units : (rest : List ℕ) → length rest % 2 ≡ 0 → units_in order rest ≡ [] → rest ≡ []
     no_units [] even e = refl
     no_units (a ∷ []) even e = absurd (omega arith)
@@ -227,8 +228,8 @@ module _ {order : BoM} {all rest written : List ℕ} {place : ℕ} (s : Sofar or
         let text : utf8 (leading_characters (items Utf16 (units_behind order all))) ≡ written = ap (λ is. utf8 (leading_characters is)) is_all ∙ text_of (Fault u ∷ items Utf16 split.0) ∙ append-nil written in
         let fault : first_fault_unit (items Utf16 (units_behind order all)) ≡ Some u = ap (λ is. first_fault_unit is) is_all ∙ first_fault-chars s.encoded.cs (Fault u ∷ items Utf16 split.0) in
         made _ _ _ _ text (
-          ap (λ f. ending_of (option_map (λ v. (length (encode Utf16 (leading_characters (items Utf16 (units_behind order all)))), v)) f) (is_odd all)) fault
-          ∙ ap (λ cs. Unpaired (length (encode Utf16 cs)) u) leading ∙ ap (λ n. Unpaired n u) count
+        ap (λ f. ending_of (option_map (λ v. (length (encode Utf16 (leading_characters (items Utf16 (units_behind order all)))), v)) f) (is_odd all)) fault
+        ∙ ap (λ cs. Unpaired (length (encode Utf16 cs)) u) leading ∙ ap (λ n. Unpaired n u) count
         )
 
     pub many_at_fault : place < length (units_behind order all)
@@ -284,10 +285,10 @@ one-step {order} {all} {rest} {written} {text} {place} r q s within twice e none
       encoded = encoded-then s.encoded (rebased written e);
       counted = omega (arith, s.counted, length-append s.passed (take r rest), long);
       no_zero = λ left. (
-        let all_read : length rest ≤ r = omega (arith, ap length left, length-drop r rest) in
-        let same : take r rest ≡ rest = take_all r rest all_read in
-        subst (λ bs. ends_with nat_eq (units_in order (s.passed ++ bs)) (0 ∷ []) ≡ false) (sym same) (last rest (omega (arith, long)) s.no_zero (none (omega arith)))
-      );
+          let all_read : length rest ≤ r = omega (arith, ap length left, length-drop r rest) in
+          let same : take r rest ≡ rest = take_all r rest all_read in
+          subst (λ bs. ends_with nat_eq (units_in order (s.passed ++ bs)) (0 ∷ []) ≡ false) (sym same) (last rest (omega (arith, long)) s.no_zero (none (omega arith)))
+          );
     }
   where
     last : (bytes : List ℕ) → length bytes ≡ r → (bytes ≡ [] → ends_with nat_eq (units_in order s.passed) (0 ∷ []) ≡ false) → ends_with nat_eq bytes (0 ∷ 0 ∷ []) ≡ false → ends_with nat_eq (units_in order (s.passed ++ bytes)) (0 ∷ []) ≡ false

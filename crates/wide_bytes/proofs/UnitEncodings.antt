@@ -1,10 +1,10 @@
 -- How encodings of units join, and what stops them.
-use Rattle.std.proofs.Common.{◌≡◌, ℕ, zero, suc, ◌+◌, ◌-◌, ◌*◌, ◌<◌, ◌≤◌, ◌⊎◌, inl, inr, true, false, List, [], ◌∷◌, ◌++◌, Option, Some, None, length, get_or, take, drop, refl, sym, ap, ◌∙◌, subst, arith, length-append, length-drop, append_assoc, drop-cons, take-add}
+use Rattle.std.proofs.Common.{◌≡◌, ℕ, zero, suc, ◌+◌, ◌-◌, ◌*◌, ◌<◌, ◌≤◌, inl, inr, List, [], ◌∷◌, ◌++◌, length, get_or, take, drop, refl, sym, ap, ◌∙◌, subst, arith, length-drop, append_assoc, drop-cons, take-add}
 use Rattle.std.proofs.lemmas.List.{append-nil}
 use Rattle.std.proofs.lemmas.List.Concat.{flat_map-append}
 use Rattle.std.specs.Char.{IsScalar}
 use Rattle.std.specs.List.{All}
-use Rattle.wide_unit.specs.EncodingForm.{Utf16, code_units, encode, IsHighSurrogate, IsLowSurrogate}
+use Rattle.wide_unit.specs.EncodingForm.{Utf16, code_units, encode, IsHighSurrogate}
 use Rattle.wide_unit.specs.Utf8.{utf8, utf8_bytes}
 use Rattle.wide_unit.specs.Laws.Forms.{scalar_from, one_unit, two_units, high_of, low_of}
 use Rattle.wide_bytes.specs.Encoded.{EncodedUnits, BeginsWithFault, AreCutShort}

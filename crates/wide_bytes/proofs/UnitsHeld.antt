@@ -1,7 +1,7 @@
 -- From units back to bytes: encodings, and what stops them.
-use Rattle.std.proofs.Common.{◌≡◌, ℕ, zero, suc, ◌+◌, ◌-◌, ◌*◌, ◌/◌, ◌%◌, ◌<◌, ◌≤◌, ◌⊎◌, inl, inr, List, [], ◌∷◌, ◌++◌, Option, Some, None, length, get_or, take, drop, refl, sym, ap, ◌∙◌, subst, arith, length-take-le, length-drop, w8, Fits}
+use Rattle.std.proofs.Common.{◌≡◌, ℕ, zero, suc, ◌+◌, ◌-◌, ◌*◌, ◌/◌, ◌%◌, ◌<◌, ◌≤◌, ◌⊎◌, inl, inr, List, [], ◌∷◌, Option, Some, None, length, get_or, take, drop, refl, sym, ap, ◌∙◌, subst, arith, length-take-le, length-drop, w8, Fits}
 use Rattle.std.proofs.lemmas.List.{take_all}
-use Rattle.wide_unit.specs.EncodingForm.{Utf16, IsHighSurrogate, IsLowSurrogate}
+use Rattle.wide_unit.specs.EncodingForm.{Utf16, IsLowSurrogate}
 use Rattle.wide_bytes.specs.Bytes.{unit_in, units_in}
 use Rattle.wide_bytes.specs.Encoded.{Encoded, EncodedUnits, BeginsWithFault, AreCutShort, StopsBefore, IsCertainFault, IsCutShort, StopsAt}
 use Rattle.wide_bytes.specs.declared.order.BoM.{BoM}
@@ -116,9 +116,9 @@ filled order (suc n) (a ∷ b ∷ bytes) [] half room same = absurd (omega arith
 filled order (suc n) (a ∷ b ∷ bytes) (u ∷ us) half room same =
     let first : u ≡ unit_in order a b = same 0 (omega arith) in
     let rest : AreUnitsOf order bytes us n = λ j within. (
-      let even : 2 * suc j ≡ suc (suc (2 * j)) = omega arith in
-      let odd : 2 * suc j + 1 ≡ suc (suc (2 * j + 1)) = omega arith in
-      same (suc j) (omega arith) ∙ ap (λ m. unit_in order (get_or (a ∷ b ∷ bytes) m 0) (get_or (a ∷ b ∷ bytes) (2 * suc j + 1) 0)) even ∙ ap (λ m. unit_in order (get_or bytes (2 * j) 0) (get_or (a ∷ b ∷ bytes) m 0)) odd
+    let even : 2 * suc j ≡ suc (suc (2 * j)) = omega arith in
+    let odd : 2 * suc j + 1 ≡ suc (suc (2 * j + 1)) = omega arith in
+    same (suc j) (omega arith) ∙ ap (λ m. unit_in order (get_or (a ∷ b ∷ bytes) m 0) (get_or (a ∷ b ∷ bytes) (2 * suc j + 1) 0)) even ∙ ap (λ m. unit_in order (get_or bytes (2 * j) 0) (get_or (a ∷ b ∷ bytes) m 0)) odd
     ) in
     ap (λ x. x ∷ take n us) first ∙ ap (λ vs. unit_in order a b ∷ vs) (filled order n bytes us (omega arith) (omega arith) rest)
 

@@ -5,7 +5,7 @@ use Rattle.wide_unit.specs.EncodingForm.{Utf16, IsHighSurrogate}
 use Rattle.wide_unit.specs.Items.{items, leading_characters, first_fault}
 use Rattle.wide_unit.specs.Lossy.{lossy}
 use Rattle.wide_unit.specs.Utf8.{utf8}
-use Rattle.wide_bytes.specs.Bytes.{units_in, is_odd, without_last_zero, units_of_bytes}
+use Rattle.wide_bytes.specs.Bytes.{units_in, is_odd, without_last_zero}
 use Rattle.wide_bytes.specs.Transcoded.{Transcoded, ending_of}
 use Rattle.wide_bytes.specs.declared.order.BoM.{BoM}
 use Rattle.wide_bytes.specs.declared.mode.Mode.{Mode}

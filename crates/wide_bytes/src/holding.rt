@@ -50,7 +50,13 @@ pub(crate) fn encode_piece(order: BoM, bytes: &[u8], units: &[u16], out: &mut [u
 /// Writes the text of the characters that the bytes of a piece begin with behind the first `at` bytes of `out`, up to a fault or the
 /// end. A zero unit at the end is left, and so is what may still become a character. `units` are those of the bytes; bytes are
 /// counted.
-pub(crate) fn encode_piece_behind(order: BoM, bytes: &[u8], units: &[u16], out: &mut [u8], at: usize) -> Step
+pub(crate) fn encode_piece_behind(
+    order: BoM,
+    bytes: &[u8],
+    units: &[u16],
+    out: &mut [u8],
+    at: usize,
+) -> Step
     requires units { units.now ≡ units_in order bytes.now }
     requires room { 2 * at + 3 * length bytes.now + 8 ≤ 2 * length out.old }
     ensures read { result.read ≤ length bytes.now }
@@ -66,5 +72,9 @@ pub(crate) fn encode_piece_behind(order: BoM, bytes: &[u8], units: &[u16], out: 
         Some(unit) => Some(unit),
         None => fault_before_zero(order, &bytes[read..]),
     };
-    Step { read, written: step.written, fault }
+    Step {
+        read,
+        written: step.written,
+        fault,
+    }
 }

@@ -10,7 +10,11 @@ use std::io;
 use wide_error::TranscodeError;
 
 // One take into the part of `bytes` behind the first `filled`.
-pub(crate) fn take_behind<S: ByteSource>(source: &mut S, bytes: &mut [u8], filled: usize) -> io::Result<usize>
+pub(crate) fn take_behind<S: ByteSource>(
+    source: &mut S,
+    bytes: &mut [u8],
+    filled: usize,
+) -> io::Result<usize>
     requires { filled < length bytes.old }
     ensures front { take filled bytes.new ≡ take filled bytes.old }
     ensures fits { IfOk result (λ n. filled + n ≤ length bytes.new) }

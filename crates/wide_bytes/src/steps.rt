@@ -75,18 +75,34 @@ pub(crate) fn encode_plain(units: &[u16], out: &mut [u8], at: usize) -> Step
             read += 1;
         } else {
             if 0xdc00 <= unit {
-                return Step { read, written, fault: Some(unit) };
+                return Step {
+                    read,
+                    written,
+                    fault: Some(unit),
+                };
             }
             if units.len() - read == 1 {
-                return Step { read, written, fault: None };
+                return Step {
+                    read,
+                    written,
+                    fault: None,
+                };
             }
             let low = units[read + 1];
             if low < 0xdc00 || 0xe000 <= low {
-                return Step { read, written, fault: Some(unit) };
+                return Step {
+                    read,
+                    written,
+                    fault: Some(unit),
+                };
             }
             written = put_pair(out, written, unit, low);
             read += 2;
         }
     }
-    Step { read, written, fault: None }
+    Step {
+        read,
+        written,
+        fault: None,
+    }
 }

@@ -159,12 +159,7 @@ fn decoded(
 }
 
 // Whether the file becomes what the decoder makes of it, where the source gives `step` bytes a call.
-fn becomes_it(
-    alloc: Global,
-    file: &File,
-    step: usize,
-    mode: Mode,
-) -> Result<bool, AllocError> {
+fn becomes_it(alloc: Global, file: &File, step: usize, mode: Mode) -> Result<bool, AllocError> {
     let bytes = file.bytes(alloc)?;
     let (text, ending) = decoded(alloc, file, mode)?;
     let mut source = Cut::new(&bytes, step, 0);

@@ -1,5 +1,4 @@
-use Rattle.std.proofs.Common.{◌≡◌, ◌≤◌, ◌<◌, ◌+◌, ◌-◌, length, take, drop, sym, subst, arith, length-take, length-take-le, length-drop}
-use Rattle.std.proofs.lemmas.List.{take_all}
+use Rattle.std.proofs.Common.{◌≡◌, ◌≤◌, ◌+◌, ◌-◌, length, take, drop, sym, subst, arith, length-take, length-drop}
 use Rattle.wide_bytes.proofs.Lanes.{more-block, whole-more, encoded-ascii, stop-block, stop-last, some-read}
 use Rattle.wide_bytes.proofs.UnitEncodings.{units-none}
 use Rattle.wide_bytes.specs.Encoded.{EncodedUnits}

@@ -1,4 +1,4 @@
-use Rattle.std.proofs.Common.{◌≡◌, ◌+◌, ◌++◌, length, take}
+use Rattle.std.proofs.Common.{◌≡◌, ◌+◌, ◌++◌, take}
 use Rattle.wide_bytes.proofs.blocks.put_ascii.Given as goal
 
 abbrev pub invariant-loop-k : goal.invariant-loop-k

@@ -1,4 +1,4 @@
-use Rattle.std.proofs.Common.{◌≡◌, ◌≤◌, ◌%◌, ◌/◌, ◌-◌, ◌*◌, Some, None, length, take, drop, refl, sym, ap, ◌∙◌, subst, arith, length-take-le, length-take, length-drop}
+use Rattle.std.proofs.Common.{◌≡◌, ◌≤◌, ◌/◌, ◌-◌, ◌*◌, Some, None, length, take, drop, refl, sym, ap, subst, arith, length-take-le, length-take, length-drop}
 use Rattle.std.proofs.lemmas.List.{take_all}
 use Rattle.wide_bytes.specs.Encoded.{EncodedUnits, IsHeldOr, StopsBefore}
 use Rattle.wide_bytes.proofs.Held.{held-fault, held-or_of}

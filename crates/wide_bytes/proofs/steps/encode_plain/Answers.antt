@@ -1,4 +1,4 @@
-use Rattle.std.proofs.Common.{◌≡◌, ◌≤◌, ◌<◌, ◌+◌, refl, arith, get_or}
+use Rattle.std.proofs.Common.{refl, arith, get_or}
 use Rattle.wide_bytes.proofs.UnitEncodings.{units-none, more-unit, more-pair, stops-at_end, stops-at_high, stops-at_low, stops-at_unpaired}
 use Rattle.wide_bytes.proofs.steps.encode_plain.Goals as goal
 

@@ -1,4 +1,4 @@
-use Rattle.std.proofs.Common.{◌+◌, ◌*◌, ◌-◌, ◌≡◌, ◌≤◌, length, take}
+use Rattle.std.proofs.Common.{◌+◌, ◌*◌, ◌-◌, ◌≤◌, length, take}
 use Rattle.wide_bytes.specs.Encoded.{EncodedUnits}
 use Rattle.wide_bytes.proofs.steps.encode_plain.Given as goal
 

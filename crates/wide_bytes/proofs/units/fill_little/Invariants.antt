@@ -1,4 +1,3 @@
-use Rattle.std.proofs.Common.{◌≡◌, length}
 use Rattle.wide_bytes.specs.declared.order.BoM.TheVariants.{Little}
 use Rattle.wide_bytes.proofs.UnitsHeld.{AreUnitsOf}
 use Rattle.wide_bytes.proofs.units.fill_little.Given as goal

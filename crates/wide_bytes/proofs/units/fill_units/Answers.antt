@@ -1,4 +1,4 @@
-use Rattle.std.proofs.Common.{◌≡◌, ◌/◌, ◌≤◌, ◌∙◌, length, take, sym, ap, subst, arith}
+use Rattle.std.proofs.Common.{◌/◌, ◌∙◌, length, sym, ap, arith}
 use Rattle.wide_bytes.specs.Bytes.{units_in}
 use Rattle.wide_bytes.proofs.UnitsHeld.{swapped, units-filled}
 use Rattle.wide_bytes.specs.declared.order.BoM.TheVariants.{Little, Big}
