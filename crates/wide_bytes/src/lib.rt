@@ -9,6 +9,7 @@ pub mod laws;
 mod lossy;
 mod mode;
 mod moving;
+mod narrow;
 mod order;
 mod pieces;
 mod steps;
