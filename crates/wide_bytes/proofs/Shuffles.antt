@@ -1,7 +1,7 @@
 -- Units below 0x800 in two bytes for each, and the bytes that are kept of those.
 use Rattle.std.proofs.Common.{◌≡◌, ℕ, zero, suc, ◌+◌, ◌-◌, ◌*◌, ◌/◌, ◌%◌, ◌<◌, ◌≤◌, ◌^◌, Bool, true, false, cond, inl, inr, ltb, map, replicate, Fits, w16, append_assoc, List, [], ◌∷◌, ◌++◌, length, get_or, take, drop, w8, refl, sym, ap, ◌∙◌, subst, arith, rules, length-drop, length-take}
 use Rattle.std.proofs.lemmas.Bool.{cases_lt, lt-ltb, le-ltb}
-use Rattle.std.proofs.lemmas.List.{take_all}
+use Rattle.std.proofs.lemmas.List.{take_all, take-append-drop}
 use Rattle.std.proofs.lemmas.Simd.{put_chunk_whole, swz_l, length-swz_l, bitmask_splat, get_or_narrower, Each1-from_get_or}
 use Rattle.std.proofs.lemmas.Slice.{overwrites}
 use borrow.Rule.Slice.PartMut.{put_mid}
@@ -191,3 +191,13 @@ eight-encoded {s} {t} {v} us long first second = subst (λ xs. EncodedUnits xs s
 
 pub retold : {us s t told : List ℕ} → told ≡ t → EncodedUnits us s t → EncodedUnits us s told
 retold {us} {s} same e = subst (λ t. EncodedUnits us s t) (sym same) e
+
+pub two-halves : {s t v : List ℕ} (us : List ℕ) → length us ≡ 16 → EncodedUnits (take 8 us) s t → EncodedUnits (take 8 (drop 8 us)) t v → EncodedUnits us s v
+two-halves {s} {t} {v} us long first second =
+    let rest : take 8 (drop 8 us) ≡ drop 8 us = take_all 8 (drop 8 us) (omega (arith, length-drop 8 us)) in
+    let all : take 8 us ++ take 8 (drop 8 us) ≡ us = ap (λ xs. take 8 us ++ xs) rest ∙ take-append-drop 8 us in
+    subst (λ xs. EncodedUnits xs s v) all (units-then first second)
+
+-- the same front at other places
+pub same-front : {u front other_u other_front : ℕ} → other_u ≡ u → other_front ≡ front → IsNarrowFront u front → IsNarrowFront other_u other_front
+same-front {u} {front} {other_u} {other_front} e f is = subst (λ x. IsNarrowFront x other_front) (sym e) (subst (λ y. IsNarrowFront u y) (sym f) is)

@@ -68,29 +68,29 @@ fn narrow_front_of(unit: u16) -> u16
     if unit < 0x80 { unit } else { two }
 }
 
-#[inline(always)]
+// Not inlined, so that the fronts are computed as vectors.
+#[inline(never)]
 fn narrow_fronts_of(units: &[u16], fronts: &mut [u16])
-    requires whole { length units.now ≡ 8 }
-    requires room { length fronts.old ≡ 8 }
-    requires narrow { (k : ℕ) → k < 8 → slice_index units.now k < 0x800 }
-    ensures long { length fronts.new ≡ 8 }
-    ensures fronts { (k : ℕ) → k < 8 → IsNarrowFront (slice_index units.now k) (slice_index fronts.new k) }
+    requires whole { length units.now ≡ 16 }
+    requires room { length fronts.old ≡ 16 }
+    requires narrow { (k : ℕ) → k < 16 → slice_index units.now k < 0x800 }
+    ensures long { length fronts.new ≡ 16 }
+    ensures fronts { (k : ℕ) → k < 16 → IsNarrowFront (slice_index units.now k) (slice_index fronts.new k) }
 {
-    for k in 0..8 {
+    for k in 0..16 {
         fronts[k] = narrow_front_of(units[k]);
     }
 }
 
-// The bytes of eight units below 0x800, two and two.
+// The bytes of the fronts of eight units below 0x800, two and two.
 #[inline(always)]
-fn pairs_of(units: &[u16]) -> u8x16
-    requires whole { length units.now ≡ 8 }
+fn pairs_of(units: &[u16], fronts: &[u16]) -> u8x16
+    requires long { length fronts.now ≡ 8 }
     requires narrow { (k : ℕ) → k < 8 → slice_index units.now k < 0x800 }
+    requires fronts { (k : ℕ) → k < 8 → IsNarrowFront (slice_index units.now k) (slice_index fronts.now k) }
     ensures { (k : ℕ) → k < 8 → IsPair (slice_index units.now k) (slice_index result (2 * k)) (slice_index result (2 * k + 1)) }
 {
-    let mut fronts = [0u16; 8];
-    narrow_fronts_of(units, &mut fronts);
-    u16x8::from_slice(&fronts).to_le_bytes()
+    u16x8::from_slice(fronts).to_le_bytes()
 }
 
 // The last eight lanes, twice.
@@ -101,17 +101,34 @@ fn upper_half(pairs: u8x16) -> u8x16
     pairs.swizzle([8, 9, 10, 11, 12, 13, 14, 15, 8, 9, 10, 11, 12, 13, 14, 15])
 }
 
-/// Writes the text of eight units below 0x800, and answers the place behind it. Up to twelve bytes behind it are overwritten.
+// Writes the text of eight units by their fronts, and answers the place behind it. Up to twelve bytes behind it are overwritten.
 #[inline(always)]
-pub(crate) fn put_narrow(units: &[u16], out: &mut [u8], at: usize) -> usize
+fn put_eight(units: &[u16], fronts: &[u16], out: &mut [u8], at: usize) -> usize
     requires whole { length units.now ≡ 8 }
+    requires long { length fronts.now ≡ 8 }
     requires room { at + 24 ≤ length out.old }
     requires narrow { (k : ℕ) → k < 8 → slice_index units.now k < 0x800 }
+    requires fronts { (k : ℕ) → k < 8 → IsNarrowFront (slice_index units.now k) (slice_index fronts.now k) }
     ensures text { EncodedUnits units.now (take at out.old) (take result out.new) }
     ensures high { result ≤ at + 16 }
 {
     let ascii = ascii_bits(units);
-    let pairs = pairs_of(units);
+    let pairs = pairs_of(units, fronts);
     let half = put_four(pairs, (ascii % 16) as usize, out, at);
     put_four(upper_half(pairs), (ascii / 16) as usize, out, half)
+}
+
+/// Writes the text of sixteen units below 0x800, and answers the place behind it. Up to twelve bytes behind it are overwritten.
+#[inline(always)]
+pub(crate) fn put_narrow(block: &[u16], out: &mut [u8], at: usize) -> usize
+    requires whole { length block.now ≡ 16 }
+    requires room { at + 40 ≤ length out.old }
+    requires narrow { (k : ℕ) → k < 16 → slice_index block.now k < 0x800 }
+    ensures text { EncodedUnits block.now (take at out.old) (take result out.new) }
+    ensures high { result ≤ at + 32 }
+{
+    let mut fronts = [0u16; 16];
+    narrow_fronts_of(block, &mut fronts);
+    let half = put_eight(&block[..8], &fronts[..8], out, at);
+    put_eight(&block[8..16], &fronts[8..16], out, half)
 }

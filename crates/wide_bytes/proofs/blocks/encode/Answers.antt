@@ -20,11 +20,11 @@ sixteens-preserved-then-are_below c =
       encoded = whole-more c.args.units.now c.sixteens.read n (omega arith) c.sixteens.invariant.encoded (subst (λ t. EncodedUnits block (take c.sixteens.written c.sixteens.out) t) (sym c.put_ascii.ensures) text);
     }
 
-pub sixteens-preserved-then-are_narrow : goal.sixteens-preserved-then-are_narrow
-sixteens-preserved-then-are_narrow c = record {
+pub sixteens-preserved-then-are_below-2 : goal.sixteens-preserved-then-are_below-2
+sixteens-preserved-then-are_below-2 c = record {
   within = omega arith;
   room = omega (arith, c.put_narrow-written.ensures.high, c.sixteens.invariant.room);
-  encoded = more-block c.args.units.now c.sixteens.read 8 (c.sixteens.read + 16 - c.sixteens.read) (omega arith) c.sixteens.invariant.encoded c.put_narrow-written.ensures.text;
+  encoded = whole-more c.args.units.now c.sixteens.read (c.sixteens.read + 16 - c.sixteens.read) (omega arith) c.sixteens.invariant.encoded c.put_narrow-written.ensures.text;
 }
 
 pub sixteens-preserved-then-not-has_surrogate : goal.sixteens-preserved-then-not-has_surrogate

@@ -2,4 +2,4 @@ use Rattle.wide_bytes.proofs.Shuffles.{pair-of}
 use Rattle.wide_bytes.proofs.narrow.pairs_of.Goals as goal
 
 pub returns : goal.returns
-returns c k within = pair-of c.args.units.now c.narrow_fronts_of.new.fronts k within c.narrow_fronts_of.ensures.long c.requires.narrow c.narrow_fronts_of.ensures.fronts
+returns c k within = pair-of c.args.units.now c.args.fronts.now k within c.requires.long c.requires.narrow c.requires.fronts

@@ -1,22 +1,22 @@
-use Rattle.std.proofs.Common.{◌≡◌, ◌<◌, ◌+◌, ◌*◌, ◌%◌, ◌/◌, ◌++◌, ltb, sym, subst, get_or, take, arith, refl, []}
-use Rattle.wide_bytes.specs.Encoded.{EncodedUnits}
-use Rattle.wide_bytes.proofs.Shuffles.{eight-encoded, four-encoded, retold, same-pair}
+use Rattle.std.proofs.Common.{◌≡◌, ◌<◌, ◌+◌, sym, subst, get_or, arith}
+use Rattle.std.proofs.lemmas.Simd.{get_or-chunk}
+use Rattle.wide_bytes.specs.Narrow.{IsNarrowFront}
+use Rattle.wide_bytes.proofs.Shuffles.{same-front, two-halves}
 use Rattle.wide_bytes.proofs.narrow.put_narrow.Goals as goal
 
+pub put_eight-half-requires-clause-narrow : goal.put_eight-half-requires-clause-narrow
+put_eight-half-requires-clause-narrow c k within = subst (λ u. u < 0x800) (sym (get_or-chunk 0 8 c.args.block.now k 0 within)) (c.requires.narrow (0 + k) (omega arith))
+
+pub put_eight-half-requires-clause-fronts : goal.put_eight-half-requires-clause-fronts
+put_eight-half-requires-clause-fronts c k within =
+    same-front (get_or-chunk 0 8 c.args.block.now k 0 within) (get_or-chunk 0 8 c.narrow_fronts_of.new.fronts k 0 within) (c.narrow_fronts_of.ensures.fronts (0 + k) (omega arith))
+
+pub put_eight-requires-clause-narrow : goal.put_eight-requires-clause-narrow
+put_eight-requires-clause-narrow c k within = subst (λ u. u < 0x800) (sym (get_or-chunk 8 8 c.args.block.now k 0 within)) (c.requires.narrow (8 + k) (omega arith))
+
+pub put_eight-requires-clause-fronts : goal.put_eight-requires-clause-fronts
+put_eight-requires-clause-fronts c k within =
+    same-front (get_or-chunk 8 8 c.args.block.now k 0 within) (get_or-chunk 8 8 c.narrow_fronts_of.new.fronts k 0 within) (c.narrow_fronts_of.ensures.fronts (8 + k) (omega arith))
+
 pub returns-clause-text : goal.returns-clause-text
-returns-clause-text c =
-    let us = c.args.units.now in
-    let pairs = c.pairs_of-pairs.result in
-    let upper = c.upper_half.result in
-    let pair = c.pairs_of-pairs.ensures in
-    let moved = c.upper_half.ensures in
-    let below = c.requires.narrow in
-    let front = four-encoded pairs (get_or us 0 0) (get_or us 1 0) (get_or us 2 0) (get_or us 3 0) (take c.args.at c.args.out.now) (pair 0 (omega arith)) (pair 1 (omega arith)) (pair 2 (omega arith)) (pair 3 (omega arith))
-        (below 0 (omega arith)) (below 1 (omega arith)) (below 2 (omega arith)) (below 3 (omega arith)) in
-    let back = four-encoded upper (get_or us 4 0) (get_or us 5 0) (get_or us 6 0) (get_or us 7 0) (take c.put_four-half.result c.put_four-half.new.out)
-        (same-pair (moved 0 (omega arith)) (moved 1 (omega arith)) (pair 4 (omega arith))) (same-pair (moved 2 (omega arith)) (moved 3 (omega arith)) (pair 5 (omega arith)))
-        (same-pair (moved 4 (omega arith)) (moved 5 (omega arith)) (pair 6 (omega arith))) (same-pair (moved 6 (omega arith)) (moved 7 (omega arith)) (pair 7 (omega arith)))
-        (below 4 (omega arith)) (below 5 (omega arith)) (below 6 (omega arith)) (below 7 (omega arith)) in
-    let first = c.put_four-half.ensures.text _ _ _ _ c.ascii_bits-ascii.ensures.low in
-    let second = c.put_four.ensures.text _ _ _ _ c.ascii_bits-ascii.ensures.high in
-    eight-encoded us c.requires.whole (retold first front) (retold second back)
+returns-clause-text c = two-halves c.args.block.now c.requires.whole c.put_eight-half.ensures.text c.put_eight.ensures.text
