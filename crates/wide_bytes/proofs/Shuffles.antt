@@ -1,5 +1,5 @@
 -- Units below 0x800 in two bytes for each, and the bytes that are kept of those.
-use Rattle.std.proofs.Common.{◌≡◌, ℕ, zero, suc, ◌+◌, ◌-◌, ◌*◌, ◌/◌, ◌%◌, ◌<◌, ◌≤◌, ◌^◌, Bool, true, false, cond, inl, inr, ltb, map, replicate, Fits, w16, append_assoc, List, [], ◌∷◌, ◌++◌, length, get_or, take, drop, w8, refl, sym, ap, ◌∙◌, subst, arith, rules, length-drop, length-take}
+use Rattle.std.proofs.Common.{◌≡◌, ℕ, zero, suc, ◌+◌, ◌-◌, ◌*◌, ◌/◌, ◌%◌, ◌<◌, ◌≤◌, ◌^◌, Bool, true, false, cond, inl, inr, ltb, map, replicate, w16, append_assoc, List, [], ◌∷◌, ◌++◌, length, get_or, take, drop, w8, refl, sym, ap, ◌∙◌, subst, arith, rules, length-drop, length-take}
 use Rattle.std.proofs.lemmas.Bool.{cases_lt, lt-ltb, le-ltb}
 use Rattle.std.proofs.lemmas.List.{take_all, take-append-drop}
 use Rattle.std.proofs.lemmas.Simd.{put_chunk_whole, swz_l, length-swz_l, bitmask_splat, get_or_narrower, Each1-from_get_or}
@@ -84,7 +84,7 @@ four-stored xs pairs at n a b c d is room =
     let zs = put_mid at (at + 16 - at) xs (put_chunk 0 (take (at + 16 - at) (drop at xs)) ys) in
     let long : length ys ≡ 16 = length-swz_l w8 16 pairs 0 (take 16 (get_or PLACES m [])) ∙ places-long a b c d in
     let here : take (at + get_or LENS m 0) zs ≡ take at xs ++ kept a b c d pairs =
-        kept-front xs zs ys at 16 (get_or LENS m 0) (omega arith) (few a b c d) (stored-block xs ys at long room) ∙ ap (λ bs. take at xs ++ bs) (picked a b c d pairs) in
+    kept-front xs zs ys at 16 (get_or LENS m 0) (omega arith) (few a b c d) (stored-block xs ys at long room) ∙ ap (λ bs. take at xs ++ bs) (picked a b c d pairs) in
     subst (λ k. take (at + get_or LENS k 0) (put_mid at (at + 16 - at) xs (put_chunk 0 (take (at + 16 - at) (drop at xs)) (swz_l w8 16 pairs 0 (take 16 (get_or PLACES k []))))) ≡ take at xs ++ kept a b c d pairs) (sym is) here
 
 below-each : (xs : List ℕ) → Each1 (λ x. x ≤ 8) xs → (n : ℕ) → get_or xs n 0 ≤ 8

@@ -7,21 +7,20 @@ use Rattle.wide_bytes.proofs.blocks.encode.Goals as goal
 pub sixteens-init : goal.sixteens-init
 sixteens-init c = record { within = omega arith; room = omega arith; encoded = units-none _ }
 
-pub sixteens-preserved-then-are_below : goal.sixteens-preserved-then-are_below
-sixteens-preserved-then-are_below c =
+pub sixteens-preserved-then-bits-lt128 : goal.sixteens-preserved-then-bits-lt128
+sixteens-preserved-then-bits-lt128 c =
     let n = c.sixteens.read + 16 - c.sixteens.read in
     let block = take n (drop c.sixteens.read c.args.units.now) in
     let long : length block ≡ 16 = omega (arith, length-take n (drop c.sixteens.read c.args.units.now), length-drop c.sixteens.read c.args.units.now) in
-    let ascii = c.are_below.ensures c.if-are_below.true in
-    let text = encoded-ascii block (take c.sixteens.written c.sixteens.out) (λ k within. ascii k (omega (arith, long))) in
+    let text = encoded-ascii block (take c.sixteens.written c.sixteens.out) (λ k within. (let low = c.bits_of-bits.ensures k (omega (arith, long)) in omega (arith, low))) in
     record {
       within = omega arith;
       room = omega arith;
       encoded = whole-more c.args.units.now c.sixteens.read n (omega arith) c.sixteens.invariant.encoded (subst (λ t. EncodedUnits block (take c.sixteens.written c.sixteens.out) t) (sym c.put_ascii.ensures) text);
     }
 
-pub sixteens-preserved-then-are_below-2 : goal.sixteens-preserved-then-are_below-2
-sixteens-preserved-then-are_below-2 c = record {
+pub sixteens-preserved-then-bits-lt2048 : goal.sixteens-preserved-then-bits-lt2048
+sixteens-preserved-then-bits-lt2048 c = record {
   within = omega arith;
   room = omega (arith, c.put_narrow-written.ensures.high, c.sixteens.invariant.room);
   encoded = whole-more c.args.units.now c.sixteens.read (c.sixteens.read + 16 - c.sixteens.read) (omega arith) c.sixteens.invariant.encoded c.put_narrow-written.ensures.text;

@@ -1,4 +1,4 @@
-use Rattle.std.proofs.Common.{◌≡◌, ◌<◌, ℕ, get_or, length}
+use Rattle.std.proofs.Common.{◌<◌, ℕ, get_or}
 use Rattle.wide_bytes.specs.Narrow.{IsNarrowFront}
 use Rattle.wide_bytes.proofs.narrow.narrow_fronts_of.Given as goal
 

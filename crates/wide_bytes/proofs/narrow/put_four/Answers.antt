@@ -1,4 +1,4 @@
-use Rattle.std.proofs.Common.{◌≤◌, ◌+◌, length, Fits, w64, arith, rules}
+use Rattle.std.proofs.Common.{arith, rules}
 use Rattle.wide_bytes.proofs.Shuffles.{four-stored, lens-small}
 use Rattle.wide_bytes.proofs.narrow.put_four.Goals as goal
 

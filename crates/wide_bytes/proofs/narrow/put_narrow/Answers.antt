@@ -1,6 +1,5 @@
-use Rattle.std.proofs.Common.{◌≡◌, ◌<◌, ◌+◌, sym, subst, get_or, arith}
+use Rattle.std.proofs.Common.{◌<◌, ◌+◌, sym, subst, arith}
 use Rattle.std.proofs.lemmas.Simd.{get_or-chunk}
-use Rattle.wide_bytes.specs.Narrow.{IsNarrowFront}
 use Rattle.wide_bytes.proofs.Shuffles.{same-front, two-halves}
 use Rattle.wide_bytes.proofs.narrow.put_narrow.Goals as goal
 
