@@ -1,7 +1,7 @@
 -- Units below 0x800 in two bytes for each, and the bytes that are kept of those.
-use Rattle.std.proofs.Common.{◌≡◌, ℕ, zero, suc, ◌+◌, ◌-◌, ◌*◌, ◌/◌, ◌%◌, ◌<◌, ◌≤◌, ◌^◌, Bool, true, false, cond, inl, inr, ltb, map, replicate, w16, append_assoc, List, [], ◌∷◌, ◌++◌, length, get_or, take, drop, w8, refl, sym, ap, ◌∙◌, subst, arith, rules, length-drop, length-take}
+use Rattle.std.proofs.Common.{◌≡◌, ℕ, zero, suc, ◌+◌, ◌-◌, ◌*◌, ◌/◌, ◌%◌, ◌<◌, ◌≤◌, ◌^◌, Bool, true, false, cond, inl, inr, ltb, map, replicate, w16, append_assoc, List, [], ◌∷◌, ◌++◌, length, get_or, set, take, drop, w8, refl, sym, ap, ◌∙◌, subst, arith, rules, length-drop, length-take}
 use Rattle.std.proofs.lemmas.Bool.{cases_lt, lt-ltb, le-ltb}
-use Rattle.std.proofs.lemmas.List.{take_all, take-append-drop}
+use Rattle.std.proofs.lemmas.List.{get_or-set_other, get_or-set_same, take_all, take-append-drop}
 use Rattle.std.proofs.lemmas.Simd.{put_chunk_whole, swz_l, length-swz_l, bitmask_splat, get_or_narrower, Each1-from_get_or}
 use Rattle.std.proofs.lemmas.Slice.{overwrites}
 use borrow.Rule.Slice.PartMut.{put_mid}
@@ -70,7 +70,7 @@ places-long false false true false = refl
 places-long false false false true = refl
 places-long false false false false = refl
 
-stored-block : (xs ys : List ℕ) (at : ℕ) → length ys ≡ 16 → at + 16 ≤ length xs → take (at + 16) (put_mid at (at + 16 - at) xs (put_chunk 0 (take (at + 16 - at) (drop at xs)) ys)) ≡ take at xs ++ ys
+pub stored-block : (xs ys : List ℕ) (at : ℕ) → length ys ≡ 16 → at + 16 ≤ length xs → take (at + 16) (put_mid at (at + 16 - at) xs (put_chunk 0 (take (at + 16 - at) (drop at xs)) ys)) ≡ take at xs ++ ys
 stored-block xs ys at long room =
     let part = take (at + 16 - at) (drop at xs) in
     let part_long : length part ≡ length ys = omega (arith, length-take (at + 16 - at) (drop at xs), length-drop at xs) in
@@ -201,3 +201,17 @@ two-halves {s} {t} {v} us long first second =
 -- the same front at other places
 pub same-front : {u front other_u other_front : ℕ} → other_u ≡ u → other_front ≡ front → IsNarrowFront u front → IsNarrowFront other_u other_front
 same-front {u} {front} {other_u} {other_front} e f is = subst (λ x. IsNarrowFront x other_front) (sym e) (subst (λ y. IsNarrowFront u y) (sym f) is)
+
+pub same-lists : (xs ys : List ℕ) → length xs ≡ length ys → ((k : ℕ) → k < length xs → get_or xs k 0 ≡ get_or ys k 0) → xs ≡ ys
+same-lists [] [] long same = refl
+same-lists [] (y ∷ ys) long same = absurd (omega arith)
+same-lists (x ∷ xs) [] long same = absurd (omega arith)
+same-lists (x ∷ xs) (y ∷ ys) long same =
+    let first : x ≡ y = same 0 (omega arith) in
+    ap (λ z. z ∷ xs) first ∙ ap (λ zs. y ∷ zs) (same-lists xs ys (omega arith) (λ k within. same (suc k) (omega arith)))
+
+pub same-more : (xs ys : List ℕ) (k : ℕ) → k < length xs → ((j : ℕ) → j < k → get_or xs j 0 ≡ get_or ys j 0) → (j : ℕ) → j < k + 1 → get_or (set xs k (get_or ys k 0)) j 0 ≡ get_or ys j 0
+same-more xs ys k within same j below = elim (cases_lt j k) [
+  | inl before ↦ get_or-set_other xs k j (get_or ys k 0) 0 (λ e. omega arith) ∙ same j before
+  | inr from ↦ (let here : j ≡ k = omega arith in ap (λ i. get_or (set xs k (get_or ys k 0)) i 0) here ∙ get_or-set_same xs k (get_or ys k 0) 0 within ∙ ap (λ i. get_or ys i 0) (sym here))
+]
