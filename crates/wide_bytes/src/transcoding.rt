@@ -21,6 +21,10 @@ use wide_error::TranscodeError;
 /// [`Mode::Strict`] the characters before the first fault are written, in [`Mode::Lossy`] all of them, with U+FFFD in the place of
 /// each fault.
 ///
+/// The source is read in pieces of at most 4,096 bytes, and no memory is asked for. A fault is told as soon as it is certain by whole
+/// units, before another read. The text of a piece is written before the next one is read; what may still become another character,
+/// and a zero unit that may be the last, waits for it.
+///
 /// The source must not have failed or ended, and the sink must not have failed. No read or write that failed is tried
 /// again, and the sink isn't flushed.
 ///
@@ -31,7 +35,7 @@ use wide_error::TranscodeError;
 /// - [`TranscodeError::OddLength`]: the number of bytes is odd. The text of the whole units is written.
 /// - [`TranscodeError::Read`] and [`TranscodeError::Write`]: the source, or the sink, failed in this call. What was
 ///   written is a beginning of the text of the bytes that were read.
-/// - [`TranscodeError::OutOfMemory`]: memory was refused; what was written is a beginning of the text.
+/// - [`TranscodeError::OutOfMemory`]: there are more units than have an index; what was written is a beginning of the text.
 pub fn transcode<S: ByteSource, K: ByteSink>(
     source: &mut S,
     sink: &mut K,
