@@ -2,3 +2,4 @@ pub mod Runs
 pub mod Made
 pub mod Lengths
 pub mod Places
+pub mod Walks
