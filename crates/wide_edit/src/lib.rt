@@ -6,9 +6,12 @@ mod counting;
 mod edits;
 mod found;
 mod lockstep;
+mod marked;
+mod marks;
 mod memory;
 mod utf;
 
 pub use counting::Steps;
 pub use edits::{Edit, Reply, Stopped, TextEdit};
+pub use marked::Marked16;
 pub use lockstep::{run, run_both};
