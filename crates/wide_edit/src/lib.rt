@@ -13,5 +13,5 @@ mod utf;
 
 pub use counting::Steps;
 pub use edits::{Edit, Reply, Stopped, TextEdit};
-pub use marked::Marked16;
 pub use lockstep::{run, run_both};
+pub use marked::Marked16;

@@ -1,5 +1,5 @@
 //! A UTF-16 string with kept marks, as a text that edits change.
-ghost use Rattle.std.specs.Prelude.{◌≡◌, ◌+◌, ◌*◌, ◌/◌, ◌<◌, ◌≤◌, ◌↔◌, length, IsSome, IfSome, IsOk, IfOk, IfErr, vec_capacity};
+ghost use Rattle.std.specs.Prelude.{◌≡◌, ◌+◌, ◌*◌, ◌/◌, ◌<◌, ◌≤◌, ◌↔◌, length, IsSome, IfSome, IsOk, OnOk, IfOk, IfErr, vec_capacity};
 ghost use Rattle.wide_unit.specs.EncodingForm.{Utf16, encode};
 ghost use Rattle.wide_unit.specs.Items.{chars};
 ghost use Rattle.wide_unit.specs.Places.{IsPlaceOf, IsCharBoundary};
@@ -15,6 +15,7 @@ use crate::counting::Steps;
 use crate::edits::{Edit, Reply, TextEdit};
 use crate::found::numbers_of;
 use crate::marks::{count_from, find_from, mend, units_from};
+use crate::memory::prepare_at;
 use std::alloc::Global;
 use std::marker::Model;
 use wide_error::OutOfMemory;
@@ -65,6 +66,23 @@ fn place_in(edit: Edit<'_>, count: usize) -> usize
         Edit::SplitOff(index) => index.min(count),
         Edit::Clear => 0,
     }
+}
+
+// Finds all memory that an edit takes of a string in UTF-16, whose places were found.
+fn prepare16(
+    string: &mut Utf16String,
+    alloc: Global,
+    edit: Edit<'_>,
+    start: Option<usize>,
+    end: Option<usize>,
+) -> Result<Vec<char>, OutOfMemory>
+    requires start { IsFoundAt Utf16 string.old.units (first_number edit) start }
+    requires end { IsFoundAt Utf16 string.old.units (second_number edit) end }
+    ensures ready { OnOk result (CanHold Utf16 string.new (step (chars Utf16 string.new.units) edit.entry).0) }
+    ensures room { IfOk result (λ room. HasReplyRoom (chars Utf16 string.new.units) edit.entry room) }
+    ensures units { string.new.units ≡ string.old.units }
+{
+    prepare_at(string, alloc, edit, start, end)
 }
 
 // Makes the edit of a string in UTF-16, whose places were found.
@@ -199,7 +217,11 @@ impl TextEdit for Marked16 {
     ghost is_ready = { IsMarkedReady };
 
     fn char_count(&self) -> usize {
-        count_from(self.string.as_utfstr(), self.marks.as_slice(), &mut Steps::new())
+        count_from(
+            self.string.as_utfstr(),
+            self.marks.as_slice(),
+            &mut Steps::new(),
+        )
     }
 
     fn unit_count(&self) -> usize {
@@ -207,7 +229,16 @@ impl TextEdit for Marked16 {
     }
 
     fn prepare(&mut self, alloc: Global, edit: Edit<'_>) -> Result<Vec<char>, OutOfMemory> {
-        let room = self.string.prepare(alloc, edit)?;
+        let (first, second) = numbers_of(edit);
+        let steps = &mut Steps::new();
+        let start = find_from(self.string.as_utfstr(), self.marks.as_slice(), first, steps);
+        let end = find_from(
+            self.string.as_utfstr(),
+            self.marks.as_slice(),
+            second,
+            steps,
+        );
+        let room = prepare16(&mut self.string, alloc, edit, start, end)?;
         // No text has more characters than units.
         let most = self.string.capacity() / 64;
         self.marks.reserve(most.saturating_sub(self.marks.len()))?;

@@ -1,4 +1,4 @@
-use Rattle.wide_edit.proofs.Walks.{[], ◌∷◌, refl, proved, tables, ‵, raw, ◌$◌, ◌∵◌, !, qed, drop, suffices, done, enter, agg, no_more, returns, alloc_all, pass_all, free_all, look_at, sets, vstruct, vnil, pure_i, on_entry, Stays, walk_of, says, ends_at, nothing, ftrue}
+use Rattle.wide_edit.proofs.Walks.{[], ◌∷◌, refl, proved, ‵, raw, ◌$◌, ◌∵◌, !, qed, drop, suffices, done, enter, agg, no_more, returns, alloc_all, pass_all, free_all, look_at, sets, vstruct, vnil, pure_i, on_entry, Stays, walk_of, says, ends_at, nothing, ftrue}
 use Rattle.wide_edit.specs.contracts.counting.Steps.new as f
 use Rattle.wide_edit.specs.contracts.counting.Steps.{the_row}
 use Rattle.wide_edit.proofs.counting.Steps.new.Statement.{statement}

@@ -1,4 +1,4 @@
-use Rattle.wide_edit.proofs.Walks.{◌+◌, [], ◌∷◌, refl, proved, tables, ‵, raw, ◌$◌, ◌∵◌, !, qed, drop, move, suffices, done, enter, agg, no_more, returns, alloc_all, pass_all, free_all, look_at, sets, vstruct, vnil, named, usize, yes, shr_vals, shr_Tells, plain, types_at, owns, alive, ◌⊛◌, split, pure_i, Stays, walk_of, says, stay_none_ref, Goes-none_ref, ends_at, ftrue}
+use Rattle.wide_edit.proofs.Walks.{◌+◌, [], ◌∷◌, refl, proved, ‵, raw, ◌$◌, ◌∵◌, !, qed, drop, move, suffices, done, enter, agg, no_more, returns, alloc_all, pass_all, free_all, look_at, sets, vstruct, vnil, named, usize, yes, shr_vals, shr_Tells, plain, types_at, owns, alive, ◌⊛◌, split, pure_i, Stays, walk_of, says, stay_none_ref, Goes-none_ref, ends_at, ftrue}
 use Rattle.wide_edit.specs.contracts.counting.Steps.with as f
 use Rattle.wide_edit.specs.contracts.counting.Steps.{the_row}
 use Rattle.wide_edit.specs.declared.counting.Steps.{Steps}
