@@ -1,8 +1,7 @@
 -- What a proof by hand of a function that makes a count cites.
-pub use Rattle.std.proofs.Common.{◌≡◌, ℕ, ◌+◌, [], ◌∷◌, refl}
+pub use Rattle.std.proofs.Common.{◌+◌, [], ◌∷◌, refl}
 pub use Rattle.std.proofs.raw_atomic.Walks.{proved}
 pub use base.Fml.{ftrue}
-pub use contract.Running.{tables}
 pub use denote.Builtin.{usize}
 pub use denote.Exit.{yes}
 pub use denote.Ref.{shr_vals, shr_Tells}
