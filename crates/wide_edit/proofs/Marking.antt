@@ -163,11 +163,19 @@ module _ (old new : List ℕ) (p : ℕ) (within : p ≤ length old) (same : take
   mark-same : (j : ℕ) → 64 * j ≤ p → mark old j ≡ mark new j
   mark-same j le = ap (size Utf16) (sym (take-take (64 * j) p old le) ∙ ap (take (64 * j)) (sym same) ∙ take-take (64 * j) p new le)
 
-  pub kept-marks : take (p / 64) (marks_of old) ≡ take (p / 64) (marks_of new)
-  kept-marks =
-      take-map-range_with_len (mark old) 1 (length old / 64) (p / 64) (omega (arith, within))
-      ∙ map-same (mark old) (mark new) 1 (p / 64) (λ j lt. mark-same j (omega (arith, lt)))
-      ∙ sym (take-map-range_with_len (mark new) 1 (length new / 64) (p / 64) (omega (arith, long)))
+  same-marks : (k : ℕ) → k ≤ p / 64 → take k (marks_of old) ≡ take k (marks_of new)
+  same-marks k le =
+      take-map-range_with_len (mark old) 1 (length old / 64) k (omega (arith, within))
+      ∙ map-same (mark old) (mark new) 1 k (λ j lt. mark-same j (omega (arith, lt)))
+      ∙ sym (take-map-range_with_len (mark new) 1 (length new / 64) k (omega (arith, long)))
 
-  pub kept-count : length (take (p / 64) (marks_of new)) ≡ p / 64
-  kept-count = length-take-le (p / 64) (marks_of new) (omega (arith, long, length-map-range_with_len (mark new) 1 (length new / 64)))
+  module _ (k : ℕ) (before items : List ℕ) (le : k ≤ p / 64) (all : before ≡ marks_of old) (first : items ≡ take k before) where
+    kept-new : items ≡ take k (marks_of new)
+    kept-new = first ∙ ap (take k) all ∙ same-marks k le
+
+    pub kept-count : length items ≡ k
+    kept-count = ap length kept-new ∙ length-take-le k (marks_of new) (omega (arith, long, length-map-range_with_len (mark new) 1 (length new / 64)))
+
+    -- as many of the old marks as stand before the place are the first of the new ones
+    pub kept-marks : items ≡ take (length items) (marks_of new)
+    kept-marks = kept-new ∙ ap (λ n. take n (marks_of new)) (sym kept-count)

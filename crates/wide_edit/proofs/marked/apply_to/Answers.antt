@@ -21,12 +21,9 @@ mend-requires-clause-some c =
     let count = c.count_from-count.ensures.count ∙ ap (λ us. length (chars Utf16 us)) c.as_utfstr-3.ensures in
     let p = edit_place (length cs) c.args.edit in
     let place : c.place_in-kept.result ≡ p = c.place_in-kept.ensures ∙ ap (λ n. edit_place n c.args.edit) count in
-    let within = place-within (length cs) c.args.edit in
     let same = ap (take p) c.apply16-reply.ensures.text ∙ step-keeps cs c.args.edit in
-    let items : c.truncate.new.self.items ≡ take (p / 64) (marks_of new) =
-    c.truncate.ensures.items ∙ ap (λ k. take (k / 64) c.args.marks.now.items) place ∙ ap (take (p / 64)) c.requires.marks ∙ kept-marks cs new p within same in
-    let long : length c.truncate.new.self.items ≡ p / 64 = ap length items ∙ kept-count cs new p within same in
-    items ∙ ap (λ k. take k (marks_of new)) (sym long) ∙ ap (λ us. take (length c.truncate.new.self.items) (marks_of (chars Utf16 us))) (sym c.as_utfstr-5.ensures)
+    kept-marks cs new p (place-within (length cs) c.args.edit) same _ _ _ (omega (arith, place)) c.requires.marks c.truncate.ensures.items
+    ∙ ap (λ us. take (length c.truncate.new.self.items) (marks_of (chars Utf16 us))) (sym c.as_utfstr-5.ensures)
 
 pub returns-clause-steps : goal.returns-clause-steps
 returns-clause-steps c =
@@ -35,13 +32,11 @@ returns-clause-steps c =
     let count = c.count_from-count.ensures.count ∙ ap (λ us. length (chars Utf16 us)) c.as_utfstr-3.ensures in
     let p = edit_place (length cs) c.args.edit in
     let place : c.place_in-kept.result ≡ p = c.place_in-kept.ensures ∙ ap (λ n. edit_place n c.args.edit) count in
-    let within = place-within (length cs) c.args.edit in
     let same = ap (take p) c.apply16-reply.ensures.text ∙ step-keeps cs c.args.edit in
-    let items : c.truncate.new.self.items ≡ take (p / 64) (marks_of new) =
-    c.truncate.ensures.items ∙ ap (λ k. take (k / 64) c.args.marks.now.items) place ∙ ap (take (p / 64)) c.requires.marks ∙ kept-marks cs new p within same in
-    let long : length c.truncate.new.self.items ≡ p / 64 = ap length items ∙ kept-count cs new p within same in
+    let long = kept-count cs new p (place-within (length cs) c.args.edit) same _ _ _ (omega (arith, place)) c.requires.marks c.truncate.ensures.items in
+    let kept : length c.truncate.new.self.items ≡ p / 64 = omega (arith, long, place) in
     let behind = c.units_from.ensures ∙ ap (λ us. size Utf16 (chars Utf16 us) - mark (chars Utf16 us) (c.place_in-kept.result / 64)) c.as_utfstr-4.ensures ∙ ap (λ k. size Utf16 cs - mark cs (k / 64)) place in
     let last = units_seen c.as_utfstr-5.result in
     let whole = ap (λ us. size Utf16 (chars Utf16 us)) (sym c.as_utfstr-5.ensures) ∙ whole-size last (well-formed last c.as_utfstr-5.result.well_formed) in
-    let marked = ap (λ us. mark (chars Utf16 us) (length c.truncate.new.self.items)) c.as_utfstr-5.ensures ∙ ap (mark new) long in
+    let marked = ap (λ us. mark (chars Utf16 us) (length c.truncate.new.self.items)) c.as_utfstr-5.ensures ∙ ap (mark new) kept in
     omega (arith, c.find_from-start.ensures.steps, c.find_from-end.ensures.steps, c.count_from-count.ensures.steps, c.tick.ensures, behind, c.mend.ensures.steps, whole, marked)
