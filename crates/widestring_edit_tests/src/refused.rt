@@ -18,7 +18,8 @@ const EDITS: [Edit<'static>; 8] = [
     Edit::SplitOff(1),
 ];
 
-// Whether both strings and all replies are those of the edits that were made. So many are made, where none is refused.
+// Whether both strings and all replies are those of the first `done` edits. Where the list that tells them finds no memory there is
+// nothing to compare: a run refuses one allocation, and that was not one of the edits.
 fn are_made(
     alloc: Global,
     first: &Utf16String,
@@ -45,8 +46,7 @@ fn are_made(
         & hold(list.as_slice(), first, second)
 }
 
-// The same, of both strings as the edits leave them. Where an allocation is refused before or behind the edits, there is nothing
-// to compare, since one alone is refused in a run.
+// The same of a run that an allocation may stop. Where there is no memory for the strings themselves, there are no edits.
 fn stops_alike(alloc: Global) -> bool {
     let (Ok(mut first), Ok(mut second)) = (
         Utf16String::from_str(alloc, TEXT),
