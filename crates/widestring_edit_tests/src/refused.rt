@@ -1,8 +1,8 @@
-//! Edits of two strings where an allocation may be refused.
+//! Edits of one string and of two where an allocation may be refused.
 use crate::plain::edit_list;
 use crate::scripts::hold;
 use std::alloc::Global;
-use widestring::edit::{Edit, Reply, Stopped, run_both};
+use widestring::edit::{Edit, Reply, Stopped, run, run_both};
 use widestring::{Utf16String, Utf32String};
 
 const TEXT: &str = "a\u{1f600}b";
@@ -75,6 +75,38 @@ fn stops_alike(alloc: Global) -> bool {
         same_replies.as_slice(),
         done,
     )
+}
+
+// The same of one string. The other makes as many edits afterwards.
+fn stops(alloc: Global) -> bool {
+    let (Ok(mut first), Ok(mut second)) = (
+        Utf16String::from_str(alloc, TEXT),
+        Utf32String::from_str(alloc, TEXT),
+    ) else {
+        return true;
+    };
+    let mut replies = Vec::new(alloc);
+    let mut same_replies = Vec::new(alloc);
+    let done = match run(alloc, &mut first, &EDITS, &mut replies) {
+        Ok(()) => EDITS.len(),
+        Err(Stopped { done }) => done,
+    };
+    let Ok(()) = run(alloc, &mut second, &EDITS[..done], &mut same_replies) else {
+        return true;
+    };
+    are_made(
+        alloc,
+        &first,
+        &second,
+        replies.as_slice(),
+        same_replies.as_slice(),
+        done,
+    )
+}
+
+#[test]
+fn refused_memory_of_run(rt: HostRuntime) {
+    assert!(rt; stops(rt.alloc()));
 }
 
 #[test]
