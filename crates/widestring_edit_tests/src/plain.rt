@@ -1,0 +1,62 @@
+//! Edits of a plain list of characters, by std's calls on vectors alone: the judge of edits of strings.
+use std::alloc::{AllocError, Global};
+use widestring::edit::{Edit, Reply};
+
+// An edit of a place.
+fn edit_at(list: &mut Vec<char>, place: usize, edit: Edit<'_>) -> Result<Reply, AllocError> {
+    if place > list.len() {
+        return Ok(Reply::BadPlace);
+    }
+    match edit {
+        Edit::Insert(_, c) => list.insert(place, c)?,
+        Edit::InsertStr(_, text) => drop(list.splice(place..place, text.chars())?),
+        Edit::SplitOff(_) => return Ok(Reply::Chars(list.split_off(place)?)),
+        _ if place == list.len() => return Ok(Reply::BadPlace),
+        _ => return Ok(Reply::Char(list.remove(place))),
+    }
+    Ok(Reply::Done)
+}
+
+// An edit of a range.
+fn edit_range(
+    alloc: Global,
+    list: &mut Vec<char>,
+    from: usize,
+    to: usize,
+    text: Option<&str>,
+) -> Result<Reply, AllocError> {
+    if from > to || to > list.len() {
+        return Ok(Reply::BadRange);
+    }
+    match text {
+        Some(text) => {
+            drop(list.splice(from..to, text.chars())?);
+            Ok(Reply::Done)
+        }
+        None => Ok(Reply::Chars(list.drain(from..to).collect(alloc)?)),
+    }
+}
+
+// What the edit answers, once it is made of a list of characters.
+pub fn edit_list(alloc: Global, list: &mut Vec<char>, edit: Edit<'_>) -> Result<Reply, AllocError> {
+    match edit {
+        Edit::Push(c) => list.push(c)?,
+        Edit::PushStr(text) => list.extend(text.chars())?,
+        Edit::Pop => {
+            return match list.pop() {
+                Some(c) => Ok(Reply::Char(c)),
+                None => Ok(Reply::NoChar),
+            };
+        }
+        Edit::Truncate(count) => list.truncate(count),
+        Edit::Retain(keep) => list.retain(|c| keep.contains(c)),
+        Edit::Clear => list.clear(),
+        Edit::Drain(from, to) => return edit_range(alloc, list, from, to, None),
+        Edit::Replace(from, to, text) => return edit_range(alloc, list, from, to, Some(text)),
+        Edit::Insert(place, _)
+        | Edit::InsertStr(place, _)
+        | Edit::Remove(place)
+        | Edit::SplitOff(place) => return edit_at(list, place, edit),
+    }
+    Ok(Reply::Done)
+}

@@ -1,0 +1,133 @@
+//! Texts and edits made at random from a seed: the same seed makes the same.
+ghost use Rattle.std.specs.Prelude.{◌<◌, length};
+
+use std::alloc::{AllocError, Global};
+use widestring::edit::Edit;
+
+// Characters of one unit of UTF-16 and of two, of one to four bytes of UTF-8, and the last of each kind.
+const CHARS: [char; 12] = [
+    'a',
+    'b',
+    '\0',
+    '\u{7f}',
+    '\u{e9}',
+    '\u{7ff}',
+    '\u{4e2d}',
+    '\u{e000}',
+    '\u{ffff}',
+    '\u{10000}',
+    '\u{1f600}',
+    '\u{10ffff}',
+];
+
+const TEXTS: [&str; 10] = [
+    "",
+    "a",
+    "\u{1f600}",
+    "\u{e9}\0",
+    "b\u{10ffff}\u{ffff}",
+    "\u{10000}\u{10000}",
+    "a\u{4e2d}\u{1f600}b\u{e000}",
+    "\u{1f600}a\u{1f600}\u{1f600}\u{7ff}\u{7f}\u{10ffff}",
+    "abababababababababababababababab",
+    "\u{1f600}\u{1f600}\u{1f600}\u{1f600}a\u{1f600}\u{1f600}\u{1f600}\u{1f600}\u{1f600}\u{1f600}\u{1f600}\u{1f600}\u{1f600}\u{1f600}\u{1f600}\u{1f600}",
+];
+
+const KEPT: [&[char]; 7] = [
+    &[],
+    &['a'],
+    &['\u{1f600}', 'b', 'a'],
+    &['\u{10000}', '\u{10ffff}', '\u{1f600}'],
+    &[
+        'a', 'b', '\0', '\u{7f}', '\u{e9}', '\u{7ff}', '\u{4e2d}', '\u{e000}', '\u{ffff}',
+    ],
+    &[
+        'a',
+        '\u{e9}',
+        '\u{ffff}',
+        '\u{10000}',
+        '\u{1f600}',
+        '\u{1f600}',
+    ],
+    &CHARS,
+];
+
+// The numbers of an xorshift.
+#[derive(Drop)]
+pub struct Random {
+    state: u64,
+}
+
+impl Random {
+    // The odd factor spreads seeds that are near one another.
+    pub fn new(seed: u64) -> Random {
+        Random {
+            state: seed.wrapping_add(1).wrapping_mul(0x9e37_79b9_7f4a_7c15),
+        }
+    }
+
+    fn next(&mut self) -> u64 {
+        self.state ^= self.state << 13;
+        self.state ^= self.state >> 7;
+        self.state ^= self.state << 17;
+        self.state
+    }
+
+    pub fn below(&mut self, count: usize) -> usize
+        requires { 0 < count }
+        ensures { result < count }
+    {
+        self.next() as usize % count
+    }
+
+    fn pick<T: Copy>(&mut self, items: &[T]) -> T
+        requires { 0 < length items.now }
+    {
+        items[self.below(items.len())]
+    }
+
+    // A place of a list of so many characters, more often than not around an end.
+    fn place(&mut self, count: usize) -> usize {
+        match self.below(10) {
+            0 => 0,
+            1 => count.saturating_sub(1),
+            2 => count,
+            3 => count.saturating_add(1),
+            4 => usize::MAX,
+            _ => self.below(count.saturating_add(1)),
+        }
+    }
+
+    // A text of a few characters, and now and then of up to 150.
+    pub fn text(&mut self, alloc: Global) -> Result<String, AllocError> {
+        let count = match self.below(6) {
+            0 => self.below(151),
+            1 | 2 => self.below(20),
+            _ => self.below(7),
+        };
+        let mut text = String::new(alloc);
+        for _ in 0..count {
+            text.push(self.pick(&CHARS))?;
+        }
+        Ok(text)
+    }
+
+    // An edit of a list of so many characters.
+    pub fn edit(&mut self, count: usize) -> Edit<'static> {
+        let place = self.place(count);
+        match self.below(12) {
+            0 => Edit::Push(self.pick(&CHARS)),
+            1 => Edit::PushStr(self.pick(&TEXTS)),
+            2 => Edit::Pop,
+            3 => Edit::Truncate(place),
+            4 => Edit::Insert(place, self.pick(&CHARS)),
+            5 => Edit::InsertStr(place, self.pick(&TEXTS)),
+            6 => Edit::Remove(place),
+            7 => Edit::Retain(self.pick(&KEPT)),
+            8 => Edit::Drain(place, self.place(count)),
+            9 => Edit::Replace(place, self.place(count), self.pick(&TEXTS)),
+            10 => Edit::SplitOff(place),
+            _ => Edit::Clear,
+        }
+    }
+}

@@ -1,0 +1,133 @@
+//! Scripts of edits made at random, of strings in UTF-16 and in UTF-32 and of a plain list of characters.
+use crate::plain::edit_list;
+use crate::random::Random;
+use std::alloc::Global;
+use widestring::edit::{Edit, Reply, TextEdit, run, run_both};
+use widestring::error::FaultUnit;
+use widestring::utfstring::UtfString;
+use widestring::{Utf16String, Utf32String};
+
+// Whether units of UTF-16 are std's encoding of the characters.
+fn is_utf16(list: &[char], units: &[u16]) -> bool {
+    let mut rest = units;
+    for c in list {
+        match rest.strip_prefix(c.encode_utf16(&mut [0; 2])) {
+            Some(behind) => rest = behind,
+            None => return false,
+        }
+    }
+    rest.is_empty()
+}
+
+// Whether units of UTF-32 are the characters as std numbers them.
+fn is_utf32(list: &[char], units: &[u32]) -> bool {
+    units.len() == list.len() && list.iter().zip(units).all(|(c, unit)| *c as u32 == *unit)
+}
+
+// Whether both strings hold the characters, and count them and their own units.
+pub fn hold(list: &[char], first: &Utf16String, second: &Utf32String) -> bool {
+    is_utf16(list, first.as_slice())
+        & is_utf32(list, second.as_slice())
+        & (TextEdit::char_count(first) == list.len())
+        & (TextEdit::char_count(second) == list.len())
+        & (first.unit_count() == first.len())
+        & (second.unit_count() == second.len())
+}
+
+// The reply to one edit of the list, where both strings give it and hold the same characters.
+fn step(
+    alloc: Global,
+    list: &mut Vec<char>,
+    first: &mut Utf16String,
+    second: &mut Utf32String,
+    edit: Edit<'_>,
+) -> Option<Reply> {
+    let mut replies = Vec::new(alloc);
+    let mut same_replies = Vec::new(alloc);
+    let ran = run_both(
+        alloc,
+        first,
+        second,
+        &[edit],
+        &mut replies,
+        &mut same_replies,
+    );
+    let Ok(wanted) = edit_list(alloc, list, edit) else {
+        return None;
+    };
+    let well = match (replies.as_slice(), same_replies.as_slice()) {
+        ([reply], [same]) => (*reply == wanted) & (*same == wanted),
+        _ => false,
+    };
+    if well & ran.is_ok() & hold(list.as_slice(), first, second) {
+        Some(wanted)
+    } else {
+        None
+    }
+}
+
+// A script of one to eight edits, its replies and the characters that it leaves.
+#[derive(Drop)]
+struct Script {
+    edits: Vec<Edit<'static>>,
+    replies: Vec<Reply>,
+    list: Vec<char>,
+}
+
+// The script of a text, where each edit does the same to the strings and to the list.
+fn made(alloc: Global, random: &mut Random, text: &str) -> Option<Script> {
+    let mut first = Utf16String::from_str(alloc, text).ok()?;
+    let mut second = Utf32String::from_str(alloc, text).ok()?;
+    let mut list = text.chars().collect::<Vec<char>>(alloc).ok()?;
+    let mut edits = Vec::new(alloc);
+    let mut replies = Vec::new(alloc);
+    for _ in 0..=random.below(8) {
+        let edit = random.edit(list.len());
+        edits.push(edit).ok()?;
+        replies
+            .push(step(alloc, &mut list, &mut first, &mut second, edit)?)
+            .ok()?;
+    }
+    Some(Script {
+        edits,
+        replies,
+        list,
+    })
+}
+
+// The string that one call makes of a text, where its replies are those of the script.
+fn run_whole<C: FaultUnit>(alloc: Global, text: &str, script: &Script) -> Option<UtfString<C>> {
+    let mut string = UtfString::<C>::from_str(alloc, text).ok()?;
+    let mut replies = Vec::new(alloc);
+    let ran = run(alloc, &mut string, script.edits.as_slice(), &mut replies);
+    if ran.is_ok() && replies.as_slice() == script.replies.as_slice() {
+        Some(string)
+    } else {
+        None
+    }
+}
+
+// Whether a script made at random does the same to the strings and to the list, edit by edit and in one call.
+fn agrees(alloc: Global, seed: u64) -> bool {
+    let mut random = Random::new(seed);
+    let Ok(text) = random.text(alloc) else {
+        return false;
+    };
+    let Some(script) = made(alloc, &mut random, text.as_str()) else {
+        return false;
+    };
+    match (
+        run_whole::<u16>(alloc, text.as_str(), &script),
+        run_whole::<u32>(alloc, text.as_str(), &script),
+    ) {
+        (Some(first), Some(second)) => hold(script.list.as_slice(), &first, &second),
+        _ => false,
+    }
+}
+
+#[test]
+fn random_scripts(rt: HostRuntime) {
+    for seed in 0..20_000 {
+        assert!(rt; agrees(rt.alloc(), seed), "the script of seed {seed}");
+    }
+}
