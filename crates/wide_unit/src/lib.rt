@@ -19,6 +19,7 @@ mod utf8;
 mod validation;
 
 pub use compare::{order_of_units, same_units};
+pub use lanes::{first_no_scalar, first_surrogate};
 pub use line::split_line;
 pub use nul::first_nul;
 pub use print::write_escape;

@@ -2,6 +2,8 @@
 #![tactic(auto)]
 
 #[cfg(test)]
+mod marked_rows;
+#[cfg(test)]
 mod plain;
 #[cfg(test)]
 mod random;

@@ -1,55 +1,45 @@
 //! Edits of one string and of two where an allocation may be refused.
 use crate::plain::edit_list;
-use crate::scripts::hold;
+use crate::scripts::{hold, hold_marked};
 use std::alloc::Global;
-use widestring::edit::{Edit, Reply, Stopped, run, run_both};
+use widestring::edit::{Edit, Marked16, Reply, Stopped, run, run_both};
 use widestring::{Utf16String, Utf32String};
 
-const TEXT: &str = "a\u{1f600}b";
+// Long enough for a mark.
+const TEXT: &str =
+    "a\u{1f600}b0123456789012345678901234567890123456789012345678901234567890123456789";
 
 const EDITS: [Edit<'static>; 8] = [
     Edit::Insert(2, '\u{e9}'),
     Edit::Remove(1),
-    Edit::Truncate(9),
-    Edit::Insert(7, 'x'),
+    Edit::Truncate(99),
+    Edit::Insert(77, 'x'),
     Edit::Replace(0, 2, "\u{24b62}"),
     Edit::PushStr("\u{1f600}cd\u{1f600}"),
     Edit::Drain(1, 3),
     Edit::SplitOff(1),
 ];
 
-// Whether both strings and all replies are those of the first `done` edits. Where the list that tells them finds no memory there is
-// nothing to compare: a run refuses one allocation, and that was not one of the edits.
-fn are_made(
-    alloc: Global,
-    first: &Utf16String,
-    second: &Utf32String,
-    replies: &[Reply],
-    same_replies: &[Reply],
-    done: usize,
-) -> bool {
-    let mut list = Vec::new(alloc);
-    let Ok(()) = list.extend(TEXT.chars()) else {
-        return true;
-    };
-    let mut wanted = Vec::new(alloc);
+// The characters of the text after the first `done` edits and their replies. None where there is no memory for them: a run refuses
+// one allocation, and that was not one of the edits.
+fn plain(alloc: Global, done: usize) -> Option<(Vec<char>, Vec<Reply>)> {
+    let mut list = TEXT.chars().collect::<Vec<char>>(alloc).ok()?;
+    let mut replies = Vec::new(alloc);
     for edit in EDITS.iter().take(done) {
-        let Ok(reply) = edit_list(alloc, &mut list, *edit) else {
-            return true;
-        };
-        let Ok(()) = wanted.push(reply) else {
-            return true;
-        };
+        let reply = edit_list(alloc, &mut list, *edit).ok()?;
+        replies.push(reply).ok()?;
     }
-    (replies == wanted.as_slice())
-        & (same_replies == wanted.as_slice())
-        & hold(list.as_slice(), first, second)
+    Some((list, replies))
 }
 
-// The same of a run that an allocation may stop. Where there is no memory for the strings themselves, there are no edits.
+// A string with kept marks and one in UTF-32, edited in lockstep until an allocation stops them, hold what the plain list does.
+// Where there is no memory for the strings themselves, there are no edits.
 fn stops_alike(alloc: Global) -> bool {
+    let Ok(string) = Utf16String::from_str(alloc, TEXT) else {
+        return true;
+    };
     let (Ok(mut first), Ok(mut second)) = (
-        Utf16String::from_str(alloc, TEXT),
+        Marked16::new(alloc, string),
         Utf32String::from_str(alloc, TEXT),
     ) else {
         return true;
@@ -67,17 +57,13 @@ fn stops_alike(alloc: Global) -> bool {
         Ok(()) => EDITS.len(),
         Err(Stopped { done }) => done,
     };
-    are_made(
-        alloc,
-        &first,
-        &second,
-        replies.as_slice(),
-        same_replies.as_slice(),
-        done,
-    )
+    let Some((list, wanted)) = plain(alloc, done) else {
+        return true;
+    };
+    (replies == wanted) & (same_replies == wanted) & hold_marked(list.as_slice(), &first, &second)
 }
 
-// The same of one string. The other makes as many edits afterwards.
+// The same of one string without marks. The other makes as many edits afterwards.
 fn stops(alloc: Global) -> bool {
     let (Ok(mut first), Ok(mut second)) = (
         Utf16String::from_str(alloc, TEXT),
@@ -94,14 +80,10 @@ fn stops(alloc: Global) -> bool {
     let Ok(()) = run(alloc, &mut second, &EDITS[..done], &mut same_replies) else {
         return true;
     };
-    are_made(
-        alloc,
-        &first,
-        &second,
-        replies.as_slice(),
-        same_replies.as_slice(),
-        done,
-    )
+    let Some((list, wanted)) = plain(alloc, done) else {
+        return true;
+    };
+    (replies == wanted) & (same_replies == wanted) & hold(list.as_slice(), &first, &second)
 }
 
 #[test]

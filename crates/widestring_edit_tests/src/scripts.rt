@@ -2,7 +2,7 @@
 use crate::plain::edit_list;
 use crate::random::Random;
 use std::alloc::Global;
-use widestring::edit::{Edit, Reply, TextEdit, run, run_both};
+use widestring::edit::{Edit, Marked16, Reply, Steps, TextEdit, run, run_both};
 use widestring::error::FaultUnit;
 use widestring::utfstring::UtfString;
 use widestring::{Utf16String, Utf32String};
@@ -24,6 +24,19 @@ fn is_utf32(list: &[char], units: &[u32]) -> bool {
     units.len() == list.len() && list.iter().zip(units).all(|(c, unit)| *c as u32 == *unit)
 }
 
+// Whether the marks are those of each sixty-fourth character, by std's lengths.
+fn are_marks(list: &[char], marks: &[usize]) -> bool {
+    let mut units = 0usize;
+    let mut rest = marks.iter();
+    for (place, c) in list.iter().enumerate() {
+        units = units.saturating_add(c.len_utf16());
+        if place % 64 == 63 && rest.next() != Some(&units) {
+            return false;
+        }
+    }
+    rest.next().is_none()
+}
+
 // Whether both strings hold the characters, and count them and their own units.
 pub fn hold(list: &[char], first: &Utf16String, second: &Utf32String) -> bool {
     is_utf16(list, first.as_slice())
@@ -34,11 +47,25 @@ pub fn hold(list: &[char], first: &Utf16String, second: &Utf32String) -> bool {
         & (second.unit_count() == second.len())
 }
 
-// The reply to one edit of the list, where both strings give it and hold the same characters.
+// The same of a string with kept marks, which find the end, the middle and no place past the end.
+pub fn hold_marked(list: &[char], first: &Marked16, second: &Utf32String) -> bool {
+    let units = first.as_utfstr();
+    let mut well = is_utf16(list, units.as_slice()) & is_utf32(list, second.as_slice());
+    well &= are_marks(list, first.marks());
+    well &= TextEdit::char_count(first) == list.len();
+    well &= first.unit_count() == units.len();
+    let mut steps = Steps::new();
+    for index in [0, list.len() / 2, list.len(), list.len().saturating_add(1)] {
+        well &= first.unit_offset(index, &mut steps) == units.unit_offset(index);
+    }
+    well
+}
+
+// The reply to one edit of the list, where both strings give it and hold the same characters, one of them with kept marks.
 fn step(
     alloc: Global,
     list: &mut Vec<char>,
-    first: &mut Utf16String,
+    first: &mut Marked16,
     second: &mut Utf32String,
     edit: Edit<'_>,
 ) -> Option<Reply> {
@@ -59,7 +86,7 @@ fn step(
         ([reply], [same]) => (*reply == wanted) & (*same == wanted),
         _ => false,
     };
-    if well & ran.is_ok() & hold(list.as_slice(), first, second) {
+    if well & ran.is_ok() & hold_marked(list.as_slice(), first, second) {
         Some(wanted)
     } else {
         None
@@ -76,7 +103,7 @@ struct Script {
 
 // The script of a text, where each edit does the same to the strings and to the list.
 fn made(alloc: Global, random: &mut Random, text: &str) -> Option<Script> {
-    let mut first = Utf16String::from_str(alloc, text).ok()?;
+    let mut first = Marked16::new(alloc, Utf16String::from_str(alloc, text).ok()?).ok()?;
     let mut second = Utf32String::from_str(alloc, text).ok()?;
     let mut list = text.chars().collect::<Vec<char>>(alloc).ok()?;
     let mut edits = Vec::new(alloc);
