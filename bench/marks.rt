@@ -37,12 +37,12 @@ fn main(rt: HostRuntime) -> io::Result<()> {
     for lookup in 0..LOOKUPS {
         let index = place(lookup);
         let offset = view.unit_offset(index).unwrap_or(0);
-        let mark = match index / 64 {
-            0 => 0,
-            number => marks[number - 1],
+        let mark = match (index / 64).checked_sub(1) {
+            Some(number) => marks.get(number).copied().unwrap_or(0),
+            None => 0,
         };
-        read += offset;
-        read_by_marks += offset - mark;
+        read = read.saturating_add(offset);
+        read_by_marks = read_by_marks.saturating_add(offset.saturating_sub(mark));
     }
     let begun = Instant::now(&rt)?;
     let mut sum = 0usize;
@@ -53,12 +53,12 @@ fn main(rt: HostRuntime) -> io::Result<()> {
     let begun = Instant::now(&rt)?;
     let mut same = 0usize;
     let mut steps = Steps::new();
-    for lookup in 0..LOOKUPS * 1_000 {
-        same = same.wrapping_add(marked.unit_offset(place(lookup % LOOKUPS), &mut steps).unwrap_or(0));
+    for lookup in 0..LOOKUPS {
+        same = same.wrapping_add(marked.unit_offset(place(lookup), &mut steps).unwrap_or(0));
     }
     let by_marks = begun.elapsed(&rt)?;
-    println!(rt; "from the front: {} ns, {} units a lookup", from_the_front.as_nanos() as usize / LOOKUPS, read / LOOKUPS)?;
-    println!(rt; "by marks: {} ns, {} units a lookup", by_marks.as_nanos() as usize / LOOKUPS / 1_000, read_by_marks / LOOKUPS)?;
-    println!(rt; "the same offsets: {}", same == sum.wrapping_mul(1_000))?;
+    println!(rt; "a thousand from the front: {from_the_front:?}, {} units each", read / LOOKUPS)?;
+    println!(rt; "a thousand by marks: {by_marks:?}, {} units each", read_by_marks / LOOKUPS)?;
+    println!(rt; "the same offsets: {}", same == sum)?;
     Ok(())
 }
