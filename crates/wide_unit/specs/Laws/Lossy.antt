@@ -14,7 +14,7 @@ use Rattle.wide_unit.specs.Laws.Items.{items-chain, chars-of_well_formed, encode
 use Rattle.wide_unit.specs.Laws.Ends.{items-append_left}
 use Rattle.wide_unit.specs.Laws.Places.{IsWellFormed-encode}
 
-lossy-chars : (cs : List ℕ) → lossy (map Char cs) ≡ cs
+pub lossy-chars : (cs : List ℕ) → lossy (map Char cs) ≡ cs
 lossy-chars [] = refl
 lossy-chars (c ∷ cs) = ap (λ xs. c ∷ xs) (lossy-chars cs)
 
