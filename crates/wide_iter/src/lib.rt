@@ -10,6 +10,7 @@ mod ends;
 mod hints;
 mod lossy;
 mod lossy_decoders;
+mod lossy_ends;
 mod lossy_with;
 mod source;
 
@@ -23,3 +24,4 @@ pub use lossy::{DecodeUtf16Lossy, DecodeUtf32Lossy, decode_utf16_lossy, decode_u
 pub use lossy_decoders::{
     DecodeUtf16LossyWith, DecodeUtf32LossyWith, decode_utf16_lossy_with, decode_utf32_lossy_with,
 };
+pub use lossy_ends::{read_lossy_ends16, read_lossy_ends32};
