@@ -1,15 +1,18 @@
 -- Lossy text under a policy: of joined lists, at both ends, and of text.
-use Rattle.std.proofs.Common.{◌≡◌, ℕ, ◌≤◌, suc, zero, length, length-append, List, [], ◌∷◌, ◌++◌, refl, ◌∙◌, ap, arith}
+use Rattle.std.proofs.Common.{◌≡◌, ℕ, ◌≤◌, suc, zero, length, length-append, List, [], ◌∷◌, ◌++◌, refl, sym, ◌∙◌, ap, arith}
 use Rattle.std.specs.Prelude.{map}
 use Rattle.std.specs.Char.{IsScalar}
 use Rattle.std.specs.List.{All}
 use Rattle.std.proofs.lemmas.List.{map-append}
+use Rattle.std.proofs.lemmas.List.Concat.{flat_map-append}
 use Rattle.wide_unit.specs.EncodingForm.{EncodingForm, Utf16, Utf32, code_units, encode}
 use Rattle.wide_unit.specs.Segmentation.{Item, Char, Fault, units_of}
 use Rattle.wide_unit.specs.Items.{items, IsWellFormed, characters, chars}
 use Rattle.wide_unit.specs.Lossy.{lossy, lossy_char, lossy_runs, lossy_by, past_faults}
 use Rattle.wide_unit.specs.Laws.Chains.{Chain}
 use Rattle.wide_unit.specs.Laws.Items.{items-chain, chars-of_well_formed, encode-of_items, items-encode, units_of-items}
+use Rattle.wide_unit.specs.Laws.Ends.{items-append_left}
+use Rattle.wide_unit.specs.Laws.Places.{IsWellFormed-encode}
 use Rattle.wide_unit.specs.Laws.Lossy.{lossy-chars, scalars-lossy}
 use Rattle.wide_unit.specs.declared.policy.Policy.{Policy}
 use Rattle.wide_unit.specs.declared.policy.Policy.TheVariants.{Each, Run, Skip}
@@ -90,6 +93,30 @@ lossy_by-well_formed policy form us well = ap (lossy_by policy) (chars-of_well_f
 
 pub encode-lossy_by : (policy : Policy) (form : EncodingForm) (us : List ℕ) → IsWellFormed form us → encode form (lossy_by policy (items form us)) ≡ us
 encode-lossy_by policy form us well = ap (λ cs. encode form cs) (lossy_by-well_formed policy form us well) ∙ encode-of_items form (chars form us) us (chars-of_well_formed form us well)
+
+pub well_formed-lossy_by : (policy : Policy) (form : EncodingForm) (us : List ℕ) → IsWellFormed form (encode form (lossy_by policy (items form us)))
+well_formed-lossy_by policy form us = IsWellFormed-encode form (lossy_by policy (items form us)) (scalars-lossy_by policy form us)
+
+-- behind characters, which stay as they are
+behind-chars : (policy : Policy) (cs : List ℕ) (is : List Item) → lossy_by policy (map Char cs ++ is) ≡ cs ++ lossy_by policy is
+behind-chars policy [] is = refl
+behind-chars Each (c ∷ cs) is = ap (λ l. c ∷ l) (behind-chars Each cs is)
+behind-chars Run (c ∷ cs) is = ap (λ l. c ∷ l) (behind-chars Run cs is)
+behind-chars Skip (c ∷ cs) is = ap (λ l. c ∷ l) (behind-chars Skip cs is)
+
+-- the lossy text of units by their numbers, of which the first are well formed and stay as they are
+pub lossy_by-split : {C : Type 0} (policy : Policy) (form : EncodingForm) (number : C → ℕ) (units front back : List C) → front ++ back ≡ units → IsWellFormed form (map number front)
+    → map number front ++ encode form (lossy_by policy (items form (map number back))) ≡ encode form (lossy_by policy (items form (map number units)))
+lossy_by-split policy form number units front back e well =
+    let a = map number front in
+    let b = map number back in
+    let cs = chars form a in
+    let left = lossy_by policy (items form b) in
+    let joined : items form (map number units) ≡ map Char cs ++ items form b =
+    ap (λ us. items form (map number us)) (sym e) ∙ ap (items form) (map-append number front back) ∙ items-append_left form a b well ∙ ap (λ is. is ++ items form b) (chars-of_well_formed form a well)
+    in
+    sym (ap (λ is. encode form (lossy_by policy is)) joined ∙ ap (encode form) (behind-chars policy cs (items form b)) ∙ flat_map-append (code_units form) cs left
+    ∙ ap (λ us. us ++ encode form left) (encode-of_items form cs a (chars-of_well_formed form a well)))
 
 -- twice is once
 pub lossy_by-twice : (policy : Policy) (form : EncodingForm) (us : List ℕ) → lossy_by policy (items form (encode form (lossy_by policy (items form us)))) ≡ lossy_by policy (items form us)
