@@ -2,12 +2,17 @@
 //! the UTF-8 text of a source of UTF-16 into a sink.
 #![tactic(auto)]
 
+mod blocks;
 mod devices;
+mod holding;
 pub mod laws;
+mod lossy;
 mod mode;
 mod moving;
+mod narrow;
 mod order;
-mod text;
+mod pieces;
+mod steps;
 mod transcoding;
 mod units;
 

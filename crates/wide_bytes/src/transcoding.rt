@@ -1,14 +1,16 @@
 //! UTF-16 bytes in, UTF-8 bytes out.
 
 ghost use Rattle.std.specs.Prelude.{◌≡◌, ℕ, List, false};
+ghost use Rattle.wide_bytes.specs.Bytes.{units_of_bytes};
+ghost use Rattle.wide_bytes.specs.Pieces.{WantsRoom};
 ghost use Rattle.wide_bytes.specs.Run.{AtEnd, Ends, Moves, fails_to_read, fails_to_write};
 ghost use Rattle.wide_bytes.specs.Transcoded.{transcoded};
 
 use crate::devices::{ByteSink, ByteSource};
 use crate::mode::Mode;
-use crate::moving::{put_all, take_all};
-use crate::text::{push_characters, push_lossy_characters};
-use std::alloc::Global;
+use crate::order::{BoM, byte_order};
+use crate::pieces::{PIECE, take_start, to_front, transcode_behind};
+use crate::units::without_mark;
 use wide_error::TranscodeError;
 
 /// Reads UTF-16 bytes from the source to its end and writes their text into the sink, in UTF-8
@@ -18,6 +20,10 @@ use wide_error::TranscodeError;
 /// zero unit at the end is dropped, where the number of bytes is even; both are the Rust crate's rules for files. In
 /// [`Mode::Strict`] the characters before the first fault are written, in [`Mode::Lossy`] all of them, with U+FFFD in the place of
 /// each fault.
+///
+/// The source is read in pieces of at most 4,096 bytes, and no memory is asked for. A fault is told as soon as it is certain by whole
+/// units, before another read. The text of a piece is written before the next one is read; what may still become another character,
+/// and a zero unit that may be the last, waits for it.
 ///
 /// The source must not have failed or ended, and the sink must not have failed. No read or write that failed is tried
 /// again, and the sink isn't flushed.
@@ -29,9 +35,8 @@ use wide_error::TranscodeError;
 /// - [`TranscodeError::OddLength`]: the number of bytes is odd. The text of the whole units is written.
 /// - [`TranscodeError::Read`] and [`TranscodeError::Write`]: the source, or the sink, failed in this call. What was
 ///   written is a beginning of the text of the bytes that were read.
-/// - [`TranscodeError::OutOfMemory`]: memory was refused; what was written is a beginning of the text.
+/// - [`TranscodeError::OutOfMemory`]: there are more units than have an index; what was written is a beginning of the text.
 pub fn transcode<S: ByteSource, K: ByteSink>(
-    alloc: Global,
     source: &mut S,
     sink: &mut K,
     mode: Mode,
@@ -43,29 +48,26 @@ pub fn transcode<S: ByteSource, K: ByteSink>(
     // The bytes that went in, those that came out, and how it ended.
     ensures run { (bytes written : List ℕ)
         × Moves (S.left source.old) (S.left source.new) (K.held sink.old) (K.held sink.new) bytes written
-        × Ends result (S.has_ended source.new) (transcoded mode) bytes written }
+        × Ends result (S.has_ended source.new) (transcoded mode) bytes written
+        × WantsRoom result (units_of_bytes bytes) }
     ensures at_end { AtEnd result (S.left source.new) }
 
     // A device has failed exactly where its fault is the answer.
     ensures source_failed { S.has_failed source.new ≡ fails_to_read result }
     ensures sink_failed { K.has_failed sink.new ≡ fails_to_write result }
 {
-    let mut bytes = Vec::new(alloc);
-    take_all(source, &mut bytes)?;
-    let mut text = String::new(alloc);
-    let fault = match mode {
-        Mode::Strict => push_characters(&mut text, &bytes)?,
-        Mode::Lossy => {
-            push_lossy_characters(&mut text, &bytes)?;
-            None
-        }
-    };
-    put_all(sink, text.as_bytes())?;
-    if let Some((index, unit)) = fault {
-        return Err(TranscodeError::Utf16 { index, unit });
+    let mut piece = [0u8; PIECE];
+    let held = take_start(source, &mut piece)?;
+    if held < 2 {
+        return if held == 0 {
+            Ok(())
+        } else {
+            Err(TranscodeError::OddLength)
+        };
     }
-    if bytes.len() % 2 == 1 {
-        return Err(TranscodeError::OddLength);
-    }
-    Ok(())
+    let mark = byte_order(&piece[..held]);
+    let order = mark.unwrap_or(BoM::Little);
+    let len = without_mark(&piece[..held]).len();
+    to_front(&mut piece, held - len, held);
+    transcode_behind(order, source, sink, &mut piece, len, mode)
 }

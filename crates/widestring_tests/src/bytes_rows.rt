@@ -129,7 +129,7 @@ fn runs(rt: HostRuntime) {
         unit: 0xdc00,
     };
     let rows = [
-        transcode(rt.alloc(), &mut source, &mut sink, Mode::Strict) == Err(unpaired),
+        transcode(&mut source, &mut sink, Mode::Strict) == Err(unpaired),
         sink.into_inner().as_slice() == b"a".as_slice(),
     ];
     all_hold(&rt, &rows);

@@ -22,7 +22,7 @@ pub fn text_of(alloc: Global, bytes: &[u8]) -> Result<Vec<u8>, TranscodeError>
 {
     let mut source = FromRead::new(bytes);
     let mut sink = FromWrite::new(Vec::new(alloc));
-    transcode(alloc, &mut source, &mut sink, Mode::Strict)?;
+    transcode(&mut source, &mut sink, Mode::Strict)?;
     Ok(sink.into_inner())
 }
 

@@ -20,6 +20,8 @@ mod iter_rows;
 #[cfg(test)]
 mod paths;
 #[cfg(test)]
+mod piece_rows;
+#[cfg(test)]
 mod readme;
 #[cfg(test)]
 mod rows;

@@ -22,7 +22,7 @@ fn decoding(rt: HostRuntime) {
 fn transcoding(rt: HostRuntime) -> Result<(), Fail> {
     let mut source = FromRead::new(b"\xff\xfe\x3d\xd8\x00\xde".as_slice());
     let mut sink = FromWrite::new(Vec::new(rt.alloc()));
-    transcode(rt.alloc(), &mut source, &mut sink, Mode::Strict)?;
+    transcode(&mut source, &mut sink, Mode::Strict)?;
     assert_eq!(rt; sink.into_inner().as_slice(), "😀".as_bytes());
     Ok(())
 }

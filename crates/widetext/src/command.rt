@@ -136,7 +136,7 @@ pub fn command<S: ByteSource, K: ByteSink, F: ByteSink>(
         }
     };
     let answer = match request {
-        Request::Utf8(mode) => transcode(alloc, source, sink, mode),
+        Request::Utf8(mode) => transcode(source, sink, mode),
         Request::Ends { units, ends } => write_answers(alloc, sink, &units, &ends),
         Request::Edit { text, edits } => write_edits(alloc, sink, text, &edits),
     };

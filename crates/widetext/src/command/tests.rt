@@ -325,22 +325,31 @@ fn slow_devices(rt: HostRuntime) {
     }
 }
 
-// Whether a source that fails after this many calls ends the run, and isn't asked again.
-fn ends_at_source(alloc: Global, row: Row, calls: usize) -> Result<bool, AllocError> {
+// How many calls a row makes of a source that gives a byte a call.
+fn takes_of(alloc: Global, row: Row) -> Result<usize, AllocError> {
+    let (words, input, ..) = row;
+    let sink = SlowSink::whole(alloc, 1);
+    let said = SlowSink::whole(alloc, 9);
+    let ran = run(alloc, words, Slow::new(input, 1, 0), sink, said)?;
+    Ok(ran.source.calls)
+}
+
+// Whether a source that fails at this call ends the run, and isn't asked again.
+fn ends_at_source(alloc: Global, row: Row, fails_at: usize) -> Result<bool, AllocError> {
     let (words, input, text, _, _) = row;
-    let fails_at = calls.saturating_add(1);
     let sink = SlowSink::whole(alloc, 1);
     let said = SlowSink::whole(alloc, 9);
     let ran = run(alloc, words, Slow::new(input, 1, fails_at), sink, said)?;
     Ok(ran.is_refused(b"read fault\n", text) & (ran.source.calls == fails_at))
 }
 
-// The same at each call: one take for each byte, and one that answers the end.
+// The same at each call: one take for each byte and one that answers the end, or none behind the bytes that make a fault certain.
 fn ends_at_each_take(alloc: Global, row: Row) -> Result<bool, AllocError> {
-    let (_, input, ..) = row;
-    let mut well = ends_at_source(alloc, row, input.len())?;
-    for calls in 0..input.len() {
-        well &= ends_at_source(alloc, row, calls)?;
+    let takes = takes_of(alloc, row)?;
+    let all = row.1.len().saturating_add(1);
+    let mut well = takes == all || takes < all && row.3.starts_with("unpaired");
+    for before in 0..takes {
+        well &= ends_at_source(alloc, row, before.saturating_add(1))?;
     }
     Ok(well)
 }

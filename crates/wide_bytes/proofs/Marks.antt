@@ -1,0 +1,135 @@
+-- Bytes that begin with two known ones, by what stands behind the mark.
+use Rattle.std.proofs.Common.{◌≡◌, ℕ, ◌-◌, ◌%◌, ◌≤◌, Bool, true, false, eqb, cond, inl, inr, List, [], ◌∷◌, ◌++◌, Option, None, length, drop, refl, sym, ap, ◌∙◌, subst, arith, length-append, length-drop, append_assoc}
+use Rattle.std.specs.Prelude.{Result, Ok, Err, is_some, unwrap_or}
+use Rattle.wide_unit.specs.EncodingForm.{Utf16}
+use Rattle.wide_unit.specs.Items.{items, leading_characters, first_fault}
+use Rattle.wide_unit.specs.Lossy.{lossy}
+use Rattle.wide_unit.specs.Utf8.{utf8}
+use Rattle.wide_unit.specs.Laws.Items.{items-nil}
+use Rattle.wide_bytes.specs.Bytes.{mark_of, order_of, without_mark, without_last_zero, units_in, units_of_bytes, is_odd}
+use Rattle.wide_bytes.specs.Transcoded.{Transcoded, Clean, HalfUnit, transcoded, ending_of}
+use Rattle.wide_bytes.specs.Run.{Ends}
+use Rattle.wide_bytes.specs.Pieces.{units_behind, transcoded_behind, WantsRoom, Starts}
+use Rattle.wide_bytes.specs.declared.order.BoM.{BoM}
+use Rattle.wide_bytes.specs.declared.order.BoM.TheVariants.{Little}
+use Rattle.wide_bytes.specs.declared.mode.Mode.{Mode}
+use Rattle.wide_bytes.specs.declared.mode.Mode.TheVariants.{Strict, Lossy}
+use Rattle.wide_bytes.proofs.Pairs.{units_in-short}
+use Rattle.wide_error.specs.declared.error.TranscodeError.{TranscodeError}
+use Rattle.wide_error.specs.declared.error.TranscodeError.TheVariants.{Utf16 as Utf16Fault, OutOfMemory, OddLength, Read, Write}
+
+-- what is behind the mark
+pub mark-shorter : (bytes : List ℕ) → length (without_mark bytes) ≤ length bytes
+mark-shorter bytes = elim (is_some (mark_of bytes)) as (λ t. length (cond t (drop 2 bytes) bytes) ≤ length bytes) [ true ↦ omega (arith, length-drop 2 bytes) | false ↦ omega arith ]
+
+same-mark : (first more : List ℕ) → 2 ≤ length first → mark_of (first ++ more) ≡ mark_of first
+same-mark [] more long = absurd (omega arith)
+same-mark (a ∷ []) more long = absurd (omega arith)
+same-mark (a ∷ b ∷ first) more long = refl
+
+same-rest : (first more : List ℕ) → 2 ≤ length first → without_mark (first ++ more) ≡ without_mark first ++ more
+same-rest [] more long = absurd (omega arith)
+same-rest (a ∷ []) more long = absurd (omega arith)
+same-rest (a ∷ b ∷ first) more long =
+    elim (is_some (mark_of (a ∷ b ∷ first))) as (λ t. cond t (first ++ more) (a ∷ b ∷ first ++ more) ≡ cond t first (a ∷ b ∷ first) ++ more) [ true ↦ refl | false ↦ refl ]
+
+same-parity : (bytes : List ℕ) → 2 ≤ length bytes → is_odd (without_mark bytes) ≡ is_odd bytes
+same-parity [] long = absurd (omega arith)
+same-parity (a ∷ []) long = absurd (omega arith)
+same-parity (a ∷ b ∷ bytes) long =
+    elim (is_some (mark_of (a ∷ b ∷ bytes))) as (λ t. eqb (length (cond t bytes (a ∷ b ∷ bytes)) % 2) 1 ≡ eqb (length (a ∷ b ∷ bytes) % 2) 1) [ true ↦ (let e : length bytes % 2 ≡ length (a ∷ b ∷ bytes) % 2 = omega arith in ap (λ n. eqb n 1) e) | false ↦ refl ]
+
+units-behind : (bytes : List ℕ) → 2 ≤ length bytes → units_of_bytes bytes ≡ units_behind (order_of bytes) (without_mark bytes)
+unfolding units_of_bytes
+units-behind bytes long =
+    let units = units_in (order_of bytes) (without_mark bytes) in
+    ap (λ t. cond t units (without_last_zero units)) (sym (same-parity bytes long))
+
+abbrev told : List ℕ → Bool → Transcoded
+told us t = record { text = utf8 (leading_characters (items Utf16 us)); ending = ending_of (first_fault Utf16 (items Utf16 us)) t }
+
+abbrev pub told_lossy : List ℕ → Bool → Transcoded
+told_lossy us t = record { text = utf8 (lossy (items Utf16 us)); ending = ending_of None t }
+
+behind-mark : (mode : Mode) (bytes : List ℕ) → 2 ≤ length bytes → transcoded mode bytes ≡ transcoded_behind (order_of bytes) mode (without_mark bytes)
+behind-mark Strict bytes long =
+    ap (λ us. told us (is_odd bytes)) (units-behind bytes long) ∙ ap (λ t. told (units_behind (order_of bytes) (without_mark bytes)) t) (sym (same-parity bytes long))
+behind-mark Lossy bytes long =
+    ap (λ us. told_lossy us (is_odd bytes)) (units-behind bytes long) ∙ ap (λ t. told_lossy (units_behind (order_of bytes) (without_mark bytes)) t) (sym (same-parity bytes long))
+
+module _ (first : List ℕ) (long : 2 ≤ length first) (order : BoM) (in_order : order ≡ order_of first) (rest : List ℕ) (is_rest : rest ≡ without_mark first) where
+  order-of : (more : List ℕ) → order_of (first ++ more) ≡ order
+  order-of more = ap (λ m. unwrap_or m Little) (same-mark first more long) ∙ sym in_order
+
+  rest-of : (more : List ℕ) → without_mark (first ++ more) ≡ rest ++ more
+  rest-of more = same-rest first more long ∙ ap (λ bs. bs ++ more) (sym is_rest)
+
+  longer : (more : List ℕ) → 2 ≤ length (first ++ more)
+  longer more = omega (arith, length-append first more)
+
+  pub by-rest : (mode : Mode) (more : List ℕ) → transcoded_behind order mode (rest ++ more) ≡ transcoded mode (first ++ more)
+  by-rest mode more = sym (behind-mark mode (first ++ more) (longer more) ∙ ap (λ o. transcoded_behind o mode (without_mark (first ++ more))) (order-of more) ∙ ap (λ bs. transcoded_behind order mode bs) (rest-of more))
+
+  units-by-rest : (more : List ℕ) → units_behind order (rest ++ more) ≡ units_of_bytes (first ++ more)
+  units-by-rest more = sym (units-behind (first ++ more) (longer more) ∙ ap (λ o. units_behind o (without_mark (first ++ more))) (order-of more) ∙ ap (λ bs. units_behind order bs) (rest-of more))
+
+  pub ends-by-rest : {T : Type 0} (r : Result T TranscodeError) (ended : Bool) (mode : Mode) (bytes written : List ℕ) → Ends r ended (λ more. transcoded_behind order mode (rest ++ more)) bytes written → Ends r ended (transcoded mode) (first ++ bytes) written
+  ends-by-rest (Ok u) ended mode bytes written e = (e.0, sym (by-rest mode bytes) ∙ e.1)
+  ends-by-rest (Err OddLength) ended mode bytes written e = (e.0, sym (by-rest mode bytes) ∙ e.1)
+  ends-by-rest (Err (Utf16Fault index unit)) ended mode bytes written (e, inl over) = (sym (by-rest mode bytes) ∙ e, inl over)
+  ends-by-rest (Err (Utf16Fault index unit)) ended mode bytes written (e, inr same) =
+      (sym (by-rest mode bytes) ∙ e, inr (λ more. ap (λ bs. transcoded mode bs) (append_assoc first bytes more) ∙ sym (by-rest mode (bytes ++ more)) ∙ same more ∙ by-rest mode bytes))
+  ends-by-rest (Err OutOfMemory) ended mode bytes written e = (e.0, ap (λ t. t.text) (sym (by-rest mode bytes)) ∙ e.1)
+  ends-by-rest (Err Read) ended mode bytes written e = (e.0, ap (λ t. t.text) (sym (by-rest mode bytes)) ∙ e.1)
+  ends-by-rest (Err Write) ended mode bytes written e = (e.0, ap (λ t. t.text) (sym (by-rest mode bytes)) ∙ e.1)
+
+  pub room-by-rest : {T : Type 0} (r : Result T TranscodeError) (bytes : List ℕ) → WantsRoom r (units_behind order (rest ++ bytes)) → WantsRoom r (units_of_bytes (first ++ bytes))
+  room-by-rest r bytes h = subst (λ us. WantsRoom r us) (units-by-rest bytes) h
+
+-- ---- fewer than two bytes
+
+none-units : units_of_bytes [] ≡ []
+unfolding units_of_bytes units_in
+none-units = refl
+
+half-units : (a : ℕ) → units_of_bytes (a ∷ []) ≡ []
+unfolding units_of_bytes
+half-units a = units_in-short (order_of (a ∷ [])) (without_mark (a ∷ [])) (omega (arith, mark-shorter (a ∷ [])))
+
+no-units : (us : List ℕ) (t : Bool) → us ≡ [] → items Utf16 us ≡ []
+no-units us t e = ap (λ xs. items Utf16 xs) e ∙ items-nil Utf16
+
+pub nothing : (mode : Mode) (bytes : List ℕ) → length bytes ≡ 0 → transcoded mode bytes ≡ record { text = []; ending = Clean }
+nothing Strict [] none = ap (λ is. record { text = utf8 (leading_characters is); ending = ending_of (first_fault Utf16 is) false }) (no-units (units_of_bytes []) false none-units)
+nothing Strict (a ∷ bytes) none = absurd (omega arith)
+nothing Lossy [] none = ap (λ is. record { text = utf8 (lossy is); ending = ending_of None false }) (no-units (units_of_bytes []) false none-units)
+nothing Lossy (a ∷ bytes) none = absurd (omega arith)
+
+pub one-byte : (mode : Mode) (bytes : List ℕ) → length bytes ≡ 1 → transcoded mode bytes ≡ record { text = []; ending = HalfUnit }
+one-byte Strict [] one = absurd (omega arith)
+one-byte Strict (a ∷ []) one = ap (λ is. record { text = utf8 (leading_characters is); ending = ending_of (first_fault Utf16 is) true }) (no-units (units_of_bytes (a ∷ [])) true (half-units a))
+one-byte Strict (a ∷ b ∷ bytes) one = absurd (omega arith)
+one-byte Lossy [] one = absurd (omega arith)
+one-byte Lossy (a ∷ []) one = ap (λ is. record { text = utf8 (lossy is); ending = ending_of None true }) (no-units (units_of_bytes (a ∷ [])) true (half-units a))
+one-byte Lossy (a ∷ b ∷ bytes) one = absurd (omega arith)
+
+-- ---- the first takes
+
+pub start-error : (e : TranscodeError) (bytes piece : List ℕ) (left : Option (List ℕ)) (failed ended : Bool) → Starts (Err e) bytes piece left failed ended → e ≡ Read
+start-error Read bytes piece left failed ended h = refl
+start-error OutOfMemory bytes piece left failed ended h = absurd h
+start-error (Utf16Fault index unit) bytes piece left failed ended h = absurd h
+start-error OddLength bytes piece left failed ended h = absurd h
+start-error Write bytes piece left failed ended h = absurd h
+
+pub read-ends : {T : Type 0} (r : Result T TranscodeError) (y : TranscodeError) (ended : Bool) (mode : Mode) (bytes : List ℕ) → r ≡ Err y → y ≡ Read → Ends r ended (transcoded mode) bytes [] × WantsRoom r (units_of_bytes bytes)
+read-ends r y ended mode bytes is e = rw (is, e) (((transcoded mode bytes).text, refl), tt)
+
+pub mark-dropped : (bytes : List ℕ) → 2 ≤ length bytes → drop (length bytes - length (without_mark bytes)) bytes ≡ without_mark bytes
+mark-dropped [] long = absurd (omega arith)
+mark-dropped (a ∷ []) long = absurd (omega arith)
+mark-dropped (a ∷ b ∷ bytes) long =
+    elim (is_some (mark_of (a ∷ b ∷ bytes))) as (λ t. drop (length (a ∷ b ∷ bytes) - length (cond t bytes (a ∷ b ∷ bytes))) (a ∷ b ∷ bytes) ≡ cond t bytes (a ∷ b ∷ bytes)) [
+      | true ↦ (let two : length (a ∷ b ∷ bytes) - length bytes ≡ 2 = omega arith in ap (λ n. drop n (a ∷ b ∷ bytes)) two)
+      | false ↦ (let none : length (a ∷ b ∷ bytes) - length (a ∷ b ∷ bytes) ≡ 0 = omega arith in ap (λ n. drop n (a ∷ b ∷ bytes)) none)
+    ]

@@ -1,0 +1,83 @@
+use Rattle.std.proofs.Common.{◌≡◌, ◌≤◌, ◌+◌, ◌-◌, length, take, drop, sym, subst, arith, length-take, length-drop}
+use Rattle.wide_bytes.proofs.Lanes.{more-block, whole-more, encoded-ascii, stop-block, stop-last, some-read}
+use Rattle.wide_bytes.proofs.UnitEncodings.{units-none}
+use Rattle.wide_bytes.specs.Encoded.{EncodedUnits}
+use Rattle.wide_bytes.proofs.blocks.encode.Goals as goal
+
+pub sixteens-init : goal.sixteens-init
+sixteens-init c = record { within = omega arith; room = omega arith; encoded = units-none _ }
+
+pub sixteens-preserved-then-bits-lt128 : goal.sixteens-preserved-then-bits-lt128
+sixteens-preserved-then-bits-lt128 c =
+    let n = c.sixteens.read + 16 - c.sixteens.read in
+    let block = take n (drop c.sixteens.read c.args.units.now) in
+    let long : length block ≡ 16 = omega (arith, length-take n (drop c.sixteens.read c.args.units.now), length-drop c.sixteens.read c.args.units.now) in
+    let text = encoded-ascii block (take c.sixteens.written c.sixteens.out) (λ k within. (let low = c.bits_of-bits.ensures k (omega (arith, long)) in omega (arith, low))) in
+    record {
+      within = omega arith;
+      room = omega arith;
+      encoded = whole-more c.args.units.now c.sixteens.read n (omega arith) c.sixteens.invariant.encoded (subst (λ t. EncodedUnits block (take c.sixteens.written c.sixteens.out) t) (sym c.put_ascii.ensures) text);
+    }
+
+pub sixteens-preserved-then-bits-lt2048 : goal.sixteens-preserved-then-bits-lt2048
+sixteens-preserved-then-bits-lt2048 c = record {
+  within = omega arith;
+  room = omega (arith, c.put_narrow-written.ensures.high, c.sixteens.invariant.room);
+  encoded = whole-more c.args.units.now c.sixteens.read (c.sixteens.read + 16 - c.sixteens.read) (omega arith) c.sixteens.invariant.encoded c.put_narrow-written.ensures.text;
+}
+
+pub sixteens-preserved-then-not-has_surrogate : goal.sixteens-preserved-then-not-has_surrogate
+sixteens-preserved-then-not-has_surrogate c = record {
+  within = omega arith;
+  room = omega (arith, c.put_words-written.ensures.high, c.sixteens.invariant.room);
+  encoded = whole-more c.args.units.now c.sixteens.read (c.sixteens.read + 16 - c.sixteens.read) (omega arith) c.sixteens.invariant.encoded c.put_words-written.ensures.text;
+}
+
+pub sixteens-preserved-then-is_paired : goal.sixteens-preserved-then-is_paired
+sixteens-preserved-then-is_paired c =
+    let n = c.sixteens.read + 17 - c.sixteens.read in
+    record {
+      within = omega (arith, c.put_paired-passed.ensures.all);
+      room = omega (arith, c.put_paired-passed.ensures.high, c.sixteens.invariant.room);
+      encoded = more-block c.args.units.now c.sixteens.read c.put_paired-passed.result.0 n (omega (arith, c.put_paired-passed.ensures.all)) c.sixteens.invariant.encoded c.put_paired-passed.ensures.text;
+    }
+
+pub returns-then-is_some-clause-text : goal.returns-then-is_some-clause-text
+returns-then-is_some-clause-text c =
+    let n = c.sixteens.read + 16 - c.sixteens.read in
+    let within = c.encode_plain-step.ensures.read in
+    more-block c.args.units.now c.sixteens.read c.encode_plain-step.result.read n (omega (arith, within, length-take n (drop c.sixteens.read c.args.units.now))) c.sixteens.invariant.encoded c.encode_plain-step.ensures.text
+
+pub returns-then-is_some-clause-stop : goal.returns-then-is_some-clause-stop
+returns-then-is_some-clause-stop c =
+    let n = c.sixteens.read + 16 - c.sixteens.read in
+    let within = c.encode_plain-step.ensures.read in
+    stop-block c.args.units.now c.sixteens.read c.encode_plain-step.result.read n _ (omega (arith, within, length-take n (drop c.sixteens.read c.args.units.now))) (omega arith) (sym c.if-is_some.ensures) c.encode_plain-step.ensures.stop
+
+pub sixteens-preserved : goal.sixteens-preserved
+sixteens-preserved c =
+    let n = c.sixteens.read + 16 - c.sixteens.read in
+    let within = c.encode_plain-step.ensures.read in
+    let short : c.encode_plain-step.result.read ≤ n = omega (arith, within, length-take n (drop c.sixteens.read c.args.units.now)) in
+    record {
+      within = omega arith;
+      room = omega (arith, c.encode_plain-step.ensures.written, c.sixteens.invariant.room);
+      encoded = more-block c.args.units.now c.sixteens.read c.encode_plain-step.result.read n short c.sixteens.invariant.encoded c.encode_plain-step.ensures.text;
+    }
+
+pub sixteens-smaller : goal.sixteens-smaller
+sixteens-smaller c =
+    let n = c.sixteens.read + 16 - c.sixteens.read in
+    let block = take n (drop c.sixteens.read c.args.units.now) in
+    let long : length block ≡ 16 = omega (arith, length-take n (drop c.sixteens.read c.args.units.now), length-drop c.sixteens.read c.args.units.now) in
+    let some = some-read block c.encode_plain-step.result.read c.encode_plain-step.result.fault long c.encode_plain-step.ensures.read (sym c.if-is_some.ensures) c.encode_plain-step.ensures.stop in
+    omega (arith, some)
+
+pub returns-clause-text : goal.returns-clause-text
+returns-clause-text c =
+    let n = length c.args.units.now - c.sixteens.read in
+    let within = c.encode_plain-step-2.ensures.read in
+    more-block c.args.units.now c.sixteens.read c.encode_plain-step-2.result.read n (omega (arith, within, length-take n (drop c.sixteens.read c.args.units.now))) c.sixteens.invariant.encoded c.encode_plain-step-2.ensures.text
+
+pub returns-clause-stop : goal.returns-clause-stop
+returns-clause-stop c = stop-last c.args.units.now c.sixteens.read c.encode_plain-step-2.result.read (length c.args.units.now - c.sixteens.read) _ (omega arith) c.encode_plain-step-2.ensures.stop

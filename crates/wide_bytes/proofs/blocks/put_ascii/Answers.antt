@@ -1,0 +1,17 @@
+use Rattle.std.proofs.Common.{◌≡◌, ◌∙◌, ◌++◌, ap, length, take, arith, length-set, ℕ}
+use Rattle.std.proofs.lemmas.List.{take_all}
+use Rattle.wide_bytes.proofs.Shuffles.{same-lists, same-more, stored-block}
+use Rattle.wide_bytes.proofs.blocks.put_ascii.Goals as goal
+
+pub loop-k-preserved : goal.loop-k-preserved
+loop-k-preserved c = record {
+  long = omega (arith, c.loop-k.invariant.long, length-set {A = ℕ});
+  same = same-more c.loop-k.bytes c.args.block.now c.loop-k.k (omega (arith, c.loop-k.invariant.long)) c.loop-k.invariant.same;
+}
+
+pub returns : goal.returns
+returns c =
+    let long = c.loop-k.invariant.long in
+    let whole : take 16 c.loop-k.bytes ≡ c.loop-k.bytes = take_all 16 c.loop-k.bytes (omega arith) in
+    let same : c.loop-k.bytes ≡ c.args.block.now = same-lists c.loop-k.bytes c.args.block.now (omega (arith, c.requires.whole)) (λ k within. c.loop-k.invariant.same k (omega arith)) in
+    stored-block c.args.out.now (take 16 c.loop-k.bytes) c.args.at (ap length whole ∙ long) c.requires.room ∙ ap (λ bs. take c.args.at c.args.out.now ++ bs) (whole ∙ same)

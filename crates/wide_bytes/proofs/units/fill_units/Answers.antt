@@ -1,0 +1,14 @@
+use Rattle.std.proofs.Common.{◌/◌, ◌∙◌, length, sym, ap, arith}
+use Rattle.wide_bytes.specs.Bytes.{units_in}
+use Rattle.wide_bytes.proofs.UnitsHeld.{swapped, units-filled}
+use Rattle.wide_bytes.specs.declared.order.BoM.TheVariants.{Little, Big}
+use Rattle.wide_bytes.proofs.units.fill_units.Goals as goal
+
+pub returns-in-Little : goal.returns-in-Little
+returns-in-Little c =
+    units-filled Little c.args.bytes.now c.fill_little.new.units (length c.args.bytes.now / 2) (omega arith) (omega (arith, c.requires, c.fill_little.ensures.long)) c.fill_little.ensures.units ∙ ap (λ o. units_in o c.args.bytes.now) (sym c.in-Little.is)
+
+pub returns-in-Big : goal.returns-in-Big
+returns-in-Big c =
+    let big = swapped c.args.bytes.now c.fill_little.new.units c.swap_bytes.new.units (length c.args.bytes.now / 2) c.type_inv.bytes c.fill_little.ensures.units c.swap_bytes.ensures.units in
+    units-filled Big c.args.bytes.now c.swap_bytes.new.units (length c.args.bytes.now / 2) (omega arith) (omega (arith, c.requires, c.fill_little.ensures.long, c.swap_bytes.ensures.long)) big ∙ ap (λ o. units_in o c.args.bytes.now) (sym c.in-Big.is)

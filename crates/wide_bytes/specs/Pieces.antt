@@ -1,0 +1,65 @@
+-- What transcoding in pieces does, behind the mark and in a known byte order.
+use Rattle.std.specs.Prelude.{◌≡◌, ℕ, ◌<◌, ◌≤◌, ◌^◌, ◌⊎◌, Bool, true, false, List, [], ◌∷◌, length, take, Option, None, Result, Ok, Err, if◌then◌else◌}
+use Rattle.std.specs.Io.KnownBytes.{IsAtEnd}
+use Rattle.wide_unit.specs.EncodingForm.{Utf16, IsHighSurrogate}
+use Rattle.wide_unit.specs.Items.{items, leading_characters, first_fault}
+use Rattle.wide_unit.specs.Lossy.{lossy}
+use Rattle.wide_unit.specs.Utf8.{utf8}
+use Rattle.wide_bytes.specs.Bytes.{units_in, is_odd, without_last_zero}
+use Rattle.wide_bytes.specs.Transcoded.{Transcoded, ending_of}
+use Rattle.wide_bytes.specs.declared.order.BoM.{BoM}
+use Rattle.wide_bytes.specs.declared.mode.Mode.{Mode}
+use Rattle.wide_bytes.specs.declared.mode.Mode.TheVariants.{Strict, Lossy}
+use Rattle.wide_error.specs.declared.error.TranscodeError.{TranscodeError}
+use Rattle.wide_error.specs.declared.error.TranscodeError.TheVariants.{Utf16 as Utf16Fault, OutOfMemory, OddLength, Read, Write}
+
+-- the code units that the bytes behind the mark mean
+abbrev pub units_behind : BoM → List ℕ → List ℕ
+units_behind order bytes =
+    let units = units_in order bytes in
+    if is_odd bytes then units else without_last_zero units
+
+-- what the bytes behind the mark become
+abbrev pub transcoded_behind : BoM → Mode → List ℕ → Transcoded
+transcoded_behind order Strict bytes =
+    let is = items Utf16 (units_behind order bytes) in
+    record { text = utf8 (leading_characters is); ending = ending_of (first_fault Utf16 is) (is_odd bytes) }
+transcoded_behind order Lossy bytes =
+    let is = items Utf16 (units_behind order bytes) in
+    record { text = utf8 (lossy is); ending = ending_of None (is_odd bytes) }
+
+-- want of room is answered only where the index of a unit would not fit 64 bits
+abbrev pub WantsRoom : {T : Type 0} → Result T TranscodeError → List ℕ → Type 0
+WantsRoom (Ok u) units = Unit {0}
+WantsRoom (Err OutOfMemory) units = 2 ^ 64 < length units
+WantsRoom (Err (Utf16Fault index unit)) units = Unit {0}
+WantsRoom (Err OddLength) units = Unit {0}
+WantsRoom (Err Read) units = Unit {0}
+WantsRoom (Err Write) units = Unit {0}
+
+-- the first takes, of these bytes: at Ok all of them stand at the front of the piece, two or more, or fewer at the end
+abbrev pub Starts : Result ℕ TranscodeError → List ℕ → List ℕ → Option (List ℕ) → Bool → Bool → Type 0
+Starts (Ok n) bytes piece left failed ended =
+    (n ≤ length piece) × (bytes ≡ take n piece) × (failed ≡ false) × (((2 ≤ n) × (ended ≡ false)) ⊎ ((n < 2) × (ended ≡ true) × IsAtEnd left))
+Starts (Err Read) bytes piece left failed ended = (failed ≡ true) × (ended ≡ false)
+Starts (Err OutOfMemory) bytes piece left failed ended = ⊥
+Starts (Err (Utf16Fault index unit)) bytes piece left failed ended = ⊥
+Starts (Err OddLength) bytes piece left failed ended = ⊥
+Starts (Err Write) bytes piece left failed ended = ⊥
+
+-- the end of the input behind these bytes, before which `place` units stand
+abbrev pub Finishes : {T : Type 0} → Result T TranscodeError → BoM → List ℕ → ℕ → Type 0
+Finishes (Ok u) order rest place = (rest ≡ []) ⊎ ((length rest ≡ 2) × (units_in order rest ≡ 0 ∷ []))
+Finishes (Err OddLength) order rest place = length rest ≡ 1
+Finishes (Err (Utf16Fault index unit)) order rest place = (index ≡ place) × (units_in order rest ≡ unit ∷ []) × IsHighSurrogate Utf16 unit
+Finishes (Err OutOfMemory) order rest place = (2 ^ 64 ≤ place) × (u : ℕ) × (units_in order rest ≡ u ∷ []) × IsHighSurrogate Utf16 u
+Finishes (Err Read) order rest place = ⊥
+Finishes (Err Write) order rest place = ⊥
+
+-- a fault behind `place` units
+abbrev pub IsFaultAt : TranscodeError → ℕ → ℕ → Type 0
+IsFaultAt (Utf16Fault index unit) place u = (index ≡ place) × (unit ≡ u)
+IsFaultAt OutOfMemory place u = 2 ^ 64 ≤ place
+IsFaultAt OddLength place u = ⊥
+IsFaultAt Read place u = ⊥
+IsFaultAt Write place u = ⊥

@@ -1,0 +1,80 @@
+//! The text of a piece, behind which more bytes may come: what may still become a character or be dropped is held back.
+
+ghost use Rattle.std.specs.Prelude.{◌≡◌, ◌+◌, ◌*◌, ◌%◌, ◌≤◌, ◌<◌, ◌∷◌, [], false, nat_eq, length, take, drop};
+ghost use Rattle.std.specs.List.{ends_with};
+ghost use Rattle.wide_bytes.specs.Bytes.{units_in};
+ghost use Rattle.wide_bytes.specs.Encoded.{Encoded, HoldsAt, IsHeldOr};
+
+use crate::blocks::encode;
+use crate::order::BoM;
+use crate::steps::Step;
+use crate::units::unit_in;
+
+// The fault that what is left of a piece begins with: a high surrogate before a zero unit.
+fn fault_before_zero(order: BoM, rest: &[u8]) -> Option<u16>
+    requires { IsHeldOr order rest.now }
+    ensures { HoldsAt order rest.now result }
+{
+    if rest.len() >= 4 {
+        return Some(unit_in(order, rest[0], rest[1]));
+    }
+    None
+}
+
+// How many bytes stand before a zero unit that may be the last.
+fn len_before_zero(bytes: &[u8]) -> usize
+    ensures within { result ≤ length bytes.now }
+    ensures all { result ≡ length bytes.now → length bytes.now % 2 ≡ 0 → ends_with nat_eq bytes.now (0 ∷ 0 ∷ []) ≡ false }
+    ensures some { result < length bytes.now → (result + 2 ≡ length bytes.now) × (result % 2 ≡ 0) × (drop result bytes.now ≡ 0 ∷ 0 ∷ []) }
+{
+    if bytes.len() % 2 == 0 && bytes.ends_with(&[0, 0]) {
+        bytes.len() - 2
+    } else {
+        bytes.len()
+    }
+}
+
+/// As [`encode_piece_behind`], at the front of `out`.
+pub(crate) fn encode_piece(order: BoM, bytes: &[u8], units: &[u16], out: &mut [u8]) -> Step
+    requires units { units.now ≡ units_in order bytes.now }
+    requires room { 3 * length bytes.now + 8 ≤ 2 * length out.old }
+    ensures read { result.read ≤ length bytes.now }
+    ensures written { result.written ≤ length out.new }
+    ensures text { Encoded order (take result.read bytes.now) [] (take result.written out.new) }
+    ensures stop { HoldsAt order (drop result.read bytes.now) result.fault }
+    ensures no_zero { result.read ≡ length bytes.now → ends_with nat_eq bytes.now (0 ∷ 0 ∷ []) ≡ false }
+{
+    encode_piece_behind(order, bytes, units, out, 0)
+}
+
+/// Writes the text of the characters that the bytes of a piece begin with behind the first `at` bytes of `out`, up to a fault or the
+/// end. A zero unit at the end is left, and so is what may still become a character. `units` are those of the bytes; bytes are
+/// counted.
+pub(crate) fn encode_piece_behind(
+    order: BoM,
+    bytes: &[u8],
+    units: &[u16],
+    out: &mut [u8],
+    at: usize,
+) -> Step
+    requires units { units.now ≡ units_in order bytes.now }
+    requires room { 2 * at + 3 * length bytes.now + 8 ≤ 2 * length out.old }
+    ensures read { result.read ≤ length bytes.now }
+    ensures written { 2 * result.written ≤ 2 * at + 3 * result.read }
+    ensures text { Encoded order (take result.read bytes.now) (take at out.old) (take result.written out.new) }
+    ensures stop { HoldsAt order (drop result.read bytes.now) result.fault }
+    ensures no_zero { result.read ≡ length bytes.now → ends_with nat_eq bytes.now (0 ∷ 0 ∷ []) ≡ false }
+{
+    let ready = len_before_zero(bytes);
+    let step = encode(&units[..ready / 2], out, at);
+    let read = 2 * step.read;
+    let fault = match step.fault {
+        Some(unit) => Some(unit),
+        None => fault_before_zero(order, &bytes[read..]),
+    };
+    Step {
+        read,
+        written: step.written,
+        fault,
+    }
+}

@@ -1,0 +1,108 @@
+//! The text of units, one by one.
+
+ghost use Rattle.std.specs.Prelude.{◌≡◌, ◌+◌, ◌*◌, ◌-◌, ◌≤◌, ◌<◌, ◌++◌, length, take, drop};
+ghost use Rattle.wide_unit.specs.Utf8.{utf8_bytes};
+ghost use Rattle.wide_bytes.specs.Encoded.{EncodedUnits, StopsBefore};
+
+/// How far encoding came: what it read, in units or in bytes as the function tells, the place behind the text in bytes, and
+/// the fault at which it stopped.
+#[derive(Clone, Copy, Debug)]
+pub(crate) struct Step {
+    pub(crate) read: usize,
+    pub(crate) written: usize,
+    pub(crate) fault: Option<u16>,
+}
+
+// Writes the bytes of a unit that is a character, and answers the place behind them.
+#[inline(always)]
+pub(crate) fn put_unit(out: &mut [u8], at: usize, unit: u16) -> usize
+    requires { at + 3 ≤ length out.old }
+    ensures text { take result out.new ≡ take at out.old ++ utf8_bytes unit }
+    ensures low { at < result }
+    ensures high { result ≤ at + 3 }
+{
+    if unit < 0x80 {
+        out[at] = unit as u8;
+        at + 1
+    } else if unit < 0x800 {
+        out[at] = (0b1100_0000 + unit / 0x40) as u8;
+        out[at + 1] = (0b1000_0000 + unit % 0x40) as u8;
+        at + 2
+    } else {
+        out[at] = (0b1110_0000 + unit / 0x1000) as u8;
+        out[at + 1] = (0b1000_0000 + unit / 0x40 % 0x40) as u8;
+        out[at + 2] = (0b1000_0000 + unit % 0x40) as u8;
+        at + 3
+    }
+}
+
+// Writes the bytes of the character of a pair, and answers the place behind them.
+#[inline(always)]
+fn put_pair(out: &mut [u8], at: usize, high: u16, low: u16) -> usize
+    requires room { at + 4 ≤ length out.old }
+    requires from_high { 0xd800 ≤ high }
+    requires to_high { high < 0xdc00 }
+    requires from_low { 0xdc00 ≤ low }
+    requires to_low { low < 0xe000 }
+    ensures text { take result out.new ≡ take at out.old ++ utf8_bytes (0x10000 + ((high - 0xd800) * 0x400 + (low - 0xdc00))) }
+    ensures high { result ≡ at + 4 }
+{
+    // The sixteenth of the scalar value over 0x40, and its bits from the tenth on.
+    let top = high - 0xd800 + 0x40;
+    let bits = low - 0xdc00;
+    out[at] = (0b1111_0000 + top / 0x100) as u8;
+    out[at + 1] = (0b1000_0000 + top / 4 % 0x40) as u8;
+    out[at + 2] = (0b1000_0000 + top % 4 * 0x10 + bits / 0x40) as u8;
+    out[at + 3] = (0b1000_0000 + bits % 0x40) as u8;
+    at + 4
+}
+
+/// Writes the text of the characters that the units begin with behind the first `at` bytes of `out`, up to a fault or the end. Units
+/// are counted.
+pub(crate) fn encode_plain(units: &[u16], out: &mut [u8], at: usize) -> Step
+    requires { at + 3 * length units.now + 4 ≤ length out.old }
+    ensures read { result.read ≤ length units.now }
+    ensures written { result.written ≤ at + 3 * result.read }
+    ensures text { EncodedUnits (take result.read units.now) (take at out.old) (take result.written out.new) }
+    ensures stop { StopsBefore (drop result.read units.now) result.fault }
+{
+    let mut read = 0;
+    let mut written = at;
+    'units: while read < units.len() {
+        let unit = units[read];
+        if unit < 0xd800 || 0xe000 <= unit {
+            written = put_unit(out, written, unit);
+            read += 1;
+        } else {
+            if 0xdc00 <= unit {
+                return Step {
+                    read,
+                    written,
+                    fault: Some(unit),
+                };
+            }
+            if units.len() - read == 1 {
+                return Step {
+                    read,
+                    written,
+                    fault: None,
+                };
+            }
+            let low = units[read + 1];
+            if low < 0xdc00 || 0xe000 <= low {
+                return Step {
+                    read,
+                    written,
+                    fault: Some(unit),
+                };
+            }
+            written = put_pair(out, written, unit, low);
+            read += 2;
+        }
+    }
+    Step {
+        read,
+        written,
+        fault: None,
+    }
+}
