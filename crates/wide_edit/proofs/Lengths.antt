@@ -12,13 +12,13 @@ use Rattle.wide_edit.specs.declared.edits.Edit.TheVariants.{Remove, SplitOff, Dr
 
 module _ (form : EncodingForm) where
   -- the unit length of characters, and of the first of them
-  abbrev size : List ℕ → ℕ
+  abbrev pub size : List ℕ → ℕ
   size l = length (encode form l)
 
-  abbrev place : List ℕ → ℕ → ℕ
+  abbrev pub place : List ℕ → ℕ → ℕ
   place l i = size (take i l)
 
-  size-append : (l m : List ℕ) → size (l ++ m) ≡ size l + size m
+  pub size-append : (l m : List ℕ) → size (l ++ m) ≡ size l + size m
   size-append l m = ap length (flat_map-append (code_units form) l m) ∙ length-append (encode form l) (encode form m)
 
   size-cut : (l : List ℕ) (i : ℕ) → size l ≡ place l i + size (drop i l)

@@ -1,3 +1,5 @@
 pub mod Step
 pub mod Edited
 pub mod Found
+pub mod Counted
+pub mod Marks

@@ -7,7 +7,7 @@ ghost use Rattle.wide_edit.specs.Edited.{CanHold, HasReplyRoom};
 use crate::arms::apply_at;
 use crate::edits::{Edit, Reply, TextEdit};
 use crate::found::{find, numbers_of, recall};
-use crate::memory::{growth, reply_len};
+use crate::memory::prepare_at;
 use std::alloc::Global;
 use wide_error::OutOfMemory;
 use wide_utferror::FaultUnit;
@@ -42,12 +42,10 @@ impl<C: FaultUnit> TextEdit for UtfString<C> {
         ensures units { map C.number self.new.units ≡ map C.number self.old.units }
         ensures succeeds { CanHold C.form self.old (step (text_of C.form C.number self.old.units) edit.entry).0 → chars_in (step (text_of C.form C.number self.old.units) edit.entry).1 ≡ 0 → IsOk result }
     {
-        recall(self);
         let (first, second) = numbers_of(edit);
         let start = find(self, first);
         let end = find(self, second);
-        self.reserve(growth(self, edit, start, end))?;
-        Ok(Vec::with_capacity(alloc, reply_len(self, edit, start, end))?)
+        prepare_at(self, alloc, edit, start, end)
     }
 
     fn apply(&mut self, edit: Edit<'_>, room: Vec<char>) -> Reply {

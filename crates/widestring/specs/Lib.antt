@@ -23,3 +23,5 @@ pub use Rattle.wide_utfstr.specs.Escapes
 pub use Rattle.wide_utfstring.specs.CowText
 pub use Rattle.wide_edit.specs.Step
 pub use Rattle.wide_edit.specs.Edited
+pub use Rattle.wide_edit.specs.Counted
+pub use Rattle.wide_edit.specs.Marks

@@ -1,12 +1,14 @@
-//! Edits as data: of one text, and of two that are alike in two encodings.
-ghost use Rattle.std.specs.Prelude.{◌≡◌, ◌<◌, [], ◌∷◌, map, IfOk, IfErr, OnOk, OnErr};
+//! Edits as data: of one text, of two that are alike in two encodings, and of a text with kept marks.
+ghost use Rattle.std.specs.Prelude.{◌≡◌, ◌<◌, ◌≤◌, ◌↔◌, [], ◌∷◌, length, take, map, IsSome, IfSome, IfOk, IfErr, OnOk, OnErr};
 ghost use Rattle.std.specs.Str.{chars as str_chars};
 ghost use Rattle.widestring.specs.EncodingForm.{Utf16, Utf32, encode};
 ghost use Rattle.widestring.specs.Items.{chars};
 ghost use Rattle.widestring.specs.Step.{step, meaning, answer_of, Done, Char, BadPlace};
+ghost use Rattle.widestring.specs.Counted.{AddsAtMost};
+ghost use Rattle.widestring.specs.Marks.{marked_text};
 
 use std::alloc::Global;
-use widestring::edit::{Edit, Reply, Stopped, TextEdit, run, run_both};
+use widestring::edit::{Edit, Marked16, Reply, Steps, Stopped, TextEdit, run, run_both};
 use widestring::error::OutOfMemory;
 use widestring::{Utf16String, Utf32String};
 
@@ -108,4 +110,52 @@ pub fn edited(alloc: Global, text: &str, edits: &[Edit<'_>]) -> Result<Utf16Stri
         Ok(()) => Ok(string),
         Err(_stopped) => Err(OutOfMemory),
     }
+}
+
+/// The same of a string, with kept marks meanwhile.
+pub fn edited_with_marks(
+    alloc: Global,
+    string: Utf16String,
+    edits: &[Edit<'_>],
+) -> Result<Utf16String, OutOfMemory>
+    ensures { IfOk result (λ edited. edited.units ≡ encode Utf16 (meaning (chars Utf16 string.units) edits.now).0) }
+{
+    let mut replies = Vec::new(alloc);
+    match Marked16::new(alloc, string) {
+        Ok(mut marked) => match run(alloc, &mut marked, edits, &mut replies) {
+            Ok(()) => Ok(marked.into_utfstring()),
+            Err(_stopped) => Err(OutOfMemory),
+        },
+        Err(_string) => Err(OutOfMemory),
+    }
+}
+
+/// Where a character of the string begins once edits were made. However long the text is, at most 126 units are read to find it.
+pub fn find_edited(
+    alloc: Global,
+    string: Utf16String,
+    edits: &[Edit<'_>],
+    index: usize,
+    steps: &mut Steps,
+) -> Result<Option<usize>, OutOfMemory>
+    ensures found { IfOk result (λ found. IsSome found ↔ (index ≤ length (meaning (chars Utf16 string.units) edits.now).0)) }
+    ensures steps { AddsAtMost steps.old steps.new 126 }
+{
+    let mut replies = Vec::new(alloc);
+    match Marked16::new(alloc, string) {
+        Ok(mut marked) => match run(alloc, &mut marked, edits, &mut replies) {
+            Ok(()) => Ok(marked.unit_offset(index, steps)),
+            Err(_stopped) => Err(OutOfMemory),
+        },
+        Err(_string) => Err(OutOfMemory),
+    }
+}
+
+/// The units before a character of a text with kept marks.
+pub fn front_of<'a>(marked: &'a Marked16, index: usize, steps: &mut Steps) -> Option<&'a [u16]>
+    ensures front { IfSome result (λ front. chars Utf16 front.now ≡ take index (marked_text marked.now)) }
+    ensures steps { AddsAtMost steps.old steps.new 126 }
+{
+    let at = marked.unit_offset(index, steps)?;
+    Some(marked.as_utfstr().slice(..at).as_slice())
 }

@@ -3,7 +3,7 @@
 use crate::edit_words::EditWord;
 use std::alloc::{AllocError, Global};
 use std::fmt::Write;
-use wide_edit::{Reply, run_both};
+use wide_edit::{Marked16, Reply, run_both};
 use wide_error::OutOfMemory;
 use wide_utfstring::{Utf16String, Utf32String};
 
@@ -34,12 +34,12 @@ fn push_reply(lines: &mut String, reply: &Reply) -> Result<(), AllocError> {
 // The text, and the units of both strings.
 fn push_strings(
     lines: &mut String,
-    narrow: &Utf16String,
+    narrow: &Marked16,
     wide: &Utf32String,
 ) -> Result<(), AllocError> {
     writeln!(lines, "text {}", narrow.as_utfstr().escape_default())?;
     lines.push_str("utf16")?;
-    for unit in narrow.as_slice() {
+    for unit in narrow.as_utfstr().as_slice() {
         write!(lines, " {unit:04X}")?;
     }
     lines.push_str("\nutf32")?;
@@ -47,6 +47,14 @@ fn push_strings(
         write!(lines, " {unit:08X}")?;
     }
     lines.push('\n')
+}
+
+// The text in UTF-16, with kept marks.
+fn marked(alloc: Global, text: &str) -> Result<Marked16, OutOfMemory> {
+    match Marked16::new(alloc, Utf16String::from_str(alloc, text)?) {
+        Ok(marked) => Ok(marked),
+        Err(_string) => Err(OutOfMemory),
+    }
 }
 
 /// A line for each reply to the edits of a text, and what UTF-16 and UTF-32 hold of it then.
@@ -59,7 +67,7 @@ pub fn edit_lines(
     for word in words {
         edits.push(word.edit())?;
     }
-    let mut narrow = Utf16String::from_str(alloc, text)?;
+    let mut narrow = marked(alloc, text)?;
     let mut wide = Utf32String::from_str(alloc, text)?;
     let mut replies = Vec::new(alloc);
     let mut same_replies = Vec::new(alloc);

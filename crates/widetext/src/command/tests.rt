@@ -584,7 +584,7 @@ fn edits_as(alloc: Global, row: EditRow) -> Result<bool, AllocError> {
     Ok(ran.is(0, lines.as_bytes(), b"") & (ran.source.calls == 0))
 }
 
-static EDIT_ROWS: [EditRow; 9] = [
+static EDIT_ROWS: [EditRow; 10] = [
     (
         &[
             "a\u{1f600}b",
@@ -642,6 +642,20 @@ static EDIT_ROWS: [EditRow; 9] = [
     (
         &["abc", "retain=", "pushstr=xyz", "truncate=1"],
         "done\ndone\ndone\ntext x\nutf16 0078\nutf32 00000078\n",
+    ),
+    // A text with a mark, at the offset 65 of character number 64.
+    (
+        &[
+            "aaaaaaaaaaaaaaaaaaaaaaaaaaaaaaaaaaaaaaaaaaaaaaaaaaaaaaaaaaaaaaa\u{1f600}b",
+            "insert=64,\u{e9}",
+            "remove=65",
+            "remove=65",
+            "insert=0,\u{1f600}",
+            "insertstr=65,cd",
+            "replace=0,64,x",
+            "splitoff=3",
+        ],
+        "done\nchar b\nbadplace\ndone\ndone\ndone\nchars d\\u{e9}\ntext x\\u{1f600}c\nutf16 0078 D83D DE00 0063\nutf32 00000078 0001F600 00000063\n",
     ),
 ];
 

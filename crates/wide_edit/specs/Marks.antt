@@ -1,0 +1,66 @@
+-- Kept marks: the unit offsets, in UTF-16, of every sixty-fourth character of a text.
+use Rattle.std.specs.Prelude.{ℕ, ◌+◌, ◌-◌, ◌*◌, ◌/◌, ◌≤◌, List, map, take, length, min, refl}
+use Rattle.std.specs.Coded.{Coded, code_by, coded×, coded_ℕ}
+use Rattle.std.specs.List.{range_with_len}
+use Rattle.wide_unit.specs.EncodingForm.{Utf16, encode}
+use Rattle.wide_unit.specs.Items.{chars}
+use Rattle.wide_ustring.specs.Units.{Units, units_code}
+use Rattle.wide_edit.specs.Step.{step}
+use Rattle.wide_edit.specs.Edited.{CanHold}
+use Rattle.wide_edit.specs.declared.edits.Edit.{Edit}
+use Rattle.wide_edit.specs.declared.edits.Edit.TheVariants.{Push, PushStr, Pop, Truncate, Insert, InsertStr, Remove, Retain, Drain, Replace, SplitOff, Clear}
+
+-- mark number `k` of these characters: the unit length of the first `64 * k`
+abbrev pub mark : List ℕ → ℕ → ℕ
+mark cs k = length (encode Utf16 (take (64 * k) cs))
+
+-- the marks number 1, 2, .. as far as there are so many characters
+abbrev pub marks_of : List ℕ → List ℕ
+marks_of cs = map (mark cs) (range_with_len 1 (length cs / 64))
+
+-- the place of an edit of so many characters: an edit leaves those before it as they are
+abbrev pub edit_place : ℕ → Edit → ℕ
+edit_place count (Push c) = count
+edit_place count (PushStr t) = count
+edit_place count Pop = count - 1
+edit_place count (Truncate m) = min m count
+edit_place count (Insert i c) = min i count
+edit_place count (InsertStr i t) = min i count
+edit_place count (Remove i) = min i count
+edit_place count (Retain keep) = 0
+edit_place count (Drain a b) = min a count
+edit_place count (Replace a b t) = min a count
+edit_place count (SplitOff i) = min i count
+edit_place count Clear = 0
+
+-- how many marks of these characters are not past the edit's place
+abbrev pub marks_kept : List ℕ → Edit → ℕ
+marks_kept cs edit = edit_place (length cs) edit / 64
+
+-- the units behind the last of those marks, before the edit and after it
+abbrev pub units_behind : List ℕ → List ℕ → Edit → ℕ
+units_behind old new edit =
+    (length (encode Utf16 old) - mark old (marks_kept old edit)) + (length (encode Utf16 new) - mark new (marks_kept old edit))
+
+-- what a contract sees of a string with kept marks: the string, and how many marks fit with no allocation
+pub record Marked : Type 0 where
+  pub string : Units ℕ
+  pub marks_room : ℕ
+
+abbrev pub marked_code : Coded Marked
+marked_code =
+    code_by (Units ℕ × ℕ) (coded× (units_code coded_ℕ) coded_ℕ) (λ m. (m.string, m.marks_room))
+    (λ p. record { string = p.0; marks_room = p.1 }) (λ _. refl)
+
+-- its units
+abbrev pub marked_units : Marked → List ℕ
+marked_units m = m.string.units
+
+-- its characters
+abbrev pub marked_text : Marked → List ℕ
+marked_text m = chars Utf16 m.string.units
+
+-- the new units fit with no allocation, and so do the new marks
+pub record IsMarkedReady (m : Marked) (edit : Edit) : Type 0 where
+  pub units : CanHold Utf16 m.string (step (marked_text m) edit).0
+  pub marks : length (step (marked_text m) edit).0 / 64 ≤ m.marks_room

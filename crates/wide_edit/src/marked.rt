@@ -1,0 +1,251 @@
+//! A UTF-16 string with kept marks, as a text that edits change.
+ghost use Rattle.std.specs.Prelude.{◌≡◌, ◌+◌, ◌*◌, ◌/◌, ◌<◌, ◌≤◌, ◌↔◌, length, IsSome, IfSome, IsOk, OnOk, IfOk, IfErr, vec_capacity};
+ghost use Rattle.wide_unit.specs.EncodingForm.{Utf16, encode};
+ghost use Rattle.wide_unit.specs.Items.{chars};
+ghost use Rattle.wide_unit.specs.Places.{IsPlaceOf, IsCharBoundary};
+ghost use Rattle.wide_utfstr.specs.View.{units_seen};
+ghost use Rattle.wide_edit.specs.Step.{step, answer_of};
+ghost use Rattle.wide_edit.specs.Edited.{CanHold, IsMade, HasReplyRoom};
+ghost use Rattle.wide_edit.specs.Found.{first_number, second_number, IsFoundAt};
+ghost use Rattle.wide_edit.specs.Counted.{AddsAtMost};
+ghost use Rattle.wide_edit.specs.Marks.{marks_of, edit_place, units_behind, marked_units, marked_text, IsMarkedReady};
+
+use crate::arms::apply_at;
+use crate::counting::Steps;
+use crate::edits::{Edit, Reply, TextEdit};
+use crate::found::numbers_of;
+use crate::marks::{count_from, find_from, mend, units_from};
+use crate::memory::prepare_at;
+use std::alloc::Global;
+use std::marker::Model;
+use wide_error::OutOfMemory;
+use wide_utfstr::Utf16Str;
+use wide_utfstring::Utf16String;
+
+/// A UTF-16 string with kept marks: the offsets, in units, of the characters number 64, 128 and so on, and of the end where it is
+/// one of these.
+///
+/// A character is found by its number from the last mark not past it, so that fewer than 64 characters are read. An edit leaves the
+/// marks that are not past its place, and counts the later ones from the last of these.
+#[derive(Drop)]
+pub struct Marked16 {
+    string: Utf16String,
+    marks: Vec<usize>,
+}
+
+impl Model for Marked16 {
+    ghost use Rattle.std.specs.Prelude.{◌≡◌, vec_capacity};
+    ghost use Rattle.wide_unit.specs.EncodingForm.{Utf16};
+    ghost use Rattle.wide_unit.specs.Items.{chars};
+    ghost use Rattle.wide_edit.specs.Marks.{Marked, marked_code, marks_of};
+
+    ghost Value = { Marked };
+
+    ghost coded = { marked_code };
+
+    ghost view = { λ m. record { string = m.string; marks_room = vec_capacity m.marks } };
+
+    ghost invariant = { λ m. m.marks.items ≡ marks_of (chars Utf16 m.string.units) };
+}
+
+// The place of an edit in a text of so many characters: those before it stay as they are.
+fn place_in(edit: Edit<'_>, count: usize) -> usize
+    ensures { result ≡ edit_place count edit.entry }
+{
+    match edit {
+        Edit::Push(_) => count,
+        Edit::PushStr(_) => count,
+        Edit::Pop => count.saturating_sub(1),
+        Edit::Truncate(len) => len.min(count),
+        Edit::Insert(index, _) => index.min(count),
+        Edit::InsertStr(index, _) => index.min(count),
+        Edit::Remove(index) => index.min(count),
+        Edit::Retain(_) => 0,
+        Edit::Drain(from, _) => from.min(count),
+        Edit::Replace(from, _, _) => from.min(count),
+        Edit::SplitOff(index) => index.min(count),
+        Edit::Clear => 0,
+    }
+}
+
+// Finds all memory that an edit takes of a string in UTF-16, whose places were found.
+fn prepare16(
+    string: &mut Utf16String,
+    alloc: Global,
+    edit: Edit<'_>,
+    start: Option<usize>,
+    end: Option<usize>,
+) -> Result<Vec<char>, OutOfMemory>
+    requires start { IsFoundAt Utf16 string.old.units (first_number edit) start }
+    requires end { IsFoundAt Utf16 string.old.units (second_number edit) end }
+    ensures ready { OnOk result (CanHold Utf16 string.new (step (chars Utf16 string.new.units) edit.entry).0) }
+    ensures room { IfOk result (λ room. HasReplyRoom (chars Utf16 string.new.units) edit.entry room) }
+    ensures units { string.new.units ≡ string.old.units }
+{
+    prepare_at(string, alloc, edit, start, end)
+}
+
+// Makes the edit of a string in UTF-16, whose places were found.
+fn apply16(
+    string: &mut Utf16String,
+    edit: Edit<'_>,
+    start: Option<usize>,
+    end: Option<usize>,
+    room: Vec<char>,
+) -> Reply
+    requires start { IsFoundAt Utf16 string.old.units (first_number edit) start }
+    requires end { IsFoundAt Utf16 string.old.units (second_number edit) end }
+    requires ready { CanHold Utf16 string.old (step (chars Utf16 string.old.units) edit).0 }
+    requires room { HasReplyRoom (chars Utf16 string.old.units) edit room }
+    ensures { IsMade (chars Utf16 string.old.units) edit.entry (chars Utf16 string.new.units) result }
+{
+    apply_at(string, edit, start, end, room)
+}
+
+// Makes the edit, and counts the marks behind its place anew.
+fn apply_to(
+    string: &mut Utf16String,
+    marks: &mut Vec<usize>,
+    edit: Edit<'_>,
+    room: Vec<char>,
+    steps: &mut Steps,
+) -> Reply
+    requires marks { marks.old.items ≡ marks_of (chars Utf16 string.old.units) }
+    requires ready { CanHold Utf16 string.old (step (chars Utf16 string.old.units) edit).0 }
+    requires marks_ready { length (step (chars Utf16 string.old.units) edit).0 / 64 ≤ vec_capacity marks.old }
+    requires room { HasReplyRoom (chars Utf16 string.old.units) edit room }
+    ensures made { IsMade (chars Utf16 string.old.units) edit.entry (chars Utf16 string.new.units) result }
+    ensures marks { marks.new.items ≡ marks_of (chars Utf16 string.new.units) }
+    ensures steps { AddsAtMost steps.old steps.new (512 + units_behind (chars Utf16 string.old.units) (chars Utf16 string.new.units) edit.entry) }
+{
+    let (first, second) = numbers_of(edit);
+    let start = find_from(string.as_utfstr(), marks.as_slice(), first, steps);
+    let end = find_from(string.as_utfstr(), marks.as_slice(), second, steps);
+    let count = count_from(string.as_utfstr(), marks.as_slice(), steps);
+    let kept = place_in(edit, count) / 64;
+    // The edit may read the units behind the last mark that stays, and no others.
+    steps.tick(units_from(string.as_utfstr(), marks.as_slice(), kept));
+    let reply = apply16(string, edit, start, end, room);
+    marks.truncate(kept);
+    mend(string.as_utfstr(), marks, steps);
+    reply
+}
+
+impl Marked16 {
+    /// The string, with its marks.
+    ///
+    /// # Errors
+    ///
+    /// The memory for the marks was refused. The error is the string, as it was.
+    pub fn new(alloc: Global, string: Utf16String) -> Result<Self, Utf16String>
+        ensures ok { IfOk result (λ m. m.string ≡ string) }
+        ensures err { IfErr result (λ s. s ≡ string) }
+        ensures succeeds { length (chars Utf16 string.units) < 64 → IsOk result }
+    {
+        let count = string.as_utfstr().char_count();
+        match Vec::with_capacity(alloc, count / 64) {
+            Ok(mut marks) => {
+                mend(string.as_utfstr(), &mut marks, &mut Steps::new());
+                Ok(Marked16 { string, marks })
+            }
+            Err(_refused) => Err(string),
+        }
+    }
+
+    /// The marks: for each `k` from 1 on, as far as there are `64 * k` characters, how many units the first `64 * k` take (Unicode
+    /// Standard, D79 and D91).
+    pub fn marks(&self) -> &[usize]
+        ensures { result.now ≡ marks_of (marked_text self.now) }
+    {
+        self.marks.as_slice()
+    }
+
+    /// A view of the text.
+    pub fn as_utfstr(&self) -> Utf16Str<'_>
+        ensures units { units_seen result ≡ marked_units self.now }
+        ensures encoded { units_seen result ≡ encode Utf16 (marked_text self.now) }
+    {
+        let _units = self.string.unit_count();
+        self.string.as_utfstr()
+    }
+
+    /// The string, without its marks.
+    pub fn into_utfstring(self) -> Utf16String
+        ensures string { result ≡ self.string }
+        ensures encoded { result.units ≡ encode Utf16 (marked_text self) }
+    {
+        let Marked16 { string, marks: _ } = self;
+        let _units = string.unit_count();
+        string
+    }
+
+    /// The offset, in units, at which character number `index` begins, counted from 0: the unit length of the first `index`
+    /// characters, so that their number has the offset of the end. None past it. It reads the characters from the last mark not past
+    /// it, which are fewer than 64 and so no more than 126 units, and counts these units.
+    pub fn unit_offset(&self, index: usize, steps: &mut Steps) -> Option<usize>
+        ensures some { IsSome result ↔ (index ≤ length (marked_text self.now)) }
+        ensures place { IfSome result (IsPlaceOf Utf16 (marked_units self.now) index) }
+        ensures char_boundary { IfSome result (IsCharBoundary Utf16 (marked_units self.now)) }
+        ensures steps { AddsAtMost steps.old steps.new 126 }
+    {
+        find_from(self.string.as_utfstr(), self.marks.as_slice(), index, steps)
+    }
+
+    /// As [`TextEdit::apply`], and counts the units that are read: no more than 512, and the units of the old and of the new text
+    /// behind the last mark that is not past the edit's place.
+    pub fn apply_counted(&mut self, edit: Edit<'_>, room: Vec<char>, steps: &mut Steps) -> Reply
+        requires ready { IsMarkedReady self.old edit }
+        requires room { HasReplyRoom (marked_text self.old) edit room }
+        ensures text { marked_text self.new ≡ (step (marked_text self.old) edit.entry).0 }
+        ensures reply { answer_of result ≡ (step (marked_text self.old) edit.entry).1 }
+        ensures steps { AddsAtMost steps.old steps.new (512 + units_behind (marked_text self.old) (marked_text self.new) edit.entry) }
+    {
+        apply_to(&mut self.string, &mut self.marks, edit, room, steps)
+    }
+}
+
+impl TextEdit for Marked16 {
+    ghost use Rattle.wide_unit.specs.EncodingForm.{Utf16};
+    ghost use Rattle.wide_edit.specs.Marks.{marked_units, marked_text, IsMarkedReady};
+
+    ghost text = { marked_text };
+
+    ghost units = { marked_units };
+
+    ghost form = { Utf16 };
+
+    ghost is_ready = { IsMarkedReady };
+
+    fn char_count(&self) -> usize {
+        count_from(
+            self.string.as_utfstr(),
+            self.marks.as_slice(),
+            &mut Steps::new(),
+        )
+    }
+
+    fn unit_count(&self) -> usize {
+        self.string.unit_count()
+    }
+
+    fn prepare(&mut self, alloc: Global, edit: Edit<'_>) -> Result<Vec<char>, OutOfMemory> {
+        let (first, second) = numbers_of(edit);
+        let steps = &mut Steps::new();
+        let start = find_from(self.string.as_utfstr(), self.marks.as_slice(), first, steps);
+        let end = find_from(
+            self.string.as_utfstr(),
+            self.marks.as_slice(),
+            second,
+            steps,
+        );
+        let room = prepare16(&mut self.string, alloc, edit, start, end)?;
+        // No text has more characters than units.
+        let most = self.string.capacity() / 64;
+        self.marks.reserve(most.saturating_sub(self.marks.len()))?;
+        Ok(room)
+    }
+
+    fn apply(&mut self, edit: Edit<'_>, room: Vec<char>) -> Reply {
+        self.apply_counted(edit, room, &mut Steps::new())
+    }
+}

@@ -1,0 +1,104 @@
+//! Marks of a text in UTF-16, every sixty-four characters, and the search for a character from the last mark before it.
+//!
+//! Each unit that is read ticks once.
+ghost use Rattle.std.specs.Prelude.{◌≡◌, ◌+◌, ◌-◌, ◌*◌, ◌/◌, ◌≤◌, length, take, drop, vec_capacity};
+ghost use Rattle.wide_unit.specs.EncodingForm.{Utf16, encode};
+ghost use Rattle.wide_unit.specs.Items.{chars};
+ghost use Rattle.wide_utfstr.specs.View.{units_seen};
+ghost use Rattle.wide_utfstr.specs.Iter.{chars_left};
+ghost use Rattle.wide_edit.specs.Counted.{counted, AddsAtMost};
+ghost use Rattle.wide_edit.specs.Found.{IsFoundAt};
+ghost use Rattle.wide_edit.specs.Marks.{mark, marks_of};
+
+use crate::counting::Steps;
+use wide_unit::Unit;
+use wide_utfstr::{CharsUtf16, Utf16Str};
+
+// The offset of a mark, or of the front for number 0, and the characters from there on. The marks are the first of the text's.
+fn seek<'a>(text: Utf16Str<'a>, marks: &[usize], number: usize) -> (usize, CharsUtf16<'a>)
+    requires some { marks.now ≡ take (length marks.now) (marks_of (chars Utf16 (units_seen text))) }
+    requires within { number ≤ length marks.now }
+    ensures at { result.0 ≡ mark (chars Utf16 (units_seen text.entry)) number }
+    ensures rest { chars_left Utf16 (λ u. u) result.1 ≡ drop (64 * number) (chars Utf16 (units_seen text.entry)) }
+{
+    if number == 0 {
+        return (0, text.chars());
+    }
+    let at = marks[number - 1];
+    let (_front, behind) = text.split_at(at);
+    (at, behind.chars())
+}
+
+// Puts the marks that are missing behind those that are there. It reads the units from the last of these on.
+pub(crate) fn mend(text: Utf16Str<'_>, marks: &mut Vec<usize>, steps: &mut Steps)
+    requires some { marks.old.items ≡ take (length marks.old.items) (marks_of (chars Utf16 (units_seen text))) }
+    requires room { length (chars Utf16 (units_seen text)) / 64 ≤ vec_capacity marks.old }
+    ensures marks { marks.new.items ≡ marks_of (chars Utf16 (units_seen text.entry)) }
+    ensures room { vec_capacity marks.new ≡ vec_capacity marks.old }
+    ensures steps { counted steps.new + mark (chars Utf16 (units_seen text.entry)) (length marks.old.items) ≡ counted steps.old + length (units_seen text.entry) }
+{
+    let _units = text.len();
+    let (mut at, mut rest) = seek(text, marks.as_slice(), marks.len());
+    let mut gone = 0usize;
+    while let Some(c) = rest.next() {
+        let len = u16::char_len(c);
+        steps.tick(len);
+        at += len;
+        if gone < 63 {
+            gone += 1;
+            continue;
+        }
+        marks.push_reserved(at);
+        gone = 0;
+    }
+}
+
+// The unit offset of character number `index`, where there are as many. It reads from the last mark not past it, at most 63
+// characters.
+pub(crate) fn find_from(
+    text: Utf16Str<'_>,
+    marks: &[usize],
+    index: usize,
+    steps: &mut Steps,
+) -> Option<usize>
+    requires { marks.now ≡ marks_of (chars Utf16 (units_seen text)) }
+    ensures found { IsFoundAt Utf16 (units_seen text.entry) index result }
+    ensures steps { AddsAtMost steps.old steps.new 126 }
+{
+    let _units = text.len();
+    let first = (index / 64).min(marks.len());
+    let (mut at, mut rest) = seek(text, marks, first);
+    for number in 64 * first..index {
+        let c = rest.next()?;
+        let len = u16::char_len(c);
+        steps.tick(len);
+        at += len;
+    }
+    Some(at)
+}
+
+// How many characters there are. It reads those behind the last mark, at most 63.
+pub(crate) fn count_from(text: Utf16Str<'_>, marks: &[usize], steps: &mut Steps) -> usize
+    requires { marks.now ≡ marks_of (chars Utf16 (units_seen text)) }
+    ensures count { result ≡ length (chars Utf16 (units_seen text.entry)) }
+    ensures steps { AddsAtMost steps.old steps.new 126 }
+{
+    let _units = text.len();
+    let (_at, mut rest) = seek(text, marks, marks.len());
+    let mut count = 64 * marks.len();
+    while let Some(c) = rest.next() {
+        steps.tick(u16::char_len(c));
+        count += 1;
+    }
+    count
+}
+
+// How many units stand behind a mark. It reads none of them.
+pub(crate) fn units_from(text: Utf16Str<'_>, marks: &[usize], number: usize) -> usize
+    requires some { marks.now ≡ marks_of (chars Utf16 (units_seen text)) }
+    requires within { number ≤ length marks.now }
+    ensures { result ≡ length (encode Utf16 (chars Utf16 (units_seen text.entry))) - mark (chars Utf16 (units_seen text.entry)) number }
+{
+    let (at, _rest) = seek(text, marks, number);
+    text.len() - at
+}
