@@ -110,14 +110,14 @@ fn units_of_16_bits(rt: HostRuntime) {
     for (units, policy, text) in ROWS16 {
         assert!(rt;
             holds(rt.alloc(), units, policy, text),
-            "{units:x?} {policy:?}"
+            "{units:?} {policy:?}"
         );
         let mut decoder = decode_utf16_lossy_with(units.iter().copied(), policy);
         let mut well = decoder.size_hint() == (0, None);
         for c in text.chars() {
             well &= decoder.next() == Some(c);
         }
-        assert!(rt; well & decoder.next().is_none(), "{units:x?} {policy:?}");
+        assert!(rt; well & decoder.next().is_none(), "{units:?} {policy:?}");
     }
 }
 
@@ -126,7 +126,7 @@ fn units_of_32_bits(rt: HostRuntime) {
     for (units, policy, text) in ROWS32 {
         assert!(rt;
             holds(rt.alloc(), units, policy, text),
-            "{units:x?} {policy:?}"
+            "{units:?} {policy:?}"
         );
         let mut decoder = decode_utf32_lossy_with(units.iter().copied(), policy);
         let mut well = decoder.size_hint() == (0, None);
@@ -135,7 +135,7 @@ fn units_of_32_bits(rt: HostRuntime) {
         }
         assert!(rt;
             well & decoder.next_back().is_none(),
-            "{units:x?} {policy:?}"
+            "{units:?} {policy:?}"
         );
     }
 }
