@@ -17,11 +17,11 @@ module _ {A : Type 0} (whole us ts : List A) (b : Bool) (e : whole ≡ us) where
   asked_last None f h = (e ∙ h.0, ap (λ d. cond d [] ts) f)
   asked_last (Some x) f h = e ∙ h ∙ ap (λ d. cond d [] ts ++ x ∷ []) (sym f)
 
-by_end : {P Q : Type 0} (b : Bool) → MatchBool b P Q → ((b ≡ true) × P) ⊎ ((b ≡ false) × Q)
+pub by_end : {P Q : Type 0} (b : Bool) → MatchBool b P Q → ((b ≡ true) × P) ⊎ ((b ≡ false) × Q)
 by_end true h = inl (refl, h)
 by_end false h = inr (refl, h)
 
-left_where : {I A : Type 0} (rest : I → List A) (s : Source I) (b : Bool) → s.ended ≡ b → unasked rest s ≡ cond b [] (rest s.inner)
+pub left_where : {I A : Type 0} (rest : I → List A) (s : Source I) (b : Bool) → s.ended ≡ b → unasked rest s ≡ cond b [] (rest s.inner)
 left_where rest s b e = ap (λ d. cond d [] (rest s.inner)) e
 
 module _ {I A : Type 0} {Fits : A → Type 0} {steps : I → Option A → I → Type 0} (rest : I → List A) where

@@ -5,3 +5,4 @@ pub mod Turns
 pub mod Runs
 pub mod Ended
 pub mod Replaced
+pub mod Rows

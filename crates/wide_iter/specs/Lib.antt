@@ -3,6 +3,8 @@ pub mod Over
 pub mod Decoder16
 pub mod Decoder32
 pub mod Lossy
+pub mod LossyWith
+pub mod LossyDecoders
 pub mod Source
 pub mod Sources
 pub mod Hints

@@ -2,7 +2,7 @@
 ghost use Rattle.std.specs.Prelude.{◌≡◌, ◌<◌, [], length, map, IsOk, IfOk, IfErr, IfSome, IfNone, OnOk, None, string_bytes};
 ghost use Rattle.wide_unit.specs.EncodingForm.{Utf16, Utf32};
 ghost use Rattle.wide_unit.specs.Items.{items, chars, IsWellFormed, IsFirstFault};
-ghost use Rattle.wide_unit.specs.Lossy.{lossy};
+ghost use Rattle.wide_unit.specs.Lossy.{lossy, lossy_by};
 ghost use Rattle.wide_unit.specs.Utf8.{utf8};
 ghost use Rattle.wide_utferror.specs.UtfError.{index_of, unit_of, vec_of};
 ghost use Rattle.wide_ucstr.specs.View.{contents_seen};
@@ -10,6 +10,7 @@ ghost use Rattle.wide_ucstr.specs.View.{contents_seen};
 use crate::view::UCStr;
 use std::alloc::Allocator;
 use wide_error::OutOfMemory;
+use wide_unit::Policy;
 use wide_utferror::{FaultUnit, Utf16ConvertError, Utf32ConvertError};
 
 impl<C: FaultUnit> UCStr<'_, C> {
@@ -26,6 +27,22 @@ impl<C: FaultUnit> UCStr<'_, C> {
         ensures succeeds { contents_seen self.entry ≡ [] → IsOk result }
     {
         self.as_ustr().to_string_lossy(alloc)
+    }
+
+    /// As [`UCStr::to_string_lossy`], with what the policy says in place of U+FFFD for each unit that belongs to no character.
+    ///
+    /// # Errors
+    ///
+    /// The allocation was refused.
+    pub fn to_string_lossy_with<A: Allocator>(
+        self,
+        alloc: A,
+        policy: Policy,
+    ) -> Result<String<A>, OutOfMemory>
+        ensures text { IfOk result (λ text. string_bytes text ≡ utf8 (lossy_by policy (items C.form (map C.number (contents_seen self.entry))))) }
+        ensures succeeds { contents_seen self.entry ≡ [] → IsOk result }
+    {
+        self.as_ustr().to_string_lossy_with(alloc, policy)
     }
 }
 

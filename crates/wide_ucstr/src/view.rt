@@ -2,20 +2,21 @@
 ghost use Rattle.std.specs.Prelude.{◌≡◌, ℕ, ◌≤◌, ◌↔◌, ◌+◌, ◌++◌, ◌∷◌, ◌==◌, [], length, map, take, drop, IsSome, IfOk, IfErr, OnOk, OnErr, IfSome, ⊤};
 ghost use Rattle.wide_unit.specs.Range.{IsInRange, part_of};
 ghost use Rattle.wide_unit.specs.Items.{items};
-ghost use Rattle.wide_unit.specs.Lossy.{lossy};
+ghost use Rattle.wide_unit.specs.Lossy.{lossy, lossy_by};
 ghost use Rattle.wide_unit.specs.Nul.{HasNoNul, IsFirstNul};
 ghost use Rattle.wide_ustr.specs.View.{units_seen};
 ghost use Rattle.wide_ustr.specs.Indexed.{indexed, indexed_lossy};
 ghost use Rattle.wide_ustr.specs.Printed.{displayed, displayed_skipping};
 ghost use Rattle.wide_ustr.specs.Iter.{items_left, lossy_left, indices_left, indices_lossy_left, offset_of, lossy_offset_of};
+ghost use Rattle.wide_ustr.specs.LossyWith.{lossy_with_left, lossy_with_rest};
 ghost use Rattle.std.proofs.Props.{props};
 ghost use Rattle.wide_ucstr.specs.CString.{IsCString};
 
 use std::alloc::AllocError;
 use std::ops::RangeBounds;
 use wide_error::{ContainsNul, MissingNulTerminator, NulError};
-use wide_unit::{Unit, first_nul};
-use wide_ustr::{CharIndices, CharIndicesLossy, Chars, CharsLossy, Display, DisplaySkipping, UStr};
+use wide_unit::{Policy, Unit, first_nul};
+use wide_ustr::{CharIndices, CharIndicesLossy, Chars, CharsLossy, CharsLossyWith, Display, DisplaySkipping, UStr};
 use wide_utferror::FaultUnit;
 
 /// A view of a wide C string: units of which the last is the only NUL, by its type.
@@ -194,6 +195,14 @@ impl<'a, C: FaultUnit> UCStr<'a, C> {
         ensures { lossy_left C.form C.number result ≡ lossy (items C.form (map C.number (contents_seen self.entry))) }
     {
         self.as_ustr().chars_lossy()
+    }
+
+    /// The characters of the contents, with what the policy says for each unit that belongs to none, from both ends.
+    pub fn chars_lossy_with(self, policy: Policy) -> CharsLossyWith<'a, C>
+        ensures left { lossy_with_left C.form C.number result ≡ lossy_by policy (items C.form (map C.number (contents_seen self.entry))) }
+        ensures rest { lossy_with_rest result ≡ contents_seen self.entry }
+    {
+        self.as_ustr().chars_lossy_with(policy)
     }
 
     /// What prints the text of the contents, with U+FFFD for each unit that belongs to no character.

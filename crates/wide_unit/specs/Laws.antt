@@ -5,6 +5,7 @@ pub mod Items
 pub mod Ends
 pub mod Utf32
 pub mod Lossy
+pub mod Policies
 pub mod Boundaries
 pub mod Places
 pub mod Splices

@@ -9,7 +9,9 @@ use Rattle.wide_unit.specs.EncodingForm.{EncodingForm, Utf16, Utf32, encode, IsC
 use Rattle.wide_unit.specs.Segmentation.{Item, Char, Fault, IsSegmentation, IsSegmentation16, IsSegmentation32, IsLooseSegmentation}
 use Rattle.wide_unit.specs.Items.{items, chars, IsWellFormed, IsBoundary, first_fault, IsFirstFault}
 use Rattle.wide_unit.specs.Places.{IsPlaceOf, IsCharBoundary, chars_before}
-use Rattle.wide_unit.specs.Lossy.{lossy}
+use Rattle.wide_unit.specs.Lossy.{lossy, lossy_by, past_faults}
+use Rattle.wide_unit.specs.declared.policy.Policy.{Policy}
+use Rattle.wide_unit.specs.declared.policy.Policy.TheVariants.{Each, Run, Skip}
 use Rattle.wide_unit.specs.Lines.{line_feed, without_return, lines_of}
 use Rattle.wide_unit.specs.Utf8.{utf8_bytes, utf8}
 use Rattle.wide_unit.specs.CodePoint.{code_point_at}
@@ -168,3 +170,36 @@ UnendedIsOneLine = (form : EncodingForm) (us : List ℕ) → us ≢ [] → All (
 abbrev pub FeedEndsLine : Type 0
 FeedEndsLine = (form : EncodingForm) (front back : List ℕ) → All (λ u. u ≢ line_feed) front
     → lines_of (items form (front ++ line_feed ∷ back)) ≡ without_return (items form front) ∷ lines_of (items form back)
+
+-- Lossy text under a policy: by the policy that gives U+FFFD for each fault it is the lossy text
+abbrev pub EachIsLossy : Type 0
+EachIsLossy = (is : List Item) → lossy_by Each is ≡ lossy is
+
+-- a character parts it, whatever stands on both sides
+abbrev pub CharactersPartLossy : Type 0
+CharactersPartLossy = (policy : Policy) (a b : List Item) (c : ℕ) → lossy_by policy (a ++ Char c ∷ b) ≡ lossy_by policy a ++ c ∷ lossy_by policy b
+
+-- a row of faults alone is one U+FFFD, or nothing; behind a fault the faults that follow give none
+abbrev pub RowsGiveOne : Type 0
+RowsGiveOne = (u : ℕ) (us : List ℕ) → lossy_by Run (map Fault (u ∷ us)) ≡ 0xFFFD ∷ []
+
+abbrev pub RowsGiveNone : Type 0
+RowsGiveNone = (us : List ℕ) → lossy_by Skip (map Fault us) ≡ []
+
+abbrev pub RunsGoOn : Type 0
+RunsGoOn = (a b : List Item) (u : ℕ) → lossy_by Run (a ++ Fault u ∷ b) ≡ lossy_by Run (a ++ Fault u ∷ []) ++ lossy_by Run (past_faults b)
+
+-- it is of scalar values, that of well-formed units encodes to them, and twice is once
+abbrev pub PoliciesGiveScalars : Type 0
+PoliciesGiveScalars = (policy : Policy) (form : EncodingForm) (us : List ℕ) → All IsScalar (lossy_by policy (items form us))
+
+abbrev pub PoliciesKeepWellFormed : Type 0
+PoliciesKeepWellFormed = (policy : Policy) (form : EncodingForm) (us : List ℕ) → IsWellFormed form us → encode form (lossy_by policy (items form us)) ≡ us
+
+abbrev pub PoliciesTwice : Type 0
+PoliciesTwice =
+    (policy : Policy) (form : EncodingForm) (us : List ℕ) → lossy_by policy (items form (encode form (lossy_by policy (items form us)))) ≡ lossy_by policy (items form us)
+
+-- and it has no more units than what it stands for
+abbrev pub PoliciesNeverLengthen : Type 0
+PoliciesNeverLengthen = (policy : Policy) (form : EncodingForm) (us : List ℕ) → length (encode form (lossy_by policy (items form us))) ≤ length us

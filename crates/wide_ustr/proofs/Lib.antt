@@ -1,1 +1,2 @@
 pub mod IndexedLemmas
+mod FaultRows

@@ -1,5 +1,6 @@
 pub mod View
 pub mod Indexed
 pub mod Iter
+pub mod LossyWith
 pub mod Lines
 pub mod Printed

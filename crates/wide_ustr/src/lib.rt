@@ -5,6 +5,7 @@ mod display;
 mod iter;
 pub mod laws;
 mod lines;
+mod lossy_with;
 mod places;
 mod text;
 mod view;
@@ -15,4 +16,5 @@ pub use iter::{
     CharIndicesUtf32, Chars, CharsLossy, CharsLossyUtf16, CharsLossyUtf32, CharsUtf16, CharsUtf32,
 };
 pub use lines::{LineView, Lines};
+pub use lossy_with::CharsLossyWith;
 pub use view::{U16Str, U32Str, UStr, WideChar, WideStr};

@@ -2,7 +2,7 @@
 ghost use Rattle.std.specs.Prelude.{◌≡◌, ◌<◌, ◌-◌, ◌^◌, min, length, [], map, IsOk, IfOk, IfErr, IfSome, IfNone, OnOk, None, string_bytes};
 ghost use Rattle.wide_unit.specs.EncodingForm.{Utf16, Utf32};
 ghost use Rattle.wide_unit.specs.Items.{items, chars, IsWellFormed, IsFirstFault};
-ghost use Rattle.wide_unit.specs.Lossy.{lossy};
+ghost use Rattle.wide_unit.specs.Lossy.{lossy, lossy_by};
 ghost use Rattle.wide_unit.specs.Utf8.{utf8};
 ghost use Rattle.wide_utferror.specs.UtfError.{index_of, unit_of, vec_of};
 ghost use Rattle.wide_ustr.specs.View.{units_seen};
@@ -10,16 +10,16 @@ ghost use Rattle.wide_ustr.specs.View.{units_seen};
 use crate::view::UStr;
 use std::alloc::Allocator;
 use wide_error::OutOfMemory;
-use wide_unit::{Unit, check};
+use wide_unit::{Policy, Unit, check};
 use wide_utferror::{Utf16ConvertError, Utf32ConvertError, UtfError};
 
 impl<C: Unit> UStr<'_, C> {
     // How many bytes the lossy text has in UTF-8, or the greatest number where they are more.
-    fn lossy_len(self) -> usize
-        ensures { result ≡ min (length (utf8 (lossy (items C.form (map C.number (units_seen self.entry)))))) (2 ^ 64 - 1) }
+    fn lossy_len(self, policy: Policy) -> usize
+        ensures { result ≡ min (length (utf8 (lossy_by policy (items C.form (map C.number (units_seen self.entry)))))) (2 ^ 64 - 1) }
     {
         let mut len = 0usize;
-        for c in self.chars_lossy() {
+        for c in self.chars_lossy_with(policy) {
             len = len.saturating_add(c.len_utf8());
         }
         len
@@ -36,8 +36,24 @@ impl<C: Unit> UStr<'_, C> {
         ensures text { IfOk result (λ text. string_bytes text ≡ utf8 (lossy (items C.form (map C.number (units_seen self.entry))))) }
         ensures succeeds { units_seen self.entry ≡ [] → IsOk result }
     {
-        let mut text = String::with_capacity(alloc, self.lossy_len())?;
-        for c in self.chars_lossy() {
+        self.to_string_lossy_with(alloc, Policy::Each)
+    }
+
+    /// As [`UStr::to_string_lossy`], with what the policy says in place of U+FFFD for each unit that belongs to no character.
+    ///
+    /// # Errors
+    ///
+    /// The allocation was refused.
+    pub fn to_string_lossy_with<A: Allocator>(
+        self,
+        alloc: A,
+        policy: Policy,
+    ) -> Result<String<A>, OutOfMemory>
+        ensures text { IfOk result (λ text. string_bytes text ≡ utf8 (lossy_by policy (items C.form (map C.number (units_seen self.entry))))) }
+        ensures succeeds { units_seen self.entry ≡ [] → IsOk result }
+    {
+        let mut text = String::with_capacity(alloc, self.lossy_len(policy))?;
+        for c in self.chars_lossy_with(policy) {
             text.push(c)?;
         }
         Ok(text)

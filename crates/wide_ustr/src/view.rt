@@ -2,14 +2,15 @@
 ghost use Rattle.std.specs.Prelude.{◌≡◌, ◌≤◌, ◌↔◌, ◌++◌, ◌==◌, [], length, map, take, drop, IsSome, IfSome};
 ghost use Rattle.wide_unit.specs.Range.{IsInRange, part_of};
 ghost use Rattle.wide_unit.specs.Items.{items};
-ghost use Rattle.wide_unit.specs.Lossy.{lossy};
+ghost use Rattle.wide_unit.specs.Lossy.{lossy, lossy_by};
 ghost use Rattle.wide_ustr.specs.Indexed.{indexed, indexed_lossy};
 
 use crate::display::{Display, DisplaySkipping};
 use crate::iter::{CharIndices, CharIndicesLossy, Chars, CharsLossy};
+use crate::lossy_with::CharsLossyWith;
 use std::ops::RangeBounds;
 use std::slice;
-use wide_unit::{Unit, range_check};
+use wide_unit::{Policy, Unit, range_check};
 use wide_utferror::FaultUnit;
 
 /// A view of units of 16 or 32 bits, of any values: text that may be well formed or not.
@@ -133,12 +134,24 @@ impl<'a, C> UStr<'a, C> {
 impl<'a, C: Unit> UStr<'a, C> {
     ghost use Rattle.wide_ustr.specs.View.{units_seen};
     ghost use Rattle.wide_ustr.specs.Iter.{lossy_left, indices_lossy_left, lossy_offset_of};
+    ghost use Rattle.wide_ustr.specs.LossyWith.{lossy_with_left, lossy_with_rest};
 
     /// The characters, with U+FFFD for each unit that belongs to none, from both ends.
     pub fn chars_lossy(self) -> CharsLossy<'a, C>
         ensures { lossy_left C.form C.number result ≡ lossy (items C.form (map C.number (units_seen self.entry))) }
     {
         CharsLossy { rest: self.units }
+    }
+
+    /// The characters, with what the policy says for each unit that belongs to none, from both ends.
+    pub fn chars_lossy_with(self, policy: Policy) -> CharsLossyWith<'a, C>
+        ensures left { lossy_with_left C.form C.number result ≡ lossy_by policy (items C.form (map C.number (units_seen self.entry))) }
+        ensures rest { lossy_with_rest result ≡ units_seen self.entry }
+    {
+        CharsLossyWith {
+            rest: self.units,
+            policy,
+        }
     }
 
     /// As [`UStr::chars_lossy`], each with the offset, in units, at which it begins in the view.

@@ -3,7 +3,9 @@ use Rattle.std.specs.Prelude.{◌≡◌, ◌↔◌, ℕ, List, map}
 use Rattle.wide_unit.specs.declared.unit.Unit.{Ghosts}
 use Rattle.wide_unit.specs.EncodingForm.{EncodingForm, encode}
 use Rattle.wide_unit.specs.Items.{items, IsWellFormed}
-use Rattle.wide_unit.specs.Lossy.{lossy}
+use Rattle.wide_unit.specs.Lossy.{lossy_by}
+use Rattle.wide_unit.specs.declared.policy.Policy.{Policy}
+use Rattle.wide_unit.specs.declared.policy.Policy.TheVariants.{Each}
 use Rattle.wide_ustring.specs.Units.{Units}
 use Rattle.wide_utfstr.specs.View.{units_seen}
 use Rattle.wide_utfstring.specs.declared.cow.CowUtfStr.{CowUtfStr}
@@ -25,11 +27,15 @@ module _ {C A F : Type 0} {g : Ghosts C} where
   IfOwned (Borrowed view) P = Unit {0}
   IfOwned (Owned string) P = P string
 
-  -- the text of the units with U+FFFD for each fault, which is its own lossy text; borrowed exactly where the units are well
-  -- formed, and then these units
-  pub record IsLossyOf (form : EncodingForm) (number : C → ℕ) (units : List C) (text : CowUtfStr C A F g) : Type 0 where
-    pub encoded : map number (cow_units text) ≡ encode form (lossy (items form (map number units)))
+  -- the text of the units with what the policy says for each fault, which is its own lossy text; borrowed exactly where the
+  -- units are well formed, and then these units
+  pub record IsLossyBy (policy : Policy) (form : EncodingForm) (number : C → ℕ) (units : List C) (text : CowUtfStr C A F g) : Type 0 where
+    pub encoded : map number (cow_units text) ≡ encode form (lossy_by policy (items form (map number units)))
     pub well_formed : IsWellFormed form (map number (cow_units text))
-    pub once : encode form (lossy (items form (map number (cow_units text)))) ≡ map number (cow_units text)
+    pub once : encode form (lossy_by policy (items form (map number (cow_units text)))) ≡ map number (cow_units text)
     pub borrowed : IsBorrowed text ↔ IsWellFormed form (map number units)
     pub same : IsBorrowed text → cow_units text ≡ units
+
+  -- the same with U+FFFD for each fault
+  abbrev pub IsLossyOf : EncodingForm → (C → ℕ) → List C → CowUtfStr C A F g → Type 0
+  IsLossyOf = IsLossyBy Each

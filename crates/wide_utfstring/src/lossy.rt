@@ -2,16 +2,16 @@
 ghost use Rattle.std.specs.Prelude.{◌≡◌, ◌≤◌, length, map, take, IsOk, IfOk};
 ghost use Rattle.wide_unit.specs.EncodingForm.{encode};
 ghost use Rattle.wide_unit.specs.Items.{items, IsWellFormed};
-ghost use Rattle.wide_unit.specs.Lossy.{lossy};
+ghost use Rattle.wide_unit.specs.Lossy.{lossy_by};
 ghost use Rattle.wide_ustr.specs.View.{units_seen as ustr_units};
 ghost use Rattle.wide_ucstr.specs.View.{contents_seen};
-ghost use Rattle.wide_utfstring.specs.CowText.{IsLossyOf};
+ghost use Rattle.wide_utfstring.specs.CowText.{IsLossyOf, IsLossyBy};
 
 use crate::{CowUtfStr, UtfString};
 use std::alloc::Allocator;
 use wide_error::OutOfMemory;
 use wide_ucstr::UCStr;
-use wide_unit::check;
+use wide_unit::{Policy, check};
 use wide_ustr::UStr;
 use wide_utferror::FaultUnit;
 use wide_utfstr::UtfStr;
@@ -31,25 +31,47 @@ impl<C: FaultUnit, A: Allocator> UtfString<C, A> {
         ensures text { IfOk result (IsLossyOf C.form C.number units.now) }
         ensures succeeds { IsWellFormed C.form (map C.number units.now) → IsOk result }
     {
+        UtfString::from_slice_lossy_with(alloc, units, Policy::Each)
+    }
+
+    /// As [`UtfString::from_slice_lossy`], with what the policy says in place of U+FFFD for each unit that belongs to no character.
+    /// A string has room for as many units as there are.
+    ///
+    /// # Errors
+    ///
+    /// Memory was refused for a string. Well-formed units never fail.
+    pub fn from_slice_lossy_with<'a>(
+        alloc: A,
+        units: &'a [C],
+        policy: Policy,
+    ) -> Result<CowUtfStr<'a, C, A>, OutOfMemory>
+        ensures text { IfOk result (IsLossyBy policy C.form C.number units.now) }
+        ensures succeeds { IsWellFormed C.form (map C.number units.now) → IsOk result }
+    {
         match check(units) {
             Ok(()) => Ok(CowUtfStr::Borrowed(UtfStr::from_slice_unchecked(units))),
             Err((index, _unit)) => Ok(CowUtfStr::Owned(UtfString::lossy_copy(
-                alloc, units, index,
+                alloc, units, index, policy,
             )?)),
         }
     }
 
-    // The text of units that are well formed before this index, with U+FFFD for each fault.
-    fn lossy_copy(alloc: A, units: &[C], index: usize) -> Result<Self, OutOfMemory>
+    // The text of units that are well formed before this index, with what the policy says for each fault.
+    fn lossy_copy(
+        alloc: A,
+        units: &[C],
+        index: usize,
+        policy: Policy,
+    ) -> Result<Self, OutOfMemory>
         requires within { index ≤ length units.now }
         requires front { IsWellFormed C.form (map C.number (take index units.now)) }
-        ensures { IfOk result (λ s. map C.number s.units ≡ encode C.form (lossy (items C.form (map C.number units.now)))) }
+        ensures { IfOk result (λ s. map C.number s.units ≡ encode C.form (lossy_by policy (items C.form (map C.number units.now)))) }
     {
         let (front, rest) = units.split_at(index);
         // U+FFFD takes one unit, as the fault in whose place it stands, so that all fits.
         let mut text = UtfString::with_capacity(alloc, units.len())?;
         text.push_utfstr(UtfStr::from_slice_unchecked(front))?;
-        for c in UStr::from_slice(rest).chars_lossy() {
+        for c in UStr::from_slice(rest).chars_lossy_with(policy) {
             text.push(c)?;
         }
         Ok(text)
@@ -66,6 +88,18 @@ impl<C: FaultUnit, A: Allocator> UtfString<C, A> {
         UtfString::from_slice_lossy(alloc, view.as_slice())
     }
 
+    /// As [`UtfString::from_slice_lossy_with`], of the units of a view.
+    pub fn from_ustr_lossy_with<'a>(
+        alloc: A,
+        view: UStr<'a, C>,
+        policy: Policy,
+    ) -> Result<CowUtfStr<'a, C, A>, OutOfMemory>
+        ensures text { IfOk result (IsLossyBy policy C.form C.number (ustr_units view.entry)) }
+        ensures succeeds { IsWellFormed C.form (map C.number (ustr_units view.entry)) → IsOk result }
+    {
+        UtfString::from_slice_lossy_with(alloc, view.as_slice(), policy)
+    }
+
     /// As [`UtfString::from_slice_lossy`], of the contents of a C string, without its NUL.
     pub fn from_ucstr_lossy<'a>(
         alloc: A,
@@ -75,5 +109,17 @@ impl<C: FaultUnit, A: Allocator> UtfString<C, A> {
         ensures succeeds { IsWellFormed C.form (map C.number (contents_seen view.entry)) → IsOk result }
     {
         UtfString::from_slice_lossy(alloc, view.as_slice())
+    }
+
+    /// As [`UtfString::from_slice_lossy_with`], of the contents of a C string, without its NUL.
+    pub fn from_ucstr_lossy_with<'a>(
+        alloc: A,
+        view: UCStr<'a, C>,
+        policy: Policy,
+    ) -> Result<CowUtfStr<'a, C, A>, OutOfMemory>
+        ensures text { IfOk result (IsLossyBy policy C.form C.number (contents_seen view.entry)) }
+        ensures succeeds { IsWellFormed C.form (map C.number (contents_seen view.entry)) → IsOk result }
+    {
+        UtfString::from_slice_lossy_with(alloc, view.as_slice(), policy)
     }
 }

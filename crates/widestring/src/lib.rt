@@ -11,14 +11,15 @@ pub mod utfstring;
 
 pub use wide_iter as iter;
 pub use wide_iter::{
-    decode_utf16, decode_utf16_lossy, decode_utf32, decode_utf32_lossy, encode_utf8, encode_utf16,
-    encode_utf32,
+    decode_utf16, decode_utf16_lossy, decode_utf16_lossy_with, decode_utf32, decode_utf32_lossy,
+    decode_utf32_lossy_with, encode_utf8, encode_utf16, encode_utf32,
 };
 pub use wide_ucstr as ucstr;
 pub use wide_ucstr::{U16CStr, U32CStr, WideCStr};
 pub use wide_ucstring as ucstring;
 pub use wide_ucstring::{U16CString, U32CString, WideCString};
 pub use wide_unit as unit;
+pub use wide_unit::Policy;
 pub use wide_ustr as ustr;
 pub use wide_ustr::{U16Str, U32Str, WideChar, WideStr};
 pub use wide_ustring as ustring;

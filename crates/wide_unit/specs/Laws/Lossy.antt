@@ -1,5 +1,5 @@
 -- Lossy text is text, as long as the units, and that of well-formed units is their own.
-use Rattle.std.proofs.Common.{◌≡◌, ℕ, suc, zero, List, [], ◌∷◌, ◌++◌, refl, sym, ◌∙◌, ap, arith, length, length-append}
+use Rattle.std.proofs.Common.{◌≡◌, ℕ, suc, zero, List, [], ◌∷◌, ◌++◌, refl, ◌∙◌, ap, arith, length, length-append}
 use Rattle.std.specs.Prelude.{map}
 use Rattle.std.specs.Char.{IsScalar}
 use Rattle.std.specs.List.{All}
@@ -14,7 +14,7 @@ use Rattle.wide_unit.specs.Laws.Items.{items-chain, chars-of_well_formed, encode
 use Rattle.wide_unit.specs.Laws.Ends.{items-append_left}
 use Rattle.wide_unit.specs.Laws.Places.{IsWellFormed-encode}
 
-lossy-chars : (cs : List ℕ) → lossy (map Char cs) ≡ cs
+pub lossy-chars : (cs : List ℕ) → lossy (map Char cs) ≡ cs
 lossy-chars [] = refl
 lossy-chars (c ∷ cs) = ap (λ xs. c ∷ xs) (lossy-chars cs)
 
@@ -61,9 +61,3 @@ lossy-after form a b well =
     let ys = lossy (items form b) in
     ap (λ is. encode form (lossy is)) (items-append_left form a b well) ∙ ap (λ cs. encode form cs) (map-append lossy_char (items form a) (items form b))
     ∙ flat_map-append (code_units form) xs ys ∙ ap (λ us. us ++ encode form ys) (encode-lossy form a well)
-
--- the same of units by their numbers
-pub lossy-split : {C : Type 0} (form : EncodingForm) (number : C → ℕ) (units front back : List C) → front ++ back ≡ units → IsWellFormed form (map number front)
-    → map number front ++ encode form (lossy (items form (map number back))) ≡ encode form (lossy (items form (map number units)))
-lossy-split form number units front back e well =
-    sym (ap (λ us. encode form (lossy (items form us))) (ap (map number) (sym e) ∙ map-append number front back) ∙ lossy-after form (map number front) (map number back) well)

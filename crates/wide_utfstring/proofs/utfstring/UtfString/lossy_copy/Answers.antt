@@ -11,4 +11,4 @@ loop-c-init g c =
     let units = c.args.units.now in
     let front = take c.args.index units in
     let back = drop c.args.index units in
-    lossy_joined g.C.Unit.form g.C.Unit.number units front back _ _ (take-append-drop c.args.index units) c.requires.front (search rules) (search rules)
+    lossy_joined c.args.policy g.C.Unit.form g.C.Unit.number units front back _ _ (take-append-drop c.args.index units) c.requires.front (search rules) (search rules)

@@ -1,0 +1,139 @@
+//! Lossy decoders under a policy.
+ghost use Rattle.std.specs.Prelude.{◌≡◌, ℕ, List, IfSome, None};
+ghost use Rattle.std.specs.Iterator.{UpTo};
+ghost use Rattle.std.specs.Iterator.SizeHint.{IsWithinCount};
+ghost use Rattle.wide_unit.specs.EncodingForm.{Utf16, Utf32, IsCodeUnit};
+ghost use Rattle.wide_unit.specs.Items.{items};
+ghost use Rattle.wide_unit.specs.Lossy.{lossy_by};
+ghost use Rattle.wide_iter.specs.Over.{FirstOver, LastOver};
+ghost use Rattle.wide_iter.specs.LossyDecoders.{units16_of, units32_of, lossy16_with_left, lossy32_with_left, lossy16_with_count, lossy32_with_count, CanDecode16With, CanDecode32With, IsNew16With, IsNew32With};
+
+use crate::decode16::{DecodeUtf16, decode_utf16};
+use crate::decode32::{DecodeUtf32, decode_utf32};
+use crate::lossy_with::LossyWith;
+use std::iter::FusedIterator;
+use wide_unit::Policy;
+
+/// An iterator over the characters of UTF-16 units, with what a policy says in place of each unit that belongs to none (Unicode Standard,
+/// D93b).
+///
+/// It gives the characters from both ends where the source has both, stays ended, and asks a source that has ended no more.
+/// A row of faults is read whole by the call that reaches it first. It takes no memory. Made by
+/// [`decode_utf16_lossy_with`].
+#[derive(Debug, Drop)]
+pub struct DecodeUtf16LossyWith<I> {
+    chars: LossyWith<DecodeUtf16<I>>,
+}
+
+/// A lossy decoder, under a policy, of the 16-bit units that `units` gives.
+pub fn decode_utf16_lossy_with<U: IntoIterator<Item = u16>>(
+    units: U,
+    policy: Policy,
+) -> DecodeUtf16LossyWith<U::IntoIter>
+    ensures source { U.into_iter_gives units (units16_of result) }
+    ensures new { IsNew16With result }
+    ensures items { (rest : U.IntoIter → List ℕ) → lossy16_with_left rest result ≡ lossy_by policy (items Utf16 (rest (units16_of result))) }
+{
+    DecodeUtf16LossyWith {
+        chars: LossyWith::new(decode_utf16(units), policy),
+    }
+}
+
+impl<I: Iterator<Item = u16>> Iterator for DecodeUtf16LossyWith<I> {
+    type Item = char;
+
+    ghost can_next = { CanDecode16With I.can_next I.remaining };
+
+    ghost next_gives = { FirstOver (IsCodeUnit Utf16) I.next_gives (λ c. c) lossy16_with_left };
+
+    ghost remaining = { lossy16_with_count I.remaining };
+
+    #[inline]
+    fn next(&mut self) -> Option<char> {
+        self.chars.next()
+    }
+
+    /// No bounds: how many characters a row of faults gives is not known before it is read.
+    fn size_hint(&self) -> (usize, Option<usize>)
+        ensures lower { IsWithinCount result.0 (lossy16_with_count I.remaining self.now) }
+        ensures upper { IfSome result.1 (UpTo (lossy16_with_count I.remaining self.now)) }
+        ensures value { result ≡ (0, None) }
+    {
+        (0, None)
+    }
+}
+
+impl<I: DoubleEndedIterator<Item = u16>> DoubleEndedIterator for DecodeUtf16LossyWith<I> {
+    ghost can_next_back = { CanDecode16With I.can_next_back I.remaining };
+
+    ghost next_back_gives = { LastOver (IsCodeUnit Utf16) I.next_back_gives (λ c. c) lossy16_with_left };
+
+    #[inline]
+    fn next_back(&mut self) -> Option<char> {
+        self.chars.next_back()
+    }
+}
+
+impl<I: Iterator<Item = u16>> FusedIterator for DecodeUtf16LossyWith<I> {}
+
+/// An iterator over the characters of UTF-32 units, with what a policy says in place of each unit that is none (Unicode Standard,
+/// D93b).
+///
+/// It gives the characters from both ends where the source has both, stays ended, and asks a source that has ended no more.
+/// A row of faults is read whole by the call that reaches it first. It takes no memory. Made by
+/// [`decode_utf32_lossy_with`].
+#[derive(Debug, Drop)]
+pub struct DecodeUtf32LossyWith<I> {
+    chars: LossyWith<DecodeUtf32<I>>,
+}
+
+/// A lossy decoder, under a policy, of the 32-bit units that `units` gives.
+pub fn decode_utf32_lossy_with<U: IntoIterator<Item = u32>>(
+    units: U,
+    policy: Policy,
+) -> DecodeUtf32LossyWith<U::IntoIter>
+    ensures source { U.into_iter_gives units (units32_of result) }
+    ensures new { IsNew32With result }
+    ensures items { (rest : U.IntoIter → List ℕ) → lossy32_with_left rest result ≡ lossy_by policy (items Utf32 (rest (units32_of result))) }
+{
+    DecodeUtf32LossyWith {
+        chars: LossyWith::new(decode_utf32(units), policy),
+    }
+}
+
+impl<I: Iterator<Item = u32>> Iterator for DecodeUtf32LossyWith<I> {
+    type Item = char;
+
+    ghost can_next = { CanDecode32With I.can_next I.remaining };
+
+    ghost next_gives = { FirstOver (IsCodeUnit Utf32) I.next_gives (λ c. c) lossy32_with_left };
+
+    ghost remaining = { lossy32_with_count I.remaining };
+
+    #[inline]
+    fn next(&mut self) -> Option<char> {
+        self.chars.next()
+    }
+
+    /// No bounds: how many characters a row of faults gives is not known before it is read.
+    fn size_hint(&self) -> (usize, Option<usize>)
+        ensures lower { IsWithinCount result.0 (lossy32_with_count I.remaining self.now) }
+        ensures upper { IfSome result.1 (UpTo (lossy32_with_count I.remaining self.now)) }
+        ensures value { result ≡ (0, None) }
+    {
+        (0, None)
+    }
+}
+
+impl<I: DoubleEndedIterator<Item = u32>> DoubleEndedIterator for DecodeUtf32LossyWith<I> {
+    ghost can_next_back = { CanDecode32With I.can_next_back I.remaining };
+
+    ghost next_back_gives = { LastOver (IsCodeUnit Utf32) I.next_back_gives (λ c. c) lossy32_with_left };
+
+    #[inline]
+    fn next_back(&mut self) -> Option<char> {
+        self.chars.next_back()
+    }
+}
+
+impl<I: Iterator<Item = u32>> FusedIterator for DecodeUtf32LossyWith<I> {}

@@ -1,0 +1,60 @@
+//! Lossy reading from both ends, by a list of calls.
+ghost use Rattle.std.specs.Prelude.{◌≡◌, IfOk};
+ghost use Rattle.wide_unit.specs.EncodingForm.{Utf16, Utf32};
+ghost use Rattle.wide_unit.specs.Items.{items};
+ghost use Rattle.wide_unit.specs.Lossy.{lossy_by};
+ghost use Rattle.wide_iter.specs.Answers.{answers};
+
+use crate::ends::End;
+use crate::lossy_decoders::{decode_utf16_lossy_with, decode_utf32_lossy_with};
+use std::alloc::Allocator;
+use wide_error::OutOfMemory;
+use wide_unit::Policy;
+
+/// What a lossy decoder of the 16-bit `units` answers, under a policy, to the calls of `ends`, one answer for each call, in
+/// order (Unicode Standard, D91 and D93b).
+///
+/// Memory for the answers is asked for once; where it is refused, the answer is [`OutOfMemory`].
+pub fn read_lossy_ends16<A: Allocator>(
+    alloc: A,
+    units: &[u16],
+    policy: Policy,
+    ends: &[End],
+) -> Result<Vec<Option<char>, A>, OutOfMemory>
+    ensures { IfOk result (λ v. v.items ≡ answers (lossy_by policy (items Utf16 units.now)) ends.now) }
+{
+    let mut given = Vec::with_capacity(alloc, ends.len())?;
+    let mut decoder = decode_utf16_lossy_with(units.iter().copied(), policy);
+    for end in ends {
+        let answer = match end {
+            End::Front => decoder.next(),
+            End::Back => decoder.next_back(),
+        };
+        given.push(answer)?;
+    }
+    Ok(given)
+}
+
+/// What a lossy decoder of the 32-bit `units` answers, under a policy, to the calls of `ends`, one answer for each call, in
+/// order (Unicode Standard, D90 and D93b).
+///
+/// Memory for the answers is asked for once; where it is refused, the answer is [`OutOfMemory`].
+pub fn read_lossy_ends32<A: Allocator>(
+    alloc: A,
+    units: &[u32],
+    policy: Policy,
+    ends: &[End],
+) -> Result<Vec<Option<char>, A>, OutOfMemory>
+    ensures { IfOk result (λ v. v.items ≡ answers (lossy_by policy (items Utf32 units.now)) ends.now) }
+{
+    let mut given = Vec::with_capacity(alloc, ends.len())?;
+    let mut decoder = decode_utf32_lossy_with(units.iter().copied(), policy);
+    for end in ends {
+        let answer = match end {
+            End::Front => decoder.next(),
+            End::Back => decoder.next_back(),
+        };
+        given.push(answer)?;
+    }
+    Ok(given)
+}

@@ -1,0 +1,142 @@
+//! Decoders that give what a policy says in place of faults.
+ghost use Rattle.std.specs.Prelude.{◌≡◌, true, false, IfNone, IfSome, None};
+ghost use Rattle.std.specs.Iterator.{MakesProgress, UpTo};
+ghost use Rattle.std.specs.Iterator.SizeHint.{IsWithinCount};
+ghost use Rattle.wide_iter.specs.Source.{has_ended, inner_of, source_count, CanAsk};
+ghost use Rattle.wide_iter.specs.LossyWith.{CanAskAll, TakesFirstCharacter, TakesLastCharacter, LossyFirst, LossyLast, lossy_source, policy_of, IsUnread, lossy_with_count};
+
+use crate::source::Source;
+use wide_unit::Policy;
+
+/// An iterator over the characters that `items` gives, with what a policy says in place of each fault.
+///
+/// It gives the characters from both ends where the decoder has both, stays ended, and asks a decoder that has ended no
+/// more. It takes no memory.
+#[derive(Debug, Drop)]
+pub(crate) struct LossyWith<D> {
+    items: Source<D>,
+    policy: Policy,
+    // A character that was read to look past a row of faults, at each end.
+    front: Option<char>,
+    back: Option<char>,
+}
+
+impl<D> LossyWith<D> {
+    // The lossy characters of what `items` gives.
+    pub(crate) fn new(items: D, policy: Policy) -> LossyWith<D>
+        ensures items { inner_of (lossy_source result) ≡ items }
+        ensures policy { policy_of result ≡ policy }
+        ensures new { IsUnread result }
+    {
+        LossyWith {
+            items: Source {
+                inner: items,
+                ended: false,
+            },
+            policy,
+            front: None,
+            back: None,
+        }
+    }
+}
+
+// The first character that is left, past the faults before it.
+fn first_character<E: Drop, D: Iterator<Item = Result<char, E>>>(
+    items: &mut Source<D>,
+) -> Option<char>
+    requires { CanAskAll D.can_next D.remaining items.old }
+    ensures takes { TakesFirstCharacter D.next_gives items.old result items.new }
+    ensures goes { MakesProgress (CanAsk D.can_next) (source_count D.remaining) items.old result items.new }
+    ensures ends { IfNone result (has_ended items.new ≡ true) }
+{
+    while let Some(item) = items.next() {
+        if let Ok(c) = item {
+            return Some(c);
+        }
+    }
+    None
+}
+
+// The last character that is left, before the faults behind it.
+fn last_character<E: Drop, D: DoubleEndedIterator<Item = Result<char, E>>>(
+    items: &mut Source<D>,
+) -> Option<char>
+    requires { CanAskAll D.can_next_back D.remaining items.old }
+    ensures takes { TakesLastCharacter D.next_back_gives items.old result items.new }
+    ensures goes { MakesProgress (CanAsk D.can_next_back) (source_count D.remaining) items.old result items.new }
+    ensures ends { IfNone result (has_ended items.new ≡ true) }
+{
+    while let Some(item) = items.next_back() {
+        if let Ok(c) = item {
+            return Some(c);
+        }
+    }
+    None
+}
+
+impl<E: Drop, D: Iterator<Item = Result<char, E>>> Iterator for LossyWith<D> {
+    type Item = char;
+
+    ghost can_next = { λ s. CanAskAll D.can_next D.remaining (lossy_source s) };
+
+    ghost next_gives = { LossyFirst D.next_gives };
+
+    ghost remaining = { lossy_with_count D.remaining };
+
+    fn next(&mut self) -> Option<char> {
+        if let Some(c) = self.front.take() {
+            return Some(c);
+        }
+        match self.items.next() {
+            Some(Ok(first)) => Some(first),
+            Some(Err(_)) => match self.policy {
+                Policy::Each => Some(char::REPLACEMENT_CHARACTER),
+                Policy::Run => {
+                    self.front = first_character(&mut self.items);
+                    Some(char::REPLACEMENT_CHARACTER)
+                }
+                Policy::Skip => match first_character(&mut self.items) {
+                    Some(c) => Some(c),
+                    None => self.back.take(),
+                },
+            },
+            None => self.back.take(),
+        }
+    }
+
+    /// No bounds: how many characters a row of faults gives is not known before it is read.
+    fn size_hint(&self) -> (usize, Option<usize>)
+        ensures lower { IsWithinCount result.0 (lossy_with_count D.remaining self.now) }
+        ensures upper { IfSome result.1 (UpTo (lossy_with_count D.remaining self.now)) }
+        ensures value { result ≡ (0, None) }
+    {
+        (0, None)
+    }
+}
+
+impl<E: Drop, D: DoubleEndedIterator<Item = Result<char, E>>> DoubleEndedIterator for LossyWith<D> {
+    ghost can_next_back = { λ s. CanAskAll D.can_next_back D.remaining (lossy_source s) };
+
+    ghost next_back_gives = { LossyLast D.next_back_gives };
+
+    fn next_back(&mut self) -> Option<char> {
+        if let Some(c) = self.back.take() {
+            return Some(c);
+        }
+        match self.items.next_back() {
+            Some(Ok(last)) => Some(last),
+            Some(Err(_)) => match self.policy {
+                Policy::Each => Some(char::REPLACEMENT_CHARACTER),
+                Policy::Run => {
+                    self.back = last_character(&mut self.items);
+                    Some(char::REPLACEMENT_CHARACTER)
+                }
+                Policy::Skip => match last_character(&mut self.items) {
+                    Some(c) => Some(c),
+                    None => self.front.take(),
+                },
+            },
+            None => self.front.take(),
+        }
+    }
+}

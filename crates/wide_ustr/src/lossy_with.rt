@@ -1,0 +1,142 @@
+//! Iterators over the characters of a view, from both ends, with what a policy says in place of faults.
+ghost use Rattle.std.specs.Prelude.{◌≡◌, ◌≤◌, ◌<◌, length, map, None, IfSome};
+ghost use Rattle.std.specs.Iterator.{YieldsFirst, YieldsLast, at_most, UpTo};
+ghost use Rattle.std.specs.Iterator.SizeHint.{IsWithinCount};
+ghost use Rattle.wide_unit.specs.Items.{items};
+ghost use Rattle.wide_ustr.specs.LossyWith.{BeginsPastFaults, EndsBeforeFaults};
+
+use std::iter::FusedIterator;
+use wide_unit::{Policy, Unit, split_first, split_last};
+
+// The units behind the longest row of faults at the front.
+fn behind_faults<C: Unit>(units: &[C]) -> &[C]
+    ensures row { BeginsPastFaults (items C.form (map C.number units.now)) (items C.form (map C.number result.now)) }
+    ensures within { length result.now ≤ length units.now }
+{
+    let mut rest = units;
+    while let Some((Err(_), tail)) = split_first(rest) {
+        rest = tail;
+    }
+    rest
+}
+
+// The units before the longest row of faults at the back.
+fn before_faults<C: Unit>(units: &[C]) -> &[C]
+    ensures row { EndsBeforeFaults (items C.form (map C.number units.now)) (items C.form (map C.number result.now)) }
+    ensures within { length result.now ≤ length units.now }
+{
+    let mut rest = units;
+    while let Some((front, Err(_))) = split_last(rest) {
+        rest = front;
+    }
+    rest
+}
+
+/// The characters of a view, with what a policy says in place of each unit that belongs to none. Made by
+/// [`UStr::chars_lossy_with`](crate::UStr::chars_lossy_with).
+///
+/// A row of faults is passed whole by the call that meets it, at either end. It stays ended, and takes no memory.
+#[derive(Clone, Drop)]
+pub struct CharsLossyWith<'a, C> {
+    pub(crate) rest: &'a [C],
+    pub(crate) policy: Policy,
+}
+
+impl<C: Unit> CharsLossyWith<'_, C> {
+    ghost use Rattle.wide_ustr.specs.LossyWith.{characters_left, lossy_with_rest, policy_of};
+
+    // The first character, past the faults before it.
+    fn first_character(&mut self) -> Option<char>
+        ensures first { YieldsFirst (characters_left C.form C.number) self.old result self.new }
+        ensures fewer { IfSome result (λ _. length (lossy_with_rest self.new) < length (lossy_with_rest self.old)) }
+        ensures policy { policy_of self.new ≡ policy_of self.old }
+    {
+        while let Some((item, rest)) = split_first(self.rest) {
+            self.rest = rest;
+            if let Ok(c) = item {
+                return Some(c);
+            }
+        }
+        None
+    }
+
+    // The last character, before the faults behind it.
+    fn last_character(&mut self) -> Option<char>
+        ensures last { YieldsLast (characters_left C.form C.number) self.old result self.new }
+        ensures fewer { IfSome result (λ _. length (lossy_with_rest self.new) < length (lossy_with_rest self.old)) }
+        ensures policy { policy_of self.new ≡ policy_of self.old }
+    {
+        while let Some((rest, item)) = split_last(self.rest) {
+            self.rest = rest;
+            if let Ok(c) = item {
+                return Some(c);
+            }
+        }
+        None
+    }
+}
+
+impl<C: Unit> Iterator for CharsLossyWith<'_, C> {
+    ghost use Rattle.wide_ustr.specs.LossyWith.{lossy_with_left, lossy_with_rest};
+
+    type Item = char;
+
+    ghost next_gives = { YieldsFirst (lossy_with_left C.form C.number) };
+
+    ghost remaining = { λ s. at_most (length (lossy_with_rest s)) };
+
+    fn next(&mut self) -> Option<char> {
+        let (item, rest) = split_first(self.rest)?;
+        match (item, self.policy) {
+            (Ok(first), _) => {
+                self.rest = rest;
+                Some(first)
+            }
+            (Err(_), Policy::Each) => {
+                self.rest = rest;
+                Some(char::REPLACEMENT_CHARACTER)
+            }
+            (Err(_), Policy::Run) => {
+                self.rest = behind_faults(rest);
+                Some(char::REPLACEMENT_CHARACTER)
+            }
+            (Err(_), Policy::Skip) => self.first_character(),
+        }
+    }
+
+    /// No bounds: how many characters a row of faults gives is not known before it is read.
+    fn size_hint(&self) -> (usize, Option<usize>)
+        ensures lower { IsWithinCount result.0 (at_most (length (lossy_with_rest self.now))) }
+        ensures upper { IfSome result.1 (UpTo (at_most (length (lossy_with_rest self.now)))) }
+        ensures value { result ≡ (0, None) }
+    {
+        (0, None)
+    }
+}
+
+impl<C: Unit> DoubleEndedIterator for CharsLossyWith<'_, C> {
+    ghost use Rattle.wide_ustr.specs.LossyWith.{lossy_with_left};
+
+    ghost next_back_gives = { YieldsLast (lossy_with_left C.form C.number) };
+
+    fn next_back(&mut self) -> Option<char> {
+        let (rest, item) = split_last(self.rest)?;
+        match (item, self.policy) {
+            (Ok(last), _) => {
+                self.rest = rest;
+                Some(last)
+            }
+            (Err(_), Policy::Each) => {
+                self.rest = rest;
+                Some(char::REPLACEMENT_CHARACTER)
+            }
+            (Err(_), Policy::Run) => {
+                self.rest = before_faults(rest);
+                Some(char::REPLACEMENT_CHARACTER)
+            }
+            (Err(_), Policy::Skip) => self.last_character(),
+        }
+    }
+}
+
+impl<C: Unit> FusedIterator for CharsLossyWith<'_, C> {}
