@@ -1,19 +1,19 @@
 -- Bytes that begin with two known ones, by what stands behind the mark.
-use Rattle.std.proofs.Common.{◌≡◌, ℕ, ◌-◌, ◌%◌, ◌≤◌, Bool, true, false, eqb, cond, inl, inr, List, [], ◌∷◌, ◌++◌, Option, None, length, drop, refl, sym, ap, ◌∙◌, subst, arith, length-append, length-drop, append_assoc}
+use Rattle.std.proofs.Common.{◌≡◌, ℕ, ◌-◌, ◌%◌, ◌≤◌, Bool, true, false, eqb, cond, inl, inr, List, [], ◌∷◌, ◌++◌, Option, Some, None, length, drop, refl, sym, ap, ◌∙◌, subst, arith, length-append, length-drop, append_assoc}
 use Rattle.std.specs.Prelude.{Result, Ok, Err, is_some, unwrap_or}
 use Rattle.wide_unit.specs.EncodingForm.{Utf16}
 use Rattle.wide_unit.specs.Items.{items, leading_characters, first_fault}
-use Rattle.wide_unit.specs.Lossy.{lossy}
+use Rattle.wide_unit.specs.Lossy.{lossy_by}
 use Rattle.wide_unit.specs.Utf8.{utf8}
 use Rattle.wide_unit.specs.Laws.Items.{items-nil}
 use Rattle.wide_bytes.specs.Bytes.{mark_of, order_of, without_mark, without_last_zero, units_in, units_of_bytes, is_odd}
-use Rattle.wide_bytes.specs.Transcoded.{Transcoded, Clean, HalfUnit, transcoded, ending_of}
+use Rattle.wide_bytes.specs.Transcoded.{Transcoded, Clean, HalfUnit, transcoded_under, ending_of}
 use Rattle.wide_bytes.specs.Run.{Ends}
 use Rattle.wide_bytes.specs.Pieces.{units_behind, transcoded_behind, WantsRoom, Starts}
 use Rattle.wide_bytes.specs.declared.order.BoM.{BoM}
 use Rattle.wide_bytes.specs.declared.order.BoM.TheVariants.{Little}
-use Rattle.wide_bytes.specs.declared.mode.Mode.{Mode}
-use Rattle.wide_bytes.specs.declared.mode.Mode.TheVariants.{Strict, Lossy}
+use Rattle.wide_unit.specs.declared.policy.Policy.{Policy}
+use Rattle.wide_unit.specs.declared.policy.Policy.TheVariants.{Each, Run, Skip}
 use Rattle.wide_bytes.proofs.Pairs.{units_in-short}
 use Rattle.wide_error.specs.declared.error.TranscodeError.{TranscodeError}
 use Rattle.wide_error.specs.declared.error.TranscodeError.TheVariants.{Utf16 as Utf16Fault, OutOfMemory, OddLength, Read, Write}
@@ -48,14 +48,14 @@ units-behind bytes long =
 abbrev told : List ℕ → Bool → Transcoded
 told us t = record { text = utf8 (leading_characters (items Utf16 us)); ending = ending_of (first_fault Utf16 (items Utf16 us)) t }
 
-abbrev pub told_lossy : List ℕ → Bool → Transcoded
-told_lossy us t = record { text = utf8 (lossy (items Utf16 us)); ending = ending_of None t }
+abbrev pub told_lossy : Policy → List ℕ → Bool → Transcoded
+told_lossy policy us t = record { text = utf8 (lossy_by policy (items Utf16 us)); ending = ending_of None t }
 
-behind-mark : (mode : Mode) (bytes : List ℕ) → 2 ≤ length bytes → transcoded mode bytes ≡ transcoded_behind (order_of bytes) mode (without_mark bytes)
-behind-mark Strict bytes long =
+behind-mark : (policy : Option Policy) (bytes : List ℕ) → 2 ≤ length bytes → transcoded_under policy bytes ≡ transcoded_behind (order_of bytes) policy (without_mark bytes)
+behind-mark None bytes long =
     ap (λ us. told us (is_odd bytes)) (units-behind bytes long) ∙ ap (λ t. told (units_behind (order_of bytes) (without_mark bytes)) t) (sym (same-parity bytes long))
-behind-mark Lossy bytes long =
-    ap (λ us. told_lossy us (is_odd bytes)) (units-behind bytes long) ∙ ap (λ t. told_lossy (units_behind (order_of bytes) (without_mark bytes)) t) (sym (same-parity bytes long))
+behind-mark (Some policy) bytes long =
+    ap (λ us. told_lossy policy us (is_odd bytes)) (units-behind bytes long) ∙ ap (λ t. told_lossy policy (units_behind (order_of bytes) (without_mark bytes)) t) (sym (same-parity bytes long))
 
 module _ (first : List ℕ) (long : 2 ≤ length first) (order : BoM) (in_order : order ≡ order_of first) (rest : List ℕ) (is_rest : rest ≡ without_mark first) where
   order-of : (more : List ℕ) → order_of (first ++ more) ≡ order
@@ -67,21 +67,21 @@ module _ (first : List ℕ) (long : 2 ≤ length first) (order : BoM) (in_order 
   longer : (more : List ℕ) → 2 ≤ length (first ++ more)
   longer more = omega (arith, length-append first more)
 
-  pub by-rest : (mode : Mode) (more : List ℕ) → transcoded_behind order mode (rest ++ more) ≡ transcoded mode (first ++ more)
-  by-rest mode more = sym (behind-mark mode (first ++ more) (longer more) ∙ ap (λ o. transcoded_behind o mode (without_mark (first ++ more))) (order-of more) ∙ ap (λ bs. transcoded_behind order mode bs) (rest-of more))
+  pub by-rest : (policy : Option Policy) (more : List ℕ) → transcoded_behind order policy (rest ++ more) ≡ transcoded_under policy (first ++ more)
+  by-rest policy more = sym (behind-mark policy (first ++ more) (longer more) ∙ ap (λ o. transcoded_behind o policy (without_mark (first ++ more))) (order-of more) ∙ ap (λ bs. transcoded_behind order policy bs) (rest-of more))
 
   units-by-rest : (more : List ℕ) → units_behind order (rest ++ more) ≡ units_of_bytes (first ++ more)
   units-by-rest more = sym (units-behind (first ++ more) (longer more) ∙ ap (λ o. units_behind o (without_mark (first ++ more))) (order-of more) ∙ ap (λ bs. units_behind order bs) (rest-of more))
 
-  pub ends-by-rest : {T : Type 0} (r : Result T TranscodeError) (ended : Bool) (mode : Mode) (bytes written : List ℕ) → Ends r ended (λ more. transcoded_behind order mode (rest ++ more)) bytes written → Ends r ended (transcoded mode) (first ++ bytes) written
-  ends-by-rest (Ok u) ended mode bytes written e = (e.0, sym (by-rest mode bytes) ∙ e.1)
-  ends-by-rest (Err OddLength) ended mode bytes written e = (e.0, sym (by-rest mode bytes) ∙ e.1)
-  ends-by-rest (Err (Utf16Fault index unit)) ended mode bytes written (e, inl over) = (sym (by-rest mode bytes) ∙ e, inl over)
-  ends-by-rest (Err (Utf16Fault index unit)) ended mode bytes written (e, inr same) =
-      (sym (by-rest mode bytes) ∙ e, inr (λ more. ap (λ bs. transcoded mode bs) (append_assoc first bytes more) ∙ sym (by-rest mode (bytes ++ more)) ∙ same more ∙ by-rest mode bytes))
-  ends-by-rest (Err OutOfMemory) ended mode bytes written e = (e.0, ap (λ t. t.text) (sym (by-rest mode bytes)) ∙ e.1)
-  ends-by-rest (Err Read) ended mode bytes written e = (e.0, ap (λ t. t.text) (sym (by-rest mode bytes)) ∙ e.1)
-  ends-by-rest (Err Write) ended mode bytes written e = (e.0, ap (λ t. t.text) (sym (by-rest mode bytes)) ∙ e.1)
+  pub ends-by-rest : {T : Type 0} (r : Result T TranscodeError) (ended : Bool) (policy : Option Policy) (bytes written : List ℕ) → Ends r ended (λ more. transcoded_behind order policy (rest ++ more)) bytes written → Ends r ended (transcoded_under policy) (first ++ bytes) written
+  ends-by-rest (Ok u) ended policy bytes written e = (e.0, sym (by-rest policy bytes) ∙ e.1)
+  ends-by-rest (Err OddLength) ended policy bytes written e = (e.0, sym (by-rest policy bytes) ∙ e.1)
+  ends-by-rest (Err (Utf16Fault index unit)) ended policy bytes written (e, inl over) = (sym (by-rest policy bytes) ∙ e, inl over)
+  ends-by-rest (Err (Utf16Fault index unit)) ended policy bytes written (e, inr same) =
+      (sym (by-rest policy bytes) ∙ e, inr (λ more. ap (λ bs. transcoded_under policy bs) (append_assoc first bytes more) ∙ sym (by-rest policy (bytes ++ more)) ∙ same more ∙ by-rest policy bytes))
+  ends-by-rest (Err OutOfMemory) ended policy bytes written e = (e.0, ap (λ t. t.text) (sym (by-rest policy bytes)) ∙ e.1)
+  ends-by-rest (Err Read) ended policy bytes written e = (e.0, ap (λ t. t.text) (sym (by-rest policy bytes)) ∙ e.1)
+  ends-by-rest (Err Write) ended policy bytes written e = (e.0, ap (λ t. t.text) (sym (by-rest policy bytes)) ∙ e.1)
 
   pub room-by-rest : {T : Type 0} (r : Result T TranscodeError) (bytes : List ℕ) → WantsRoom r (units_behind order (rest ++ bytes)) → WantsRoom r (units_of_bytes (first ++ bytes))
   room-by-rest r bytes h = subst (λ us. WantsRoom r us) (units-by-rest bytes) h
@@ -99,19 +99,27 @@ half-units a = units_in-short (order_of (a ∷ [])) (without_mark (a ∷ [])) (o
 no-units : (us : List ℕ) (t : Bool) → us ≡ [] → items Utf16 us ≡ []
 no-units us t e = ap (λ xs. items Utf16 xs) e ∙ items-nil Utf16
 
-pub nothing : (mode : Mode) (bytes : List ℕ) → length bytes ≡ 0 → transcoded mode bytes ≡ record { text = []; ending = Clean }
-nothing Strict [] none = ap (λ is. record { text = utf8 (leading_characters is); ending = ending_of (first_fault Utf16 is) false }) (no-units (units_of_bytes []) false none-units)
-nothing Strict (a ∷ bytes) none = absurd (omega arith)
-nothing Lossy [] none = ap (λ is. record { text = utf8 (lossy is); ending = ending_of None false }) (no-units (units_of_bytes []) false none-units)
-nothing Lossy (a ∷ bytes) none = absurd (omega arith)
+none-by : (policy : Policy) → lossy_by policy [] ≡ []
+none-by Each = refl
+none-by Run = refl
+none-by Skip = refl
 
-pub one-byte : (mode : Mode) (bytes : List ℕ) → length bytes ≡ 1 → transcoded mode bytes ≡ record { text = []; ending = HalfUnit }
-one-byte Strict [] one = absurd (omega arith)
-one-byte Strict (a ∷ []) one = ap (λ is. record { text = utf8 (leading_characters is); ending = ending_of (first_fault Utf16 is) true }) (no-units (units_of_bytes (a ∷ [])) true (half-units a))
-one-byte Strict (a ∷ b ∷ bytes) one = absurd (omega arith)
-one-byte Lossy [] one = absurd (omega arith)
-one-byte Lossy (a ∷ []) one = ap (λ is. record { text = utf8 (lossy is); ending = ending_of None true }) (no-units (units_of_bytes (a ∷ [])) true (half-units a))
-one-byte Lossy (a ∷ b ∷ bytes) one = absurd (omega arith)
+no-text : (policy : Policy) (us : List ℕ) (t : Bool) → us ≡ [] → told_lossy policy us t ≡ record { text = []; ending = ending_of None t }
+no-text policy us t e = ap (λ is. record { text = utf8 (lossy_by policy is); ending = ending_of None t }) (no-units us t e) ∙ ap (λ cs. record { text = utf8 cs; ending = ending_of None t }) (none-by policy)
+
+pub nothing : (policy : Option Policy) (bytes : List ℕ) → length bytes ≡ 0 → transcoded_under policy bytes ≡ record { text = []; ending = Clean }
+nothing None [] none = ap (λ is. record { text = utf8 (leading_characters is); ending = ending_of (first_fault Utf16 is) false }) (no-units (units_of_bytes []) false none-units)
+nothing None (a ∷ bytes) none = absurd (omega arith)
+nothing (Some policy) [] none = no-text policy (units_of_bytes []) false none-units
+nothing (Some policy) (a ∷ bytes) none = absurd (omega arith)
+
+pub one-byte : (policy : Option Policy) (bytes : List ℕ) → length bytes ≡ 1 → transcoded_under policy bytes ≡ record { text = []; ending = HalfUnit }
+one-byte None [] one = absurd (omega arith)
+one-byte None (a ∷ []) one = ap (λ is. record { text = utf8 (leading_characters is); ending = ending_of (first_fault Utf16 is) true }) (no-units (units_of_bytes (a ∷ [])) true (half-units a))
+one-byte None (a ∷ b ∷ bytes) one = absurd (omega arith)
+one-byte (Some policy) [] one = absurd (omega arith)
+one-byte (Some policy) (a ∷ []) one = no-text policy (units_of_bytes (a ∷ [])) true (half-units a)
+one-byte (Some policy) (a ∷ b ∷ bytes) one = absurd (omega arith)
 
 -- ---- the first takes
 
@@ -122,8 +130,8 @@ start-error (Utf16Fault index unit) bytes piece left failed ended h = absurd h
 start-error OddLength bytes piece left failed ended h = absurd h
 start-error Write bytes piece left failed ended h = absurd h
 
-pub read-ends : {T : Type 0} (r : Result T TranscodeError) (y : TranscodeError) (ended : Bool) (mode : Mode) (bytes : List ℕ) → r ≡ Err y → y ≡ Read → Ends r ended (transcoded mode) bytes [] × WantsRoom r (units_of_bytes bytes)
-read-ends r y ended mode bytes is e = rw (is, e) (((transcoded mode bytes).text, refl), tt)
+pub read-ends : {T : Type 0} (r : Result T TranscodeError) (y : TranscodeError) (ended : Bool) (policy : Option Policy) (bytes : List ℕ) → r ≡ Err y → y ≡ Read → Ends r ended (transcoded_under policy) bytes [] × WantsRoom r (units_of_bytes bytes)
+read-ends r y ended policy bytes is e = rw (is, e) (((transcoded_under policy bytes).text, refl), tt)
 
 pub mark-dropped : (bytes : List ℕ) → 2 ≤ length bytes → drop (length bytes - length (without_mark bytes)) bytes ≡ without_mark bytes
 mark-dropped [] long = absurd (omega arith)

@@ -17,7 +17,6 @@ use Rattle.wide_bytes.specs.Transcoded.{Transcoded, Ending, Clean, HalfUnit, Unp
 use Rattle.wide_bytes.specs.Run.{IsBeginningOf}
 use Rattle.wide_bytes.specs.Pieces.{units_behind, transcoded_behind}
 use Rattle.wide_bytes.specs.declared.order.BoM.{BoM}
-use Rattle.wide_bytes.specs.declared.mode.Mode.TheVariants.{Strict}
 use Rattle.wide_bytes.proofs.Pairs.{units_in-append, units_in-short, length-units_in, ends_in_zero, ends_in_zeros, zero_unit, last_two, before_back, units_in-pair}
 use Rattle.wide_bytes.proofs.Encodings.{encoded-none, encoded-then}
 
@@ -178,12 +177,12 @@ module _ {order : BoM} {all rest written : List ℕ} {place : ℕ} (s : Sofar or
   text_of is =
       ap (λ cs. utf8 cs) (leading-chars s.encoded.cs is) ∙ flat_map-append utf8_bytes s.encoded.cs (leading_characters is) ∙ ap (λ bs. bs ++ utf8 (leading_characters is)) (sym s.encoded.text)
 
-  pub beginning : IsBeginningOf written (transcoded_behind order Strict all).text
+  pub beginning : IsBeginningOf written (transcoded_behind order None all).text
   beginning =
       let sh = units_so_far in
       (utf8 (leading_characters (items Utf16 sh.left)), ap (λ is. utf8 (leading_characters is)) (items_so_far sh.left sh.is) ∙ text_of (items Utf16 sh.left))
 
-  whole : units_behind order all ≡ encode Utf16 s.encoded.cs → transcoded_behind order Strict all ≡ becomes written (ending_of None (is_odd all))
+  whole : units_behind order all ≡ encode Utf16 s.encoded.cs → transcoded_behind order None all ≡ becomes written (ending_of None (is_odd all))
   whole e =
       let is_all : items Utf16 (units_behind order all) ≡ map Char s.encoded.cs ++ [] = items_so_far [] (e ∙ sym (append-nil (encode Utf16 s.encoded.cs))) ∙ ap (λ is. map Char s.encoded.cs ++ is) (items-nil Utf16) in
       let text : utf8 (leading_characters (items Utf16 (units_behind order all))) ≡ written = ap (λ is. utf8 (leading_characters is)) is_all ∙ text_of [] ∙ append-nil written in
@@ -196,19 +195,19 @@ module _ {order : BoM} {all rest written : List ℕ} {place : ℕ} (s : Sofar or
       let same : length all % 2 ≡ n % 2 = omega (arith, long, ap length s.split, s.encoded.even) in
       ap (λ m. eqb m 1) same
 
-  pub clean : rest ≡ [] → transcoded_behind order Strict all ≡ becomes written (Clean)
+  pub clean : rest ≡ [] → transcoded_behind order None all ≡ becomes written (Clean)
   clean none =
       let sh = units_so_far in
       let left : sh.left ≡ [] = left_none order rest sh.left sh.dropped (omega (arith, ap length none)) sh.front_of in
       whole (sh.is ∙ ap (λ us. encode Utf16 s.encoded.cs ++ us) left ∙ append-nil (encode Utf16 s.encoded.cs)) ∙ ap (λ t. becomes written (ending_of None t)) (odd_all 0 (ap length none))
 
-  pub half : length rest ≡ 1 → transcoded_behind order Strict all ≡ becomes written (HalfUnit)
+  pub half : length rest ≡ 1 → transcoded_behind order None all ≡ becomes written (HalfUnit)
   half one =
       let sh = units_so_far in
       let left : sh.left ≡ [] = left_none order rest sh.left sh.dropped (omega arith) sh.front_of in
       whole (sh.is ∙ ap (λ us. encode Utf16 s.encoded.cs ++ us) left ∙ append-nil (encode Utf16 s.encoded.cs)) ∙ ap (λ t. becomes written (ending_of None t)) (odd_all 1 one)
 
-  pub clean-zero : length rest ≡ 2 → units_in order rest ≡ 0 ∷ [] → transcoded_behind order Strict all ≡ becomes written (Clean)
+  pub clean-zero : length rest ≡ 2 → units_in order rest ≡ 0 ∷ [] → transcoded_behind order None all ≡ becomes written (Clean)
   clean-zero two zero_unit_left =
       let even : is_odd all ≡ false = odd_all 2 two in
       let units : units_in order all ≡ encode Utf16 s.encoded.cs ++ 0 ∷ [] =
@@ -218,7 +217,7 @@ module _ {order : BoM} {all rest written : List ℕ} {place : ℕ} (s : Sofar or
       whole e ∙ ap (λ t. becomes written (ending_of None t)) even
 
   module _ (u : ℕ) (tail : List ℕ) (first : units_in order rest ≡ u ∷ tail) (unpaired : IsUnpaired u tail) where
-    pub at_fault : transcoded_behind order Strict all ≡ becomes written (Unpaired place u)
+    pub at_fault : transcoded_behind order None all ≡ becomes written (Unpaired place u)
     at_fault =
         let sh = units_so_far in
         let split = first_left u tail sh.left sh.dropped (surrogate u tail unpaired) (sym first ∙ sh.front_of) sh.zero in

@@ -1,15 +1,14 @@
 -- What transcoding in pieces does, behind the mark and in a known byte order.
-use Rattle.std.specs.Prelude.{◌≡◌, ℕ, ◌<◌, ◌≤◌, ◌^◌, ◌⊎◌, Bool, true, false, List, [], ◌∷◌, length, take, Option, None, Result, Ok, Err, if◌then◌else◌}
+use Rattle.std.specs.Prelude.{◌≡◌, ℕ, ◌<◌, ◌≤◌, ◌^◌, ◌⊎◌, Bool, true, false, List, [], ◌∷◌, length, take, Option, Some, None, Result, Ok, Err, if◌then◌else◌}
 use Rattle.std.specs.Io.KnownBytes.{IsAtEnd}
 use Rattle.wide_unit.specs.EncodingForm.{Utf16, IsHighSurrogate}
 use Rattle.wide_unit.specs.Items.{items, leading_characters, first_fault}
-use Rattle.wide_unit.specs.Lossy.{lossy}
+use Rattle.wide_unit.specs.Lossy.{lossy_by}
 use Rattle.wide_unit.specs.Utf8.{utf8}
+use Rattle.wide_unit.specs.declared.policy.Policy.{Policy}
 use Rattle.wide_bytes.specs.Bytes.{units_in, is_odd, without_last_zero}
 use Rattle.wide_bytes.specs.Transcoded.{Transcoded, ending_of}
 use Rattle.wide_bytes.specs.declared.order.BoM.{BoM}
-use Rattle.wide_bytes.specs.declared.mode.Mode.{Mode}
-use Rattle.wide_bytes.specs.declared.mode.Mode.TheVariants.{Strict, Lossy}
 use Rattle.wide_error.specs.declared.error.TranscodeError.{TranscodeError}
 use Rattle.wide_error.specs.declared.error.TranscodeError.TheVariants.{Utf16 as Utf16Fault, OutOfMemory, OddLength, Read, Write}
 
@@ -19,14 +18,14 @@ units_behind order bytes =
     let units = units_in order bytes in
     if is_odd bytes then units else without_last_zero units
 
--- what the bytes behind the mark become
-abbrev pub transcoded_behind : BoM → Mode → List ℕ → Transcoded
-transcoded_behind order Strict bytes =
+-- what the bytes behind the mark become, by a policy, or strictly where there is none
+abbrev pub transcoded_behind : BoM → Option Policy → List ℕ → Transcoded
+transcoded_behind order None bytes =
     let is = items Utf16 (units_behind order bytes) in
     record { text = utf8 (leading_characters is); ending = ending_of (first_fault Utf16 is) (is_odd bytes) }
-transcoded_behind order Lossy bytes =
+transcoded_behind order (Some policy) bytes =
     let is = items Utf16 (units_behind order bytes) in
-    record { text = utf8 (lossy is); ending = ending_of None (is_odd bytes) }
+    record { text = utf8 (lossy_by policy is); ending = ending_of None (is_odd bytes) }
 
 -- want of room is answered only where the index of a unit would not fit 64 bits
 abbrev pub WantsRoom : {T : Type 0} → Result T TranscodeError → List ℕ → Type 0

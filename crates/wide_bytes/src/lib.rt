@@ -20,5 +20,5 @@ pub use devices::{ByteSink, ByteSource, FromRead, FromWrite};
 pub use mode::Mode;
 pub use moving::put_all;
 pub use order::{BoM, byte_order};
-pub use transcoding::transcode;
+pub use transcoding::{transcode, transcode_with};
 pub use units::{UnitsOfBytes, units_of_bytes};

@@ -37,3 +37,16 @@ abbrev pub past_faults : List Item → List Item
 past_faults [] = []
 past_faults (Char c ∷ is) = Char c ∷ is
 past_faults (Fault u ∷ is) = past_faults is
+
+-- whether a fault stands last, where the flag tells it of what stands before the items
+abbrev pub ends_in_fault : Bool → List Item → Bool
+ends_in_fault after [] = after
+ends_in_fault after (Char c ∷ is) = ends_in_fault false is
+ends_in_fault after (Fault u ∷ is) = ends_in_fault true is
+
+-- lossy text of items behind others, where the flag tells whether a fault is the last of those: a row of faults goes on
+abbrev pub lossy_after : Policy → Bool → List Item → List ℕ
+lossy_after Each after is = lossy is
+lossy_after Run true is = lossy_runs (past_faults is)
+lossy_after Run false is = lossy_runs is
+lossy_after Skip after is = characters is

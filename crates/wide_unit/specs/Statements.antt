@@ -1,5 +1,5 @@
 -- The laws of the definitions, each the contract of a function of the crate.
-use Rattle.std.specs.Prelude.{◌≡◌, ◌≢◌, ℕ, ◌≤◌, ◌↔◌, List, [], ◌∷◌, ◌++◌, map, length, take, drop, slice_range, Some, None}
+use Rattle.std.specs.Prelude.{◌≡◌, ◌≢◌, ℕ, ◌≤◌, ◌↔◌, List, [], ◌∷◌, ◌++◌, map, length, take, drop, slice_range, Some, None, Bool, false}
 use Rattle.std.specs.Char.{IsScalar, encode_utf8}
 use Rattle.std.specs.List.{All, Contains, splice}
 use Rattle.std.specs.declared.cmp.Ordering.TheVariants.{Equal}
@@ -9,7 +9,7 @@ use Rattle.wide_unit.specs.EncodingForm.{EncodingForm, Utf16, Utf32, encode, IsC
 use Rattle.wide_unit.specs.Segmentation.{Item, Char, Fault, IsSegmentation, IsSegmentation16, IsSegmentation32, IsLooseSegmentation}
 use Rattle.wide_unit.specs.Items.{items, chars, IsWellFormed, IsBoundary, first_fault, IsFirstFault}
 use Rattle.wide_unit.specs.Places.{IsPlaceOf, IsCharBoundary, chars_before}
-use Rattle.wide_unit.specs.Lossy.{lossy, lossy_by, past_faults}
+use Rattle.wide_unit.specs.Lossy.{lossy, lossy_by, past_faults, ends_in_fault, lossy_after}
 use Rattle.wide_unit.specs.declared.policy.Policy.{Policy}
 use Rattle.wide_unit.specs.declared.policy.Policy.TheVariants.{Each, Run, Skip}
 use Rattle.wide_unit.specs.Lines.{line_feed, without_return, lines_of}
@@ -188,6 +188,13 @@ RowsGiveNone = (us : List ℕ) → lossy_by Skip (map Fault us) ≡ []
 
 abbrev pub RunsGoOn : Type 0
 RunsGoOn = (a b : List Item) (u : ℕ) → lossy_by Run (a ++ Fault u ∷ b) ≡ lossy_by Run (a ++ Fault u ∷ []) ++ lossy_by Run (past_faults b)
+
+-- of joined lists it is that of the first, and that of the second behind it, which asks only whether a fault ends the first
+abbrev pub LossyBehindNone : Type 0
+LossyBehindNone = (policy : Policy) (is : List Item) → lossy_after policy false is ≡ lossy_by policy is
+
+abbrev pub LossyGoesOn : Type 0
+LossyGoesOn = (policy : Policy) (after : Bool) (a b : List Item) → lossy_after policy after (a ++ b) ≡ lossy_after policy after a ++ lossy_after policy (ends_in_fault after a) b
 
 -- it is of scalar values, that of well-formed units encodes to them, and twice is once
 abbrev pub PoliciesGiveScalars : Type 0

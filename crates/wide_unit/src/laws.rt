@@ -4,7 +4,7 @@ ghost use Rattle.wide_unit.specs.EncodingForm.{Utf16, Utf32};
 ghost use Rattle.wide_unit.specs.Segmentation.{Char, Fault};
 ghost use Rattle.wide_unit.specs.Items.{items, IsFirstFault};
 ghost use Rattle.wide_unit.specs.Lossy.{lossy};
-ghost use Rattle.wide_unit.specs.Statements.{SegmentationExists, SegmentationIsUnique, SegmentationIsLiteral16, SegmentationIsLiteral32, LooseSegmentationsDiffer, ItemsJoinAfter, ItemsJoinBefore, EncodingIsWellFormed, EncodingDecodes, WellFormedIsEncoded, BoundariesAreSeen, FirstFaultsAreBehindText, WellFormedOrFaulty, PlacesAreLengths, BoundariesArePlaces, CutsAreWellFormed, PartsAreWellFormed, SplicesAreWellFormed, EncodingsAreCut, PlacesGrow, EncodingsAreSpliced, FiltersAreWellFormed, EqualCharacters, Utf8IsStds, Units32AreItems, Items32Join, Items32Count, LossyIsScalars, LossyKeepsWellFormed, LossyIsWellFormed, LossyOnceIsEnough, LossyKeepsLength, LossyKeepsFront, EachIsLossy, CharactersPartLossy, RowsGiveOne, RowsGiveNone, RunsGoOn, PoliciesGiveScalars, PoliciesKeepWellFormed, PoliciesTwice, PoliciesNeverLengthen, CodePointOfText, CodePointOfNone, OrderAgreesWithEquality, NoUnitsNoLines, UnendedIsOneLine, FeedEndsLine};
+ghost use Rattle.wide_unit.specs.Statements.{SegmentationExists, SegmentationIsUnique, SegmentationIsLiteral16, SegmentationIsLiteral32, LooseSegmentationsDiffer, ItemsJoinAfter, ItemsJoinBefore, EncodingIsWellFormed, EncodingDecodes, WellFormedIsEncoded, BoundariesAreSeen, FirstFaultsAreBehindText, WellFormedOrFaulty, PlacesAreLengths, BoundariesArePlaces, CutsAreWellFormed, PartsAreWellFormed, SplicesAreWellFormed, EncodingsAreCut, PlacesGrow, EncodingsAreSpliced, FiltersAreWellFormed, EqualCharacters, Utf8IsStds, Units32AreItems, Items32Join, Items32Count, LossyIsScalars, LossyKeepsWellFormed, LossyIsWellFormed, LossyOnceIsEnough, LossyKeepsLength, LossyKeepsFront, EachIsLossy, CharactersPartLossy, RowsGiveOne, RowsGiveNone, RunsGoOn, LossyBehindNone, LossyGoesOn, PoliciesGiveScalars, PoliciesKeepWellFormed, PoliciesTwice, PoliciesNeverLengthen, CodePointOfText, CodePointOfNone, OrderAgreesWithEquality, NoUnitsNoLines, UnendedIsOneLine, FeedEndsLine};
 
 /// Each list of code units has exactly one segmentation (Unicode Standard, D84a and D85a).
 pub fn one_segmentation()
@@ -49,7 +49,8 @@ pub fn lossy_text()
     ensures front { LossyKeepsFront }
 {}
 
-/// Lossy text under a policy: a character parts it, a row of faults gives one U+FFFD or none, it is of scalar values, that of
+/// Lossy text under a policy: a character parts it, a row of faults gives one U+FFFD or none, that of joined lists is
+/// that of the first and that of the second behind it, it is of scalar values, that of
 /// well-formed units encodes to them, lossy text of lossy text is the same, and it has no more units than what it stands for.
 pub fn lossy_text_by_policy()
     ensures each { EachIsLossy }
@@ -57,6 +58,8 @@ pub fn lossy_text_by_policy()
     ensures one { RowsGiveOne }
     ensures none { RowsGiveNone }
     ensures on { RunsGoOn }
+    ensures behind_none { LossyBehindNone }
+    ensures behind { LossyGoesOn }
     ensures scalars { PoliciesGiveScalars }
     ensures keeps { PoliciesKeepWellFormed }
     ensures twice { PoliciesTwice }

@@ -2,6 +2,6 @@
 
 pub use wide_bytes::{
     BoM, ByteSink, ByteSource, FromRead, FromWrite, Mode, UnitsOfBytes, byte_order, laws, put_all,
-    transcode, units_of_bytes,
+    transcode, transcode_with, units_of_bytes,
 };
 pub use wide_include::include_utf16str;

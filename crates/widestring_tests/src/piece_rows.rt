@@ -4,7 +4,8 @@ ghost use Rattle.std.specs.Prelude.{◌≡◌, Some, false};
 use std::alloc::{AllocError, Global};
 use std::io;
 use std::process::Abort;
-use widestring::bytes::{ByteSource, FromWrite, Mode, transcode};
+use widestring::Policy;
+use widestring::bytes::{ByteSource, FromWrite, Mode, transcode, transcode_with};
 use widestring::error::TranscodeError;
 
 // The bytes that `transcode` takes at once, at most.
@@ -274,6 +275,96 @@ fn across_pieces(rt: HostRuntime) {
     ];
     for (place, end) in ends.iter().enumerate() {
         assert!(rt; *end == Ok(true), "row {place}");
+    }
+}
+
+// The lossy text of a whole file by a policy, made of the standard library's decoder.
+fn lossy_by(alloc: Global, file: &File, policy: Policy) -> Result<String, AllocError> {
+    let mut text = String::new(alloc);
+    let mut after_fault = false;
+    for item in char::decode_utf16(file.read_units().iter().copied()) {
+        match item {
+            Ok(c) => {
+                text.push(c)?;
+                after_fault = false;
+            }
+            Err(_) => {
+                let is_marked = match policy {
+                    Policy::Each => true,
+                    Policy::Run => !after_fault,
+                    Policy::Skip => false,
+                };
+                if is_marked {
+                    text.push('\u{fffd}')?;
+                }
+                after_fault = true;
+            }
+        }
+    }
+    Ok(text)
+}
+
+// Whether so many letters, then so many high surrogates and then these units become the lossy text by this policy, where the source gives
+// `step` bytes a call.
+fn has_row(
+    alloc: Global,
+    letters: usize,
+    faults: usize,
+    more: &[u16],
+    step: usize,
+    policy: Policy,
+) -> Result<bool, AllocError> {
+    let mut units = Vec::new(alloc);
+    units.resize(letters, 0x61)?;
+    units.resize(letters.saturating_add(faults), 0xd800)?;
+    units.extend_from_slice(more)?;
+    let file = File {
+        units,
+        is_big: false,
+        has_mark: false,
+        is_odd: false,
+    };
+    let bytes = file.bytes(alloc)?;
+    let text = lossy_by(alloc, &file, policy)?;
+    let mut source = Cut::new(&bytes, step, 0);
+    let mut sink = FromWrite::new(Vec::new(alloc));
+    let answer = transcode_with(&mut source, &mut sink, policy);
+    Ok(answer.is_ok() & (sink.into_inner().as_slice() == text.as_bytes()))
+}
+
+// The same by steps of some sizes, also where two rows stand around U+FFFD or a zero unit.
+fn has_rows(alloc: Global, policy: Policy) -> Result<bool, AllocError> {
+    let mut well = true;
+    for step in [1, 3, PIECE, 0] {
+        for (letters, faults) in [
+            (2045, 3),
+            (2046, 3),
+            (2047, 3),
+            (2048, 1),
+            (0, 5000),
+            (4095, 4),
+        ] {
+            well &= has_row(alloc, letters, faults, &[0x61], step, policy)?;
+            well &= has_row(alloc, letters, faults, &[], step, policy)?;
+            well &= has_row(
+                alloc,
+                letters,
+                faults,
+                &[0xfffd, 0xdc00, 0xd800],
+                step,
+                policy,
+            )?;
+            well &= has_row(alloc, letters, faults, &[0, 0xd800, 0], step, policy)?;
+        }
+    }
+    Ok(well)
+}
+
+#[test]
+fn rows_of_faults(rt: HostRuntime) {
+    for policy in [Policy::Each, Policy::Run, Policy::Skip] {
+        let well = has_rows(rt.alloc(), policy);
+        assert!(rt; well == Ok(true), "{policy:?}");
     }
 }
 

@@ -1,23 +1,29 @@
 -- What the words of the program ask for, and the statuses that it ends with.
-use Rattle.std.specs.Prelude.{◌≡◌, ℕ, List, [], ◌∷◌, Result, Ok, Err, codes, string_bytes}
+use Rattle.std.specs.Prelude.{◌≡◌, ◌⊎◌, ℕ, List, [], ◌∷◌, Option, Some, None, Result, Ok, Err, codes, string_bytes}
 use Rattle.std.specs.declared.string.String.{String}
-use Rattle.wide_bytes.specs.declared.mode.Mode.{Mode}
-use Rattle.wide_bytes.specs.declared.mode.Mode.TheVariants.{Strict, Lossy}
+use Rattle.wide_unit.specs.declared.policy.Policy.{Policy}
+use Rattle.wide_unit.specs.declared.policy.Policy.TheVariants.{Each, Run, Skip}
+
+-- the word, by its bytes, that asks for lossy text under a policy
+abbrev pub IsOption : Policy → List ℕ → Type 0
+IsOption Each word = (word ≡ codes "--lossy") ⊎ (word ≡ codes "--lossy=each")
+IsOption Run word = word ≡ codes "--lossy=run"
+IsOption Skip word = word ≡ codes "--lossy=skip"
 
 module _ {A : Type 0} where
-  -- the word `utf8`: alone, or with `--lossy` behind it
-  abbrev pub AsksForUtf8 : Mode → List (String A) → Type 0
-  AsksForUtf8 Strict [] = ⊥
-  AsksForUtf8 Strict (word ∷ []) = string_bytes word ≡ codes "utf8"
-  AsksForUtf8 Strict (word ∷ second ∷ others) = ⊥
-  AsksForUtf8 Lossy [] = ⊥
-  AsksForUtf8 Lossy (word ∷ []) = ⊥
-  AsksForUtf8 Lossy (word ∷ option ∷ []) = (string_bytes word ≡ codes "utf8") × (string_bytes option ≡ codes "--lossy")
-  AsksForUtf8 Lossy (word ∷ option ∷ third ∷ others) = ⊥
+  -- the word `utf8`: alone, or with the option of a policy behind it
+  abbrev pub AsksForUtf8 : Option Policy → List (String A) → Type 0
+  AsksForUtf8 None [] = ⊥
+  AsksForUtf8 None (word ∷ []) = string_bytes word ≡ codes "utf8"
+  AsksForUtf8 None (word ∷ second ∷ others) = ⊥
+  AsksForUtf8 (Some policy) [] = ⊥
+  AsksForUtf8 (Some policy) (word ∷ []) = ⊥
+  AsksForUtf8 (Some policy) (word ∷ option ∷ []) = (string_bytes word ≡ codes "utf8") × IsOption policy (string_bytes option)
+  AsksForUtf8 (Some policy) (word ∷ option ∷ third ∷ others) = ⊥
 
-  -- they ask for no text, in either mode
+  -- they ask for no text, strictly or by any policy
   abbrev pub AsksForNoUtf8 : List (String A) → Type 0
-  AsksForNoUtf8 words = (mode : Mode) → ¬ (AsksForUtf8 mode words)
+  AsksForNoUtf8 words = (policy : Option Policy) → ¬ (AsksForUtf8 policy words)
 
   -- the word `ends` and two more
   abbrev pub AsksForEnds : List (String A) → Type 0
@@ -35,8 +41,8 @@ module _ {A : Type 0} where
 
   -- no request begins so
   pub record IsUnknown (words : List (String A)) : Type 0 where
-    pub no_strict : ¬ (AsksForUtf8 Strict words)
-    pub no_lossy : ¬ (AsksForUtf8 Lossy words)
+    pub no_strict : ¬ (AsksForUtf8 None words)
+    pub no_lossy : (policy : Policy) → ¬ (AsksForUtf8 (Some policy) words)
     pub no_ends : ¬ (AsksForEnds words)
     pub no_edits : ¬ (AsksForEdits words)
 

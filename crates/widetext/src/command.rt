@@ -1,10 +1,10 @@
 //! The program, over any devices.
 
-ghost use Rattle.std.specs.Prelude.{◌≡◌, ◌≤◌, ℕ, List, Result, OnErr, false};
+ghost use Rattle.std.specs.Prelude.{◌≡◌, ◌≤◌, ℕ, List, Option, Result, OnErr, false};
 ghost use Rattle.wide_error.specs.declared.error.TranscodeError.{TranscodeError};
 ghost use Rattle.wide_bytes.specs.Run.{Ends, Moves, fails_to_read, fails_to_write};
-ghost use Rattle.wide_bytes.specs.Transcoded.{transcoded};
-ghost use Rattle.wide_bytes.specs.declared.mode.Mode.{Mode};
+ghost use Rattle.wide_bytes.specs.Transcoded.{transcoded_under};
+ghost use Rattle.wide_unit.specs.declared.policy.Policy.{Policy};
 ghost use Rattle.widetext.specs.Command.{AsksForUtf8, AsksForNoUtf8, IsUnknown, status_of};
 
 use crate::edit_lines::edit_lines;
@@ -13,12 +13,14 @@ use crate::words::{Request, parse_words};
 use std::alloc::{AllocError, Global};
 use std::fmt;
 use std::fmt::Write;
-use wide_bytes::{ByteSink, ByteSource, put_all, transcode};
+use wide_bytes::{ByteSink, ByteSource, Mode, put_all, transcode, transcode_with};
 use wide_error::{DecodeUtf16Error, OutOfMemory, TranscodeError};
 use wide_iter::{End, read_ends16};
+use wide_unit::Policy;
 
 /// What is printed at wrong words.
-pub const USAGE: &str = "usage: widetext utf8 [--lossy] | ends UNITS CALLS | edit TEXT EDIT..";
+pub const USAGE: &str =
+    "usage: widetext utf8 [--lossy[=each|run|skip]] | ends UNITS CALLS | edit TEXT EDIT..";
 
 /// The status at wrong words.
 pub const WRONG_USAGE: u8 = 2;
@@ -42,6 +44,27 @@ impl<F: ByteSink> fmt::Write for Printer<'_, F> {
 pub fn report<F: ByteSink>(faults: &mut F, text: &impl fmt::Display) {
     let mut printer = Printer { sink: faults };
     let _ = writeln!(printer, "{text}");
+}
+
+// The text of the source: lossy by the policy, or up to the first fault where there is none.
+fn write_utf8<S: ByteSource, K: ByteSink>(
+    source: &mut S,
+    sink: &mut K,
+    policy: Option<Policy>,
+) -> Result<(), TranscodeError>
+    requires source_sound { S.has_failed source.old ≡ false }
+    requires source_open { S.has_ended source.old ≡ false }
+    requires sink_sound { K.has_failed sink.old ≡ false }
+    ensures run { (bytes written : List ℕ)
+        × Moves (S.left source.old) (S.left source.new) (K.held sink.old) (K.held sink.new) bytes written
+        × Ends result (S.has_ended source.new) (transcoded_under policy) bytes written }
+    ensures source_failed { S.has_failed source.new ≡ fails_to_read result }
+    ensures sink_failed { K.has_failed sink.new ≡ fails_to_write result }
+{
+    match policy {
+        None => transcode(source, sink, Mode::Strict),
+        Some(policy) => transcode_with(source, sink, policy),
+    }
 }
 
 // A line for one answer of a decoder.
@@ -104,10 +127,10 @@ pub fn command<S: ByteSource, K: ByteSink, F: ByteSink>(
     requires sink_sound { K.has_failed sink.old ≡ false }
     requires faults_sound { F.has_failed faults.old ≡ false }
 
-    // The word `utf8`, with its option: the status is that of one run of `transcode`.
-    ensures utf8 { (mode : Mode) → AsksForUtf8 mode words.now → (answer : Result (Unit {0}) TranscodeError) × (bytes : List ℕ) × (written : List ℕ)
+    // The word `utf8`, with an option or none: the status is that of one run of `transcode`, or of `transcode_with` by the policy.
+    ensures utf8 { (policy : Option Policy) → AsksForUtf8 policy words.now → (answer : Result (Unit {0}) TranscodeError) × (bytes : List ℕ) × (written : List ℕ)
         × Moves (S.left source.old) (S.left source.new) (K.held sink.old) (K.held sink.new) bytes written
-        × Ends answer (S.has_ended source.new) (transcoded mode) bytes written
+        × Ends answer (S.has_ended source.new) (transcoded_under policy) bytes written
         × (S.has_failed source.new ≡ fails_to_read answer)
         × (K.has_failed sink.new ≡ fails_to_write answer)
         × (result ≡ status_of answer) }
@@ -136,7 +159,7 @@ pub fn command<S: ByteSource, K: ByteSink, F: ByteSink>(
         }
     };
     let answer = match request {
-        Request::Utf8(mode) => transcode(source, sink, mode),
+        Request::Utf8(policy) => write_utf8(source, sink, policy),
         Request::Ends { units, ends } => write_answers(alloc, sink, &units, &ends),
         Request::Edit { text, edits } => write_edits(alloc, sink, text, &edits),
     };

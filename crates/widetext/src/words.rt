@@ -1,18 +1,18 @@
 //! What the words of the program ask for.
-ghost use Rattle.std.specs.Prelude.{◌≡◌, ◌≢◌};
-ghost use Rattle.wide_bytes.specs.declared.mode.Mode.{Mode};
-ghost use Rattle.widetext.specs.Command.{AsksForUtf8, IsUnknown};
+ghost use Rattle.std.specs.Prelude.{◌≡◌, ◌≢◌, Option, ℕ};
+ghost use Rattle.wide_unit.specs.declared.policy.Policy.{Policy};
+ghost use Rattle.widetext.specs.Command.{AsksForUtf8, IsOption, IsUnknown};
 
 use crate::edit_words::{EditWord, parse_edit_words};
 use std::alloc::{AllocError, Global};
-use wide_bytes::Mode;
 use wide_iter::End;
+use wide_unit::Policy;
 
 /// What the words ask for.
 #[derive(Drop)]
 pub enum Request<'a> {
-    /// The UTF-8 text of standard input, with its faults treated so.
-    Utf8(Mode),
+    /// The UTF-8 text of standard input: lossy by a policy, or up to the first fault where there is none.
+    Utf8(Option<Policy>),
     /// What a decoder of the units answers to the calls.
     Ends {
         /// The units to decode.
@@ -72,7 +72,7 @@ fn parse_ends_request<'a>(
     units: &str,
     calls: &str,
 ) -> Result<Option<Request<'a>>, AllocError>
-    ensures { (mode : Mode) → result ≢ Ok (Some (Request.Utf8 mode)) }
+    ensures { (policy : Option Policy) → result ≢ Ok (Some (Request.Utf8 policy)) }
 {
     let Some(units) = parse_units(alloc, units)? else {
         return Ok(None);
@@ -89,7 +89,7 @@ fn parse_edit_request<'a>(
     text: &'a str,
     words: &'a [String],
 ) -> Result<Option<Request<'a>>, AllocError>
-    ensures { (mode : Mode) → result ≢ Ok (Some (Request.Utf8 mode)) }
+    ensures { (policy : Option Policy) → result ≢ Ok (Some (Request.Utf8 policy)) }
 {
     match parse_edit_words(alloc, words)? {
         Some(edits) => Ok(Some(Request::Edit { text, edits })),
@@ -99,7 +99,7 @@ fn parse_edit_request<'a>(
 
 // What the words ask for that reads no input, where they are in order.
 fn parse_other_words(alloc: Global, words: &[String]) -> Result<Option<Request<'_>>, AllocError>
-    ensures no_utf8 { (mode : Mode) → result ≢ Ok (Some (Request.Utf8 mode)) }
+    ensures no_utf8 { (policy : Option Policy) → result ≢ Ok (Some (Request.Utf8 policy)) }
     ensures unknown { IsUnknown words.now → result ≡ Ok None }
 {
     match words {
@@ -113,17 +113,31 @@ fn parse_other_words(alloc: Global, words: &[String]) -> Result<Option<Request<'
     }
 }
 
+// The policy that an option for lossy text names.
+fn parse_policy(option: &str) -> Option<Policy>
+    ensures named { (policy : Policy) → IsOption policy option.now → result ≡ Some policy }
+    ensures names { (policy : Policy) → result ≡ Some policy → IsOption policy option.now }
+{
+    match option {
+        "--lossy" | "--lossy=each" => Some(Policy::Each),
+        "--lossy=run" => Some(Policy::Run),
+        "--lossy=skip" => Some(Policy::Skip),
+        _ => None,
+    }
+}
+
 /// What the words ask for, where they are in order.
 pub fn parse_words(alloc: Global, words: &[String]) -> Result<Option<Request<'_>>, AllocError>
-    ensures utf8 { (mode : Mode) → AsksForUtf8 mode words.now → result ≡ Ok (Some (Request.Utf8 mode)) }
-    ensures utf8_alone { (mode : Mode) → result ≡ Ok (Some (Request.Utf8 mode)) → AsksForUtf8 mode words.now }
+    ensures utf8 { (policy : Option Policy) → AsksForUtf8 policy words.now → result ≡ Ok (Some (Request.Utf8 policy)) }
+    ensures utf8_alone { (policy : Option Policy) → result ≡ Ok (Some (Request.Utf8 policy)) → AsksForUtf8 policy words.now }
     ensures unknown { IsUnknown words.now → result ≡ Ok None }
 {
     match words {
-        [word] if word.as_str() == "utf8" => Ok(Some(Request::Utf8(Mode::Strict))),
-        [word, option] if word.as_str() == "utf8" && option.as_str() == "--lossy" => {
-            Ok(Some(Request::Utf8(Mode::Lossy)))
-        }
+        [word] if word.as_str() == "utf8" => Ok(Some(Request::Utf8(None))),
+        [word, option] if word.as_str() == "utf8" => match parse_policy(option.as_str()) {
+            Some(policy) => Ok(Some(Request::Utf8(Some(policy)))),
+            None => Ok(None),
+        },
         _ => parse_other_words(alloc, words),
     }
 }

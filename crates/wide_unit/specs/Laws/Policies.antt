@@ -1,6 +1,6 @@
 -- Lossy text under a policy: of joined lists, at both ends, and of text.
 use Rattle.std.proofs.Common.{◌≡◌, ℕ, ◌≤◌, suc, zero, length, length-append, List, [], ◌∷◌, ◌++◌, refl, sym, ◌∙◌, ap, arith}
-use Rattle.std.specs.Prelude.{map}
+use Rattle.std.specs.Prelude.{map, Bool, true, false}
 use Rattle.std.specs.Char.{IsScalar}
 use Rattle.std.specs.List.{All}
 use Rattle.std.proofs.lemmas.List.{map-append}
@@ -8,7 +8,7 @@ use Rattle.std.proofs.lemmas.List.Concat.{flat_map-append}
 use Rattle.wide_unit.specs.EncodingForm.{EncodingForm, Utf16, Utf32, code_units, encode}
 use Rattle.wide_unit.specs.Segmentation.{Item, Char, Fault, units_of}
 use Rattle.wide_unit.specs.Items.{items, IsWellFormed, characters, chars}
-use Rattle.wide_unit.specs.Lossy.{lossy, lossy_char, lossy_runs, lossy_by, past_faults}
+use Rattle.wide_unit.specs.Lossy.{lossy, lossy_char, lossy_runs, lossy_by, past_faults, ends_in_fault, lossy_after}
 use Rattle.wide_unit.specs.Laws.Chains.{Chain}
 use Rattle.wide_unit.specs.Laws.Items.{items-chain, chars-of_well_formed, encode-of_items, items-encode, units_of-items}
 use Rattle.wide_unit.specs.Laws.Ends.{items-append_left}
@@ -48,6 +48,32 @@ runs-at_fault (Char d ∷ a) b u = ap (λ l. d ∷ l) (runs-at_fault a b u)
 runs-at_fault (Fault v ∷ []) b u = runs-from_fault b u
 runs-at_fault (Fault v ∷ Char d ∷ a) b u = ap (λ l. 0xFFFD ∷ l) (runs-at_fault (Char d ∷ a) b u)
 runs-at_fault (Fault v ∷ Fault w ∷ a) b u = runs-at_fault (Fault w ∷ a) b u
+
+-- Behind other items
+pub lossy_after-none : (policy : Policy) (is : List Item) → lossy_after policy false is ≡ lossy_by policy is
+lossy_after-none Each is = refl
+lossy_after-none Run is = refl
+lossy_after-none Skip is = refl
+
+runs-after : (after : Bool) (a b : List Item) → lossy_after Run after (a ++ b) ≡ lossy_after Run after a ++ lossy_after Run (ends_in_fault after a) b
+runs-after true [] b = refl
+runs-after false [] b = refl
+runs-after true (Char c ∷ a) b = ap (λ l. c ∷ l) (runs-after false a b)
+runs-after false (Char c ∷ a) b = ap (λ l. c ∷ l) (runs-after false a b)
+runs-after true (Fault u ∷ a) b = runs-after true a b
+runs-after false (Fault u ∷ a) b =
+    let rest = lossy_after Run (ends_in_fault true a) b in
+    runs-from_fault (a ++ b) u ∙ ap (λ l. 0xFFFD ∷ l) (runs-after true a b) ∙ ap (λ l. l ++ rest) (sym (runs-from_fault a u))
+
+pub lossy_after-append : (policy : Policy) (after : Bool) (a b : List Item) → lossy_after policy after (a ++ b) ≡ lossy_after policy after a ++ lossy_after policy (ends_in_fault after a) b
+lossy_after-append Each after a b = map-append lossy_char a b
+lossy_after-append Run after a b = runs-after after a b
+lossy_after-append Skip after a b = characters-append a b
+
+pub ends_in_fault-append : (after : Bool) (a b : List Item) → ends_in_fault after (a ++ b) ≡ ends_in_fault (ends_in_fault after a) b
+ends_in_fault-append after [] b = refl
+ends_in_fault-append after (Char c ∷ a) b = ends_in_fault-append false a b
+ends_in_fault-append after (Fault u ∷ a) b = ends_in_fault-append true a b
 
 -- A row of faults alone
 pub runs-of_row : (u : ℕ) (us : List ℕ) → lossy_runs (map Fault (u ∷ us)) ≡ 0xFFFD ∷ []
@@ -103,6 +129,13 @@ behind-chars policy [] is = refl
 behind-chars Each (c ∷ cs) is = ap (λ l. c ∷ l) (behind-chars Each cs is)
 behind-chars Run (c ∷ cs) is = ap (λ l. c ∷ l) (behind-chars Run cs is)
 behind-chars Skip (c ∷ cs) is = ap (λ l. c ∷ l) (behind-chars Skip cs is)
+
+pub lossy_after-chars : (policy : Policy) (after : Bool) (cs : List ℕ) → lossy_after policy after (map Char cs) ≡ cs
+lossy_after-chars Each after cs = lossy_by-chars Each cs
+lossy_after-chars Run true [] = refl
+lossy_after-chars Run true (c ∷ cs) = lossy_by-chars Run (c ∷ cs)
+lossy_after-chars Run false cs = lossy_by-chars Run cs
+lossy_after-chars Skip after cs = lossy_by-chars Skip cs
 
 -- the lossy text of units by their numbers, of which the first are well formed and stay as they are
 pub lossy_by-split : {C : Type 0} (policy : Policy) (form : EncodingForm) (number : C → ℕ) (units front back : List C) → front ++ back ≡ units → IsWellFormed form (map number front)

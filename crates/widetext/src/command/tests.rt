@@ -132,6 +132,12 @@ const UTF8: &[&str] = &["utf8"];
 
 const LOSSY: &[&str] = &["utf8", "--lossy"];
 
+const EACH: &[&str] = &["utf8", "--lossy=each"];
+
+const RUN: &[&str] = &["utf8", "--lossy=run"];
+
+const SKIP: &[&str] = &["utf8", "--lossy=skip"];
+
 /// Words, input, text, line on the fault stream, status.
 type Row = (
     &'static [&'static str],
@@ -145,7 +151,7 @@ const NONE: &str = "";
 
 const ODD: &str = "file not encoded as UTF-16\n";
 
-const ROWS: [Row; 20] = [
+const ROWS: [Row; 26] = [
     (
         UTF8,
         b"\xff\xfe\x3d\xd8\x00\xde\x41\x00",
@@ -216,7 +222,41 @@ const ROWS: [Row; 20] = [
         NONE,
         0,
     ),
+    // A row of faults under each policy.
+    (
+        LOSSY,
+        ROW_AND_LETTER,
+        b"\xef\xbf\xbd\xef\xbf\xbd\x41",
+        NONE,
+        0,
+    ),
+    (
+        EACH,
+        ROW_AND_LETTER,
+        b"\xef\xbf\xbd\xef\xbf\xbd\x41",
+        NONE,
+        0,
+    ),
+    (RUN, ROW_AND_LETTER, b"\xef\xbf\xbd\x41", NONE, 0),
+    (SKIP, ROW_AND_LETTER, b"\x41", NONE, 0),
+    // U+FFFD of the text is no fault, and the last surrogate and half a unit follow a fault.
+    (
+        RUN,
+        b"\x00\xdc\xfd\xff\x00\xd8\x00\xd8\x41",
+        b"\xef\xbf\xbd\xef\xbf\xbd\xef\xbf\xbd",
+        ODD,
+        1,
+    ),
+    (
+        SKIP,
+        b"\x00\xdc\xfd\xff\x00\xd8\x00\xd8\x41",
+        b"\xef\xbf\xbd",
+        ODD,
+        1,
+    ),
 ];
+
+const ROW_AND_LETTER: &[u8] = b"\x00\xd8\x00\xd8\x41\x00";
 
 /// A run that has ended: its status, and its devices.
 #[derive(Drop)]
@@ -413,7 +453,8 @@ fn failing_fault_stream(rt: HostRuntime) {
     }
 }
 
-const USAGE_LINE: &[u8] = b"usage: widetext utf8 [--lossy] | ends UNITS CALLS | edit TEXT EDIT..\n";
+const USAGE_LINE: &[u8] =
+    b"usage: widetext utf8 [--lossy[=each|run|skip]] | ends UNITS CALLS | edit TEXT EDIT..\n";
 
 // Whether these words are answered with the usage alone, and no device is asked.
 fn are_wrong(alloc: Global, words: &[&str]) -> Result<bool, AllocError> {
@@ -428,7 +469,7 @@ fn are_wrong(alloc: Global, words: &[&str]) -> Result<bool, AllocError> {
 
 #[test]
 fn wrong_words(rt: HostRuntime) {
-    let all: [&[&str]; 45] = [
+    let all: [&[&str]; 49] = [
         &[],
         &[""],
         &["utf-8"],
@@ -436,6 +477,10 @@ fn wrong_words(rt: HostRuntime) {
         &["utf8", ""],
         &["utf8", "--Lossy"],
         &["utf8", "--lossy", ""],
+        &["utf8", "--lossy="],
+        &["utf8", "--lossy=Run"],
+        &["utf8", "--lossy=runs"],
+        &["utf8", "--lossy", "--lossy=run"],
         &["--lossy"],
         &["edit"],
         &["edit", "a", ""],
