@@ -1,5 +1,5 @@
-use Rattle.std.proofs.Common.{◌≡◌, ◌≤◌, length, take, refl, arith, length-take}
-use Rattle.wide_bytes.proofs.Lanes.{some-read, stop-front, text-front}
+use Rattle.std.proofs.Common.{◌≤◌, length, refl, arith, length-take}
+use Rattle.wide_bytes.proofs.Lanes.{stop-front, text-front}
 use Rattle.wide_bytes.proofs.blocks.encode_surrogates.Goals.{then-units-lt-RUN, else-units-lt-RUN}
 use Rattle.wide_bytes.proofs.blocks.encode_surrogates.Goals as goal
 
