@@ -1,5 +1,5 @@
 use Rattle.std.proofs.Common.{◌≡◌, ◌≤◌, ◌+◌, ◌-◌, length, take, drop, sym, subst, arith, length-take, length-drop}
-use Rattle.wide_bytes.proofs.Lanes.{more-block, whole-more, encoded-ascii, stop-block, stop-last, some-read}
+use Rattle.wide_bytes.proofs.Lanes.{more-block, whole-more, encoded-ascii, stop-last}
 use Rattle.wide_bytes.proofs.UnitEncodings.{units-none}
 use Rattle.wide_bytes.specs.Encoded.{EncodedUnits}
 use Rattle.wide_bytes.proofs.blocks.encode.Goals as goal
@@ -33,51 +33,37 @@ sixteens-preserved-then-not-has_surrogate c = record {
   encoded = whole-more c.args.units.now c.sixteens.read (c.sixteens.read + 16 - c.sixteens.read) (omega arith) c.sixteens.invariant.encoded c.put_words-written.ensures.text;
 }
 
-pub sixteens-preserved-then-is_paired : goal.sixteens-preserved-then-is_paired
-sixteens-preserved-then-is_paired c =
-    let n = c.sixteens.read + 17 - c.sixteens.read in
-    record {
-      within = omega (arith, c.put_paired-passed.ensures.all);
-      room = omega (arith, c.put_paired-passed.ensures.high, c.sixteens.invariant.room);
-      encoded = more-block c.args.units.now c.sixteens.read c.put_paired-passed.result.0 n (omega (arith, c.put_paired-passed.ensures.all)) c.sixteens.invariant.encoded c.put_paired-passed.ensures.text;
-    }
-
 pub returns-then-is_some-clause-text : goal.returns-then-is_some-clause-text
 returns-then-is_some-clause-text c =
-    let n = c.sixteens.read + 16 - c.sixteens.read in
-    let within = c.encode_plain-step.ensures.read in
-    more-block c.args.units.now c.sixteens.read c.encode_plain-step.result.read n (omega (arith, within, length-take n (drop c.sixteens.read c.args.units.now))) c.sixteens.invariant.encoded c.encode_plain-step.ensures.text
+    let n = length c.args.units.now - c.sixteens.read in
+    let within = c.encode_surrogates-step.ensures.read in
+    more-block c.args.units.now c.sixteens.read c.encode_surrogates-step.result.read n (omega (arith, within, length-take n (drop c.sixteens.read c.args.units.now))) c.sixteens.invariant.encoded c.encode_surrogates-step.ensures.text
 
 pub returns-then-is_some-clause-stop : goal.returns-then-is_some-clause-stop
 returns-then-is_some-clause-stop c =
-    let n = c.sixteens.read + 16 - c.sixteens.read in
-    let within = c.encode_plain-step.ensures.read in
-    stop-block c.args.units.now c.sixteens.read c.encode_plain-step.result.read n _ (omega (arith, within, length-take n (drop c.sixteens.read c.args.units.now))) (omega arith) (sym c.if-is_some.ensures) c.encode_plain-step.ensures.stop
+    let n = length c.args.units.now - c.sixteens.read in
+    let within = c.encode_surrogates-step.ensures.read in
+    stop-last c.args.units.now c.sixteens.read c.encode_surrogates-step.result.read n _ (omega arith) (c.encode_surrogates-step.ensures.stop (sym c.if-is_some.ensures))
 
 pub sixteens-preserved : goal.sixteens-preserved
 sixteens-preserved c =
-    let n = c.sixteens.read + 16 - c.sixteens.read in
-    let within = c.encode_plain-step.ensures.read in
-    let short : c.encode_plain-step.result.read ≤ n = omega (arith, within, length-take n (drop c.sixteens.read c.args.units.now)) in
+    let n = length c.args.units.now - c.sixteens.read in
+    let within = c.encode_surrogates-step.ensures.read in
+    let short : c.encode_surrogates-step.result.read ≤ n = omega (arith, within, length-take n (drop c.sixteens.read c.args.units.now)) in
     record {
       within = omega arith;
-      room = omega (arith, c.encode_plain-step.ensures.written, c.sixteens.invariant.room);
-      encoded = more-block c.args.units.now c.sixteens.read c.encode_plain-step.result.read n short c.sixteens.invariant.encoded c.encode_plain-step.ensures.text;
+      room = omega (arith, c.encode_surrogates-step.ensures.written, c.sixteens.invariant.room);
+      encoded = more-block c.args.units.now c.sixteens.read c.encode_surrogates-step.result.read n short c.sixteens.invariant.encoded c.encode_surrogates-step.ensures.text;
     }
 
 pub sixteens-smaller : goal.sixteens-smaller
-sixteens-smaller c =
-    let n = c.sixteens.read + 16 - c.sixteens.read in
-    let block = take n (drop c.sixteens.read c.args.units.now) in
-    let long : length block ≡ 16 = omega (arith, length-take n (drop c.sixteens.read c.args.units.now), length-drop c.sixteens.read c.args.units.now) in
-    let some = some-read block c.encode_plain-step.result.read c.encode_plain-step.result.fault long c.encode_plain-step.ensures.read (sym c.if-is_some.ensures) c.encode_plain-step.ensures.stop in
-    omega (arith, some)
+sixteens-smaller c = omega (arith, c.encode_surrogates-step.ensures.some (sym c.if-is_some.ensures))
 
 pub returns-clause-text : goal.returns-clause-text
 returns-clause-text c =
     let n = length c.args.units.now - c.sixteens.read in
-    let within = c.encode_plain-step-2.ensures.read in
-    more-block c.args.units.now c.sixteens.read c.encode_plain-step-2.result.read n (omega (arith, within, length-take n (drop c.sixteens.read c.args.units.now))) c.sixteens.invariant.encoded c.encode_plain-step-2.ensures.text
+    let within = c.encode_plain-step.ensures.read in
+    more-block c.args.units.now c.sixteens.read c.encode_plain-step.result.read n (omega (arith, within, length-take n (drop c.sixteens.read c.args.units.now))) c.sixteens.invariant.encoded c.encode_plain-step.ensures.text
 
 pub returns-clause-stop : goal.returns-clause-stop
-returns-clause-stop c = stop-last c.args.units.now c.sixteens.read c.encode_plain-step-2.result.read (length c.args.units.now - c.sixteens.read) _ (omega arith) c.encode_plain-step-2.ensures.stop
+returns-clause-stop c = stop-last c.args.units.now c.sixteens.read c.encode_plain-step.result.read (length c.args.units.now - c.sixteens.read) _ (omega arith) c.encode_plain-step.ensures.stop
