@@ -16,7 +16,10 @@ use std::alloc::AllocError;
 use std::ops::RangeBounds;
 use wide_error::{ContainsNul, MissingNulTerminator, NulError};
 use wide_unit::{Policy, Unit, first_nul};
-use wide_ustr::{CharIndices, CharIndicesLossy, Chars, CharsLossy, CharsLossyWith, Display, DisplaySkipping, UStr};
+use wide_ustr::{
+    CharIndices, CharIndicesLossy, Chars, CharsLossy, CharsLossyWith, Display, DisplaySkipping,
+    UStr,
+};
 use wide_utferror::FaultUnit;
 
 /// A view of a wide C string: units of which the last is the only NUL, by its type.

@@ -57,12 +57,7 @@ impl<C: FaultUnit, A: Allocator> UtfString<C, A> {
     }
 
     // The text of units that are well formed before this index, with what the policy says for each fault.
-    fn lossy_copy(
-        alloc: A,
-        units: &[C],
-        index: usize,
-        policy: Policy,
-    ) -> Result<Self, OutOfMemory>
+    fn lossy_copy(alloc: A, units: &[C], index: usize, policy: Policy) -> Result<Self, OutOfMemory>
         requires within { index ≤ length units.now }
         requires front { IsWellFormed C.form (map C.number (take index units.now)) }
         ensures { IfOk result (λ s. map C.number s.units ≡ encode C.form (lossy_by policy (items C.form (map C.number units.now)))) }
