@@ -18,6 +18,7 @@ mod hints;
 mod items;
 mod lossy;
 mod offsets;
+mod policies;
 mod texts;
 mod ucstring;
 mod ustring;
@@ -25,6 +26,7 @@ mod utfstring;
 
 use crate::parse::NoAnswer;
 use std::alloc::Global;
+use widestring::Policy;
 
 /// A family of cases, with a file of its own.
 #[derive(Clone, Copy, Debug, PartialEq, Eq)]
@@ -111,11 +113,23 @@ pub enum Family {
     ToString16,
     /// The text of 32-bit units, or its first fault.
     ToString32,
+    /// The characters of a lossy decoder of UTF-16 with U+FFFD for each fault.
+    Each16,
+    /// The characters of a lossy decoder of UTF-16 with one U+FFFD for a row of faults.
+    Run16,
+    /// The characters of a lossy decoder of UTF-16 with nothing for a fault.
+    Skip16,
+    /// The characters of a lossy decoder of UTF-32 with U+FFFD for each fault.
+    Each32,
+    /// The characters of a lossy decoder of UTF-32 with one U+FFFD for a row of faults.
+    Run32,
+    /// The characters of a lossy decoder of UTF-32 with nothing for a fault.
+    Skip32,
 }
 
 impl Family {
     /// All families, in the order in which they are printed.
-    pub const ALL: [Family; 41] = [
+    pub const ALL: [Family; 47] = [
         Family::Items16,
         Family::Items32,
         Family::Lossy16,
@@ -157,6 +171,12 @@ impl Family {
         Family::LossyText32,
         Family::ToString16,
         Family::ToString32,
+        Family::Each16,
+        Family::Run16,
+        Family::Skip16,
+        Family::Each32,
+        Family::Run32,
+        Family::Skip32,
     ];
 
     /// The family's name, which is its file's without `.txt`.
@@ -203,6 +223,12 @@ impl Family {
             Family::LossyText32 => "lossy_text32",
             Family::ToString16 => "to_string16",
             Family::ToString32 => "to_string32",
+            Family::Each16 => "each16",
+            Family::Run16 => "run16",
+            Family::Skip16 => "skip16",
+            Family::Each32 => "each32",
+            Family::Run32 => "run32",
+            Family::Skip32 => "skip32",
         }
     }
 
@@ -265,6 +291,12 @@ impl Family {
             Family::LossyText32 => conversions::lossy::<u32>(alloc, list, question),
             Family::ToString16 => conversions::text16(alloc, list, question),
             Family::ToString32 => conversions::text32(alloc, list, question),
+            Family::Each16 => policies::utf16(alloc, list, question, Policy::Each),
+            Family::Run16 => policies::utf16(alloc, list, question, Policy::Run),
+            Family::Skip16 => policies::utf16(alloc, list, question, Policy::Skip),
+            Family::Each32 => policies::utf32(alloc, list, question, Policy::Each),
+            Family::Run32 => policies::utf32(alloc, list, question, Policy::Run),
+            Family::Skip32 => policies::utf32(alloc, list, question, Policy::Skip),
         }
     }
 }
