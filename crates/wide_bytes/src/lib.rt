@@ -15,6 +15,7 @@ mod pieces;
 mod steps;
 mod transcoding;
 mod units;
+mod wide;
 
 pub use devices::{ByteSink, ByteSource, FromRead, FromWrite};
 pub use mode::Mode;

@@ -2,7 +2,7 @@
 
 ghost use Rattle.std.specs.Prelude.{◌≡◌, ◌+◌, ◌*◌, ◌/◌, ◌%◌, ◌≤◌, ◌<◌, ◌++◌, ℕ, Bool, slice_index, length, take};
 ghost use Rattle.wide_bytes.specs.Encoded.{EncodedUnits};
-ghost use Rattle.wide_bytes.specs.Narrow.{IsNarrowFront, IsPair, ascii_number, kept, number_of};
+ghost use Rattle.wide_bytes.specs.Narrow.{IsNarrowFront, IsPair, below_number, kept, number_of};
 
 use std::simd::prelude::*;
 
@@ -46,15 +46,15 @@ pub(crate) fn put_four(pairs: u8x16, ascii: usize, out: &mut [u8], at: usize) ->
     at + LENS[ascii]
 }
 
-// One bit for each of eight units that is ASCII, from the lowest on.
+/// One bit for each of eight units that is below a bound, from the lowest on.
 #[inline(always)]
-fn ascii_bits(units: &[u16]) -> u64
+pub(crate) fn bits_below(units: &[u16], bound: u16) -> u64
     requires { length units.now ≡ 8 }
-    ensures low { result % 16 ≡ ascii_number units.now 0 }
-    ensures high { result / 16 ≡ ascii_number units.now 4 }
+    ensures low { result % 16 ≡ below_number bound units.now 0 }
+    ensures high { result / 16 ≡ below_number bound units.now 4 }
 {
     u16x8::from_slice(units)
-        .simd_lt(u16x8::splat(0x80))
+        .simd_lt(u16x8::splat(bound))
         .to_bitmask()
 }
 
@@ -112,7 +112,7 @@ fn put_eight(units: &[u16], fronts: &[u16], out: &mut [u8], at: usize) -> usize
     ensures text { EncodedUnits units.now (take at out.old) (take result out.new) }
     ensures high { result ≤ at + 16 }
 {
-    let ascii = ascii_bits(units);
+    let ascii = bits_below(units, 0x80);
     let pairs = pairs_of(units, fronts);
     let half = put_four(pairs, (ascii % 16) as usize, out, at);
     put_four(upper_half(pairs), (ascii / 16) as usize, out, half)
