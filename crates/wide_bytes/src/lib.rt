@@ -4,6 +4,7 @@
 
 mod blocks;
 mod devices;
+mod fronts;
 mod holding;
 pub mod laws;
 mod lossy;

@@ -5,7 +5,7 @@ ghost use Rattle.wide_bytes.specs.Encoded.{EncodedUnits, IsFront};
 ghost use Rattle.wide_bytes.specs.Narrow.{below_number, number_of};
 ghost use Rattle.wide_bytes.specs.Wide.{HoldsWord, Size, kept_bytes, row_of, ternary_of};
 
-use crate::narrow::bits_below;
+use crate::fronts::{bits_below, fronts_of};
 use std::simd::prelude::*;
 
 // By how many bytes each of four units has, in base three from the lowest digit on, where two is one byte, one two bytes and zero three
@@ -141,30 +141,6 @@ fn words_of(fronts: &[u16], backs: &[u16]) -> (u8x16, u8x16)
     let low = fronts.shuffle(backs, [0, 8, 1, 9, 2, 10, 3, 11]);
     let high = fronts.shuffle(backs, [4, 12, 5, 13, 6, 14, 7, 15]);
     (low.to_le_bytes(), high.to_le_bytes())
-}
-
-/// The first two bytes of a unit that is a character, low byte first.
-#[inline(always)]
-pub(crate) fn front_of(unit: u16) -> u16
-    ensures one { unit < 0x80 → result ≡ unit }
-    ensures two { 0x80 ≤ unit → unit < 0x800 → result ≡ 0x80c0 + unit / 0x40 + unit % 0x40 * 0x100 }
-    ensures three { 0x800 ≤ unit → result ≡ 0x80e0 + unit / 0x1000 + unit / 0x40 % 0x40 * 0x100 }
-{
-    let two = 0x80c0 + unit / 0x40 + unit % 0x40 * 0x100;
-    let three = 0x80e0 + unit / 0x1000 + unit / 0x40 % 0x40 * 0x100;
-    let short = if unit < 0x80 { unit } else { two };
-    if unit < 0x800 { short } else { three }
-}
-
-#[inline(always)]
-fn fronts_of(units: &[u16], fronts: &mut [u16])
-    requires whole { 16 ≤ length units.now }
-    requires room { length fronts.old ≡ 16 }
-    ensures { (k : ℕ) → k < 16 → IsFront (slice_index units.now k) (slice_index fronts.new k) }
-{
-    for k in 0..16 {
-        fronts[k] = front_of(units[k]);
-    }
 }
 
 // The third byte of each three-byte character.

@@ -1,5 +1,5 @@
 use Rattle.wide_bytes.proofs.Shuffles.{bits-high, bits-low}
-use Rattle.wide_bytes.proofs.narrow.bits_below.Goals as goal
+use Rattle.wide_bytes.proofs.fronts.bits_below.Goals as goal
 
 pub returns-clause-low : goal.returns-clause-low
 returns-clause-low c = bits-low c.args.bound c.args.units.now c.requires
