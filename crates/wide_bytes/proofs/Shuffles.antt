@@ -1,17 +1,17 @@
 -- Units below 0x800 in two bytes for each, and the bytes that are kept of those.
-use Rattle.std.proofs.Common.{◌≡◌, ℕ, zero, suc, ◌+◌, ◌-◌, ◌*◌, ◌/◌, ◌%◌, ◌<◌, ◌≤◌, ◌^◌, Bool, true, false, cond, inl, inr, ltb, map, replicate, w16, append_assoc, List, [], ◌∷◌, ◌++◌, length, get_or, set, take, drop, w8, refl, sym, ap, ◌∙◌, subst, arith, rules, length-drop, length-take}
+use Rattle.std.proofs.Common.{◌≡◌, ℕ, suc, ◌+◌, ◌-◌, ◌*◌, ◌/◌, ◌%◌, ◌<◌, ◌≤◌, ◌^◌, Bool, true, false, T, cond, inl, inr, ltb, map, replicate, w16, append_assoc, List, [], ◌∷◌, ◌++◌, length, get_or, set, take, drop, w8, refl, sym, ap, ◌∙◌, subst, arith, length-drop}
 use Rattle.std.proofs.lemmas.Bool.{cases_lt, lt-ltb, le-ltb}
 use Rattle.std.proofs.lemmas.List.{get_or-set_other, get_or-set_same, take_all, take-append-drop}
-use Rattle.std.proofs.lemmas.Simd.{put_chunk_whole, swz_l, length-swz_l, bitmask_splat, get_or_narrower, Each1-from_get_or}
-use Rattle.std.proofs.lemmas.Slice.{overwrites}
+use Rattle.std.proofs.lemmas.Simd.{swz_l, bitmask_splat, get_or_narrower, Each1-from_get_or}
 use borrow.Rule.Slice.PartMut.{put_mid}
 use lib.Lanes.{put_chunk, Each1, mask_l, top, zip2, digits_l, number_l}
 use Rattle.wide_unit.specs.Utf8.{utf8_bytes}
 use Rattle.wide_unit.specs.Laws.Utf8.{one_byte, two_bytes}
 use Rattle.wide_bytes.specs.Encoded.{EncodedUnits}
-use Rattle.wide_bytes.specs.Narrow.{IsNarrowFront, IsPair, ascii_number, kept, kept_of, number_of}
+use Rattle.wide_bytes.specs.Narrow.{IsNarrowFront, IsPair, below_number, kept, kept_of, number_of}
 use Rattle.wide_bytes.specs.declared.narrow.TheConstants.{LENS, PLACES}
-use Rattle.wide_bytes.proofs.Stores.{kept-front, list2}
+use Rattle.wide_bytes.proofs.Stores.{list2}
+use Rattle.wide_bytes.proofs.Tables.{are-rows, each-most, is-row, row-stored}
 use Rattle.wide_bytes.proofs.UnitEncodings.{units-one, units-then}
 
 -- ---- four units by the table
@@ -34,70 +34,22 @@ picked false false true false pairs = refl
 picked false false false true pairs = refl
 picked false false false false pairs = refl
 
-few : (a b c d : Bool) → get_or LENS (number_of a b c d) 0 ≤ 16
-few true true true true = omega arith
-few true true true false = omega arith
-few true true false true = omega arith
-few true true false false = omega arith
-few true false true true = omega arith
-few true false true false = omega arith
-few true false false true = omega arith
-few true false false false = omega arith
-few false true true true = omega arith
-few false true true false = omega arith
-few false true false true = omega arith
-few false true false false = omega arith
-few false false true true = omega arith
-few false false true false = omega arith
-few false false false true = omega arith
-few false false false false = omega arith
-
-places-long : (a b c d : Bool) → length (take 16 (get_or PLACES (number_of a b c d) [])) ≡ 16
-places-long true true true true = refl
-places-long true true true false = refl
-places-long true true false true = refl
-places-long true true false false = refl
-places-long true false true true = refl
-places-long true false true false = refl
-places-long true false false true = refl
-places-long true false false false = refl
-places-long false true true true = refl
-places-long false true true false = refl
-places-long false true false true = refl
-places-long false true false false = refl
-places-long false false true true = refl
-places-long false false true false = refl
-places-long false false false true = refl
-places-long false false false false = refl
-
-pub stored-block : (xs ys : List ℕ) (at : ℕ) → length ys ≡ 16 → at + 16 ≤ length xs → take (at + 16) (put_mid at (at + 16 - at) xs (put_chunk 0 (take (at + 16 - at) (drop at xs)) ys)) ≡ take at xs ++ ys
-stored-block xs ys at long room =
-    let part = take (at + 16 - at) (drop at xs) in
-    let part_long : length part ≡ length ys = omega (arith, length-take (at + 16 - at) (drop at xs), length-drop at xs) in
-    ap (λ l. take (at + 16) (put_mid at (at + 16 - at) xs l)) (put_chunk_whole part ys part_long) ∙ search (rules, overwrites)
-
-pub four-stored : (xs pairs : List ℕ) (at n : ℕ) (a b c d : Bool) → n ≡ number_of a b c d → at + 16 ≤ length xs
-    → take (at + get_or LENS n 0) (put_mid at (at + 16 - at) xs (put_chunk 0 (take (at + 16 - at) (drop at xs)) (swz_l w8 16 pairs 0 (take 16 (get_or PLACES n []))))) ≡ take at xs ++ kept a b c d pairs
-four-stored xs pairs at n a b c d is room =
-    let m = number_of a b c d in
-    let ys = swz_l w8 16 pairs 0 (take 16 (get_or PLACES m [])) in
-    let zs = put_mid at (at + 16 - at) xs (put_chunk 0 (take (at + 16 - at) (drop at xs)) ys) in
-    let long : length ys ≡ 16 = length-swz_l w8 16 pairs 0 (take 16 (get_or PLACES m [])) ∙ places-long a b c d in
-    let here : take (at + get_or LENS m 0) zs ≡ take at xs ++ kept a b c d pairs =
-    kept-front xs zs ys at 16 (get_or LENS m 0) (omega arith) (few a b c d) (stored-block xs ys at long room) ∙ ap (λ bs. take at xs ++ bs) (picked a b c d pairs) in
-    subst (λ k. take (at + get_or LENS k 0) (put_mid at (at + 16 - at) xs (put_chunk 0 (take (at + 16 - at) (drop at xs)) (swz_l w8 16 pairs 0 (take 16 (get_or PLACES k []))))) ≡ take at xs ++ kept a b c d pairs) (sym is) here
-
-below-each : (xs : List ℕ) → Each1 (λ x. x ≤ 8) xs → (n : ℕ) → get_or xs n 0 ≤ 8
-below-each [] each n = omega arith
-below-each (x ∷ xs) each zero = each.0
-below-each (x ∷ xs) each (suc n) = below-each xs each.1 n
+places-sound : T (are-rows PLACES)
+unfolding are-rows is-row
+places-sound = tt
 
 pub lens-small : (n : ℕ) → get_or LENS n 0 ≤ 8
-lens-small n = below-each LENS (omega arith, (omega arith, (omega arith, (omega arith, (omega arith, (omega arith, (omega arith, (omega arith, (omega arith, (omega arith, (omega arith, (omega arith, (omega arith, (omega arith, (omega arith, (omega arith, tt)))))))))))))))) n
+lens-small n = omega (arith, each-most 9 LENS n (omega arith) tt)
 
--- ---- which are ASCII
+pub four-stored : (xs pairs : List ℕ) (at n : ℕ) (a b c d : Bool) → n < 16 → n ≡ number_of a b c d → at + 16 ≤ length xs
+    → take (at + get_or LENS n 0) (put_mid at (at + 16 - at) xs (put_chunk 0 (take (at + 16 - at) (drop at xs)) (swz_l w8 16 pairs 0 (take 16 (get_or PLACES n []))))) ≡ take at xs ++ kept a b c d pairs
+four-stored xs pairs at n a b c d within is room =
+    let same : take (get_or LENS n 0) (swz_l w8 16 pairs 0 (take 16 (get_or PLACES n []))) ≡ kept a b c d pairs = subst (λ k. take (get_or LENS k 0) (swz_l w8 16 pairs 0 (take 16 (get_or PLACES k []))) ≡ kept a b c d pairs) (sym is) (picked a b c d pairs) in
+    row-stored PLACES places-sound n within xs pairs (kept a b c d pairs) at (get_or LENS n 0) (omega (arith, lens-small n)) room same
 
-eight : (xs : List ℕ) → length xs ≡ 8 → xs ≡ get_or xs 0 0 ∷ get_or xs 1 0 ∷ get_or xs 2 0 ∷ get_or xs 3 0 ∷ get_or xs 4 0 ∷ get_or xs 5 0 ∷ get_or xs 6 0 ∷ get_or xs 7 0 ∷ []
+-- ---- which are below a bound
+
+pub eight : (xs : List ℕ) → length xs ≡ 8 → xs ≡ get_or xs 0 0 ∷ get_or xs 1 0 ∷ get_or xs 2 0 ∷ get_or xs 3 0 ∷ get_or xs 4 0 ∷ get_or xs 5 0 ∷ get_or xs 6 0 ∷ get_or xs 7 0 ∷ []
 eight [] long = absurd (omega arith)
 eight (a ∷ []) long = absurd (omega arith)
 eight (a ∷ b ∷ []) long = absurd (omega arith)
@@ -109,7 +61,7 @@ eight (a ∷ b ∷ c ∷ d ∷ e ∷ f ∷ g ∷ []) long = absurd (omega arith)
 eight (a ∷ b ∷ c ∷ d ∷ e ∷ f ∷ g ∷ h ∷ []) long = refl
 eight (a ∷ b ∷ c ∷ d ∷ e ∷ f ∷ g ∷ h ∷ i ∷ xs) long = absurd (omega arith)
 
-bit-small : (b : Bool) → cond {A = ℕ} b 1 0 ≤ 1
+pub bit-small : (b : Bool) → cond {A = ℕ} b 1 0 ≤ 1
 bit-small true = omega arith
 bit-small false = omega arith
 
@@ -119,18 +71,18 @@ halves a b c d e f g h = (
   omega (arith, bit-small a, bit-small b, bit-small c, bit-small d),
 )
 
-pub ascii-mask : (us : List ℕ) → length us ≡ 8 → mask_l (map (top 15) (zip2 (λ a b. cond (ltb a b) (2 ^ 16 - 1) 0) (take 8 us) (replicate 8 0x80))) % 2 ^ 64
-    ≡ mask_l (ltb (get_or us 0 0) 0x80 ∷ ltb (get_or us 1 0) 0x80 ∷ ltb (get_or us 2 0) 0x80 ∷ ltb (get_or us 3 0) 0x80 ∷ ltb (get_or us 4 0) 0x80 ∷ ltb (get_or us 5 0) 0x80 ∷ ltb (get_or us 6 0) 0x80 ∷ ltb (get_or us 7 0) 0x80 ∷ [])
-ascii-mask us long =
+bits-mask : (bound : ℕ) (us : List ℕ) → length us ≡ 8 → mask_l (map (top 15) (zip2 (λ a b. cond (ltb a b) (2 ^ 16 - 1) 0) (take 8 us) (replicate 8 bound))) % 2 ^ 64
+    ≡ mask_l (ltb (get_or us 0 0) bound ∷ ltb (get_or us 1 0) bound ∷ ltb (get_or us 2 0) bound ∷ ltb (get_or us 3 0) bound ∷ ltb (get_or us 4 0) bound ∷ ltb (get_or us 5 0) bound ∷ ltb (get_or us 6 0) bound ∷ ltb (get_or us 7 0) bound ∷ [])
+bits-mask bound us long =
     let whole : take 8 us ≡ us = take_all 8 us (omega arith) in
-    bitmask_splat w16 (λ a b. ltb a b) (take 8 us) 8 0x80 (ap length whole ∙ long) (omega arith) ∙ ap (λ xs. mask_l (map (λ x. ltb x 0x80) xs)) (whole ∙ eight us long)
+    bitmask_splat w16 (λ a b. ltb a b) (take 8 us) 8 bound (ap length whole ∙ long) (omega arith) ∙ ap (λ xs. mask_l (map (λ x. ltb x bound) xs)) (whole ∙ eight us long)
 
-module _ (us : List ℕ) (long : length us ≡ 8) where
-  pub ascii-low : mask_l (map (top 15) (zip2 (λ a b. cond (ltb a b) (2 ^ 16 - 1) 0) (take 8 us) (replicate 8 0x80))) % 2 ^ 64 % 16 ≡ ascii_number us 0
-  ascii-low = ap (λ n. n % 16) (ascii-mask us long) ∙ (halves _ _ _ _ _ _ _ _).0
+module _ (bound : ℕ) (us : List ℕ) (long : length us ≡ 8) where
+  pub bits-low : mask_l (map (top 15) (zip2 (λ a b. cond (ltb a b) (2 ^ 16 - 1) 0) (take 8 us) (replicate 8 bound))) % 2 ^ 64 % 16 ≡ below_number bound us 0
+  bits-low = ap (λ n. n % 16) (bits-mask bound us long) ∙ (halves _ _ _ _ _ _ _ _).0
 
-  pub ascii-high : mask_l (map (top 15) (zip2 (λ a b. cond (ltb a b) (2 ^ 16 - 1) 0) (take 8 us) (replicate 8 0x80))) % 2 ^ 64 / 16 ≡ ascii_number us 4
-  ascii-high = ap (λ n. n / 16) (ascii-mask us long) ∙ (halves _ _ _ _ _ _ _ _).1
+  pub bits-high : mask_l (map (top 15) (zip2 (λ a b. cond (ltb a b) (2 ^ 16 - 1) 0) (take 8 us) (replicate 8 bound))) % 2 ^ 64 / 16 ≡ below_number bound us 4
+  bits-high = ap (λ n. n / 16) (bits-mask bound us long) ∙ (halves _ _ _ _ _ _ _ _).1
 
 -- ---- the bytes of the fronts
 
@@ -166,12 +118,12 @@ module _ (pairs : List ℕ) (k u : ℕ) (pair : IsPair u (get_or pairs k 0) (get
     | inr from ↦ rw (le-ltb u 0x80 from) (list2 _ _ _ _ (pair.two from below).0 (pair.two from below).1 ∙ sym (two_bytes u from below))
   ]
 
-assoc4 : (s a b c d : List ℕ) → (((s ++ a) ++ b) ++ c) ++ d ≡ s ++ (((a ++ b) ++ c) ++ d)
+pub assoc4 : (s a b c d : List ℕ) → (((s ++ a) ++ b) ++ c) ++ d ≡ s ++ (((a ++ b) ++ c) ++ d)
 assoc4 s a b c d = ap (λ x. (x ++ c) ++ d) (append_assoc s a b) ∙ ap (λ x. x ++ d) (append_assoc s (a ++ b) c) ∙ append_assoc s ((a ++ b) ++ c) d
 
--- the same pair at other places
-pub same-pair : {u first second other_first other_second : ℕ} → other_first ≡ first → other_second ≡ second → IsPair u first second → IsPair u other_first other_second
-same-pair {u} {first} {second} {other_first} {other_second} e f pair = subst (λ x. IsPair u x other_second) (sym e) (subst (λ y. IsPair u first y) (sym f) pair)
+-- a fact of two numbers holds of the same two elsewhere
+pub same-two : (P : ℕ → ℕ → Type 0) {x y other_x other_y : ℕ} → other_x ≡ x → other_y ≡ y → P x y → P other_x other_y
+same-two P {x} {y} {other_x} {other_y} e f is = subst (λ z. P z other_y) (sym e) (subst (λ z. P x z) (sym f) is)
 
 pub four-encoded : (pairs : List ℕ) (a b c d : ℕ) (s : List ℕ) → IsPair a (get_or pairs 0 0) (get_or pairs 1 0) → IsPair b (get_or pairs 2 0) (get_or pairs 3 0) → IsPair c (get_or pairs 4 0) (get_or pairs 5 0) → IsPair d (get_or pairs 6 0) (get_or pairs 7 0)
     → a < 0x800 → b < 0x800 → c < 0x800 → d < 0x800 → EncodedUnits (a ∷ b ∷ c ∷ d ∷ []) s (s ++ kept (ltb a 0x80) (ltb b 0x80) (ltb c 0x80) (ltb d 0x80) pairs)
@@ -197,10 +149,6 @@ two-halves {s} {t} {v} us long first second =
     let rest : take 8 (drop 8 us) ≡ drop 8 us = take_all 8 (drop 8 us) (omega (arith, length-drop 8 us)) in
     let all : take 8 us ++ take 8 (drop 8 us) ≡ us = ap (λ xs. take 8 us ++ xs) rest ∙ take-append-drop 8 us in
     subst (λ xs. EncodedUnits xs s v) all (units-then first second)
-
--- the same front at other places
-pub same-front : {u front other_u other_front : ℕ} → other_u ≡ u → other_front ≡ front → IsNarrowFront u front → IsNarrowFront other_u other_front
-same-front {u} {front} {other_u} {other_front} e f is = subst (λ x. IsNarrowFront x other_front) (sym e) (subst (λ y. IsNarrowFront u y) (sym f) is)
 
 pub same-lists : (xs ys : List ℕ) → length xs ≡ length ys → ((k : ℕ) → k < length xs → get_or xs k 0 ≡ get_or ys k 0) → xs ≡ ys
 same-lists [] [] long same = refl

@@ -4,6 +4,7 @@
 
 mod blocks;
 mod devices;
+mod fronts;
 mod holding;
 pub mod laws;
 mod lossy;
@@ -15,6 +16,7 @@ mod pieces;
 mod steps;
 mod transcoding;
 mod units;
+mod wide;
 
 pub use devices::{ByteSink, ByteSource, FromRead, FromWrite};
 pub use mode::Mode;

@@ -2,8 +2,9 @@
 
 ghost use Rattle.std.specs.Prelude.{◌≡◌, ◌+◌, ◌*◌, ◌/◌, ◌%◌, ◌≤◌, ◌<◌, ◌++◌, ℕ, Bool, slice_index, length, take};
 ghost use Rattle.wide_bytes.specs.Encoded.{EncodedUnits};
-ghost use Rattle.wide_bytes.specs.Narrow.{IsNarrowFront, IsPair, ascii_number, kept, number_of};
+ghost use Rattle.wide_bytes.specs.Narrow.{IsNarrowFront, IsPair, kept, number_of};
 
+use crate::fronts::{bits_below, fronts_of};
 use std::simd::prelude::*;
 
 // By which of four units are ASCII, one bit for each from the lowest on: where the bytes of their text stand among two for each unit.
@@ -46,29 +47,7 @@ pub(crate) fn put_four(pairs: u8x16, ascii: usize, out: &mut [u8], at: usize) ->
     at + LENS[ascii]
 }
 
-// One bit for each of eight units that is ASCII, from the lowest on.
-#[inline(always)]
-fn ascii_bits(units: &[u16]) -> u64
-    requires { length units.now ≡ 8 }
-    ensures low { result % 16 ≡ ascii_number units.now 0 }
-    ensures high { result / 16 ≡ ascii_number units.now 4 }
-{
-    u16x8::from_slice(units)
-        .simd_lt(u16x8::splat(0x80))
-        .to_bitmask()
-}
-
-// The two bytes of a unit below 0x800, low byte first: its text, or it and a zero where it is ASCII.
-#[inline(always)]
-fn narrow_front_of(unit: u16) -> u16
-    requires { unit < 0x800 }
-    ensures { IsNarrowFront unit result }
-{
-    let two = 0x80c0 + unit / 0x40 + unit % 0x40 * 0x100;
-    if unit < 0x80 { unit } else { two }
-}
-
-// Not inlined, so that the fronts are computed as vectors.
+// The fronts of sixteen units below 0x800. Not inlined, so that they are computed as vectors.
 #[inline(never)]
 fn narrow_fronts_of(units: &[u16], fronts: &mut [u16])
     requires whole { length units.now ≡ 16 }
@@ -77,9 +56,10 @@ fn narrow_fronts_of(units: &[u16], fronts: &mut [u16])
     ensures long { length fronts.new ≡ 16 }
     ensures fronts { (k : ℕ) → k < 16 → IsNarrowFront (slice_index units.now k) (slice_index fronts.new k) }
 {
-    for k in 0..16 {
-        fronts[k] = narrow_front_of(units[k]);
-    }
+    // A loop over an array of known length is compiled without branches.
+    let mut own = [0u16; 16];
+    own.copy_from_slice(units);
+    fronts_of(&own, fronts);
 }
 
 // The bytes of the fronts of eight units below 0x800, two and two.
@@ -112,7 +92,7 @@ fn put_eight(units: &[u16], fronts: &[u16], out: &mut [u8], at: usize) -> usize
     ensures text { EncodedUnits units.now (take at out.old) (take result out.new) }
     ensures high { result ≤ at + 16 }
 {
-    let ascii = ascii_bits(units);
+    let ascii = bits_below(units, 0x80);
     let pairs = pairs_of(units, fronts);
     let half = put_four(pairs, (ascii % 16) as usize, out, at);
     put_four(upper_half(pairs), (ascii / 16) as usize, out, half)

@@ -1,8 +1,8 @@
 //! The text of units, one by one.
 
-ghost use Rattle.std.specs.Prelude.{◌≡◌, ◌+◌, ◌*◌, ◌-◌, ◌≤◌, ◌<◌, ◌++◌, length, take, drop};
+ghost use Rattle.std.specs.Prelude.{◌≡◌, ◌+◌, ◌*◌, ◌-◌, ◌/◌, ◌%◌, ◌≤◌, ◌<◌, ◌++◌, ◌∷◌, [], length, take, drop};
 ghost use Rattle.wide_unit.specs.Utf8.{utf8_bytes};
-ghost use Rattle.wide_bytes.specs.Encoded.{EncodedUnits, StopsBefore};
+ghost use Rattle.wide_bytes.specs.Encoded.{EncodedUnits, StopsBefore, high_word, low_word};
 
 /// How far encoding came: what it read, in units or in bytes as the function tells, the place behind the text in bytes, and
 /// the fault at which it stopped.
@@ -36,6 +36,45 @@ pub(crate) fn put_unit(out: &mut [u8], at: usize, unit: u16) -> usize
     }
 }
 
+/// Stores the four bytes of a number, low byte first.
+#[inline(always)]
+pub(crate) fn put_word(out: &mut [u8], at: usize, word: u32)
+    requires { at + 4 ≤ length out.old }
+    ensures { take (at + 4) out.new ≡ take at out.old ++ (word % 0x100) ∷ (word / 0x100 % 0x100) ∷ (word / 0x10000 % 0x100) ∷ (word / 0x1000000) ∷ [] }
+{
+    // `copy_from_slice` would ask whether the two overlap.
+    out[at] = (word % 0x100) as u8;
+    out[at + 1] = (word / 0x100 % 0x100) as u8;
+    out[at + 2] = (word / 0x10000 % 0x100) as u8;
+    out[at + 3] = (word / 0x1000000) as u8;
+}
+
+/// Two halves as one number.
+#[inline(always)]
+pub(crate) fn join(front: u16, back: u16) -> u32
+    ensures { result ≡ front + back * 0x10000 }
+{
+    u32::from(front) + u32::from(back) * 0x10000
+}
+
+/// The first two bytes of a pair, by its high surrogate, low byte first.
+#[inline(always)]
+pub(crate) fn high_word_of(high: u16) -> u16
+    ensures { result ≡ high_word high }
+{
+    // The sixteenth of the scalar value over 0x40.
+    let top = high % 0x400 + 0x40;
+    0x80f0 + top / 0x100 + top / 4 % 0x40 * 0x100
+}
+
+/// The last two bytes of a pair, low byte first.
+#[inline(always)]
+pub(crate) fn low_word_of(high: u16, low: u16) -> u16
+    ensures { result ≡ low_word high low }
+{
+    0x8080 + high % 4 * 0x10 + low / 0x40 % 0x10 + low % 0x40 * 0x100
+}
+
 // Writes the bytes of the character of a pair, and answers the place behind them.
 #[inline(always)]
 fn put_pair(out: &mut [u8], at: usize, high: u16, low: u16) -> usize
@@ -47,13 +86,7 @@ fn put_pair(out: &mut [u8], at: usize, high: u16, low: u16) -> usize
     ensures text { take result out.new ≡ take at out.old ++ utf8_bytes (0x10000 + ((high - 0xd800) * 0x400 + (low - 0xdc00))) }
     ensures high { result ≡ at + 4 }
 {
-    // The sixteenth of the scalar value over 0x40, and its bits from the tenth on.
-    let top = high - 0xd800 + 0x40;
-    let bits = low - 0xdc00;
-    out[at] = (0b1111_0000 + top / 0x100) as u8;
-    out[at + 1] = (0b1000_0000 + top / 4 % 0x40) as u8;
-    out[at + 2] = (0b1000_0000 + top % 4 * 0x10 + bits / 0x40) as u8;
-    out[at + 3] = (0b1000_0000 + bits % 0x40) as u8;
+    put_word(out, at, join(high_word_of(high), low_word_of(high, low)));
     at + 4
 }
 

@@ -29,8 +29,8 @@ sixteens-preserved-then-bits-lt2048 c = record {
 pub sixteens-preserved-then-not-has_surrogate : goal.sixteens-preserved-then-not-has_surrogate
 sixteens-preserved-then-not-has_surrogate c = record {
   within = omega arith;
-  room = omega (arith, c.put_words-written.ensures.high, c.sixteens.invariant.room);
-  encoded = whole-more c.args.units.now c.sixteens.read (c.sixteens.read + 16 - c.sixteens.read) (omega arith) c.sixteens.invariant.encoded c.put_words-written.ensures.text;
+  room = omega (arith, c.put_wide-written.ensures.high, c.sixteens.invariant.room);
+  encoded = whole-more c.args.units.now c.sixteens.read (c.sixteens.read + 16 - c.sixteens.read) (omega arith) c.sixteens.invariant.encoded c.put_wide-written.ensures.text;
 }
 
 pub returns-then-is_some-clause-text : goal.returns-then-is_some-clause-text

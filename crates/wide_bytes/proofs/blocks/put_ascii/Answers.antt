@@ -1,6 +1,7 @@
 use Rattle.std.proofs.Common.{◌≡◌, ◌∙◌, ◌++◌, ap, length, take, arith, length-set, ℕ}
 use Rattle.std.proofs.lemmas.List.{take_all}
-use Rattle.wide_bytes.proofs.Shuffles.{same-lists, same-more, stored-block}
+use Rattle.wide_bytes.proofs.Shuffles.{same-lists, same-more}
+use Rattle.wide_bytes.proofs.Tables.{stored-block}
 use Rattle.wide_bytes.proofs.blocks.put_ascii.Goals as goal
 
 pub loop-k-preserved : goal.loop-k-preserved

@@ -8,7 +8,7 @@ overflow_add-result c =
     search rules
 
 pub returns-clause-text : goal.returns-clause-text
-returns-clause-text c = λ a b d e is. four-stored c.args.out.now c.args.pairs c.args.at c.args.ascii a b d e is c.requires.room
+returns-clause-text c = λ a b d e is. four-stored c.args.out.now c.args.pairs c.args.at c.args.ascii a b d e c.requires.below is c.requires.room
 
 pub returns-clause-high : goal.returns-clause-high
 returns-clause-high c = omega (arith, lens-small c.args.ascii)
