@@ -1,5 +1,6 @@
 //! Searches in a slice of units by lanes: sixteen 16-bit units, or eight 32-bit units, in one step.
 ghost use Rattle.std.specs.Prelude.{◌≡◌, ◌≤◌, ℕ, length, map, drop};
+ghost use Rattle.std.specs.List.{count_by};
 ghost use Rattle.std.specs.Simd.Lanes.{mask_l};
 ghost use Rattle.std.proofs.Common.{rules};
 ghost use Rattle.wide_unit.specs.Searches.{is_high, is_low, is_surrogate, is_no_scalar, is_unit, first_place};
@@ -198,6 +199,23 @@ fn low_bits(block: &[u16]) -> u64
 {
     let lanes = u16x16::from_slice(block) & u16x16::splat(0xfc00);
     lanes.simd_eq(u16x16::splat(0xdc00)).to_bitmask()
+}
+
+/// How many units are low surrogates.
+pub(crate) fn count_low(units: &[u16]) -> usize
+    ensures { result ≡ count_by is_low units.now }
+{
+    let (blocks, _) = units.as_chunks::<16>();
+    let mut count = 0;
+    for block in blocks {
+        count += low_bits(block).count_ones() as usize;
+    }
+    for k in blocks.len() * 16..units.len() {
+        if is_low_surrogate(units[k]) {
+            count += 1;
+        }
+    }
+    count
 }
 
 /// How many units at the front are passed by blocks, all of them units of characters, surrogate pairs among them.
