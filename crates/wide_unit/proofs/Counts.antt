@@ -29,7 +29,7 @@ weight-character c scalar = elim (cases_lt c 0x1_0000) [
     low-low : (u : ℕ) → is_low (low_of u) ≡ true
     low-low u = grind arith
 
-low-encode : (cs : List ℕ) → ((k d : ℕ) → k < length cs → IsScalar (get_or cs k d)) → sum_by weight (encode Utf16 cs) + length cs ≡ length (encode Utf16 cs)
+pub low-encode : (cs : List ℕ) → ((k d : ℕ) → k < length cs → IsScalar (get_or cs k d)) → sum_by weight (encode Utf16 cs) + length cs ≡ length (encode Utf16 cs)
 low-encode [] scalars = refl
 low-encode (c ∷ cs) scalars =
     omega (arith, weight-character c (scalars 0 0 (omega arith)), low-encode cs (λ k d l. scalars (suc k) d (omega arith)), sum_by-append weight (code_units Utf16 c) (encode Utf16 cs), length-append (code_units Utf16 c) (encode Utf16 cs))

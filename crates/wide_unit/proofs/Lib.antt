@@ -15,4 +15,4 @@ pub mod Debugged
 mod Alone
 mod Masks
 mod Pairs
-mod Counts
+pub mod Counts
