@@ -1,13 +1,12 @@
 -- What the lanes' tests say of a unit, and what the blocks of a list say of the list.
-use Rattle.std.proofs.Common.{◌≡◌, ◌≢◌, ℕ, suc, zero, ◌+◌, ◌-◌, ◌*◌, ◌/◌, ◌%◌, ◌^◌, ◌<◌, ◌≤◌, Bool, true, false, not, cond, eqb, List, [], ◌∷◌, ◌++◌, length, get_or, map, take, drop, replicate, bit_and, count_ones, count_by, refl, sym, ap, ◌∙◌, subst, arith, w16, w32, Fits}
+use Rattle.std.proofs.Common.{◌≡◌, ◌≢◌, ℕ, suc, zero, ◌+◌, ◌-◌, ◌*◌, ◌/◌, ◌%◌, ◌^◌, ◌<◌, ◌≤◌, Bool, true, false, not, cond, eqb, List, [], ◌∷◌, ◌++◌, length, get_or, map, take, drop, replicate, bit_and, refl, sym, ap, ◌∙◌, subst, arith, w16, w32, Fits}
 use Rattle.std.proofs.lemmas.List.{take_all}
 use Rattle.std.proofs.lemmas.Bool.{cases_lt}
 use Rattle.std.proofs.Common.{length-drop, length-take, get_or-take, get_or-drop, ne_eqb, ⊎_elim, zero-mul}
-use Rattle.std.proofs.lemmas.List.Sums.{prefix_len_is, prefix_len-le-length, prefix_len_passes, prefix_len_stops, sum_by-append}
-use Rattle.std.proofs.lemmas.Simd.{leading_from_mask_l, trailing_mask_l, ones-mask_l, zip2_splat, zip2_splat_left, bitmask_splat, tops_compared, mask_l-mod, map-map, Each1-from_get_or}
+use Rattle.std.proofs.lemmas.List.Sums.{prefix_len_is, prefix_len-le-length, prefix_len_passes, prefix_len_stops}
+use Rattle.std.proofs.lemmas.Simd.{leading_from_mask_l, trailing_mask_l, zip2_splat, zip2_splat_left, bitmask_splat, tops_compared, mask_l-mod, map-map, Each1-from_get_or}
 use Rattle.std.proofs.lemmas.List.{length-map}
 use Rattle.std.proofs.lemmas.Nat.Bits.{and_high_mask}
-use Rattle.std.proofs.Math.Seq.{take-add}
 use lib.Lanes.{Each1, sel_l}
 use lib.Dec.{ltb}
 use Rattle.std.proofs.lemmas.Grind.{common_steps}
@@ -128,14 +127,6 @@ module _ (p : ℕ → Bool) where
     module _ (us : List ℕ) (blocks : List (List ℕ)) (front : blocks ≡ first_chunks n (length us / n) us) (count : length blocks ≡ length us / n) (fits : length us / n * n ≤ length us) where
       block_is : (i : ℕ) (d : List ℕ) → i < length blocks → get_or blocks i d ≡ take n (drop (i * n) us)
       block_is i d l = ap (λ bs. get_or bs i d) front ∙ block_at n (length us / n) i us d (omega (arith, count, l))
-
-      -- so many of them pass the test, up to block i and with it
-      pub counted : (i : ℕ) (d : List ℕ) (count bits : ℕ) → i < length blocks → count ≡ count_by p (take (i * n) us) → bits ≡ mask_l (map p (get_or blocks i d)) → count + count_ones bits ≡ count_by p (take ((i + 1) * n) us)
-      counted i d count bits l so_far e =
-          let block = take n (drop (i * n) us) in
-          let ones : count_ones bits ≡ count_by p block = ap count_ones (e ∙ ap (λ bs. mask_l (map p bs)) (block_is i d l)) ∙ ones-mask_l p block in
-          let next : (i + 1) * n ≡ i * n + n = omega arith in
-          omega (arith, so_far, ones, ap (λ m. count_by p (take m us)) next, ap (λ vs. count_by p vs) (take-add (i * n) n us), sum_by-append (λ u. cond (p u) 1 0) (take (i * n) us) block)
 
       pub hit : (i : ℕ) (d : List ℕ) (bits : ℕ) → i < length blocks → i * n + n ≤ length us → bits ≡ mask_l (map p (get_or blocks i d)) → bits ≢ 0 → NoneBefore us (i * n) → i * n + count_trailing_zeros 64 bits ≡ first_place p us
       hit i d bits l room e set before =

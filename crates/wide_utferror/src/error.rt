@@ -51,7 +51,9 @@ impl FaultUnit for u32 {
 /// A constructor of an owned type hands back the vector that it was given, or its copy; a view has none to hand back.
 #[derive(Drop)]
 pub struct UtfError<C, A: Allocator = Global> {
-    fault: FirstFault<C>,
+    index: usize,
+    item: usize,
+    unit: C,
     vec: Option<Vec<C, A>>,
 }
 
@@ -69,28 +71,33 @@ impl<C: FaultUnit, A: Allocator> UtfError<C, A> {
         ensures unit { unit_of result ≡ fault.unit }
         ensures vec { vec_of result ≡ vec }
     {
-        UtfError { fault, vec }
+        UtfError {
+            index: fault.index,
+            item: fault.item,
+            unit: fault.unit,
+            vec,
+        }
     }
 
     /// The index of the first fault: how many units stand before it.
     pub fn index(&self) -> usize
         ensures { result ≡ index_of self.now }
     {
-        self.fault.index
+        self.index
     }
 
     /// The item number of the first fault: how many characters stand before it.
     pub fn item(&self) -> usize
         ensures { result ≡ item_of self.now }
     {
-        self.fault.item
+        self.item
     }
 
     /// The first fault itself.
     pub fn cause(&self) -> C::Fault
         ensures { C.told result ≡ C.number (unit_of self.now) }
     {
-        self.fault.unit.fault()
+        self.unit.fault()
     }
 
     /// The vector that was handed in, or the copy that was made of the units; none where a view was asked for.
@@ -111,7 +118,7 @@ impl<A: Allocator> fmt::Display for UtfError<u16, A> {
         write!(
             f,
             "unpaired UTF-16 surrogate {:x} at index {} (item {})",
-            self.fault.unit, self.fault.index, self.fault.item
+            self.unit, self.index, self.item
         )
     }
 }
@@ -126,7 +133,7 @@ impl<A: Allocator> fmt::Display for UtfError<u32, A> {
         write!(
             f,
             "invalid UTF-32 value {:x} at index {} (item {})",
-            self.fault.unit, self.fault.index, self.fault.item
+            self.unit, self.index, self.item
         )
     }
 }
@@ -136,7 +143,7 @@ impl<C: FaultUnit + fmt::Debug, A: Allocator> fmt::Debug for UtfError<C, A> {
         write!(
             f,
             "UtfError {{ index: {}, item: {}, unit: {:?} }}",
-            self.fault.index, self.fault.item, self.fault.unit
+            self.index, self.item, self.unit
         )
     }
 }

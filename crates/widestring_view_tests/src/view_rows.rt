@@ -3,7 +3,9 @@ use crate::rows::all_hold;
 use crate::ucstr_rows::says;
 use std::alloc::Global;
 use std::test::Fail;
-use widestring::error::{DecodeUtf16Error, DecodeUtf32Error, FaultUnit, Utf16Error, Utf32Error};
+use widestring::error::{
+    DecodeUtf16Error, DecodeUtf32Error, FaultUnit, FirstFault, Utf16Error, Utf32Error,
+};
 use widestring::unit::range_check;
 use widestring::ustr::UStr;
 use widestring::utfstr::UtfStr;
@@ -273,8 +275,13 @@ fn hands_back(error: Utf16Error, units: &[u16]) -> bool {
 #[test]
 fn units_kept(rt: HostRuntime) -> Result<(), Fail> {
     let vec = [0x41].to_vec(rt.alloc())?;
-    let kept = Utf16Error::new(3, 0xd800, Some(vec));
-    all_hold(&rt, &[hands_back(kept, &[0x41])]);
+    let fault = FirstFault {
+        index: 3,
+        item: 2,
+        unit: 0xd800,
+    };
+    let kept = Utf16Error::new(fault, Some(vec));
+    all_hold(&rt, &[kept.item() == 2, hands_back(kept, &[0x41])]);
     Ok(())
 }
 

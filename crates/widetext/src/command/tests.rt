@@ -151,7 +151,7 @@ const NONE: &str = "";
 
 const ODD: &str = "file not encoded as UTF-16\n";
 
-const ROWS: [Row; 26] = [
+const ROWS: [Row; 27] = [
     (
         UTF8,
         b"\xff\xfe\x3d\xd8\x00\xde\x41\x00",

@@ -3,7 +3,4 @@ use Rattle.wide_unit.specs.Searches.{is_low}
 use Rattle.wide_unit.proofs.lanes.count_low.Given as goal
 
 abbrev pub invariant-loop-block : goal.invariant-loop-block
-invariant-loop-block l = l.count ≡ count_by is_low (take (l.block-index * 16) l.units)
-
-abbrev pub invariant-loop-k : goal.invariant-loop-k
-invariant-loop-k l = l.count ≡ count_by is_low (take l.k l.units)
+invariant-loop-block l = l.count ≡ count_by is_low (take (l.block-index * 4096) l.units)
