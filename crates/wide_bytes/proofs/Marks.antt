@@ -76,8 +76,8 @@ module _ (first : List ℕ) (long : 2 ≤ length first) (order : BoM) (in_order 
   pub ends-by-rest : {T : Type 0} (r : Result T TranscodeError) (ended : Bool) (policy : Option Policy) (bytes written : List ℕ) → Ends r ended (λ more. transcoded_behind order policy (rest ++ more)) bytes written → Ends r ended (transcoded_under policy) (first ++ bytes) written
   ends-by-rest (Ok u) ended policy bytes written e = (e.0, sym (by-rest policy bytes) ∙ e.1)
   ends-by-rest (Err OddLength) ended policy bytes written e = (e.0, sym (by-rest policy bytes) ∙ e.1)
-  ends-by-rest (Err (Utf16Fault index unit)) ended policy bytes written (e, inl over) = (sym (by-rest policy bytes) ∙ e, inl over)
-  ends-by-rest (Err (Utf16Fault index unit)) ended policy bytes written (e, inr same) =
+  ends-by-rest (Err (Utf16Fault index item unit)) ended policy bytes written (e, inl over) = (sym (by-rest policy bytes) ∙ e, inl over)
+  ends-by-rest (Err (Utf16Fault index item unit)) ended policy bytes written (e, inr same) =
       (sym (by-rest policy bytes) ∙ e, inr (λ more. ap (λ bs. transcoded_under policy bs) (append_assoc first bytes more) ∙ sym (by-rest policy (bytes ++ more)) ∙ same more ∙ by-rest policy bytes))
   ends-by-rest (Err OutOfMemory) ended policy bytes written e = (e.0, ap (λ t. t.text) (sym (by-rest policy bytes)) ∙ e.1)
   ends-by-rest (Err Read) ended policy bytes written e = (e.0, ap (λ t. t.text) (sym (by-rest policy bytes)) ∙ e.1)
@@ -126,7 +126,7 @@ one-byte (Some policy) (a ∷ b ∷ bytes) one = absurd (omega arith)
 pub start-error : (e : TranscodeError) (bytes piece : List ℕ) (left : Option (List ℕ)) (failed ended : Bool) → Starts (Err e) bytes piece left failed ended → e ≡ Read
 start-error Read bytes piece left failed ended h = refl
 start-error OutOfMemory bytes piece left failed ended h = absurd h
-start-error (Utf16Fault index unit) bytes piece left failed ended h = absurd h
+start-error (Utf16Fault index item unit) bytes piece left failed ended h = absurd h
 start-error OddLength bytes piece left failed ended h = absurd h
 start-error Write bytes piece left failed ended h = absurd h
 

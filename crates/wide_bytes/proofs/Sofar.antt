@@ -7,10 +7,12 @@ use Rattle.std.specs.Option.{option_map}
 use Rattle.std.specs.List.{ends_with}
 use Rattle.wide_unit.specs.EncodingForm.{Utf16, encode}
 use Rattle.wide_unit.specs.Segmentation.{Item, Char, Fault}
-use Rattle.wide_unit.specs.Items.{items, leading_characters, first_fault_unit}
+use Rattle.wide_unit.specs.Items.{items, chars, leading_characters, first_fault_unit}
 use Rattle.wide_unit.specs.Utf8.{utf8, utf8_bytes}
 use Rattle.wide_unit.specs.Laws.Items.{items-encode, items-nil, IsWellFormed-of_chars}
+use Rattle.wide_unit.specs.Laws.Places.{chars-encode}
 use Rattle.wide_unit.specs.Laws.Ends.{items-append_left, items-front_low, items-front_high}
+use Rattle.wide_unit.proofs.Counts.{low-encode}
 use Rattle.wide_bytes.specs.Bytes.{unit_in, units_in, is_odd, without_last_zero}
 use Rattle.wide_bytes.specs.Encoded.{Encoded, IsUnpaired}
 use Rattle.wide_bytes.specs.Transcoded.{Transcoded, Ending, Clean, HalfUnit, Unpaired, ending_of}
@@ -18,14 +20,16 @@ use Rattle.wide_bytes.specs.Run.{IsBeginningOf}
 use Rattle.wide_bytes.specs.Pieces.{units_behind, transcoded_behind}
 use Rattle.wide_bytes.specs.declared.order.BoM.{BoM}
 use Rattle.wide_bytes.proofs.Pairs.{units_in-append, units_in-short, length-units_in, ends_in_zero, ends_in_zeros, zero_unit, last_two, before_back, units_in-pair}
-use Rattle.wide_bytes.proofs.Encodings.{encoded-none, encoded-then}
+use Rattle.wide_bytes.proofs.Encodings.{encoded-none, encoded-then, characters-none, characters-then}
 
--- of all the bytes these are left, `written` is the text of those before them, and `place` is the number of their units
-pub record Sofar (order : BoM) (all rest written : List ℕ) (place : ℕ) : Type 0 where
+-- of all the bytes these are left, `written` is the text of those before them, `place` is the number of their units, and `number` that
+-- of their characters
+pub record Sofar (order : BoM) (all rest written : List ℕ) (place number : ℕ) : Type 0 where
   pub passed : List ℕ
   pub split : all ≡ passed ++ rest
   pub encoded : Encoded order passed [] written
   pub counted : 2 * place ≡ length passed
+  pub numbered : number ≡ length encoded.cs
   -- the last unit is passed only where it isn't zero
   pub no_zero : rest ≡ [] → ends_with nat_eq (units_in order passed) (0 ∷ []) ≡ false
 
@@ -161,7 +165,7 @@ items-unpaired : (u : ℕ) (tail : List ℕ) → IsUnpaired u tail → items Utf
 items-unpaired u tail (inl low) = items-front_low Utf16 u tail low
 items-unpaired u tail (inr high) = items-front_high Utf16 u tail high.0 high.1
 
-module _ {order : BoM} {all rest written : List ℕ} {place : ℕ} (s : Sofar order all rest written place) where
+module _ {order : BoM} {all rest written : List ℕ} {place number : ℕ} (s : Sofar order all rest written place number) where
   pub units_so_far : Shortened (encode Utf16 s.encoded.cs) (units_in order rest) (units_behind order all)
   units_so_far =
       let sh = behind order s.passed rest s.encoded.even s.no_zero in
@@ -169,6 +173,10 @@ module _ {order : BoM} {all rest written : List ℕ} {place : ℕ} (s : Sofar or
 
   count : length (encode Utf16 s.encoded.cs) ≡ place
   count = let long = length-units_in order s.passed in omega (arith, long, ap length s.encoded.units, s.counted)
+
+  -- no text has more characters than units
+  pub number-within : number ≤ place
+  number-within = omega (arith, s.numbered, count, low-encode s.encoded.cs s.encoded.scalars)
 
   items_so_far : (left : List ℕ) → units_behind order all ≡ encode Utf16 s.encoded.cs ++ left → items Utf16 (units_behind order all) ≡ map Char s.encoded.cs ++ items Utf16 left
   items_so_far left e = ap (λ us. items Utf16 us) e ∙ items-encoded s.encoded left
@@ -187,7 +195,7 @@ module _ {order : BoM} {all rest written : List ℕ} {place : ℕ} (s : Sofar or
       let is_all : items Utf16 (units_behind order all) ≡ map Char s.encoded.cs ++ [] = items_so_far [] (e ∙ sym (append-nil (encode Utf16 s.encoded.cs))) ∙ ap (λ is. map Char s.encoded.cs ++ is) (items-nil Utf16) in
       let text : utf8 (leading_characters (items Utf16 (units_behind order all))) ≡ written = ap (λ is. utf8 (leading_characters is)) is_all ∙ text_of [] ∙ append-nil written in
       let none : first_fault_unit (items Utf16 (units_behind order all)) ≡ None = ap (λ is. first_fault_unit is) is_all ∙ first_fault-chars s.encoded.cs [] in
-      made _ _ _ _ text (ap (λ f. ending_of (option_map (λ u. (length (encode Utf16 (leading_characters (items Utf16 (units_behind order all)))), u)) f) (is_odd all)) none)
+      made _ _ _ _ text (ap (λ f. ending_of (option_map (λ u. (length (encode Utf16 (leading_characters (items Utf16 (units_behind order all)))), length (leading_characters (items Utf16 (units_behind order all))), u)) f) (is_odd all)) none)
 
   odd_all : (n : ℕ) → length rest ≡ n → is_odd all ≡ eqb (n % 2) 1
   odd_all n e =
@@ -217,7 +225,7 @@ module _ {order : BoM} {all rest written : List ℕ} {place : ℕ} (s : Sofar or
       whole e ∙ ap (λ t. becomes written (ending_of None t)) even
 
   module _ (u : ℕ) (tail : List ℕ) (first : units_in order rest ≡ u ∷ tail) (unpaired : IsUnpaired u tail) where
-    pub at_fault : transcoded_behind order None all ≡ becomes written (Unpaired place u)
+    pub at_fault : transcoded_behind order None all ≡ becomes written (Unpaired place number u)
     at_fault =
         let sh = units_so_far in
         let split = first_left u tail sh.left sh.dropped (surrogate u tail unpaired) (sym first ∙ sh.front_of) sh.zero in
@@ -227,8 +235,8 @@ module _ {order : BoM} {all rest written : List ℕ} {place : ℕ} (s : Sofar or
         let text : utf8 (leading_characters (items Utf16 (units_behind order all))) ≡ written = ap (λ is. utf8 (leading_characters is)) is_all ∙ text_of (Fault u ∷ items Utf16 split.0) ∙ append-nil written in
         let fault : first_fault_unit (items Utf16 (units_behind order all)) ≡ Some u = ap (λ is. first_fault_unit is) is_all ∙ first_fault-chars s.encoded.cs (Fault u ∷ items Utf16 split.0) in
         made _ _ _ _ text (
-        ap (λ f. ending_of (option_map (λ v. (length (encode Utf16 (leading_characters (items Utf16 (units_behind order all)))), v)) f) (is_odd all)) fault
-        ∙ ap (λ cs. Unpaired (length (encode Utf16 cs)) u) leading ∙ ap (λ n. Unpaired n u) count
+        ap (λ f. ending_of (option_map (λ v. (length (encode Utf16 (leading_characters (items Utf16 (units_behind order all)))), length (leading_characters (items Utf16 (units_behind order all))), v)) f) (is_odd all)) fault
+        ∙ ap (λ cs. Unpaired (length (encode Utf16 cs)) (length cs) u) leading ∙ ap (λ n. Unpaired n (length s.encoded.cs) u) count ∙ ap (λ n. Unpaired place n u) (sym s.numbered)
         )
 
     pub many_at_fault : place < length (units_behind order all)
@@ -246,20 +254,25 @@ unfolded : (order : BoM) → ends_with nat_eq (units_in order []) (0 ∷ []) ≡
 unfolding units_in
 unfolded order = refl
 
-pub begins : (order : BoM) (all : List ℕ) → Sofar order all all [] 0
-begins order all = record { passed = []; split = refl; encoded = encoded-none order []; counted = refl; no_zero = λ e. unfolded order }
+pub begins : (order : BoM) (all : List ℕ) → Sofar order all all [] 0 0
+begins order all = record { passed = []; split = refl; encoded = encoded-none order []; counted = refl; numbered = sym (characters-none order []); no_zero = λ e. unfolded order }
 
-pub given-more : {order : BoM} {all rest written : List ℕ} {place : ℕ} (more : List ℕ) → Sofar order all rest written place → Sofar order (all ++ more) (rest ++ more) written place
-given-more {order} {all} {rest} {written} {place} more s = record {
+pub given-more : {order : BoM} {all rest written : List ℕ} {place number : ℕ} (more : List ℕ) → Sofar order all rest written place number → Sofar order (all ++ more) (rest ++ more) written place number
+given-more {order} {all} {rest} {written} {place} {number} more s = record {
   passed = s.passed;
   split = ap (λ bs. bs ++ more) s.split ∙ append_assoc s.passed rest more;
   encoded = s.encoded;
   counted = s.counted;
+  numbered = s.numbered;
   no_zero = λ e. s.no_zero (nil-left rest more e);
 }
 
 rebased : {order : BoM} {bytes text : List ℕ} (before : List ℕ) → Encoded order bytes [] text → Encoded order bytes before (before ++ text)
 rebased {order} {bytes} {text} before e = record { cs = e.cs; scalars = e.scalars; even = e.even; units = e.units; text = ap (λ bs. before ++ bs) e.text }
+
+rebased-characters : {order : BoM} {bytes text : List ℕ} (before : List ℕ) (e : Encoded order bytes [] text) → length (rebased before e).cs ≡ length e.cs
+unfolding rebased
+rebased-characters before e = refl
 
 -- units that don't end in two zero bytes don't end in a zero unit
 pub no-zero-units : (order : BoM) (passed bytes : List ℕ) → length passed % 2 ≡ 0 → length bytes % 2 ≡ 0 → 2 ≤ length bytes → ends_with nat_eq bytes (0 ∷ 0 ∷ []) ≡ false → ends_with nat_eq (units_in order (passed ++ bytes)) (0 ∷ []) ≡ false
@@ -274,15 +287,16 @@ no-zero-units order passed bytes even_p even some none =
     ap (λ bs. units_in order (passed ++ bs)) split ∙ ap (λ bs. units_in order bs) (sym (append_assoc passed front (a ∷ b ∷ []))) ∙ units_in-append order (passed ++ front) (a ∷ b ∷ []) (omega (arith, length-append passed front, long)) ∙ ap (λ us. units_in order (passed ++ front) ++ us) (units_in-pair order a b) in
     ap (λ us. ends_with nat_eq us (0 ∷ [])) units ∙ ends_in_zero (units_in order (passed ++ front)) (unit_in order a b) ∙ zero_unit order a b ∙ sym (ends_in_zeros front a b) ∙ ap (λ bs. ends_with nat_eq bs (0 ∷ 0 ∷ [])) (sym split) ∙ none
 
-pub one-step : {order : BoM} {all rest written text : List ℕ} {place : ℕ} (r q : ℕ) → Sofar order all rest written place → r ≤ length rest → 2 * q ≡ r → Encoded order (take r rest) [] text
-    → (r ≡ length rest → ends_with nat_eq rest (0 ∷ 0 ∷ []) ≡ false) → Sofar order all (drop r rest) (written ++ text) (place + q)
-one-step {order} {all} {rest} {written} {text} {place} r q s within twice e none =
+pub one-step : {order : BoM} {all rest written text : List ℕ} {place number : ℕ} (r q n : ℕ) → Sofar order all rest written place number → r ≤ length rest → 2 * q ≡ r → (e : Encoded order (take r rest) [] text) → n ≡ length e.cs
+    → (r ≡ length rest → ends_with nat_eq rest (0 ∷ 0 ∷ []) ≡ false) → Sofar order all (drop r rest) (written ++ text) (place + q) (number + n)
+one-step {order} {all} {rest} {written} {text} {place} {number} r q n s within twice e characters none =
     let long : length (take r rest) ≡ r = length-take-le r rest within in
     record {
       passed = s.passed ++ take r rest;
       split = s.split ∙ ap (λ bs. s.passed ++ bs) (sym (take-append-drop r rest)) ∙ sym (append_assoc s.passed (take r rest) (drop r rest));
       encoded = encoded-then s.encoded (rebased written e);
       counted = omega (arith, s.counted, length-append s.passed (take r rest), long);
+      numbered = numbers (rebased-characters written e);
       no_zero = λ left. (
           let all_read : length rest ≤ r = omega (arith, ap length left, length-drop r rest) in
           let same : take r rest ≡ rest = take_all r rest all_read in
@@ -290,11 +304,14 @@ one-step {order} {all} {rest} {written} {text} {place} r q s within twice e none
           );
     }
   where
+    numbers : length (rebased written e).cs ≡ length e.cs → number + n ≡ length (encoded-then s.encoded (rebased written e)).cs
+    numbers same = omega (arith, s.numbered, characters, same, characters-then s.encoded (rebased written e))
+
     last : (bytes : List ℕ) → length bytes ≡ r → (bytes ≡ [] → ends_with nat_eq (units_in order s.passed) (0 ∷ []) ≡ false) → ends_with nat_eq bytes (0 ∷ 0 ∷ []) ≡ false → ends_with nat_eq (units_in order (s.passed ++ bytes)) (0 ∷ []) ≡ false
     last [] is before none_last = subst (λ bs. ends_with nat_eq (units_in order bs) (0 ∷ []) ≡ false) (sym (append-nil s.passed)) (before refl)
     last (a ∷ []) is before none_last = absurd (omega arith)
     last (a ∷ b ∷ bytes) is before none_last = no-zero-units order s.passed (a ∷ b ∷ bytes) s.encoded.even (omega arith) (omega arith) none_last
 
-pub stepped : {order : BoM} {all rest written text : List ℕ} {place : ℕ} (r : ℕ) → Sofar order all rest written place → r ≤ length rest → Encoded order (take r rest) [] text
-    → (r ≡ length rest → ends_with nat_eq rest (0 ∷ 0 ∷ []) ≡ false) → Sofar order all (drop r rest) (written ++ text) (place + r / 2)
-stepped {order} {all} {rest} r s within e none = one-step r (r / 2) s within (omega (arith, e.even, length-take-le r rest within)) e none
+pub stepped : {order : BoM} {all rest written text : List ℕ} {place number : ℕ} (r n : ℕ) → Sofar order all rest written place number → r ≤ length rest → Encoded order (take r rest) [] text → n ≡ length (chars Utf16 (units_in order (take r rest)))
+    → (r ≡ length rest → ends_with nat_eq rest (0 ∷ 0 ∷ []) ≡ false) → Sofar order all (drop r rest) (written ++ text) (place + r / 2) (number + n)
+stepped {order} {all} {rest} r n s within e characters none = one-step r (r / 2) n s within (omega (arith, e.even, length-take-le r rest within)) e (characters ∙ ap (λ us. length (chars Utf16 us)) e.units ∙ ap length (chars-encode Utf16 e.cs e.scalars)) none

@@ -31,7 +31,7 @@ transcoded_behind order (Some policy) bytes =
 abbrev pub WantsRoom : {T : Type 0} → Result T TranscodeError → List ℕ → Type 0
 WantsRoom (Ok u) units = Unit {0}
 WantsRoom (Err OutOfMemory) units = 2 ^ 64 < length units
-WantsRoom (Err (Utf16Fault index unit)) units = Unit {0}
+WantsRoom (Err (Utf16Fault index item unit)) units = Unit {0}
 WantsRoom (Err OddLength) units = Unit {0}
 WantsRoom (Err Read) units = Unit {0}
 WantsRoom (Err Write) units = Unit {0}
@@ -42,23 +42,23 @@ Starts (Ok n) bytes piece left failed ended =
     (n ≤ length piece) × (bytes ≡ take n piece) × (failed ≡ false) × (((2 ≤ n) × (ended ≡ false)) ⊎ ((n < 2) × (ended ≡ true) × IsAtEnd left))
 Starts (Err Read) bytes piece left failed ended = (failed ≡ true) × (ended ≡ false)
 Starts (Err OutOfMemory) bytes piece left failed ended = ⊥
-Starts (Err (Utf16Fault index unit)) bytes piece left failed ended = ⊥
+Starts (Err (Utf16Fault index item unit)) bytes piece left failed ended = ⊥
 Starts (Err OddLength) bytes piece left failed ended = ⊥
 Starts (Err Write) bytes piece left failed ended = ⊥
 
--- the end of the input behind these bytes, before which `place` units stand
-abbrev pub Finishes : {T : Type 0} → Result T TranscodeError → BoM → List ℕ → ℕ → Type 0
-Finishes (Ok u) order rest place = (rest ≡ []) ⊎ ((length rest ≡ 2) × (units_in order rest ≡ 0 ∷ []))
-Finishes (Err OddLength) order rest place = length rest ≡ 1
-Finishes (Err (Utf16Fault index unit)) order rest place = (index ≡ place) × (units_in order rest ≡ unit ∷ []) × IsHighSurrogate Utf16 unit
-Finishes (Err OutOfMemory) order rest place = (2 ^ 64 ≤ place) × (u : ℕ) × (units_in order rest ≡ u ∷ []) × IsHighSurrogate Utf16 u
-Finishes (Err Read) order rest place = ⊥
-Finishes (Err Write) order rest place = ⊥
+-- the end of the input behind these bytes, before which `place` units stand, and `number` characters
+abbrev pub Finishes : {T : Type 0} → Result T TranscodeError → BoM → List ℕ → ℕ → ℕ → Type 0
+Finishes (Ok u) order rest place number = (rest ≡ []) ⊎ ((length rest ≡ 2) × (units_in order rest ≡ 0 ∷ []))
+Finishes (Err OddLength) order rest place number = length rest ≡ 1
+Finishes (Err (Utf16Fault index item unit)) order rest place number = (index ≡ place) × (item ≡ number) × (units_in order rest ≡ unit ∷ []) × IsHighSurrogate Utf16 unit
+Finishes (Err OutOfMemory) order rest place number = (2 ^ 64 ≤ place) × (u : ℕ) × (units_in order rest ≡ u ∷ []) × IsHighSurrogate Utf16 u
+Finishes (Err Read) order rest place number = ⊥
+Finishes (Err Write) order rest place number = ⊥
 
--- a fault behind `place` units
-abbrev pub IsFaultAt : TranscodeError → ℕ → ℕ → Type 0
-IsFaultAt (Utf16Fault index unit) place u = (index ≡ place) × (unit ≡ u)
-IsFaultAt OutOfMemory place u = 2 ^ 64 ≤ place
-IsFaultAt OddLength place u = ⊥
-IsFaultAt Read place u = ⊥
-IsFaultAt Write place u = ⊥
+-- a fault behind `place` units, which are `number` characters
+abbrev pub IsFaultAt : TranscodeError → ℕ → ℕ → ℕ → Type 0
+IsFaultAt (Utf16Fault index item unit) place number u = (index ≡ place) × (item ≡ number) × (unit ≡ u)
+IsFaultAt OutOfMemory place number u = 2 ^ 64 ≤ place
+IsFaultAt OddLength place number u = ⊥
+IsFaultAt Read place number u = ⊥
+IsFaultAt Write place number u = ⊥

@@ -64,8 +64,8 @@ fn transcode_under<S: ByteSource, K: ByteSink>(
 ///
 /// # Errors
 ///
-/// - [`TranscodeError::Utf16`]: in [`Mode::Strict`] the first fault, its index counted in units after the mark. The text
-///   before it is written. It comes before `OddLength`.
+/// - [`TranscodeError::Utf16`]: in [`Mode::Strict`] the first fault, its index counted in units and its item number in
+///   characters, both after the mark. The text before it is written. It comes before `OddLength`.
 /// - [`TranscodeError::OddLength`]: the number of bytes is odd. The text of the whole units is written.
 /// - [`TranscodeError::Read`] and [`TranscodeError::Write`]: the source, or the sink, failed in this call. What was
 ///   written is a beginning of the text of the bytes that were read.

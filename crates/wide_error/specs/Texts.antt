@@ -1,4 +1,4 @@
--- What `{}` prints of each error: a unit or number in lower-case hexadecimal and an index in decimal, neither padded.
+-- What `{}` prints of each error: a unit or number in lower-case hexadecimal, an index and an item number in decimal, none padded.
 use Rattle.std.specs.Prelude.{ℕ, List, ◌++◌, codes, false}
 use Rattle.std.specs.Fmt.{digits, decimal}
 use Rattle.wide_error.specs.declared.error.TranscodeError.{TranscodeError}
@@ -13,14 +13,18 @@ invalid_code_point_text code = codes "invalid UTF-32 code point: " ++ digits 16 
 abbrev pub out_of_memory_text : List ℕ
 out_of_memory_text = codes "out of memory"
 
-abbrev pub utf16_error_text : ℕ → ℕ → List ℕ
-utf16_error_text index unit = codes "unpaired UTF-16 surrogate " ++ (digits 16 false unit ++ (codes " at index " ++ decimal index))
+-- where a first fault stands: its index and its item number
+abbrev pub place_text : ℕ → ℕ → List ℕ
+place_text index item = codes " at index " ++ (decimal index ++ (codes " (item " ++ (decimal item ++ codes ")")))
 
-abbrev pub utf32_error_text : ℕ → ℕ → List ℕ
-utf32_error_text index unit = codes "invalid UTF-32 value " ++ (digits 16 false unit ++ (codes " at index " ++ decimal index))
+abbrev pub utf16_error_text : ℕ → ℕ → ℕ → List ℕ
+utf16_error_text index item unit = codes "unpaired UTF-16 surrogate " ++ (digits 16 false unit ++ place_text index item)
+
+abbrev pub utf32_error_text : ℕ → ℕ → ℕ → List ℕ
+utf32_error_text index item unit = codes "invalid UTF-32 value " ++ (digits 16 false unit ++ place_text index item)
 
 abbrev pub transcode_error_text : TranscodeError → List ℕ
-transcode_error_text (Utf16 index unit) = utf16_error_text index unit
+transcode_error_text (Utf16 index item unit) = utf16_error_text index item unit
 transcode_error_text OutOfMemory = out_of_memory_text
 transcode_error_text OddLength = codes "file not encoded as UTF-16"
 transcode_error_text Read = codes "read fault"

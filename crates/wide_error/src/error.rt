@@ -145,6 +145,8 @@ pub enum TranscodeError {
     Utf16 {
         /// How many units stand before it.
         index: usize,
+        /// How many characters those units are.
+        item: usize,
         /// The surrogate.
         unit: u16,
     },
@@ -166,8 +168,11 @@ impl fmt::Display for TranscodeError {
 
     fn fmt<W: fmt::Write>(&self, f: &mut fmt::Formatter<W>) -> fmt::Result {
         match self {
-            TranscodeError::Utf16 { index, unit } => {
-                write!(f, "unpaired UTF-16 surrogate {unit:x} at index {index}")
+            TranscodeError::Utf16 { index, item, unit } => {
+                write!(
+                    f,
+                    "unpaired UTF-16 surrogate {unit:x} at index {index} (item {item})"
+                )
             }
             TranscodeError::OutOfMemory => fmt::Display::fmt(&OutOfMemory, f),
             TranscodeError::OddLength => f.write_str("file not encoded as UTF-16"),

@@ -30,8 +30,8 @@ fn unit_vec<A: Allocator>(alloc: A, bytes: &[u8]) -> Result<Vec<u16, A>, AllocEr
 ///
 /// - [`Utf16BytesError::OddLength`]: the number of bytes is odd. It comes before any memory is taken.
 /// - [`Utf16BytesError::OutOfMemory`]: an allocation was refused.
-/// - [`Utf16BytesError::Utf16`]: the first fault of the units, its index counted in units without the mark, with the vector of
-///   these units.
+/// - [`Utf16BytesError::Utf16`]: the first fault of the units, its index counted in units and its item number in characters,
+///   both without the mark, with the vector of these units.
 pub fn include_utf16str<A: Allocator>(
     alloc: A,
     bytes: &[u8],

@@ -4,7 +4,7 @@ ghost use Rattle.wide_unit.specs.EncodingForm.{Utf16, Utf32};
 ghost use Rattle.wide_unit.specs.Items.{items, chars, IsWellFormed, IsFirstFault};
 ghost use Rattle.wide_unit.specs.Lossy.{lossy, lossy_by};
 ghost use Rattle.wide_unit.specs.Utf8.{utf8};
-ghost use Rattle.wide_utferror.specs.UtfError.{index_of, unit_of, vec_of};
+ghost use Rattle.wide_utferror.specs.UtfError.{index_of, item_of, unit_of, vec_of};
 ghost use Rattle.wide_ucstr.specs.View.{contents_seen};
 
 use crate::view::UCStr;
@@ -56,12 +56,12 @@ impl UCStr<'_, u16> {
     ///
     /// # Errors
     ///
-    /// The first fault, by its index in units, with no vector to hand back; it is found before memory is asked for. Else the
-    /// allocation was refused.
+    /// The first fault, by its index in units and its item number, with no vector to hand back; it is found before memory is
+    /// asked for. Else the allocation was refused.
     pub fn to_string<A: Allocator>(self, alloc: A) -> Result<String<A>, Utf16ConvertError>
         ensures text { IfOk result (λ text. string_bytes text ≡ utf8 (chars Utf16 (contents_seen self.entry))) }
         ensures well_formed { OnOk result (IsWellFormed Utf16 (contents_seen self.entry)) }
-        ensures fault { IfErr result (λ e. IfSome (utf16_fault e) (λ fault. IsFirstFault Utf16 (contents_seen self.entry) (index_of fault) (unit_of fault))) }
+        ensures fault { IfErr result (λ e. IfSome (utf16_fault e) (λ fault. IsFirstFault Utf16 (contents_seen self.entry) (index_of fault) (item_of fault) (unit_of fault))) }
         ensures within { IfErr result (λ e. IfSome (utf16_fault e) (λ fault. index_of fault < length (contents_seen self.entry))) }
         ensures no_vector { IfErr result (λ e. IfSome (utf16_fault e) (λ fault. vec_of fault ≡ None)) }
         ensures refused { IfErr result (λ e. IfNone (utf16_fault e) (IsWellFormed Utf16 (contents_seen self.entry))) }
@@ -81,12 +81,12 @@ impl UCStr<'_, u32> {
     ///
     /// # Errors
     ///
-    /// The first fault, by its index in units, with no vector to hand back; it is found before memory is asked for. Else the
-    /// allocation was refused.
+    /// The first fault, by its index in units and its item number, with no vector to hand back; it is found before memory is
+    /// asked for. Else the allocation was refused.
     pub fn to_string<A: Allocator>(self, alloc: A) -> Result<String<A>, Utf32ConvertError>
         ensures text { IfOk result (λ text. string_bytes text ≡ utf8 (chars Utf32 (contents_seen self.entry))) }
         ensures well_formed { OnOk result (IsWellFormed Utf32 (contents_seen self.entry)) }
-        ensures fault { IfErr result (λ e. IfSome (utf32_fault e) (λ fault. IsFirstFault Utf32 (contents_seen self.entry) (index_of fault) (unit_of fault))) }
+        ensures fault { IfErr result (λ e. IfSome (utf32_fault e) (λ fault. IsFirstFault Utf32 (contents_seen self.entry) (index_of fault) (item_of fault) (unit_of fault))) }
         ensures within { IfErr result (λ e. IfSome (utf32_fault e) (λ fault. index_of fault < length (contents_seen self.entry))) }
         ensures no_vector { IfErr result (λ e. IfSome (utf32_fault e) (λ fault. vec_of fault ≡ None)) }
         ensures refused { IfErr result (λ e. IfNone (utf32_fault e) (IsWellFormed Utf32 (contents_seen self.entry))) }

@@ -10,12 +10,13 @@ use Rattle.std.proofs.lemmas.List.Elements.{Contains-append_right}
 use Rattle.wide_unit.specs.EncodingForm.{EncodingForm, encode}
 use Rattle.wide_unit.specs.Segmentation.{Item, Char, Fault, units_of}
 use Rattle.wide_unit.specs.Items.{items, chars, leading_characters, first_fault_unit, first_fault, IsWellFormed, IsFirstFault}
+use Rattle.wide_unit.specs.Places.{chars_before}
 use Rattle.wide_unit.specs.Lossy.{lossy}
 use Rattle.wide_unit.specs.Laws.Chains.{Chain}
 use Rattle.wide_unit.specs.Laws.Items.{items-chain, units_of-items, units_of-chars, IsWellFormed-of_chars, chars-of_well_formed}
 use Rattle.wide_unit.specs.Laws.Boundaries.{units_of-append}
 use Rattle.wide_unit.specs.Laws.Lossy.{lossy-after}
-use Rattle.wide_unit.specs.Laws.Places.{IsWellFormed-encode}
+use Rattle.wide_unit.specs.Laws.Places.{IsWellFormed-encode, chars-encode}
 
 leading-of : (front : List ℕ) (u : ℕ) (rest : List Item) → leading_characters (map Char front ++ Fault u ∷ rest) ≡ front
 leading-of [] u rest = refl
@@ -25,10 +26,10 @@ unit-of : (front : List ℕ) (u : ℕ) (rest : List Item) → first_fault_unit (
 unit-of [] u rest = refl
 unit-of (c ∷ front) u rest = unit-of front u rest
 
-pub first_fault-behind : (form : EncodingForm) (front : List ℕ) (u : ℕ) (rest : List Item) → first_fault form (map Char front ++ Fault u ∷ rest) ≡ Some (length (encode form front), u)
+pub first_fault-behind : (form : EncodingForm) (front : List ℕ) (u : ℕ) (rest : List Item) → first_fault form (map Char front ++ Fault u ∷ rest) ≡ Some (length (encode form front), length front, u)
 first_fault-behind form front u rest =
-    ap (λ o. option_map (λ v. (length (encode form (leading_characters (map Char front ++ Fault u ∷ rest))), v)) o) (unit-of front u rest)
-    ∙ ap (λ cs. Some (length (encode form cs), u)) (leading-of front u rest)
+    ap (λ o. option_map (λ v. (length (encode form (leading_characters (map Char front ++ Fault u ∷ rest))), length (leading_characters (map Char front ++ Fault u ∷ rest)), v)) o) (unit-of front u rest)
+    ∙ ap (λ cs. Some (length (encode form cs), length cs, u)) (leading-of front u rest)
 
 leading-split : (is : List Item) (u : ℕ) → first_fault_unit is ≡ Some u → (rest : List Item) × (is ≡ map Char (leading_characters is) ++ Fault u ∷ rest)
 leading-split [] u e = absurd cc
@@ -36,43 +37,54 @@ leading-split (Char c ∷ is) u e = let tail = leading-split is u e in (tail.0, 
 leading-split (Fault v ∷ is) u e = let same : v ≡ u = cc in (is, ap (λ w. Fault w ∷ is) same)
 
 -- the parts of what an option has
-index_in : Option (ℕ × ℕ) → ℕ
+index_in : Option (ℕ × ℕ × ℕ) → ℕ
 index_in None = 0
 index_in (Some p) = p.0
 
-unit_in : Option (ℕ × ℕ) → ℕ
+item_in : Option (ℕ × ℕ × ℕ) → ℕ
+item_in None = 0
+item_in (Some p) = p.1
+
+unit_in : Option (ℕ × ℕ × ℕ) → ℕ
 unit_in None = 0
-unit_in (Some p) = p.1
+unit_in (Some p) = p.2
 
-told : (index : ℕ) (o : Option ℕ) (n u : ℕ) → option_map {U = ℕ × ℕ} (λ v. (n, v)) o ≡ Some (index, u) → (o ≡ Some u) × (n ≡ index)
-unfolding unit_in index_in
-told index None n u e = absurd cc
-told index (Some v) n u e = (ap (λ o. Some (unit_in o)) e, ap index_in e)
+told : (index item : ℕ) (o : Option ℕ) (n m u : ℕ) → option_map {U = ℕ × ℕ × ℕ} (λ v. (n, m, v)) o ≡ Some (index, item, u) → (o ≡ Some u) × (n ≡ index) × (m ≡ item)
+unfolding unit_in index_in item_in
+told index item None n m u e = absurd cc
+told index item (Some v) n m u e = (ap (λ o. Some (unit_in o)) e, ap index_in e, ap item_in e)
 
-none-told : (o : Option ℕ) (n : ℕ) → option_map {U = ℕ × ℕ} (λ v. (n, v)) o ≡ None → o ≡ None
-none-told None n e = refl
-none-told (Some v) n e = absurd cc
+none-told : (o : Option ℕ) (n m : ℕ) → option_map {U = ℕ × ℕ × ℕ} (λ v. (n, m, v)) o ≡ None → o ≡ None
+none-told None n m e = refl
+none-told (Some v) n m e = absurd cc
 
 -- a first fault stands behind characters alone
-pub first_fault-split : (form : EncodingForm) (us : List ℕ) (index u : ℕ) → IsFirstFault form us index u
-    → (front : List ℕ) × (rest : List Item) × (items form us ≡ map Char front ++ Fault u ∷ rest) × (length (encode form front) ≡ index)
-first_fault-split form us index u e =
-    let parts = told index (first_fault_unit (items form us)) (length (encode form (leading_characters (items form us)))) u e in
+pub first_fault-split : (form : EncodingForm) (us : List ℕ) (index item u : ℕ) → IsFirstFault form us index item u
+    → (front : List ℕ) × (rest : List Item) × (items form us ≡ map Char front ++ Fault u ∷ rest) × (length (encode form front) ≡ index) × (length front ≡ item)
+first_fault-split form us index item u e =
+    let front = leading_characters (items form us) in
+    let parts = told index item (first_fault_unit (items form us)) (length (encode form front)) (length front) u e in
     let split = leading-split (items form us) u parts.0 in
-    (leading_characters (items form us), split.0, split.1, parts.1)
+    (front, split.0, split.1, parts.1, parts.2)
 
-pub IsFirstFault-of : (form : EncodingForm) (us front : List ℕ) (rest : List Item) (index u : ℕ) → items form us ≡ map Char front ++ Fault u ∷ rest → length (encode form front) ≡ index → IsFirstFault form us index u
-IsFirstFault-of form us front rest index u split at = ap (first_fault form) split ∙ first_fault-behind form front u rest ∙ ap (λ n. Some (n, u)) at
+pub IsFirstFault-of : (form : EncodingForm) (us front : List ℕ) (rest : List Item) (index item u : ℕ) → items form us ≡ map Char front ++ Fault u ∷ rest → length (encode form front) ≡ index → length front ≡ item
+    → IsFirstFault form us index item u
+IsFirstFault-of form us front rest index item u split at number =
+    ap (first_fault form) split ∙ first_fault-behind form front u rest ∙ ap (λ n. Some (n, length front, u)) at ∙ ap (λ n. Some (index, n, u)) number
 
 -- the units are those of the characters before it, the fault, and others
 fault-joined : (form : EncodingForm) (us front : List ℕ) (u : ℕ) (rest : List Item) → items form us ≡ map Char front ++ Fault u ∷ rest → us ≡ encode form front ++ u ∷ units_of form rest
 fault-joined form us front u rest split =
     sym (units_of-items form us) ∙ ap (units_of form) split ∙ units_of-append form (map Char front) (Fault u ∷ rest) ∙ ap (λ xs. xs ++ u ∷ units_of form rest) (units_of-chars form front)
 
+front-taken : (form : EncodingForm) (us front : List ℕ) (u : ℕ) (rest : List Item) (index : ℕ) → items form us ≡ map Char front ++ Fault u ∷ rest → length (encode form front) ≡ index → take index us ≡ encode form front
+front-taken form us front u rest index split at =
+    ap (λ n. take n us) (sym at) ∙ ap (take (length (encode form front))) (fault-joined form us front u rest split) ∙ take-append_seam (encode form front) (u ∷ units_of form rest)
+
 -- its index is one of the units
-pub first_fault-below : (form : EncodingForm) (us : List ℕ) (index u : ℕ) → IsFirstFault form us index u → index < length us
-first_fault-below form us index u e =
-    let (front, rest, split, at) = first_fault-split form us index u e in
+pub first_fault-below : (form : EncodingForm) (us : List ℕ) (index item u : ℕ) → IsFirstFault form us index item u → index < length us
+first_fault-below form us index item u e =
+    let (front, rest, split, at, number) = first_fault-split form us index item u e in
     omega (arith, ap length (fault-joined form us front u rest split), length-append (encode form front) (u ∷ units_of form rest), at)
 
 -- characters that items begin with are scalar values
@@ -82,27 +94,31 @@ front-scalars form (c ∷ cs) is chain zero d within = chain.0
 front-scalars form (c ∷ cs) is chain (suc k) d within = front-scalars form cs is chain.2 k d (omega (arith, within))
 
 -- the units before it are well formed
-pub first_fault-front : (form : EncodingForm) (us : List ℕ) (index u : ℕ) → IsFirstFault form us index u → IsWellFormed form (take index us)
-first_fault-front form us index u e =
-    let (front, rest, split, at) = first_fault-split form us index u e in
+pub first_fault-front : (form : EncodingForm) (us : List ℕ) (index item u : ℕ) → IsFirstFault form us index item u → IsWellFormed form (take index us)
+first_fault-front form us index item u e =
+    let (front, rest, split, at, number) = first_fault-split form us index item u e in
     let scalars : All IsScalar front = front-scalars form front (Fault u ∷ rest) (subst (Chain form) split (items-chain form us)) in
-    let cut : take index us ≡ encode form front =
-    ap (λ n. take n us) (sym at) ∙ ap (take (length (encode form front))) (fault-joined form us front u rest split) ∙ take-append_seam (encode form front) (u ∷ units_of form rest)
-    in
-    subst (IsWellFormed form) (sym cut) (IsWellFormed-encode form front scalars)
+    subst (IsWellFormed form) (sym (front-taken form us front u rest index split at)) (IsWellFormed-encode form front scalars)
+
+-- and they are as many characters as its item number
+pub first_fault-item : (form : EncodingForm) (us : List ℕ) (index item u : ℕ) → IsFirstFault form us index item u → item ≡ chars_before form us index
+first_fault-item form us index item u e =
+    let (front, rest, split, at, number) = first_fault-split form us index item u e in
+    let scalars : All IsScalar front = front-scalars form front (Fault u ∷ rest) (subst (Chain form) split (items-chain form us)) in
+    sym number ∙ ap length (sym (chars-encode form front scalars)) ∙ ap (λ vs. length (chars form vs)) (sym (front-taken form us front u rest index split at))
 
 -- and stay as they are in the lossy text
-pub lossy-behind_front : (form : EncodingForm) (us : List ℕ) (index u : ℕ) → IsFirstFault form us index u
+pub lossy-behind_front : (form : EncodingForm) (us : List ℕ) (index item u : ℕ) → IsFirstFault form us index item u
     → encode form (lossy (items form us)) ≡ take index us ++ encode form (lossy (items form (drop index us)))
-lossy-behind_front form us index u e =
-    ap (λ xs. encode form (lossy (items form xs))) (sym (take-append-drop index us)) ∙ lossy-after form (take index us) (drop index us) (first_fault-front form us index u e)
+lossy-behind_front form us index item u e =
+    ap (λ xs. encode form (lossy (items form xs))) (sym (take-append-drop index us)) ∙ lossy-after form (take index us) (drop index us) (first_fault-front form us index item u e)
 
 contains_after : (is js : List Item) (i : Item) → Contains (is ++ i ∷ js) i
 contains_after is js i = Contains-append_right is (i ∷ js) i (search rules)
 
-pub first_fault-not_well_formed : (form : EncodingForm) (us : List ℕ) (index u : ℕ) → IsFirstFault form us index u → ¬ (IsWellFormed form us)
-first_fault-not_well_formed form us index u e well =
-    let (front, rest, split, at) = first_fault-split form us index u e in
+pub first_fault-not_well_formed : (form : EncodingForm) (us : List ℕ) (index item u : ℕ) → IsFirstFault form us index item u → ¬ (IsWellFormed form us)
+first_fault-not_well_formed form us index item u e well =
+    let (front, rest, split, at, number) = first_fault-split form us index item u e in
     well.no_fault u (subst (λ is. Contains is (Fault u)) (sym split) (contains_after (map Char front) rest (Fault u)))
 
 -- without a fault the items are characters
@@ -112,7 +128,7 @@ no_unit-chars (Char c ∷ is) e = ap (λ js. Char c ∷ js) (no_unit-chars is e)
 no_unit-chars (Fault u ∷ is) e = absurd cc
 
 no_fault-told : (form : EncodingForm) (cs : List ℕ) → first_fault form (map Char cs) ≡ None
-no_fault-told form cs = ap (λ o. option_map (λ v. (length (encode form (leading_characters (map Char cs))), v)) o) (none cs)
+no_fault-told form cs = ap (λ o. option_map (λ v. (length (encode form (leading_characters (map Char cs))), length (leading_characters (map Char cs)), v)) o) (none cs)
   where
     none : (cs : List ℕ) → first_fault_unit (map Char cs) ≡ None
     none [] = refl
@@ -121,5 +137,5 @@ no_fault-told form cs = ap (λ o. option_map (λ v. (length (encode form (leadin
 pub well_formed-first_fault : (form : EncodingForm) (us : List ℕ) → IsWellFormed form us ↔ (first_fault form (items form us) ≡ None)
 well_formed-first_fault form us = (
   λ well. ap (first_fault form) (chars-of_well_formed form us well) ∙ no_fault-told form (chars form us),
-  λ e. IsWellFormed-of_chars form us (leading_characters (items form us)) (no_unit-chars (items form us) (none-told (first_fault_unit (items form us)) (length (encode form (leading_characters (items form us)))) e)),
+  λ e. IsWellFormed-of_chars form us (leading_characters (items form us)) (no_unit-chars (items form us) (none-told (first_fault_unit (items form us)) (length (encode form (leading_characters (items form us)))) (length (leading_characters (items form us))) e)),
 )

@@ -15,3 +15,4 @@ pub mod Debugged
 mod Alone
 mod Masks
 mod Pairs
+pub mod Counts

@@ -43,13 +43,14 @@ first_fault_unit [] = None
 first_fault_unit (Char c ∷ is) = first_fault_unit is
 first_fault_unit (Fault u ∷ is) = Some u
 
--- the first fault: its index, which is the unit length of the characters before it, and its unit
-abbrev pub first_fault : EncodingForm → List Item → Option (ℕ × ℕ)
-first_fault form is = option_map (λ u. (length (encode form (leading_characters is)), u)) (first_fault_unit is)
+-- the first fault: its index, which is the unit length of the characters before it, its item number, which is how many those are, and
+-- its unit
+abbrev pub first_fault : EncodingForm → List Item → Option (ℕ × ℕ × ℕ)
+first_fault form is = option_map (λ u. (length (encode form (leading_characters is)), length (leading_characters is), u)) (first_fault_unit is)
 
--- the units have a fault, and the first has this index and this unit
-abbrev pub IsFirstFault : EncodingForm → List ℕ → ℕ → ℕ → Type 0
-IsFirstFault form units index u = first_fault form (items form units) ≡ Some (index, u)
+-- the units have a fault, and the first has this index, this item number and this unit
+abbrev pub IsFirstFault : EncodingForm → List ℕ → ℕ → ℕ → ℕ → Type 0
+IsFirstFault form units index item u = first_fault form (items form units) ≡ Some (index, item, u)
 
 -- the units are those of characters, and then the rest
 abbrev pub BeginsWithChars : EncodingForm → List ℕ → List ℕ → Type 0

@@ -73,7 +73,7 @@ LossyKeepsLength = (form : EncodingForm) (us : List ℕ) → length (encode form
 
 -- the units before the first fault are well formed, and lossy text has them as they are
 abbrev pub LossyKeepsFront : Type 0
-LossyKeepsFront = (form : EncodingForm) (us : List ℕ) (index u : ℕ) → IsFirstFault form us index u
+LossyKeepsFront = (form : EncodingForm) (us : List ℕ) (index item u : ℕ) → IsFirstFault form us index item u
     → IsWellFormed form (take index us) × (encode form (lossy (items form us)) ≡ take index us ++ encode form (lossy (items form (drop index us))))
 
 -- the encoding of characters is well formed, and decodes to them
@@ -91,10 +91,14 @@ WellFormedIsEncoded = (form : EncodingForm) (us : List ℕ) → IsWellFormed for
 abbrev pub BoundariesAreSeen : Type 0
 BoundariesAreSeen = (form : EncodingForm) (us : List ℕ) (place : ℕ) → IsWellFormed form us → IsBoundary form us place ↔ IsCharBoundary form us place
 
--- the first fault stands behind characters alone, and its index is their unit length
+-- the first fault stands behind characters alone, its index is their unit length, and its item number is how many they are
 abbrev pub FirstFaultsAreBehindText : Type 0
-FirstFaultsAreBehindText = (form : EncodingForm) (us : List ℕ) (index u : ℕ)
-    → IsFirstFault form us index u ↔ ((front : List ℕ) × (rest : List Item) × (items form us ≡ map Char front ++ Fault u ∷ rest) × (length (encode form front) ≡ index))
+FirstFaultsAreBehindText = (form : EncodingForm) (us : List ℕ) (index item u : ℕ)
+    → IsFirstFault form us index item u ↔ ((front : List ℕ) × (rest : List Item) × (items form us ≡ map Char front ++ Fault u ∷ rest) × (length (encode form front) ≡ index) × (length front ≡ item))
+
+-- which is how many characters stand before its index
+abbrev pub FirstFaultsAreCounted : Type 0
+FirstFaultsAreCounted = (form : EncodingForm) (us : List ℕ) (index item u : ℕ) → IsFirstFault form us index item u → item ≡ chars_before form us index
 
 -- units are well formed, or they have a first fault, and not both
 abbrev pub WellFormedOrFaulty : Type 0

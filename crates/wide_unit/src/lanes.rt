@@ -1,5 +1,6 @@
 //! Searches in a slice of units by lanes: sixteen 16-bit units, or eight 32-bit units, in one step.
-ghost use Rattle.std.specs.Prelude.{◌≡◌, ◌≤◌, ℕ, length, map, drop};
+ghost use Rattle.std.specs.Prelude.{◌≡◌, ◌≤◌, ◌<◌, ◌^◌, ℕ, length, map, drop};
+ghost use Rattle.std.specs.List.{count_by};
 ghost use Rattle.std.specs.Simd.Lanes.{mask_l};
 ghost use Rattle.std.proofs.Common.{rules};
 ghost use Rattle.wide_unit.specs.Searches.{is_high, is_low, is_surrogate, is_no_scalar, is_unit, first_place};
@@ -198,6 +199,31 @@ fn low_bits(block: &[u16]) -> u64
 {
     let lanes = u16x16::from_slice(block) & u16x16::splat(0xfc00);
     lanes.simd_eq(u16x16::splat(0xdc00)).to_bitmask()
+}
+
+// How many of fewer than 65,536 units are low surrogates. A counter as wide as a unit is compiled to lanes.
+#[inline(always)]
+fn count_low_of(units: &[u16]) -> u16
+    requires { length units.now < 2 ^ 16 }
+    ensures { result ≡ count_by is_low units.now }
+{
+    let mut count = 0;
+    for unit in units {
+        count += u16::from(is_low_surrogate(*unit));
+    }
+    count
+}
+
+/// How many units are low surrogates.
+pub(crate) fn count_low(units: &[u16]) -> usize
+    ensures { result ≡ count_by is_low units.now }
+{
+    let (blocks, rest) = units.as_chunks::<4096>();
+    let mut count = 0;
+    for block in blocks {
+        count += usize::from(count_low_of(block));
+    }
+    count + usize::from(count_low_of(rest))
 }
 
 /// How many units at the front are passed by blocks, all of them units of characters, surrogate pairs among them.

@@ -4,7 +4,7 @@ ghost use Rattle.wide_unit.specs.EncodingForm.{Utf16, Utf32};
 ghost use Rattle.wide_unit.specs.Segmentation.{Char, Fault};
 ghost use Rattle.wide_unit.specs.Items.{items, IsFirstFault};
 ghost use Rattle.wide_unit.specs.Lossy.{lossy};
-ghost use Rattle.wide_unit.specs.Statements.{SegmentationExists, SegmentationIsUnique, SegmentationIsLiteral16, SegmentationIsLiteral32, LooseSegmentationsDiffer, ItemsJoinAfter, ItemsJoinBefore, EncodingIsWellFormed, EncodingDecodes, WellFormedIsEncoded, BoundariesAreSeen, FirstFaultsAreBehindText, WellFormedOrFaulty, PlacesAreLengths, BoundariesArePlaces, CutsAreWellFormed, PartsAreWellFormed, SplicesAreWellFormed, EncodingsAreCut, PlacesGrow, EncodingsAreSpliced, FiltersAreWellFormed, EqualCharacters, Utf8IsStds, Units32AreItems, Items32Join, Items32Count, LossyIsScalars, LossyKeepsWellFormed, LossyIsWellFormed, LossyOnceIsEnough, LossyKeepsLength, LossyKeepsFront, EachIsLossy, CharactersPartLossy, RowsGiveOne, RowsGiveNone, RunsGoOn, LossyBehindNone, LossyGoesOn, PoliciesGiveScalars, PoliciesKeepWellFormed, PoliciesTwice, PoliciesNeverLengthen, CodePointOfText, CodePointOfNone, OrderAgreesWithEquality, NoUnitsNoLines, UnendedIsOneLine, FeedEndsLine};
+ghost use Rattle.wide_unit.specs.Statements.{SegmentationExists, SegmentationIsUnique, SegmentationIsLiteral16, SegmentationIsLiteral32, LooseSegmentationsDiffer, ItemsJoinAfter, ItemsJoinBefore, EncodingIsWellFormed, EncodingDecodes, WellFormedIsEncoded, BoundariesAreSeen, FirstFaultsAreBehindText, FirstFaultsAreCounted, WellFormedOrFaulty, PlacesAreLengths, BoundariesArePlaces, CutsAreWellFormed, PartsAreWellFormed, SplicesAreWellFormed, EncodingsAreCut, PlacesGrow, EncodingsAreSpliced, FiltersAreWellFormed, EqualCharacters, Utf8IsStds, Units32AreItems, Items32Join, Items32Count, LossyIsScalars, LossyKeepsWellFormed, LossyIsWellFormed, LossyOnceIsEnough, LossyKeepsLength, LossyKeepsFront, EachIsLossy, CharactersPartLossy, RowsGiveOne, RowsGiveNone, RunsGoOn, LossyBehindNone, LossyGoesOn, PoliciesGiveScalars, PoliciesKeepWellFormed, PoliciesTwice, PoliciesNeverLengthen, CodePointOfText, CodePointOfNone, OrderAgreesWithEquality, NoUnitsNoLines, UnendedIsOneLine, FeedEndsLine};
 
 /// Each list of code units has exactly one segmentation (Unicode Standard, D84a and D85a).
 pub fn one_segmentation()
@@ -78,10 +78,11 @@ pub fn boundaries()
     ensures { BoundariesAreSeen }
 {}
 
-/// The first fault stands behind characters alone, and its index is their length in units. Well-formed units, and no others,
-/// have none.
+/// The first fault stands behind characters alone; its index is their length in units, and its item number is how many they are.
+/// Well-formed units, and no others, have none.
 pub fn first_faults()
     ensures behind_text { FirstFaultsAreBehindText }
+    ensures counted { FirstFaultsAreCounted }
     ensures none { WellFormedOrFaulty }
 {}
 
@@ -159,7 +160,7 @@ pub fn worked_lossy()
     ensures utf32 { lossy (items Utf32 (0xD800 ∷ 0xDC00 ∷ 0x41 ∷ [])) ≡ 0xFFFD ∷ 0xFFFD ∷ 0x41 ∷ [] }
 {}
 
-/// The index of a first fault counts units: a pair before it counts twice.
+/// The index of a first fault counts units, and its item number characters: a pair before it is two units and one item.
 pub fn worked_fault()
-    ensures { IsFirstFault Utf16 (0xD83D ∷ 0xDE00 ∷ 0xD800 ∷ []) 2 0xD800 }
+    ensures { IsFirstFault Utf16 (0xD83D ∷ 0xDE00 ∷ 0xD800 ∷ []) 2 1 0xD800 }
 {}

@@ -29,4 +29,4 @@ pub use range::range_check;
 pub use split::{split_first, split_last};
 pub use unit::Unit;
 pub use utf8::{length_as_utf16, length_as_utf32, next_code_point};
-pub use validation::check;
+pub use validation::{FirstFault, check};

@@ -4,14 +4,16 @@ ghost use Rattle.std.specs.Char.{IsScalar};
 ghost use Rattle.std.specs.Str.{chars};
 ghost use Rattle.wide_unit.specs.EncodingForm.{EncodingForm, Utf16, Utf32, code_units, encode, IsFault, IsPair, IsCodeUnit, IsHighSurrogate, IsLowSurrogate};
 ghost use Rattle.wide_unit.specs.Segmentation.{Item, Char, IsSegmentation};
-ghost use Rattle.wide_unit.specs.Items.{items, BeginsWithChars};
+ghost use Rattle.wide_unit.specs.Items.{items, characters, IsWellFormed, BeginsWithChars};
 ghost use Rattle.wide_unit.specs.Unit.{numbers_of};
 ghost use Rattle.wide_unit.specs.Searches.{IsFirstPlace, first_place, is_unit};
 ghost use Rattle.std.proofs.Common.{rules};
 ghost use Rattle.wide_unit.specs.Laws.Forms.{code_units-no_low_first};
 ghost use Rattle.wide_unit.specs.Laws.Items.{items-code_units, segmentation-unique};
 
-use crate::lanes::{first_no_scalar, first_same_16, first_same_32, first_surrogate, leading_pairs};
+use crate::lanes::{
+    count_low, first_no_scalar, first_same_16, first_same_32, first_surrogate, leading_pairs,
+};
 use crate::utf8::{length_as_utf16, length_as_utf32};
 
 /// A code unit: `u16` for UTF-16, `u32` for UTF-32 (Unicode Standard, D77).
@@ -77,6 +79,11 @@ pub trait Unit: Copy {
     fn leading_pairs(units: &[Self]) -> usize
         ensures within { result ≤ length units.now }
         ensures text { BeginsWithChars form (map number units.now) (map number (drop result units.now)) };
+
+    /// How many characters well-formed units are. They are read by blocks, and in UTF-32 not at all.
+    fn char_count(units: &[Self]) -> usize
+        requires { IsWellFormed form (map number units.now) }
+        ensures { result ≡ length (characters (items form (map number units.now))) };
 
     /// How many units stand before the first of this number: all, where there is none. They are read by blocks.
     fn place_of(code: u16, units: &[Self]) -> usize
@@ -194,6 +201,11 @@ impl Unit for u16 {
         leading_pairs(units)
     }
 
+    // Each character has one unit that is no low surrogate.
+    fn char_count(units: &[u16]) -> usize {
+        units.len() - count_low(units)
+    }
+
     fn place_of(code: u16, units: &[u16]) -> usize {
         first_same_16(units, code)
     }
@@ -277,6 +289,11 @@ impl Unit for u32 {
     #[inline]
     fn leading_pairs(_units: &[u32]) -> usize {
         0
+    }
+
+    #[inline]
+    fn char_count(units: &[u32]) -> usize {
+        units.len()
     }
 
     fn place_of(code: u16, units: &[u32]) -> usize {

@@ -1,7 +1,7 @@
 -- What an error of a conversion prints, and the fault that it tells of.
 use Rattle.std.specs.Prelude.{ℕ, List, Option, Some, None, codes}
 use Rattle.wide_error.specs.Texts.{utf16_error_text, utf32_error_text, out_of_memory_text}
-use Rattle.wide_utferror.specs.UtfError.{index_of, unit_of}
+use Rattle.wide_utferror.specs.UtfError.{index_of, item_of, unit_of}
 use Rattle.wide_utferror.specs.declared.error.UtfError.{UtfError}
 use Rattle.wide_utferror.specs.declared.convert.Utf16ConvertError.{Utf16ConvertError}
 use Rattle.wide_utferror.specs.declared.convert.Utf16ConvertError.TheVariants.{Utf16, OutOfMemory}
@@ -13,16 +13,16 @@ use Rattle.wide_utferror.specs.declared.convert.Utf16BytesError.TheVariants.{Odd
 module _ {A : Type 0} where
   -- what `{}` prints: the text of the cause
   abbrev pub utf16_convert_error_text : Utf16ConvertError A → List ℕ
-  utf16_convert_error_text (Utf16 e) = utf16_error_text (index_of e) (unit_of e)
+  utf16_convert_error_text (Utf16 e) = utf16_error_text (index_of e) (item_of e) (unit_of e)
   utf16_convert_error_text OutOfMemory = out_of_memory_text
 
   abbrev pub utf32_convert_error_text : Utf32ConvertError A → List ℕ
-  utf32_convert_error_text (Utf32 e) = utf32_error_text (index_of e) (unit_of e)
+  utf32_convert_error_text (Utf32 e) = utf32_error_text (index_of e) (item_of e) (unit_of e)
   utf32_convert_error_text NoMemory32 = out_of_memory_text
 
   abbrev pub utf16_bytes_error_text : Utf16BytesError A → List ℕ
   utf16_bytes_error_text OddLength = codes "file not encoded as UTF-16"
-  utf16_bytes_error_text (BytesUtf16 e) = utf16_error_text (index_of e) (unit_of e)
+  utf16_bytes_error_text (BytesUtf16 e) = utf16_error_text (index_of e) (item_of e) (unit_of e)
   utf16_bytes_error_text NoMemoryBytes = out_of_memory_text
 
   -- the units are not well formed, and this is why; none where memory was refused

@@ -1,13 +1,13 @@
 //! Units that are not well formed.
 
 ghost use Rattle.std.specs.Prelude.{◌≡◌, ℕ, Option};
-ghost use Rattle.wide_utferror.specs.UtfError.{index_of, unit_of, vec_of};
+ghost use Rattle.wide_utferror.specs.UtfError.{index_of, item_of, unit_of, vec_of};
 
 use std::alloc::{Allocator, Global};
 use std::error::Error;
 use std::fmt;
 use wide_error::{DecodeUtf16Error, DecodeUtf32Error};
-use wide_unit::Unit;
+use wide_unit::{FirstFault, Unit};
 
 /// A unit as the fault that a decoder finds in it: `u16` as a [`DecodeUtf16Error`], `u32` as a [`DecodeUtf32Error`].
 ///
@@ -52,6 +52,7 @@ impl FaultUnit for u32 {
 #[derive(Drop)]
 pub struct UtfError<C, A: Allocator = Global> {
     index: usize,
+    item: usize,
     unit: C,
     vec: Option<Vec<C, A>>,
 }
@@ -63,13 +64,19 @@ pub type Utf16Error<A = Global> = UtfError<u16, A>;
 pub type Utf32Error<A = Global> = UtfError<u32, A>;
 
 impl<C: FaultUnit, A: Allocator> UtfError<C, A> {
-    /// The error for the first fault: its index, in units, and its unit; and the vector to hand back.
-    pub fn new(index: usize, unit: C, vec: Option<Vec<C, A>>) -> Self
-        ensures index { index_of result ≡ index }
-        ensures unit { unit_of result ≡ unit }
+    /// The error for the first fault, and the vector to hand back.
+    pub fn new(fault: FirstFault<C>, vec: Option<Vec<C, A>>) -> Self
+        ensures index { index_of result ≡ fault.index }
+        ensures item { item_of result ≡ fault.item }
+        ensures unit { unit_of result ≡ fault.unit }
         ensures vec { vec_of result ≡ vec }
     {
-        UtfError { index, unit, vec }
+        UtfError {
+            index: fault.index,
+            item: fault.item,
+            unit: fault.unit,
+            vec,
+        }
     }
 
     /// The index of the first fault: how many units stand before it.
@@ -77,6 +84,13 @@ impl<C: FaultUnit, A: Allocator> UtfError<C, A> {
         ensures { result ≡ index_of self.now }
     {
         self.index
+    }
+
+    /// The item number of the first fault: how many characters stand before it.
+    pub fn item(&self) -> usize
+        ensures { result ≡ item_of self.now }
+    {
+        self.item
     }
 
     /// The first fault itself.
@@ -98,13 +112,13 @@ impl<A: Allocator> fmt::Display for UtfError<u16, A> {
     ghost use Rattle.std.specs.Prelude.{Some};
     ghost use Rattle.wide_error.specs.Texts.{utf16_error_text};
 
-    ghost output = { λ e. Some (utf16_error_text (index_of e) (unit_of e)) };
+    ghost output = { λ e. Some (utf16_error_text (index_of e) (item_of e) (unit_of e)) };
 
     fn fmt<W: fmt::Write>(&self, f: &mut fmt::Formatter<W>) -> fmt::Result {
         write!(
             f,
-            "unpaired UTF-16 surrogate {:x} at index {}",
-            self.unit, self.index
+            "unpaired UTF-16 surrogate {:x} at index {} (item {})",
+            self.unit, self.index, self.item
         )
     }
 }
@@ -113,13 +127,13 @@ impl<A: Allocator> fmt::Display for UtfError<u32, A> {
     ghost use Rattle.std.specs.Prelude.{Some};
     ghost use Rattle.wide_error.specs.Texts.{utf32_error_text};
 
-    ghost output = { λ e. Some (utf32_error_text (index_of e) (unit_of e)) };
+    ghost output = { λ e. Some (utf32_error_text (index_of e) (item_of e) (unit_of e)) };
 
     fn fmt<W: fmt::Write>(&self, f: &mut fmt::Formatter<W>) -> fmt::Result {
         write!(
             f,
-            "invalid UTF-32 value {:x} at index {}",
-            self.unit, self.index
+            "invalid UTF-32 value {:x} at index {} (item {})",
+            self.unit, self.index, self.item
         )
     }
 }
@@ -128,8 +142,8 @@ impl<C: FaultUnit + fmt::Debug, A: Allocator> fmt::Debug for UtfError<C, A> {
     fn fmt<W: fmt::Write>(&self, f: &mut fmt::Formatter<W>) -> fmt::Result {
         write!(
             f,
-            "UtfError {{ index: {}, unit: {:?} }}",
-            self.index, self.unit
+            "UtfError {{ index: {}, item: {}, unit: {:?} }}",
+            self.index, self.item, self.unit
         )
     }
 }

@@ -20,5 +20,5 @@ pub use iter::{
     CharIndices, CharIndicesUtf16, CharIndicesUtf32, Chars, CharsUtf16, CharsUtf32, CodeUnits,
 };
 pub use view::{Utf16Str, Utf32Str, UtfStr, WideUtfStr};
-pub use wide_unit::check;
+pub use wide_unit::{FirstFault, check};
 pub use wide_ustr::Lines;

@@ -6,7 +6,7 @@ ghost use Rattle.wide_unit.specs.EncodingForm.{Utf16, Utf32, code_units, encode}
 ghost use Rattle.wide_unit.specs.Utf8.{utf8};
 ghost use Rattle.wide_unit.specs.Items.{chars, IsWellFormed, IsFirstFault, IsBoundary};
 ghost use Rattle.wide_unit.specs.Places.{IsPlaceOf, IsCharBoundary, IsTextPart, IsCharPart};
-ghost use Rattle.wide_utferror.specs.UtfError.{index_of, unit_of, vec_of};
+ghost use Rattle.wide_utferror.specs.UtfError.{index_of, item_of, unit_of, vec_of};
 ghost use Rattle.wide_iter.specs.Encoder8.{bytes_left};
 ghost use Rattle.wide_iter.specs.Encoder16.{units_left as units16_left};
 ghost use Rattle.wide_iter.specs.Encoder32.{units_left as units32_left};
@@ -217,22 +217,24 @@ impl<'a, C: Unit> UtfStr<'a, C> {
 impl<'a, C: FaultUnit> UtfStr<'a, C> {
     ghost use Rattle.wide_utfstr.specs.View.{units_seen, text_seen};
 
-    /// A view of the units, where they are well formed. It reads them in one pass, by blocks.
+    /// A view of the units, where they are well formed. It reads them in one pass, by blocks; where there is a fault, it reads the
+    /// units before it once more, to count their characters.
     ///
     /// # Errors
     ///
-    /// The first fault, where they are not: its index is counted in units. There is no vector to hand back.
+    /// The first fault, where they are not: its index is counted in units, its item number in characters. There is no vector to
+    /// hand back.
     pub fn from_slice(units: &'a [C]) -> Result<Self, UtfError<C>>
         ensures view { IfOk result (λ view. units_seen view ≡ units.now) }
         ensures ok { OnOk result (IsWellFormed C.form (map C.number units.now)) }
-        ensures fault { IfErr result (λ e. IsFirstFault C.form (map C.number units.now) (index_of e) (C.number (unit_of e))) }
+        ensures fault { IfErr result (λ e. IsFirstFault C.form (map C.number units.now) (index_of e) (item_of e) (C.number (unit_of e))) }
         ensures within { IfErr result (λ e. index_of e < length units.now) }
         ensures well_formed { IsOk result ↔ IsWellFormed C.form (map C.number units.now) }
         ensures vec { IfErr result (λ e. vec_of e ≡ None) }
     {
         match check(units) {
             Ok(()) => Ok(UtfStr { units }),
-            Err((index, unit)) => Err(UtfError::new(index, unit, None)),
+            Err(fault) => Err(UtfError::new(fault, None)),
         }
     }
 
@@ -240,11 +242,12 @@ impl<'a, C: FaultUnit> UtfStr<'a, C> {
     ///
     /// # Errors
     ///
-    /// The first fault, where they are not: its index is counted in units. There is no vector to hand back.
+    /// The first fault, where they are not: its index is counted in units, its item number in characters. There is no vector to
+    /// hand back.
     pub fn from_ustr(view: UStr<'a, C>) -> Result<Self, UtfError<C>>
         ensures view { IfOk result (λ text. units_seen text ≡ ustr_units view.entry) }
         ensures ok { OnOk result (IsWellFormed C.form (map C.number (ustr_units view.entry))) }
-        ensures fault { IfErr result (λ e. IsFirstFault C.form (map C.number (ustr_units view.entry)) (index_of e) (C.number (unit_of e))) }
+        ensures fault { IfErr result (λ e. IsFirstFault C.form (map C.number (ustr_units view.entry)) (index_of e) (item_of e) (C.number (unit_of e))) }
         ensures within { IfErr result (λ e. index_of e < length (ustr_units view.entry)) }
         ensures well_formed { IsOk result ↔ IsWellFormed C.form (map C.number (ustr_units view.entry)) }
         ensures vec { IfErr result (λ e. vec_of e ≡ None) }
@@ -264,11 +267,12 @@ impl<'a, C: FaultUnit> UtfStr<'a, C> {
     ///
     /// # Errors
     ///
-    /// The first fault, where they are not: its index is counted in units. There is no vector to hand back.
+    /// The first fault, where they are not: its index is counted in units, its item number in characters. There is no vector to
+    /// hand back.
     pub fn from_ucstr(view: UCStr<'a, C>) -> Result<Self, UtfError<C>>
         ensures view { IfOk result (λ text. units_seen text ≡ contents_seen view.entry) }
         ensures ok { OnOk result (IsWellFormed C.form (map C.number (contents_seen view.entry))) }
-        ensures fault { IfErr result (λ e. IsFirstFault C.form (map C.number (contents_seen view.entry)) (index_of e) (C.number (unit_of e))) }
+        ensures fault { IfErr result (λ e. IsFirstFault C.form (map C.number (contents_seen view.entry)) (index_of e) (item_of e) (C.number (unit_of e))) }
         ensures within { IfErr result (λ e. index_of e < length (contents_seen view.entry)) }
         ensures well_formed { IsOk result ↔ IsWellFormed C.form (map C.number (contents_seen view.entry)) }
         ensures vec { IfErr result (λ e. vec_of e ≡ None) }

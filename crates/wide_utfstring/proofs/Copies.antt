@@ -4,7 +4,7 @@ use Rattle.std.specs.Prelude.{Vec, vec_capacity}
 use Rattle.std.proofs.lemmas.List.{map-id}
 use Rattle.wide_unit.specs.EncodingForm.{EncodingForm}
 use Rattle.wide_unit.specs.Items.{IsFirstFault}
-use Rattle.wide_utferror.specs.UtfError.{index_of, unit_of}
+use Rattle.wide_utferror.specs.UtfError.{index_of, item_of, unit_of}
 use Rattle.wide_utferror.specs.declared.error.UtfError.{UtfError}
 use Rattle.wide_utfstring.specs.Faults.{IsFaultOf, IsFaultOfCopy}
 
@@ -13,4 +13,4 @@ module _ (form : EncodingForm) (copy units : List ℕ) (same : copy ≡ units) w
       → ((vec : Vec ℕ A) × (vec.items ≡ copy) × (vec_capacity vec ≡ room) × IsFaultOf form (λ u. u) vec e) → IsFaultOfCopy form units e
   fault-of_copy room e told =
       let (vec, items, capacity, fault) = told in
-      (subst (λ us. IsFirstFault form us (index_of e) (unit_of e)) (map-id vec.items ∙ items ∙ same) fault.0, vec, items ∙ same, fault.1)
+      (subst (λ us. IsFirstFault form us (index_of e) (item_of e) (unit_of e)) (map-id vec.items ∙ items ∙ same) fault.0, vec, items ∙ same, fault.1)

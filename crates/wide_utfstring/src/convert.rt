@@ -22,7 +22,7 @@ impl<A: Allocator> UtfString<u16, A> {
     /// # Errors
     ///
     /// Memory was refused for the copy, whether the units are well formed or not; or else the first fault, where they are not:
-    /// its index is counted in units, and the vector of the copy comes with it.
+    /// its index is counted in units, its item number in characters, and the vector of the copy comes with it.
     pub fn from_ustr(alloc: A, view: U16Str<'_>) -> Result<Self, Utf16ConvertError<A>>
         ensures units { IfOk result (λ s. s.units ≡ units_seen view.entry) }
         ensures ok { OnOk result (IsWellFormed Utf16 (units_seen view.entry)) }
@@ -52,7 +52,7 @@ impl<A: Allocator> UtfString<u32, A> {
     /// # Errors
     ///
     /// Memory was refused for the copy, whether the units are well formed or not; or else the first fault, where they are not:
-    /// its index is counted in units, and the vector of the copy comes with it.
+    /// its index is counted in units, its item number in characters, and the vector of the copy comes with it.
     pub fn from_ustr(alloc: A, view: U32Str<'_>) -> Result<Self, Utf32ConvertError<A>>
         ensures units { IfOk result (λ s. s.units ≡ units_seen view.entry) }
         ensures ok { OnOk result (IsWellFormed Utf32 (units_seen view.entry)) }

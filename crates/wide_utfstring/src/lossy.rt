@@ -50,8 +50,11 @@ impl<C: FaultUnit, A: Allocator> UtfString<C, A> {
     {
         match check(units) {
             Ok(()) => Ok(CowUtfStr::Borrowed(UtfStr::from_slice_unchecked(units))),
-            Err((index, _unit)) => Ok(CowUtfStr::Owned(UtfString::lossy_copy(
-                alloc, units, index, policy,
+            Err(fault) => Ok(CowUtfStr::Owned(UtfString::lossy_copy(
+                alloc,
+                units,
+                fault.index,
+                policy,
             )?)),
         }
     }

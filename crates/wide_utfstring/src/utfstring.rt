@@ -91,7 +91,8 @@ impl<C: FaultUnit, A: Allocator> UtfString<C, A> {
     ///
     /// # Errors
     ///
-    /// The first fault, where they are not: its index is counted in units. The vector is handed back.
+    /// The first fault, where they are not: its index is counted in units, its item number in characters. The vector is handed
+    /// back.
     pub fn from_vec(units: Vec<C, A>) -> Result<Self, UtfError<C, A>>
         ensures string { IfOk result (λ s. (s.units ≡ units.items) × (s.capacity ≡ vec_capacity units)) }
         ensures ok { OnOk result (IsWellFormed C.form (map C.number units.items)) }
@@ -103,7 +104,7 @@ impl<C: FaultUnit, A: Allocator> UtfString<C, A> {
             Ok(()) => Ok(UtfString {
                 string: UString::from_vec(units),
             }),
-            Err((index, unit)) => Err(UtfError::new(index, unit, Some(units))),
+            Err(fault) => Err(UtfError::new(fault, Some(units))),
         }
     }
 
@@ -111,7 +112,8 @@ impl<C: FaultUnit, A: Allocator> UtfString<C, A> {
     ///
     /// # Errors
     ///
-    /// The first fault, where they are not well formed: its index is counted in units. The string's vector is handed back.
+    /// The first fault, where they are not well formed: its index is counted in units, its item number in characters. The
+    /// string's vector is handed back.
     pub fn from_ustring(string: UString<C, A>) -> Result<Self, UtfError<C, A>>
         ensures string { IfOk result (λ s. s ≡ string) }
         ensures ok { OnOk result (IsWellFormed C.form (map C.number string.units)) }
@@ -126,8 +128,8 @@ impl<C: FaultUnit, A: Allocator> UtfString<C, A> {
     ///
     /// # Errors
     ///
-    /// The first fault, where they are not well formed: its index is counted in units. The vector of the contents is handed
-    /// back, without the NUL.
+    /// The first fault, where they are not well formed: its index is counted in units, its item number in characters. The vector
+    /// of the contents is handed back, without the NUL.
     pub fn from_ucstring(string: UCString<C, A>) -> Result<Self, UtfError<C, A>>
         ensures string { IfOk result (λ s. (s.units ≡ contents string.units) × (s.capacity ≡ string.capacity)) }
         ensures ok { OnOk result (IsWellFormed C.form (map C.number (contents string.units))) }

@@ -10,7 +10,7 @@ use widestring::{U16CStr, U32CStr, Utf16Str, Utf32Str};
 #[unsafe(no_mangle)]
 pub extern "C" fn wide_utf16_first_fault(units: &[u16]) -> usize
     ensures well_formed { (result ≡ length units.now) ↔ IsWellFormed Utf16 units.now }
-    ensures fault { result < length units.now → (unit : ℕ) × IsFirstFault Utf16 units.now result unit }
+    ensures fault { result < length units.now → (item unit : ℕ) × IsFirstFault Utf16 units.now result item unit }
     ensures within { result ≤ length units.now }
 {
     match Utf16Str::from_slice(units) {
@@ -23,7 +23,7 @@ pub extern "C" fn wide_utf16_first_fault(units: &[u16]) -> usize
 #[unsafe(no_mangle)]
 pub extern "C" fn wide_utf32_first_fault(units: &[u32]) -> usize
     ensures well_formed { (result ≡ length units.now) ↔ IsWellFormed Utf32 units.now }
-    ensures fault { result < length units.now → (unit : ℕ) × IsFirstFault Utf32 units.now result unit }
+    ensures fault { result < length units.now → (item unit : ℕ) × IsFirstFault Utf32 units.now result item unit }
     ensures within { result ≤ length units.now }
 {
     match Utf32Str::from_slice(units) {

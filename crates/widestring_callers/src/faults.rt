@@ -1,7 +1,7 @@
 //! What a caller does with units that may be ill formed.
-ghost use Rattle.std.specs.Prelude.{IsTrue, ◌↔◌};
+ghost use Rattle.std.specs.Prelude.{IsTrue, IsNone, IfSome, ◌↔◌};
 ghost use Rattle.widestring.specs.EncodingForm.{Utf16, Utf32};
-ghost use Rattle.widestring.specs.Items.{IsWellFormed};
+ghost use Rattle.widestring.specs.Items.{IsWellFormed, IsFirstFault};
 
 use widestring::{Utf16Str, Utf32Str};
 
@@ -19,6 +19,16 @@ pub fn sound_part(units: &[u32]) -> &[u32] {
         Ok(_) => units,
         Err(fault) => &units[..fault.index()],
     }
+}
+
+/// The first fault, for a message: how many units and how many characters stand before it, and its unit.
+pub fn first_fault(units: &[u16]) -> Option<(usize, usize, u16)>
+    ensures fault { IfSome result (λ fault. IsFirstFault Utf16 units.now fault.0 fault.1 fault.2) }
+    ensures none { IsNone result ↔ IsWellFormed Utf16 units.now }
+{
+    let fault = Utf16Str::from_slice(units).err()?;
+    let unit = fault.cause().unpaired_surrogate();
+    Some((fault.index(), fault.item(), unit))
 }
 
 /// Whether the units are well-formed UTF-16.

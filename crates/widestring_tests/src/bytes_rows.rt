@@ -122,15 +122,16 @@ fn writer(rt: HostRuntime) {
 
 #[test]
 fn runs(rt: HostRuntime) {
-    let mut source = FromRead::new(b"a\x00\x00\xdc".as_slice());
+    let mut source = FromRead::new(b"\x3d\xd8\x00\xde\x00\xdc".as_slice());
     let mut sink = FromWrite::new(Vec::new(rt.alloc()));
     let unpaired = TranscodeError::Utf16 {
-        index: 1,
+        index: 2,
+        item: 1,
         unit: 0xdc00,
     };
     let rows = [
         transcode(&mut source, &mut sink, Mode::Strict) == Err(unpaired),
-        sink.into_inner().as_slice() == b"a".as_slice(),
+        sink.into_inner().as_slice() == "😀".as_bytes(),
     ];
     all_hold(&rt, &rows);
 }

@@ -37,6 +37,7 @@ fn faults_of_units(rt: HostRuntime) {
 fn faults_of_runs(rt: HostRuntime) {
     let unpaired = TranscodeError::Utf16 {
         index: 10,
+        item: 9,
         unit: 0xd800,
     };
     let rows = [
@@ -44,7 +45,7 @@ fn faults_of_runs(rt: HostRuntime) {
         prints(
             rt.alloc(),
             &unpaired,
-            "unpaired UTF-16 surrogate d800 at index 10",
+            "unpaired UTF-16 surrogate d800 at index 10 (item 9)",
         ),
         prints(rt.alloc(), &TranscodeError::OutOfMemory, "out of memory"),
         prints(

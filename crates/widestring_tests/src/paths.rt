@@ -4,8 +4,8 @@
 use std::alloc::Global;
 use widestring::bytes::{BoM, FromRead, FromWrite, Mode};
 use widestring::error::{
-    ContainsNul, DecodeUtf16Error, DecodeUtf32Error, MissingNulTerminator, NulError, OutOfMemory,
-    TranscodeError, UCStringError, Utf16Error, Utf32Error, UtfError,
+    ContainsNul, DecodeUtf16Error, DecodeUtf32Error, FirstFault, MissingNulTerminator, NulError,
+    OutOfMemory, TranscodeError, UCStringError, Utf16Error, Utf32Error, UtfError,
 };
 use widestring::iter::{
     DecodeUtf16, DecodeUtf16Lossy, DecodeUtf32, DecodeUtf32Lossy, EncodeUtf8, EncodeUtf16,
@@ -174,5 +174,5 @@ pub type Errors = (
     ),
     (DecodeUtf16Error, DecodeUtf32Error, UtfError<u16>),
     (Utf16Error, Utf32Error, Utf16Error<Global>),
-    (OutOfMemory, TranscodeError),
+    (OutOfMemory, TranscodeError, FirstFault<u16>),
 );

@@ -137,16 +137,23 @@ fn decoded(
 ) -> Result<(String, Result<(), TranscodeError>), AllocError> {
     let mut text = String::new(alloc);
     let mut index = 0usize;
+    let mut number = 0usize;
     for item in char::decode_utf16(file.read_units().iter().copied()) {
         match item {
             Ok(c) => {
                 text.push(c)?;
                 index = index.saturating_add(c.len_utf16());
+                number = number.saturating_add(1);
             }
             Err(fault) => {
                 let unit = fault.unpaired_surrogate();
                 if mode == Mode::Strict {
-                    return Ok((text, Err(TranscodeError::Utf16 { index, unit })));
+                    let ending = TranscodeError::Utf16 {
+                        index,
+                        item: number,
+                        unit,
+                    };
+                    return Ok((text, Err(ending)));
                 }
                 text.push('\u{fffd}')?;
                 index = index.saturating_add(1);
@@ -374,6 +381,7 @@ fn is_told_at_once(alloc: Global, step: usize, calls: usize) -> bool {
     let mut sink = FromWrite::new(Vec::new(alloc));
     let fault = TranscodeError::Utf16 {
         index: 2,
+        item: 2,
         unit: 0xdc00,
     };
     let mut well = transcode(&mut source, &mut sink, Mode::Strict) == Err(fault);

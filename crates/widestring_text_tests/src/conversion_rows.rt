@@ -94,17 +94,17 @@ fn all_are<C: FaultUnit>(alloc: Global, text: &str) -> bool {
     }
 }
 
-// The index of the fault that keeps units from being text.
-fn fault16(alloc: Global, units: &[u16]) -> Option<usize> {
+// The index and the item number of the fault that keeps units from being text.
+fn fault16(alloc: Global, units: &[u16]) -> Option<(usize, usize)> {
     match U16Str::from_slice(units).to_string(alloc) {
-        Err(Utf16ConvertError::Utf16(fault)) => Some(fault.index()),
+        Err(Utf16ConvertError::Utf16(fault)) => Some((fault.index(), fault.item())),
         _ => None,
     }
 }
 
-fn fault32(alloc: Global, units: &[u32]) -> Option<usize> {
+fn fault32(alloc: Global, units: &[u32]) -> Option<(usize, usize)> {
     match U32Str::from_slice(units).to_string(alloc) {
-        Err(Utf32ConvertError::Utf32(fault)) => Some(fault.index()),
+        Err(Utf32ConvertError::Utf32(fault)) => Some((fault.index(), fault.item())),
         _ => None,
     }
 }
@@ -305,7 +305,7 @@ fn extends_units<C: FaultUnit + PartialEq>(alloc: Global, units: &[C], front: us
     ]
 }
 
-// A file: its text, or else the index of its first fault, or that its length is odd.
+// A file: its text, or else the index and the item number of its first fault, or that its length is odd.
 fn is_included(alloc: Global, bytes: &[u8], text: &str) -> bool {
     match include_utf16str(alloc, bytes) {
         Ok(string) => string.as_utfstr().eq_str(text),
@@ -313,10 +313,10 @@ fn is_included(alloc: Global, bytes: &[u8], text: &str) -> bool {
     }
 }
 
-fn is_faulty(alloc: Global, bytes: &[u8], index: usize, units: &[u16]) -> bool {
+fn is_faulty(alloc: Global, bytes: &[u8], place: (usize, usize), units: &[u16]) -> bool {
     match include_utf16str(alloc, bytes) {
         Err(Utf16BytesError::Utf16(fault)) => {
-            fault.index() == index
+            (fault.index(), fault.item()) == place
                 && match fault.into_vec() {
                     Some(vec) => vec.as_slice() == units,
                     None => false,
@@ -369,8 +369,8 @@ fn texts_and_copies(rt: HostRuntime) {
         all_are::<u16>(rt.alloc(), "aé€😀"),
         all_are::<u32>(rt.alloc(), "aé€😀"),
         all_are::<u16>(rt.alloc(), ""),
-        fault16(rt.alloc(), &[0xd83d, 0x41]) == Some(0),
-        fault32(rt.alloc(), &[0x41, 0x11_0000]) == Some(1),
+        fault16(rt.alloc(), &[0xd83d, 0xde00, 0xd83d, 0x41]) == Some((2, 1)),
+        fault32(rt.alloc(), &[0x41, 0x11_0000]) == Some((1, 1)),
         is_text16(rt.alloc(), &[0x41], "A"),
         all_are::<u16>(rt.alloc(), "A"),
         contents_are_text16(rt.alloc(), &[0x41, 0], "A"),
@@ -419,11 +419,11 @@ fn files(rt: HostRuntime) {
     let rows = [
         is_included(rt.alloc(), b"\xfe\xff\x00\x61\x00\x00", "a"),
         is_odd(rt.alloc(), b"\x41"),
-        is_faulty(rt.alloc(), b"\x00\xdc", 0, &[0xdc00]),
+        is_faulty(rt.alloc(), b"\x00\xdc", (0, 0), &[0xdc00]),
         is_faulty(
             rt.alloc(),
             b"\xff\xfe\x41\x00\x00\xdc\x00\x00",
-            1,
+            (1, 1),
             &[0x41, 0xdc00],
         ),
         is_included(rt.alloc(), b"", ""),

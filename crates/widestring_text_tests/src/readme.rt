@@ -4,19 +4,19 @@ use widestring::{Utf16Str, Utf16String};
 
 #[test]
 fn damaged(rt: HostRuntime) -> Result<(), Fail> {
-    let units = [0x61, 0xd800, 0xd, 0xa, 0x20, 0x62];
+    let units = [0x61, 0xd83d, 0xde00, 0xd800, 0xd, 0xa, 0x20, 0x62];
     let Err(fault) = Utf16Str::from_slice(&units) else {
-        panic!(rt; "half of a pair stands at place 1")
+        panic!(rt; "half of a pair stands at place 3")
     };
-    assert_eq!(rt; fault.index(), 1);
+    assert_eq!(rt; (fault.index(), fault.item()), (3, 2));
     let lossy = Utf16String::from_slice_lossy(rt.alloc(), &units)?;
     let mut lines = lossy.as_utfstr().lines();
-    assert!(rt; lines.next().is_some_and(|line| line.eq_str("a\u{fffd}")));
+    assert!(rt; lines.next().is_some_and(|line| line.eq_str("a😀\u{fffd}")));
     assert!(rt; lines.next().is_some_and(|line| line.trim().eq_str("b")));
     let mut mended = lossy.into_owned(rt.alloc())?;
     mended.retain(|c| c != '\u{fffd}');
     mended.push_str("\r\n")?;
     let text = mended.as_utfstr().to_string(rt.alloc())?;
-    assert_eq!(rt; text.as_str(), "a\r\n b\r\n");
+    assert_eq!(rt; text.as_str(), "a😀\r\n b\r\n");
     Ok(())
 }

@@ -28,19 +28,19 @@ fn is_accepted<C: FaultUnit + PartialEq>(
     }
 }
 
-// Whether it found the first fault at this index, and handed these units back.
+// Whether it found the first fault at this index and item number, and handed these units back.
 fn is_refused<C: FaultUnit + PartialEq>(
     made: Result<UtfString<C>, UtfError<C>>,
-    index: usize,
+    place: (usize, usize),
     units: &[C],
 ) -> bool {
     let Err(fault) = made else {
         return false;
     };
-    let found = fault.index();
+    let found = (fault.index(), fault.item());
     match fault.into_vec() {
         None => false,
-        Some(vec) => (found == index) & (vec.as_slice() == units),
+        Some(vec) => (found == place) & (vec.as_slice() == units),
     }
 }
 
@@ -49,29 +49,29 @@ fn ended<C: FaultUnit>(alloc: Global, units: &[C]) -> Option<UCString<C>> {
     UCString::from_vec(Vec::from_slice(alloc, units).ok()?).ok()
 }
 
-// Units that are not well formed, with a fault at this index and no NUL.
-fn refused<C: FaultUnit + PartialEq>(alloc: Global, units: &[C], index: usize) -> bool {
+// Units that are not well formed, with a fault at this index and item number and no NUL.
+fn refused<C: FaultUnit + PartialEq>(alloc: Global, units: &[C], place: (usize, usize)) -> bool {
     let Ok(vec) = Vec::from_slice(alloc, units) else {
         return false;
     };
-    let mut well = is_refused(UtfString::from_vec(vec), index, units);
+    let mut well = is_refused(UtfString::from_vec(vec), place, units);
     let Ok(vec) = Vec::from_slice(alloc, units) else {
         return false;
     };
     let string = UString::from_vec(vec);
-    well &= is_refused(UtfString::from_ustring(string), index, units);
+    well &= is_refused(UtfString::from_ustring(string), place, units);
     match ended(alloc, units) {
         None => false,
-        Some(string) => well & is_refused(UtfString::from_ucstring(string), index, units),
+        Some(string) => well & is_refused(UtfString::from_ucstring(string), place, units),
     }
 }
 
 #[test]
 fn faults(rt: HostRuntime) {
     let rows = [
-        refused::<u16>(rt.alloc(), &[0xd83d, 0xde00, 0xd800], 2),
-        refused::<u16>(rt.alloc(), &[0xde00, 0xd83d], 0),
-        refused::<u32>(rt.alloc(), &[0x1_f600, 0x11_0000], 1),
+        refused::<u16>(rt.alloc(), &[0xd83d, 0xde00, 0xd800], (2, 1)),
+        refused::<u16>(rt.alloc(), &[0xde00, 0xd83d], (0, 0)),
+        refused::<u32>(rt.alloc(), &[0x1_f600, 0x11_0000], (1, 1)),
     ];
     all_hold(&rt, &rows);
 }

@@ -2,7 +2,7 @@
 use crate::parse::{FromHex, NoAnswer};
 use std::alloc::{AllocError, Global};
 use std::fmt::Write;
-use widestring::error::{ContainsNul, DecodeUtf16Error, DecodeUtf32Error, FaultUnit};
+use widestring::error::{ContainsNul, DecodeUtf16Error, DecodeUtf32Error, FaultUnit, UtfError};
 use widestring::unit::Unit;
 
 /// A unit, with the way to read it from its fault.
@@ -107,20 +107,20 @@ impl Answer {
         self.hex(offset as u64);
     }
 
-    /// Adds the index and the unit of a first fault.
-    pub fn first_fault(&mut self, index: usize, unit: u32) {
-        self.gap();
-        self.word("!");
-        self.hex(index as u64);
+    /// Adds the index, the item number and the unit of a first fault.
+    pub fn first_fault<C: ToldUnit>(&mut self, fault: &UtfError<C>) {
+        self.fault_at(fault);
         self.word(":");
-        self.hex(u64::from(unit));
+        self.hex(u64::from(C::told(fault.cause())));
     }
 
-    /// Adds the index of a first fault.
-    pub fn fault_at(&mut self, index: usize) {
+    /// Adds the index and the item number of a first fault.
+    pub fn fault_at<C: ToldUnit>(&mut self, fault: &UtfError<C>) {
         self.gap();
         self.word("!");
-        self.hex(index as u64);
+        self.hex(fault.index() as u64);
+        self.word(":");
+        self.hex(fault.item() as u64);
     }
 
     /// Adds a number in hexadecimal, or a `-` for none.

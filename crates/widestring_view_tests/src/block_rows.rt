@@ -6,19 +6,20 @@ use widestring::error::{FaultUnit, NulError};
 use widestring::ucstr::UCStr;
 use widestring::{Utf16Str, Utf32Str};
 
-// Whether the first fault of the units stands at this place.
-fn has_fault_16(units: &[u16], place: usize) -> bool
+// Whether the first fault of the units stands at this place, behind so many characters.
+fn has_fault_16(units: &[u16], place: usize, characters: usize) -> bool
     requires { place < length units.now }
 {
     match Utf16Str::from_slice(units) {
         Ok(_) => false,
         Err(fault) => {
             let holds = fault.cause().unpaired_surrogate() == units[place];
-            holds & (fault.index() == place)
+            holds & (fault.index() == place) & (fault.item() == characters)
         }
     }
 }
 
+// The same of 32-bit units, each of which is a character.
 fn has_fault_32(units: &[u32], place: usize) -> bool
     requires { place < length units.now }
 {
@@ -26,7 +27,7 @@ fn has_fault_32(units: &[u32], place: usize) -> bool
         Ok(_) => false,
         Err(fault) => {
             let holds = fault.cause().invalid_code_point() == units[place];
-            holds & (fault.index() == place)
+            holds & (fault.index() == place) & (fault.item() == place)
         }
     }
 }
@@ -61,7 +62,7 @@ fn finds_each_16(len: usize, fault: u16) -> bool
     let letters = [0x61u16; 72];
     let mut well = true;
     for place in 0..len {
-        well &= has_fault_16(&with_unit(letters, place, fault)[..len], place);
+        well &= has_fault_16(&with_unit(letters, place, fault)[..len], place, place);
         well &= has_nul(&with_unit(letters, place, 0)[..len], place);
     }
     well
@@ -105,13 +106,15 @@ fn pairs() -> [u16; 72] {
     units
 }
 
-// Pairs, of which one unit is a letter: the fault is the other unit of its pair.
+// Pairs, of which one unit is a letter: the fault is the other unit of its pair. Before it stand pairs, and the letter where that
+// comes first.
 fn finds_broken_pair(len: usize, place: usize) -> bool
     requires within { place < len }
     requires most { len < 73 }
 {
     let other = if place % 2 == 0 { place + 1 } else { place - 1 };
-    other >= len || has_fault_16(&with_unit(pairs(), place, 0x41)[..len], other)
+    let units = with_unit(pairs(), place, 0x41);
+    other >= len || has_fault_16(&units[..len], other, other.div_ceil(2))
 }
 
 #[test]

@@ -118,10 +118,11 @@ fn bytes<C: FaultUnit>(text: UtfStr<'_, C>) -> bool {
     holds & bytes.next().is_none()
 }
 
-fn fault_of<C: FaultUnit>(made: Result<UtfStr<'_, C>, UtfError<C>>) -> Option<usize> {
+// The index and the item number of the fault that keeps units from being text.
+fn fault_of<C: FaultUnit>(made: Result<UtfStr<'_, C>, UtfError<C>>) -> Option<(usize, usize)> {
     match made {
         Ok(_) => None,
-        Err(error) => Some(error.index()),
+        Err(error) => Some((error.index(), error.item())),
     }
 }
 
@@ -134,7 +135,11 @@ fn text_of_16_bits(rt: HostRuntime) -> Result<(), Fail> {
     let ill_formed = Utf16Str::from_ustr(U16Str::from_slice(&[0x61, 0xd83d]));
     all_hold(
         &rt,
-        &[parts(text), bytes(text), fault_of(ill_formed) == Some(1)],
+        &[
+            parts(text),
+            bytes(text),
+            fault_of(ill_formed) == Some((1, 1)),
+        ],
     );
     Ok(())
 }
@@ -231,7 +236,7 @@ fn contents_of_c_strings(rt: HostRuntime) -> Result<(), Fail> {
     let rows = [
         is_text(U16CStr::from_slice(&[0xd83d, 0xde00, 0])?),
         is_text(U32CStr::from_slice(&[0x1_f600, 0])?),
-        fault_of(Utf16Str::from_ucstr(ill_formed)) == Some(1),
+        fault_of(Utf16Str::from_ucstr(ill_formed)) == Some((1, 1)),
     ];
     all_hold(&rt, &rows);
     Ok(())

@@ -3,7 +3,9 @@ use crate::rows::all_hold;
 use crate::ucstr_rows::says;
 use std::alloc::Global;
 use std::test::Fail;
-use widestring::error::{DecodeUtf16Error, DecodeUtf32Error, FaultUnit, Utf16Error, Utf32Error};
+use widestring::error::{
+    DecodeUtf16Error, DecodeUtf32Error, FaultUnit, FirstFault, Utf16Error, Utf32Error,
+};
 use widestring::unit::range_check;
 use widestring::ustr::UStr;
 use widestring::utfstr::UtfStr;
@@ -197,12 +199,17 @@ fn numbers_of_characters_of_text(rt: HostRuntime) -> Result<(), Fail> {
     Ok(())
 }
 
+// A first fault: its index, its item number and its unit.
+type Told = (usize, usize, u16);
+
 // Whether units have this fault first, with this text; a fault of a slice has no vector to hand back.
-fn has_fault(alloc: Global, units: &[u16], index: usize, unit: u16, text: &str) -> bool {
+fn has_fault(alloc: Global, units: &[u16], told: Told, text: &str) -> bool {
     let Err(error) = Utf16Str::from_slice(units) else {
         return false;
     };
+    let (index, item, unit) = told;
     let mut holds = error.index() == index;
+    holds &= error.item() == item;
     holds &= error.cause() == DecodeUtf16Error::new(unit);
     holds &= says(alloc, &error, text);
     holds & error.into_vec().is_none()
@@ -210,46 +217,48 @@ fn has_fault(alloc: Global, units: &[u16], index: usize, unit: u16, text: &str) 
 
 #[test]
 fn first_faults(rt: HostRuntime) {
-    let rows: [(&[u16], usize, u16, &str); 4] = [
+    let rows: [(&[u16], Told, &str); 5] = [
         (
             &[0xd83d, 0xde00, 0xd800],
-            2,
-            0xd800,
-            "unpaired UTF-16 surrogate d800 at index 2",
+            (2, 1, 0xd800),
+            "unpaired UTF-16 surrogate d800 at index 2 (item 1)",
         ),
         (
             &[0xdc00, 0x41],
-            0,
-            0xdc00,
-            "unpaired UTF-16 surrogate dc00 at index 0",
+            (0, 0, 0xdc00),
+            "unpaired UTF-16 surrogate dc00 at index 0 (item 0)",
         ),
         (
             &[0xd800, 0xd83d, 0xde00],
-            0,
-            0xd800,
-            "unpaired UTF-16 surrogate d800 at index 0",
+            (0, 0, 0xd800),
+            "unpaired UTF-16 surrogate d800 at index 0 (item 0)",
         ),
         (
             &[0x41, 0x42, 0xde00, 0xd83d],
-            2,
-            0xde00,
-            "unpaired UTF-16 surrogate de00 at index 2",
+            (2, 2, 0xde00),
+            "unpaired UTF-16 surrogate de00 at index 2 (item 2)",
+        ),
+        (
+            &[0xd83d, 0xde00, 0x41, 0xd83d, 0xde00, 0xdbff, 0x42],
+            (5, 3, 0xdbff),
+            "unpaired UTF-16 surrogate dbff at index 5 (item 3)",
         ),
     ];
-    for (units, index, unit, text) in rows {
-        assert!(rt; has_fault(rt.alloc(), units, index, unit, text), "{text}");
+    for (units, told, text) in rows {
+        assert!(rt; has_fault(rt.alloc(), units, told, text), "{text}");
     }
 }
 
 #[test]
 fn wide_fault(rt: HostRuntime) -> Result<(), Fail> {
-    let error: Utf32Error = Utf32Str::from_slice(&[0x1_f600, 0xd83d])
+    let error: Utf32Error = Utf32Str::from_slice(&[0x41, 0x11_0000])
         .err()
         .ok_or("well formed")?;
-    let text = "invalid UTF-32 value d83d at index 1";
+    let text = "invalid UTF-32 value 110000 at index 1 (item 1)";
     let rows = [
         error.index() == 1,
-        error.cause() == DecodeUtf32Error::new(0xd83d),
+        error.item() == 1,
+        error.cause() == DecodeUtf32Error::new(0x11_0000),
         says(rt.alloc(), &error, text),
     ];
     all_hold(&rt, &rows);
@@ -266,8 +275,13 @@ fn hands_back(error: Utf16Error, units: &[u16]) -> bool {
 #[test]
 fn units_kept(rt: HostRuntime) -> Result<(), Fail> {
     let vec = [0x41].to_vec(rt.alloc())?;
-    let kept = Utf16Error::new(3, 0xd800, Some(vec));
-    all_hold(&rt, &[hands_back(kept, &[0x41])]);
+    let fault = FirstFault {
+        index: 3,
+        item: 2,
+        unit: 0xd800,
+    };
+    let kept = Utf16Error::new(fault, Some(vec));
+    all_hold(&rt, &[kept.item() == 2, hands_back(kept, &[0x41])]);
     Ok(())
 }
 

@@ -1,10 +1,10 @@
 //! Conversions of units of either width. `l` asks for their lossy text, whose answer begins with a `b` where it is borrowed and
-//! with an `o` where it is owned, and `y` for the bytes of that text in UTF-8; `s` for the bytes of their text, or the index of
-//! the fault after a `!`.
+//! with an `o` where it is owned, and `y` for the bytes of that text in UTF-8; `s` for the bytes of their text, or the index and
+//! the item number of the fault after a `!`.
 use crate::parse::{self, NoAnswer};
-use crate::show::Answer;
+use crate::show::{Answer, ToldUnit};
 use std::alloc::Global;
-use widestring::error::{FaultUnit, Utf16ConvertError, Utf32ConvertError};
+use widestring::error::{FaultUnit, Utf16ConvertError, Utf32ConvertError, UtfError};
 use widestring::ustr::UStr;
 use widestring::utfstring::{CowUtfStr, UtfString};
 use widestring::{U16Str, U32Str};
@@ -45,9 +45,9 @@ pub fn lossy<C: FaultUnit + parse::FromHex>(
     }
 }
 
-fn fault_at(alloc: Global, index: usize) -> Result<String, NoAnswer> {
+fn fault_at<C: ToldUnit>(alloc: Global, fault: &UtfError<C>) -> Result<String, NoAnswer> {
     let mut answer = Answer::new(alloc);
-    answer.fault_at(index);
+    answer.fault_at(fault);
     answer.finish()
 }
 
@@ -59,7 +59,7 @@ pub fn text16(alloc: Global, list: &str, question: &str) -> Result<String, NoAns
     }
     match U16Str::from_slice(&units).to_string(alloc) {
         Ok(text) => bytes_of(alloc, &text),
-        Err(Utf16ConvertError::Utf16(fault)) => fault_at(alloc, fault.index()),
+        Err(Utf16ConvertError::Utf16(fault)) => fault_at(alloc, &fault),
         Err(Utf16ConvertError::OutOfMemory) => Err(NoAnswer::OutOfMemory),
     }
 }
@@ -72,7 +72,7 @@ pub fn text32(alloc: Global, list: &str, question: &str) -> Result<String, NoAns
     }
     match U32Str::from_slice(&units).to_string(alloc) {
         Ok(text) => bytes_of(alloc, &text),
-        Err(Utf32ConvertError::Utf32(fault)) => fault_at(alloc, fault.index()),
+        Err(Utf32ConvertError::Utf32(fault)) => fault_at(alloc, &fault),
         Err(Utf32ConvertError::OutOfMemory) => Err(NoAnswer::OutOfMemory),
     }
 }

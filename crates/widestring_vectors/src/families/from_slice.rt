@@ -1,4 +1,4 @@
-//! Whether units are well formed. A question is no text, and the answer is `ok`, or the index and the unit of the first
+//! Whether units are well formed. A question is no text, and the answer is `ok`, or the index, the item number and the unit of the first
 //! fault.
 use crate::parse::{self, NoAnswer};
 use crate::show::{Answer, ToldUnit};
@@ -12,7 +12,7 @@ pub fn checked<C: ToldUnit>(alloc: Global, list: &str, question: &str) -> Result
     let mut answer = Answer::new(alloc);
     match UtfStr::from_slice(&units) {
         Ok(_) => answer.word("ok"),
-        Err(error) => answer.first_fault(error.index(), C::told(error.cause())),
+        Err(error) => answer.first_fault(&error),
     }
     answer.finish()
 }

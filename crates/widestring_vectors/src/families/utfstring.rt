@@ -1,7 +1,7 @@
 //! Scripts of calls of owned strings of well-formed text, in units of either width. A question has a `/` between two calls.
 //!
 //! The first makes the string of the list: a `v` of the vector, a `t` of the text that has these units, an `f` of the
-//! characters of that text. The answer is the string's units, or the index and the unit of the first fault and the vector
+//! characters of that text. The answer is the string's units, or the index, the item number and the unit of the first fault and the vector
 //! that is handed back, and then no calls follow. Each other call is a letter and what it takes, and adds two parts to the
 //! answer: what the call answers, and the units that it leaves. A `-` is the answer where a place or a range is none of the
 //! text's: the string stays as it was.
@@ -288,7 +288,7 @@ fn edited<C: FaultUnit + FromHex>(
 // What is answered about units that are not well formed.
 fn refused<C: ToldUnit>(alloc: Global, error: UtfError<C>) -> Result<String, NoAnswer> {
     let mut answer = Answer::new(alloc);
-    answer.first_fault(error.index(), C::told(error.cause()));
+    answer.first_fault(&error);
     answer.part();
     answer.handed_back(error.into_vec());
     answer.finish()

@@ -151,7 +151,7 @@ const NONE: &str = "";
 
 const ODD: &str = "file not encoded as UTF-16\n";
 
-const ROWS: [Row; 26] = [
+const ROWS: [Row; 27] = [
     (
         UTF8,
         b"\xff\xfe\x3d\xd8\x00\xde\x41\x00",
@@ -170,7 +170,7 @@ const ROWS: [Row; 26] = [
         UTF8,
         b"\x3d\xd8\x00",
         b"",
-        "unpaired UTF-16 surrogate d83d at index 0\n",
+        "unpaired UTF-16 surrogate d83d at index 0 (item 0)\n",
         1,
     ),
     (UTF8, b"\x41", b"", ODD, 1),
@@ -178,15 +178,22 @@ const ROWS: [Row; 26] = [
         UTF8,
         b"\x00\xd8\x41\x00",
         b"",
-        "unpaired UTF-16 surrogate d800 at index 0\n",
+        "unpaired UTF-16 surrogate d800 at index 0 (item 0)\n",
         1,
     ),
-    // The index counts units after the mark, two of them for the pair.
+    // The index counts units after the mark, two of them for the pair, and the item number characters.
     (
         UTF8,
         b"\xfe\xff\xd8\x3d\xde\x00\x00\x41\xdc\x00",
         b"\xf0\x9f\x98\x80\x41",
-        "unpaired UTF-16 surrogate dc00 at index 3\n",
+        "unpaired UTF-16 surrogate dc00 at index 3 (item 2)\n",
+        1,
+    ),
+    (
+        UTF8,
+        b"\xff\xfe\x3d\xd8\x00\xde\x00\xdc",
+        b"\xf0\x9f\x98\x80",
+        "unpaired UTF-16 surrogate dc00 at index 2 (item 1)\n",
         1,
     ),
     (

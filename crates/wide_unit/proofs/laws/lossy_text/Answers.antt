@@ -18,4 +18,4 @@ pub returns-clause-length : goal.returns-clause-length
 returns-clause-length c = length-lossy
 
 pub returns-clause-front : goal.returns-clause-front
-returns-clause-front c = λ form us index u fault. (first_fault-front form us index u fault, lossy-behind_front form us index u fault)
+returns-clause-front c = λ form us index item u fault. (first_fault-front form us index item u fault, lossy-behind_front form us index item u fault)

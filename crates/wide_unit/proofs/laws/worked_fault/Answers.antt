@@ -8,9 +8,10 @@ use Rattle.wide_unit.proofs.laws.worked_fault.Goals as goal
 
 pub returns : goal.returns
 returns c =
-    IsFirstFault-of Utf16 _ (0x1_F600 ∷ []) [] 2 0xD800
+    IsFirstFault-of Utf16 _ (0x1_F600 ∷ []) [] 2 1 0xD800
     (
     items-front_char Utf16 0x1_F600 (0xD800 ∷ []) refl
     ∙ ap (λ is. Char 0x1_F600 ∷ is) (items-front_high Utf16 0xD800 [] (lit≤ tt, lit≤ tt) (λ l back e. absurd cc) ∙ ap (λ is. Fault 0xD800 ∷ is) (items-nil Utf16))
     )
+    refl
     refl

@@ -7,6 +7,7 @@ use Rattle.widestring_c.proofs.search.wide_utf16_first_fault.Goals as goal
 pub returns-in-Err-clause-fault : goal.returns-in-Err-clause-fault
 returns-in-Err-clause-fault c = λ below.
     let units = c.args.units.now in
+    let item = c.in-Err.fault.item in
     let unit = c.in-Err.fault.unit in
-    let at : IsFirstFault Utf16 (map (λ (u : ℕ). u) units) c.index.result unit = subst (λ place. IsFirstFault Utf16 (map (λ (u : ℕ). u) units) place unit) (sym c.index.ensures) c.in-Err.ensures.fault in
-    (unit, subst (λ us. IsFirstFault Utf16 us c.index.result unit) (map-id units) at)
+    let at : IsFirstFault Utf16 (map (λ (u : ℕ). u) units) c.index.result item unit = subst (λ place. IsFirstFault Utf16 (map (λ (u : ℕ). u) units) place item unit) (sym c.index.ensures) c.in-Err.ensures.fault in
+    (item, unit, subst (λ us. IsFirstFault Utf16 us c.index.result item unit) (map-id units) at)

@@ -1,6 +1,6 @@
 use Rattle.std.proofs.Common.{◌≤◌, map, length}
 use Rattle.wide_unit.specs.Items.{BeginsWithChars}
-use Rattle.wide_unit.proofs.validation.check.Given as goal
+use Rattle.wide_unit.proofs.validation.find_fault.Given as goal
 
 abbrev pub invariant-loop-item : goal.invariant-loop-item
 invariant-loop-item g l = (length l.rest ≤ length l.units) × BeginsWithChars g.C.Unit.form (map g.C.Unit.number l.units) (map g.C.Unit.number l.rest)
