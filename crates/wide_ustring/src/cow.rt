@@ -1,5 +1,5 @@
 //! Units that are borrowed where they can be, and owned where they had to be made.
-ghost use Rattle.std.specs.Prelude.{◌≡◌, ◌≤◌, map, Ok, IfOk};
+ghost use Rattle.std.specs.Prelude.{◌≡◌, ◌≤◌, [], map, Ok, IfOk, IsOk};
 ghost use Rattle.std.specs.Iterator.{IsFiniteIterable};
 ghost use Rattle.wide_unit.specs.Texts.{debug_output};
 ghost use Rattle.wide_ustr.specs.View.{units_seen};
@@ -43,8 +43,8 @@ impl<'a, C: FaultUnit, A: Allocator> CowUStr<'a, C, A> {
         }
     }
 
-    /// The units as a string. Where they are borrowed, memory is asked for once, for a copy of them; an owned string is
-    /// answered itself, with its room, and takes no memory.
+    /// The units as a string. Where they are borrowed, memory is asked for once, for a copy of them, and not at all where there are
+    /// none; an owned string is answered itself, with its room, and takes no memory.
     ///
     /// # Errors
     ///
@@ -52,6 +52,7 @@ impl<'a, C: FaultUnit, A: Allocator> CowUStr<'a, C, A> {
     pub fn into_owned(self, alloc: A) -> Result<UString<C, A>, OutOfMemory>
         ensures units { IfOk result (λ s. s.units ≡ cow_units self.entry) }
         ensures owned { IfOwned self.entry (λ s. result ≡ Ok s) }
+        ensures succeeds { cow_units self.entry ≡ [] → IsOk result }
     {
         match self {
             CowUStr::Borrowed(view) => view.to_ustring(alloc),

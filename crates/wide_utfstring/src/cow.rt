@@ -1,5 +1,5 @@
 //! Well-formed text that is borrowed where it can be.
-ghost use Rattle.std.specs.Prelude.{◌≡◌, ◌≤◌, map, Ok, IfOk};
+ghost use Rattle.std.specs.Prelude.{◌≡◌, ◌≤◌, [], map, Ok, IfOk, IsOk};
 ghost use Rattle.std.specs.Iterator.{IsFiniteIterable};
 ghost use Rattle.wide_ustring.specs.Extended.{Adds, Collects, numbered};
 ghost use Rattle.wide_utfstr.specs.View.{units_seen};
@@ -45,8 +45,8 @@ impl<'a, C: FaultUnit, A: Allocator> CowUtfStr<'a, C, A> {
         }
     }
 
-    /// The string of the text: where it is borrowed a copy, for which memory is asked for once, and else the owned string itself,
-    /// with its room, which takes no memory.
+    /// The string of the text: where it is borrowed a copy, for which memory is asked for once, or not at all where it is empty, and
+    /// else the owned string itself, with its room, which takes no memory.
     ///
     /// # Errors
     ///
@@ -54,6 +54,7 @@ impl<'a, C: FaultUnit, A: Allocator> CowUtfStr<'a, C, A> {
     pub fn into_owned(self, alloc: A) -> Result<UtfString<C, A>, OutOfMemory>
         ensures units { IfOk result (λ s. s.units ≡ cow_units self.entry) }
         ensures owned { IfOwned self.entry (λ s. result ≡ Ok s) }
+        ensures succeeds { cow_units self.entry ≡ [] → IsOk result }
     {
         match self {
             CowUtfStr::Borrowed(view) => view.to_utfstring(alloc),

@@ -2,7 +2,7 @@
 use crate::plain::edit_list;
 use crate::scripts::{hold, hold_marked};
 use std::alloc::Global;
-use widestring::edit::{Edit, Marked16, Reply, Stopped, run, run_both};
+use widestring::edit::{Edit, Marked16, Reply, Stopped, TextEdit, run, run_both};
 use widestring::{Utf16String, Utf32String};
 
 // Long enough for a mark.
@@ -84,6 +84,80 @@ fn stops(alloc: Global) -> bool {
         return true;
     };
     (replies == wanted) & (same_replies == wanted) & hold(list.as_slice(), &first, &second)
+}
+
+// A string with kept marks alone, edited until an allocation stops it, holds what the plain list does, with its marks. Where its marks
+// find no memory the string itself is handed back.
+fn stops_marked(alloc: Global) -> bool {
+    let (Ok(string), Ok(mut second)) = (
+        Utf16String::from_str(alloc, TEXT),
+        Utf32String::from_str(alloc, TEXT),
+    ) else {
+        return true;
+    };
+    let mut first = match Marked16::new(alloc, string) {
+        Ok(marked) => marked,
+        Err(string) => return is_text(&string),
+    };
+    let mut replies = Vec::new(alloc);
+    let mut same_replies = Vec::new(alloc);
+    let done = match run(alloc, &mut first, &EDITS, &mut replies) {
+        Ok(()) => EDITS.len(),
+        Err(Stopped { done }) => done,
+    };
+    let Ok(()) = run(alloc, &mut second, &EDITS[..done], &mut same_replies) else {
+        return true;
+    };
+    let Some((list, wanted)) = plain(alloc, done) else {
+        return true;
+    };
+    (replies == wanted) & (same_replies == wanted) & hold_marked(list.as_slice(), &first, &second)
+}
+
+// Whether a string has the units of the text.
+fn is_text(string: &Utf16String) -> bool {
+    string.as_utfstr().eq_str(TEXT)
+}
+
+// Whether an edit whose memory is refused leaves the text and the marks of a string as they were, and one whose memory is found answers as
+// it does of the plain list.
+fn is_prepared(alloc: Global, first: &mut Marked16, edit: Edit<'_>) -> bool {
+    let Ok(room) = first.prepare(alloc, edit) else {
+        return first.as_utfstr().eq_str(TEXT) & (first.marks() == [65].as_slice());
+    };
+    let reply = first.apply(edit, room);
+    let Ok(mut list) = TEXT.chars().collect::<Vec<char>>(alloc) else {
+        return true;
+    };
+    match edit_list(alloc, &mut list, edit) {
+        Ok(wanted) => reply == wanted,
+        Err(_) => true,
+    }
+}
+
+// The same of each edit, of the text as it is before all of them.
+fn prepares(alloc: Global) -> bool {
+    let mut well = true;
+    for edit in EDITS {
+        let Ok(string) = Utf16String::from_str(alloc, TEXT) else {
+            continue;
+        };
+        match Marked16::new(alloc, string) {
+            Ok(mut marked) => well &= is_prepared(alloc, &mut marked, edit),
+            Err(string) => well &= is_text(&string),
+        }
+    }
+    well
+}
+
+#[test]
+fn refused_memory_of_marks(rt: HostRuntime) {
+    assert!(rt; stops_marked(rt.alloc()));
+}
+
+#[test]
+fn refused_memory_of_prepare(rt: HostRuntime) {
+    assert!(rt; prepares(rt.alloc()));
 }
 
 #[test]

@@ -3,8 +3,8 @@ use crate::driver::Asks::{Nothing, Once};
 use crate::driver::{Kind, Left, Memory, Room, Row, SMILE, hold, wrong};
 use std::test::Fail;
 use widestring::error::{DecodeUtf16Error, DecodeUtf32Error, OutOfMemory, UCStringError};
-use widestring::iter::{End, read_ends16, read_ends32};
-use widestring::{U32CString, U32String, Utf32String};
+use widestring::iter::{End, read_ends16, read_ends32, read_lossy_ends16, read_lossy_ends32};
+use widestring::{Policy, U32CString, U32String, Utf32String};
 use widestring_test_memory::Heap;
 
 #[derive(Clone, Copy)]
@@ -21,8 +21,9 @@ enum CharCall {
     Set,
     // The characters `a` and U+1F600, which leave no string.
     IntoVec,
-    // A read of half of a pair and `a`, once from the back and twice from the front.
+    // A read of half of a pair and `a`, once from the back and twice from the front, and that of their lossy text.
     Read,
+    ReadLossy(Policy),
 }
 
 impl Room for CharCall {}
@@ -73,6 +74,19 @@ fn is_read(heap: &Heap, units: &[u32]) -> Result<bool, OutOfMemory> {
     Ok(items.as_slice() == [Some(Ok('a')), Some(Err(fault)), None].as_slice())
 }
 
+// The answers to the reads of lossy text.
+fn lossy_items(policy: Policy) -> [Option<char>; 3] {
+    match policy {
+        Policy::Skip => [Some('a'), None, None],
+        Policy::Each | Policy::Run => [Some('a'), Some('\u{fffd}'), None],
+    }
+}
+
+fn is_read_lossily(heap: &Heap, units: &[u32], policy: Policy) -> Result<bool, OutOfMemory> {
+    let items = read_lossy_ends32(heap, units, policy, &ENDS)?;
+    Ok(items.as_slice() == lossy_items(policy).as_slice())
+}
+
 struct Characters;
 
 impl Kind<u32, CharCall> for Characters {
@@ -96,22 +110,38 @@ impl Kind<u32, CharCall> for Characters {
                 let answer = is_read(memory.heap, units.as_slice());
                 (units, answer)
             }
+            CharCall::ReadLossy(policy) => {
+                let answer = is_read_lossily(memory.heap, units.as_slice(), policy);
+                (units, answer)
+            }
             _ => of_c_string(call, memory, units),
         }
     }
 }
 
+fn is_read16(heap: &Heap, units: &[u16]) -> Result<bool, OutOfMemory> {
+    let fault = DecodeUtf16Error::new(0xd83d);
+    let items = read_ends16(heap, units, &ENDS)?;
+    Ok(items.as_slice() == [Some(Ok('a')), Some(Err(fault)), None].as_slice())
+}
+
+fn is_read_lossily16(heap: &Heap, units: &[u16], policy: Policy) -> Result<bool, OutOfMemory> {
+    let items = read_lossy_ends16(heap, units, policy, &ENDS)?;
+    Ok(items.as_slice() == lossy_items(policy).as_slice())
+}
+
 impl Kind<u16, CharCall> for Characters {
     fn make<'a>(
-        _call: CharCall,
+        call: CharCall,
         memory: Memory<'a>,
         units: Vec<u16, &'a Heap>,
         _other: &[u16],
     ) -> Left<'a, u16> {
-        let fault = DecodeUtf16Error::new(0xd83d);
-        let answer = match read_ends16(memory.heap, units.as_slice(), &ENDS) {
-            Ok(items) => Ok(items.as_slice() == [Some(Ok('a')), Some(Err(fault)), None].as_slice()),
-            Err(OutOfMemory) => Err(OutOfMemory),
+        let answer = match call {
+            CharCall::ReadLossy(policy) => {
+                is_read_lossily16(memory.heap, units.as_slice(), policy)
+            }
+            _ => is_read16(memory.heap, units.as_slice()),
         };
         (units, answer)
     }
@@ -128,7 +158,12 @@ static ROWS: [Row<CharCall>; 8] = [
     (CharCall::IntoVec, Once(3), "a😀", "", ""),
 ];
 
-static READS: [Row<CharCall>; 1] = [(CharCall::Read, Once(0), "½a", "", "½a")];
+static READS: [Row<CharCall>; 4] = [
+    (CharCall::Read, Once(0), "½a", "", "½a"),
+    (CharCall::ReadLossy(Policy::Each), Once(0), "½a", "", "½a"),
+    (CharCall::ReadLossy(Policy::Run), Once(0), "½a", "", "½a"),
+    (CharCall::ReadLossy(Policy::Skip), Once(0), "½a", "", "½a"),
+];
 
 #[test]
 fn characters_of_32_bits(rt: HostRuntime) -> Result<(), Fail> {

@@ -4,6 +4,7 @@ use crate::driver::Asks::{Nothing, Once};
 use crate::driver::{Kind, Left, Memory, Room, Row, TEXT, Width, hold_at_both_widths, wrong};
 use std::alloc::Global;
 use std::test::Fail;
+use widestring::Policy;
 use widestring::error::OutOfMemory;
 use widestring::ucstr::UCStr;
 use widestring::ucstring::{CowUCStr, UCString};
@@ -28,8 +29,12 @@ pub enum Conversion {
     Lossy(Handed),
     // Lossy text, which is borrowed.
     Sound(Handed),
-    // Text in UTF-8, lossily and not, that is `a😀`.
+    // The same under a policy.
+    LossyWith(Handed, Policy),
+    SoundWith(Handed, Policy),
+    // Text in UTF-8, lossily, also under a policy, and not, that is `a😀`.
     Utf8Lossy,
+    Utf8With(Policy),
     Utf8,
     // A string of a view.
     Owned,
@@ -42,12 +47,14 @@ impl Room for Conversion {}
 
 type Text<'a, C> = UtfString<C, &'a Heap>;
 
+type Made<'a, 'b, C> = Result<CowUtfStr<'b, C, &'a Heap>, OutOfMemory>;
+
 // Lossy text of the other units, and the units that it is of.
 fn lossy_text<'a, 'b, C: Width>(
     handed: Handed,
     memory: Memory<'a>,
     other: &'b [C],
-) -> (Result<CowUtfStr<'b, C, &'a Heap>, OutOfMemory>, &'b [C]) {
+) -> (Made<'a, 'b, C>, &'b [C]) {
     let heap = memory.heap;
     match handed {
         Handed::Slice => (UtfString::from_slice_lossy(heap, other), other),
@@ -62,15 +69,37 @@ fn lossy_text<'a, 'b, C: Width>(
     }
 }
 
+// The same under a policy.
+fn lossy_text_with<'a, 'b, C: Width>(
+    handed: Handed,
+    policy: Policy,
+    memory: Memory<'a>,
+    other: &'b [C],
+) -> (Made<'a, 'b, C>, &'b [C]) {
+    let heap = memory.heap;
+    match handed {
+        Handed::Slice => (UtfString::from_slice_lossy_with(heap, other, policy), other),
+        Handed::View => {
+            let view = UStr::from_slice(other);
+            (UtfString::from_ustr_lossy_with(heap, view, policy), other)
+        }
+        Handed::CString => match UCStr::from_slice(other) {
+            Ok(view) => (
+                UtfString::from_ucstr_lossy_with(heap, view, policy),
+                view.as_slice(),
+            ),
+            Err(_) => (Err(OutOfMemory), other),
+        },
+    }
+}
+
 // What is left of it, where it is made or borrowed as it should be.
 fn lossy<'a, C: Width>(
-    handed: Handed,
-    memory: Memory<'a>,
+    lossy: (Made<'a, '_, C>, &[C]),
     units: Vec<C, &'a Heap>,
-    other: &[C],
     is_borrowed: bool,
 ) -> Left<'a, C> {
-    let (made, whole) = lossy_text(handed, memory, other);
+    let (made, whole) = lossy;
     match made {
         Ok(CowUtfStr::Owned(text)) => (text.into_vec(), Ok(!is_borrowed)),
         Ok(CowUtfStr::Borrowed(text)) => (units, Ok(is_borrowed && text.as_slice() == whole)),
@@ -78,8 +107,12 @@ fn lossy<'a, C: Width>(
     }
 }
 
-fn utf8_lossy<'a, C: Width>(heap: &'a Heap, units: Vec<C, &'a Heap>, other: &[C]) -> Left<'a, C> {
-    match UStr::from_slice(other).to_string_lossy(heap) {
+// What is left of a call that makes a text in UTF-8.
+fn told<'a, C: Width>(
+    made: Result<String<&'a Heap>, OutOfMemory>,
+    units: Vec<C, &'a Heap>,
+) -> Left<'a, C> {
+    match made {
         Ok(text) => (units, Ok(text.as_str() == TEXT)),
         Err(OutOfMemory) => (units, Err(OutOfMemory)),
     }
@@ -104,9 +137,25 @@ impl<C: Width> Kind<C, Conversion> for OfUnits {
         other: &[C],
     ) -> Left<'a, C> {
         match call {
-            Conversion::Lossy(handed) => lossy(handed, memory, units, other, false),
-            Conversion::Sound(handed) => lossy(handed, memory, units, other, true),
-            Conversion::Utf8Lossy => utf8_lossy(memory.heap, units, other),
+            Conversion::Lossy(handed) => lossy(lossy_text(handed, memory, other), units, false),
+            Conversion::Sound(handed) => lossy(lossy_text(handed, memory, other), units, true),
+            Conversion::LossyWith(handed, policy) => lossy(
+                lossy_text_with(handed, policy, memory, other),
+                units,
+                false,
+            ),
+            Conversion::SoundWith(handed, policy) => lossy(
+                lossy_text_with(handed, policy, memory, other),
+                units,
+                true,
+            ),
+            Conversion::Utf8Lossy => {
+                told(UStr::from_slice(other).to_string_lossy(memory.heap), units)
+            }
+            Conversion::Utf8With(policy) => told(
+                UStr::from_slice(other).to_string_lossy_with(memory.heap, policy),
+                units,
+            ),
             Conversion::Owned => {
                 match CowUStr::Borrowed(UStr::from_slice(other)).into_owned(memory.heap) {
                     Ok(string) => (string.into_vec(), Ok(true)),
@@ -191,10 +240,14 @@ fn c_string_of<'a, C: Width>(
     view: UCStr<'_, C>,
 ) -> Left<'a, C> {
     match call {
-        Conversion::Utf8Lossy => match view.to_string_lossy(memory.heap) {
-            Ok(utf8) => (string.into_vec_with_nul(), Ok(utf8.as_str() == TEXT)),
-            Err(OutOfMemory) => (string.into_vec_with_nul(), Err(OutOfMemory)),
-        },
+        Conversion::Utf8Lossy => told(
+            view.to_string_lossy(memory.heap),
+            string.into_vec_with_nul(),
+        ),
+        Conversion::Utf8With(policy) => told(
+            view.to_string_lossy_with(memory.heap, policy),
+            string.into_vec_with_nul(),
+        ),
         Conversion::Owned => match CowUCStr::Borrowed(view).into_owned(memory.heap) {
             Ok(made) => (made.into_vec_with_nul(), Ok(true)),
             Err(OutOfMemory) => (string.into_vec_with_nul(), Err(OutOfMemory)),
@@ -253,6 +306,77 @@ static OF_UNITS: [Row<Conversion>; 14] = [
     (Conversion::Boxed, Nothing(0), "½b", "", "½b"),
 ];
 
+static OF_POLICIES: [Row<Conversion>; 14] = [
+    (
+        Conversion::LossyWith(Slice, Policy::Each),
+        Once(0),
+        "",
+        "½½😀",
+        "\u{fffd}\u{fffd}😀",
+    ),
+    (
+        Conversion::LossyWith(Slice, Policy::Run),
+        Once(0),
+        "",
+        "½½😀",
+        "\u{fffd}😀",
+    ),
+    (
+        Conversion::LossyWith(View, Policy::Run),
+        Once(0),
+        "",
+        "a½½",
+        "a\u{fffd}",
+    ),
+    (
+        Conversion::LossyWith(View, Policy::Skip),
+        Once(0),
+        "",
+        "½😀½",
+        "😀",
+    ),
+    (
+        Conversion::LossyWith(CString, Policy::Each),
+        Once(0),
+        "",
+        "½a\0",
+        "\u{fffd}a",
+    ),
+    (
+        Conversion::LossyWith(CString, Policy::Skip),
+        Once(0),
+        "",
+        "½a\0",
+        "a",
+    ),
+    (
+        Conversion::SoundWith(Slice, Policy::Run),
+        Nothing(0),
+        "",
+        "a😀",
+        "",
+    ),
+    (
+        Conversion::SoundWith(View, Policy::Skip),
+        Nothing(0),
+        "",
+        "😀\u{fffd}",
+        "",
+    ),
+    (
+        Conversion::SoundWith(CString, Policy::Run),
+        Nothing(0),
+        "",
+        "a😀\0",
+        "",
+    ),
+    (Conversion::Utf8With(Policy::Each), Once(0), "", "a😀", ""),
+    (Conversion::Utf8With(Policy::Run), Once(0), "", "a😀", ""),
+    (Conversion::Utf8With(Policy::Skip), Once(0), "", "½a½½😀", ""),
+    (Conversion::Owned, Nothing(0), "", "", ""),
+    (Conversion::Boxed, Nothing(0), "", "", ""),
+];
+
 static OF_TEXT: [Row<Conversion>; 5] = [
     (Conversion::Utf8, Once(0), "", "a😀", ""),
     (Conversion::Owned, Once(0), "", "a😀", "a😀"),
@@ -261,7 +385,21 @@ static OF_TEXT: [Row<Conversion>; 5] = [
     (Conversion::Boxed, Nothing(0), "a😀", "", "a😀"),
 ];
 
-static OF_C_STRINGS: [Row<Conversion>; 5] = [
+static OF_C_STRINGS: [Row<Conversion>; 7] = [
+    (
+        Conversion::Utf8With(Policy::Run),
+        Once(0),
+        "\0",
+        "a😀\0",
+        "\0",
+    ),
+    (
+        Conversion::Utf8With(Policy::Skip),
+        Once(0),
+        "\0",
+        "½a😀½½\0",
+        "\0",
+    ),
     (Conversion::Utf8Lossy, Once(0), "\0", "a😀\0", "\0"),
     (Conversion::Owned, Once(0), "\0", "½b\0", "½b\0"),
     (Conversion::Kept, Nothing(2), "½\0", "\0", "½\0"),
@@ -273,6 +411,7 @@ static OF_C_STRINGS: [Row<Conversion>; 5] = [
 fn conversions(rt: HostRuntime) -> Result<(), Fail> {
     let alloc: Global = rt.alloc();
     hold_at_both_widths::<_, OfUnits>(&rt, alloc, &OF_UNITS)?;
+    hold_at_both_widths::<_, OfUnits>(&rt, alloc, &OF_POLICIES)?;
     hold_at_both_widths::<_, OfText>(&rt, alloc, &OF_TEXT)?;
     hold_at_both_widths::<_, OfCStrings>(&rt, alloc, &OF_C_STRINGS)?;
     Ok(())

@@ -17,6 +17,8 @@ mod driver;
 #[cfg(test)]
 mod rows;
 #[cfg(test)]
+mod sources;
+#[cfg(test)]
 mod string_rows;
 #[cfg(test)]
 mod text;

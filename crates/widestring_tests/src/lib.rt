@@ -11,6 +11,8 @@ pub mod callers;
 #[cfg(test)]
 mod decode32_rows;
 #[cfg(test)]
+mod device_rows;
+#[cfg(test)]
 mod encode_rows;
 pub mod encoders;
 #[cfg(test)]

@@ -1,90 +1,13 @@
 //! Texts that are cut in many ways, with faults, pairs, marks and zero units around the ends of the pieces that `transcode` reads.
-ghost use Rattle.std.specs.Prelude.{◌≡◌, Some, false};
-
 use std::alloc::{AllocError, Global};
-use std::io;
 use std::process::Abort;
 use widestring::Policy;
-use widestring::bytes::{ByteSource, FromWrite, Mode, transcode, transcode_with};
+use widestring::bytes::{FromWrite, Mode, transcode, transcode_with};
 use widestring::error::TranscodeError;
+use widestring_test_devices::Cut;
 
 // The bytes that `transcode` takes at once, at most.
 const PIECE: usize = 4096;
-
-/// A source over memory that gives at most `step` bytes a call, or pseudo-random numbers of them where `step` is 0. It fails at the
-/// call numbered `fails_at`, from 1 on.
-#[derive(Drop)]
-struct Cut<'a> {
-    bytes: &'a [u8],
-    step: usize,
-    seed: u32,
-    calls: usize,
-    fails_at: usize,
-    failed: bool,
-    ended: bool,
-}
-
-impl<'a> Cut<'a> {
-    fn new(bytes: &'a [u8], step: usize, fails_at: usize) -> Cut<'a>
-        ensures failed { result.failed ≡ false }
-        ensures ended { result.ended ≡ false }
-    {
-        Cut {
-            bytes,
-            step,
-            seed: 1,
-            calls: 0,
-            fails_at,
-            failed: false,
-            ended: false,
-        }
-    }
-}
-
-// How many bytes a call gives at most, by a pseudo-random number where `step` is 0: mostly few, and now and then more than a piece.
-fn step_by(step: usize, seed: u32) -> usize {
-    let bits = seed / 0x1_0000;
-    if step > 0 {
-        step
-    } else if bits % 4 == 0 {
-        bits as usize % 5000
-    } else {
-        bits as usize % 8
-    }
-}
-
-impl ByteSource for Cut<'_> {
-    ghost left = { λ s. Some s.bytes.now };
-
-    ghost has_failed = { λ s. s.failed };
-
-    ghost has_ended = { λ s. s.ended };
-
-    fn take(&mut self, buf: &mut [u8]) -> io::Result<usize> {
-        self.calls = self.calls.saturating_add(1);
-        if self.calls == self.fails_at {
-            self.failed = true;
-            return Err(io::Error::other("a fault"));
-        }
-        self.seed = self.seed.wrapping_mul(1_103_515_245).wrapping_add(12_345);
-        let most = step_by(self.step, self.seed).max(1);
-        let n = most.min(buf.len()).min(self.bytes.len());
-        buf[..n].copy_from_slice(&self.bytes[..n]);
-        self.bytes = &self.bytes[n..];
-        if n == 0 && !buf.is_empty() {
-            self.ended = true;
-        }
-        Ok(n)
-    }
-
-    fn failed(&self) -> bool {
-        self.failed
-    }
-
-    fn ended(&self) -> bool {
-        self.ended
-    }
-}
 
 /// A text of UTF-16 in a file.
 #[derive(Drop)]
@@ -170,7 +93,7 @@ fn decoded(
 fn becomes_it(alloc: Global, file: &File, step: usize, mode: Mode) -> Result<bool, AllocError> {
     let bytes = file.bytes(alloc)?;
     let (text, ending) = decoded(alloc, file, mode)?;
-    let mut source = Cut::new(&bytes, step, 0);
+    let mut source = Cut::new(&bytes, step);
     let mut sink = FromWrite::new(Vec::new(alloc));
     let answer = transcode(&mut source, &mut sink, mode);
     Ok((answer == ending) & (sink.into_inner().as_slice() == text.as_bytes()))
@@ -266,7 +189,7 @@ fn has_end(
         is_odd: false,
     };
     let bytes = file.bytes(alloc)?;
-    let mut source = Cut::new(&bytes, step, 0);
+    let mut source = Cut::new(&bytes, step);
     let mut sink = FromWrite::new(Vec::new(alloc));
     let answer = transcode(&mut source, &mut sink, Mode::Strict);
     Ok(answer.is_ok() & (sink.into_inner().as_slice() == text.as_slice()))
@@ -333,7 +256,7 @@ fn has_row(
     };
     let bytes = file.bytes(alloc)?;
     let text = lossy_by(alloc, &file, policy)?;
-    let mut source = Cut::new(&bytes, step, 0);
+    let mut source = Cut::new(&bytes, step);
     let mut sink = FromWrite::new(Vec::new(alloc));
     let answer = transcode_with(&mut source, &mut sink, policy);
     Ok(answer.is_ok() & (sink.into_inner().as_slice() == text.as_bytes()))
@@ -377,7 +300,7 @@ fn rows_of_faults(rt: HostRuntime) {
 
 // Whether a fault is told before the source is asked again, which would fail.
 fn is_told_at_once(alloc: Global, step: usize, calls: usize) -> bool {
-    let mut source = Cut::new(b"a\x00\x00\x00\x00\xdc", step, calls.saturating_add(1));
+    let mut source = Cut::failing_at(b"a\x00\x00\x00\x00\xdc", step, calls.saturating_add(1));
     let mut sink = FromWrite::new(Vec::new(alloc));
     let fault = TranscodeError::Utf16 {
         index: 2,

@@ -1,7 +1,10 @@
 //! Code units, at both widths.
 use crate::rows::all_hold;
 use std::cmp::Ordering;
-use widestring::unit::{Unit, first_nul, laws, order_of_units, same_units, split_line};
+use std::ops::Bound::{Excluded, Included, Unbounded};
+use widestring::unit::{
+    Unit, first_nul, laws, order_of_units, range_check, same_units, split_line,
+};
 
 // Whether a unit that is alone is read as its character.
 fn is_alone<C: Unit>(unit: C, c: char) -> bool {
@@ -144,6 +147,22 @@ fn first_lines(rt: HostRuntime) {
         is_split(&[0x61u16, 0xd, 0xa, 0x62], &[0x61], &[0x62]),
         is_split(&[0x61u32, 0xd], &[0x61, 0xd], &[]),
         is_split(&[0xau32, 0xa], &[], &[0xa]),
+    ];
+    all_hold(&rt, &rows);
+}
+
+#[test]
+fn ranges_of_three(rt: HostRuntime) {
+    let rows = [
+        range_check(..=usize::MAX, 3).is_none(),
+        range_check(usize::MAX.., 3).is_none(),
+        range_check(4.., 3).is_none(),
+        range_check(2..1, 3).is_none(),
+        range_check((Excluded(usize::MAX), Unbounded), 3).is_none(),
+        range_check((Excluded(usize::MAX), Included(usize::MAX)), 3).is_none(),
+        range_check(..=2, 3) == Some(0..3),
+        range_check(3.., 3) == Some(3..3),
+        range_check((Excluded(2), Included(2)), 3) == Some(3..3),
     ];
     all_hold(&rt, &rows);
 }

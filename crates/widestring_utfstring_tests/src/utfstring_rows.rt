@@ -285,6 +285,7 @@ fn edits_at_both_widths(rt: HostRuntime) {
 fn truncated_at_both_widths(rt: HostRuntime) {
     let rows = [
         cut_length::<u16>(rt.alloc(), "trunc", 6) == Some(5),
+        cut_length::<u16>(rt.alloc(), "\u{1f600}", usize::MAX) == Some(2),
         cut_length::<u16>(rt.alloc(), "trunc", 5) == Some(5),
         cut_length::<u16>(rt.alloc(), "trunc", 2) == Some(2),
         cut_length::<u16>(rt.alloc(), "a", 0) == Some(0),
@@ -292,6 +293,29 @@ fn truncated_at_both_widths(rt: HostRuntime) {
         cut_length::<u32>(rt.alloc(), "trunc", 5) == Some(5),
         cut_length::<u32>(rt.alloc(), "trunc", 2) == Some(2),
         cut_length::<u32>(rt.alloc(), "a", 0) == Some(0),
+    ];
+    all_hold(&rt, &rows);
+}
+
+// Whether room that can't be had is refused, and the string stays as it was.
+fn is_too_much<C: FaultUnit>(alloc: Global) -> bool {
+    let Ok(mut string) = UtfString::<C>::from_str(alloc, TEXT) else {
+        return false;
+    };
+    let len = string.len();
+    let mut well = UtfString::<C>::with_capacity(alloc, usize::MAX).is_err();
+    well &= UString::<C>::with_capacity(alloc, usize::MAX).is_err();
+    well &= string.reserve(usize::MAX).is_err();
+    well &= string.reserve_exact(usize::MAX).is_err();
+    well &= string.as_utfstr().repeat(alloc, usize::MAX).is_err();
+    well & (string.len() == len)
+}
+
+#[test]
+fn room_that_cannot_be_had(rt: HostRuntime) {
+    let rows = [
+        is_too_much::<u16>(rt.alloc()),
+        is_too_much::<u32>(rt.alloc()),
     ];
     all_hold(&rt, &rows);
 }

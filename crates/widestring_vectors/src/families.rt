@@ -11,7 +11,9 @@ macro_rules! asked {
 }
 
 mod conversions;
+mod devices;
 mod drain;
+mod edits;
 mod encode;
 mod from_slice;
 mod hints;
@@ -125,11 +127,15 @@ pub enum Family {
     Run32,
     /// The characters of a lossy decoder of UTF-32 with nothing for a fault.
     Skip32,
+    /// Lists of edits of strings of both widths.
+    Edits,
+    /// Runs of bytes between slow and failing devices.
+    Transcode,
 }
 
 impl Family {
     /// All families, in the order in which they are printed.
-    pub const ALL: [Family; 47] = [
+    pub const ALL: [Family; 49] = [
         Family::Items16,
         Family::Items32,
         Family::Lossy16,
@@ -177,6 +183,8 @@ impl Family {
         Family::Each32,
         Family::Run32,
         Family::Skip32,
+        Family::Edits,
+        Family::Transcode,
     ];
 
     /// The family's name, which is its file's without `.txt`.
@@ -229,6 +237,8 @@ impl Family {
             Family::Each32 => "each32",
             Family::Run32 => "run32",
             Family::Skip32 => "skip32",
+            Family::Edits => "edits",
+            Family::Transcode => "transcode",
         }
     }
 
@@ -297,6 +307,8 @@ impl Family {
             Family::Each32 => policies::utf32(alloc, list, question, Policy::Each),
             Family::Run32 => policies::utf32(alloc, list, question, Policy::Run),
             Family::Skip32 => policies::utf32(alloc, list, question, Policy::Skip),
+            Family::Edits => edits::replies(alloc, list, question),
+            Family::Transcode => devices::run(alloc, list, question),
         }
     }
 }

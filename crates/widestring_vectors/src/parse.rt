@@ -37,6 +37,12 @@ pub trait FromHex: Sized {
     fn from_hex(word: &str) -> Option<Self>;
 }
 
+impl FromHex for u8 {
+    fn from_hex(word: &str) -> Option<u8> {
+        u8::from_str_radix(word, 16).ok()
+    }
+}
+
 impl FromHex for u16 {
     fn from_hex(word: &str) -> Option<u16> {
         u16::from_str_radix(word, 16).ok()

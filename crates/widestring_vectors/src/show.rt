@@ -109,18 +109,27 @@ impl Answer {
 
     /// Adds the index, the item number and the unit of a first fault.
     pub fn first_fault<C: ToldUnit>(&mut self, fault: &UtfError<C>) {
-        self.fault_at(fault);
+        self.told_fault(fault.index(), fault.item(), C::told(fault.cause()));
+    }
+
+    /// As `first_fault`, of a fault that has no error of its own.
+    pub fn told_fault(&mut self, index: usize, item: usize, unit: u32) {
+        self.place(index, item);
         self.word(":");
-        self.hex(u64::from(C::told(fault.cause())));
+        self.hex(u64::from(unit));
     }
 
     /// Adds the index and the item number of a first fault.
     pub fn fault_at<C: ToldUnit>(&mut self, fault: &UtfError<C>) {
+        self.place(fault.index(), fault.item());
+    }
+
+    fn place(&mut self, index: usize, item: usize) {
         self.gap();
         self.word("!");
-        self.hex(fault.index() as u64);
+        self.hex(index as u64);
         self.word(":");
-        self.hex(fault.item() as u64);
+        self.hex(item as u64);
     }
 
     /// Adds a number in hexadecimal, or a `-` for none.

@@ -54,6 +54,8 @@ fn places_within_a_pair(rt: HostRuntime) -> Result<(), Fail> {
         !text.is_char_boundary(1),
         text.is_char_boundary(2),
         !text.is_char_boundary(3),
+        !text.is_char_boundary(usize::MAX),
+        text.unit_offset(usize::MAX).is_none(),
         text.get(1..2).is_none(),
         text.get(..1).is_none(),
         text.get(1..).is_none(),

@@ -1,0 +1,100 @@
+//! Truncated files, and devices that fail behind some bytes: what is written, and how the run ends.
+use crate::rows::all_hold;
+use std::alloc::Global;
+use widestring::bytes::{Mode, transcode};
+use widestring::error::TranscodeError;
+use widestring_test_devices::{Cut, Slow};
+
+// A mark, U+1F600 and an `A`, in little endian, and their text.
+const FILE: &[u8] = b"\xff\xfe\x3d\xd8\x00\xde\x41\x00";
+
+const TEXT: &[u8] = b"\xf0\x9f\x98\x80\x41";
+
+const HALF: Result<(), TranscodeError> = Err(TranscodeError::OddLength);
+
+const UNPAIRED: Result<(), TranscodeError> = Err(TranscodeError::Utf16 {
+    index: 0,
+    item: 0,
+    unit: 0xd83d,
+});
+
+// What a run writes, and its ending.
+type Ended = (&'static [u8], Result<(), TranscodeError>);
+
+// For each front of the file, from none of it on, the strict run and the lossy one.
+static FRONTS: [(Ended, Ended); 9] = [
+    ((b"", Ok(())), (b"", Ok(()))),
+    ((b"", HALF), (b"", HALF)),
+    ((b"", Ok(())), (b"", Ok(()))),
+    ((b"", HALF), (b"", HALF)),
+    ((b"", UNPAIRED), (b"\xef\xbf\xbd", Ok(()))),
+    ((b"", UNPAIRED), (b"\xef\xbf\xbd", HALF)),
+    ((b"\xf0\x9f\x98\x80", Ok(())), (b"\xf0\x9f\x98\x80", Ok(()))),
+    ((b"\xf0\x9f\x98\x80", HALF), (b"\xf0\x9f\x98\x80", HALF)),
+    ((TEXT, Ok(())), (TEXT, Ok(()))),
+];
+
+// Whether a front of the file ends so, where the devices move `step` bytes a call, or random numbers of them.
+fn ends_so(alloc: Global, count: usize, step: usize, mode: Mode, ended: Ended) -> bool {
+    let (text, ending) = ended;
+    let mut source = Cut::new(&FILE[..count.min(FILE.len())], step);
+    let mut sink = Slow::new(alloc, step, None, false);
+    let answer = transcode(&mut source, &mut sink, mode);
+    answer == ending && sink.bytes.as_slice() == text
+}
+
+#[test]
+fn fronts_of_a_file(rt: HostRuntime) {
+    for (count, (strict, lossy)) in FRONTS.iter().enumerate() {
+        for step in [1, 2, 3, 4096, 0] {
+            let rows = [
+                ends_so(rt.alloc(), count, step, Mode::Strict, *strict),
+                ends_so(rt.alloc(), count, step, Mode::Lossy, *lossy),
+            ];
+            all_hold(&rt, &rows);
+        }
+    }
+}
+
+// Whether a sink with room for so many bytes has them where it fails, by an error or by taking none.
+fn ends_at_sink(alloc: Global, count: usize, step: usize, takes_none: bool) -> bool {
+    let mut source = Cut::new(FILE, step);
+    let mut sink = Slow::new(alloc, step, Some(count), takes_none);
+    let answer = transcode(&mut source, &mut sink, Mode::Strict);
+    answer == Err(TranscodeError::Write) && sink.bytes.as_slice() == &TEXT[..count.min(TEXT.len())]
+}
+
+#[test]
+fn sinks_that_fail(rt: HostRuntime) {
+    for count in 0..TEXT.len() {
+        let rows = [
+            ends_at_sink(rt.alloc(), count, 1, false),
+            ends_at_sink(rt.alloc(), count, 1, true),
+            ends_at_sink(rt.alloc(), count, 0, false),
+            ends_at_sink(rt.alloc(), count, 4096, true),
+        ];
+        all_hold(&rt, &rows);
+    }
+}
+
+// Whether a source that fails behind so many bytes is told, and no more was written than the beginning of their text.
+fn ends_at_source(alloc: Global, count: usize, step: usize) -> bool {
+    let mut source = Cut::failing_behind(&FILE[..count.min(FILE.len())], step);
+    let mut sink = Slow::new(alloc, step, None, false);
+    let answer = transcode(&mut source, &mut sink, Mode::Strict);
+    let text = if count < 6 { b"".as_slice() } else { TEXT };
+    answer == Err(TranscodeError::Read) && text.starts_with(sink.bytes.as_slice())
+}
+
+#[test]
+fn sources_that_fail(rt: HostRuntime) {
+    for count in 0..=FILE.len() {
+        let rows = [
+            ends_at_source(rt.alloc(), count, 1),
+            ends_at_source(rt.alloc(), count, 2),
+            ends_at_source(rt.alloc(), count, 4096),
+            ends_at_source(rt.alloc(), count, 0),
+        ];
+        all_hold(&rt, &rows);
+    }
+}
