@@ -114,17 +114,18 @@ impl Answer {
 
     /// As `first_fault`, of a fault that has no error of its own.
     pub fn told_fault(&mut self, index: usize, item: usize, unit: u32) {
-        self.place(index, item);
+        self.fault_place(index, item);
         self.word(":");
         self.hex(u64::from(unit));
     }
 
     /// Adds the index and the item number of a first fault.
     pub fn fault_at<C: ToldUnit>(&mut self, fault: &UtfError<C>) {
-        self.place(fault.index(), fault.item());
+        self.fault_place(fault.index(), fault.item());
     }
 
-    fn place(&mut self, index: usize, item: usize) {
+    // Adds an index and an item number after a `!`.
+    fn fault_place(&mut self, index: usize, item: usize) {
         self.gap();
         self.word("!");
         self.hex(index as u64);
