@@ -1,14 +1,18 @@
-//! The searches of the static library beside those of the Rust crate. `bench/kernels` builds and runs it.
+//! The calls of the static library beside those of the Rust crate. `bench/kernels` builds and runs it.
 
 use std::hint::black_box;
 use std::time::Instant;
-use widestring::{U16CStr, U32CStr, Utf16Str, Utf32Str};
+use widestring::{U16CStr, U16Str, U32CStr, Utf16Str, Utf16String, Utf32Str};
 
 extern "C" {
     fn wide_utf16_first_fault(units: *const u16, length: usize) -> usize;
     fn wide_utf32_first_fault(units: *const u32, length: usize) -> usize;
     fn wide_utf16_first_nul(units: *const u16, length: usize) -> usize;
     fn wide_utf32_first_nul(units: *const u32, length: usize) -> usize;
+    fn wide_utf16_to_utf8(units: *const u16, length: usize, text: *mut u8, room: usize) -> usize;
+    fn wide_utf16_to_utf8_lossy(units: *const u16, length: usize, text: *mut u8, room: usize) -> usize;
+    fn wide_utf8_to_utf16(text: *const u8, length: usize, units: *mut u16, room: usize) -> usize;
+    fn wide_utf16_repair(units: *const u16, length: usize, repaired: *mut u16, room: usize) -> usize;
 }
 
 /// The crate's calls, each behind a call as this library's are: a program in C would make one too.
@@ -28,6 +32,26 @@ mod theirs {
     #[inline(never)]
     pub fn is_string16(units: &[u16]) -> bool {
         U16CStr::from_slice(units).is_ok()
+    }
+
+    #[inline(never)]
+    pub fn to_utf8(units: &[u16]) -> Option<usize> {
+        Some(U16Str::from_slice(units).to_string().ok()?.len())
+    }
+
+    #[inline(never)]
+    pub fn to_utf8_lossy(units: &[u16]) -> usize {
+        U16Str::from_slice(units).to_string_lossy().len()
+    }
+
+    #[inline(never)]
+    pub fn to_utf16(text: &[u8]) -> Option<usize> {
+        Some(Utf16String::from_str(std::str::from_utf8(text).ok()?).len())
+    }
+
+    #[inline(never)]
+    pub fn repaired(units: &[u16]) -> usize {
+        Utf16String::from_slice_lossy(units).into_owned().len()
     }
 
     #[inline(never)]
@@ -94,6 +118,45 @@ fn compare_units32(text: &str, calls: u32, units: &[u32]) {
     );
 }
 
+/// Conversions of a text, by this library into a buffer that is there and has room, and by the crate into memory of its own; those
+/// that are lossy also with a fault as every tenth unit.
+fn compare_conversions(text: &str, calls: u32, units: &[u16]) {
+    let utf8 = String::from_utf16(units).unwrap();
+    let mut bytes = vec![0u8; 3 * units.len()];
+    compare(
+        "to UTF-8",
+        text,
+        calls,
+        || unsafe { wide_utf16_to_utf8(black_box(units.as_ptr()), units.len(), bytes.as_mut_ptr(), bytes.len()) == utf8.len() },
+        || theirs::to_utf8(black_box(units)) == Some(utf8.len()),
+    );
+    let mut back = vec![0u16; units.len()];
+    compare(
+        "to UTF-16",
+        text,
+        calls,
+        || unsafe { wide_utf8_to_utf16(black_box(utf8.as_ptr()), utf8.len(), back.as_mut_ptr(), back.len()) == units.len() },
+        || theirs::to_utf16(black_box(utf8.as_bytes())) == Some(units.len()),
+    );
+    let mut faulty = units.to_vec();
+    faulty.iter_mut().step_by(10).for_each(|unit| *unit = 0xdc00);
+    let lossy = String::from_utf16_lossy(&faulty).len();
+    compare(
+        "to UTF-8, lossy",
+        &format!("{text}, faults"),
+        calls,
+        || unsafe { wide_utf16_to_utf8_lossy(black_box(faulty.as_ptr()), faulty.len(), bytes.as_mut_ptr(), bytes.len()) == lossy },
+        || theirs::to_utf8_lossy(black_box(&faulty)) == lossy,
+    );
+    compare(
+        "repair",
+        &format!("{text}, faults"),
+        calls,
+        || unsafe { wide_utf16_repair(black_box(faulty.as_ptr()), faulty.len(), back.as_mut_ptr(), back.len()) == faulty.len() },
+        || theirs::repaired(black_box(&faulty)) == faulty.len(),
+    );
+}
+
 /// A text of so many bytes in UTF-16, in which one character of so many is an emoji, and each fourth of the others Chinese.
 fn mixed(bytes: usize, every: usize) -> Vec<u16> {
     let mut units = Vec::with_capacity(bytes / 2);
@@ -123,6 +186,7 @@ fn compare_texts(bytes: usize, calls: u32) {
     ];
     for (text, units) in texts {
         compare_units16(&format!("{text}, {} KB", bytes / 1024), calls, &units);
+        compare_conversions(&format!("{text}, {} KB", bytes / 1024), calls, &units);
         let chars: Vec<u32> = char::decode_utf16(units).map(|c| c.unwrap() as u32).collect();
         let room = chars.len().min(bytes / 4);
         compare_units32(&format!("{text}, {} KB", room * 4 / 1024), calls, &chars[..room]);

@@ -4,8 +4,13 @@
 //! pointer is to memory that is not `const`, and that what is written overlaps nothing else that is handed in.
 #![tactic(auto)]
 
+mod convert;
 mod search;
 
+pub use convert::{
+    wide_utf8_to_utf16, wide_utf16_repair, wide_utf16_to_utf8, wide_utf16_to_utf8_lossy,
+    wide_utf32_repair,
+};
 pub use search::{
     wide_utf16_first_fault, wide_utf16_first_nul, wide_utf32_first_fault, wide_utf32_first_nul,
 };

@@ -4,7 +4,8 @@ ghost use Rattle.widestring.specs.EncodingForm.{Utf16, Utf32};
 ghost use Rattle.widestring.specs.Items.{IsFirstFault, IsWellFormed};
 ghost use Rattle.widestring.specs.Nul.{HasNoNul, IsFirstNul};
 
-use widestring::{U16CStr, U32CStr, Utf16Str, Utf32Str};
+use widestring::unit::check;
+use widestring::{U16CStr, U32CStr};
 
 /// The place of the first fault of UTF-16 (Unicode Standard, D91), or the length where the units are well formed.
 #[unsafe(no_mangle)]
@@ -13,9 +14,9 @@ pub extern "C" fn wide_utf16_first_fault(units: &[u16]) -> usize
     ensures fault { result < length units.now → (item unit : ℕ) × IsFirstFault Utf16 units.now result item unit }
     ensures within { result ≤ length units.now }
 {
-    match Utf16Str::from_slice(units) {
-        Ok(_text) => units.len(),
-        Err(fault) => fault.index(),
+    match check(units) {
+        Ok(()) => units.len(),
+        Err(fault) => fault.index,
     }
 }
 
@@ -26,9 +27,9 @@ pub extern "C" fn wide_utf32_first_fault(units: &[u32]) -> usize
     ensures fault { result < length units.now → (item unit : ℕ) × IsFirstFault Utf32 units.now result item unit }
     ensures within { result ≤ length units.now }
 {
-    match Utf32Str::from_slice(units) {
-        Ok(_text) => units.len(),
-        Err(fault) => fault.index(),
+    match check(units) {
+        Ok(()) => units.len(),
+        Err(fault) => fault.index,
     }
 }
 

@@ -1,0 +1,58 @@
+/*
+ * Wide strings for programs in C: UTF-16, UTF-32 and UTF-8 in buffers of the caller's.
+ *
+ * Each function is proved to do what is said of it here, for all units, well formed or not, under one trust: a pointer and the
+ * length or room behind it are those of memory that may be read, or written where the pointer is not to `const`; the memory is aligned
+ * for its type; and no memory that is written overlaps other memory that is handed in. A pointer is never NULL, also where the length
+ * behind it is 0. Nothing checks this, and the caller's pointer and length are all that is trusted.
+ *
+ * Lengths, rooms and places are counted in elements of the array: units, or bytes of UTF-8. No function takes memory, keeps a pointer,
+ * stops the program or has a state, so each may be called in any thread.
+ */
+#ifndef WIDESTRING_H
+#define WIDESTRING_H
+
+#include <stddef.h>
+#include <stdint.h>
+
+#ifdef __cplusplus
+extern "C" {
+#endif
+
+/* What a conversion answers where what it was handed is not well formed: no length is so great. */
+#define WIDE_FAULT SIZE_MAX
+
+/* The place of the first unit that belongs to no character, or `length` where the units are well-formed UTF-16. */
+size_t wide_utf16_first_fault(const uint16_t *units, size_t length);
+
+/* The place of the first unit that is no scalar value, or `length` where the units are well-formed UTF-32. */
+size_t wide_utf32_first_fault(const uint32_t *units, size_t length);
+
+/* The place of the first unit that is 0, or `length` where none is. */
+size_t wide_utf16_first_nul(const uint16_t *units, size_t length);
+size_t wide_utf32_first_nul(const uint32_t *units, size_t length);
+
+/*
+ * The functions below answer the length that is needed, whatever `room` is. Where the room is as large, that many elements at the
+ * front of the buffer are the answer's. Where it is smaller, what the buffer holds is not said: call again with more. A room of 0
+ * asks for the length alone.
+ */
+
+/* The text of well-formed UTF-16 in UTF-8. WIDE_FAULT where the units are not well formed, and then the buffer is as it was. */
+size_t wide_utf16_to_utf8(const uint16_t *units, size_t length, uint8_t *text, size_t room);
+
+/* The same of any units, with U+FFFD, three bytes, for each unit that belongs to no character. */
+size_t wide_utf16_to_utf8_lossy(const uint16_t *units, size_t length, uint8_t *text, size_t room);
+
+/* The text of well-formed UTF-8 in UTF-16. WIDE_FAULT where the bytes are not well formed, and then the buffer is as it was. */
+size_t wide_utf8_to_utf16(const uint8_t *text, size_t length, uint16_t *units, size_t room);
+
+/* The units with U+FFFD in the place of each that belongs to no character: as many as there are, and well formed. */
+size_t wide_utf16_repair(const uint16_t *units, size_t length, uint16_t *repaired, size_t room);
+size_t wide_utf32_repair(const uint32_t *units, size_t length, uint32_t *repaired, size_t room);
+
+#ifdef __cplusplus
+}
+#endif
+
+#endif

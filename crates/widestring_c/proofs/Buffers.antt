@@ -1,0 +1,26 @@
+-- What is written of a list into a buffer, piece by piece, and counted whether it fits or not.
+use Rattle.std.proofs.Common.{◌≡◌, ◌≤◌, ◌+◌, ◌-◌, ◌^◌, ◌++◌, ℕ, List, [], ap, arith, sym, ◌∙◌, length, take, length-append, append-nil, append_assoc}
+use Rattle.std.specs.Prelude.{min}
+
+-- so much of `all` is counted, what is left of it is known, and what is counted is written as long as there is room
+pub record Writing (all : List ℕ) (at : ℕ) (out left : List ℕ) : Type 0 where
+  pub most : at ≤ 2 ^ 64 - 1
+  pub counted : min (at + length left) (2 ^ 64 - 1) ≡ min (length all) (2 ^ 64 - 1)
+  pub written : at ≤ length out → take at out ++ left ≡ all
+
+module _ (all old new bs rest : List ℕ) (at end : ℕ) where
+  pub one_more : Writing all at old (bs ++ rest) → end ≡ min (at + length bs) (2 ^ 64 - 1) → (end ≤ length old → take end new ≡ take at old ++ bs) → length new ≡ length old → Writing all end new rest
+  one_more w place text room =
+      let longer : length (bs ++ rest) ≡ length bs + length rest = length-append bs rest in
+      record {
+        most = omega (arith, place);
+        counted = omega (arith, w.most, w.counted, place, longer);
+        written = λ fits.
+            ap (λ xs. xs ++ rest) (text (omega (arith, fits, room))) ∙ append_assoc (take at old) bs rest ∙ w.written (omega (arith, fits, room, place, w.most));
+      }
+
+pub counted_all : (all out : List ℕ) (at : ℕ) → Writing all at out [] → at ≡ min (length all) (2 ^ 64 - 1)
+counted_all all out at w = omega (arith, w.most, w.counted)
+
+pub written_all : (all out : List ℕ) (at : ℕ) → Writing all at out [] → at ≤ length out → take at out ≡ all
+written_all all out at w fits = sym (append-nil (take at out)) ∙ w.written fits

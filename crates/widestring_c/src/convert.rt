@@ -1,0 +1,160 @@
+//! Text of units in UTF-8, and back, and lossy text, in a buffer of the caller's.
+ghost use Rattle.std.specs.Prelude.{◌≡◌, ◌≤◌, ◌+◌, ◌-◌, ◌^◌, ◌++◌, ◌∷◌, [], length, min, take};
+ghost use Rattle.std.specs.Char.{encode_utf8};
+ghost use Rattle.std.specs.Str.{IsUtf8, chars as str_chars};
+ghost use Rattle.widestring.specs.EncodingForm.{Utf16, Utf32, code_units, encode};
+ghost use Rattle.widestring.specs.Items.{IsWellFormed, chars, items};
+ghost use Rattle.widestring.specs.Lossy.{lossy};
+ghost use Rattle.widestring.specs.Utf8.{utf8};
+
+use std::str;
+use widestring::unit::{Unit, check};
+use widestring::{U16Str, U32Str};
+
+// Writes a character in UTF-8 behind a place, where there is room, and answers the place behind it, or the greatest number.
+#[inline(always)]
+fn put_utf8_char(text: &mut [u8], at: usize, c: char) -> usize
+    ensures place { result ≡ min (at + length (encode_utf8 c)) (2 ^ 64 - 1) }
+    ensures text { result ≤ length text.old → take result text.new ≡ take at text.old ++ encode_utf8 c }
+    ensures room { length text.new ≡ length text.old }
+{
+    let mut bytes = [0; 4];
+    let written = c.encode_utf8(&mut bytes).as_bytes();
+    let end = at.saturating_add(written.len());
+    if end <= text.len() {
+        text[at..end].copy_from_slice(written);
+    }
+    end
+}
+
+// The same of units.
+#[inline(always)]
+fn put_units(units: &mut [u16], at: usize, more: &[u16]) -> usize
+    ensures place { result ≡ min (at + length more.now) (2 ^ 64 - 1) }
+    ensures units { result ≤ length units.old → take result units.new ≡ take at units.old ++ more.now }
+    ensures room { length units.new ≡ length units.old }
+{
+    let end = at.saturating_add(more.len());
+    if end <= units.len() {
+        units[at..end].copy_from_slice(more);
+    }
+    end
+}
+
+// The same of a character in UTF-16.
+#[inline(always)]
+fn put_utf16_char(units: &mut [u16], at: usize, c: char) -> usize
+    ensures place { result ≡ min (at + length (code_units Utf16 c)) (2 ^ 64 - 1) }
+    ensures units { result ≤ length units.old → take result units.new ≡ take at units.old ++ code_units Utf16 c }
+    ensures room { length units.new ≡ length units.old }
+{
+    match u16::encode_char(c) {
+        (unit, None) => put_units(units, at, &[unit]),
+        (high, Some(low)) => put_units(units, at, &[high, low]),
+    }
+}
+
+// The same of a character in UTF-32.
+#[inline(always)]
+fn put_utf32_char(units: &mut [u32], at: usize, c: char) -> usize
+    ensures place { result ≡ min (at + 1) (2 ^ 64 - 1) }
+    ensures units { result ≤ length units.old → take result units.new ≡ take at units.old ++ c ∷ [] }
+    ensures room { length units.new ≡ length units.old }
+{
+    let end = at.saturating_add(1);
+    if end <= units.len() {
+        units[at..end].copy_from_slice(&[c as u32]);
+    }
+    end
+}
+
+// Writes the lossy text of units in UTF-8, as far as there is room, and answers how many bytes it has, or the greatest number where
+// they are more.
+fn put_utf8(units: &[u16], text: &mut [u8]) -> usize
+    ensures len { result ≡ min (length (utf8 (lossy (items Utf16 units.now)))) (2 ^ 64 - 1) }
+    ensures text { result ≤ length text.old → take result text.new ≡ utf8 (lossy (items Utf16 units.now)) }
+{
+    let mut at = 0;
+    for c in U16Str::from_slice(units).chars_lossy() {
+        at = put_utf8_char(text, at, c);
+    }
+    at
+}
+
+// The same of a text in UTF-16.
+fn put_utf16(text: &str, units: &mut [u16]) -> usize
+    ensures len { result ≡ min (length (encode Utf16 (str_chars text.now))) (2 ^ 64 - 1) }
+    ensures units { result ≤ length units.old → take result units.new ≡ encode Utf16 (str_chars text.now) }
+{
+    let mut at = 0;
+    for c in text.chars() {
+        at = put_utf16_char(units, at, c);
+    }
+    at
+}
+
+/// The text of well-formed UTF-16 (Unicode Standard, D91) in UTF-8 (D92), in front of `text` where there is room for it. Answers how many
+/// bytes it has, or the greatest number where they are more, or where the units are not well formed.
+#[unsafe(no_mangle)]
+pub extern "C" fn wide_utf16_to_utf8(units: &[u16], text: &mut [u8]) -> usize
+    ensures len { IsWellFormed Utf16 units.now → result ≡ min (length (utf8 (chars Utf16 units.now))) (2 ^ 64 - 1) }
+    ensures text { IsWellFormed Utf16 units.now → result ≤ length text.old → take result text.new ≡ utf8 (chars Utf16 units.now) }
+    ensures fault { (IsWellFormed Utf16 units.now → ⊥) → result ≡ 2 ^ 64 - 1 }
+    ensures unchanged { (IsWellFormed Utf16 units.now → ⊥) → text.new ≡ text.old }
+{
+    match check(units) {
+        Ok(()) => put_utf8(units, text),
+        Err(_fault) => usize::MAX,
+    }
+}
+
+/// The same of any units, with U+FFFD for each unit that belongs to no character.
+#[unsafe(no_mangle)]
+pub extern "C" fn wide_utf16_to_utf8_lossy(units: &[u16], text: &mut [u8]) -> usize
+    ensures len { result ≡ min (length (utf8 (lossy (items Utf16 units.now)))) (2 ^ 64 - 1) }
+    ensures text { result ≤ length text.old → take result text.new ≡ utf8 (lossy (items Utf16 units.now)) }
+{
+    put_utf8(units, text)
+}
+
+/// The text of well-formed UTF-8 in UTF-16, in front of `units` where there is room for it. Answers how many units it has, or the
+/// greatest number where they are more, or where the bytes are not well formed.
+#[unsafe(no_mangle)]
+pub extern "C" fn wide_utf8_to_utf16(text: &[u8], units: &mut [u16]) -> usize
+    ensures len { IsUtf8 text.now → result ≡ min (length (encode Utf16 (str_chars text.now))) (2 ^ 64 - 1) }
+    ensures units { IsUtf8 text.now → result ≤ length units.old → take result units.new ≡ encode Utf16 (str_chars text.now) }
+    ensures fault { (IsUtf8 text.now → ⊥) → result ≡ 2 ^ 64 - 1 }
+    ensures unchanged { (IsUtf8 text.now → ⊥) → units.new ≡ units.old }
+{
+    match str::from_utf8(text) {
+        Ok(text) => put_utf16(text, units),
+        Err(_broken) => usize::MAX,
+    }
+}
+
+/// The units with U+FFFD in the place of each that belongs to no character, in front of `repaired` where there is room for them.
+/// Answers how many they are.
+#[unsafe(no_mangle)]
+pub extern "C" fn wide_utf16_repair(units: &[u16], repaired: &mut [u16]) -> usize
+    ensures len { result ≡ min (length (encode Utf16 (lossy (items Utf16 units.now)))) (2 ^ 64 - 1) }
+    ensures units { result ≤ length repaired.old → take result repaired.new ≡ encode Utf16 (lossy (items Utf16 units.now)) }
+{
+    let mut at = 0;
+    for c in U16Str::from_slice(units).chars_lossy() {
+        at = put_utf16_char(repaired, at, c);
+    }
+    at
+}
+
+/// The same of units of UTF-32 (Unicode Standard, D90).
+#[unsafe(no_mangle)]
+pub extern "C" fn wide_utf32_repair(units: &[u32], repaired: &mut [u32]) -> usize
+    ensures len { result ≡ min (length (lossy (items Utf32 units.now))) (2 ^ 64 - 1) }
+    ensures units { result ≤ length repaired.old → take result repaired.new ≡ lossy (items Utf32 units.now) }
+{
+    let mut at = 0;
+    for c in U32Str::from_slice(units).chars_lossy() {
+        at = put_utf32_char(repaired, at, c);
+    }
+    at
+}
