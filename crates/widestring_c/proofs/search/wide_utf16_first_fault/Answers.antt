@@ -1,0 +1,10 @@
+use Rattle.std.proofs.Common.{subst}
+use Rattle.std.proofs.lemmas.List.{map-id}
+use Rattle.widestring.specs.EncodingForm.{Utf16}
+use Rattle.widestring.specs.Items.{IsFirstFault}
+use Rattle.widestring_c.proofs.search.wide_utf16_first_fault.Goals as goal
+
+pub returns-in-Err-clause-fault : goal.returns-in-Err-clause-fault
+returns-in-Err-clause-fault c = λ below.
+    let fault = c.in-Err.fault in
+    (fault.item, fault.unit, subst (λ us. IsFirstFault Utf16 us fault.index fault.item fault.unit) (map-id c.args.units.now) c.in-Err.ensures.err)
