@@ -19,6 +19,8 @@ pub struct Slow {
     pub room: Option<usize>,
     /// Whether it fails by taking none.
     pub takes_none: bool,
+    /// How many calls there were.
+    pub calls: usize,
     /// The last pseudo-random number.
     pub seed: u32,
     /// Whether a call failed.
@@ -35,6 +37,7 @@ impl Slow {
             step,
             room,
             takes_none,
+            calls: 0,
             seed: 1,
             failed: false,
         }
@@ -55,6 +58,7 @@ impl ByteSink for Slow {
     ghost has_failed = { λ s. s.failed };
 
     fn put(&mut self, bytes: &[u8]) -> io::Result<usize> {
+        self.calls = self.calls.saturating_add(1);
         let room = self.room_left();
         if room == 0 {
             if !self.takes_none {

@@ -1,0 +1,50 @@
+-- What the words of the program ask for, how a run of the word `utf8` ends, and the statuses.
+use Rattle.std.specs.Prelude.{◌≡◌, ◌⊎◌, ℕ, Bool, List, [], ◌∷◌, Option, Some, None, Result, Ok, Err, codes, string_bytes}
+use Rattle.std.specs.declared.string.String.{String}
+use Rattle.wide_bytes.specs.Bytes.{units_of_bytes}
+use Rattle.wide_bytes.specs.Pieces.{WantsRoom}
+use Rattle.wide_bytes.specs.Run.{AtEnd, Ends, Moves, fails_to_read, fails_to_write}
+use Rattle.wide_bytes.specs.Transcoded.{transcoded_under}
+use Rattle.wide_error.specs.declared.error.TranscodeError.{TranscodeError}
+use Rattle.wide_unit.specs.declared.policy.Policy.{Policy}
+use Rattle.wide_unit.specs.declared.policy.Policy.TheVariants.{Each, Run, Skip}
+
+-- the word, by its bytes, that asks for lossy text under a policy
+abbrev pub IsOption : Policy → List ℕ → Type 0
+IsOption Each word = (word ≡ codes "--lossy") ⊎ (word ≡ codes "--lossy=each")
+IsOption Run word = word ≡ codes "--lossy=run"
+IsOption Skip word = word ≡ codes "--lossy=skip"
+
+module _ {A : Type 0} where
+  -- the word `utf8`: alone, or with the option of a policy behind it
+  abbrev pub AsksForUtf8 : Option Policy → List (String A) → Type 0
+  AsksForUtf8 None [] = ⊥
+  AsksForUtf8 None (word ∷ []) = string_bytes word ≡ codes "utf8"
+  AsksForUtf8 None (word ∷ second ∷ others) = ⊥
+  AsksForUtf8 (Some policy) [] = ⊥
+  AsksForUtf8 (Some policy) (word ∷ []) = ⊥
+  AsksForUtf8 (Some policy) (word ∷ option ∷ []) = (string_bytes word ≡ codes "utf8") × IsOption policy (string_bytes option)
+  AsksForUtf8 (Some policy) (word ∷ option ∷ third ∷ others) = ⊥
+
+  -- they ask for no text, strictly or by any policy
+  abbrev pub AsksForNoUtf8 : List (String A) → Type 0
+  AsksForNoUtf8 words = (policy : Option Policy) → ¬ (AsksForUtf8 policy words)
+
+-- 0 is success, 1 is a refusal
+abbrev pub status_of : {T E : Type 0} → Result T E → ℕ
+status_of (Ok u) = 0
+status_of (Err e) = 1
+
+-- one run of `transcode` or, under a policy, of `transcode_with`: what its devices had and have left or held and hold, whether they
+-- have ended or failed, and the status that its answer gives
+pub record Utf8Run (policy : Option Policy) (left left' held held' : Option (List ℕ)) (ended read_failed write_failed : Bool) (status : ℕ) : Type 0 where
+  pub answer : Result (Unit {0}) TranscodeError
+  pub bytes : List ℕ
+  pub written : List ℕ
+  pub moves : Moves left left' held held' bytes written
+  pub ends : Ends answer ended (transcoded_under policy) bytes written
+  pub room : WantsRoom answer (units_of_bytes bytes)
+  pub at_end : AtEnd answer left'
+  pub source_failed : read_failed ≡ fails_to_read answer
+  pub sink_failed : write_failed ≡ fails_to_write answer
+  pub gives : status ≡ status_of answer

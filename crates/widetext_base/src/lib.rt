@@ -1,0 +1,10 @@
+//! What the programs `widetext` and `widetext_utf8` share: the word `utf8`, refusals as lines, the statuses and the usage.
+#![tactic(auto)]
+
+mod refusal;
+mod streams;
+mod utf8;
+
+pub use refusal::{REFUSED, SUCCESS, USAGE, WRONG_USAGE, end, refuse_words, report};
+pub use streams::{finish, gather};
+pub use utf8::{command, parse_utf8, write_utf8};

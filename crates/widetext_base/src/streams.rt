@@ -1,0 +1,51 @@
+//! The words of a call, and the end of its output.
+
+ghost use Rattle.std.specs.Prelude.{◌≡◌, ◌≢◌, ◌≤◌, IfErr, OnOk};
+
+use crate::refusal::{REFUSED, SUCCESS, refuse_words, report};
+use std::io::{ErrorKind, Write};
+use std::rt::Env;
+use std::{env, io};
+use wide_bytes::ByteSink;
+use wide_error::{OutOfMemory, TranscodeError};
+
+// The words after the program's name.
+fn words_of<R: Env + AllocGlobal>(rt: &R) -> io::Result<Vec<String>> {
+    let mut words = Vec::new(rt.alloc());
+    for word in env::args(rt)?.skip(1) {
+        words.push(word)?;
+    }
+    Ok(words)
+}
+
+/// The words after the program's name.
+///
+/// # Errors
+///
+/// Where a word is no UTF-8, the status at wrong words, with the usage on `faults`; where memory is refused, that of a refusal.
+pub fn gather<R: Env + AllocGlobal, F: ByteSink>(rt: &R, faults: &mut F) -> Result<Vec<String>, u8>
+    ensures quiet { OnOk result (faults.new ≡ faults.old) }
+    ensures refused { IfErr result (λ status. (1 ≤ status) × (status ≤ 2)) }
+{
+    match words_of(rt) {
+        Ok(words) => Ok(words),
+        Err(error) if error.kind() == ErrorKind::InvalidData => Err(refuse_words(faults)),
+        Err(_) => {
+            report(faults, &OutOfMemory);
+            Err(REFUSED)
+        }
+    }
+}
+
+/// Flushes the output of a run that ended with `status`, and answers the status: that of a refusal, which `faults` tells, where the
+/// flush fails and all else went well.
+pub fn finish<W: Write, F: ByteSink>(output: &mut W, faults: &mut F, status: u8) -> u8
+    ensures first_refusal { status ≢ 0 → result ≡ status }
+    ensures statuses { status ≡ 0 → result ≢ 0 → result ≡ 1 }
+{
+    if output.flush().is_err() && status == SUCCESS {
+        report(faults, &TranscodeError::Write);
+        return REFUSED;
+    }
+    status
+}

@@ -1,0 +1,11 @@
+use Rattle.std.proofs.Common.{rules}
+use Rattle.widetext_command.proofs.program.command.Goals as goal
+
+pub returns-in-Some-clause-reads : goal.returns-in-Some-clause-reads
+returns-in-Some-clause-reads g c = λ other. absurd (other c.in-Some.policy (c.parse_utf8.ensures.utf8_alone c.in-Some.policy (search rules)))
+
+pub returns-in-Some-clause-unknown : goal.returns-in-Some-clause-unknown
+returns-in-Some-clause-unknown g c = λ unknown. absurd (unknown.no_utf8 c.in-Some.policy (c.parse_utf8.ensures.utf8_alone c.in-Some.policy (search rules)))
+
+pub returns-in-Some-clause-whole : goal.returns-in-Some-clause-whole
+returns-in-Some-clause-whole g c = λ other one sound. absurd (other c.in-Some.policy (c.parse_utf8.ensures.utf8_alone c.in-Some.policy (search rules)))

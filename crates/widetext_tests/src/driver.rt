@@ -1,0 +1,102 @@
+//! A run of a program's command over devices in memory.
+ghost use Rattle.std.specs.Prelude.{◌≡◌, false};
+
+use std::alloc::{AllocError, Global};
+use wide_bytes::{ByteSink, ByteSource};
+use widestring_test_devices::{Cut, Slow};
+
+/// The programs of the repository that have the word `utf8`.
+#[derive(Clone, Copy, Drop)]
+pub enum Program {
+    /// `widetext`, with all words.
+    Whole,
+    /// `widetext_utf8`, with that word alone.
+    Utf8Alone,
+}
+
+/// The status of a program's command.
+pub fn command<S: ByteSource, K: ByteSink, F: ByteSink>(
+    alloc: Global,
+    program: Program,
+    words: &[String],
+    source: &mut S,
+    sink: &mut K,
+    faults: &mut F,
+) -> u8
+    requires source_sound { S.has_failed source.old ≡ false }
+    requires source_open { S.has_ended source.old ≡ false }
+    requires sink_sound { K.has_failed sink.old ≡ false }
+    requires faults_sound { F.has_failed faults.old ≡ false }
+{
+    match program {
+        Program::Whole => widetext_command::command(alloc, words, source, sink, faults),
+        Program::Utf8Alone => widetext_base::command(words, source, sink, faults),
+    }
+}
+
+/// A run that has ended: its status, and its devices.
+#[derive(Drop)]
+pub struct Ended<'a> {
+    pub status: u8,
+    pub source: Cut<'a>,
+    pub sink: Slow,
+    pub said: Slow,
+}
+
+impl Ended<'_> {
+    /// Whether it ended with this status, wrote this text, and said this on the fault stream.
+    pub fn is(&self, status: u8, text: &[u8], said: &[u8]) -> bool {
+        let mut well = self.status == status;
+        well &= self.sink.bytes.as_slice() == text;
+        well &= self.said.bytes.as_slice() == said;
+        well
+    }
+
+    /// Whether it was refused with this line, and wrote no more than the beginning of this text.
+    pub fn is_refused(&self, line: &[u8], text: &[u8]) -> bool {
+        let mut well = self.status == 1;
+        well &= self.said.bytes.as_slice() == line;
+        well &= text.starts_with(self.sink.bytes.as_slice());
+        well
+    }
+}
+
+/// The words as the program gets them.
+pub fn strings(alloc: Global, words: &[&str]) -> Result<Vec<String>, AllocError> {
+    let mut all = Vec::new(alloc);
+    for word in words {
+        all.push(String::from_str(alloc, word)?)?;
+    }
+    Ok(all)
+}
+
+/// A sink without a limit that takes at most so many bytes a call.
+pub fn whole(alloc: Global, step: usize) -> Slow
+    ensures failed { result.failed ≡ false }
+{
+    Slow::new(alloc, step, None, false)
+}
+
+/// Runs a program's command.
+pub fn run<'a>(
+    alloc: Global,
+    program: Program,
+    words: &[&str],
+    mut source: Cut<'a>,
+    mut sink: Slow,
+    mut said: Slow,
+) -> Result<Ended<'a>, AllocError>
+    requires source_sound { source.failed ≡ false }
+    requires source_open { source.ended ≡ false }
+    requires sink_sound { sink.failed ≡ false }
+    requires said_sound { said.failed ≡ false }
+{
+    let words = strings(alloc, words)?;
+    let status = command(alloc, program, &words, &mut source, &mut sink, &mut said);
+    Ok(Ended {
+        status,
+        source,
+        sink,
+        said,
+    })
+}

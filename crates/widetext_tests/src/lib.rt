@@ -1,0 +1,13 @@
+//! The rows of the programs, over devices in memory: whole ones, slow ones, and ones that fail at a call.
+#![tactic(auto)]
+
+#[cfg(test)]
+mod driver;
+#[cfg(test)]
+mod line_rows;
+#[cfg(test)]
+mod memory_rows;
+#[cfg(test)]
+mod utf8_rows;
+#[cfg(test)]
+mod word_rows;

@@ -1,0 +1,49 @@
+//! Runs where an allocation is refused, which a run with failing allocations makes happen at each one in turn: the answer is
+//! that memory was refused, and nothing else.
+
+use crate::driver::{Program, run};
+use std::alloc::{AllocError, Global};
+use std::test::Fail;
+use widestring_test_devices::{Cut, Slow};
+
+// Whether all of the text is written, or memory was refused, and nothing else said or written.
+fn is_whole_or_refused(
+    alloc: Global,
+    program: Program,
+    words: &[&str],
+    input: &[u8],
+    text: &[u8],
+) -> Result<bool, AllocError> {
+    let mut sink = Slow::new(alloc, 4096, None, false);
+    sink.bytes = Vec::with_capacity(alloc, 64)?;
+    let mut said = Slow::new(alloc, 4096, None, false);
+    said.bytes = Vec::with_capacity(alloc, 64)?;
+    let ran = run(alloc, program, words, Cut::new(input, 3), sink, said)?;
+    Ok(ran.is(0, text, b"") | ran.is(1, b"", b"out of memory\n"))
+}
+
+#[test]
+fn refused_memory(rt: HostRuntime) -> Result<(), Fail> {
+    let input = b"\x3d\xd8\x00\xde";
+    let text = b"\xf0\x9f\x98\x80";
+    let mut well = is_whole_or_refused(rt.alloc(), Program::Whole, &["utf8"], input, text)?;
+    well &= is_whole_or_refused(rt.alloc(), Program::Utf8Alone, &["utf8"], input, text)?;
+    assert!(rt; well);
+    Ok(())
+}
+
+#[test]
+fn refused_memory_of_ends(rt: HostRuntime) -> Result<(), Fail> {
+    let words = ["ends", "D83D,DE00", "BF"];
+    let lines = b"U+1F600\nnone\n";
+    assert!(rt; is_whole_or_refused(rt.alloc(), Program::Whole, &words, b"", lines)?);
+    Ok(())
+}
+
+#[test]
+fn refused_memory_of_edits(rt: HostRuntime) -> Result<(), Fail> {
+    let words = ["edit", "a", "push=b", "splitoff=0"];
+    let lines = b"done\nchars ab\ntext \nutf16\nutf32\n";
+    assert!(rt; is_whole_or_refused(rt.alloc(), Program::Whole, &words, b"", lines)?);
+    Ok(())
+}
