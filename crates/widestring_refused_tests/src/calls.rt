@@ -114,77 +114,74 @@ pub fn halves<C: Width>(text: UtfStr<'_, C>) -> [UtfStr<'_, C>; 2] {
     }
 }
 
-pub fn strings(alloc: Global) -> Result<(String, String), OutOfMemory> {
+// The units of `a` and those behind them.
+pub fn parts<C: Width>(other: &[C]) -> [UStr<'_, C>; 2] {
+    let (a, smile) = UStr::from_slice(other).split_at(other.len().min(1));
+    [a, smile]
+}
+
+pub fn strings(alloc: Global) -> Result<[String; 2], OutOfMemory> {
     let a = String::from_str(alloc, "a")?;
-    Ok((a, String::from_str(alloc, "😀")?))
+    Ok([a, String::from_str(alloc, "😀")?])
 }
 
-pub fn ustrings<C: Width>(alloc: Global) -> Result<(UString<C>, UString<C>), OutOfMemory> {
+pub fn ustrings<C: Width>(alloc: Global) -> Result<[UString<C>; 2], OutOfMemory> {
     let a = UString::from_str(alloc, "a")?;
-    Ok((a, UString::from_str(alloc, "😀")?))
+    Ok([a, UString::from_str(alloc, "😀")?])
 }
 
-pub fn utfstrings<C: Width>(alloc: Global) -> Result<(UtfString<C>, UtfString<C>), OutOfMemory> {
+pub fn utfstrings<C: Width>(alloc: Global) -> Result<[UtfString<C>; 2], OutOfMemory> {
     let a = UtfString::from_str(alloc, "a")?;
-    Ok((a, UtfString::from_str(alloc, "😀")?))
+    Ok([a, UtfString::from_str(alloc, "😀")?])
 }
 
-pub fn ucstrings<C: Width>(alloc: Global) -> Result<(UCString<C>, UCString<C>), OutOfMemory> {
-    let Ok(a) = UCString::from_str(alloc, "a") else {
-        return Err(OutOfMemory);
-    };
-    match UCString::from_str(alloc, "😀") {
-        Ok(smile) => Ok((a, smile)),
+fn ucstring<C: Width>(alloc: Global, text: &str) -> Result<UCString<C>, OutOfMemory> {
+    match UCString::from_str(alloc, text) {
+        Ok(s) => Ok(s),
         Err(_) => Err(OutOfMemory),
     }
 }
 
-fn boxed_ustr<C: Width>(string: UString<C>) -> Result<BoxedUStr<C>, OutOfMemory> {
-    match string.into_boxed_ustr() {
+pub fn ucstrings<C: Width>(alloc: Global) -> Result<[UCString<C>; 2], OutOfMemory> {
+    let a = ucstring(alloc, "a")?;
+    Ok([a, ucstring(alloc, "😀")?])
+}
+
+fn boxed_ustr<C: Width>(alloc: Global, text: &str) -> Result<BoxedUStr<C>, OutOfMemory> {
+    match UString::from_str(alloc, text)?.into_boxed_ustr() {
         Ok(boxed) => Ok(boxed),
         Err(_) => Err(OutOfMemory),
     }
 }
 
-pub fn boxed_ustrs<C: Width>(alloc: Global) -> Result<(BoxedUStr<C>, BoxedUStr<C>), OutOfMemory> {
-    let (a, smile) = ustrings(alloc)?;
-    match (boxed_ustr(a), boxed_ustr(smile)) {
-        (Ok(a), Ok(smile)) => Ok((a, smile)),
-        _ => Err(OutOfMemory),
-    }
+pub fn boxed_ustrs<C: Width>(alloc: Global) -> Result<[BoxedUStr<C>; 2], OutOfMemory> {
+    let a = boxed_ustr(alloc, "a")?;
+    Ok([a, boxed_ustr(alloc, "😀")?])
 }
 
-pub fn cow_ustrs<C: Width>(
-    alloc: Global,
-    other: &[C],
-) -> Result<(CowUStr<'_, C>, CowUStr<'_, C>), OutOfMemory> {
-    let (_a, smile) = ustrings(alloc)?;
-    let a = UStr::from_slice(other).split_at(other.len().min(1)).0;
-    Ok((CowUStr::Borrowed(a), CowUStr::Owned(smile)))
+pub fn cow_ustrs<C: Width>(alloc: Global, other: &[C]) -> Result<[CowUStr<'_, C>; 2], OutOfMemory> {
+    let smile = UString::from_str(alloc, "😀")?;
+    let [a, _] = parts(other);
+    Ok([CowUStr::Borrowed(a), CowUStr::Owned(smile)])
 }
 
-fn boxed_utfstr<C: Width>(string: UtfString<C>) -> Result<BoxedUtfStr<C>, OutOfMemory> {
-    match string.into_boxed_utfstr() {
+fn boxed_utfstr<C: Width>(alloc: Global, text: &str) -> Result<BoxedUtfStr<C>, OutOfMemory> {
+    match UtfString::from_str(alloc, text)?.into_boxed_utfstr() {
         Ok(boxed) => Ok(boxed),
         Err(_) => Err(OutOfMemory),
     }
 }
 
-pub fn boxed_utfstrs<C: Width>(
-    alloc: Global,
-) -> Result<(BoxedUtfStr<C>, BoxedUtfStr<C>), OutOfMemory> {
-    let (a, smile) = utfstrings(alloc)?;
-    match (boxed_utfstr(a), boxed_utfstr(smile)) {
-        (Ok(a), Ok(smile)) => Ok((a, smile)),
-        _ => Err(OutOfMemory),
-    }
+pub fn boxed_utfstrs<C: Width>(alloc: Global) -> Result<[BoxedUtfStr<C>; 2], OutOfMemory> {
+    let a = boxed_utfstr(alloc, "a")?;
+    Ok([a, boxed_utfstr(alloc, "😀")?])
 }
 
 pub fn cow_utfstrs<C: Width>(
     alloc: Global,
     view: UtfStr<'_, C>,
-) -> Result<(CowUtfStr<'_, C>, CowUtfStr<'_, C>), OutOfMemory> {
-    let (_a, smile) = utfstrings(alloc)?;
+) -> Result<[CowUtfStr<'_, C>; 2], OutOfMemory> {
+    let smile = UtfString::from_str(alloc, "😀")?;
     let [a, _] = halves(view);
-    Ok((CowUtfStr::Borrowed(a), CowUtfStr::Owned(smile)))
+    Ok([CowUtfStr::Borrowed(a), CowUtfStr::Owned(smile)])
 }

@@ -1,9 +1,11 @@
 //! OfOneWidth of views as text, their text in UTF-8, and files: calls whose errors are of one width.
 use crate::driver::Asks::{Nothing, Once};
-use crate::driver::{Kind, Left, Memory, Room, Row, TEXT, hold, wrong};
+use crate::driver::{Kind, Left, Memory, Room, Row, TEXT, Width, hold, wrong};
 use std::test::Fail;
 use widestring::bytes::include_utf16str;
-use widestring::error::{OutOfMemory, Utf16BytesError, Utf16ConvertError, Utf32ConvertError};
+use widestring::error::{
+    OutOfMemory, Utf16BytesError, Utf16ConvertError, Utf32ConvertError, UtfError,
+};
 use widestring::{U16CStr, U16Str, U32CStr, U32Str, Utf16String, Utf32String};
 use widestring_test_memory::Heap;
 
@@ -25,6 +27,15 @@ impl Room for Copying {}
 // OfOneWidth at one width.
 struct OfOneWidth;
 
+// What is left of a copy that is no text, of which the fault has the units.
+fn handed_back<'a, C: Width>(memory: Memory<'a>, fault: UtfError<C, &'a Heap>) -> Left<'a, C> {
+    let is_right = fault.index() == 1;
+    match fault.into_vec() {
+        Some(copy) => (copy, Ok(is_right)),
+        None => wrong(memory),
+    }
+}
+
 fn copied16<'a>(
     memory: Memory<'a>,
     made: Result<Utf16String<&'a Heap>, Utf16ConvertError<&'a Heap>>,
@@ -33,13 +44,7 @@ fn copied16<'a>(
     match made {
         Ok(string) => (string.into_vec(), Ok(true)),
         Err(Utf16ConvertError::OutOfMemory) => (units, Err(OutOfMemory)),
-        Err(Utf16ConvertError::Utf16(fault)) => {
-            let is_right = fault.index() == 1;
-            match fault.into_vec() {
-                Some(copy) => (copy, Ok(is_right)),
-                None => wrong(memory),
-            }
-        }
+        Err(Utf16ConvertError::Utf16(fault)) => handed_back(memory, fault),
     }
 }
 
@@ -77,13 +82,7 @@ fn copied32<'a>(
     match made {
         Ok(string) => (string.into_vec(), Ok(true)),
         Err(Utf32ConvertError::OutOfMemory) => (units, Err(OutOfMemory)),
-        Err(Utf32ConvertError::Utf32(fault)) => {
-            let is_right = fault.index() == 1;
-            match fault.into_vec() {
-                Some(copy) => (copy, Ok(is_right)),
-                None => wrong(memory),
-            }
-        }
+        Err(Utf32ConvertError::Utf32(fault)) => handed_back(memory, fault),
     }
 }
 

@@ -8,6 +8,7 @@ use std::alloc::{AllocError, Global};
 use std::cell::Cell;
 use widestring::error::OutOfMemory;
 use widestring::{U16String, Utf16String, Utf32String, encode_utf8, encode_utf16};
+use widestring_test_memory::Heap;
 use widestring_test_memory::gives::Gives;
 
 const TEXTS: [&str; 3] = ["ab", "é😀", "c"];
@@ -18,23 +19,39 @@ const UNITS: [u16; 7] = [0x78, 0x61, 0x62, 0xe9, 0xd83d, 0xde00, 0x63];
 // Where `x` ends, and where each text does.
 const ENDS: [usize; 4] = [1, 3, 6, 7];
 
+// How many of the ends lie within so many units.
+fn ends_within(len: usize) -> usize {
+    let mut count = 0usize;
+    for end in ENDS {
+        if end <= len {
+            count = count.saturating_add(1);
+        }
+    }
+    count
+}
+
+// `x` with this much room left over, which is granted.
+fn started(heap: &Heap, spare: usize) -> Result<Utf16String<&Heap>, OutOfMemory> {
+    heap.set(u64::MAX);
+    let mut string = Utf16String::with_capacity(heap, spare.saturating_add(1))?;
+    string.push('x')?;
+    Ok(string)
+}
+
 // Whether `x` with this much room left over and the texts, where so many requests are granted, is that and the first texts, each
 // whole: all of them exactly where no request is refused, and where none is granted those for which there is room.
 fn is_whole(memory: Memory<'_>, spare: usize, granted: u64) -> Result<bool, OutOfMemory> {
     let heap = memory.heap;
-    heap.set(u64::MAX);
-    let mut string = Utf16String::with_capacity(heap, spare.saturating_add(1))?;
-    string.push('x')?;
+    let mut string = started(heap, spare)?;
     heap.set(granted);
     let answer = string.extend_strs(TEXTS);
-    let Some(count) = ENDS.iter().position(|end| *end == string.len()) else {
-        return Ok(false);
-    };
-    let fits = ENDS.iter().filter(|end| **end <= spare.saturating_add(1));
+    let len = string.len();
+    let count = ends_within(len);
     let mut holds = UNITS.starts_with(string.as_slice());
+    holds &= ENDS.contains(&len);
     holds &= answer.is_ok() == (heap.refused() == 0);
-    holds &= answer.is_ok() == (count == 3);
-    holds &= granted > 0 || count.saturating_add(1) == fits.count();
+    holds &= answer.is_ok() == (count == ENDS.len());
+    holds &= granted > 0 || count == ends_within(spare.saturating_add(1));
     Ok(holds)
 }
 

@@ -26,6 +26,11 @@ fn made<'a, C: Width>(
     }
 }
 
+// No items.
+fn none<C: Width>(memory: Memory<'_>) -> Result<Text<'_, C>, Text<'_, C>> {
+    Err(UtfString::new(memory.heap))
+}
+
 // The error is what was made before the refusal, and nothing where there were no items.
 fn made_of_items<'a, C: Width>(
     items: Items,
@@ -33,29 +38,28 @@ fn made_of_items<'a, C: Width>(
     view: UtfStr<'_, C>,
 ) -> Result<Text<'a, C>, Text<'a, C>> {
     let heap = memory.heap;
-    let none = Err(UtfString::new(heap));
     match items {
         Items::Chars => UtfString::from_iter_chars(heap, ['a', SMILE]),
         Items::CharRefs => UtfString::from_iter_char_refs(heap, &['a', SMILE]),
         Items::Strs => UtfString::from_iter_strs(heap, ["a", "😀"]),
         Items::Strings => match strings(memory.alloc) {
-            Ok((a, smile)) => UtfString::from_iter_strings(heap, [a, smile]),
-            Err(OutOfMemory) => none,
+            Ok(pair) => UtfString::from_iter_strings(heap, pair),
+            Err(OutOfMemory) => none(memory),
         },
         Items::Utfstrs => UtfString::from_iter_utfstrs(heap, halves(view)),
         Items::Utfstrings => match utfstrings(memory.alloc) {
-            Ok((a, smile)) => UtfString::from_iter_utfstrings(heap, [a, smile]),
-            Err(OutOfMemory) => none,
+            Ok(pair) => UtfString::from_iter_utfstrings(heap, pair),
+            Err(OutOfMemory) => none(memory),
         },
         Items::Boxed => match boxed_utfstrs(memory.alloc) {
-            Ok((a, smile)) => UtfString::from_iter_boxed(heap, [a, smile]),
-            Err(OutOfMemory) => none,
+            Ok(pair) => UtfString::from_iter_boxed(heap, pair),
+            Err(OutOfMemory) => none(memory),
         },
         Items::Cows => match cow_utfstrs(memory.alloc, view) {
-            Ok((a, smile)) => UtfString::from_iter_cows(heap, [a, smile]),
-            Err(OutOfMemory) => none,
+            Ok(pair) => UtfString::from_iter_cows(heap, pair),
+            Err(OutOfMemory) => none(memory),
         },
-        _ => none,
+        _ => none(memory),
     }
 }
 
@@ -69,23 +73,23 @@ fn extend<C: Width>(
         Items::Chars => s.extend_chars(['a', SMILE]),
         Items::CharRefs => s.extend_char_refs(&['a', SMILE]),
         Items::Strs => s.extend_strs(["a", "😀"]),
-        Items::Strings => {
-            let (a, smile) = strings(alloc)?;
-            s.extend_strings([a, smile])
-        }
+        Items::Strings => match strings(alloc) {
+            Ok(pair) => s.extend_strings(pair),
+            Err(OutOfMemory) => Err(OutOfMemory),
+        },
         Items::Utfstrs => s.extend_utfstrs(halves(view)),
-        Items::Utfstrings => {
-            let (a, smile) = utfstrings(alloc)?;
-            s.extend_utfstrings([a, smile])
-        }
-        Items::Boxed => {
-            let (a, smile) = boxed_utfstrs(alloc)?;
-            s.extend_boxed([a, smile])
-        }
-        Items::Cows => {
-            let (a, smile) = cow_utfstrs(alloc, view)?;
-            s.extend_cows([a, smile])
-        }
+        Items::Utfstrings => match utfstrings(alloc) {
+            Ok(pair) => s.extend_utfstrings(pair),
+            Err(OutOfMemory) => Err(OutOfMemory),
+        },
+        Items::Boxed => match boxed_utfstrs(alloc) {
+            Ok(pair) => s.extend_boxed(pair),
+            Err(OutOfMemory) => Err(OutOfMemory),
+        },
+        Items::Cows => match cow_utfstrs(alloc, view) {
+            Ok(pair) => s.extend_cows(pair),
+            Err(OutOfMemory) => Err(OutOfMemory),
+        },
         _ => Err(OutOfMemory),
     }
 }

@@ -1,6 +1,7 @@
 //! Strings of any units.
 use crate::calls::{
-    Items, StringCall, boxed_ustrs, cow_ustrs, halves, strings, ucstrings, ustrings, utfstrings,
+    Items, StringCall, boxed_ustrs, cow_ustrs, halves, parts, strings, ucstrings, ustrings,
+    utfstrings,
 };
 use crate::driver::{Kind, Left, Memory, SMILE, TEXT, Width};
 use std::alloc::Global;
@@ -29,6 +30,11 @@ fn made<'a, C: Width>(
     }
 }
 
+// No items.
+fn none<C: Width>(memory: Memory<'_>) -> Result<Units<'_, C>, Units<'_, C>> {
+    Err(UString::new(memory.heap))
+}
+
 // The error is what was made before the refusal, and nothing where there were no items.
 fn made_of_units<'a, C: Width>(
     items: Items,
@@ -36,31 +42,27 @@ fn made_of_units<'a, C: Width>(
     other: &[C],
 ) -> Result<Units<'a, C>, Units<'a, C>> {
     let heap = memory.heap;
-    let none = Err(UString::new(heap));
     match items {
-        Items::Ustrs => {
-            let (a, smile) = UStr::from_slice(other).split_at(other.len().min(1));
-            UString::from_iter_ustrs(heap, [a, smile])
-        }
+        Items::Ustrs => UString::from_iter_ustrs(heap, parts(other)),
         Items::Ucstrs => match UCStr::from_slice(other) {
             Ok(view) => UString::from_iter_ucstrs(heap, [view, view]),
-            Err(_) => none,
+            Err(_) => none(memory),
         },
         Items::Ustrings => match ustrings(memory.alloc) {
-            Ok((a, smile)) => UString::from_iter_ustrings(heap, [a, smile]),
-            Err(OutOfMemory) => none,
+            Ok(pair) => UString::from_iter_ustrings(heap, pair),
+            Err(OutOfMemory) => none(memory),
         },
         Items::Ucstrings => match ucstrings(memory.alloc) {
-            Ok((a, smile)) => UString::from_iter_ucstrings(heap, [a, smile]),
-            Err(OutOfMemory) => none,
+            Ok(pair) => UString::from_iter_ucstrings(heap, pair),
+            Err(OutOfMemory) => none(memory),
         },
         Items::Boxed => match boxed_ustrs(memory.alloc) {
-            Ok((a, smile)) => UString::from_iter_boxed(heap, [a, smile]),
-            Err(OutOfMemory) => none,
+            Ok(pair) => UString::from_iter_boxed(heap, pair),
+            Err(OutOfMemory) => none(memory),
         },
         _ => match cow_ustrs(memory.alloc, other) {
-            Ok((a, smile)) => UString::from_iter_cows(heap, [a, smile]),
-            Err(OutOfMemory) => none,
+            Ok(pair) => UString::from_iter_cows(heap, pair),
+            Err(OutOfMemory) => none(memory),
         },
     }
 }
@@ -71,24 +73,54 @@ fn made_of_items<'a, C: Width>(
     other: &[C],
 ) -> Result<Units<'a, C>, Units<'a, C>> {
     let heap = memory.heap;
-    let none = Err(UString::new(heap));
     match items {
         Items::Chars => UString::from_iter_chars(heap, ['a', SMILE]),
         Items::CharRefs => UString::from_iter_char_refs(heap, &['a', SMILE]),
         Items::Strs => UString::from_iter_strs(heap, ["a", "😀"]),
         Items::Strings => match strings(memory.alloc) {
-            Ok((a, smile)) => UString::from_iter_strings(heap, [a, smile]),
-            Err(OutOfMemory) => none,
+            Ok(pair) => UString::from_iter_strings(heap, pair),
+            Err(OutOfMemory) => none(memory),
         },
         Items::Utfstrs => match UtfStr::from_slice(other) {
             Ok(text) => UString::from_iter_utfstrs(heap, halves(text)),
-            Err(_) => none,
+            Err(_) => none(memory),
         },
         Items::Utfstrings => match utfstrings(memory.alloc) {
-            Ok((a, smile)) => UString::from_iter_utfstrings(heap, [a, smile]),
-            Err(OutOfMemory) => none,
+            Ok(pair) => UString::from_iter_utfstrings(heap, pair),
+            Err(OutOfMemory) => none(memory),
         },
         _ => made_of_units(items, memory, other),
+    }
+}
+
+fn extend_by_units<C: Width>(
+    items: Items,
+    alloc: Global,
+    s: &mut Units<'_, C>,
+    other: &[C],
+) -> Result<(), OutOfMemory> {
+    match items {
+        Items::Ustrs => s.extend_ustrs(parts(other)),
+        Items::Ucstrs => match UCStr::from_slice(other) {
+            Ok(view) => s.extend_ucstrs([view, view]),
+            Err(_) => Err(OutOfMemory),
+        },
+        Items::Ustrings => match ustrings(alloc) {
+            Ok(pair) => s.extend_ustrings(pair),
+            Err(OutOfMemory) => Err(OutOfMemory),
+        },
+        Items::Ucstrings => match ucstrings(alloc) {
+            Ok(pair) => s.extend_ucstrings(pair),
+            Err(OutOfMemory) => Err(OutOfMemory),
+        },
+        Items::Boxed => match boxed_ustrs(alloc) {
+            Ok(pair) => s.extend_boxed(pair),
+            Err(OutOfMemory) => Err(OutOfMemory),
+        },
+        _ => match cow_ustrs(alloc, other) {
+            Ok(pair) => s.extend_cows(pair),
+            Err(OutOfMemory) => Err(OutOfMemory),
+        },
     }
 }
 
@@ -102,46 +134,19 @@ fn extend<C: Width>(
         Items::Chars => s.extend_chars(['a', SMILE]),
         Items::CharRefs => s.extend_char_refs(&['a', SMILE]),
         Items::Strs => s.extend_strs(["a", "😀"]),
-        Items::Strings => {
-            let (a, smile) = strings(alloc)?;
-            s.extend_strings([a, smile])
-        }
-        Items::Utfstrs => {
-            let Ok(text) = UtfStr::from_slice(other) else {
-                return Err(OutOfMemory);
-            };
-            s.extend_utfstrs(halves(text))
-        }
-        Items::Utfstrings => {
-            let (a, smile) = utfstrings(alloc)?;
-            s.extend_utfstrings([a, smile])
-        }
-        Items::Ustrs => {
-            let (a, smile) = UStr::from_slice(other).split_at(other.len().min(1));
-            s.extend_ustrs([a, smile])
-        }
-        Items::Ustrings => {
-            let (a, smile) = ustrings(alloc)?;
-            s.extend_ustrings([a, smile])
-        }
-        Items::Ucstrs => {
-            let Ok(view) = UCStr::from_slice(other) else {
-                return Err(OutOfMemory);
-            };
-            s.extend_ucstrs([view, view])
-        }
-        Items::Ucstrings => {
-            let (a, smile) = ucstrings(alloc)?;
-            s.extend_ucstrings([a, smile])
-        }
-        Items::Boxed => {
-            let (a, smile) = boxed_ustrs(alloc)?;
-            s.extend_boxed([a, smile])
-        }
-        Items::Cows => {
-            let (a, smile) = cow_ustrs(alloc, other)?;
-            s.extend_cows([a, smile])
-        }
+        Items::Strings => match strings(alloc) {
+            Ok(pair) => s.extend_strings(pair),
+            Err(OutOfMemory) => Err(OutOfMemory),
+        },
+        Items::Utfstrs => match UtfStr::from_slice(other) {
+            Ok(text) => s.extend_utfstrs(halves(text)),
+            Err(_) => Err(OutOfMemory),
+        },
+        Items::Utfstrings => match utfstrings(alloc) {
+            Ok(pair) => s.extend_utfstrings(pair),
+            Err(OutOfMemory) => Err(OutOfMemory),
+        },
+        _ => extend_by_units(items, alloc, s, other),
     }
 }
 
