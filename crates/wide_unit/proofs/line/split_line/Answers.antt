@@ -1,3 +1,4 @@
+use Rattle.std.proofs.lemmas.Grind.{common_steps}
 use Rattle.std.proofs.Common.{◌≡◌, ◌-◌, [], length, map, take, arith, ap, subst, sym, ◌∙◌, length-append, eqb}
 use Rattle.std.proofs.lemmas.Bool.{eqb-true, false≢true}
 use Rattle.std.proofs.lemmas.List.{take_all, nil_from_length}
@@ -44,3 +45,30 @@ returns-clause-first g c =
           let same = same_last (take place xs) front x w.last-item.result e (last_rest (take place xs) w.last-item.result w.in-len1-up.len_at_least w.last-item.is) in
           w.if-code-eq13.false (w.code.ensures ∙ ap number (sym same) ∙ return)
     ]))
+
+pub returns-in_default-clause-line : goal.returns-in_default-clause-line
+returns-in_default-clause-line g c = grind (arith, common_steps)
+
+pub returns-in_default-clause-rest : goal.returns-in_default-clause-rest
+returns-in_default-clause-rest g c = grind (arith, common_steps)
+
+pub returns-in_default-clause-shorter : goal.returns-in_default-clause-shorter
+returns-in_default-clause-shorter g c = grind (arith, common_steps)
+
+pub returns-then-code-eq13-clause-line : goal.returns-then-code-eq13-clause-line
+returns-then-code-eq13-clause-line g c = grind (arith, common_steps)
+
+pub returns-then-code-eq13-clause-rest : goal.returns-then-code-eq13-clause-rest
+returns-then-code-eq13-clause-rest g c = grind (arith, common_steps)
+
+pub returns-then-code-eq13-clause-shorter : goal.returns-then-code-eq13-clause-shorter
+returns-then-code-eq13-clause-shorter g c = grind (arith, common_steps)
+
+pub returns-clause-line : goal.returns-clause-line
+returns-clause-line g c = grind (arith, common_steps)
+
+pub returns-clause-rest : goal.returns-clause-rest
+returns-clause-rest g c = grind (arith, common_steps)
+
+pub returns-clause-shorter : goal.returns-clause-shorter
+returns-clause-shorter g c = grind (arith, common_steps)

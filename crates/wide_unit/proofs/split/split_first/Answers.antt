@@ -1,3 +1,4 @@
+use Rattle.std.proofs.lemmas.Grind.{common_steps}
 use Rattle.std.proofs.lemmas.List.{nil_from_length}
 use Rattle.std.proofs.Common.{◌∷◌, ◌-◌, length, take, drop, arith, ap, ◌∙◌}
 use Rattle.wide_unit.specs.EncodingForm.{IsFault, IsPair}
@@ -36,3 +37,30 @@ returns-after-rest-lt1-clause-some g c =
 
 pub returns-in-empty-clause-no_items : goal.returns-in-empty-clause-no_items
 returns-in-empty-clause-no_items g c = first_of_nil g.C.Unit.form g.C.Unit.number c.args.units.now (nil_from_length c.args.units.now (omega arith))
+
+pub returns-in-Some-clause-rest : goal.returns-in-Some-clause-rest
+returns-in-Some-clause-rest g c = grind (arith, common_steps)
+
+pub returns-in-Some-clause-length : goal.returns-in-Some-clause-length
+returns-in-Some-clause-length g c = grind (arith, common_steps)
+
+pub returns-in-Some-clause-shorter : goal.returns-in-Some-clause-shorter
+returns-in-Some-clause-shorter g c = grind (arith, common_steps)
+
+pub returns-in-Some-pair_scalar-clause-rest : goal.returns-in-Some-pair_scalar-clause-rest
+returns-in-Some-pair_scalar-clause-rest g c = grind (arith, common_steps)
+
+pub returns-in-Some-pair_scalar-clause-length : goal.returns-in-Some-pair_scalar-clause-length
+returns-in-Some-pair_scalar-clause-length g c = grind (arith, common_steps)
+
+pub returns-in-Some-pair_scalar-clause-shorter : goal.returns-in-Some-pair_scalar-clause-shorter
+returns-in-Some-pair_scalar-clause-shorter g c = grind (arith, common_steps)
+
+pub returns-after-rest-lt1-clause-rest : goal.returns-after-rest-lt1-clause-rest
+returns-after-rest-lt1-clause-rest g c = grind (arith, common_steps)
+
+pub returns-after-rest-lt1-clause-length : goal.returns-after-rest-lt1-clause-length
+returns-after-rest-lt1-clause-length g c = grind (arith, common_steps)
+
+pub returns-after-rest-lt1-clause-shorter : goal.returns-after-rest-lt1-clause-shorter
+returns-after-rest-lt1-clause-shorter g c = grind (arith, common_steps)
