@@ -28,6 +28,10 @@ module _ {X Y : Type 0} (f : X → Y) (old written : List X) (ys : List Y) (from
   behind : drop from (map f written) ≡ drop to (map f old) ++ ys
   behind = ap (drop from) split ∙ drop_at (take from (map f old)) (drop to (map f old) ++ ys) from front-long
 
+  pub behind-within : length old - to ≤ length written - from
+  behind-within =
+      omega (arith, ap length behind, length-append (drop to (map f old)) ys, length-drop to (map f old), length-drop from (map f written), length-map old f, length-map written f)
+
   pub map-turned : (count : ℕ) → count ≡ length old - to → map f (take from written ++ (drop count (drop from written) ++ take count (drop from written))) ≡ splice (map f old) from to ys
   map-turned count e =
       let long : length (drop to (map f old)) ≡ count = omega (arith, length-drop to (map f old), length-map old f, e) in

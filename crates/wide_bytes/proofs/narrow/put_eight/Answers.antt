@@ -1,4 +1,5 @@
 use Rattle.std.proofs.Common.{get_or, take, arith}
+use Rattle.std.proofs.lemmas.Grind.{common_steps}
 use Rattle.wide_bytes.specs.Narrow.{IsPair}
 use Rattle.wide_bytes.proofs.Shuffles.{eight-encoded, four-encoded, retold, same-two}
 use Rattle.wide_bytes.proofs.narrow.put_eight.Goals as goal
@@ -20,3 +21,6 @@ returns-clause-text c =
     let first = c.put_four-half.ensures.text _ _ _ _ c.bits_below-ascii.ensures.low in
     let second = c.put_four.ensures.text _ _ _ _ c.bits_below-ascii.ensures.high in
     eight-encoded us c.requires.whole (retold first front) (retold second back)
+
+pub put_four-requires-clause-below : goal.put_four-requires-clause-below
+put_four-requires-clause-below c = grind (arith, common_steps)

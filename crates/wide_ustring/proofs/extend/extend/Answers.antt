@@ -1,4 +1,5 @@
 use Rattle.std.proofs.Common.{rules, arith, ap, ◌∙◌, length}
+use Rattle.std.proofs.lemmas.Grind.{common_steps}
 use Rattle.wide_ustring.proofs.Extends.{Yields-one_more, Adds-at_err}
 use Rattle.wide_ustring.proofs.extend.extend.Goals as goal
 
@@ -14,3 +15,6 @@ returns-in_err-push_to-clause-added g c =
       units = ap (λ s. (g.S.Growing.seen s).units) c.in_err-push_to.ensures.err ∙ c.loop-piece.invariant.added;
       full = omega (arith, c.in_err-push_to.ensures.full, ap (λ s. (g.S.Growing.seen s).capacity) c.in_err-push_to.ensures.err, ap (λ s. length (g.S.Growing.seen s).units) c.in_err-push_to.ensures.err);
     })
+
+pub loop-piece-preserved : goal.loop-piece-preserved
+loop-piece-preserved g c = grind (arith, common_steps)

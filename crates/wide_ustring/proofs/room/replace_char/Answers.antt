@@ -1,4 +1,5 @@
-use Rattle.std.proofs.Common.{◌≡◌, ap, sym, ◌∙◌, length, rules}
+use Rattle.std.proofs.Common.{◌≡◌, ap, sym, ◌∙◌, length, rules, arith}
+use Rattle.std.proofs.lemmas.Grind.{common_steps}
 use Rattle.wide_ustring.proofs.Opened.{map-one_put, map-two_put}
 use Rattle.wide_ustring.proofs.room.replace_char.Goals as goal
 
@@ -17,3 +18,9 @@ returns-in_default-clause-ok g c =
     let units = rw c.in_default.is at c.encode_char-first.ensures in
     let one : c.char_len.result ≡ 1 = c.char_len.ensures.value ∙ ap length (sym units) in
     rw (← units) (map-one_put number c.args.units.now.items c.open.new.units.items c.args.from c.args.to c.encode_char-first.result.0 opened.front (rw one at opened.rest) (search rules))
+
+pub returns-in_err-open-clause-ok : goal.returns-in_err-open-clause-ok
+returns-in_err-open-clause-ok g c = grind (arith, common_steps)
+
+pub index_mut-requires-in-Some : goal.index_mut-requires-in-Some
+index_mut-requires-in-Some g c = grind (arith, common_steps)

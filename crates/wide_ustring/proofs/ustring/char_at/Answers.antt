@@ -1,4 +1,5 @@
-use Rattle.std.proofs.Common.{map, drop}
+use Rattle.std.proofs.Common.{map, drop, arith}
+use Rattle.std.proofs.lemmas.Grind.{common_steps}
 use Rattle.std.proofs.lemmas.List.{take_rest}
 use Rattle.wide_unit.specs.Laws.WellFormed.{no_first_fault}
 use Rattle.wide_ustring.proofs.CharAt.{char-units, char-rest}
@@ -27,3 +28,6 @@ returns-clause-rest g c =
     let behind = c.in-Some.rest.now in
     let ensured = rw (c.in-Ok.is, take_rest c.args.units.now c.args.at) at c.in-Some.ensures in
     char-rest form number c.args.units.now behind c.args.at c.in-Ok.c c.requires.below ensured.some ensured.rest ensured.length c.requires.well_formed
+
+pub returns-clause-first : goal.returns-clause-first
+returns-clause-first g c = grind (arith, common_steps)

@@ -1,0 +1,13 @@
+use Rattle.std.proofs.Common.{arith}
+use Rattle.std.proofs.lemmas.Grind.{common_steps}
+use Rattle.wide_ustring.proofs.Parts.{part_first}
+use Rattle.wide_ustring.proofs.iter.DrainIterator.next.Goals as goal
+
+pub returns-then-at-self-clause-steps : goal.returns-then-at-self-clause-steps
+returns-then-at-self-clause-steps g c = grind (arith, common_steps)
+
+pub returns-clause-goes : goal.returns-clause-goes
+returns-clause-goes g c = grind (arith, common_steps)
+
+pub returns-clause-steps : goal.returns-clause-steps
+returns-clause-steps g c = grind (arith, part_first)
