@@ -191,8 +191,9 @@ impl Answer {
         }
     }
 
-    /// The whole answer.
-    pub fn finish(self) -> Result<String, NoAnswer> {
+    /// The whole answer, where the asking ended well.
+    pub fn finish(self, asked: Result<(), NoAnswer>) -> Result<String, NoAnswer> {
+        asked?;
         if self.is_refused {
             return Err(NoAnswer::OutOfMemory);
         }

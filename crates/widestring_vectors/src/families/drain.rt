@@ -1,7 +1,7 @@
 //! What a drain of a string answers to each call, what it still shows then, and the units that are left of the string once it
 //! is dropped, in three parts. A question is a range, a colon and a word of calls; a `-` is the answer where the range is none
 //! of the string's.
-use crate::families::ustring::{outside, string};
+use crate::families::ustring::string;
 use crate::parse::{self, FromHex, NoAnswer};
 use crate::show::Answer;
 use std::alloc::Global;
@@ -11,38 +11,40 @@ use widestring::iter::End;
 use widestring::unit::range_check;
 use widestring::ustring::UString;
 
-// What a drain of a range gives and leaves.
+// Adds what a drain of a range gives, and still shows then.
 fn drained<C: FaultUnit>(
-    alloc: Global,
-    mut string: UString<C>,
+    answer: &mut Answer,
+    string: &mut UString<C>,
     range: (Bound<usize>, Bound<usize>),
     calls: &[End],
-) -> Result<String, NoAnswer> {
+) -> bool {
     if range_check(range, string.len()).is_none() {
-        return outside(alloc);
+        answer.number(None);
+        return false;
     }
-    let mut answer = Answer::new(alloc);
-    {
-        let mut drain = string.drain(range);
-        for end in calls {
-            answer.unit(asked!(drain, end));
-        }
-        answer.part();
-        answer.units(drain.as_slice());
+    let mut drain = string.drain(range);
+    for end in calls {
+        answer.unit(asked!(drain, end));
     }
     answer.part();
-    answer.units(string.as_slice());
-    answer.finish()
+    answer.units(drain.as_slice());
+    true
 }
 
-/// What a drain of a string of units gives and leaves.
+/// Adds what a drain of a string of units gives and leaves.
 pub fn drain<C: FaultUnit + FromHex>(
     alloc: Global,
+    answer: &mut Answer,
     list: &str,
     question: &str,
-) -> Result<String, NoAnswer> {
+) -> Result<(), NoAnswer> {
     let (range, word) = parse::parts(question)?;
     let range = parse::range(range)?;
     let calls = parse::calls(alloc, word)?;
-    drained(alloc, string::<C>(alloc, list)?, range, &calls)
+    let mut string = string::<C>(alloc, list)?;
+    if drained(answer, &mut string, range, &calls) {
+        answer.part();
+        answer.units(string.as_slice());
+    }
+    Ok(())
 }

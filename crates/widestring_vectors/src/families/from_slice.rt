@@ -5,14 +5,22 @@ use crate::show::{Answer, ToldUnit};
 use std::alloc::Global;
 use widestring::utfstr::UtfStr;
 
-/// Whether units of either width are well formed.
-pub fn checked<C: ToldUnit>(alloc: Global, list: &str, question: &str) -> Result<String, NoAnswer> {
-    parse::no_question(question)?;
-    let units = parse::list::<C>(alloc, list)?;
-    let mut answer = Answer::new(alloc);
-    match UtfStr::from_slice(&units) {
+// Adds whether the units are well formed.
+fn check<C: ToldUnit>(answer: &mut Answer, units: &[C]) {
+    match UtfStr::from_slice(units) {
         Ok(_) => answer.word("ok"),
         Err(error) => answer.first_fault(&error),
     }
-    answer.finish()
+}
+
+/// Adds whether units of either width are well formed.
+pub fn checked<C: ToldUnit>(
+    alloc: Global,
+    answer: &mut Answer,
+    list: &str,
+    question: &str,
+) -> Result<(), NoAnswer> {
+    parse::no_question(question)?;
+    check(answer, &parse::list::<C>(alloc, list)?);
+    Ok(())
 }
