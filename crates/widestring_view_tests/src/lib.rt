@@ -1,12 +1,15 @@
 //! Tests of views.
 //!
-//! They have worked rows, and call each public function of a view of units, of a C string and of well-formed text.
+//! They have worked rows, among them the Unicode Standard's own examples, and call each public function of a view of units, of a C string
+//! and of well-formed text.
 #![tactic(auto)]
 
 #[cfg(test)]
 mod block_rows;
 #[cfg(test)]
 mod rows;
+#[cfg(test)]
+mod standard_rows;
 #[cfg(test)]
 mod ucstr_rows;
 #[cfg(test)]
