@@ -26,322 +26,289 @@ mod ucstring;
 mod ustring;
 mod utfstring;
 
-use crate::parse::{self, NoAnswer};
-use crate::show::{Answer, ToldUnit};
+use crate::parse::NoAnswer;
 use std::alloc::Global;
 use widestring::Policy;
-use widestring::iter::End;
 
-/// What is asked of a list of units by a word of calls, from both ends.
-#[derive(Clone, Copy)]
-enum Reader {
-    /// The items of a decoder.
-    Items,
-    /// The characters of a lossy decoder.
-    Lossy,
-    /// The bounds that a lossy decoder tells.
-    LossyHints,
-    /// The characters of a lossy decoder under a policy.
-    Under(Policy),
-}
-
-/// What is asked of a list of characters.
-#[derive(Clone, Copy)]
-enum Encoder {
+/// A family of cases, with a file of its own.
+#[derive(Clone, Copy, Debug, PartialEq, Eq)]
+pub enum Family {
+    /// The items of a decoder of UTF-16.
+    Items16,
+    /// The items of a decoder of UTF-32.
+    Items32,
+    /// The characters of a lossy decoder of UTF-16.
+    Lossy16,
+    /// The characters of a lossy decoder of UTF-32.
+    Lossy32,
+    /// The items of a view of 16-bit units, with their indices.
+    Offsets16,
+    /// The items of a view of 32-bit units, with their indices.
+    Offsets32,
+    /// Whether 16-bit units are well formed.
+    FromSlice16,
+    /// Whether 32-bit units are well formed.
+    FromSlice32,
     /// The bytes of an encoder to UTF-8.
-    Bytes,
+    Encode8,
     /// The units of an encoder to UTF-16.
-    Units,
-    /// What an encoder to UTF-32 answers to a word of calls.
-    Characters,
-    /// The bounds that an encoder to UTF-8 tells, to a word of calls that are all from the front.
-    ByteHints,
-    /// The bounds that an encoder to UTF-16 tells, in the same way.
-    UnitHints,
-}
-
-/// What is asked of a list of units of either width.
-#[derive(Clone, Copy)]
-enum Call {
-    /// The items of a view, with their indices.
-    Offsets,
-    /// Whether the units are well formed.
-    FromSlice,
-    /// Of a string of units: what `pop_char` answers until there is nothing left.
-    Pop,
-    /// The character that `remove_char` takes at a place.
-    Remove,
-    /// A character or a view put in at a place.
-    Insert,
-    /// A view put in the place of a range.
-    Replace,
-    /// What a drain of a range gives and leaves.
-    Drain,
-    /// The units that `retain` keeps.
-    Retain,
-    /// The two parts that `split_off` makes.
-    SplitOff,
-    /// The C strings that the constructors make.
-    CString,
-    /// Scripts of calls of strings of well-formed text.
-    Script,
-    /// Lossy text.
-    LossyText,
-}
-
-/// What a family asks.
-#[derive(Clone, Copy)]
-enum Asks {
-    /// A list of 16-bit units is read.
-    Read16(Reader),
-    /// A list of 32-bit units is read.
-    Read32(Reader),
+    Encode16,
+    /// The units of an encoder to UTF-32.
+    Encode32,
     /// The bounds that a decoder of UTF-16 tells.
     Hints16,
     /// The bounds that a decoder of UTF-32 tells.
     Hints32,
-    /// Characters are encoded.
-    Encode(Encoder),
-    /// A call over 16-bit units.
-    Call16(Call),
-    /// A call over 32-bit units.
-    Call32(Call),
+    /// The bounds that a lossy decoder of UTF-16 tells.
+    HintsLossy16,
+    /// The bounds that a lossy decoder of UTF-32 tells.
+    HintsLossy32,
+    /// The bounds that an encoder to UTF-8 tells.
+    HintsEncode8,
+    /// The bounds that an encoder to UTF-16 tells.
+    HintsEncode16,
+    /// Of strings of 16-bit units: what `pop_char` answers until there is nothing left.
+    Pop16,
+    /// Of strings of 32-bit units: what `pop_char` answers until there is nothing left.
+    Pop32,
+    /// Of strings of 16-bit units: the character that `remove_char` takes at a place.
+    Remove16,
+    /// Of strings of 32-bit units: the character that `remove_char` takes at a place.
+    Remove32,
+    /// Of strings of 16-bit units: a character or a view put in at a place.
+    Insert16,
+    /// Of strings of 32-bit units: a character or a view put in at a place.
+    Insert32,
+    /// Of strings of 16-bit units: a view put in the place of a range.
+    Replace16,
+    /// Of strings of 32-bit units: a view put in the place of a range.
+    Replace32,
+    /// Of strings of 16-bit units: what a drain of a range gives and leaves.
+    Drain16,
+    /// Of strings of 32-bit units: what a drain of a range gives and leaves.
+    Drain32,
+    /// Of strings of 16-bit units: the units that `retain` keeps.
+    Retain16,
+    /// Of strings of 32-bit units: the units that `retain` keeps.
+    Retain32,
+    /// Of strings of 16-bit units: the two parts that `split_off` makes.
+    SplitOff16,
+    /// Of strings of 32-bit units: the two parts that `split_off` makes.
+    SplitOff32,
+    /// The C strings of 16-bit units that the constructors make.
+    Ucstring16,
+    /// The C strings of 32-bit units that the constructors make.
+    Ucstring32,
+    /// Scripts of calls of strings of UTF-16.
+    Utfstring16,
+    /// Scripts of calls of strings of UTF-32.
+    Utfstring32,
     /// Lines, trims, printing, escapes, case and comparisons of 16-bit units.
     Texts16,
     /// The same of 32-bit units.
     Texts32,
+    /// Lossy text of 16-bit units.
+    LossyText16,
+    /// Lossy text of 32-bit units.
+    LossyText32,
     /// The text of 16-bit units, or its first fault.
     ToString16,
     /// The text of 32-bit units, or its first fault.
     ToString32,
+    /// The characters of a lossy decoder of UTF-16 with U+FFFD for each fault.
+    Each16,
+    /// The characters of a lossy decoder of UTF-16 with one U+FFFD for a row of faults.
+    Run16,
+    /// The characters of a lossy decoder of UTF-16 with nothing for a fault.
+    Skip16,
+    /// The characters of a lossy decoder of UTF-32 with U+FFFD for each fault.
+    Each32,
+    /// The characters of a lossy decoder of UTF-32 with one U+FFFD for a row of faults.
+    Run32,
+    /// The characters of a lossy decoder of UTF-32 with nothing for a fault.
+    Skip32,
     /// Lists of edits of strings of both widths.
     Edits,
     /// Runs of bytes between slow and failing devices.
     Transcode,
 }
 
-/// A family of cases, with a file of its own.
-#[derive(Clone, Copy)]
-pub struct Family {
-    /// The family's name, which is its file's without `.txt`.
-    pub name: &'static str,
-    /// The fault of the crate that the family's mended answers are named by, where it has one.
-    pub fault: Option<&'static str>,
-    asks: Asks,
-}
-
-// A family, and where it has one, the fault that its mended answers are named by.
-macro_rules! family {
-    ($name:expr, $asks:expr) => {
-        Family {
-            name: $name,
-            fault: None,
-            asks: $asks,
-        }
-    };
-    ($name:expr, $asks:expr, $fault:expr) => {
-        Family {
-            name: $name,
-            fault: Some($fault),
-            asks: $asks,
-        }
-    };
-}
-
-/// All families, in the order in which they are printed.
-pub static ALL: [Family; 49] = [
-    family!("items16", Asks::Read16(Reader::Items)),
-    family!("items32", Asks::Read32(Reader::Items)),
-    family!("lossy16", Asks::Read16(Reader::Lossy)),
-    family!("lossy32", Asks::Read32(Reader::Lossy)),
-    family!("offsets16", Asks::Call16(Call::Offsets)),
-    family!("offsets32", Asks::Call32(Call::Offsets)),
-    family!(
-        "from_slice16",
-        Asks::Call16(Call::FromSlice),
-        "utf16-error-index"
-    ),
-    family!("from_slice32", Asks::Call32(Call::FromSlice)),
-    family!("encode8", Asks::Encode(Encoder::Bytes)),
-    family!("encode16", Asks::Encode(Encoder::Units)),
-    family!("encode32", Asks::Encode(Encoder::Characters)),
-    family!("hints16", Asks::Hints16, "utf16-hint-held"),
-    family!("hints32", Asks::Hints32),
-    family!(
-        "hints_lossy16",
-        Asks::Read16(Reader::LossyHints),
-        "utf16-hint-held"
-    ),
-    family!("hints_lossy32", Asks::Read32(Reader::LossyHints)),
-    family!(
-        "hints_encode8",
-        Asks::Encode(Encoder::ByteHints),
-        "utf8-encoder-hint-held"
-    ),
-    family!(
-        "hints_encode16",
-        Asks::Encode(Encoder::UnitHints),
-        "utf16-encoder-hint-held"
-    ),
-    family!("pop16", Asks::Call16(Call::Pop)),
-    family!("pop32", Asks::Call32(Call::Pop)),
-    family!("remove16", Asks::Call16(Call::Remove)),
-    family!("remove32", Asks::Call32(Call::Remove)),
-    family!("insert16", Asks::Call16(Call::Insert), "insert-ustr-panics"),
-    family!("insert32", Asks::Call32(Call::Insert), "insert-ustr-panics"),
-    family!("replace16", Asks::Call16(Call::Replace)),
-    family!("replace32", Asks::Call32(Call::Replace)),
-    family!("drain16", Asks::Call16(Call::Drain)),
-    family!("drain32", Asks::Call32(Call::Drain)),
-    family!("retain16", Asks::Call16(Call::Retain)),
-    family!("retain32", Asks::Call32(Call::Retain)),
-    family!("split_off16", Asks::Call16(Call::SplitOff)),
-    family!("split_off32", Asks::Call32(Call::SplitOff)),
-    family!("ucstring16", Asks::Call16(Call::CString)),
-    family!("ucstring32", Asks::Call32(Call::CString)),
-    family!(
-        "utfstring16",
-        Asks::Call16(Call::Script),
-        "utf16-error-index"
-    ),
-    family!("utfstring32", Asks::Call32(Call::Script)),
-    family!("texts16", Asks::Texts16),
-    family!("texts32", Asks::Texts32),
-    family!(
-        "lossy_text16",
-        Asks::Call16(Call::LossyText),
-        "from-slice-lossy-inside-a-pair"
-    ),
-    family!("lossy_text32", Asks::Call32(Call::LossyText)),
-    family!("to_string16", Asks::ToString16, "utf16-error-index"),
-    family!("to_string32", Asks::ToString32),
-    family!("each16", Asks::Read16(Reader::Under(Policy::Each))),
-    family!("run16", Asks::Read16(Reader::Under(Policy::Run))),
-    family!("skip16", Asks::Read16(Reader::Under(Policy::Skip))),
-    family!("each32", Asks::Read32(Reader::Under(Policy::Each))),
-    family!("run32", Asks::Read32(Reader::Under(Policy::Run))),
-    family!("skip32", Asks::Read32(Reader::Under(Policy::Skip))),
-    family!("edits", Asks::Edits),
-    family!("transcode", Asks::Transcode),
-];
-
-// Adds what is read of 16-bit units.
-fn read16(
-    alloc: Global,
-    answer: &mut Answer,
-    reader: Reader,
-    units: &[u16],
-    calls: &[End],
-) -> Result<(), NoAnswer> {
-    match reader {
-        Reader::Items => return items::utf16(alloc, answer, units, calls),
-        Reader::Lossy => lossy::utf16(answer, units, calls),
-        Reader::LossyHints => hints::lossy_utf16(answer, units, calls),
-        Reader::Under(policy) => policies::utf16(answer, units, calls, policy),
-    }
-    Ok(())
-}
-
-// Adds what is read of 32-bit units.
-fn read32(
-    alloc: Global,
-    answer: &mut Answer,
-    reader: Reader,
-    units: &[u32],
-    calls: &[End],
-) -> Result<(), NoAnswer> {
-    match reader {
-        Reader::Items => return items::utf32(alloc, answer, units, calls),
-        Reader::Lossy => lossy::utf32(answer, units, calls),
-        Reader::LossyHints => hints::lossy_utf32(answer, units, calls),
-        Reader::Under(policy) => policies::utf32(answer, units, calls, policy),
-    }
-    Ok(())
-}
-
-// Adds what an encoder gives.
-fn encoded(
-    alloc: Global,
-    answer: &mut Answer,
-    encoder: Encoder,
-    chars: &[char],
-    question: &str,
-) -> Result<(), NoAnswer> {
-    match encoder {
-        Encoder::Bytes => {
-            parse::no_question(question)?;
-            encode::utf8(answer, chars);
-        }
-        Encoder::Units => {
-            parse::no_question(question)?;
-            encode::utf16(answer, chars);
-        }
-        Encoder::Characters => encode::utf32(answer, chars, &parse::calls(alloc, question)?),
-        Encoder::ByteHints => {
-            hints::of_utf8_encoder(answer, chars, parse::front_calls(question)?);
-        }
-        Encoder::UnitHints => {
-            hints::of_utf16_encoder(answer, chars, parse::front_calls(question)?);
-        }
-    }
-    Ok(())
-}
-
-// Adds what a call over units of either width answers.
-fn make_call<C: ToldUnit>(
-    alloc: Global,
-    answer: &mut Answer,
-    call: Call,
-    list: &str,
-    question: &str,
-) -> Result<(), NoAnswer> {
-    match call {
-        Call::Offsets => offsets::places::<C>(alloc, answer, list, question),
-        Call::FromSlice => from_slice::checked::<C>(alloc, answer, list, question),
-        Call::Pop => ustring::pop::<C>(alloc, answer, list, question),
-        Call::Remove => ustring::remove::<C>(alloc, answer, list, question),
-        Call::Insert => ustring::insert::<C>(alloc, answer, list, question),
-        Call::Replace => ustring::replace::<C>(alloc, answer, list, question),
-        Call::Drain => drain::drain::<C>(alloc, answer, list, question),
-        Call::Retain => ustring::retain::<C>(alloc, answer, list, question),
-        Call::SplitOff => ustring::split_off::<C>(alloc, answer, list, question),
-        Call::CString => ucstring::made::<C>(alloc, answer, list, question),
-        Call::Script => utfstring::script::<C>(alloc, answer, list, question),
-        Call::LossyText => conversions::lossy::<C>(alloc, answer, list, question),
-    }
-}
-
 impl Family {
-    /// Adds what the library answers to a question about a list, as the data writes it.
-    pub fn answer(
-        self,
-        alloc: Global,
-        answer: &mut Answer,
-        list: &str,
-        question: &str,
-    ) -> Result<(), NoAnswer> {
-        match self.asks {
-            Asks::Read16(reader) => {
-                let calls = parse::calls(alloc, question)?;
-                read16(alloc, answer, reader, &parse::list(alloc, list)?, &calls)
+    /// All families, in the order in which they are printed.
+    pub const ALL: [Family; 49] = [
+        Family::Items16,
+        Family::Items32,
+        Family::Lossy16,
+        Family::Lossy32,
+        Family::Offsets16,
+        Family::Offsets32,
+        Family::FromSlice16,
+        Family::FromSlice32,
+        Family::Encode8,
+        Family::Encode16,
+        Family::Encode32,
+        Family::Hints16,
+        Family::Hints32,
+        Family::HintsLossy16,
+        Family::HintsLossy32,
+        Family::HintsEncode8,
+        Family::HintsEncode16,
+        Family::Pop16,
+        Family::Pop32,
+        Family::Remove16,
+        Family::Remove32,
+        Family::Insert16,
+        Family::Insert32,
+        Family::Replace16,
+        Family::Replace32,
+        Family::Drain16,
+        Family::Drain32,
+        Family::Retain16,
+        Family::Retain32,
+        Family::SplitOff16,
+        Family::SplitOff32,
+        Family::Ucstring16,
+        Family::Ucstring32,
+        Family::Utfstring16,
+        Family::Utfstring32,
+        Family::Texts16,
+        Family::Texts32,
+        Family::LossyText16,
+        Family::LossyText32,
+        Family::ToString16,
+        Family::ToString32,
+        Family::Each16,
+        Family::Run16,
+        Family::Skip16,
+        Family::Each32,
+        Family::Run32,
+        Family::Skip32,
+        Family::Edits,
+        Family::Transcode,
+    ];
+
+    /// The family's name, which is its file's without `.txt`.
+    pub fn name(self) -> &'static str {
+        match self {
+            Family::Items16 => "items16",
+            Family::Items32 => "items32",
+            Family::Lossy16 => "lossy16",
+            Family::Lossy32 => "lossy32",
+            Family::Offsets16 => "offsets16",
+            Family::Offsets32 => "offsets32",
+            Family::FromSlice16 => "from_slice16",
+            Family::FromSlice32 => "from_slice32",
+            Family::Encode8 => "encode8",
+            Family::Encode16 => "encode16",
+            Family::Encode32 => "encode32",
+            Family::Hints16 => "hints16",
+            Family::Hints32 => "hints32",
+            Family::HintsLossy16 => "hints_lossy16",
+            Family::HintsLossy32 => "hints_lossy32",
+            Family::HintsEncode8 => "hints_encode8",
+            Family::HintsEncode16 => "hints_encode16",
+            Family::Pop16 => "pop16",
+            Family::Pop32 => "pop32",
+            Family::Remove16 => "remove16",
+            Family::Remove32 => "remove32",
+            Family::Insert16 => "insert16",
+            Family::Insert32 => "insert32",
+            Family::Replace16 => "replace16",
+            Family::Replace32 => "replace32",
+            Family::Drain16 => "drain16",
+            Family::Drain32 => "drain32",
+            Family::Retain16 => "retain16",
+            Family::Retain32 => "retain32",
+            Family::SplitOff16 => "split_off16",
+            Family::SplitOff32 => "split_off32",
+            Family::Ucstring16 => "ucstring16",
+            Family::Ucstring32 => "ucstring32",
+            Family::Utfstring16 => "utfstring16",
+            Family::Utfstring32 => "utfstring32",
+            Family::Texts16 => "texts16",
+            Family::Texts32 => "texts32",
+            Family::LossyText16 => "lossy_text16",
+            Family::LossyText32 => "lossy_text32",
+            Family::ToString16 => "to_string16",
+            Family::ToString32 => "to_string32",
+            Family::Each16 => "each16",
+            Family::Run16 => "run16",
+            Family::Skip16 => "skip16",
+            Family::Each32 => "each32",
+            Family::Run32 => "run32",
+            Family::Skip32 => "skip32",
+            Family::Edits => "edits",
+            Family::Transcode => "transcode",
+        }
+    }
+
+    /// The fault of the crate that the family's mended answers are named by, where it has one.
+    pub fn fault(self) -> Option<&'static str> {
+        match self {
+            Family::Hints16 | Family::HintsLossy16 => Some("utf16-hint-held"),
+            Family::FromSlice16 | Family::Utfstring16 | Family::ToString16 => {
+                Some("utf16-error-index")
             }
-            Asks::Read32(reader) => {
-                let calls = parse::calls(alloc, question)?;
-                read32(alloc, answer, reader, &parse::list(alloc, list)?, &calls)
-            }
-            Asks::Hints16 => hints::utf16(alloc, answer, list, question),
-            Asks::Hints32 => hints::utf32(alloc, answer, list, question),
-            Asks::Encode(encoder) => {
-                encoded(alloc, answer, encoder, &parse::list(alloc, list)?, question)
-            }
-            Asks::Call16(asked) => make_call::<u16>(alloc, answer, asked, list, question),
-            Asks::Call32(asked) => make_call::<u32>(alloc, answer, asked, list, question),
-            Asks::Texts16 => texts::utf16(alloc, answer, list, question),
-            Asks::Texts32 => texts::utf32(alloc, answer, list, question),
-            Asks::ToString16 => conversions::text16(alloc, answer, list, question),
-            Asks::ToString32 => conversions::text32(alloc, answer, list, question),
-            Asks::Edits => edits::replies(alloc, answer, list, question),
-            Asks::Transcode => devices::run(alloc, answer, list, question),
+            Family::LossyText16 => Some("from-slice-lossy-inside-a-pair"),
+            Family::HintsEncode8 => Some("utf8-encoder-hint-held"),
+            Family::HintsEncode16 => Some("utf16-encoder-hint-held"),
+            Family::Insert16 | Family::Insert32 => Some("insert-ustr-panics"),
+            _ => None,
+        }
+    }
+
+    /// What the library answers to a question about a list, as the data writes it.
+    pub fn answer(self, alloc: Global, list: &str, question: &str) -> Result<String, NoAnswer> {
+        match self {
+            Family::Items16 => items::utf16(alloc, list, question),
+            Family::Items32 => items::utf32(alloc, list, question),
+            Family::Lossy16 => lossy::utf16(alloc, list, question),
+            Family::Lossy32 => lossy::utf32(alloc, list, question),
+            Family::Offsets16 => offsets::places::<u16>(alloc, list, question),
+            Family::Offsets32 => offsets::places::<u32>(alloc, list, question),
+            Family::FromSlice16 => from_slice::checked::<u16>(alloc, list, question),
+            Family::FromSlice32 => from_slice::checked::<u32>(alloc, list, question),
+            Family::Encode8 => encode::utf8(alloc, list, question),
+            Family::Encode16 => encode::utf16(alloc, list, question),
+            Family::Encode32 => encode::utf32(alloc, list, question),
+            Family::Hints16 => hints::utf16(alloc, list, question),
+            Family::Hints32 => hints::utf32(alloc, list, question),
+            Family::HintsLossy16 => hints::lossy_utf16(alloc, list, question),
+            Family::HintsLossy32 => hints::lossy_utf32(alloc, list, question),
+            Family::HintsEncode8 => hints::of_utf8_encoder(alloc, list, question),
+            Family::HintsEncode16 => hints::of_utf16_encoder(alloc, list, question),
+            Family::Pop16 => ustring::pop::<u16>(alloc, list, question),
+            Family::Pop32 => ustring::pop::<u32>(alloc, list, question),
+            Family::Remove16 => ustring::remove::<u16>(alloc, list, question),
+            Family::Remove32 => ustring::remove::<u32>(alloc, list, question),
+            Family::Insert16 => ustring::insert::<u16>(alloc, list, question),
+            Family::Insert32 => ustring::insert::<u32>(alloc, list, question),
+            Family::Replace16 => ustring::replace::<u16>(alloc, list, question),
+            Family::Replace32 => ustring::replace::<u32>(alloc, list, question),
+            Family::Drain16 => drain::drain::<u16>(alloc, list, question),
+            Family::Drain32 => drain::drain::<u32>(alloc, list, question),
+            Family::Retain16 => ustring::retain::<u16>(alloc, list, question),
+            Family::Retain32 => ustring::retain::<u32>(alloc, list, question),
+            Family::SplitOff16 => ustring::split_off::<u16>(alloc, list, question),
+            Family::SplitOff32 => ustring::split_off::<u32>(alloc, list, question),
+            Family::Ucstring16 => ucstring::made::<u16>(alloc, list, question),
+            Family::Ucstring32 => ucstring::made::<u32>(alloc, list, question),
+            Family::Utfstring16 => utfstring::script::<u16>(alloc, list, question),
+            Family::Utfstring32 => utfstring::script::<u32>(alloc, list, question),
+            Family::Texts16 => texts::utf16(alloc, list, question),
+            Family::Texts32 => texts::utf32(alloc, list, question),
+            Family::LossyText16 => conversions::lossy::<u16>(alloc, list, question),
+            Family::LossyText32 => conversions::lossy::<u32>(alloc, list, question),
+            Family::ToString16 => conversions::text16(alloc, list, question),
+            Family::ToString32 => conversions::text32(alloc, list, question),
+            Family::Each16 => policies::utf16(alloc, list, question, Policy::Each),
+            Family::Run16 => policies::utf16(alloc, list, question, Policy::Run),
+            Family::Skip16 => policies::utf16(alloc, list, question, Policy::Skip),
+            Family::Each32 => policies::utf32(alloc, list, question, Policy::Each),
+            Family::Run32 => policies::utf32(alloc, list, question, Policy::Run),
+            Family::Skip32 => policies::utf32(alloc, list, question, Policy::Skip),
+            Family::Edits => edits::replies(alloc, list, question),
+            Family::Transcode => devices::run(alloc, list, question),
         }
     }
 }

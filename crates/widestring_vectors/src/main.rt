@@ -21,7 +21,7 @@ use std::{fs, io};
 
 // Replays a family, prints its line, and answers its first difference, where it has one.
 fn run_family(rt: &HostRuntime, family: Family) -> io::Result<Option<String>> {
-    let name = family.name;
+    let name = family.name();
     let path = format!(in rt.alloc(); "{name}.txt")?;
     let Ok(text) = fs::read_to_string(rt, path.as_str()) else {
         println!(rt; "{name}: not read")?;
@@ -38,7 +38,7 @@ fn run_family(rt: &HostRuntime, family: Family) -> io::Result<Option<String>> {
 // Replays all families, and answers whether none differs.
 fn run(rt: &HostRuntime) -> io::Result<bool> {
     let mut first = None;
-    for family in families::ALL {
+    for family in Family::ALL {
         let found = run_family(rt, family)?;
         first = first.or(found);
     }

@@ -5,7 +5,7 @@ use widestring::error::OutOfMemory;
 use widestring::iter::End;
 
 /// Why a question has no answer.
-#[derive(Clone, Copy)]
+#[derive(Clone, Copy, Debug, PartialEq, Eq)]
 pub enum NoAnswer {
     /// The list or the question can't be parsed.
     Unparsed,
@@ -67,26 +67,12 @@ impl FromHex for char {
     }
 }
 
-/// What a call made. Where it made nothing there is no answer, whatever else it tells.
-pub fn made<T, E: Drop>(given: Result<T, E>, reason: NoAnswer) -> Result<T, NoAnswer> {
-    match given {
-        Ok(value) => Ok(value),
-        Err(_) => Err(reason),
-    }
-}
-
 /// The value of a word.
 pub fn value<T: FromHex>(word: &str) -> Result<T, NoAnswer> {
     match T::from_hex(word) {
         Some(value) => Ok(value),
         None => Err(NoAnswer::Unparsed),
     }
-}
-
-// Adds the value of a word to values.
-fn add<T: FromHex + Drop>(values: &mut Vec<T>, word: &str) -> Result<(), NoAnswer> {
-    values.push(value(word)?)?;
-    Ok(())
 }
 
 /// The values of a list, with a space between two.
@@ -96,27 +82,21 @@ pub fn list<T: FromHex + Drop>(alloc: Global, text: &str) -> Result<Vec<T>, NoAn
         return Ok(values);
     }
     for word in text.split(' ') {
-        add(&mut values, word)?;
+        values.push(value(word)?)?;
     }
     Ok(values)
-}
-
-// Adds the call of a letter to calls.
-fn add_call(ends: &mut Vec<End>, letter: u8) -> Result<(), NoAnswer> {
-    let end = match letter {
-        b'F' => End::Front,
-        b'B' => End::Back,
-        _ => return Err(NoAnswer::Unparsed),
-    };
-    ends.push(end)?;
-    Ok(())
 }
 
 /// The calls of a word of the letters `F` and `B`.
 pub fn calls(alloc: Global, word: &str) -> Result<Vec<End>, NoAnswer> {
     let mut ends = Vec::new(alloc);
     for letter in word.bytes() {
-        add_call(&mut ends, letter)?;
+        let end = match letter {
+            b'F' => End::Front,
+            b'B' => End::Back,
+            _ => return Err(NoAnswer::Unparsed),
+        };
+        ends.push(end)?;
     }
     Ok(ends)
 }

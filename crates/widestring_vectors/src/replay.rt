@@ -1,7 +1,6 @@
 //! The replay of a family, and its tally.
 use crate::families::Family;
 use crate::parse::NoAnswer;
-use crate::show::Answer;
 use std::alloc::{AllocError, Global};
 use std::fmt;
 
@@ -84,11 +83,7 @@ impl Replay {
 
     // Replays a case.
     fn case(&mut self, alloc: Global, case: &Case) -> Result<(), AllocError> {
-        let mut answer = Answer::new(alloc);
-        let asked = self
-            .family
-            .answer(alloc, &mut answer, case.list, case.question);
-        match answer.finish(asked) {
+        match self.family.answer(alloc, case.list, case.question) {
             Ok(got) => self.compare(alloc, case, got.as_str()),
             Err(NoAnswer::Unparsed) => self.unparsed(alloc, case.list, case.question),
             Err(NoAnswer::OutOfMemory) => Err(AllocError),
@@ -104,7 +99,7 @@ impl Replay {
             self.agree = self.agree.saturating_add(1);
             return Ok(());
         };
-        if self.family.fault != Some(mended.fault) || mended.own == case.expected {
+        if self.family.fault() != Some(mended.fault) || mended.own == case.expected {
             return self.unparsed(alloc, case.list, mended.fault);
         }
         self.mended = self.mended.saturating_add(1);
@@ -115,7 +110,7 @@ impl Replay {
     fn different(&mut self, alloc: Global, case: &Case, got: &str) -> Result<(), AllocError> {
         self.differ = self.differ.saturating_add(1);
         if self.first.is_none() {
-            let name = self.family.name;
+            let name = self.family.name();
             let list = case.list;
             let question = case.question;
             let expected = case.expected;
@@ -130,7 +125,7 @@ impl Replay {
     fn unparsed(&mut self, alloc: Global, list: &str, text: &str) -> Result<(), AllocError> {
         self.differ = self.differ.saturating_add(1);
         if self.first.is_none() {
-            let name = self.family.name;
+            let name = self.family.name();
             self.first = Some(format!(in alloc; "{name} [{list}]: not parsed: {text}")?);
         }
         Ok(())
@@ -139,7 +134,7 @@ impl Replay {
 
 impl fmt::Display for Replay {
     fn fmt<W: fmt::Write>(&self, f: &mut fmt::Formatter<W>) -> fmt::Result {
-        let name = self.family.name;
+        let name = self.family.name();
         let agree = self.agree;
         let mended = self.mended;
         let differ = self.differ;

@@ -191,9 +191,8 @@ impl Answer {
         }
     }
 
-    /// The whole answer, where the asking ended well.
-    pub fn finish(self, asked: Result<(), NoAnswer>) -> Result<String, NoAnswer> {
-        asked?;
+    /// The whole answer.
+    pub fn finish(self) -> Result<String, NoAnswer> {
         if self.is_refused {
             return Err(NoAnswer::OutOfMemory);
         }

@@ -83,67 +83,30 @@ fn is_flagged(ending: Result<(), TranscodeError>, source: &Cut<'_>, sink: &Slow)
     }
 }
 
-// A call that carries bytes from a source to a sink.
-#[derive(Clone, Copy)]
-enum Call {
-    In(Mode),
-    With(Policy),
-}
-
-// The call of a word.
-fn parse_call(word: &str) -> Result<Call, NoAnswer> {
-    match word {
-        "s" => Ok(Call::In(Mode::Strict)),
-        "l" => Ok(Call::In(Mode::Lossy)),
-        "e" => Ok(Call::With(Policy::Each)),
-        "r" => Ok(Call::With(Policy::Run)),
-        "k" => Ok(Call::With(Policy::Skip)),
-        _ => Err(NoAnswer::Unparsed),
-    }
-}
-
-// Makes the call.
-fn carry<S: ByteSource, K: ByteSink>(
-    call: Call,
-    source: &mut S,
-    sink: &mut K,
-) -> Result<(), TranscodeError>
-    requires source_sound { S.has_failed source.old ≡ false }
-    requires source_open { S.has_ended source.old ≡ false }
-    requires sink_sound { K.has_failed sink.old ≡ false }
-{
-    match call {
-        Call::In(mode) => transcode(source, sink, mode),
-        Call::With(policy) => transcode_with(source, sink, policy),
-    }
-}
-
-// Adds what a run wrote, and how it ended, where the flags of the devices agree with that.
-fn ended(
-    answer: &mut Answer,
-    ending: Result<(), TranscodeError>,
-    source: &Cut<'_>,
-    sink: &Slow,
-) -> Result<(), NoAnswer> {
-    if !is_flagged(ending, source, sink) {
+/// What a run writes, and how it ends.
+pub fn run(alloc: Global, list: &str, question: &str) -> Result<String, NoAnswer> {
+    let bytes = parse::list::<u8>(alloc, list)?;
+    let (mode, devices) = parse::parts(question)?;
+    let (from, to) = parse::parts(devices)?;
+    let mut source = source(from, &bytes)?;
+    let mut sink = sink(alloc, to)?;
+    let ending = match mode {
+        "s" => transcode(&mut source, &mut sink, Mode::Strict),
+        "l" => transcode(&mut source, &mut sink, Mode::Lossy),
+        "e" => transcode_with(&mut source, &mut sink, Policy::Each),
+        "r" => transcode_with(&mut source, &mut sink, Policy::Run),
+        "k" => transcode_with(&mut source, &mut sink, Policy::Skip),
+        _ => return Err(NoAnswer::Unparsed),
+    };
+    let mut answer = Answer::new(alloc);
+    if !is_flagged(ending, &source, &sink) {
         answer.word("?");
-        return Ok(());
+        return answer.finish();
     }
     for byte in &sink.bytes {
         answer.number(Some(u32::from(*byte)));
     }
     answer.part();
-    show(answer, ending)
-}
-
-/// Adds what a run writes, and how it ends.
-pub fn run(alloc: Global, answer: &mut Answer, list: &str, question: &str) -> Result<(), NoAnswer> {
-    let (word, devices) = parse::parts(question)?;
-    let call = parse_call(word)?;
-    let (from, to) = parse::parts(devices)?;
-    let bytes = parse::list::<u8>(alloc, list)?;
-    let mut source = source(from, &bytes)?;
-    let mut sink = sink(alloc, to)?;
-    let ending = carry(call, &mut source, &mut sink);
-    ended(answer, ending, &source, &sink)
+    show(&mut answer, ending)?;
+    answer.finish()
 }

@@ -36,26 +36,21 @@ fn parts_of(kind: u8, more: &str) -> Result<(usize, usize, &str), NoAnswer> {
             Ok((0, 0, ""))
         }
         b't' | b'r' | b'o' => Ok((parse::value(more)?, 0, "")),
-        _ => {
-            let (first, rest) = place_of(more)?;
-            let (second, chars) = second_part_of(kind, rest)?;
-            Ok((first, second, chars))
-        }
+        _ => parts_behind_place(kind, more),
     }
 }
 
-// The place before a colon, and what is behind that.
-fn place_of(word: &str) -> Result<(usize, &str), NoAnswer> {
-    let (place, rest) = parse::parts(word)?;
-    Ok((parse::value(place)?, rest))
-}
-
-// The second place and the characters of an edit's word, behind the first place and a colon.
-fn second_part_of(kind: u8, rest: &str) -> Result<(usize, &str), NoAnswer> {
+// The same where a colon is behind the first place.
+fn parts_behind_place(kind: u8, more: &str) -> Result<(usize, usize, &str), NoAnswer> {
+    let (first, rest) = parse::parts(more)?;
+    let first = parse::value(first)?;
     match kind {
-        b'i' | b'j' => Ok((0, rest)),
-        b'd' => Ok((parse::value(rest)?, "")),
-        b'x' => place_of(rest),
+        b'i' | b'j' => Ok((first, 0, rest)),
+        b'd' => Ok((first, parse::value(rest)?, "")),
+        b'x' => {
+            let (second, chars) = parse::parts(rest)?;
+            Ok((first, parse::value(second)?, chars))
+        }
         _ => Err(NoAnswer::Unparsed),
     }
 }
@@ -89,68 +84,36 @@ impl Written {
         }
     }
 
-    // The edit, where it takes no character.
-    fn edit_without_char(&self) -> Edit<'_> {
+    fn edit(&self) -> Result<Edit<'_>, NoAnswer> {
         let place = self.first;
-        match self.kind {
+        Ok(match self.kind {
+            b'c' => Edit::Push(self.only_char()?),
             b's' => Edit::PushStr(self.text.as_str()),
             b'p' => Edit::Pop,
             b'l' => Edit::Clear,
             b'k' => Edit::Retain(self.chars.as_slice()),
             b't' => Edit::Truncate(place),
+            b'i' => Edit::Insert(place, self.only_char()?),
             b'j' => Edit::InsertStr(place, self.text.as_str()),
             b'r' => Edit::Remove(place),
             b'o' => Edit::SplitOff(place),
             b'd' => Edit::Drain(place, self.second),
             _ => Edit::Replace(place, self.second, self.text.as_str()),
-        }
-    }
-
-    fn edit(&self) -> Result<Edit<'_>, NoAnswer> {
-        match self.kind {
-            b'c' => Ok(Edit::Push(self.only_char()?)),
-            b'i' => Ok(Edit::Insert(self.first, self.only_char()?)),
-            _ => Ok(self.edit_without_char()),
-        }
+        })
     }
 }
 
-// Whether a text, of which all edits are made in one call, answers these replies.
-fn replies_so<T: TextEdit>(
+// Makes all edits in one call.
+fn ran<T: TextEdit>(
     alloc: Global,
     text: &mut T,
     edits: &[Edit<'_>],
-    replies: &[Reply],
-) -> Result<bool, NoAnswer> {
-    let mut given = Vec::new(alloc);
-    match run(alloc, text, edits, &mut given) {
-        Ok(()) => Ok(given.as_slice() == replies),
+) -> Result<Vec<Reply>, NoAnswer> {
+    let mut replies = Vec::new(alloc);
+    match run(alloc, text, edits, &mut replies) {
+        Ok(()) => Ok(replies),
         Err(_) => Err(NoAnswer::OutOfMemory),
     }
-}
-
-// Whether a string in UTF-16 answers these replies, and is left with these units.
-fn ends_so16(
-    alloc: Global,
-    text: &str,
-    edits: &[Edit<'_>],
-    replies: &[Reply],
-    units: &[u16],
-) -> Result<bool, NoAnswer> {
-    let mut string = Utf16String::from_str(alloc, text)?;
-    Ok(replies_so(alloc, &mut string, edits, replies)? && string.as_slice() == units)
-}
-
-// The same of a string in UTF-32.
-fn ends_so32(
-    alloc: Global,
-    text: &str,
-    edits: &[Edit<'_>],
-    replies: &[Reply],
-    units: &[u32],
-) -> Result<bool, NoAnswer> {
-    let mut string = Utf32String::from_str(alloc, text)?;
-    Ok(replies_so(alloc, &mut string, edits, replies)? && string.as_slice() == units)
 }
 
 // Makes them one by one of two texts. None where their replies differ.
@@ -171,8 +134,10 @@ fn ran_both<T: TextEdit, U: TextEdit>(
 }
 
 fn marked(alloc: Global, text: &str) -> Result<Marked16, NoAnswer> {
-    let string = Utf16String::from_str(alloc, text)?;
-    parse::made(Marked16::new(alloc, string), NoAnswer::OutOfMemory)
+    match Marked16::new(alloc, Utf16String::from_str(alloc, text)?) {
+        Ok(marked) => Ok(marked),
+        Err(_) => Err(NoAnswer::OutOfMemory),
+    }
 }
 
 fn show(answer: &mut Answer, reply: &Reply) {
@@ -191,10 +156,16 @@ fn show(answer: &mut Answer, reply: &Reply) {
     }
 }
 
-// Adds what all strings hold and answer.
-fn agreed(answer: &mut Answer, replies: &[Reply], marked: &Marked16, wide: &Utf32String) {
+// The answer where all strings hold and answer the same.
+fn agreed(
+    alloc: Global,
+    replies: &[Reply],
+    marked: &Marked16,
+    wide: &Utf32String,
+) -> Result<String, NoAnswer> {
+    let mut answer = Answer::new(alloc);
     for reply in replies {
-        show(answer, reply);
+        show(&mut answer, reply);
         answer.part();
     }
     answer.units(marked.as_utfstr().as_slice());
@@ -204,76 +175,38 @@ fn agreed(answer: &mut Answer, replies: &[Reply], marked: &Marked16, wide: &Utf3
     for mark in marked.marks() {
         answer.number(u32::try_from(*mark).ok());
     }
+    answer.finish()
 }
 
-// Makes the edits of a string with marks and of one in UTF-32, and adds what they answer and leave where strings of which all edits
-// are made in one call agree.
-fn made(
-    alloc: Global,
-    answer: &mut Answer,
-    text: &str,
-    edits: &[Edit<'_>],
-    marked: &mut Marked16,
-    wide: &mut Utf32String,
-) -> Result<(), NoAnswer> {
-    let Some(replies) = ran_both(alloc, marked, wide, edits)? else {
-        answer.word("?");
-        return Ok(());
-    };
-    let same16 = ends_so16(alloc, text, edits, &replies, marked.as_utfstr().as_slice())?;
-    let same32 = ends_so32(alloc, text, edits, &replies, wide.as_slice())?;
-    if same16 & same32 {
-        agreed(answer, &replies, marked, wide);
-    } else {
-        answer.word("?");
-    }
-    Ok(())
-}
-
-// The same of a text.
-fn made_of(
-    alloc: Global,
-    answer: &mut Answer,
-    text: &str,
-    edits: &[Edit<'_>],
-) -> Result<(), NoAnswer> {
+// What the edits make of a text.
+fn made(alloc: Global, text: &str, edits: &[Edit<'_>]) -> Result<String, NoAnswer> {
+    let mut narrow = Utf16String::from_str(alloc, text)?;
     let mut wide = Utf32String::from_str(alloc, text)?;
-    made(
-        alloc,
-        answer,
-        text,
-        edits,
-        &mut marked(alloc, text)?,
-        &mut wide,
-    )
+    let mut first = marked(alloc, text)?;
+    let mut second = Utf32String::from_str(alloc, text)?;
+    let replies = ran(alloc, &mut narrow, edits)?;
+    let mut same = ran(alloc, &mut wide, edits)? == replies;
+    same &= ran_both(alloc, &mut first, &mut second, edits)?.as_ref() == Some(&replies);
+    same &= first.as_utfstr().as_slice() == narrow.as_slice();
+    same &= second.as_slice() == wide.as_slice();
+    if !same {
+        let mut answer = Answer::new(alloc);
+        answer.word("?");
+        return answer.finish();
+    }
+    agreed(alloc, &replies, &first, &wide)
 }
 
-// The words of a question, parsed.
-fn parse_edits(alloc: Global, question: &str) -> Result<Vec<Written>, NoAnswer> {
+/// What edits answer, and what they leave.
+pub fn replies(alloc: Global, list: &str, question: &str) -> Result<String, NoAnswer> {
+    let text = text_of(alloc, &parse::list::<char>(alloc, list)?)?;
     let mut words = Vec::new(alloc);
     for word in question.split('/') {
         words.push(parse_edit(alloc, word)?)?;
     }
-    Ok(words)
-}
-
-// The edits that words are.
-fn edits_of<'a>(alloc: Global, words: &'a [Written]) -> Result<Vec<Edit<'a>>, NoAnswer> {
     let mut edits = Vec::new(alloc);
-    for word in words {
+    for word in &words {
         edits.push(word.edit()?)?;
     }
-    Ok(edits)
-}
-
-/// Adds what edits answer, and what they leave.
-pub fn replies(
-    alloc: Global,
-    answer: &mut Answer,
-    list: &str,
-    question: &str,
-) -> Result<(), NoAnswer> {
-    let text = text_of(alloc, &parse::list::<char>(alloc, list)?)?;
-    let words = parse_edits(alloc, question)?;
-    made_of(alloc, answer, &text, &edits_of(alloc, &words)?)
+    made(alloc, text.as_str(), &edits)
 }

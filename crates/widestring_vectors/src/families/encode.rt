@@ -1,25 +1,40 @@
-//! What an encoder gives: to UTF-8 and UTF-16 all that comes from the front, to UTF-32 what is answered to calls.
+//! What an encoder gives. To UTF-8 and UTF-16 a question is no text, and the answer has all that comes from the front;
+//! to UTF-32 it is a word of calls.
+use crate::parse::{self, NoAnswer};
 use crate::show::Answer;
+use std::alloc::Global;
 use widestring::iter::{End, encode_utf8, encode_utf16, encode_utf32};
 
-/// Adds all bytes of an encoder to UTF-8.
-pub fn utf8(answer: &mut Answer, chars: &[char]) {
+/// All bytes of an encoder to UTF-8.
+pub fn utf8(alloc: Global, list: &str, question: &str) -> Result<String, NoAnswer> {
+    parse::no_question(question)?;
+    let chars = parse::list::<char>(alloc, list)?;
+    let mut answer = Answer::new(alloc);
     for byte in encode_utf8(chars.iter().copied()) {
         answer.number(Some(u32::from(byte)));
     }
+    answer.finish()
 }
 
-/// Adds all units of an encoder to UTF-16.
-pub fn utf16(answer: &mut Answer, chars: &[char]) {
+/// All units of an encoder to UTF-16.
+pub fn utf16(alloc: Global, list: &str, question: &str) -> Result<String, NoAnswer> {
+    parse::no_question(question)?;
+    let chars = parse::list::<char>(alloc, list)?;
+    let mut answer = Answer::new(alloc);
     for unit in encode_utf16(chars.iter().copied()) {
         answer.number(Some(u32::from(unit)));
     }
+    answer.finish()
 }
 
-/// Adds what an encoder to UTF-32 answers to each call.
-pub fn utf32(answer: &mut Answer, chars: &[char], calls: &[End]) {
+/// What an encoder to UTF-32 answers to each call.
+pub fn utf32(alloc: Global, list: &str, word: &str) -> Result<String, NoAnswer> {
+    let calls = parse::calls(alloc, word)?;
+    let chars = parse::list::<char>(alloc, list)?;
     let mut encoder = encode_utf32(chars.iter().copied());
-    for end in calls {
+    let mut answer = Answer::new(alloc);
+    for end in &calls {
         answer.number(asked!(encoder, end));
     }
+    answer.finish()
 }

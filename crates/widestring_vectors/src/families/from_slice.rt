@@ -5,22 +5,14 @@ use crate::show::{Answer, ToldUnit};
 use std::alloc::Global;
 use widestring::utfstr::UtfStr;
 
-// Adds whether the units are well formed.
-fn check<C: ToldUnit>(answer: &mut Answer, units: &[C]) {
-    match UtfStr::from_slice(units) {
+/// Whether units of either width are well formed.
+pub fn checked<C: ToldUnit>(alloc: Global, list: &str, question: &str) -> Result<String, NoAnswer> {
+    parse::no_question(question)?;
+    let units = parse::list::<C>(alloc, list)?;
+    let mut answer = Answer::new(alloc);
+    match UtfStr::from_slice(&units) {
         Ok(_) => answer.word("ok"),
         Err(error) => answer.first_fault(&error),
     }
-}
-
-/// Adds whether units of either width are well formed.
-pub fn checked<C: ToldUnit>(
-    alloc: Global,
-    answer: &mut Answer,
-    list: &str,
-    question: &str,
-) -> Result<(), NoAnswer> {
-    parse::no_question(question)?;
-    check(answer, &parse::list::<C>(alloc, list)?);
-    Ok(())
+    answer.finish()
 }

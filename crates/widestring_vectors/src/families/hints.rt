@@ -10,43 +10,48 @@ use widestring::iter::{
     encode_utf16,
 };
 
-// Adds the bounds that an iterator tells, at first and after each call.
+// The bounds that an iterator tells, at first and after each call.
 macro_rules! bounds_of {
-    ($answer:expr, $iterator:expr, $calls:expr) => {{
+    ($alloc:expr, $iterator:expr, $calls:expr) => {{
         let mut iterator = $iterator;
-        $answer.bounds(iterator.size_hint());
+        let mut answer = Answer::new($alloc);
+        answer.bounds(iterator.size_hint());
         for call in $calls {
             let _ = asked!(iterator, call);
-            $answer.bounds(iterator.size_hint());
+            answer.bounds(iterator.size_hint());
         }
+        answer.finish()
     }};
 }
 
-fn of_slice(answer: &mut Answer, units: &[u16], calls: &[End]) {
-    bounds_of!(answer, decode_utf16(units.iter().copied()), calls)
+fn of_slice(alloc: Global, units: &[u16], calls: &[End]) -> Result<String, NoAnswer> {
+    bounds_of!(alloc, decode_utf16(units.iter().copied()), calls)
 }
 
-fn of_vec(answer: &mut Answer, units: Vec<u16>, calls: &[End]) {
-    bounds_of!(answer, decode_utf16(units), calls)
+fn of_vec(alloc: Global, units: Vec<u16>, calls: &[End]) -> Result<String, NoAnswer> {
+    bounds_of!(alloc, decode_utf16(units), calls)
 }
 
-fn of_array<const N: usize>(answer: &mut Answer, units: [u16; N], calls: &[End])
+fn of_array<const N: usize>(
+    alloc: Global,
+    units: [u16; N],
+    calls: &[End],
+) -> Result<String, NoAnswer>
     requires { N ≤ 4 }
 {
-    bounds_of!(answer, decode_utf16(units), calls)
+    bounds_of!(alloc, decode_utf16(units), calls)
 }
 
 // Over an array, which the data has up to four units.
-fn of_units(answer: &mut Answer, units: &[u16], calls: &[End]) -> Result<(), NoAnswer> {
+fn of_units(alloc: Global, units: &[u16], calls: &[End]) -> Result<String, NoAnswer> {
     match units {
-        [] => of_array(answer, [], calls),
-        [a] => of_array(answer, [*a], calls),
-        [a, b] => of_array(answer, [*a, *b], calls),
-        [a, b, c] => of_array(answer, [*a, *b, *c], calls),
-        [a, b, c, d] => of_array(answer, [*a, *b, *c, *d], calls),
-        _ => return Err(NoAnswer::Unparsed),
+        [] => of_array(alloc, [], calls),
+        [a] => of_array(alloc, [*a], calls),
+        [a, b] => of_array(alloc, [*a, *b], calls),
+        [a, b, c] => of_array(alloc, [*a, *b, *c], calls),
+        [a, b, c, d] => of_array(alloc, [*a, *b, *c, *d], calls),
+        _ => Err(NoAnswer::Unparsed),
     }
-    Ok(())
 }
 
 // Units of which nothing is told but an upper bound of their number, where there is one.
@@ -81,84 +86,100 @@ impl DoubleEndedIterator for Vague<'_> {
     }
 }
 
-fn of_vague(answer: &mut Answer, units: &[u16], bounded: bool, calls: &[End]) {
-    bounds_of!(answer, decode_utf16(Vague { units, bounded }), calls)
+fn of_vague(alloc: Global, source: Vague, calls: &[End]) -> Result<String, NoAnswer> {
+    bounds_of!(alloc, decode_utf16(source), calls)
 }
 
-// Of a source that does not own the units.
-fn of_borrowed(
-    answer: &mut Answer,
-    source: u8,
-    units: &[u16],
-    calls: &[End],
-) -> Result<(), NoAnswer> {
-    match source {
-        b's' => of_slice(answer, units, calls),
-        b'a' => of_units(answer, units, calls)?,
-        b'm' => of_vague(answer, units, true, calls),
-        b'n' => of_vague(answer, units, false, calls),
-        _ => return Err(NoAnswer::Unparsed),
-    }
-    Ok(())
-}
-
-/// Adds the bounds that a decoder of UTF-16 tells. A question is a letter of the source, and then a word of calls: `s` for the
+/// The bounds that a decoder of UTF-16 tells. A question is a letter of the source, and then a word of calls: `s` for the
 /// copied units of a slice, `a` for an array, `v` for a vector, `m` for units of which the source says that they are at
 /// most as many as can be counted, and `n` for units of which it says nothing.
-pub fn utf16(
-    alloc: Global,
-    answer: &mut Answer,
-    list: &str,
-    question: &str,
-) -> Result<(), NoAnswer> {
+pub fn utf16(alloc: Global, list: &str, question: &str) -> Result<String, NoAnswer> {
     let (source, word) = parse::kind(question)?;
     let calls = parse::calls(alloc, word)?;
-    if source == b'v' {
-        of_vec(answer, parse::list::<u16>(alloc, list)?, &calls);
-        return Ok(());
+    let units = parse::list::<u16>(alloc, list)?;
+    let bounded = source == b'm';
+    match source {
+        b's' => of_slice(alloc, &units, &calls),
+        b'a' => of_units(alloc, &units, &calls),
+        b'v' => of_vec(alloc, units, &calls),
+        b'm' | b'n' => of_vague(
+            alloc,
+            Vague {
+                units: &units,
+                bounded,
+            },
+            &calls,
+        ),
+        _ => Err(NoAnswer::Unparsed),
     }
-    of_borrowed(answer, source, &parse::list::<u16>(alloc, list)?, &calls)
 }
 
-fn of_slice32(answer: &mut Answer, units: &[u32], calls: &[End]) {
-    bounds_of!(answer, decode_utf32(units.iter().copied()), calls)
+fn of_slice32(alloc: Global, units: &[u32], calls: &[End]) -> Result<String, NoAnswer> {
+    bounds_of!(alloc, decode_utf32(units.iter().copied()), calls)
 }
 
-/// Adds the bounds that a decoder of UTF-32 tells over the copied units of a slice. A question is a word of calls.
-pub fn utf32(alloc: Global, answer: &mut Answer, list: &str, word: &str) -> Result<(), NoAnswer> {
+/// The bounds that a decoder of UTF-32 tells over the copied units of a slice. A question is a word of calls.
+pub fn utf32(alloc: Global, list: &str, word: &str) -> Result<String, NoAnswer> {
+    let units = parse::list::<u32>(alloc, list)?;
     let calls = parse::calls(alloc, word)?;
-    of_slice32(answer, &parse::list::<u32>(alloc, list)?, &calls);
-    Ok(())
+    of_slice32(alloc, &units, &calls)
 }
 
-/// Adds the bounds that a lossy decoder of UTF-16 tells, in the same way.
-pub fn lossy_utf16(answer: &mut Answer, units: &[u16], calls: &[End]) {
-    bounds_of!(answer, decode_utf16_lossy(units.iter().copied()), calls)
+fn of_lossy16(alloc: Global, units: &[u16], calls: &[End]) -> Result<String, NoAnswer> {
+    bounds_of!(alloc, decode_utf16_lossy(units.iter().copied()), calls)
 }
 
-/// Adds the bounds that a lossy decoder of UTF-32 tells, in the same way.
-pub fn lossy_utf32(answer: &mut Answer, units: &[u32], calls: &[End]) {
-    bounds_of!(answer, decode_utf32_lossy(units.iter().copied()), calls)
+/// The bounds that a lossy decoder of UTF-16 tells, in the same way.
+pub fn lossy_utf16(alloc: Global, list: &str, word: &str) -> Result<String, NoAnswer> {
+    let units = parse::list::<u16>(alloc, list)?;
+    let calls = parse::calls(alloc, word)?;
+    of_lossy16(alloc, &units, &calls)
 }
 
-// Adds the bounds that an encoder tells, at first and after each call from the front.
+fn of_lossy32(alloc: Global, units: &[u32], calls: &[End]) -> Result<String, NoAnswer> {
+    bounds_of!(alloc, decode_utf32_lossy(units.iter().copied()), calls)
+}
+
+/// The bounds that a lossy decoder of UTF-32 tells, in the same way.
+pub fn lossy_utf32(alloc: Global, list: &str, word: &str) -> Result<String, NoAnswer> {
+    let units = parse::list::<u32>(alloc, list)?;
+    let calls = parse::calls(alloc, word)?;
+    of_lossy32(alloc, &units, &calls)
+}
+
+// The bounds that an encoder tells, at first and after each call from the front.
 macro_rules! front_bounds_of {
-    ($answer:expr, $iterator:expr, $calls:expr) => {{
+    ($alloc:expr, $iterator:expr, $calls:expr) => {{
         let mut iterator = $iterator;
-        $answer.bounds(iterator.size_hint());
+        let mut answer = Answer::new($alloc);
+        answer.bounds(iterator.size_hint());
         for _call in 0..$calls {
             let _ = iterator.next();
-            $answer.bounds(iterator.size_hint());
+            answer.bounds(iterator.size_hint());
         }
+        answer.finish()
     }};
 }
 
-/// Adds the bounds that an encoder to UTF-8 tells over the copied characters of a slice, to calls from the front.
-pub fn of_utf8_encoder(answer: &mut Answer, chars: &[char], calls: usize) {
-    front_bounds_of!(answer, encode_utf8(chars.iter().copied()), calls)
+fn of_encoded8(alloc: Global, chars: &[char], calls: usize) -> Result<String, NoAnswer> {
+    front_bounds_of!(alloc, encode_utf8(chars.iter().copied()), calls)
 }
 
-/// Adds the bounds that an encoder to UTF-16 tells, in the same way.
-pub fn of_utf16_encoder(answer: &mut Answer, chars: &[char], calls: usize) {
-    front_bounds_of!(answer, encode_utf16(chars.iter().copied()), calls)
+/// The bounds that an encoder to UTF-8 tells over the copied characters of a slice. A question is a word of calls, all from
+/// the front.
+pub fn of_utf8_encoder(alloc: Global, list: &str, word: &str) -> Result<String, NoAnswer> {
+    let calls = parse::front_calls(word)?;
+    let chars = parse::list::<char>(alloc, list)?;
+    of_encoded8(alloc, &chars, calls)
+}
+
+fn of_encoded16(alloc: Global, chars: &[char], calls: usize) -> Result<String, NoAnswer> {
+    front_bounds_of!(alloc, encode_utf16(chars.iter().copied()), calls)
+}
+
+/// The bounds that an encoder to UTF-16 tells, in the same way.
+pub fn of_utf16_encoder(alloc: Global, list: &str, word: &str) -> Result<String, NoAnswer> {
+    let calls = parse::front_calls(word)?;
+    let chars = parse::list::<char>(alloc, list)?;
+    of_encoded16(alloc, &chars, calls)
 }

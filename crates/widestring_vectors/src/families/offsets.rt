@@ -6,18 +6,29 @@ use std::alloc::Global;
 use widestring::iter::End;
 use widestring::ustr::UStr;
 
-// Adds the places of items.
-fn of_items<C: ToldUnit>(answer: &mut Answer, view: UStr<'_, C>, calls: &[End]) {
+// The places of items.
+fn of_items<C: ToldUnit>(
+    alloc: Global,
+    view: UStr<'_, C>,
+    calls: &[End],
+) -> Result<String, NoAnswer> {
     let mut places = view.char_indices();
+    let mut answer = Answer::new(alloc);
     for end in calls {
         let place = asked!(places, end);
         answer.place::<C>(place, places.offset());
     }
+    answer.finish()
 }
 
-// Adds the places of lossy items.
-fn of_characters<C: ToldUnit>(answer: &mut Answer, view: UStr<'_, C>, calls: &[End]) {
+// The places of lossy items.
+fn of_characters<C: ToldUnit>(
+    alloc: Global,
+    view: UStr<'_, C>,
+    calls: &[End],
+) -> Result<String, NoAnswer> {
     let mut places = view.char_indices_lossy();
+    let mut answer = Answer::new(alloc);
     for end in calls {
         let place = match asked!(places, end) {
             None => None,
@@ -25,32 +36,18 @@ fn of_characters<C: ToldUnit>(answer: &mut Answer, view: UStr<'_, C>, calls: &[E
         };
         answer.place::<C>(place, places.offset());
     }
+    answer.finish()
 }
 
-// Adds the places of either.
-fn of_units<C: ToldUnit>(
-    answer: &mut Answer,
-    kind: u8,
-    units: &[C],
-    calls: &[End],
-) -> Result<(), NoAnswer> {
-    let view = UStr::from_slice(units);
-    match kind {
-        b'c' => of_items(answer, view, calls),
-        b'l' => of_characters(answer, view, calls),
-        _ => return Err(NoAnswer::Unparsed),
-    }
-    Ok(())
-}
-
-/// Adds the places of the items of units of either width.
-pub fn places<C: ToldUnit>(
-    alloc: Global,
-    answer: &mut Answer,
-    list: &str,
-    question: &str,
-) -> Result<(), NoAnswer> {
+/// The places of the items of units of either width.
+pub fn places<C: ToldUnit>(alloc: Global, list: &str, question: &str) -> Result<String, NoAnswer> {
     let (kind, word) = parse::kind(question)?;
     let calls = parse::calls(alloc, word)?;
-    of_units(answer, kind, &parse::list::<C>(alloc, list)?, &calls)
+    let units = parse::list::<C>(alloc, list)?;
+    let view = UStr::from_slice(&units);
+    match kind {
+        b'c' => of_items(alloc, view, &calls),
+        b'l' => of_characters(alloc, view, &calls),
+        _ => Err(NoAnswer::Unparsed),
+    }
 }

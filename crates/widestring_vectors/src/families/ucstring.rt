@@ -24,129 +24,83 @@ pub fn text_of<C: FaultUnit>(alloc: Global, units: &[C]) -> Result<String, NoAns
     Ok(text)
 }
 
-// Adds what is answered about a view of all units.
-fn view<C: FaultUnit>(answer: &mut Answer, units: &[C]) {
+// What is answered about a view of all units.
+fn view<C: FaultUnit>(alloc: Global, units: &[C]) -> Result<String, NoAnswer> {
+    let mut answer = Answer::new(alloc);
     match UCStr::from_slice(units) {
         Ok(view) => answer.units(view.as_slice()),
         Err(NulError::MissingNulTerminator(_)) => answer.number(None),
         Err(NulError::ContainsNul(error)) => answer.inner_nul(error),
     }
+    answer.finish()
 }
 
-// Adds what is answered about a view of the units up to the first NUL.
-fn view_cut<C: FaultUnit>(answer: &mut Answer, units: &[C]) {
+// What is answered about a view of the units up to the first NUL.
+fn view_cut<C: FaultUnit>(alloc: Global, units: &[C]) -> Result<String, NoAnswer> {
+    let mut answer = Answer::new(alloc);
     match UCStr::from_slice_truncate(units) {
         Ok(view) => answer.units(view.as_slice()),
         Err(_) => answer.number(None),
     }
+    answer.finish()
 }
 
-// Adds what is answered about an owned C string.
+// What is answered about an owned C string.
 fn owned<C: FaultUnit>(
-    answer: &mut Answer,
+    alloc: Global,
     made: Result<UCString<C>, UCStringError<C>>,
-) -> Result<(), NoAnswer> {
+) -> Result<String, NoAnswer> {
+    let mut answer = Answer::new(alloc);
     match made {
         Ok(string) => answer.units(string.as_ucstr().as_slice_with_nul()),
         Err(UCStringError::ContainsNul(error)) => answer.inner_nul(error),
         Err(UCStringError::OutOfMemory(_)) => return Err(NoAnswer::OutOfMemory),
     }
-    Ok(())
+    answer.finish()
 }
 
-// Makes the C string of a vector, or of what stands before its first NUL.
-fn of_vec<C: FaultUnit>(answer: &mut Answer, units: Vec<C>, is_cut: bool) -> Result<(), NoAnswer> {
-    owned(
-        answer,
-        if is_cut {
-            UCString::from_vec_truncate(units)
-        } else {
-            UCString::from_vec(units)
-        },
-    )
-}
-
-// The same of a text.
-fn of_text<C: FaultUnit>(
-    alloc: Global,
-    answer: &mut Answer,
-    text: &str,
-    is_cut: bool,
-) -> Result<(), NoAnswer> {
-    owned(
-        answer,
-        if is_cut {
-            UCString::<C>::from_str_truncate(alloc, text)
-        } else {
-            UCString::<C>::from_str(alloc, text)
-        },
-    )
-}
-
-// The same of a view.
-fn of_view<C: FaultUnit>(
-    alloc: Global,
-    answer: &mut Answer,
-    units: UStr<'_, C>,
-    is_cut: bool,
-) -> Result<(), NoAnswer> {
-    owned(
-        answer,
-        if is_cut {
-            UCString::from_ustr_truncate(alloc, units)
-        } else {
-            UCString::from_ustr(alloc, units)
-        },
-    )
-}
-
-// The same of a slice.
-fn of_slice<C: FaultUnit>(answer: &mut Answer, units: &[C], is_cut: bool) {
-    if is_cut {
-        view_cut(answer, units);
-    } else {
-        view(answer, units);
-    }
-}
-
-// The same of what is made of borrowed units.
-fn of_borrowed<C: FaultUnit>(
-    alloc: Global,
-    answer: &mut Answer,
-    kind: u8,
-    units: &[C],
-    is_cut: bool,
-) -> Result<(), NoAnswer> {
+// What is answered about the C string that is all of what it is made of.
+fn whole<C: FaultUnit>(alloc: Global, kind: u8, units: Vec<C>) -> Result<String, NoAnswer> {
     match kind {
-        b's' => of_slice(answer, units, is_cut),
-        b'u' => of_view(alloc, answer, UStr::from_slice(units), is_cut)?,
-        b't' => of_text::<C>(alloc, answer, &text_of(alloc, units)?, is_cut)?,
-        _ => return Err(NoAnswer::Unparsed),
-    }
-    Ok(())
-}
-
-// Whether a question ends in the letter of a cut, and has no more.
-fn is_cut(more: &str) -> Result<bool, NoAnswer> {
-    match more.as_bytes() {
-        [] => Ok(false),
-        [b'c'] => Ok(true),
+        b's' => view(alloc, &units),
+        b'v' => owned(alloc, UCString::from_vec(units)),
+        b'u' => owned(alloc, UCString::from_ustr(alloc, UStr::from_slice(&units))),
+        b't' => {
+            let text = text_of(alloc, &units)?;
+            owned(alloc, UCString::<C>::from_str(alloc, &text))
+        }
         _ => Err(NoAnswer::Unparsed),
     }
 }
 
-/// Adds the C string that a constructor makes, or why it makes none.
+// The same of a C string that is cut at the first NUL.
+fn cut<C: FaultUnit>(alloc: Global, kind: u8, units: Vec<C>) -> Result<String, NoAnswer> {
+    match kind {
+        b's' => view_cut(alloc, &units),
+        b'v' => owned(alloc, UCString::from_vec_truncate(units)),
+        b'u' => {
+            let ustr = UStr::from_slice(&units);
+            owned(alloc, UCString::from_ustr_truncate(alloc, ustr))
+        }
+        b't' => {
+            let text = text_of(alloc, &units)?;
+            owned(alloc, UCString::<C>::from_str_truncate(alloc, &text))
+        }
+        _ => Err(NoAnswer::Unparsed),
+    }
+}
+
+/// The C string that a constructor makes, or why it makes none.
 pub fn made<C: FaultUnit + FromHex>(
     alloc: Global,
-    answer: &mut Answer,
     list: &str,
     question: &str,
-) -> Result<(), NoAnswer> {
+) -> Result<String, NoAnswer> {
     let (kind, more) = parse::kind(question)?;
-    let is_cut = is_cut(more)?;
     let units = parse::list::<C>(alloc, list)?;
-    if kind == b'v' {
-        return of_vec(answer, units, is_cut);
+    match more.as_bytes() {
+        [] => whole(alloc, kind, units),
+        [b'c'] => cut(alloc, kind, units),
+        _ => Err(NoAnswer::Unparsed),
     }
-    of_borrowed(alloc, answer, kind, &units, is_cut)
 }

@@ -24,22 +24,27 @@ use widestring::iter::End;
 use widestring::utfstr::UtfStr;
 use widestring::utfstring::UtfString;
 
-// The string of a text (`t`) or of its characters.
-fn of_text<C: FaultUnit>(alloc: Global, maker: u8, text: &str) -> Result<UtfString<C>, NoAnswer> {
-    match maker {
-        b't' => Ok(UtfString::from_str(alloc, text)?),
-        b'f' => parse::made(
-            UtfString::from_iter_chars(alloc, text.chars()),
-            NoAnswer::OutOfMemory,
-        ),
-        _ => Err(NoAnswer::Unparsed),
+// The string of a text.
+fn of_text<C: FaultUnit>(alloc: Global, units: &[C]) -> Result<UtfString<C>, NoAnswer> {
+    let text = text_of(alloc, units)?;
+    Ok(UtfString::from_str(alloc, &text)?)
+}
+
+// The string of the characters of a text.
+fn of_chars<C: FaultUnit>(alloc: Global, units: &[C]) -> Result<UtfString<C>, NoAnswer> {
+    let text = text_of(alloc, units)?;
+    match UtfString::from_iter_chars(alloc, text.chars()) {
+        Ok(string) => Ok(string),
+        Err(_) => Err(NoAnswer::OutOfMemory),
     }
 }
 
 // The text that a call takes, by its units.
 fn taken<C: FaultUnit + FromHex>(alloc: Global, list: &str) -> Result<UtfString<C>, NoAnswer> {
-    let units = parse::list(alloc, list)?;
-    parse::made(UtfString::from_vec(units), NoAnswer::Unparsed)
+    match UtfString::from_vec(parse::list(alloc, list)?) {
+        Ok(string) => Ok(string),
+        Err(_) => Err(NoAnswer::Unparsed),
+    }
 }
 
 // Puts a character in before a place.
@@ -151,13 +156,28 @@ fn retain<C: FaultUnit>(string: &mut UtfString<C>, answer: &mut Answer, mask: u3
     answer.number(Some(calls));
 }
 
+// Extends a string by characters (`e`), or by references to them.
+fn extend<C: FaultUnit>(
+    string: &mut UtfString<C>,
+    kind: u8,
+    chars: Vec<char>,
+) -> Result<(), NoAnswer> {
+    if kind == b'e' {
+        string.extend_chars(chars)?;
+    } else {
+        string.extend_char_refs(&chars)?;
+    }
+    Ok(())
+}
+
 // Adds a text at the end, by its characters.
 fn push_str<C: FaultUnit + FromHex>(
     alloc: Global,
     string: &mut UtfString<C>,
     list: &str,
 ) -> Result<(), NoAnswer> {
-    let text = text_of(alloc, &parse::list::<C>(alloc, list)?)?;
+    let units = parse::list::<C>(alloc, list)?;
+    let text = text_of(alloc, &units)?;
     string.push_str(&text)?;
     Ok(())
 }
@@ -233,8 +253,7 @@ fn call<C: FaultUnit + FromHex>(
         b'c' => string.push(parse::value(more)?)?,
         b's' => push_str(alloc, string, more)?,
         b'u' => push_view(alloc, string, more)?,
-        b'e' => string.extend_chars(parse::list::<char>(alloc, more)?)?,
-        b'n' => string.extend_char_refs(&parse::list::<char>(alloc, more)?)?,
+        b'e' | b'n' => extend(string, kind, parse::list(alloc, more)?)?,
         b'i' | b'j' => put_in(alloc, string, answer, kind, more)?,
         b'r' | b't' | b'o' => cut(string, answer, kind, parse::value(more)?)?,
         b'x' | b'd' => call_in(alloc, string, answer, kind, more)?,
@@ -246,68 +265,59 @@ fn call<C: FaultUnit + FromHex>(
     Ok(())
 }
 
-// Adds the string, and what the calls after the first answer and leave, where there are any.
+// What the calls after the first answer and leave, where there are any.
 fn edited<C: FaultUnit + FromHex>(
     alloc: Global,
-    answer: &mut Answer,
-    string: &mut UtfString<C>,
+    mut string: UtfString<C>,
     calls: Option<&str>,
-) -> Result<(), NoAnswer> {
+) -> Result<String, NoAnswer> {
+    let mut answer = Answer::new(alloc);
     answer.units(string.as_slice());
-    let Some(calls) = calls else { return Ok(()) };
+    let Some(calls) = calls else {
+        return answer.finish();
+    };
     for written in calls.split('/') {
         answer.part();
-        call(alloc, string, answer, written)?;
+        call(alloc, &mut string, &mut answer, written)?;
         answer.part();
         answer.units(string.as_slice());
     }
-    Ok(())
+    answer.finish()
 }
 
-// Adds what is answered about units that are not well formed.
-fn refused<C: ToldUnit>(answer: &mut Answer, error: UtfError<C>) {
+// What is answered about units that are not well formed.
+fn refused<C: ToldUnit>(alloc: Global, error: UtfError<C>) -> Result<String, NoAnswer> {
+    let mut answer = Answer::new(alloc);
     answer.first_fault(&error);
     answer.part();
     answer.handed_back(error.into_vec());
+    answer.finish()
 }
 
-// Adds what a script answers that makes its string of a vector. No calls follow where the units are not well formed.
+// What a script answers that makes its string of a vector. No calls follow where the units are not well formed.
 fn of_vec<C: ToldUnit>(
     alloc: Global,
-    answer: &mut Answer,
     units: Vec<C>,
     calls: Option<&str>,
-) -> Result<(), NoAnswer> {
+) -> Result<String, NoAnswer> {
     match UtfString::from_vec(units) {
-        Ok(mut string) => return edited(alloc, answer, &mut string, calls),
-        Err(error) if calls.is_none() => refused(answer, error),
-        Err(_) => return Err(NoAnswer::Unparsed),
+        Ok(string) => edited(alloc, string, calls),
+        Err(error) if calls.is_none() => refused(alloc, error),
+        Err(_) => Err(NoAnswer::Unparsed),
     }
-    Ok(())
 }
 
-/// Adds what the calls of a script answer, and the units that each leaves.
-pub fn script<C: ToldUnit>(
-    alloc: Global,
-    answer: &mut Answer,
-    list: &str,
-    question: &str,
-) -> Result<(), NoAnswer> {
+/// What the calls of a script answer, and the units that each leaves.
+pub fn script<C: ToldUnit>(alloc: Global, list: &str, question: &str) -> Result<String, NoAnswer> {
     let (maker, calls) = match question.split_once('/') {
         None => (question, None),
         Some((maker, calls)) => (maker, Some(calls)),
     };
-    let (maker, more) = parse::kind(maker)?;
-    parse::no_question(more)?;
     let units = parse::list::<C>(alloc, list)?;
-    if maker == b'v' {
-        return of_vec(alloc, answer, units, calls);
+    match maker.as_bytes() {
+        b"v" => of_vec(alloc, units, calls),
+        b"t" => edited(alloc, of_text(alloc, &units)?, calls),
+        b"f" => edited(alloc, of_chars(alloc, &units)?, calls),
+        _ => Err(NoAnswer::Unparsed),
     }
-    let text = text_of(alloc, &units)?;
-    edited(
-        alloc,
-        answer,
-        &mut of_text::<C>(alloc, maker, &text)?,
-        calls,
-    )
 }
