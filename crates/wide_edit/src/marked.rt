@@ -191,8 +191,8 @@ impl Marked16 {
         find_from(self.string.as_utfstr(), self.marks.as_slice(), index, steps)
     }
 
-    /// As [`TextEdit::apply`], and counts the units that are read: no more than 512, and the units of the old and of the new text
-    /// behind the last mark that is not past the edit's place.
+    /// As [`TextEdit::apply`], and counts steps, one for each unit that may be read: no more than 512, and all units of the old and of the
+    /// new text behind the last mark that is not past the edit's place, read or not.
     pub fn apply_counted(&mut self, edit: Edit<'_>, room: Vec<char>, steps: &mut Steps) -> Reply
         requires ready { IsMarkedReady self.old edit }
         requires room { HasReplyRoom (marked_text self.old) edit room }

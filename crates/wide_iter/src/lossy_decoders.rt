@@ -18,14 +18,15 @@ use wide_unit::Policy;
 /// D93b).
 ///
 /// It gives the characters from both ends where the source has both, stays ended, and asks a source that has ended no more.
-/// A row of faults is read whole by the call that reaches it first. It takes no memory. Made by
-/// [`decode_utf16_lossy_with`].
+/// Under [`Policy::Run`] and [`Policy::Skip`] a row of faults is read whole by the call that reaches it first; under [`Policy::Each`]
+/// each call reads one. It takes no memory. Made by [`decode_utf16_lossy_with`].
 #[derive(Debug, Drop)]
 pub struct DecodeUtf16LossyWith<I> {
     chars: LossyWith<DecodeUtf16<I>>,
 }
 
-/// A lossy decoder, under a policy, of the 16-bit units that `units` gives.
+/// A lossy decoder, under a policy, of the 16-bit units that `units` gives. The source is one that can be asked to its end: under
+/// [`Policy::Run`] and [`Policy::Skip`] a call may read a row of faults of any length.
 pub fn decode_utf16_lossy_with<U: IntoIterator<Item = u16>>(
     units: U,
     policy: Policy,
@@ -80,14 +81,15 @@ impl<I: Iterator<Item = u16>> FusedIterator for DecodeUtf16LossyWith<I> {}
 /// D93b).
 ///
 /// It gives the characters from both ends where the source has both, stays ended, and asks a source that has ended no more.
-/// A row of faults is read whole by the call that reaches it first. It takes no memory. Made by
-/// [`decode_utf32_lossy_with`].
+/// Under [`Policy::Run`] and [`Policy::Skip`] a row of faults is read whole by the call that reaches it first; under [`Policy::Each`]
+/// each call reads one. It takes no memory. Made by [`decode_utf32_lossy_with`].
 #[derive(Debug, Drop)]
 pub struct DecodeUtf32LossyWith<I> {
     chars: LossyWith<DecodeUtf32<I>>,
 }
 
-/// A lossy decoder, under a policy, of the 32-bit units that `units` gives.
+/// A lossy decoder, under a policy, of the 32-bit units that `units` gives. The source is one that can be asked to its end: under
+/// [`Policy::Run`] and [`Policy::Skip`] a call may read a row of faults of any length.
 pub fn decode_utf32_lossy_with<U: IntoIterator<Item = u32>>(
     units: U,
     policy: Policy,

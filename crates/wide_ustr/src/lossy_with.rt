@@ -35,7 +35,8 @@ fn before_faults<C: Unit>(units: &[C]) -> &[C]
 /// The characters of a view, with what a policy says in place of each unit that belongs to none. Made by
 /// [`UStr::chars_lossy_with`](crate::UStr::chars_lossy_with).
 ///
-/// A row of faults is passed whole by the call that meets it, at either end. It stays ended, and takes no memory.
+/// Under [`Policy::Run`] and [`Policy::Skip`] a row of faults is passed whole by the call that meets it, at either end; under
+/// [`Policy::Each`] each call passes one. It stays ended, and takes no memory.
 #[derive(Clone, Drop)]
 pub struct CharsLossyWith<'a, C> {
     pub(crate) rest: &'a [C],

@@ -30,7 +30,9 @@ use wide_utferror::FaultUnit;
 
 /// An owned string of units of 16 or 32 bits, of any values: text that may be well formed or not.
 ///
-/// Places and lengths are counted in units. A call that finds no memory answers [`OutOfMemory`] and has changed nothing.
+/// Places and lengths are counted in units. A call that finds no memory answers [`OutOfMemory`] and has changed nothing; but an extension
+/// has added the items before the one that was refused, `from_iter_*` hand back the string of these, and `into_boxed_ustr` hands the
+/// string back.
 ///
 /// `{:?}` prints what that of [`UString::as_ustr`] does.
 #[derive(Drop)]
