@@ -1,7 +1,48 @@
 -- What the words of the program ask for.
-use Rattle.std.specs.Prelude.{◌≡◌, List, [], ◌∷◌, codes, string_bytes}
+use Rattle.std.specs.Prelude.{◌≡◌, ℕ, ◌≤◌, ◌⊎◌, Option, List, [], ◌∷◌, ◌++◌, map, length, codes, string_bytes}
+use Rattle.std.specs.Io.KnownBytes.{Appends}
+use Rattle.std.specs.Str.Parse.{IsNumeral, digits_value}
 use Rattle.std.specs.declared.string.String.{String}
+use Rattle.wide_iter.specs.declared.ends.End.{End}
+use Rattle.wide_iter.specs.declared.ends.End.TheVariants.{Front, Back}
 use Rattle.widetext_base.specs.Command.{AsksForNoUtf8}
+use Rattle.widetext_command.specs.Lines.{ends_lines}
+use Rattle.widetext_command.specs.declared.words.Request.{Request}
+use Rattle.widetext_command.specs.declared.words.Request.TheVariants.{Ends, Edit}
+
+-- one to four hexadecimal digits, in either case, name the unit that is their number
+abbrev pub IsUnit : List ℕ → ℕ → Type 0
+IsUnit digits u = IsNumeral 16 digits × (length digits ≤ 4) × (digits_value 16 digits ≡ u)
+
+-- units, one or more, with a comma between each and the next
+abbrev pub AreUnits : List ℕ → List ℕ → Type 0
+AreUnits word [] = ⊥
+AreUnits word (u ∷ []) = IsUnit word u
+AreUnits word (u ∷ v ∷ us) = (digits : List ℕ) × (rest : List ℕ) × (word ≡ digits ++ 44 ∷ rest) × IsUnit digits u × AreUnits rest (v ∷ us)
+
+-- the units that a word names: `-` names none
+abbrev pub NamesUnits : List ℕ → List ℕ → Type 0
+NamesUnits word us = ((word ≡ codes "-") × (us ≡ [])) ⊎ AreUnits word us
+
+-- the letter of an end, `F` or `B`
+abbrev pub end_letter : End → ℕ
+end_letter Front = 70
+end_letter Back = 66
+
+-- the lines of a request were written
+abbrev pub IsWritten : Option (List ℕ) → Option (List ℕ) → Request → Type 0
+IsWritten held held' (Ends units ends) = Appends held held' (ends_lines units.items ends.items)
+IsWritten held held' (Edit text edits) = Unit {0}
+
+-- the request is of `ends`, and has the units and the ends that these two words name
+abbrev pub IsEndsOf : List ℕ → List ℕ → Request → Type 0
+IsEndsOf units calls (Ends us ends) = NamesUnits units us.items × (calls ≡ map end_letter ends.items)
+IsEndsOf units calls (Edit text edits) = ⊥
+
+-- the request is of `edit`, and has this text
+abbrev pub IsEditOf : List ℕ → Request → Type 0
+IsEditOf text (Ends us ends) = ⊥
+IsEditOf text (Edit t edits) = text ≡ t.now
 
 module _ {A : Type 0} where
   -- the word `ends` and two more
@@ -12,11 +53,37 @@ module _ {A : Type 0} where
   AsksForEnds (word ∷ units ∷ calls ∷ []) = string_bytes word ≡ codes "ends"
   AsksForEnds (word ∷ units ∷ calls ∷ fourth ∷ others) = ⊥
 
+  -- these two name the units, and the end of each call
+  abbrev pub AsksForEndsOf : List ℕ → List End → List (String A) → Type 0
+  AsksForEndsOf us ends [] = ⊥
+  AsksForEndsOf us ends (word ∷ []) = ⊥
+  AsksForEndsOf us ends (word ∷ units ∷ []) = ⊥
+  AsksForEndsOf us ends (word ∷ units ∷ calls ∷ []) = (string_bytes word ≡ codes "ends") × NamesUnits (string_bytes units) us × (string_bytes calls ≡ map end_letter ends)
+  AsksForEndsOf us ends (word ∷ units ∷ calls ∷ fourth ∷ others) = ⊥
+
   -- the word `edit` and a text, and no edits or some
   abbrev pub AsksForEdits : List (String A) → Type 0
   AsksForEdits [] = ⊥
   AsksForEdits (word ∷ []) = ⊥
   AsksForEdits (word ∷ text ∷ edits) = string_bytes word ≡ codes "edit"
+
+  -- this one is the text
+  abbrev pub AsksForEditOf : List ℕ → List (String A) → Type 0
+  AsksForEditOf text [] = ⊥
+  AsksForEditOf text (word ∷ []) = ⊥
+  AsksForEditOf text (word ∷ first ∷ edits) = (string_bytes word ≡ codes "edit") × (string_bytes first ≡ text)
+
+  -- what a request that is read from the words asks for
+  abbrev pub IsAskedBy : List (String A) → Request → Type 0
+  IsAskedBy words (Ends units ends) = AsksForEndsOf units.items ends.items words
+  IsAskedBy words (Edit text edits) = AsksForEditOf text.now words
+
+  -- `ends` wrote the lines of the units that its words name, and of the calls
+  pub record WritesEnds (words : List (String A)) (held held' : Option (List ℕ)) : Type 0 where
+    pub units : List ℕ
+    pub ends : List End
+    pub asked : AsksForEndsOf units ends words
+    pub put : Appends held held' (ends_lines units ends)
 
   -- no request begins so
   pub record IsUnknown (words : List (String A)) : Type 0 where

@@ -1,9 +1,13 @@
 //! The program, over any devices.
 
-ghost use Rattle.std.specs.Prelude.{◌≡◌, ◌≤◌, Option, OnErr, false};
+ghost use Rattle.std.specs.Prelude.{◌≡◌, ◌≤◌, ◌++◌, Option, OnOk, OnErr, false, string_bytes};
+ghost use Rattle.std.specs.Io.KnownBytes.{Appends};
+ghost use Rattle.std.specs.Option.{option_map};
+ghost use Rattle.wide_unit.specs.Unit.{told_item};
 ghost use Rattle.wide_unit.specs.declared.policy.Policy.{Policy};
 ghost use Rattle.widetext_base.specs.Command.{AsksForUtf8, AsksForNoUtf8, Utf8Run};
-ghost use Rattle.widetext_command.specs.Command.{IsUnknown};
+ghost use Rattle.widetext_command.specs.Command.{AsksForEnds, IsWritten, WritesEnds, IsUnknown};
+ghost use Rattle.widetext_command.specs.Lines.{answer_line, ends_lines};
 
 use crate::edit_lines::edit_lines;
 use crate::edit_words::EditWord;
@@ -19,7 +23,9 @@ use widetext_base::{end, parse_utf8, refuse_words, write_utf8};
 fn push_answer(
     lines: &mut String,
     answer: &Option<Result<char, DecodeUtf16Error>>,
-) -> Result<(), AllocError> {
+) -> Result<(), AllocError>
+    ensures { OnOk result (string_bytes lines.new ≡ string_bytes lines.old ++ answer_line (option_map told_item answer.now)) }
+{
     match answer {
         Some(Ok(c)) => writeln!(lines, "U+{:04X}", u32::from(*c)),
         Some(Err(fault)) => writeln!(lines, "fault {:x}", fault.unpaired_surrogate()),
@@ -35,6 +41,7 @@ fn write_answers<K: ByteSink>(
     ends: &[End],
 ) -> Result<(), TranscodeError>
     requires { K.has_failed sink.old ≡ false }
+    ensures written { OnOk result (Appends (K.held sink.old) (K.held sink.new) (ends_lines units.now ends.now)) }
     ensures refused { OnErr result (K.has_failed sink.new ≡ false → sink.new ≡ sink.old) }
 {
     let answers = read_ends16(alloc, units, ends)?;
@@ -65,6 +72,7 @@ fn write_lines<K: ByteSink>(
     request: &Request<'_>,
 ) -> Result<(), TranscodeError>
     requires { K.has_failed sink.old ≡ false }
+    ensures written { OnOk result (IsWritten (K.held sink.old) (K.held sink.new) request.now) }
     ensures refused { OnErr result (K.has_failed sink.new ≡ false → sink.new ≡ sink.old) }
 {
     match request {
@@ -95,6 +103,9 @@ pub fn command<S: ByteSource, K: ByteSink, F: ByteSink>(
 
     // Nothing is said on the fault stream where all went well.
     ensures quiet { result ≡ 0 → faults.new ≡ faults.old }
+
+    // The word `ends`: at status 0 the sink has got the lines of the units that its words name, and of the calls, and nothing else.
+    ensures ends { AsksForEnds words.now → result ≡ 0 → WritesEnds words.now (K.held sink.old) (K.held sink.new) }
 
     // All other words read nothing, and wrong ones write nothing but the usage.
     ensures reads { AsksForNoUtf8 words.now → source.new ≡ source.old }

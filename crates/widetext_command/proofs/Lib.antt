@@ -1,0 +1,4 @@
+mod Lines
+mod Units
+mod Hex
+mod Asking
