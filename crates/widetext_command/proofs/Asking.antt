@@ -1,8 +1,9 @@
 -- Words ask for one thing.
-use Rattle.std.proofs.Common.{List, [], ◌∷◌, Some, None}
+use Rattle.std.proofs.Common.{◌≡◌, ℕ, ◌<◌, List, [], ◌∷◌, Some, None, sym, ◌∙◌, ap, get_or, arith}
 use Rattle.std.specs.declared.string.String.{String}
+use Rattle.std.specs.Prelude.{codes, string_bytes}
 use Rattle.widetext_base.specs.Command.{AsksForNoUtf8}
-use Rattle.widetext_command.specs.Command.{AsksForEnds}
+use Rattle.widetext_command.specs.Command.{AsksForEnds, AsksForEdits}
 
 no_utf8_of_three : {A : Type 0} (word units calls : String A) → AsksForNoUtf8 (word ∷ units ∷ calls ∷ [])
 no_utf8_of_three word units calls None = λ asks. asks
@@ -14,3 +15,23 @@ ends_no_utf8 (word ∷ []) asks = absurd asks
 ends_no_utf8 (word ∷ units ∷ []) asks = absurd asks
 ends_no_utf8 (word ∷ units ∷ calls ∷ []) asks = no_utf8_of_three word units calls
 ends_no_utf8 (word ∷ units ∷ calls ∷ fourth ∷ others) asks = absurd asks
+
+first_letters : (e u : ℕ) → e ≡ u → e < 110 → 110 < u → ⊥
+first_letters e u same low high = absurd (omega arith)
+
+edit_is_no_utf8 : (word : List ℕ) → word ≡ codes "edit" → word ≡ codes "utf8" → ⊥
+edit_is_no_utf8 word edit utf8 = first_letters 101 117 (ap (λ (bs : List ℕ). get_or bs 0 0) (sym edit ∙ utf8)) (omega arith) (omega arith)
+
+no_utf8_of_two : {A : Type 0} (word text : String A) → string_bytes word ≡ codes "edit" → AsksForNoUtf8 (word ∷ text ∷ [])
+no_utf8_of_two word text edit None = λ asks. asks
+no_utf8_of_two word text edit (Some policy) = λ asks. edit_is_no_utf8 (string_bytes word) edit asks.0
+
+no_utf8_of_more : {A : Type 0} (word text third : String A) (others : List (String A)) → AsksForNoUtf8 (word ∷ text ∷ third ∷ others)
+no_utf8_of_more word text third others None = λ asks. asks
+no_utf8_of_more word text third others (Some policy) = λ asks. asks
+
+pub edits_no_utf8 : {A : Type 0} (words : List (String A)) → AsksForEdits words → AsksForNoUtf8 words
+edits_no_utf8 [] asks = absurd asks
+edits_no_utf8 (word ∷ []) asks = absurd asks
+edits_no_utf8 (word ∷ text ∷ []) asks = no_utf8_of_two word text asks
+edits_no_utf8 (word ∷ text ∷ third ∷ others) asks = no_utf8_of_more word text third others

@@ -6,7 +6,11 @@ use Rattle.std.specs.declared.string.String.{String}
 use Rattle.wide_iter.specs.declared.ends.End.{End}
 use Rattle.wide_iter.specs.declared.ends.End.TheVariants.{Front, Back}
 use Rattle.widetext_base.specs.Command.{AsksForNoUtf8}
-use Rattle.widetext_command.specs.Lines.{ends_lines}
+use Rattle.std.specs.Str.{chars}
+use Rattle.wide_edit.specs.declared.edits.Edit as edit
+use Rattle.widetext_command.specs.Lines.{ends_lines, edit_lines}
+use Rattle.widetext_command.specs.EditWords.{AreEdits}
+use Rattle.widetext_command.specs.declared.edit_words.EditWord.{EditWord}
 use Rattle.widetext_command.specs.declared.words.Request.{Request}
 use Rattle.widetext_command.specs.declared.words.Request.TheVariants.{Ends, Edit}
 
@@ -29,10 +33,16 @@ abbrev pub end_letter : End → ℕ
 end_letter Front = 70
 end_letter Back = 66
 
+-- the lines of the edits of a text were written
+pub record IsEdited (text : List ℕ) (words : List EditWord) (held held' : Option (List ℕ)) : Type 0 where
+  pub edits : List edit.Edit
+  pub named : AreEdits words edits
+  pub put : Appends held held' (edit_lines (chars text) edits)
+
 -- the lines of a request were written
 abbrev pub IsWritten : Option (List ℕ) → Option (List ℕ) → Request → Type 0
 IsWritten held held' (Ends units ends) = Appends held held' (ends_lines units.items ends.items)
-IsWritten held held' (Edit text edits) = Unit {0}
+IsWritten held held' (Edit text words) = IsEdited text.now words.items held held'
 
 -- the request is of `ends`, and has the units and the ends that these two words name
 abbrev pub IsEndsOf : List ℕ → List ℕ → Request → Type 0
@@ -84,6 +94,13 @@ module _ {A : Type 0} where
     pub ends : List End
     pub asked : AsksForEndsOf units ends words
     pub put : Appends held held' (ends_lines units ends)
+
+  -- `edit` wrote the lines of the edits of its text
+  pub record WritesEdits (words : List (String A)) (held held' : Option (List ℕ)) : Type 0 where
+    pub text : List ℕ
+    pub read : List EditWord
+    pub asked : AsksForEditOf text words
+    pub edited : IsEdited text read held held'
 
   -- no request begins so
   pub record IsUnknown (words : List (String A)) : Type 0 where

@@ -1,4 +1,6 @@
 //! The words of the program that name edits.
+ghost use Rattle.std.specs.Prelude.{IfOk};
+ghost use Rattle.widetext_command.specs.EditWords.{IsEdit, AreEdits};
 
 use std::alloc::{AllocError, Global};
 use wide_edit::Edit;
@@ -14,7 +16,9 @@ pub enum EditWord<'a> {
 
 impl EditWord<'_> {
     /// The edit.
-    pub fn edit(&self) -> Edit<'_> {
+    pub fn edit(&self) -> Edit<'_>
+        ensures { IsEdit self.now result }
+    {
         match self {
             EditWord::Whole(edit) => *edit,
             EditWord::Retain(keep) => Edit::Retain(keep),
@@ -105,4 +109,15 @@ pub fn parse_edit_words(
         }
     }
     Ok(Some(edits))
+}
+
+/// The edits of such words.
+pub fn edits_of<'a>(alloc: Global, words: &'a [EditWord<'a>]) -> Result<Vec<Edit<'a>>, AllocError>
+    ensures { IfOk result (λ edits. AreEdits words.now edits.items) }
+{
+    let mut edits = Vec::with_capacity(alloc, words.len())?;
+    for word in words {
+        edits.push(word.edit())?;
+    }
+    Ok(edits)
 }

@@ -6,11 +6,11 @@ ghost use Rattle.std.specs.Option.{option_map};
 ghost use Rattle.wide_unit.specs.Unit.{told_item};
 ghost use Rattle.wide_unit.specs.declared.policy.Policy.{Policy};
 ghost use Rattle.widetext_base.specs.Command.{AsksForUtf8, AsksForNoUtf8, Utf8Run};
-ghost use Rattle.widetext_command.specs.Command.{AsksForEnds, IsWritten, WritesEnds, IsUnknown};
+ghost use Rattle.widetext_command.specs.Command.{AsksForEnds, AsksForEdits, IsEdited, IsWritten, WritesEnds, WritesEdits, IsUnknown};
 ghost use Rattle.widetext_command.specs.Lines.{answer_line, ends_lines};
 
 use crate::edit_lines::edit_lines;
-use crate::edit_words::EditWord;
+use crate::edit_words::{EditWord, edits_of};
 use crate::words::{Request, parse_words};
 use std::alloc::{AllocError, Global};
 use std::fmt::Write;
@@ -57,12 +57,14 @@ fn write_edits<K: ByteSink>(
     alloc: Global,
     sink: &mut K,
     text: &str,
-    edits: &[EditWord<'_>],
+    words: &[EditWord<'_>],
 ) -> Result<(), TranscodeError>
     requires { K.has_failed sink.old ≡ false }
+    ensures written { OnOk result (IsEdited text.now words.now (K.held sink.old) (K.held sink.new)) }
     ensures refused { OnErr result (K.has_failed sink.new ≡ false → sink.new ≡ sink.old) }
 {
-    put_all(sink, edit_lines(alloc, text, edits)?.as_bytes())
+    let edits = edits_of(alloc, words)?;
+    put_all(sink, edit_lines(alloc, text, &edits)?.as_bytes())
 }
 
 // The lines that a request gives, all made before any is written.
@@ -106,6 +108,9 @@ pub fn command<S: ByteSource, K: ByteSink, F: ByteSink>(
 
     // The word `ends`: at status 0 the sink has got the lines of the units that its words name, and of the calls, and nothing else.
     ensures ends { AsksForEnds words.now → result ≡ 0 → WritesEnds words.now (K.held sink.old) (K.held sink.new) }
+
+    // The word `edit`: at status 0 the sink has got the lines of the edits of its text, and nothing else.
+    ensures edit { AsksForEdits words.now → result ≡ 0 → WritesEdits words.now (K.held sink.old) (K.held sink.new) }
 
     // All other words read nothing, and wrong ones write nothing but the usage.
     ensures reads { AsksForNoUtf8 words.now → source.new ≡ source.old }
