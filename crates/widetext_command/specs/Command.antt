@@ -9,7 +9,7 @@ use Rattle.widetext_base.specs.Command.{AsksForNoUtf8}
 use Rattle.std.specs.Str.{chars}
 use Rattle.wide_edit.specs.declared.edits.Edit as edit
 use Rattle.widetext_command.specs.Lines.{ends_lines, edit_lines}
-use Rattle.widetext_command.specs.EditWords.{AreEdits}
+use Rattle.widetext_command.specs.EditWords.{AreEach, AreEdits, NamesWord}
 use Rattle.widetext_command.specs.declared.edit_words.EditWord.{EditWord}
 use Rattle.widetext_command.specs.declared.words.Request.{Request}
 use Rattle.widetext_command.specs.declared.words.Request.TheVariants.{Ends, Edit}
@@ -49,12 +49,16 @@ abbrev pub IsEndsOf : List ℕ → List ℕ → Request → Type 0
 IsEndsOf units calls (Ends us ends) = NamesUnits units us.items × (calls ≡ map end_letter ends.items)
 IsEndsOf units calls (Edit text edits) = ⊥
 
--- the request is of `edit`, and has this text
-abbrev pub IsEditOf : List ℕ → Request → Type 0
-IsEditOf text (Ends us ends) = ⊥
-IsEditOf text (Edit t edits) = text ≡ t.now
-
 module _ {A : Type 0} where
+  -- these were read of words, one of each
+  abbrev pub AreRead : List (String A) → List EditWord → Type 0
+  AreRead words read = AreEach (λ word. NamesWord (string_bytes word)) words read
+
+  -- the request is of `edit`, and has this text and the edits that these words name
+  abbrev pub IsEditOf : List ℕ → List (String A) → Request → Type 0
+  IsEditOf text words (Ends us ends) = ⊥
+  IsEditOf text words (Edit t read) = (text ≡ t.now) × AreRead words read.items
+
   -- the word `ends` and two more
   abbrev pub AsksForEnds : List (String A) → Type 0
   AsksForEnds [] = ⊥
@@ -77,16 +81,16 @@ module _ {A : Type 0} where
   AsksForEdits (word ∷ []) = ⊥
   AsksForEdits (word ∷ text ∷ edits) = string_bytes word ≡ codes "edit"
 
-  -- this one is the text
-  abbrev pub AsksForEditOf : List ℕ → List (String A) → Type 0
-  AsksForEditOf text [] = ⊥
-  AsksForEditOf text (word ∷ []) = ⊥
-  AsksForEditOf text (word ∷ first ∷ edits) = (string_bytes word ≡ codes "edit") × (string_bytes first ≡ text)
+  -- this one is the text, and the others name the edits
+  abbrev pub AsksForEditOf : List ℕ → List EditWord → List (String A) → Type 0
+  AsksForEditOf text read [] = ⊥
+  AsksForEditOf text read (word ∷ []) = ⊥
+  AsksForEditOf text read (word ∷ first ∷ edits) = (string_bytes word ≡ codes "edit") × (string_bytes first ≡ text) × AreRead edits read
 
   -- what a request that is read from the words asks for
   abbrev pub IsAskedBy : List (String A) → Request → Type 0
   IsAskedBy words (Ends units ends) = AsksForEndsOf units.items ends.items words
-  IsAskedBy words (Edit text edits) = AsksForEditOf text.now words
+  IsAskedBy words (Edit text read) = AsksForEditOf text.now read.items words
 
   -- `ends` wrote the lines of the units that its words name, and of the calls
   pub record WritesEnds (words : List (String A)) (held held' : Option (List ℕ)) : Type 0 where
@@ -99,7 +103,7 @@ module _ {A : Type 0} where
   pub record WritesEdits (words : List (String A)) (held held' : Option (List ℕ)) : Type 0 where
     pub text : List ℕ
     pub read : List EditWord
-    pub asked : AsksForEditOf text words
+    pub asked : AsksForEditOf text read words
     pub edited : IsEdited text read held held'
 
   -- no request begins so

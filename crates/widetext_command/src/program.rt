@@ -109,7 +109,7 @@ pub fn command<S: ByteSource, K: ByteSink, F: ByteSink>(
     // The word `ends`: at status 0 the sink has got the lines of the units that its words name, and of the calls, and nothing else.
     ensures ends { AsksForEnds words.now → result ≡ 0 → WritesEnds words.now (K.held sink.old) (K.held sink.new) }
 
-    // The word `edit`: at status 0 the sink has got the lines of the edits of its text, and nothing else.
+    // The word `edit`: at status 0 the sink has got the lines of the edits that its words name, of its text, and nothing else.
     ensures edit { AsksForEdits words.now → result ≡ 0 → WritesEdits words.now (K.held sink.old) (K.held sink.new) }
 
     // All other words read nothing, and wrong ones write nothing but the usage.

@@ -91,7 +91,7 @@ fn parse_edit_request<'a>(
     text: &'a str,
     words: &'a [String],
 ) -> Result<Option<Request<'a>>, AllocError>
-    ensures { IfOk result (λ r. IfSome r (IsEditOf text.now)) }
+    ensures { IfOk result (λ r. IfSome r (IsEditOf text.now words.now)) }
 {
     match parse_edit_words(alloc, words)? {
         Some(edits) => Ok(Some(Request::Edit { text, edits })),
