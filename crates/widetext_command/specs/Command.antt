@@ -1,9 +1,64 @@
 -- What the words of the program ask for.
-use Rattle.std.specs.Prelude.{◌≡◌, List, [], ◌∷◌, codes, string_bytes}
+use Rattle.std.specs.Prelude.{◌≡◌, ℕ, ◌≤◌, ◌⊎◌, Option, List, [], ◌∷◌, ◌++◌, map, length, codes, string_bytes}
+use Rattle.std.specs.Io.KnownBytes.{Appends}
+use Rattle.std.specs.Str.Parse.{IsNumeral, digits_value}
 use Rattle.std.specs.declared.string.String.{String}
+use Rattle.wide_iter.specs.declared.ends.End.{End}
+use Rattle.wide_iter.specs.declared.ends.End.TheVariants.{Front, Back}
 use Rattle.widetext_base.specs.Command.{AsksForNoUtf8}
+use Rattle.std.specs.Str.{chars}
+use Rattle.wide_edit.specs.declared.edits.Edit as edit
+use Rattle.widetext_command.specs.Lines.{ends_lines, edit_lines}
+use Rattle.widetext_command.specs.EditWords.{AreEach, AreEdits, NamesWord}
+use Rattle.widetext_command.specs.declared.edit_words.EditWord.{EditWord}
+use Rattle.widetext_command.specs.declared.words.Request.{Request}
+use Rattle.widetext_command.specs.declared.words.Request.TheVariants.{Ends, Edit}
+
+-- one to four hexadecimal digits, in either case, name the unit that is their number
+abbrev pub IsUnit : List ℕ → ℕ → Type 0
+IsUnit digits u = IsNumeral 16 digits × (length digits ≤ 4) × (digits_value 16 digits ≡ u)
+
+-- units, one or more, with a comma between each and the next
+abbrev pub AreUnits : List ℕ → List ℕ → Type 0
+AreUnits word [] = ⊥
+AreUnits word (u ∷ []) = IsUnit word u
+AreUnits word (u ∷ v ∷ us) = (digits : List ℕ) × (rest : List ℕ) × (word ≡ digits ++ 44 ∷ rest) × IsUnit digits u × AreUnits rest (v ∷ us)
+
+-- the units that a word names: `-` names none
+abbrev pub NamesUnits : List ℕ → List ℕ → Type 0
+NamesUnits word us = ((word ≡ codes "-") × (us ≡ [])) ⊎ AreUnits word us
+
+-- the letter of an end, `F` or `B`
+abbrev pub end_letter : End → ℕ
+end_letter Front = 70
+end_letter Back = 66
+
+-- the lines of the edits of a text were written
+pub record IsEdited (text : List ℕ) (words : List EditWord) (held held' : Option (List ℕ)) : Type 0 where
+  pub edits : List edit.Edit
+  pub named : AreEdits words edits
+  pub put : Appends held held' (edit_lines (chars text) edits)
+
+-- the lines of a request were written
+abbrev pub IsWritten : Option (List ℕ) → Option (List ℕ) → Request → Type 0
+IsWritten held held' (Ends units ends) = Appends held held' (ends_lines units.items ends.items)
+IsWritten held held' (Edit text words) = IsEdited text.now words.items held held'
+
+-- the request is of `ends`, and has the units and the ends that these two words name
+abbrev pub IsEndsOf : List ℕ → List ℕ → Request → Type 0
+IsEndsOf units calls (Ends us ends) = NamesUnits units us.items × (calls ≡ map end_letter ends.items)
+IsEndsOf units calls (Edit text edits) = ⊥
 
 module _ {A : Type 0} where
+  -- these were read of words, one of each
+  abbrev pub AreRead : List (String A) → List EditWord → Type 0
+  AreRead words read = AreEach (λ word. NamesWord (string_bytes word)) words read
+
+  -- the request is of `edit`, and has this text and the edits that these words name
+  abbrev pub IsEditOf : List ℕ → List (String A) → Request → Type 0
+  IsEditOf text words (Ends us ends) = ⊥
+  IsEditOf text words (Edit t read) = (text ≡ t.now) × AreRead words read.items
+
   -- the word `ends` and two more
   abbrev pub AsksForEnds : List (String A) → Type 0
   AsksForEnds [] = ⊥
@@ -12,11 +67,44 @@ module _ {A : Type 0} where
   AsksForEnds (word ∷ units ∷ calls ∷ []) = string_bytes word ≡ codes "ends"
   AsksForEnds (word ∷ units ∷ calls ∷ fourth ∷ others) = ⊥
 
+  -- these two name the units, and the end of each call
+  abbrev pub AsksForEndsOf : List ℕ → List End → List (String A) → Type 0
+  AsksForEndsOf us ends [] = ⊥
+  AsksForEndsOf us ends (word ∷ []) = ⊥
+  AsksForEndsOf us ends (word ∷ units ∷ []) = ⊥
+  AsksForEndsOf us ends (word ∷ units ∷ calls ∷ []) = (string_bytes word ≡ codes "ends") × NamesUnits (string_bytes units) us × (string_bytes calls ≡ map end_letter ends)
+  AsksForEndsOf us ends (word ∷ units ∷ calls ∷ fourth ∷ others) = ⊥
+
   -- the word `edit` and a text, and no edits or some
   abbrev pub AsksForEdits : List (String A) → Type 0
   AsksForEdits [] = ⊥
   AsksForEdits (word ∷ []) = ⊥
   AsksForEdits (word ∷ text ∷ edits) = string_bytes word ≡ codes "edit"
+
+  -- this one is the text, and the others name the edits
+  abbrev pub AsksForEditOf : List ℕ → List EditWord → List (String A) → Type 0
+  AsksForEditOf text read [] = ⊥
+  AsksForEditOf text read (word ∷ []) = ⊥
+  AsksForEditOf text read (word ∷ first ∷ edits) = (string_bytes word ≡ codes "edit") × (string_bytes first ≡ text) × AreRead edits read
+
+  -- what a request that is read from the words asks for
+  abbrev pub IsAskedBy : List (String A) → Request → Type 0
+  IsAskedBy words (Ends units ends) = AsksForEndsOf units.items ends.items words
+  IsAskedBy words (Edit text read) = AsksForEditOf text.now read.items words
+
+  -- `ends` wrote the lines of the units that its words name, and of the calls
+  pub record WritesEnds (words : List (String A)) (held held' : Option (List ℕ)) : Type 0 where
+    pub units : List ℕ
+    pub ends : List End
+    pub asked : AsksForEndsOf units ends words
+    pub put : Appends held held' (ends_lines units ends)
+
+  -- `edit` wrote the lines of the edits of its text
+  pub record WritesEdits (words : List (String A)) (held held' : Option (List ℕ)) : Type 0 where
+    pub text : List ℕ
+    pub read : List EditWord
+    pub asked : AsksForEditOf text read words
+    pub edited : IsEdited text read held held'
 
   -- no request begins so
   pub record IsUnknown (words : List (String A)) : Type 0 where

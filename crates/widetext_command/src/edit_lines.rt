@@ -1,25 +1,48 @@
 //! What the program prints of edits.
+ghost use Rattle.std.specs.Prelude.{◌≡◌, [], ◌∷◌, ◌++◌, map, codes, string_bytes, OnOk, IfOk};
+ghost use Rattle.std.specs.List.{flat_map};
+ghost use Rattle.std.specs.Str.{chars};
+ghost use Rattle.wide_edit.specs.Marks.{marked_text, marked_units};
+ghost use Rattle.wide_edit.specs.Step.{answer_of};
+ghost use Rattle.widetext_command.specs.Lines as line;
 
-use crate::edit_words::EditWord;
 use std::alloc::{AllocError, Global};
 use std::fmt::Write;
-use wide_edit::{Marked16, Reply, run_both};
+use wide_edit::{Edit, Marked16, Reply, run_both};
 use wide_error::OutOfMemory;
 use wide_utfstring::{Utf16String, Utf32String};
 
-// Characters as `char::escape_default` has them.
-fn push_escaped(lines: &mut String, text: &[char]) -> Result<(), AllocError> {
+// A character as `char::escape_default` has it.
+fn push_escape(lines: &mut String, c: char) -> Result<(), AllocError>
+    ensures { OnOk result (string_bytes lines.new ≡ string_bytes lines.old ++ line.escaped (c ∷ [])) }
+{
+    for escape in c.escape_default() {
+        lines.push(escape)?;
+    }
+    Ok(())
+}
+
+// Characters, each so.
+fn push_escaped(lines: &mut String, text: &[char]) -> Result<(), AllocError>
+    ensures { OnOk result (string_bytes lines.new ≡ string_bytes lines.old ++ line.escaped text.now) }
+{
     for c in text {
-        write!(lines, "{}", c.escape_default())?;
+        push_escape(lines, *c)?;
     }
     Ok(())
 }
 
 // A line for the reply of an edit.
-fn push_reply(lines: &mut String, reply: &Reply) -> Result<(), AllocError> {
+fn push_reply(lines: &mut String, reply: &Reply) -> Result<(), AllocError>
+    ensures { OnOk result (string_bytes lines.new ≡ string_bytes lines.old ++ line.reply_line (answer_of reply.now)) }
+{
     match reply {
         Reply::Done => writeln!(lines, "done"),
-        Reply::Char(c) => writeln!(lines, "char {}", c.escape_default()),
+        Reply::Char(c) => {
+            lines.push_str("char ")?;
+            push_escape(lines, *c)?;
+            lines.push('\n')
+        }
         Reply::NoChar => writeln!(lines, "nochar"),
         Reply::Chars(text) => {
             lines.push_str("chars ")?;
@@ -31,26 +54,51 @@ fn push_reply(lines: &mut String, reply: &Reply) -> Result<(), AllocError> {
     }
 }
 
-// The text, and the units of both strings.
-fn push_strings(
-    lines: &mut String,
-    narrow: &Marked16,
-    wide: &Utf32String,
-) -> Result<(), AllocError> {
-    writeln!(lines, "text {}", narrow.as_utfstr().escape_default())?;
+// A line for units of UTF-16.
+fn push_units16(lines: &mut String, units: &[u16]) -> Result<(), AllocError>
+    ensures { OnOk result (string_bytes lines.new ≡ string_bytes lines.old ++ line.units_line (codes "utf16") 4 units.now) }
+{
     lines.push_str("utf16")?;
-    for unit in narrow.as_utfstr().as_slice() {
+    for unit in units {
         write!(lines, " {unit:04X}")?;
     }
-    lines.push_str("\nutf32")?;
-    for unit in wide.as_slice() {
+    lines.push('\n')
+}
+
+// A line for units of UTF-32.
+fn push_units32(lines: &mut String, units: &[u32]) -> Result<(), AllocError>
+    ensures { OnOk result (string_bytes lines.new ≡ string_bytes lines.old ++ line.units_line (codes "utf32") 8 units.now) }
+{
+    lines.push_str("utf32")?;
+    for unit in units {
         write!(lines, " {unit:08X}")?;
     }
     lines.push('\n')
 }
 
+// The text, and the units of both strings.
+fn push_strings(lines: &mut String, narrow: &Marked16, wide: &Utf32String) -> Result<(), AllocError>
+    ensures { OnOk result (string_bytes lines.new ≡ string_bytes lines.old ++ (line.text_line (marked_text narrow.now) ++ (line.units_line (codes "utf16") 4 (marked_units narrow.now) ++ line.units_line (codes "utf32") 8 wide.now.units))) }
+{
+    writeln!(lines, "text {}", narrow.as_utfstr().escape_default())?;
+    push_units16(lines, narrow.as_utfstr().as_slice())?;
+    push_units32(lines, wide.as_slice())
+}
+
+// Lines for the replies, one after another.
+fn push_replies(lines: &mut String, replies: &[Reply]) -> Result<(), AllocError>
+    ensures { OnOk result (string_bytes lines.new ≡ string_bytes lines.old ++ flat_map line.reply_line (map answer_of replies.now)) }
+{
+    for reply in replies {
+        push_reply(lines, reply)?;
+    }
+    Ok(())
+}
+
 // The text in UTF-16, with kept marks.
-fn marked(alloc: Global, text: &str) -> Result<Marked16, OutOfMemory> {
+fn marked(alloc: Global, text: &str) -> Result<Marked16, OutOfMemory>
+    ensures { IfOk result (λ m. marked_text m ≡ chars text.now) }
+{
     match Marked16::new(alloc, Utf16String::from_str(alloc, text)?) {
         Ok(marked) => Ok(marked),
         Err(_string) => Err(OutOfMemory),
@@ -58,15 +106,9 @@ fn marked(alloc: Global, text: &str) -> Result<Marked16, OutOfMemory> {
 }
 
 /// A line for each reply to the edits of a text, and what UTF-16 and UTF-32 hold of it then.
-pub fn edit_lines(
-    alloc: Global,
-    text: &str,
-    words: &[EditWord<'_>],
-) -> Result<String, OutOfMemory> {
-    let mut edits = Vec::with_capacity(alloc, words.len())?;
-    for word in words {
-        edits.push(word.edit())?;
-    }
+pub fn edit_lines(alloc: Global, text: &str, edits: &[Edit<'_>]) -> Result<String, OutOfMemory>
+    ensures { IfOk result (λ lines. string_bytes lines ≡ line.edit_lines (chars text.now) edits.now) }
+{
     let mut narrow = marked(alloc, text)?;
     let mut wide = Utf32String::from_str(alloc, text)?;
     let mut replies = Vec::new(alloc);
@@ -75,7 +117,7 @@ pub fn edit_lines(
         alloc,
         &mut narrow,
         &mut wide,
-        &edits,
+        edits,
         &mut replies,
         &mut same_replies,
     )
@@ -84,9 +126,7 @@ pub fn edit_lines(
         return Err(OutOfMemory);
     }
     let mut lines = String::new(alloc);
-    for reply in &replies {
-        push_reply(&mut lines, reply)?;
-    }
+    push_replies(&mut lines, &replies)?;
     push_strings(&mut lines, &narrow, &wide)?;
     Ok(lines)
 }

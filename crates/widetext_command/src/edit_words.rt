@@ -1,4 +1,6 @@
 //! The words of the program that name edits.
+ghost use Rattle.std.specs.Prelude.{◌≡◌, IfOk, IfSome, encode_utf8, string_bytes};
+ghost use Rattle.widetext_command.specs.EditWords.{IsEdit, AreEdits, AreEach, IsNumber, IsNumberThen, IsNamed, NamesWord};
 
 use std::alloc::{AllocError, Global};
 use wide_edit::Edit;
@@ -14,7 +16,9 @@ pub enum EditWord<'a> {
 
 impl EditWord<'_> {
     /// The edit.
-    pub fn edit(&self) -> Edit<'_> {
+    pub fn edit(&self) -> Edit<'_>
+        ensures { IsEdit self.now result }
+    {
         match self {
             EditWord::Whole(edit) => *edit,
             EditWord::Retain(keep) => Edit::Retain(keep),
@@ -23,15 +27,19 @@ impl EditWord<'_> {
 }
 
 // The number of decimal digits, without a sign.
-fn parse_number(digits: &str) -> Option<usize> {
-    if !digits.bytes().all(|digit| digit.is_ascii_digit()) {
+fn parse_number(digits: &str) -> Option<usize>
+    ensures { IfSome result (IsNumber digits.now) }
+{
+    if digits.starts_with('+') {
         return None;
     }
     digits.parse().ok()
 }
 
 // The only character of a text.
-fn only_char(text: &str) -> Option<char> {
+fn only_char(text: &str) -> Option<char>
+    ensures { IfSome result (λ c. text.now ≡ encode_utf8 c) }
+{
     let mut chars = text.chars();
     let only = chars.next()?;
     match chars.next() {
@@ -41,13 +49,17 @@ fn only_char(text: &str) -> Option<char> {
 }
 
 // A number, and what stands behind the comma that follows it.
-fn number_and_rest(values: &str) -> Option<(usize, &str)> {
+fn number_and_rest(values: &str) -> Option<(usize, &str)>
+    ensures { IfSome result (λ r. IsNumberThen values.now r.0 r.1.now) }
+{
     let (digits, rest) = values.split_once(',')?;
     Some((parse_number(digits)?, rest))
 }
 
 // The edit of this name at a place, with what stands behind the place.
-fn parse_edit_at<'a>(name: &str, values: &'a str) -> Option<Edit<'a>> {
+fn parse_edit_at<'a>(name: &str, values: &'a str) -> Option<Edit<'a>>
+    ensures { IfSome result (IsNamed name.now values.now) }
+{
     let (first, rest) = number_and_rest(values)?;
     match name {
         "insert" => Some(Edit::Insert(first, only_char(rest)?)),
@@ -62,7 +74,9 @@ fn parse_edit_at<'a>(name: &str, values: &'a str) -> Option<Edit<'a>> {
 }
 
 // The edit of this name with these values, but `retain`.
-fn parse_edit<'a>(name: &str, values: &'a str) -> Option<Edit<'a>> {
+fn parse_edit<'a>(name: &str, values: &'a str) -> Option<Edit<'a>>
+    ensures { IfSome result (IsNamed name.now values.now) }
+{
     match name {
         "push" => Some(Edit::Push(only_char(values)?)),
         "pushstr" => Some(Edit::PushStr(values)),
@@ -74,7 +88,9 @@ fn parse_edit<'a>(name: &str, values: &'a str) -> Option<Edit<'a>> {
 }
 
 // What a word names.
-fn parse_edit_word(alloc: Global, word: &str) -> Result<Option<EditWord<'_>>, AllocError> {
+fn parse_edit_word(alloc: Global, word: &str) -> Result<Option<EditWord<'_>>, AllocError>
+    ensures { IfOk result (λ o. IfSome o (NamesWord word.now)) }
+{
     let Some((name, values)) = word.split_once('=') else {
         return Ok(match word {
             "pop" => Some(EditWord::Whole(Edit::Pop)),
@@ -83,7 +99,10 @@ fn parse_edit_word(alloc: Global, word: &str) -> Result<Option<EditWord<'_>>, Al
         });
     };
     if name != "retain" {
-        return Ok(parse_edit(name, values).map(EditWord::Whole));
+        return match parse_edit(name, values) {
+            Some(edit) => Ok(Some(EditWord::Whole(edit))),
+            None => Ok(None),
+        };
     }
     let mut keep = Vec::with_capacity(alloc, values.len())?;
     for c in values.chars() {
@@ -96,7 +115,9 @@ fn parse_edit_word(alloc: Global, word: &str) -> Result<Option<EditWord<'_>>, Al
 pub fn parse_edit_words(
     alloc: Global,
     words: &[String],
-) -> Result<Option<Vec<EditWord<'_>>>, AllocError> {
+) -> Result<Option<Vec<EditWord<'_>>>, AllocError>
+    ensures { IfOk result (λ o. IfSome o (λ read. AreEach (λ bytes. NamesWord (string_bytes bytes)) words.now read.items)) }
+{
     let mut edits = Vec::with_capacity(alloc, words.len())?;
     for word in words {
         match parse_edit_word(alloc, word)? {
@@ -105,4 +126,15 @@ pub fn parse_edit_words(
         }
     }
     Ok(Some(edits))
+}
+
+/// The edits of such words.
+pub fn edits_of<'a>(alloc: Global, words: &'a [EditWord<'a>]) -> Result<Vec<Edit<'a>>, AllocError>
+    ensures { IfOk result (λ edits. AreEdits words.now edits.items) }
+{
+    let mut edits = Vec::with_capacity(alloc, words.len())?;
+    for word in words {
+        edits.push(word.edit())?;
+    }
+    Ok(edits)
 }

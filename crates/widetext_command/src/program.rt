@@ -1,12 +1,16 @@
 //! The program, over any devices.
 
-ghost use Rattle.std.specs.Prelude.{◌≡◌, ◌≤◌, Option, OnErr, false};
+ghost use Rattle.std.specs.Prelude.{◌≡◌, ◌≤◌, ◌++◌, Option, OnOk, OnErr, false, string_bytes};
+ghost use Rattle.std.specs.Io.KnownBytes.{Appends};
+ghost use Rattle.std.specs.Option.{option_map};
+ghost use Rattle.wide_unit.specs.Unit.{told_item};
 ghost use Rattle.wide_unit.specs.declared.policy.Policy.{Policy};
 ghost use Rattle.widetext_base.specs.Command.{AsksForUtf8, AsksForNoUtf8, Utf8Run};
-ghost use Rattle.widetext_command.specs.Command.{IsUnknown};
+ghost use Rattle.widetext_command.specs.Command.{AsksForEnds, AsksForEdits, IsEdited, IsWritten, WritesEnds, WritesEdits, IsUnknown};
+ghost use Rattle.widetext_command.specs.Lines.{answer_line, ends_lines};
 
 use crate::edit_lines::edit_lines;
-use crate::edit_words::EditWord;
+use crate::edit_words::{EditWord, edits_of};
 use crate::words::{Request, parse_words};
 use std::alloc::{AllocError, Global};
 use std::fmt::Write;
@@ -19,7 +23,9 @@ use widetext_base::{end, parse_utf8, refuse_words, write_utf8};
 fn push_answer(
     lines: &mut String,
     answer: &Option<Result<char, DecodeUtf16Error>>,
-) -> Result<(), AllocError> {
+) -> Result<(), AllocError>
+    ensures { OnOk result (string_bytes lines.new ≡ string_bytes lines.old ++ answer_line (option_map told_item answer.now)) }
+{
     match answer {
         Some(Ok(c)) => writeln!(lines, "U+{:04X}", u32::from(*c)),
         Some(Err(fault)) => writeln!(lines, "fault {:x}", fault.unpaired_surrogate()),
@@ -35,6 +41,7 @@ fn write_answers<K: ByteSink>(
     ends: &[End],
 ) -> Result<(), TranscodeError>
     requires { K.has_failed sink.old ≡ false }
+    ensures written { OnOk result (Appends (K.held sink.old) (K.held sink.new) (ends_lines units.now ends.now)) }
     ensures refused { OnErr result (K.has_failed sink.new ≡ false → sink.new ≡ sink.old) }
 {
     let answers = read_ends16(alloc, units, ends)?;
@@ -50,12 +57,14 @@ fn write_edits<K: ByteSink>(
     alloc: Global,
     sink: &mut K,
     text: &str,
-    edits: &[EditWord<'_>],
+    words: &[EditWord<'_>],
 ) -> Result<(), TranscodeError>
     requires { K.has_failed sink.old ≡ false }
+    ensures written { OnOk result (IsEdited text.now words.now (K.held sink.old) (K.held sink.new)) }
     ensures refused { OnErr result (K.has_failed sink.new ≡ false → sink.new ≡ sink.old) }
 {
-    put_all(sink, edit_lines(alloc, text, edits)?.as_bytes())
+    let edits = edits_of(alloc, words)?;
+    put_all(sink, edit_lines(alloc, text, &edits)?.as_bytes())
 }
 
 // The lines that a request gives, all made before any is written.
@@ -65,6 +74,7 @@ fn write_lines<K: ByteSink>(
     request: &Request<'_>,
 ) -> Result<(), TranscodeError>
     requires { K.has_failed sink.old ≡ false }
+    ensures written { OnOk result (IsWritten (K.held sink.old) (K.held sink.new) request.now) }
     ensures refused { OnErr result (K.has_failed sink.new ≡ false → sink.new ≡ sink.old) }
 {
     match request {
@@ -95,6 +105,12 @@ pub fn command<S: ByteSource, K: ByteSink, F: ByteSink>(
 
     // Nothing is said on the fault stream where all went well.
     ensures quiet { result ≡ 0 → faults.new ≡ faults.old }
+
+    // The word `ends`: at status 0 the sink has got the lines of the units that its words name, and of the calls, and nothing else.
+    ensures ends { AsksForEnds words.now → result ≡ 0 → WritesEnds words.now (K.held sink.old) (K.held sink.new) }
+
+    // The word `edit`: at status 0 the sink has got the lines of the edits that its words name, of its text, and nothing else.
+    ensures edit { AsksForEdits words.now → result ≡ 0 → WritesEdits words.now (K.held sink.old) (K.held sink.new) }
 
     // All other words read nothing, and wrong ones write nothing but the usage.
     ensures reads { AsksForNoUtf8 words.now → source.new ≡ source.old }

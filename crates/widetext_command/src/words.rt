@@ -1,6 +1,6 @@
 //! What the words of the program ask for, but `utf8`.
-ghost use Rattle.std.specs.Prelude.{◌≡◌};
-ghost use Rattle.widetext_command.specs.Command.{IsUnknown};
+ghost use Rattle.std.specs.Prelude.{◌≡◌, map, IfOk, IfSome, string_bytes};
+ghost use Rattle.widetext_command.specs.Command.{IsUnit, NamesUnits, end_letter, IsEndsOf, IsEditOf, IsAskedBy, IsUnknown};
 
 use crate::edit_words::{EditWord, parse_edit_words};
 use std::alloc::{AllocError, Global};
@@ -26,15 +26,19 @@ pub enum Request<'a> {
 }
 
 // The unit of one to four hexadecimal digits.
-fn parse_unit(digits: &str) -> Option<u16> {
-    if digits.len() > 4 || !digits.bytes().all(|digit| digit.is_ascii_hexdigit()) {
+fn parse_unit(digits: &str) -> Option<u16>
+    ensures { IfSome result (IsUnit digits.now) }
+{
+    if digits.len() > 4 || digits.starts_with('+') {
         return None;
     }
     u16::from_str_radix(digits, 16).ok()
 }
 
 // The units of a word: `-` for none, or units with commas between them.
-fn parse_units(alloc: Global, word: &str) -> Result<Option<Vec<u16>>, AllocError> {
+fn parse_units(alloc: Global, word: &str) -> Result<Option<Vec<u16>>, AllocError>
+    ensures { IfOk result (λ r. IfSome r (λ units. NamesUnits word.now units.items)) }
+{
     let mut units = Vec::new(alloc);
     if word == "-" {
         return Ok(Some(units));
@@ -49,7 +53,9 @@ fn parse_units(alloc: Global, word: &str) -> Result<Option<Vec<u16>>, AllocError
 }
 
 // The ends that the letters `F` and `B` of a word name.
-fn parse_ends(alloc: Global, word: &str) -> Result<Option<Vec<End>>, AllocError> {
+fn parse_ends(alloc: Global, word: &str) -> Result<Option<Vec<End>>, AllocError>
+    ensures { IfOk result (λ r. IfSome r (λ ends. word.now ≡ map end_letter ends.items)) }
+{
     let mut ends = Vec::with_capacity(alloc, word.len())?;
     for letter in word.bytes() {
         let end = match letter {
@@ -67,7 +73,9 @@ fn parse_ends_request<'a>(
     alloc: Global,
     units: &str,
     calls: &str,
-) -> Result<Option<Request<'a>>, AllocError> {
+) -> Result<Option<Request<'a>>, AllocError>
+    ensures { IfOk result (λ r. IfSome r (IsEndsOf units.now calls.now)) }
+{
     let Some(units) = parse_units(alloc, units)? else {
         return Ok(None);
     };
@@ -82,7 +90,9 @@ fn parse_edit_request<'a>(
     alloc: Global,
     text: &'a str,
     words: &'a [String],
-) -> Result<Option<Request<'a>>, AllocError> {
+) -> Result<Option<Request<'a>>, AllocError>
+    ensures { IfOk result (λ r. IfSome r (IsEditOf text.now words.now)) }
+{
     match parse_edit_words(alloc, words)? {
         Some(edits) => Ok(Some(Request::Edit { text, edits })),
         None => Ok(None),
@@ -92,6 +102,7 @@ fn parse_edit_request<'a>(
 /// What the words ask for that reads no input, where they are in order.
 pub fn parse_words(alloc: Global, words: &[String]) -> Result<Option<Request<'_>>, AllocError>
     ensures unknown { IsUnknown words.now → result ≡ Ok None }
+    ensures asked { IfOk result (λ r. IfSome r (IsAskedBy words.now)) }
 {
     match words {
         [word, units, calls] if word.as_str() == "ends" => {

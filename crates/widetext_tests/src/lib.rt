@@ -6,6 +6,8 @@ mod driver;
 #[cfg(test)]
 mod line_rows;
 #[cfg(test)]
+mod long_rows;
+#[cfg(test)]
 mod memory_rows;
 #[cfg(test)]
 mod utf8_rows;

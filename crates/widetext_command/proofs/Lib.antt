@@ -1,0 +1,5 @@
+mod Lines
+mod Edits
+mod Units
+mod Hex
+mod Asking

@@ -1,0 +1,75 @@
+-- The edits that words name.
+use Rattle.std.specs.Prelude.{◌≡◌, ℕ, List, [], ◌∷◌, ◌++◌, codes, encode_utf8, encode_utf8_all}
+use Rattle.std.specs.Str.Parse.{IsNumeral, digits_value}
+use Rattle.wide_edit.specs.declared.edits.Edit as edit
+use Rattle.wide_edit.specs.declared.edits.Edit.TheVariants.{Push, PushStr, Pop, Truncate, Insert, InsertStr, Remove, Retain, Drain, Replace, SplitOff, Clear}
+use Rattle.widetext_command.specs.declared.edit_words.EditWord.{EditWord}
+use Rattle.widetext_command.specs.declared.edit_words.EditWord.TheVariants as word
+
+-- the edit of a word that was read: one that keeps characters has the list of these
+abbrev pub IsEdit : EditWord → edit.Edit → Type 0
+IsEdit (word.Whole e) found = found ≡ e
+IsEdit (word.Retain keep) (Retain kept) = kept.now ≡ keep.items
+IsEdit (word.Retain keep) found = ⊥
+
+-- each of a list with the one at its place in another
+abbrev pub AreEach : {X Y : Type 0} → (X → Y → Type 0) → List X → List Y → Type 0
+AreEach R [] [] = Unit {0}
+AreEach R [] (y ∷ ys) = ⊥
+AreEach R (x ∷ xs) [] = ⊥
+AreEach R (x ∷ xs) (y ∷ ys) = R x y × AreEach R xs ys
+
+abbrev pub AreEdits : List EditWord → List edit.Edit → Type 0
+AreEdits words edits = AreEach IsEdit words edits
+
+-- a number in decimal; and one with a comma and more behind it
+abbrev pub IsNumber : List ℕ → ℕ → Type 0
+IsNumber digits n = IsNumeral 10 digits × (digits_value 10 digits ≡ n)
+
+abbrev pub IsNumberThen : List ℕ → ℕ → List ℕ → Type 0
+IsNumberThen values n rest = (digits : List ℕ) × (values ≡ digits ++ 44 ∷ rest) × IsNumber digits n
+
+-- the name of an edit
+abbrev pub edit_name : edit.Edit → List ℕ
+edit_name (Push c) = codes "push"
+edit_name (PushStr t) = codes "pushstr"
+edit_name Pop = codes "pop"
+edit_name (Truncate m) = codes "truncate"
+edit_name (Insert i c) = codes "insert"
+edit_name (InsertStr i t) = codes "insertstr"
+edit_name (Remove i) = codes "remove"
+edit_name (Retain keep) = codes "retain"
+edit_name (Drain a b) = codes "drain"
+edit_name (Replace a b t) = codes "replace"
+edit_name (SplitOff i) = codes "splitoff"
+edit_name Clear = codes "clear"
+
+-- what stands behind the name and the equals sign of an edit that has values
+abbrev pub AreValues : List ℕ → edit.Edit → Type 0
+AreValues values (Push c) = values ≡ encode_utf8 c
+AreValues values (PushStr t) = values ≡ t.now
+AreValues values Pop = ⊥
+AreValues values (Truncate m) = IsNumber values m
+AreValues values (Insert i c) = IsNumberThen values i (encode_utf8 c)
+AreValues values (InsertStr i t) = IsNumberThen values i t.now
+AreValues values (Remove i) = IsNumber values i
+AreValues values (Retain keep) = values ≡ encode_utf8_all keep.now
+AreValues values (Drain a b) = (rest : List ℕ) × IsNumberThen values a rest × IsNumber rest b
+AreValues values (Replace a b t) = (rest : List ℕ) × IsNumberThen values a rest × IsNumberThen rest b t.now
+AreValues values (SplitOff i) = IsNumber values i
+AreValues values Clear = ⊥
+
+-- the edit has this name and these values
+abbrev pub IsNamed : List ℕ → List ℕ → edit.Edit → Type 0
+IsNamed name values found = (name ≡ edit_name found) × AreValues values found
+
+-- a word names an edit: `pop` and `clear` by themselves, and others by their name, an equals sign and their values
+abbrev pub NamesEdit : List ℕ → edit.Edit → Type 0
+NamesEdit bytes Pop = bytes ≡ codes "pop"
+NamesEdit bytes Clear = bytes ≡ codes "clear"
+NamesEdit bytes found = (name : List ℕ) × (values : List ℕ) × (bytes ≡ name ++ 61 ∷ values) × IsNamed name values found
+
+-- the same of what was read of a word
+abbrev pub NamesWord : List ℕ → EditWord → Type 0
+NamesWord bytes (word.Whole found) = NamesEdit bytes found
+NamesWord bytes (word.Retain keep) = bytes ≡ codes "retain=" ++ encode_utf8_all keep.items

@@ -1,0 +1,59 @@
+-- What the words `ends` and `edit` write.
+use Rattle.std.specs.Prelude.{ℕ, ◌-◌, false, true, List, [], ◌∷◌, ◌++◌, length, replicate, codes, Option, Some, None}
+use Rattle.std.specs.Char.Escape.{escape_default}
+use Rattle.std.specs.Fmt.{digits}
+use Rattle.std.specs.List.{flat_map}
+use Rattle.wide_unit.specs.EncodingForm.{Utf16, Utf32, encode}
+use Rattle.wide_unit.specs.Items.{items}
+use Rattle.wide_unit.specs.Segmentation.{Item, Char, Fault}
+use Rattle.wide_unit.specs.Utf8.{utf8}
+use Rattle.wide_iter.specs.Answers.{answers}
+use Rattle.wide_iter.specs.declared.ends.End.{End}
+use Rattle.wide_edit.specs.Step as step
+use Rattle.wide_edit.specs.declared.edits.Edit.{Edit}
+
+-- a number in upper-case hexadecimal, with zeros before it up to so many digits
+abbrev pub padded_hex : ℕ → ℕ → List ℕ
+padded_hex width n = replicate (width - length (digits 16 true n)) 48 ++ digits 16 true n
+
+-- the line of an answer
+abbrev pub answer_line : Option Item → List ℕ
+answer_line (Some (Char c)) = codes "U+" ++ (padded_hex 4 c ++ codes "\n")
+answer_line (Some (Fault u)) = codes "fault " ++ (digits 16 false u ++ codes "\n")
+answer_line None = codes "none\n"
+
+-- the lines of what a decoder of the units answers to the calls
+abbrev pub ends_lines : List ℕ → List End → List ℕ
+ends_lines us ends = flat_map answer_line (answers (items Utf16 us) ends)
+
+-- characters, each as `char::escape_default` gives it
+abbrev pub escaped : List ℕ → List ℕ
+escaped cs = utf8 (flat_map escape_default cs)
+
+-- the line of an edit's answer
+abbrev pub reply_line : step.Answer → List ℕ
+reply_line step.Done = codes "done\n"
+reply_line (step.Char c) = codes "char " ++ (escaped (c ∷ []) ++ codes "\n")
+reply_line step.NoChar = codes "nochar\n"
+reply_line (step.Chars cs) = codes "chars " ++ (escaped cs ++ codes "\n")
+reply_line step.BadPlace = codes "badplace\n"
+reply_line step.BadRange = codes "badrange\n"
+
+-- the line of a text
+abbrev pub text_line : List ℕ → List ℕ
+text_line cs = codes "text " ++ (escaped cs ++ codes "\n")
+
+-- a space, and a unit of so many digits; the units of a line, behind its name
+abbrev pub spaced_unit : ℕ → ℕ → List ℕ
+spaced_unit width u = 32 ∷ padded_hex width u
+
+abbrev pub units_line : List ℕ → ℕ → List ℕ → List ℕ
+units_line name width us = name ++ (flat_map (spaced_unit width) us ++ codes "\n")
+
+-- the line of a text, and those of its units in UTF-16 and in UTF-32
+abbrev pub text_lines : List ℕ → List ℕ
+text_lines cs = text_line cs ++ (units_line (codes "utf16") 4 (encode Utf16 cs) ++ units_line (codes "utf32") 8 (encode Utf32 cs))
+
+-- the lines of the answers to the edits of a text, and then those of the text that they make
+abbrev pub edit_lines : List ℕ → List Edit → List ℕ
+edit_lines cs edits = flat_map reply_line (step.meaning cs edits).1 ++ text_lines (step.meaning cs edits).0
