@@ -1,5 +1,5 @@
 -- The laws of the definitions, each the contract of a function of the crate.
-use Rattle.std.specs.Prelude.{◌≡◌, ◌≢◌, ℕ, ◌≤◌, ◌↔◌, List, [], ◌∷◌, ◌++◌, map, length, take, drop, slice_range, Some, None, Bool, false}
+use Rattle.std.specs.Prelude.{◌≡◌, ◌≢◌, ℕ, ◌*◌, ◌≤◌, ◌↔◌, List, [], ◌∷◌, ◌++◌, map, length, take, drop, slice_range, Some, None, Bool, false}
 use Rattle.std.specs.Char.{IsScalar, encode_utf8}
 use Rattle.std.specs.List.{All, Contains, splice}
 use Rattle.std.specs.declared.cmp.Ordering.TheVariants.{Equal}
@@ -52,6 +52,10 @@ Items32Join = (a b : List ℕ) → items Utf32 (a ++ b) ≡ items Utf32 a ++ ite
 
 abbrev pub Items32Count : Type 0
 Items32Count = (us : List ℕ) → length (items Utf32 us) ≡ length us
+
+-- in UTF-16 there are at least half as many items as units, rounded up, well formed or not
+abbrev pub Items16Count : Type 0
+Items16Count = (us : List ℕ) → length us ≤ 2 * length (items Utf16 us)
 
 -- lossy text is of scalar values, and its encoding is the units themselves where those are well formed
 abbrev pub LossyIsScalars : Type 0

@@ -1,13 +1,15 @@
 -- The laws of items: there is one segmentation, joined lists, characters and their encoding.
-use Rattle.std.proofs.Common.{◌≡◌, ℕ, suc, zero, ◌<◌, List, [], ◌∷◌, ◌++◌, refl, sym, ◌∙◌, ap, arith, length, get_or, append_assoc, subst}
+use Rattle.std.proofs.Common.{◌≡◌, ℕ, suc, zero, ◌*◌, ◌<◌, ◌≤◌, List, [], ◌∷◌, ◌++◌, inl, inr, refl, sym, ◌∙◌, ap, arith, length, get_or, append_assoc, length-append, subst}
 use Rattle.std.specs.Prelude.{map}
 use Rattle.std.specs.Char.{IsScalar}
 use Rattle.std.specs.List.{All, Contains}
+use Rattle.std.proofs.lemmas.Bool.{cases_lt}
 use Rattle.std.proofs.lemmas.List.{append-nil}
 use Rattle.std.proofs.lemmas.List.Concat.{flat_map-append}
-use Rattle.wide_unit.specs.EncodingForm.{EncodingForm, code_units, encode, IsFault, IsPair}
+use Rattle.wide_unit.specs.EncodingForm.{EncodingForm, Utf16, code_units, encode, IsFault, IsPair}
 use Rattle.wide_unit.specs.Segmentation.{Item, Char, Fault, item_units, units_of, IsSegmentation}
 use Rattle.wide_unit.specs.Items.{items, items-segment, IsWellFormed, characters, chars}
+use Rattle.wide_unit.specs.Laws.Forms.{one_unit, two_units}
 use Rattle.wide_unit.specs.Laws.Chains.{MayPrecede, Chain, chain_of, IsSegmentation-of_chain, chain-unique}
 
 -- no pair lies across the place between the two lists
@@ -112,3 +114,15 @@ scalars-of_items form cs us e = scalars-of_chain form cs (rw e at (items-chain f
 -- Equal characters are equal units, and the other way round.
 pub same_units : (form : EncodingForm) (us vs cs ds : List ℕ) → items form us ≡ map Char cs → items form vs ≡ map Char ds → cs ≡ ds → us ≡ vs
 same_units form us vs cs ds a b e = sym (encode-of_items form cs us a) ∙ ap (λ x. encode form x) e ∙ encode-of_items form ds vs b
+
+-- In UTF-16 an item is one unit or two.
+length-item16 : (i : Item) → length (item_units Utf16 i) ≤ 2
+length-item16 (Fault u) = omega arith
+length-item16 (Char c) = elim (cases_lt c 0x1_0000) [ inl below ↦ rw (one_unit c below) (omega arith) | inr from ↦ rw (two_units c from) (omega arith) ]
+
+length-units16 : (is : List Item) → length (units_of Utf16 is) ≤ 2 * length is
+length-units16 [] = omega arith
+length-units16 (i ∷ is) = omega (arith, length-item16 i, length-units16 is, length-append (item_units Utf16 i) (units_of Utf16 is))
+
+pub length-items16 : (us : List ℕ) → length us ≤ 2 * length (items Utf16 us)
+length-items16 us = omega (arith, length-units16 (items Utf16 us), ap length (units_of-items Utf16 us))
