@@ -6,6 +6,6 @@ use Rattle.wide_edit.specs.declared.counting.Steps.{Steps}
 abbrev pub counted : Steps → ℕ
 counted steps = steps.count
 
--- at most so many were added
+-- none were taken away, and at most so many were added
 abbrev pub AddsAtMost : Steps → Steps → ℕ → Type 0
-AddsAtMost before after most = counted after ≤ counted before + most
+AddsAtMost before after most = (counted before ≤ counted after) × (counted after ≤ counted before + most)

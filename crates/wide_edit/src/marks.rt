@@ -35,6 +35,7 @@ pub(crate) fn mend(text: Utf16Str<'_>, marks: &mut Vec<usize>, steps: &mut Steps
     requires room { length (chars Utf16 (units_seen text)) / 64 ≤ vec_capacity marks.old }
     ensures marks { marks.new.items ≡ marks_of (chars Utf16 (units_seen text.entry)) }
     ensures room { vec_capacity marks.new ≡ vec_capacity marks.old }
+    ensures grows { counted steps.old ≤ counted steps.new }
     ensures steps { counted steps.new + mark (chars Utf16 (units_seen text.entry)) (length marks.old.items) ≡ counted steps.old + length (units_seen text.entry) }
 {
     let _units = text.len();

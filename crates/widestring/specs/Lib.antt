@@ -10,18 +10,65 @@ pub use Rattle.wide_unit.specs.Texts
 pub use Rattle.wide_unit.specs.Nul
 pub use Rattle.wide_unit.specs.Unit
 pub use Rattle.wide_unit.specs.Utf8
+pub use Rattle.wide_unit.specs.CodePoint
+pub use Rattle.wide_unit.specs.Searches
+pub use Rattle.wide_unit.specs.Statements
+pub use Rattle.wide_error.specs.Nul as NulPlaces
+pub use Rattle.wide_error.specs.NulError
+pub use Rattle.wide_error.specs.UCStringError
+pub use Rattle.wide_error.specs.Texts as ErrorTexts
 pub use Rattle.wide_utferror.specs.UtfError
 pub use Rattle.wide_utferror.specs.Converted
 pub use Rattle.wide_iter.specs.Answers
+pub use Rattle.wide_iter.specs.Source
+pub use Rattle.wide_iter.specs.Sources
+pub use Rattle.wide_iter.specs.Over
+pub use Rattle.wide_iter.specs.Hints
+pub use Rattle.wide_iter.specs.Decoder16
+pub use Rattle.wide_iter.specs.Decoder32
+pub use Rattle.wide_iter.specs.Lossy as LossyDecoder
+pub use Rattle.wide_iter.specs.LossyDecoders
+pub use Rattle.wide_iter.specs.LossyWith as LossyDecoderWith
+pub use Rattle.wide_iter.specs.Encoder8
+pub use Rattle.wide_iter.specs.Encoder16
+pub use Rattle.wide_iter.specs.Encoder32
+pub use Rattle.wide_ustr.specs.View as UnitView
+pub use Rattle.wide_ustr.specs.Iter as UnitIter
+pub use Rattle.wide_ustr.specs.Indexed as UnitIndexed
+pub use Rattle.wide_ustr.specs.LossyWith as UnitLossyWith
+pub use Rattle.wide_ustr.specs.Lines as LinesLeft
+pub use Rattle.wide_ustr.specs.Printed
 pub use Rattle.wide_ustring.specs.Units
 pub use Rattle.wide_ustring.specs.CowUnits
+pub use Rattle.wide_ustring.specs.Drain as UnitDrain
+pub use Rattle.wide_ustring.specs.Extended
+pub use Rattle.wide_ustring.specs.Lends
+pub use Rattle.wide_ustring.specs.Taken
 pub use Rattle.wide_ucstr.specs.CString
+pub use Rattle.wide_ucstr.specs.View as CStringView
+pub use Rattle.wide_ucstr.specs.Faults as CStringFaults
+pub use Rattle.wide_ucstr.specs.Statements as CStringStatements
 pub use Rattle.wide_ucstring.specs.CowCString
+pub use Rattle.wide_ucstring.specs.Made
+pub use Rattle.wide_ucstring.specs.Refused
 pub use Rattle.wide_utfstr.specs.View
+pub use Rattle.wide_utfstr.specs.Iter
+pub use Rattle.wide_utfstr.specs.Indexed
 pub use Rattle.wide_utfstr.specs.Trim
 pub use Rattle.wide_utfstr.specs.Escapes
 pub use Rattle.wide_utfstring.specs.CowText
+pub use Rattle.wide_utfstring.specs.Drain
+pub use Rattle.wide_utfstring.specs.Faults
 pub use Rattle.wide_edit.specs.Step
 pub use Rattle.wide_edit.specs.Edited
 pub use Rattle.wide_edit.specs.Counted
 pub use Rattle.wide_edit.specs.Marks
+pub use Rattle.wide_bytes.specs.Bytes
+pub use Rattle.wide_bytes.specs.Devices
+pub use Rattle.wide_bytes.specs.FromRead
+pub use Rattle.wide_bytes.specs.FromWrite
+pub use Rattle.wide_bytes.specs.Pieces
+pub use Rattle.wide_bytes.specs.Run
+pub use Rattle.wide_bytes.specs.Transcoded
+pub use Rattle.wide_bytes.specs.UnitsOfBytes
+pub use Rattle.wide_include.specs.Include

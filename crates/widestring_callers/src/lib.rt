@@ -10,3 +10,4 @@ pub mod faults;
 pub mod lockstep;
 pub mod places32;
 pub mod texts;
+pub mod words;

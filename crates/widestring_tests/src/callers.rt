@@ -1,14 +1,14 @@
 //! Callers at concrete sources, whose contracts follow from those of the library.
 ghost use Rattle.std.specs.Prelude.{◌≡◌, ℕ, [], IfOk, MatchOption, List, map, ◌∷◌, ◌++◌};
 ghost use Rattle.std.specs.Iterator.{IsFinite, YieldsFirst, item_count};
-ghost use Rattle.wide_iter.specs.Over.{GivesFirst};
-ghost use Rattle.wide_unit.specs.EncodingForm.{Utf16, Utf32, IsCodeUnit};
-ghost use Rattle.wide_unit.specs.Items.{items};
-ghost use Rattle.wide_unit.specs.Lossy.{lossy};
-ghost use Rattle.wide_unit.specs.Segmentation.{Item};
-ghost use Rattle.wide_unit.specs.Unit.{told_item};
+ghost use Rattle.widestring.specs.Over.{GivesFirst};
+ghost use Rattle.widestring.specs.EncodingForm.{Utf16, Utf32, IsCodeUnit};
+ghost use Rattle.widestring.specs.Items.{items};
+ghost use Rattle.widestring.specs.Lossy.{lossy};
+ghost use Rattle.widestring.specs.Segmentation.{Item};
+ghost use Rattle.widestring.specs.Unit.{told_item};
 ghost use Rattle.widestring_tests.specs.Front.{front_rest};
-ghost use Rattle.wide_bytes.specs.Transcoded.{transcoded, Clean};
+ghost use Rattle.widestring.specs.Transcoded.{transcoded, Clean};
 ghost use Rattle.wide_bytes.specs.declared.mode.Mode.TheVariants.{Strict};
 
 use std::alloc::{AllocError, Global};

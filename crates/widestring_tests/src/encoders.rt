@@ -1,8 +1,8 @@
 //! Encoders at concrete sources.
 ghost use Rattle.std.specs.Prelude.{◌≡◌, ◌∷◌, ◌++◌, [], ℕ, List, IfOk, MatchOption};
 ghost use Rattle.std.specs.Str.{chars};
-ghost use Rattle.wide_unit.specs.EncodingForm.{Utf16, Utf32, encode};
-ghost use Rattle.wide_unit.specs.Utf8.{utf8};
+ghost use Rattle.widestring.specs.EncodingForm.{Utf16, Utf32, encode};
+ghost use Rattle.widestring.specs.Utf8.{utf8};
 
 use std::alloc::{AllocError, Global};
 use widestring::{encode_utf8, encode_utf16, encode_utf32};

@@ -1,178 +1,132 @@
-//! Each public name of the library, once, by its path through `widestring`.
+//! Each public name of the library, once, by its path through `widestring`, as `docs/paths` makes it of the sources.
 //!
-//! A name that moves makes this file fail to check. Calls of types are named where they are tested.
-use std::alloc::Global;
-use widestring::bytes::{BoM, FromRead, FromWrite, Mode};
-use widestring::error::{
-    ContainsNul, DecodeUtf16Error, DecodeUtf32Error, FirstFault, MissingNulTerminator, NulError,
-    OutOfMemory, TranscodeError, UCStringError, Utf16Error, Utf32Error, UtfError,
-};
-use widestring::iter::{
-    DecodeUtf16, DecodeUtf16Lossy, DecodeUtf32, DecodeUtf32Lossy, EncodeUtf8, EncodeUtf16,
-    EncodeUtf32, End,
-};
-use widestring::{ucstr, ucstring, ustr, ustring, utfstr, utfstring};
+//! A name that moves makes this file fail to check. What calls do is tested elsewhere.
 
-// The traits, with those under which calls stand that name types of later modules, by width too.
-pub use widestring::bytes::{ByteSink, ByteSource};
-pub use widestring::error::FaultUnit;
-pub use widestring::ucstr::{U16StrInUcstr, U32StrInUcstr, UStrInUcstr};
-pub use widestring::ucstring::{
-    U16CStrInUcstring, U16StringInUcstring, U16StringOverUcstrs, U32CStrInUcstring,
-    U32StringInUcstring, U32StringOverUcstrs, UCStrInUcstring, UStringInUcstring,
-    UStringOverUcstrs,
-};
-pub use widestring::unit::Unit;
-pub use widestring::ustr::LineView;
-pub use widestring::ustring::{U16StrInUstring, U32StrInUstring, UStrInUstring};
-pub use widestring::utfstr::{
-    U16CStrInUtfstr, U16StrInUtfstr, U32CStrInUtfstr, U32StrInUtfstr, UCStrInUtfstr, UStrInUtfstr,
-};
-pub use widestring::utfstring::{
-    U16StringInUtfstring, U16StringOverUtfstrs, U32StringInUtfstring, U32StringOverUtfstrs,
-    UStringInUtfstring, UStringOverUtfstrs, Utf16StrInUtfstring, Utf32StrInUtfstring,
-    UtfStrInUtfstring,
+pub use widestring::{
+    Policy, U16CStr, U16CString, U16Str, U16String, U32CStr, U32CString, U32Str, U32String,
+    Utf16Str, Utf16String, Utf32Str, Utf32String, WideCStr, WideCString, WideChar, WideStr,
+    WideString, WideUtfStr, WideUtfString, decode_utf16, decode_utf16_lossy,
+    decode_utf16_lossy_with, decode_utf32, decode_utf32_lossy, decode_utf32_lossy_with,
+    encode_utf8, encode_utf16, encode_utf32,
 };
 
-// Names of the root.
-pub type Roots<'a> = (
-    (widestring::U16Str<'a>, widestring::U32Str<'a>),
-    (widestring::WideStr<'a>, widestring::WideChar),
-    (
-        widestring::U16CStr<'a>,
-        widestring::U32CStr<'a>,
-        widestring::WideCStr<'a>,
-    ),
-    (
-        widestring::Utf16Str<'a>,
-        widestring::Utf32Str<'a>,
-        widestring::WideUtfStr<'a>,
-    ),
-    (
-        widestring::U16String,
-        widestring::U32String,
-        widestring::WideString,
-    ),
-    (
-        widestring::U16CString,
-        widestring::U32CString,
-        widestring::WideCString,
-    ),
-    (
-        widestring::Utf16String,
-        widestring::Utf32String,
-        widestring::WideUtfString,
-    ),
-);
+pub mod bytes {
+    pub use widestring::bytes::{
+        BoM, ByteSink, ByteSource, FromRead, FromWrite, Mode, UnitsOfBytes, byte_order,
+        include_utf16str, put_all, transcode, transcode_with, units_of_bytes,
+    };
+}
 
-// Units and C strings that are borrowed or owned, and those in a boxed slice.
-pub type CowsAndBoxes<'a> = (
-    (ustring::CowU16Str<'a>, ustring::CowU32Str<'a>),
-    (ustring::BoxedU16Str, ustring::BoxedU32Str),
-    (ucstring::CowU16CStr<'a>, ucstring::CowU32CStr<'a>),
-    (ucstring::BoxedU16CStr, ucstring::BoxedU32CStr),
-);
+pub mod bytes_laws {
+    pub use widestring::bytes::laws::worked_units;
+}
 
-// Iterators over views of units, and over C strings.
-pub type UnitIterators<'a> = (
-    (ustr::CharsUtf16<'a>, ustr::CharsUtf32<'a>),
-    (ustr::CharsLossyUtf16<'a>, ustr::CharsLossyUtf32<'a>),
-    (ustr::CharIndicesUtf16<'a>, ustr::CharIndicesUtf32<'a>),
-    (
-        ustr::CharIndicesLossyUtf16<'a>,
-        ustr::CharIndicesLossyUtf32<'a>,
-    ),
-    (ucstr::CharsUtf16<'a>, ucstr::CharsUtf32<'a>),
-    (ucstr::CharsLossyUtf16<'a>, ucstr::CharsLossyUtf32<'a>),
-    (ucstr::CharIndicesUtf16<'a>, ucstr::CharIndicesUtf32<'a>),
-    (
-        ucstr::CharIndicesLossyUtf16<'a>,
-        ucstr::CharIndicesLossyUtf32<'a>,
-    ),
-);
+pub mod edit {
+    pub use widestring::edit::{Edit, Marked16, Reply, Steps, Stopped, TextEdit, run, run_both};
+}
 
-// Iterators over well-formed text, and drains.
-pub type TextIterators<'a> = (
-    (
-        utfstr::CharsUtf16<'a>,
-        utfstr::CharsUtf32<'a>,
-        utfstr::CodeUnits<'a>,
-    ),
-    (utfstr::CharIndicesUtf16<'a>, utfstr::CharIndicesUtf32<'a>),
-    (ustring::Drain<'a, u16>, ustring::Drain<'a, u32>),
-    (utfstring::DrainUtf16<'a>, utfstring::DrainUtf32<'a>),
-);
+pub mod error {
+    pub use widestring::error::{
+        ContainsNul, DecodeUtf16Error, DecodeUtf32Error, FaultUnit, FirstFault,
+        MissingNulTerminator, NulError, OutOfMemory, TranscodeError, UCStringError,
+        Utf16BytesError, Utf16ConvertError, Utf16Error, Utf32ConvertError, Utf32Error, UtfError,
+    };
+}
 
-// Lines and escapes of text, and what prints views.
-pub type Texts<'a> = (
-    (
-        utfstr::EscapeDebug<'a, u16>,
-        utfstr::EscapeDefault<'a, u16>,
-        utfstr::EscapeUnicode<'a, u32>,
-    ),
-    (
-        utfstr::Lines<utfstr::UtfStr<'a, u16>>,
-        ustr::Lines<ustr::UStr<'a, u32>>,
-    ),
-    (ustr::Display<'a, u16>, ustr::DisplaySkipping<'a, u32>),
-    (ucstr::Display<'a, u16>, ucstr::DisplaySkipping<'a, u32>),
-);
+pub mod iter {
+    pub use widestring::iter::{
+        DecodeUtf16, DecodeUtf16Lossy, DecodeUtf16LossyWith, DecodeUtf32, DecodeUtf32Lossy,
+        DecodeUtf32LossyWith, EncodeUtf8, EncodeUtf16, EncodeUtf32, End, decode_utf16,
+        decode_utf16_lossy, decode_utf16_lossy_with, decode_utf32, decode_utf32_lossy,
+        decode_utf32_lossy_with, encode_utf8, encode_utf16, encode_utf32, read_ends16, read_ends32,
+        read_lossy_ends16, read_lossy_ends32,
+    };
+}
 
-// Well-formed text that is borrowed or owned, and well-formed text in a block of its own size.
-pub type OtherTexts<'a> = (
-    (
-        utfstring::CowUtfStr<'a, u16>,
-        utfstring::CowUtf16Str<'a>,
-        utfstring::CowUtf32Str<'a>,
-    ),
-    (
-        utfstring::BoxedUtfStr<u16>,
-        utfstring::BoxedUtf16Str,
-        utfstring::BoxedUtf32Str,
-    ),
-);
+pub mod ucstr {
+    pub use widestring::ucstr::{
+        CharIndices, CharIndicesLossy, CharIndicesLossyUtf16, CharIndicesLossyUtf32,
+        CharIndicesUtf16, CharIndicesUtf32, Chars, CharsLossy, CharsLossyUtf16, CharsLossyUtf32,
+        CharsUtf16, CharsUtf32, Display, DisplaySkipping, U16CStr, U16StrInUcstr, U32CStr,
+        U32StrInUcstr, UCStr, UStrInUcstr, WideCStr,
+    };
+}
 
-// The generic types that the names of a width stand for.
-pub type Generic<'a> = (
-    (
-        ustr::UStr<'a, u16>,
-        ustr::Chars<'a, u16>,
-        ustr::CharsLossy<'a, u16>,
-    ),
-    (ustr::CharIndices<'a, u16>, ustr::CharIndicesLossy<'a, u16>),
-    (ucstr::UCStr<'a, u16>, utfstr::UtfStr<'a, u16>),
-    (utfstr::Chars<'a, u16>, utfstr::CharIndices<'a, u16>),
-    (
-        ustring::UString<u16>,
-        ucstring::UCString<u16>,
-        utfstring::UtfString<u16>,
-    ),
-    utfstring::DrainUtf<'a, u16>,
-    (ustring::CowUStr<'a, u16>, ustring::BoxedUStr<u16>),
-    (ucstring::CowUCStr<'a, u16>, ucstring::BoxedUCStr<u16>),
-);
+pub mod ucstr_laws {
+    pub use widestring::ucstr::laws::{
+        comparisons_of_units16, comparisons_of_units32, contents_and_nul, hash_of_units,
+        order_of_contents,
+    };
+}
 
-// Decoders, encoders and devices.
-pub type Streams<I> = (
-    (
-        DecodeUtf16<I>,
-        DecodeUtf16Lossy<I>,
-        DecodeUtf32<I>,
-        DecodeUtf32Lossy<I>,
-    ),
-    (EncodeUtf8<I>, EncodeUtf16<I>, EncodeUtf32<I>, End),
-    (BoM, Mode, FromRead<I>, FromWrite<I>),
-);
+pub mod ucstring {
+    pub use widestring::ucstring::{
+        BoxedU16CStr, BoxedU32CStr, BoxedUCStr, CowU16CStr, CowU32CStr, CowUCStr, OfCStrings,
+        U16CStrInUcstring, U16CString, U16StringInUcstring, U16StringOverUcstrs, U32CStrInUcstring,
+        U32CString, U32StringInUcstring, U32StringOverUcstrs, UCStrInUcstring, UCString,
+        UStringInUcstring, UStringOverUcstrs, WideCString,
+    };
+}
 
-// Errors.
-pub type Errors = (
-    (
-        MissingNulTerminator,
-        ContainsNul<u16>,
-        NulError<u16>,
-        UCStringError<u16>,
-    ),
-    (DecodeUtf16Error, DecodeUtf32Error, UtfError<u16>),
-    (Utf16Error, Utf32Error, Utf16Error<Global>),
-    (OutOfMemory, TranscodeError, FirstFault<u16>),
-);
+pub mod unit {
+    pub use widestring::unit::{
+        FirstFault, Policy, Unit, check, first_no_scalar, first_nul, first_surrogate,
+        length_as_utf16, length_as_utf32, next_code_point, order_of_units, range_check, same_units,
+        split_first, split_last, split_line, write_escape,
+    };
+}
+
+pub mod unit_laws {
+    pub use widestring::unit::laws::{
+        boundaries, code_points_of_text, encoded_characters, encodings_of_edits, equal_characters,
+        filtered_text, first_faults, items_of_utf16, joined_items, lines_of_units, lossy_text,
+        lossy_text_by_policy, neighbours_matter, one_segmentation, order_agrees,
+        places_of_characters, segmentations_by_form, spliced_text, units_of_utf32,
+        utf8_of_characters, worked_fault, worked_items, worked_lossy,
+    };
+}
+
+pub mod ustr {
+    pub use widestring::ustr::{
+        CharIndices, CharIndicesLossy, CharIndicesLossyUtf16, CharIndicesLossyUtf32,
+        CharIndicesUtf16, CharIndicesUtf32, Chars, CharsLossy, CharsLossyUtf16, CharsLossyUtf32,
+        CharsLossyWith, CharsUtf16, CharsUtf32, Display, DisplaySkipping, LineView, Lines, U16Str,
+        U32Str, UStr, WideChar, WideStr,
+    };
+}
+
+pub mod ustr_laws {
+    pub use widestring::ustr::laws::{
+        comparisons_of_units16, comparisons_of_units32, hash_of_units,
+    };
+}
+
+pub mod ustring {
+    pub use widestring::ustring::{
+        BoxedU16Str, BoxedU32Str, BoxedUStr, CowU16Str, CowU32Str, CowUStr, Drain, U16StrInUstring,
+        U16String, U32StrInUstring, U32String, UStrInUstring, UString, WideString,
+    };
+}
+
+pub mod ustring_extend {
+    pub use widestring::ustring::extend::{Growing, Piece, Whole, extend, from_iter};
+}
+
+pub mod utfstr {
+    pub use widestring::utfstr::{
+        CharIndices, CharIndicesUtf16, CharIndicesUtf32, Chars, CharsUtf16, CharsUtf32, CodeUnits,
+        EscapeDebug, EscapeDefault, EscapeUnicode, FirstFault, Lines, U16CStrInUtfstr,
+        U16StrInUtfstr, U32CStrInUtfstr, U32StrInUtfstr, UCStrInUtfstr, UStrInUtfstr, Utf16Str,
+        Utf32Str, UtfStr, WideUtfStr, check,
+    };
+}
+
+pub mod utfstring {
+    pub use widestring::utfstring::{
+        BoxedUtf16Str, BoxedUtf32Str, BoxedUtfStr, CowUtf16Str, CowUtf32Str, CowUtfStr, DrainUtf,
+        DrainUtf16, DrainUtf32, OfText, U16StringInUtfstring, U16StringOverUtfstrs,
+        U32StringInUtfstring, U32StringOverUtfstrs, UStringInUtfstring, UStringOverUtfstrs,
+        Utf16StrInUtfstring, Utf16String, Utf32StrInUtfstring, Utf32String, UtfStrInUtfstring,
+        UtfString, WideUtfString,
+    };
+}

@@ -39,4 +39,4 @@ returns-clause-steps c =
     let last = units_seen c.as_utfstr-5.result in
     let whole = ap (λ us. size Utf16 (chars Utf16 us)) (sym c.as_utfstr-5.ensures) ∙ whole-size last (well-formed last c.as_utfstr-5.result.well_formed) in
     let marked = ap (λ us. mark (chars Utf16 us) (length c.truncate.new.self.items)) c.as_utfstr-5.ensures ∙ ap (mark new) kept in
-    omega (arith, c.find_from-start.ensures.steps, c.find_from-end.ensures.steps, c.count_from-count.ensures.steps, c.tick.ensures, behind, c.mend.ensures.steps, whole, marked)
+    omega (arith, c.find_from-start.ensures.steps, c.find_from-end.ensures.steps, c.count_from-count.ensures.steps, c.tick.ensures, behind, c.mend.ensures.steps, c.mend.ensures.grows, whole, marked)

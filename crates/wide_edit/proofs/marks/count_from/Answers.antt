@@ -26,6 +26,7 @@ loop-c-init c =
     record {
       rest = c.seek-at.ensures.rest;
       within = omega (arith, ap length c.requires, length-map-range_with_len (mark cs) 1 (length cs / 64));
+      grows = omega arith;
       steps = omega arith;
     }
 
@@ -36,6 +37,7 @@ loop-c-preserved c =
     record {
       rest = goes.left;
       within = omega (arith, goes.below);
+      grows = omega (arith, i.grows, c.tick.ensures);
       steps = omega (arith, i.steps, c.tick.ensures, c.char_len.ensures.bound);
     }
 

@@ -12,6 +12,7 @@ invariant-loop-c l =
     record {
       rest : chars_left Utf16 (λ u. u) l.rest ≡ drop l.count cs;
       within : l.count ≤ length cs;
+      grows : counted l.fn.steps ≤ counted l.steps;
       steps : counted l.steps + 128 * length l.fn.marks ≤ counted l.fn.steps + 2 * l.count;
     }
 

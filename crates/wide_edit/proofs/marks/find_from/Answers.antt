@@ -15,6 +15,7 @@ loop-number-init c =
       rest = c.seek-at.ensures.rest;
       at = c.seek-at.ensures.at;
       within = omega (arith, c.min-first.ensures, ap length c.requires, length-map-range_with_len (mark cs) 1 (length cs / 64));
+      grows = omega arith;
       steps = omega arith;
     }
 
@@ -46,6 +47,7 @@ loop-number-preserved c =
       rest = goes.left;
       at = omega (arith, goes.at, i.at, c.char_len-len.ensures.value);
       within = omega (arith, goes.below);
+      grows = omega (arith, i.grows, c.tick.ensures);
       steps = omega (arith, i.steps, c.tick.ensures, c.char_len-len.ensures.bound);
     }
 

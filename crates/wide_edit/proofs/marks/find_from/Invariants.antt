@@ -13,5 +13,6 @@ invariant-loop-number l =
       rest : chars_left Utf16 (λ u. u) l.rest ≡ drop l.number cs;
       at : l.at ≡ length (encode Utf16 (take l.number cs));
       within : l.number ≤ length cs;
+      grows : counted l.fn.steps ≤ counted l.steps;
       steps : counted l.steps + 128 * l.first ≤ counted l.fn.steps + 2 * l.number;
     }

@@ -26,6 +26,7 @@ loop-c-init c =
       few = omega arith;
       within = omega (arith, few);
       room = refl;
+      grows = omega arith;
       steps = ap (λ n. counted c.args.steps.now + n) (sym (c.seek-at.ensures.at ∙ ap (mark cs) number));
     }
 
@@ -51,6 +52,7 @@ loop-c-preserved-then-gone-lt63 c =
       few = omega (arith, c.if-gone-lt63.true);
       within = omega (arith, goes.below);
       room = i.room;
+      grows = omega (arith, i.grows, c.tick.ensures);
       steps = omega (arith, i.steps, c.tick.ensures);
     }
 
@@ -75,6 +77,7 @@ loop-c-preserved c =
       few = omega arith;
       within = omega (arith, goes.below, next);
       room = c.push_reserved.ensures.capacity ∙ i.room;
+      grows = omega (arith, i.grows, c.tick.ensures);
       steps = omega (arith, i.steps, c.tick.ensures);
     }
 

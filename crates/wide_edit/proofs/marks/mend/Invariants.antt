@@ -22,6 +22,7 @@ invariant-loop-c l =
       few : l.gone < 64;
       within : read ≤ length cs;
       room : vec_capacity l.marks ≡ vec_capacity l.fn.marks;
+      grows : counted l.fn.steps ≤ counted l.steps;
       steps : counted l.steps + mark cs (length l.fn.marks.items) ≡ counted l.fn.steps + l.at;
     }
 
