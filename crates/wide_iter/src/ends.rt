@@ -1,5 +1,5 @@
 //! Reading from both ends, by a list of calls.
-ghost use Rattle.std.specs.Prelude.{◌≡◌, map, IfOk};
+ghost use Rattle.std.specs.Prelude.{◌≡◌, [], map, IfOk, IsOk};
 ghost use Rattle.std.specs.Option.{option_map};
 ghost use Rattle.wide_unit.specs.EncodingForm.{Utf16, Utf32};
 ghost use Rattle.wide_unit.specs.Items.{items};
@@ -23,13 +23,14 @@ pub enum End {
 /// What a decoder of the 16-bit `units` answers to the calls of `ends`, one answer for each call, in order
 /// (Unicode Standard, D91).
 ///
-/// Memory for the answers is asked for once; where it is refused, the answer is [`OutOfMemory`].
+/// Memory for the answers is asked for once, and none for no calls; where it is refused, the answer is [`OutOfMemory`].
 pub fn read_ends16<A: Allocator>(
     alloc: A,
     units: &[u16],
     ends: &[End],
 ) -> Result<Vec<Option<Result<char, DecodeUtf16Error>>, A>, OutOfMemory>
-    ensures { IfOk result (λ v. map (option_map told_item) v.items ≡ answers (items Utf16 units.now) ends.now) }
+    ensures answers { IfOk result (λ v. map (option_map told_item) v.items ≡ answers (items Utf16 units.now) ends.now) }
+    ensures succeeds { ends.now ≡ [] → IsOk result }
 {
     let mut given = Vec::with_capacity(alloc, ends.len())?;
     let mut decoder = decode_utf16(units.iter().copied());
@@ -46,13 +47,14 @@ pub fn read_ends16<A: Allocator>(
 /// What a decoder of the 32-bit `units` answers to the calls of `ends`, one answer for each call, in order
 /// (Unicode Standard, D90).
 ///
-/// Memory for the answers is asked for once; where it is refused, the answer is [`OutOfMemory`].
+/// Memory for the answers is asked for once, and none for no calls; where it is refused, the answer is [`OutOfMemory`].
 pub fn read_ends32<A: Allocator>(
     alloc: A,
     units: &[u32],
     ends: &[End],
 ) -> Result<Vec<Option<Result<char, DecodeUtf32Error>>, A>, OutOfMemory>
-    ensures { IfOk result (λ v. map (option_map told_item) v.items ≡ answers (items Utf32 units.now) ends.now) }
+    ensures answers { IfOk result (λ v. map (option_map told_item) v.items ≡ answers (items Utf32 units.now) ends.now) }
+    ensures succeeds { ends.now ≡ [] → IsOk result }
 {
     let mut answered = Vec::with_capacity(alloc, ends.len())?;
     let mut decoder = decode_utf32(units.iter().copied());

@@ -1,5 +1,5 @@
 //! Lossy reading from both ends, by a list of calls.
-ghost use Rattle.std.specs.Prelude.{◌≡◌, IfOk};
+ghost use Rattle.std.specs.Prelude.{◌≡◌, [], IfOk, IsOk};
 ghost use Rattle.wide_unit.specs.EncodingForm.{Utf16, Utf32};
 ghost use Rattle.wide_unit.specs.Items.{items};
 ghost use Rattle.wide_unit.specs.Lossy.{lossy_by};
@@ -14,14 +14,15 @@ use wide_unit::Policy;
 /// What a lossy decoder of the 16-bit `units` answers, under a policy, to the calls of `ends`, one answer for each call, in
 /// order (Unicode Standard, D91 and D93b).
 ///
-/// Memory for the answers is asked for once; where it is refused, the answer is [`OutOfMemory`].
+/// Memory for the answers is asked for once, and none for no calls; where it is refused, the answer is [`OutOfMemory`].
 pub fn read_lossy_ends16<A: Allocator>(
     alloc: A,
     units: &[u16],
     policy: Policy,
     ends: &[End],
 ) -> Result<Vec<Option<char>, A>, OutOfMemory>
-    ensures { IfOk result (λ v. v.items ≡ answers (lossy_by policy (items Utf16 units.now)) ends.now) }
+    ensures answers { IfOk result (λ v. v.items ≡ answers (lossy_by policy (items Utf16 units.now)) ends.now) }
+    ensures succeeds { ends.now ≡ [] → IsOk result }
 {
     let mut given = Vec::with_capacity(alloc, ends.len())?;
     let mut decoder = decode_utf16_lossy_with(units.iter().copied(), policy);
@@ -38,14 +39,15 @@ pub fn read_lossy_ends16<A: Allocator>(
 /// What a lossy decoder of the 32-bit `units` answers, under a policy, to the calls of `ends`, one answer for each call, in
 /// order (Unicode Standard, D90 and D93b).
 ///
-/// Memory for the answers is asked for once; where it is refused, the answer is [`OutOfMemory`].
+/// Memory for the answers is asked for once, and none for no calls; where it is refused, the answer is [`OutOfMemory`].
 pub fn read_lossy_ends32<A: Allocator>(
     alloc: A,
     units: &[u32],
     policy: Policy,
     ends: &[End],
 ) -> Result<Vec<Option<char>, A>, OutOfMemory>
-    ensures { IfOk result (λ v. v.items ≡ answers (lossy_by policy (items Utf32 units.now)) ends.now) }
+    ensures answers { IfOk result (λ v. v.items ≡ answers (lossy_by policy (items Utf32 units.now)) ends.now) }
+    ensures succeeds { ends.now ≡ [] → IsOk result }
 {
     let mut given = Vec::with_capacity(alloc, ends.len())?;
     let mut decoder = decode_utf32_lossy_with(units.iter().copied(), policy);

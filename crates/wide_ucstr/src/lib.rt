@@ -13,6 +13,6 @@ pub use compare::{UStrInUcstr, UStrInUcstr as U16StrInUcstr, UStrInUcstr as U32S
 pub use view::{U16CStr, U32CStr, UCStr, WideCStr};
 pub use wide_ustr::{
     CharIndices, CharIndicesLossy, CharIndicesLossyUtf16, CharIndicesLossyUtf32, CharIndicesUtf16,
-    CharIndicesUtf32, Chars, CharsLossy, CharsLossyUtf16, CharsLossyUtf32, CharsUtf16, CharsUtf32,
-    Display, DisplaySkipping,
+    CharIndicesUtf32, Chars, CharsLossy, CharsLossyUtf16, CharsLossyUtf32, CharsLossyWith,
+    CharsUtf16, CharsUtf32, Display, DisplaySkipping,
 };

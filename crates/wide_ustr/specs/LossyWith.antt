@@ -1,9 +1,10 @@
 -- What the iterators under a policy over the units of a view have left.
-use Rattle.std.specs.Prelude.{◌≡◌, ℕ, ◌⊎◌, List, [], ◌∷◌, ◌++◌, map}
+use Rattle.std.specs.Prelude.{◌≡◌, ℕ, ◌⊎◌, List, [], ◌∷◌, ◌++◌, map, Option}
 use Rattle.wide_unit.specs.EncodingForm.{EncodingForm}
 use Rattle.wide_unit.specs.Segmentation.{Item, Char, Fault}
 use Rattle.wide_unit.specs.Items.{items, chars}
 use Rattle.wide_unit.specs.Lossy.{lossy_by}
+use Rattle.wide_unit.specs.Texts.{quoted_output}
 use Rattle.wide_unit.specs.declared.policy.Policy.{Policy}
 use Rattle.wide_ustr.specs.declared.lossy_with.CharsLossyWith.{CharsLossyWith}
 
@@ -34,3 +35,7 @@ module _ {C : Type 0} where
   -- the characters among the items to come
   abbrev pub characters_left : EncodingForm → (C → ℕ) → CharsLossyWith C → List ℕ
   characters_left form number s = chars form (map number (lossy_with_rest s))
+
+  -- what `{:?}` writes of the characters to come, where they are ASCII
+  abbrev pub lossy_with_debug_output : EncodingForm → (C → ℕ) → CharsLossyWith C → Option (List ℕ)
+  lossy_with_debug_output form number s = quoted_output (map Char (lossy_with_left form number s))

@@ -4,6 +4,7 @@ ghost use Rattle.wide_unit.specs.Texts.{display_text, skipping_text, debug_outpu
 ghost use Rattle.wide_ustr.specs.View.{units_seen};
 
 use crate::iter::{Chars, CharsLossy};
+use crate::lossy_with::CharsLossyWith;
 use crate::view::UStr;
 use std::fmt;
 use wide_unit::{Unit, split_first, write_escape};
@@ -120,6 +121,20 @@ impl<C: Unit> fmt::Debug for CharsLossy<'_, C> {
     fn fmt<W: fmt::Write>(&self, f: &mut fmt::Formatter<W>) -> fmt::Result {
         f.write_str("\"")?;
         for c in UStr::from_slice(self.rest).chars_lossy() {
+            write_escape(f, c.escape_debug())?;
+        }
+        f.write_str("\"")
+    }
+}
+
+impl<C: Unit> fmt::Debug for CharsLossyWith<'_, C> {
+    ghost use Rattle.wide_ustr.specs.LossyWith.{lossy_with_debug_output};
+
+    ghost debug_output = { lossy_with_debug_output C.form C.number };
+
+    fn fmt<W: fmt::Write>(&self, f: &mut fmt::Formatter<W>) -> fmt::Result {
+        f.write_str("\"")?;
+        for c in UStr::from_slice(self.rest).chars_lossy_with(self.policy) {
             write_escape(f, c.escape_debug())?;
         }
         f.write_str("\"")

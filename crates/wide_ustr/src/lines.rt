@@ -1,6 +1,7 @@
 //! The lines of a view.
-ghost use Rattle.std.specs.Prelude.{◌≡◌, ◌<◌, ◌∷◌, List, [], length, map, IfNone, IfSome};
-ghost use Rattle.std.specs.Iterator.{YieldsFirstBy, at_most};
+ghost use Rattle.std.specs.Prelude.{◌≡◌, ◌<◌, ◌∷◌, List, [], length, map, None, IfNone, IfSome};
+ghost use Rattle.std.specs.Iterator.{YieldsFirstBy, at_most, UpTo};
+ghost use Rattle.std.specs.Iterator.SizeHint.{IsWithinCount};
 ghost use Rattle.wide_unit.specs.Segmentation.{Item};
 ghost use Rattle.wide_unit.specs.Items.{items};
 ghost use Rattle.wide_unit.specs.Lines.{lines_of};
@@ -53,6 +54,16 @@ impl<V: LineView> Iterator for Lines<V> {
         let (line, rest) = self.rest.first_line()?;
         self.rest = rest;
         Some(line)
+    }
+
+    /// No bounds: how many lines a view has is not known before it is read.
+    fn size_hint(&self) -> (usize, Option<usize>)
+        ensures lower { IsWithinCount result.0 (at_most (length (lines_left V.items_seen self.now))) }
+        ensures upper { IfSome result.1 (UpTo (at_most (length (lines_left V.items_seen self.now)))) }
+        ensures least { result.0 ≡ 0 }
+        ensures most { result.1 ≡ None }
+    {
+        (0, None)
     }
 }
 

@@ -24,6 +24,9 @@ enum CharCall {
     // A read of half of a pair and `a`, once from the back and twice from the front, and that of their lossy text.
     Read,
     ReadLossy(Policy),
+    // A read by no calls, and that of lossy text.
+    NoRead,
+    NoReadLossy,
 }
 
 impl Room for CharCall {}
@@ -74,6 +77,14 @@ fn is_read(heap: &Heap, units: &[u32]) -> Result<bool, OutOfMemory> {
     Ok(items.as_slice() == [Some(Ok('a')), Some(Err(fault)), None].as_slice())
 }
 
+fn is_no_read(heap: &Heap, units: &[u32]) -> Result<bool, OutOfMemory> {
+    Ok(read_ends32(heap, units, &[])?.is_empty())
+}
+
+fn is_no_lossy_read(heap: &Heap, units: &[u32]) -> Result<bool, OutOfMemory> {
+    Ok(read_lossy_ends32(heap, units, Policy::Run, &[])?.is_empty())
+}
+
 // The answers to the reads of lossy text.
 fn lossy_items(policy: Policy) -> [Option<char>; 3] {
     match policy {
@@ -114,6 +125,14 @@ impl Kind<u32, CharCall> for Characters {
                 let answer = is_read_lossily(memory.heap, units.as_slice(), policy);
                 (units, answer)
             }
+            CharCall::NoRead => {
+                let answer = is_no_read(memory.heap, units.as_slice());
+                (units, answer)
+            }
+            CharCall::NoReadLossy => {
+                let answer = is_no_lossy_read(memory.heap, units.as_slice());
+                (units, answer)
+            }
             _ => of_c_string(call, memory, units),
         }
     }
@@ -130,6 +149,14 @@ fn is_read_lossily16(heap: &Heap, units: &[u16], policy: Policy) -> Result<bool,
     Ok(items.as_slice() == lossy_items(policy).as_slice())
 }
 
+fn is_no_read16(heap: &Heap, units: &[u16]) -> Result<bool, OutOfMemory> {
+    Ok(read_ends16(heap, units, &[])?.is_empty())
+}
+
+fn is_no_lossy_read16(heap: &Heap, units: &[u16]) -> Result<bool, OutOfMemory> {
+    Ok(read_lossy_ends16(heap, units, Policy::Run, &[])?.is_empty())
+}
+
 impl Kind<u16, CharCall> for Characters {
     fn make<'a>(
         call: CharCall,
@@ -141,6 +168,8 @@ impl Kind<u16, CharCall> for Characters {
             CharCall::ReadLossy(policy) => {
                 is_read_lossily16(memory.heap, units.as_slice(), policy)
             }
+            CharCall::NoRead => is_no_read16(memory.heap, units.as_slice()),
+            CharCall::NoReadLossy => is_no_lossy_read16(memory.heap, units.as_slice()),
             _ => is_read16(memory.heap, units.as_slice()),
         };
         (units, answer)
@@ -158,11 +187,13 @@ static ROWS: [Row<CharCall>; 8] = [
     (CharCall::IntoVec, Once(3), "a😀", "", ""),
 ];
 
-static READS: [Row<CharCall>; 4] = [
+static READS: [Row<CharCall>; 6] = [
     (CharCall::Read, Once(0), "½a", "", "½a"),
     (CharCall::ReadLossy(Policy::Each), Once(0), "½a", "", "½a"),
     (CharCall::ReadLossy(Policy::Run), Once(0), "½a", "", "½a"),
     (CharCall::ReadLossy(Policy::Skip), Once(0), "½a", "", "½a"),
+    (CharCall::NoRead, Nothing(0), "½a", "", "½a"),
+    (CharCall::NoReadLossy, Nothing(0), "½a", "", "½a"),
 ];
 
 #[test]

@@ -3,6 +3,7 @@ use crate::rows::all_hold;
 use crate::sinks::{prints, shows};
 use std::alloc::Global;
 use std::fmt;
+use widestring::Policy;
 use widestring::error::FaultUnit;
 use widestring::ucstr::UCStr;
 use widestring::ucstring::UCString;
@@ -78,11 +79,18 @@ fn debugs<C: FaultUnit>(alloc: Global, view: UStr<'_, C>, text: &str) -> bool {
 
 // For debugging, lossy characters stand as they are, U+FFFD too.
 fn lossy_shows<C: FaultUnit>(alloc: Global, units: &[C]) -> bool {
-    shows(
-        alloc,
-        &UStr::from_slice(units).chars_lossy(),
-        "\"A\u{fffd}\u{fffd}\"",
-    )
+    let view = UStr::from_slice(units);
+    let each = "\"A\u{fffd}\u{fffd}\"";
+    shows(alloc, &view.chars_lossy(), each)
+        && shows(alloc, &view.chars_lossy_with(Policy::Each), each)
+        && shows(alloc, &view.chars_lossy_with(Policy::Skip), "\"A\u{fffd}\"")
+}
+
+// Under a policy, a row of two faults gives one of them.
+fn row_shows(alloc: Global) -> bool {
+    let (units, _, _, _) = UNITS16[2];
+    let view = UStr::from_slice(units);
+    shows(alloc, &view.chars_lossy_with(Policy::Run), "\"A\u{fffd}\"")
 }
 
 fn string_shows<C: FaultUnit>(alloc: Global, units: &[C], text: &str) -> bool {
@@ -226,6 +234,7 @@ fn units(rt: HostRuntime) {
         ),
         lossy_shows(alloc, &REPLACED16),
         lossy_shows(alloc, &REPLACED32),
+        row_shows(alloc),
         all_c_strings(alloc, &C_STRINGS16),
         all_c_strings(alloc, &C_STRINGS32),
     ];

@@ -26,5 +26,5 @@ loop-end-init g c =
     let left : items32_left copied_rest c.decode_utf32-decoder.result ≡ items Utf32 c.args.units.now = c.decode_utf32-decoder.ensures.items copied_rest ∙ ap (items Utf32) (search rules) in
     read_none _ told_item _ _ _ (search rules) left
 
-pub returns : goal.returns
-returns g c = read_all _ told_item _ _ _ _ c.loop-end-test.false c.loop-end.invariant
+pub returns-clause-answers : goal.returns-clause-answers
+returns-clause-answers g c = read_all _ told_item _ _ _ _ c.loop-end-test.false c.loop-end.invariant

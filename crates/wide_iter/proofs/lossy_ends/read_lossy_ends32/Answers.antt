@@ -25,5 +25,5 @@ loop-end-init g c =
     let left : lossy32_with_left copied_rest c.decode_utf32_lossy_with-decoder.result ≡ lossy_by c.args.policy (items Utf32 c.args.units.now) = made.items copied_rest ∙ ap (λ us. lossy_by c.args.policy (items Utf32 us)) (search rules) in
     read_no_chars _ _ _ _ (search rules) left
 
-pub returns : goal.returns
-returns g c = read_all_chars _ _ _ _ _ c.loop-end-test.false c.loop-end.invariant
+pub returns-clause-answers : goal.returns-clause-answers
+returns-clause-answers g c = read_all_chars _ _ _ _ _ c.loop-end-test.false c.loop-end.invariant
