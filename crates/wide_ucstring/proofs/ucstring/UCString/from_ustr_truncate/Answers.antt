@@ -1,4 +1,5 @@
 use Rattle.std.proofs.Common.{◌≡◌, ◌∙◌, [], ◌∷◌, ◌++◌, map, take, ap, sym, subst, arith}
+use Rattle.std.proofs.lemmas.Grind.{common_steps}
 use Rattle.wide_ucstr.proofs.Cuts.{no_nul_in_front_of}
 use Rattle.wide_ustr.specs.View.{units_seen}
 use Rattle.wide_ucstring.specs.Made.{EndsAtFirst}
@@ -16,3 +17,6 @@ returns-in_ok-copy_of_ustr-in-Some-clause-made g c =
     let number = g.C.Unit.number in
     let units = units_seen c.args.text in
     ok_gives c.end.result (λ s made. subst (EndsAtFirst (map number units)) (sym (made ∙ ap (λ xs. map number xs ++ 0 ∷ []) front)) (ended_at_first number units c.in-Some.place (rw c.as_slice.ensures at c.in-Some.ensures))) c.end.ensures.made
+
+pub slice-requires-clause-in_range : goal.slice-requires-clause-in_range
+slice-requires-clause-in_range g c = grind (arith, common_steps)
