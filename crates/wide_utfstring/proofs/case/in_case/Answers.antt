@@ -1,4 +1,5 @@
-use Rattle.std.proofs.Common.{ap, ◌∙◌}
+use Rattle.std.proofs.Common.{ap, ◌∙◌, arith}
+use Rattle.std.proofs.lemmas.Grind.{common_steps}
 use Rattle.wide_unit.specs.Items.{characters}
 use Rattle.wide_unit.specs.Places.{text_of}
 use Rattle.wide_unit.proofs.Front.{first_of_nil}
@@ -22,3 +23,6 @@ returns-in_err-push_letters-clause-empty g c = λ empty.
     let number = g.C.Unit.number in
     absurd (casing-some (mapping c.args.case) (text_seen c.args.text) (text_of form number c.loop-c.string.units) (chars_left form number c.loop-c.c-iterator) (chars_left form number c.next.new.self) c.in-Some.c c.loop-c.invariant c.in-Some.ensures.steps
     (ap characters (first_of_nil form number c.args.text.units.now empty)))
+
+pub loop-c-preserved : goal.loop-c-preserved
+loop-c-preserved g c = grind (arith, common_steps)

@@ -1,4 +1,5 @@
-use Rattle.std.proofs.Common.{map, ap, ◌∙◌}
+use Rattle.std.proofs.Common.{map, ap, ◌∙◌, arith}
+use Rattle.std.proofs.lemmas.Grind.{common_steps}
 use Rattle.std.specs.List.{splice}
 use Rattle.wide_unit.specs.Items.{chars}
 use Rattle.wide_unit.specs.Places.{chars_before, IsTextRange}
@@ -33,3 +34,6 @@ returns-clause-text g c =
     ∙ ap (λ zs. splice (chars form (map number xs)) (chars_before form (map number xs) from) (chars_before form (map number xs) to) (chars form (map number zs))) c.as_ustr.ensures.units
     in
     rw (← c.self.view_is) (on_ok c.replace_range.result (λ e. ap (λ zs. chars form (map number zs)) e ∙ spliced) c.replace_range.ensures.ok)
+
+pub replace_range-requires-clause-in_range : goal.replace_range-requires-clause-in_range
+replace_range-requires-clause-in_range g c = grind (arith, common_steps)
