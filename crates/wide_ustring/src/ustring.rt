@@ -17,8 +17,8 @@ ghost use Rattle.wide_ustring.specs.Drain.{DrainGives, DrainGivesBack, DrainStay
 ghost use Rattle.wide_ustring.specs.Lends.{lends_units};
 ghost use Rattle.wide_ustring.specs.Taken.{item_code, TakesFirst, TakesLast};
 
-use crate::Drain;
 use crate::room::{cut, push_char, push_str, replace, replace_char, replace_str};
+use crate::{Drain, UStrInUstring};
 use std::alloc::{Allocator, Global};
 use std::marker::Model;
 use std::ops::RangeBounds;
@@ -444,7 +444,7 @@ impl<C: FaultUnit, A: Allocator> UString<C, A> {
     }
 
     /// Takes the units from a place on away, and answers them as a string of their own, with a copy of the allocator. The
-    /// place must be at most the length.
+    /// place must be at most the length. Memory is asked for once, and not at all at the end.
     pub fn split_off(&mut self, at: usize) -> Result<Self, OutOfMemory>
     where
         A: Clone,
@@ -453,11 +453,12 @@ impl<C: FaultUnit, A: Allocator> UString<C, A> {
         ensures ok { OnOk result (self.new.units ≡ take at self.old.units) }
         ensures err { OnErr result (self.new ≡ self.old) }
         ensures capacity { self.new.capacity ≡ self.old.capacity }
+        ensures succeeds { ((alloc : A) → A.is_infallible alloc) → at ≡ ustring_len self.old → IsOk result }
     {
         let alloc = self.units.allocator().clone()?;
-        let rest = Vec::from_slice(alloc, &self.units.as_slice()[at..])?;
+        let rest = UStr::from_slice(&self.units.as_slice()[at..]).to_ustring(alloc)?;
         self.units.truncate(at);
-        Ok(UString { units: rest })
+        Ok(rest)
     }
 
     /// Takes the last character away, a whole pair, or a unit that belongs to none, and answers its number; none where the
@@ -491,16 +492,15 @@ impl<C: FaultUnit, A: Allocator> UString<C, A> {
         code_of(item)
     }
 
-    /// A copy of the units, with a copy of the allocator.
+    /// A copy of the units, with a copy of the allocator. Memory is asked for once, and not at all where there are none.
     pub fn try_clone(&self) -> Result<Self, OutOfMemory>
     where
         A: Clone,
-        ensures { IfOk result (λ s. s.units ≡ self.now.units) }
+        ensures copy { IfOk result (λ s. s.units ≡ self.now.units) }
+        ensures succeeds { ((alloc : A) → A.is_infallible alloc) → self.now.units ≡ [] → IsOk result }
     {
         let alloc = self.units.allocator().clone()?;
-        Ok(UString {
-            units: Vec::from_slice(alloc, self.units.as_slice())?,
-        })
+        self.as_ustr().to_ustring(alloc)
     }
 }
 

@@ -244,11 +244,12 @@ impl<C: FaultUnit, A: Allocator> UtfString<C, A> {
         string
     }
 
-    /// A copy, with a copy of the allocator.
+    /// A copy, with a copy of the allocator. Memory is asked for once, and not at all where the text is empty.
     pub fn try_clone(&self) -> Result<Self, OutOfMemory>
     where
         A: Clone,
-        ensures { IfOk result (λ s. s.units ≡ self.now.units) }
+        ensures copy { IfOk result (λ s. s.units ≡ self.now.units) }
+        ensures succeeds { ((alloc : A) → A.is_infallible alloc) → self.now.units ≡ [] → IsOk result }
     {
         Ok(UtfString {
             string: self.string.try_clone()?,
@@ -388,7 +389,7 @@ impl<C: FaultUnit, A: Allocator> UtfString<C, A> {
     }
 
     /// Takes the text from a place on away, and answers it as a string of its own, with a copy of the allocator. The place,
-    /// counted in units, must be a boundary.
+    /// counted in units, must be a boundary. Memory is asked for once, and not at all at the end.
     pub fn split_off(&mut self, at: usize) -> Result<Self, OutOfMemory>
     where
         A: Clone,
@@ -399,6 +400,7 @@ impl<C: FaultUnit, A: Allocator> UtfString<C, A> {
         ensures text { OnOk result (text_of C.form C.number self.new.units ≡ take (text_before C.form C.number self.old.units at) (text_of C.form C.number self.old.units)) }
         ensures err { OnErr result (self.new ≡ self.old) }
         ensures capacity { self.new.capacity ≡ self.old.capacity }
+        ensures succeeds { ((alloc : A) → A.is_infallible alloc) → at ≡ ustring_len self.old → IsOk result }
     {
         Ok(UtfString {
             string: self.string.split_off(at)?,

@@ -20,7 +20,7 @@ use std::test::Fail;
 const ADDS: Asks = ForRoomAfter("a");
 
 // Of both kinds.
-static ROWS: [Row<StringCall>; 54] = [
+static ROWS: [Row<StringCall>; 56] = [
     (New, Nothing(0), "", "", ""),
     (WithCapacity(0), Nothing(0), "", "", ""),
     (WithCapacity(3), Once(0), "", "", ""),
@@ -66,7 +66,9 @@ static ROWS: [Row<StringCall>; 54] = [
     (Extend(Boxed), ADDS, "", "", "a😀"),
     (Extend(Cows), ADDS, "", "a😀", "a😀"),
     (TryClone, Once(0), "a😀", "a😀", "a😀"),
+    (TryClone, Nothing(0), "", "", ""),
     (SplitOff, Once(0), "a😀", "😀", "a"),
+    (SplitOff, Nothing(0), "a", "", "a"),
     (Keep, Nothing(3), "a😀b", "", "a😀b"),
     (Clear, Nothing(0), "a😀b", "", ""),
     (Truncate, Nothing(0), "a😀b", "", "a"),

@@ -1,4 +1,4 @@
 use Rattle.wide_utfstring.proofs.utfstring.UtfString.try_clone.Goals as goal
 
 pub invariant_of-result : goal.invariant_of-result
-invariant_of-result g c = rw c.in_ok-try_clone.ensures c.self.invariant
+invariant_of-result g c = rw c.in_ok-try_clone.ensures.copy c.self.invariant
