@@ -3,7 +3,8 @@ use Rattle.std.proofs.Common.{◌≡◌, ℕ, zero, suc, ◌+◌, ◌-◌, ◌*�
 use Rattle.std.proofs.lemmas.List.{take_all}
 use Rattle.wide_unit.specs.EncodingForm.{Utf16, IsLowSurrogate}
 use Rattle.wide_bytes.specs.Bytes.{unit_in, units_in}
-use Rattle.wide_bytes.specs.Encoded.{Encoded, EncodedUnits, BeginsWithFault, AreCutShort, StopsBefore, IsCertainFault, IsCutShort, StopsAt}
+use Rattle.wide_blocks.specs.Encoded.{EncodedUnits, BeginsWithFault, AreCutShort, StopsBefore}
+use Rattle.wide_bytes.specs.Encoded.{Encoded, IsCertainFault, IsCutShort, StopsAt}
 use Rattle.wide_bytes.specs.declared.order.BoM.{BoM}
 use Rattle.wide_bytes.specs.declared.order.BoM.TheVariants.{Little, Big}
 use Rattle.wide_bytes.proofs.Encodings.{certain-low, certain-high}

@@ -2,21 +2,16 @@
 //! the UTF-8 text of a source of UTF-16 into a sink.
 #![tactic(auto)]
 
-mod blocks;
 mod devices;
-mod fronts;
 mod holding;
 pub mod laws;
 mod lossy;
 mod mode;
 mod moving;
-mod narrow;
 mod order;
 mod pieces;
-mod steps;
 mod transcoding;
 mod units;
-mod wide;
 
 pub use devices::{ByteSink, ByteSource, FromRead, FromWrite};
 pub use mode::Mode;

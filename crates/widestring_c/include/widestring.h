@@ -34,8 +34,8 @@ size_t wide_utf32_first_nul(const uint32_t *units, size_t length);
 
 /*
  * The functions below answer the length that is needed, whatever `room` is. Where the room is as large, that many elements at the
- * front of the buffer are the answer's. Where it is smaller, what the buffer holds is not said: call again with more. A room of 0
- * asks for the length alone.
+ * front of the buffer are the answer's, and those behind them, within the room, are as they were. Where it is smaller, what the
+ * buffer holds is not said: call again with more. A room of 0 asks for the length alone.
  */
 
 /* The text of well-formed UTF-16 in UTF-8. WIDE_FAULT where the units are not well formed, and then the buffer is as it was. */

@@ -1,5 +1,6 @@
 -- What is written of a list into a buffer, piece by piece, and counted whether it fits or not.
-use Rattle.std.proofs.Common.{◌≡◌, ◌≤◌, ◌+◌, ◌-◌, ◌^◌, ◌++◌, ℕ, List, [], ap, arith, sym, ◌∙◌, length, take, length-append, append-nil, append_assoc}
+use Rattle.std.proofs.Common.{◌≡◌, ◌≤◌, ◌+◌, ◌-◌, ◌^◌, ◌++◌, ℕ, List, [], ap, arith, sym, ◌∙◌, length, take, drop, subst, length-append, append-nil, append_assoc}
+use Rattle.std.proofs.lemmas.List.{drop-drop}
 use Rattle.std.specs.Prelude.{min}
 
 -- so much of `all` is counted, what is left of it is known, and what is counted is written as long as there is room
@@ -24,3 +25,9 @@ counted_all all out at w = omega (arith, w.most, w.counted)
 
 pub written_all : (all out : List ℕ) (at : ℕ) → Writing all at out [] → at ≤ length out → take at out ≡ all
 written_all all out at w fits = sym (append-nil (take at out)) ∙ w.written fits
+
+-- what stands behind the place stays so
+pub behind_more : (first old new bs : List ℕ) (at end : ℕ) → at ≤ 2 ^ 64 - 1 → end ≡ min (at + length bs) (2 ^ 64 - 1) → drop at old ≡ drop at first → drop end new ≡ drop end old → drop end new ≡ drop end first
+behind_more first old new bs at end most place before put =
+    let sum : at + (end - at) ≡ end = omega (arith, place, most) in
+    put ∙ subst (λ e. drop e old ≡ drop e first) sum (sym (drop-drop (end - at) at old) ∙ ap (drop (end - at)) before ∙ drop-drop (end - at) at first)

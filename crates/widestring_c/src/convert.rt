@@ -1,5 +1,5 @@
 //! Text of units in UTF-8, and back, and lossy text, in a buffer of the caller's.
-ghost use Rattle.std.specs.Prelude.{◌≡◌, ◌≤◌, ◌+◌, ◌-◌, ◌^◌, ◌++◌, ◌∷◌, [], length, min, take};
+ghost use Rattle.std.specs.Prelude.{◌≡◌, ◌≤◌, ◌+◌, ◌-◌, ◌^◌, ◌++◌, ◌∷◌, [], length, min, take, drop};
 ghost use Rattle.std.specs.Char.{encode_utf8};
 ghost use Rattle.std.specs.Str.{IsUtf8, chars as str_chars};
 ghost use Rattle.widestring.specs.EncodingForm.{Utf16, Utf32, code_units, encode};
@@ -17,6 +17,7 @@ fn put_utf8_char(text: &mut [u8], at: usize, c: char) -> usize
     ensures place { result ≡ min (at + length (encode_utf8 c)) (2 ^ 64 - 1) }
     ensures text { result ≤ length text.old → take result text.new ≡ take at text.old ++ encode_utf8 c }
     ensures room { length text.new ≡ length text.old }
+    ensures behind { drop result text.new ≡ drop result text.old }
 {
     let mut bytes = [0; 4];
     let written = c.encode_utf8(&mut bytes).as_bytes();
@@ -33,6 +34,7 @@ fn put_units(units: &mut [u16], at: usize, more: &[u16]) -> usize
     ensures place { result ≡ min (at + length more.now) (2 ^ 64 - 1) }
     ensures units { result ≤ length units.old → take result units.new ≡ take at units.old ++ more.now }
     ensures room { length units.new ≡ length units.old }
+    ensures behind { drop result units.new ≡ drop result units.old }
 {
     let end = at.saturating_add(more.len());
     if end <= units.len() {
@@ -47,6 +49,7 @@ fn put_utf16_char(units: &mut [u16], at: usize, c: char) -> usize
     ensures place { result ≡ min (at + length (code_units Utf16 c)) (2 ^ 64 - 1) }
     ensures units { result ≤ length units.old → take result units.new ≡ take at units.old ++ code_units Utf16 c }
     ensures room { length units.new ≡ length units.old }
+    ensures behind { drop result units.new ≡ drop result units.old }
 {
     match u16::encode_char(c) {
         (unit, None) => put_units(units, at, &[unit]),
@@ -60,6 +63,7 @@ fn put_utf32_char(units: &mut [u32], at: usize, c: char) -> usize
     ensures place { result ≡ min (at + 1) (2 ^ 64 - 1) }
     ensures units { result ≤ length units.old → take result units.new ≡ take at units.old ++ c ∷ [] }
     ensures room { length units.new ≡ length units.old }
+    ensures behind { drop result units.new ≡ drop result units.old }
 {
     let end = at.saturating_add(1);
     if end <= units.len() {
@@ -73,6 +77,7 @@ fn put_utf32_char(units: &mut [u32], at: usize, c: char) -> usize
 fn put_utf8(units: &[u16], text: &mut [u8]) -> usize
     ensures len { result ≡ min (length (utf8 (lossy (items Utf16 units.now)))) (2 ^ 64 - 1) }
     ensures text { result ≤ length text.old → take result text.new ≡ utf8 (lossy (items Utf16 units.now)) }
+    ensures behind { drop result text.new ≡ drop result text.old }
 {
     let mut at = 0;
     for c in U16Str::from_slice(units).chars_lossy() {
@@ -85,6 +90,7 @@ fn put_utf8(units: &[u16], text: &mut [u8]) -> usize
 fn put_utf16(text: &str, units: &mut [u16]) -> usize
     ensures len { result ≡ min (length (encode Utf16 (str_chars text.now))) (2 ^ 64 - 1) }
     ensures units { result ≤ length units.old → take result units.new ≡ encode Utf16 (str_chars text.now) }
+    ensures behind { drop result units.new ≡ drop result units.old }
 {
     let mut at = 0;
     for c in text.chars() {
@@ -101,6 +107,7 @@ pub extern "C" fn wide_utf16_to_utf8(units: &[u16], text: &mut [u8]) -> usize
     ensures text { IsWellFormed Utf16 units.now → result ≤ length text.old → take result text.new ≡ utf8 (chars Utf16 units.now) }
     ensures fault { (IsWellFormed Utf16 units.now → ⊥) → result ≡ 2 ^ 64 - 1 }
     ensures unchanged { (IsWellFormed Utf16 units.now → ⊥) → text.new ≡ text.old }
+    ensures behind { drop result text.new ≡ drop result text.old }
 {
     match check(units) {
         Ok(()) => put_utf8(units, text),
@@ -113,6 +120,7 @@ pub extern "C" fn wide_utf16_to_utf8(units: &[u16], text: &mut [u8]) -> usize
 pub extern "C" fn wide_utf16_to_utf8_lossy(units: &[u16], text: &mut [u8]) -> usize
     ensures len { result ≡ min (length (utf8 (lossy (items Utf16 units.now)))) (2 ^ 64 - 1) }
     ensures text { result ≤ length text.old → take result text.new ≡ utf8 (lossy (items Utf16 units.now)) }
+    ensures behind { drop result text.new ≡ drop result text.old }
 {
     put_utf8(units, text)
 }
@@ -125,6 +133,7 @@ pub extern "C" fn wide_utf8_to_utf16(text: &[u8], units: &mut [u16]) -> usize
     ensures units { IsUtf8 text.now → result ≤ length units.old → take result units.new ≡ encode Utf16 (str_chars text.now) }
     ensures fault { (IsUtf8 text.now → ⊥) → result ≡ 2 ^ 64 - 1 }
     ensures unchanged { (IsUtf8 text.now → ⊥) → units.new ≡ units.old }
+    ensures behind { drop result units.new ≡ drop result units.old }
 {
     match str::from_utf8(text) {
         Ok(text) => put_utf16(text, units),
@@ -138,6 +147,7 @@ pub extern "C" fn wide_utf8_to_utf16(text: &[u8], units: &mut [u16]) -> usize
 pub extern "C" fn wide_utf16_repair(units: &[u16], repaired: &mut [u16]) -> usize
     ensures len { result ≡ min (length (encode Utf16 (lossy (items Utf16 units.now)))) (2 ^ 64 - 1) }
     ensures units { result ≤ length repaired.old → take result repaired.new ≡ encode Utf16 (lossy (items Utf16 units.now)) }
+    ensures behind { drop result repaired.new ≡ drop result repaired.old }
 {
     let mut at = 0;
     for c in U16Str::from_slice(units).chars_lossy() {
@@ -151,6 +161,7 @@ pub extern "C" fn wide_utf16_repair(units: &[u16], repaired: &mut [u16]) -> usiz
 pub extern "C" fn wide_utf32_repair(units: &[u32], repaired: &mut [u32]) -> usize
     ensures len { result ≡ min (length (lossy (items Utf32 units.now))) (2 ^ 64 - 1) }
     ensures units { result ≤ length repaired.old → take result repaired.new ≡ lossy (items Utf32 units.now) }
+    ensures behind { drop result repaired.new ≡ drop result repaired.old }
 {
     let mut at = 0;
     for c in U32Str::from_slice(units).chars_lossy() {

@@ -36,6 +36,8 @@ pub enum Conversion {
     Utf8Lossy,
     Utf8With(Policy),
     Utf8,
+    // The same without faults, of units that are nothing else.
+    Utf8OfFaults,
     // A string of a view.
     Owned,
     // The string itself.
@@ -111,9 +113,10 @@ fn lossy<'a, C: Width>(
 fn told<'a, C: Width>(
     made: Result<String<&'a Heap>, OutOfMemory>,
     units: Vec<C, &'a Heap>,
+    text: &str,
 ) -> Left<'a, C> {
     match made {
-        Ok(text) => (units, Ok(text.as_str() == TEXT)),
+        Ok(made) => (units, Ok(made.as_str() == text)),
         Err(OutOfMemory) => (units, Err(OutOfMemory)),
     }
 }
@@ -150,11 +153,21 @@ impl<C: Width> Kind<C, Conversion> for OfUnits {
                 true,
             ),
             Conversion::Utf8Lossy => {
-                told(UStr::from_slice(other).to_string_lossy(memory.heap), units)
+                told(
+                    UStr::from_slice(other).to_string_lossy(memory.heap),
+                    units,
+                    TEXT,
+                )
             }
             Conversion::Utf8With(policy) => told(
                 UStr::from_slice(other).to_string_lossy_with(memory.heap, policy),
                 units,
+                TEXT,
+            ),
+            Conversion::Utf8OfFaults => told(
+                UStr::from_slice(other).to_string_lossy_with(memory.heap, Policy::Skip),
+                units,
+                "",
             ),
             Conversion::Owned => {
                 match CowUStr::Borrowed(UStr::from_slice(other)).into_owned(memory.heap) {
@@ -243,10 +256,17 @@ fn c_string_of<'a, C: Width>(
         Conversion::Utf8Lossy => told(
             view.to_string_lossy(memory.heap),
             string.into_vec_with_nul(),
+            TEXT,
         ),
         Conversion::Utf8With(policy) => told(
             view.to_string_lossy_with(memory.heap, policy),
             string.into_vec_with_nul(),
+            TEXT,
+        ),
+        Conversion::Utf8OfFaults => told(
+            view.to_string_lossy_with(memory.heap, Policy::Skip),
+            string.into_vec_with_nul(),
+            "",
         ),
         Conversion::Owned => match CowUCStr::Borrowed(view).into_owned(memory.heap) {
             Ok(made) => (made.into_vec_with_nul(), Ok(true)),
@@ -306,7 +326,7 @@ static OF_UNITS: [Row<Conversion>; 14] = [
     (Conversion::Boxed, Nothing(0), "½b", "", "½b"),
 ];
 
-static OF_POLICIES: [Row<Conversion>; 14] = [
+static OF_POLICIES: [Row<Conversion>; 15] = [
     (
         Conversion::LossyWith(Slice, Policy::Each),
         Once(0),
@@ -373,6 +393,7 @@ static OF_POLICIES: [Row<Conversion>; 14] = [
     (Conversion::Utf8With(Policy::Each), Once(0), "", "a😀", ""),
     (Conversion::Utf8With(Policy::Run), Once(0), "", "a😀", ""),
     (Conversion::Utf8With(Policy::Skip), Once(0), "", "½a½½😀", ""),
+    (Conversion::Utf8OfFaults, Nothing(0), "", "½½½", ""),
     (Conversion::Owned, Nothing(0), "", "", ""),
     (Conversion::Boxed, Nothing(0), "", "", ""),
 ];
@@ -385,7 +406,7 @@ static OF_TEXT: [Row<Conversion>; 5] = [
     (Conversion::Boxed, Nothing(0), "a😀", "", "a😀"),
 ];
 
-static OF_C_STRINGS: [Row<Conversion>; 7] = [
+static OF_C_STRINGS: [Row<Conversion>; 8] = [
     (
         Conversion::Utf8With(Policy::Run),
         Once(0),
@@ -401,6 +422,7 @@ static OF_C_STRINGS: [Row<Conversion>; 7] = [
         "\0",
     ),
     (Conversion::Utf8Lossy, Once(0), "\0", "a😀\0", "\0"),
+    (Conversion::Utf8OfFaults, Nothing(0), "\0", "½½½\0", "\0"),
     (Conversion::Owned, Once(0), "\0", "½b\0", "½b\0"),
     (Conversion::Kept, Nothing(2), "½\0", "\0", "½\0"),
     (Conversion::Boxed, Once(2), "½\0", "\0", "½\0"),

@@ -47,8 +47,8 @@ pub mod ucstr {
     pub use widestring::ucstr::{
         CharIndices, CharIndicesLossy, CharIndicesLossyUtf16, CharIndicesLossyUtf32,
         CharIndicesUtf16, CharIndicesUtf32, Chars, CharsLossy, CharsLossyUtf16, CharsLossyUtf32,
-        CharsUtf16, CharsUtf32, Display, DisplaySkipping, U16CStr, U16StrInUcstr, U32CStr,
-        U32StrInUcstr, UCStr, UStrInUcstr, WideCStr,
+        CharsLossyWith, CharsUtf16, CharsUtf32, Display, DisplaySkipping, U16CStr, U16StrInUcstr,
+        U32CStr, U32StrInUcstr, UCStr, UStrInUcstr, WideCStr,
     };
 }
 

@@ -4,7 +4,7 @@ ghost use Rattle.std.specs.Prelude.{◌≡◌};
 ghost use Rattle.widetext_base.specs.Command.{status_of};
 
 use std::fmt;
-use std::fmt::Write;
+use std::fmt::{InlineText, Write};
 use wide_bytes::{ByteSink, put_all};
 use wide_error::TranscodeError;
 
@@ -21,25 +21,16 @@ pub const REFUSED: u8 = 1;
 /// The status at wrong words.
 pub const WRONG_USAGE: u8 = 2;
 
-// A sink as something to print on; what can't be written is lost.
-#[derive(Drop)]
-struct Printer<'a, F> {
-    sink: &'a mut F,
-}
+// Room for each line that is said, in bytes: the longest tells of a fault, with two numbers of 20 digits, in 89.
+const LINE_LEN: usize = 128;
 
-impl<F: ByteSink> fmt::Write for Printer<'_, F> {
-    fn write_str(&mut self, text: &str) -> fmt::Result {
-        if self.sink.failed() {
-            return Err(fmt::Error);
-        }
-        put_all(self.sink, text.as_bytes()).map_err(|_| fmt::Error)
-    }
-}
-
-/// Writes a line on `faults`. One that can't be written changes nothing.
+/// Writes a line on `faults`, in one call where that takes all of it. One that can't be written changes nothing.
 pub fn report<F: ByteSink>(faults: &mut F, text: &impl fmt::Display) {
-    let mut printer = Printer { sink: faults };
-    let _ = writeln!(printer, "{text}");
+    let mut line = InlineText::<LINE_LEN>::new();
+    let is_made = writeln!(line, "{text}").is_ok();
+    if is_made && !faults.failed() {
+        let _ = put_all(faults, line.as_str().as_bytes());
+    }
 }
 
 /// Says on `faults` why a request was refused, where it was, and answers the status.

@@ -4,6 +4,8 @@
 #[cfg(test)]
 mod driver;
 #[cfg(test)]
+mod fault_rows;
+#[cfg(test)]
 mod line_rows;
 #[cfg(test)]
 mod long_rows;

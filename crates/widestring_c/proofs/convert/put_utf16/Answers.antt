@@ -3,7 +3,7 @@ use Rattle.std.specs.Str.{chars}
 use Rattle.std.specs.Str.Iter.{chars_rest}
 use Rattle.wide_unit.specs.EncodingForm.{Utf16, code_units, encode}
 use Rattle.wide_unit.proofs.Texts.{text_first}
-use Rattle.widestring_c.proofs.Buffers.{Writing, one_more, counted_all, written_all}
+use Rattle.widestring_c.proofs.Buffers.{Writing, one_more, behind_more, counted_all, written_all}
 use Rattle.widestring_c.proofs.convert.put_utf16.Goals as goal
 
 pub loop-c-preserved : goal.loop-c-preserved
@@ -17,6 +17,7 @@ loop-c-preserved c =
     let put = c.put_utf16_char-at.ensures in (
       one_more all c.loop-c.units c.put_utf16_char-at.new.units (code_units Utf16 ch) rest c.loop-c.at c.put_utf16_char-at.result before put.place put.units put.room,
       put.room ∙ c.loop-c.invariant.1,
+      behind_more c.args.units.now c.loop-c.units c.put_utf16_char-at.new.units (code_units Utf16 ch) c.loop-c.at c.put_utf16_char-at.result before.most put.place c.loop-c.invariant.2 put.behind,
     )
 
 pub returns-clause-len : goal.returns-clause-len

@@ -7,7 +7,7 @@ use Rattle.wide_unit.specs.Lossy.{lossy}
 use Rattle.wide_unit.specs.Laws.Utf8.{utf8_bytes-encode_utf8}
 use Rattle.wide_unit.specs.Utf8.{utf8}
 use Rattle.wide_ustr.specs.Iter.{lossy_left}
-use Rattle.widestring_c.proofs.Buffers.{Writing, one_more, counted_all, written_all}
+use Rattle.widestring_c.proofs.Buffers.{Writing, one_more, behind_more, counted_all, written_all}
 use Rattle.widestring_c.proofs.convert.put_utf8.Goals as goal
 
 pub loop-c-preserved : goal.loop-c-preserved
@@ -21,6 +21,7 @@ loop-c-preserved c =
     let put = c.put_utf8_char-at.ensures in (
       one_more all c.loop-c.text c.put_utf8_char-at.new.text (encode_utf8 ch) rest c.loop-c.at c.put_utf8_char-at.result before put.place put.text put.room,
       put.room ∙ c.loop-c.invariant.1,
+      behind_more c.args.text.now c.loop-c.text c.put_utf8_char-at.new.text (encode_utf8 ch) c.loop-c.at c.put_utf8_char-at.result before.most put.place c.loop-c.invariant.2 put.behind,
     )
 
 pub returns-clause-len : goal.returns-clause-len

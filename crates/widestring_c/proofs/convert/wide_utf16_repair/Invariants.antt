@@ -1,4 +1,4 @@
-use Rattle.std.proofs.Common.{◌≡◌, ℕ, length, map}
+use Rattle.std.proofs.Common.{◌≡◌, ℕ, length, map, drop}
 use Rattle.wide_unit.specs.EncodingForm.{Utf16, encode}
 use Rattle.wide_unit.specs.Items.{items}
 use Rattle.wide_unit.specs.Lossy.{lossy}
@@ -10,3 +10,4 @@ abbrev pub invariant-loop-c : goal.invariant-loop-c
 invariant-loop-c l =
     Writing (encode Utf16 (lossy (items Utf16 (map (λ (u : ℕ). u) l.fn.units)))) l.at l.repaired (encode Utf16 (lossy_left Utf16 (λ (u : ℕ). u) l.c-iterator))
     × (length l.repaired ≡ length l.fn.repaired)
+    × (drop l.at l.repaired ≡ drop l.at l.fn.repaired)

@@ -4,7 +4,7 @@ use Rattle.wide_unit.specs.EncodingForm.{Utf32}
 use Rattle.wide_unit.specs.Items.{items}
 use Rattle.wide_unit.specs.Lossy.{lossy}
 use Rattle.wide_ustr.specs.Iter.{lossy_left}
-use Rattle.widestring_c.proofs.Buffers.{Writing, one_more, counted_all, written_all}
+use Rattle.widestring_c.proofs.Buffers.{Writing, one_more, behind_more, counted_all, written_all}
 use Rattle.widestring_c.proofs.convert.wide_utf32_repair.Goals as goal
 
 pub loop-c-preserved : goal.loop-c-preserved
@@ -18,6 +18,7 @@ loop-c-preserved c =
     let put = c.put_utf32_char-at.ensures in (
       one_more all c.loop-c.repaired c.put_utf32_char-at.new.units ((ch ∷ [])) rest c.loop-c.at c.put_utf32_char-at.result before put.place put.units put.room,
       put.room ∙ c.loop-c.invariant.1,
+      behind_more c.args.repaired.now c.loop-c.repaired c.put_utf32_char-at.new.units (ch ∷ []) c.loop-c.at c.put_utf32_char-at.result before.most put.place c.loop-c.invariant.2 put.behind,
     )
 
 pub returns-clause-len : goal.returns-clause-len

@@ -1,0 +1,6 @@
+pub mod Lanes
+pub mod Rows
+pub mod Shuffles
+pub mod Stores
+pub mod Tables
+pub mod UnitEncodings

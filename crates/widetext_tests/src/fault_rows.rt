@@ -1,0 +1,141 @@
+//! What is said of a fault is put at once; where it can't be put, the status and the output stay the same.
+
+use crate::driver::{Program, run, whole};
+use std::alloc::{AllocError, Global};
+use std::io;
+use std::io::Write;
+use std::test::Fail;
+use widestring_test_devices::{Cut, Slow};
+use widetext_base::{REFUSED, SUCCESS, WRONG_USAGE, finish};
+
+// A run that is refused: its words, its input, how much of its output is taken, its status and what it says.
+struct Refused {
+    words: &'static [&'static str],
+    input: &'static [u8],
+    room: Option<usize>,
+    status: u8,
+    said: &'static [u8],
+}
+
+static REFUSED_RUNS: [Refused; 5] = [
+    Refused {
+        words: &["utf8"],
+        input: b"a\x00\x00\xd8",
+        room: None,
+        status: 1,
+        said: b"unpaired UTF-16 surrogate d800 at index 1 (item 1)\n",
+    },
+    Refused {
+        words: &["utf8"],
+        input: b"a\x00",
+        room: Some(0),
+        status: 1,
+        said: b"write fault\n",
+    },
+    Refused {
+        words: &["ends", "D83D,DE00", "BF"],
+        input: b"",
+        room: Some(0),
+        status: 1,
+        said: b"write fault\n",
+    },
+    Refused {
+        words: &["edit", "a", "push=b"],
+        input: b"",
+        room: Some(0),
+        status: 1,
+        said: b"write fault\n",
+    },
+    Refused {
+        words: &["edit", "a", "push=xy"],
+        input: b"",
+        room: None,
+        status: 2,
+        said: b"usage: widetext utf8 [--lossy[=each|run|skip]] | ends UNITS CALLS | edit TEXT EDIT..\n",
+    },
+];
+
+// Whether the line is put in one call where that takes all of it, and where the first call fails there is no other, and the rest is the
+// same.
+fn is_said_once(alloc: Global, program: Program, row: &Refused) -> Result<bool, AllocError> {
+    let sink = Slow::new(alloc, 4096, row.room, false);
+    let source = Cut::new(row.input, 4096);
+    let told = run(alloc, program, row.words, source, sink, whole(alloc, 4096))?;
+    let mut well = told.status == row.status;
+    well &= told.said.calls == 1;
+    well &= told.said.bytes.as_slice() == row.said;
+    let sink = Slow::new(alloc, 4096, row.room, false);
+    let source = Cut::new(row.input, 4096);
+    let deaf = Slow::new(alloc, 4096, Some(0), false);
+    let lost = run(alloc, program, row.words, source, sink, deaf)?;
+    well &= lost.status == row.status;
+    well &= lost.said.calls == 1;
+    well &= lost.sink.bytes == told.sink.bytes;
+    Ok(well)
+}
+
+// The number of the first row that is not so.
+fn first_wrong(
+    alloc: Global,
+    program: Program,
+    rows: &[Refused],
+) -> Result<Option<usize>, AllocError> {
+    for (number, row) in rows.iter().enumerate() {
+        if !is_said_once(alloc, program, row)? {
+            return Ok(Some(number));
+        }
+    }
+    Ok(None)
+}
+
+#[test]
+fn faults_are_put_once(rt: HostRuntime) -> Result<(), Fail> {
+    assert_eq!(rt;
+        first_wrong(rt.alloc(), Program::Whole, &REFUSED_RUNS)?,
+        None
+    );
+    assert_eq!(rt;
+        first_wrong(rt.alloc(), Program::Utf8Alone, &REFUSED_RUNS[..2])?,
+        None
+    );
+    Ok(())
+}
+
+// An output whose flush fails, or not.
+#[derive(Drop)]
+struct Output {
+    fails: bool,
+}
+
+impl Write for Output {
+    fn write(&mut self, bytes: &[u8]) -> io::Result<usize> {
+        Ok(bytes.len())
+    }
+
+    fn flush(&mut self) -> io::Result<()> {
+        if self.fails {
+            return Err(io::Error::other("a fault"));
+        }
+        Ok(())
+    }
+}
+
+// Whether a run of this status ends with that one, and puts so many lines, all in one call.
+fn ends_with(alloc: Global, fails: bool, status: u8, last: u8, said: &[u8]) -> bool {
+    let mut faults = whole(alloc, 4096);
+    let mut well = finish(&mut Output { fails }, &mut faults, status) == last;
+    well &= faults.calls == usize::from(!said.is_empty());
+    well &= faults.bytes.as_slice() == said;
+    well
+}
+
+#[test]
+fn last_flushes(rt: HostRuntime) -> Result<(), Fail> {
+    let alloc = rt.alloc();
+    let mut well = ends_with(alloc, false, SUCCESS, SUCCESS, b"");
+    well &= ends_with(alloc, true, SUCCESS, REFUSED, b"write fault\n");
+    well &= ends_with(alloc, true, REFUSED, REFUSED, b"");
+    well &= ends_with(alloc, true, WRONG_USAGE, WRONG_USAGE, b"");
+    assert!(rt; well);
+    Ok(())
+}
