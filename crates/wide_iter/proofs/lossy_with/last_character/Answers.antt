@@ -1,4 +1,5 @@
 use Rattle.std.proofs.Common.{arith}
+use Rattle.std.proofs.lemmas.Grind.{common_steps}
 use Rattle.wide_iter.proofs.Rows.{passed_last}
 use Rattle.wide_iter.proofs.lossy_with.last_character.Goals as goal
 
@@ -11,3 +12,6 @@ loop-item-preserved-in_default-item g c =
       fewer = omega (arith, i.fewer, on.2);
       passed = passed_last _ _ _ i.passed c.in_default-item.field-0 (rw c.in_default-item.is at c.in-Some.ensures.steps);
     }
+
+pub returns-in-Ok-clause-takes : goal.returns-in-Ok-clause-takes
+returns-in-Ok-clause-takes g c = grind (arith, common_steps)

@@ -1,4 +1,5 @@
-use Rattle.std.proofs.Common.{[], sym, ◌∙◌}
+use Rattle.std.proofs.Common.{[], sym, ◌∙◌, arith}
+use Rattle.std.proofs.lemmas.Grind.{common_steps}
 use Rattle.wide_iter.proofs.Rows.{item_last, char_last, run_last, skip_last, skip_to_front}
 use Rattle.wide_iter.proofs.lossy_with.LossyWithDoubleEndedIterator.next_back.Goals as goal
 
@@ -30,3 +31,6 @@ returns-in-Some-Err-clause-steps g c =
           let hand = c.take-in-None-last_character.ensures in
           rw (sym c.take.ensures.value ∙ c.in_default.is, c.take.ensures.after, hand.value, hand.after) (skip_to_front _ _ _ _ _ _ c.in-Skip.is fault (c.in-None-last_character.ensures.takes.at number rest tells));
     }
+
+pub returns-in-Each-clause-steps : goal.returns-in-Each-clause-steps
+returns-in-Each-clause-steps g c = grind (arith, common_steps)

@@ -1,4 +1,5 @@
-use Rattle.std.proofs.Common.{◌≡◌, Bool, true, false, map, sym, subst}
+use Rattle.std.proofs.Common.{◌≡◌, Bool, true, false, map, sym, subst, arith}
+use Rattle.std.proofs.lemmas.Grind.{common_steps}
 use Rattle.wide_unit.specs.Laws.Splices.{IsWellFormed-map_part}
 use Rattle.wide_unit.specs.Items.{IsBoundary}
 use Rattle.wide_utfstr.proofs.view.UtfStr.get.Goals.{else-is_char_boundary-via-then-is_char_boundary+else-is_char_boundary-2, else-is_char_boundary-via-else-is_char_boundary}
@@ -28,3 +29,9 @@ returns-clause-some g c = λ bounds. (
         | else-is_char_boundary-via-else-is_char_boundary w ↦ clash _ first w.if-is_char_boundary.false
       ],
 )
+
+pub returns-in_err-places-clause-some : goal.returns-in_err-places-clause-some
+returns-in_err-places-clause-some g c = grind (arith, common_steps)
+
+pub returns-in_err-places-clause-char_range : goal.returns-in_err-places-clause-char_range
+returns-in_err-places-clause-char_range g c = grind (arith, common_steps)

@@ -1,4 +1,5 @@
-use Rattle.std.proofs.Common.{map}
+use Rattle.std.proofs.Common.{map, arith}
+use Rattle.std.proofs.lemmas.Grind.{common_steps}
 use Rattle.wide_unit.proofs.CharBoundaries.{IsTextRange-of_chars}
 use Rattle.wide_unit.specs.Laws.Splices.{IsWellFormed-map_part}
 use Rattle.wide_utfstr.proofs.view.UtfStr.slice.Goals as goal
@@ -9,3 +10,12 @@ invariant_of-result g c =
       well_formed = rw (c.range-places.ensures.start, c.range-places.ensures.end) (IsWellFormed-map_part g.C.Unit.form g.C.Unit.number c.args.self.units.now c.args.self.well_formed _ _
           part.start part.end part.within.forward);
     }
+
+pub range-places-requires-clause-in_bounds : goal.range-places-requires-clause-in_bounds
+range-places-requires-clause-in_bounds g c = grind (arith, common_steps)
+
+pub offset_bounds-self-places : goal.offset_bounds-self-places
+offset_bounds-self-places g c = grind (arith, common_steps)
+
+pub slice_bounds-result-end : goal.slice_bounds-result-end
+slice_bounds-result-end g c = grind (arith, common_steps)
