@@ -1,7 +1,7 @@
 //! What every printing of text writes.
 ghost use Rattle.std.specs.Prelude.{◌≤◌, encode_utf8_all};
 ghost use Rattle.std.specs.Char.Iter.{escape_rest, escape_end};
-ghost use Rattle.std.specs.Fmt.{WritesOnOk};
+ghost use Rattle.std.specs.Fmt.{WritesOnOk, WritesStyledOnOk};
 
 use std::char::EscapeDebug;
 use std::fmt;
@@ -16,7 +16,8 @@ use std::fmt;
 /// The sink's.
 pub fn write_escape<W: fmt::Write>(f: &mut fmt::Formatter<W>, escape: EscapeDebug) -> fmt::Result
     requires { escape_end escape ≤ 10 }
-    ensures { WritesOnOk W.write_str_gives f.old result (encode_utf8_all (escape_rest escape)) f.new }
+    ensures writes { WritesOnOk W.write_str_gives f.old result (encode_utf8_all (escape_rest escape)) f.new }
+    ensures styled { WritesStyledOnOk W.write_str_gives f.old result (encode_utf8_all (escape_rest escape)) f.new }
 {
     for c in escape {
         f.write_char(c)?;

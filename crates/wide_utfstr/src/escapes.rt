@@ -3,7 +3,7 @@ ghost use Rattle.std.specs.Prelude.{◌≡◌, ◌<◌, ◌≤◌, ℕ, Bool, Li
 ghost use Rattle.std.specs.Char.{is_ascii};
 ghost use Rattle.std.specs.Char.Escape.{escape_unicode, escape_default};
 ghost use Rattle.std.specs.Char.Iter.{escape_rest, escape_left, escape_end};
-ghost use Rattle.std.specs.Fmt.{WritesOnOk};
+ghost use Rattle.std.specs.Fmt.{WritesOnOk, WritesStyledOnOk};
 ghost use Rattle.std.specs.Iterator.{YieldsFirst, at_most, UpTo};
 ghost use Rattle.std.specs.Iterator.SizeHint.{IsWithinCount};
 ghost use Rattle.std.specs.List.{flat_map, list_all};
@@ -78,7 +78,8 @@ fn write_hand<W: fmt::Write>(
     current: Option<char::EscapeUnicode>,
 ) -> fmt::Result
     requires { ForSome current (λ e. escape_end e ≤ 10) }
-    ensures { WritesOnOk W.write_str_gives f.old result (encode_utf8_all (hand_rest escape_rest current)) f.new }
+    ensures writes { WritesOnOk W.write_str_gives f.old result (encode_utf8_all (hand_rest escape_rest current)) f.new }
+    ensures styled { WritesStyledOnOk W.write_str_gives f.old result (encode_utf8_all (hand_rest escape_rest current)) f.new }
 {
     match current {
         Some(escape) => write_escape(f, escape),
@@ -139,9 +140,10 @@ impl<'a, C: Unit> Escapes<'a, C> {
         first
     }
 
-    // Writes what is left, as `E` has it.
+    // Writes what is left, as `E` has it, whatever options the formatter has.
     fn write<E: Escaping, W: fmt::Write>(&self, f: &mut fmt::Formatter<W>) -> fmt::Result
-        ensures { list_all E.is_told (escapes_rest self.now) ≡ true → WritesOnOk W.write_str_gives f.old result (utf8 (escapes_left E.escaped self.now)) f.new }
+        ensures writes { list_all E.is_told (escapes_rest self.now) ≡ true → WritesOnOk W.write_str_gives f.old result (utf8 (escapes_left E.escaped self.now)) f.new }
+        ensures styled { list_all E.is_told (escapes_rest self.now) ≡ true → WritesStyledOnOk W.write_str_gives f.old result (utf8 (escapes_left E.escaped self.now)) f.new }
     {
         write_hand(f, self.current)?;
         for c in self.rest.chars() {
@@ -213,7 +215,9 @@ impl<C: Unit> fmt::Display for EscapeUnicode<'_, C> {
 
     ghost output = { λ s. Some (utf8 (unicode_left s)) };
 
-    /// Prints what is left.
+    ghost styled_output = { λ s _. Some (utf8 (unicode_left s)) };
+
+    /// Prints what is left. The options of a hole, as its width and fill, change nothing.
     fn fmt<W: fmt::Write>(&self, f: &mut fmt::Formatter<W>) -> fmt::Result {
         self.escapes.write::<AsUnicode, W>(f)
     }
@@ -283,7 +287,9 @@ impl<C: Unit> fmt::Display for EscapeDefault<'_, C> {
 
     ghost output = { λ s. Some (utf8 (default_left s)) };
 
-    /// Prints what is left.
+    ghost styled_output = { λ s _. Some (utf8 (default_left s)) };
+
+    /// Prints what is left. The options of a hole, as its width and fill, change nothing.
     fn fmt<W: fmt::Write>(&self, f: &mut fmt::Formatter<W>) -> fmt::Result {
         self.escapes.write::<AsDefault, W>(f)
     }
@@ -353,7 +359,9 @@ impl<C: Unit> fmt::Display for EscapeDebug<'_, C> {
 
     ghost output = { debug_left_output };
 
-    /// Prints what is left.
+    ghost styled_output = { λ s _. debug_left_output s };
+
+    /// Prints what is left. The options of a hole, as its width and fill, change nothing.
     fn fmt<W: fmt::Write>(&self, f: &mut fmt::Formatter<W>) -> fmt::Result {
         self.escapes.write::<AsDebug, W>(f)
     }

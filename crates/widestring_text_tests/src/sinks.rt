@@ -1,5 +1,5 @@
 //! A sink of text that fails at one of its writes, and what is printed into it.
-use std::alloc::Global;
+use std::alloc::{AllocError, Global};
 use std::fmt::{self, Debug, Display, Write};
 
 // It keeps what it takes, and counts the writes.
@@ -51,13 +51,20 @@ fn is_cut(alloc: Global, value: &impl Display, whole: &str, fails_at: usize) -> 
     }
 }
 
-/// Whether a value prints this text, also under a width and a fill, and each write that fails ends the printing.
-pub fn prints(alloc: Global, value: &impl Display, text: &str) -> bool {
-    let is_plain = match format!(in alloc; "{value:_>40}") {
-        Ok(padded) => padded.as_str() == text,
+// Whether this was printed.
+fn is_text(printed: Result<String, AllocError>, text: &str) -> bool {
+    match printed {
+        Ok(printed) => printed.as_str() == text,
         Err(_) => false,
-    };
-    if !is_plain {
+    }
+}
+
+/// Whether a value prints this text, also under widths and fills, and each write that fails ends the printing.
+pub fn prints(alloc: Global, value: &impl Display, text: &str) -> bool {
+    let filled: Result<_, _> = format!(in alloc; "{value:_>40}");
+    let wide: Result<_, _> = format!(in alloc; "{value:>8}");
+    let zeros: Result<_, _> = format!(in alloc; "{value:08}");
+    if !(is_text(filled, text) && is_text(wide, text) && is_text(zeros, text)) {
         return false;
     }
     for fails_at in 0..100 {

@@ -11,7 +11,7 @@ loop-c-preserved g c =
     let rest = map Char (lossy_with_left g.C.Unit.form g.C.Unit.number c.next.new.self) in
     let xs = escape_rest c.escape_debug.result in
     quoted-more (Char c.in-Some.c) rest c.loop-c.invariant (ap (λ cs. map Char cs) c.in-Some.ensures.steps)
-    (λ ascii plain. subst (λ bs. HasWritten g.W.Write.write_str_gives c.loop-c.f bs c.write_escape.new.f) (escape-bytes c.in-Some.c xs ascii c.escape_debug.ensures.rest) (c.in_ok-write_escape.ensures plain (refl {a = true})))
+    (λ ascii plain. subst (λ bs. HasWritten g.W.Write.write_str_gives c.loop-c.f bs c.write_escape.new.f) (escape-bytes c.in-Some.c xs ascii c.escape_debug.ensures.rest) (c.in_ok-write_escape.ensures.writes plain (refl {a = true})))
 
 pub returns : goal.returns
 returns g c = record { writes = quoted-all c.write_str-2.result c.loop-c.invariant (ap (λ cs. map Char cs) c.in-None.ensures.steps.0) c.write_str-2.ensures.writes }

@@ -13,7 +13,7 @@ loop-item-preserved-in_ok-write_escape-in-Ok g c =
     let tail = items g.C.Unit.form (map number c.in-Some.tail.now) in
     let xs = escape_rest c.escape_debug.result in
     quoted-more (Char c.in-Ok.c) tail c.loop-item.invariant (c.in-Some.ensures.some ∙ ap (λ r. item_of number r ∷ tail) c.in-Ok.is)
-    (λ ascii plain. subst (λ bs. HasWritten g.W.Write.write_str_gives c.loop-item.f bs c.write_escape.new.f) (escape-bytes c.in-Ok.c xs ascii c.escape_debug.ensures.rest) (c.in_ok-write_escape-in-Ok.ensures plain (refl {a = true})))
+    (λ ascii plain. subst (λ bs. HasWritten g.W.Write.write_str_gives c.loop-item.f bs c.write_escape.new.f) (escape-bytes c.in-Ok.c xs ascii c.escape_debug.ensures.rest) (c.in_ok-write_escape-in-Ok.ensures.writes plain (refl {a = true})))
 
 pub loop-item-preserved : goal.loop-item-preserved
 loop-item-preserved g c =

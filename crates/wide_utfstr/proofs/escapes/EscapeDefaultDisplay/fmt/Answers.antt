@@ -3,4 +3,7 @@ use Rattle.wide_utfstr.proofs.Escaped.{all-told}
 use Rattle.wide_utfstr.proofs.escapes.EscapeDefaultDisplay.fmt.Goals as goal
 
 pub returns-clause-writes : goal.returns-clause-writes
-returns-clause-writes g c = c.write.ensures (all-told (escapes_rest c.args.self.now.escapes))
+returns-clause-writes g c = c.write.ensures.writes (all-told (escapes_rest c.args.self.now.escapes))
+
+pub returns-clause-styled : goal.returns-clause-styled
+returns-clause-styled g c = c.write.ensures.styled (all-told (escapes_rest c.args.self.now.escapes))

@@ -1,8 +1,8 @@
 use Rattle.std.proofs.Common.{◌≡◌, true}
-use Rattle.std.specs.Fmt.{IsPlainFormatter}
+use Rattle.std.specs.Fmt.{IsFlush}
 use Rattle.std.specs.List.{flat_map, list_all}
 use Rattle.wide_unit.specs.Utf8.{utf8}
-use Rattle.wide_unit.proofs.Printed.{HasPrinted}
+use Rattle.wide_unit.proofs.Printed.{HasPrintedStyled}
 use Rattle.wide_utfstr.specs.Iter.{chars_left}
 use Rattle.wide_utfstr.specs.Escapes.{escapes_rest, escapes_left}
 use Rattle.wide_utfstr.proofs.escapes.Escapes.write.Given as goal
@@ -12,5 +12,5 @@ invariant-loop-c g l =
     let left = chars_left g.C.Unit.form g.C.Unit.number l.c-iterator in
     let told = g.E.Escaping.is_told in
     let escaped = g.E.Escaping.escaped in
-    list_all told (escapes_rest l.fn.self) ≡ true → IsPlainFormatter l.fn.f
-    → (list_all told left ≡ true) × HasPrinted g.W.Write.write_str_gives l.fn.f (utf8 (escapes_left escaped l.fn.self)) (utf8 (flat_map escaped left)) l.f
+    list_all told (escapes_rest l.fn.self) ≡ true → IsFlush l.fn.f
+    → (list_all told left ≡ true) × HasPrintedStyled g.W.Write.write_str_gives l.fn.f (utf8 (escapes_left escaped l.fn.self)) (utf8 (flat_map escaped left)) l.f
