@@ -5,6 +5,7 @@
 //! [`laws`] have the laws of these definitions as their contracts.
 #![tactic(auto)]
 
+mod any_units;
 mod compare;
 mod first;
 mod lanes;
@@ -19,6 +20,7 @@ mod unit;
 mod utf8;
 mod validation;
 
+pub use any_units::AnyUnits;
 pub use compare::{order_of_units, same_units};
 pub use lanes::{first_no_scalar, first_surrogate};
 pub use line::split_line;

@@ -6,11 +6,13 @@ ghost use Rattle.wide_unit.specs.EncodingForm.{EncodingForm, Utf16, Utf32, code_
 ghost use Rattle.wide_unit.specs.Segmentation.{Item, Char, IsSegmentation};
 ghost use Rattle.wide_unit.specs.Items.{items, characters, IsWellFormed, BeginsWithChars};
 ghost use Rattle.wide_unit.specs.Unit.{numbers_of};
+ghost use Rattle.wide_unit.specs.AnyUnits.{any_form, any_numbers};
 ghost use Rattle.wide_unit.specs.Searches.{IsFirstPlace, first_place, is_unit};
 ghost use Rattle.std.proofs.Common.{rules};
 ghost use Rattle.wide_unit.specs.Laws.Forms.{code_units-no_low_first};
 ghost use Rattle.wide_unit.specs.Laws.Items.{items-code_units, segmentation-unique};
 
+use crate::any_units::AnyUnits;
 use crate::lanes::{
     count_low, first_no_scalar, first_same_16, first_same_32, first_surrogate, leading_pairs,
 };
@@ -88,6 +90,11 @@ pub trait Unit: Copy {
     /// How many units stand before the first of this number: all, where there is none. They are read by blocks.
     fn place_of(code: u16, units: &[Self]) -> usize
         ensures { result ≡ first_place (is_unit code) (map number units.now) };
+
+    /// The units as those of their width, for code that each width has of its own.
+    fn as_any(units: &[Self]) -> AnyUnits<'_>
+        ensures form { any_form result ≡ form }
+        ensures numbers { any_numbers result ≡ map number units.now };
 
     /// True of every unit: calling it tells a contract that the number is at most FFFF, or FFFFFFFF in UTF-32.
     fn in_range(self) -> bool
@@ -211,6 +218,11 @@ impl Unit for u16 {
     }
 
     #[inline]
+    fn as_any(units: &[u16]) -> AnyUnits<'_> {
+        AnyUnits::U16(units)
+    }
+
+    #[inline]
     fn in_range(self) -> bool {
         true
     }
@@ -298,6 +310,11 @@ impl Unit for u32 {
 
     fn place_of(code: u16, units: &[u32]) -> usize {
         first_same_32(units, u32::from(code))
+    }
+
+    #[inline]
+    fn as_any(units: &[u32]) -> AnyUnits<'_> {
+        AnyUnits::U32(units)
     }
 
     #[inline]

@@ -1,0 +1,10 @@
+//! Units of either width.
+
+/// Units of either width. Made by [`Unit::as_any`](crate::Unit::as_any); this port's own.
+#[derive(Clone, Copy, Debug)]
+pub enum AnyUnits<'a> {
+    /// Units of 16 bits.
+    U16(&'a [u16]),
+    /// Units of 32 bits.
+    U32(&'a [u32]),
+}
