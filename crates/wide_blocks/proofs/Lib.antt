@@ -4,3 +4,4 @@ pub mod Shuffles
 pub mod Stores
 pub mod Tables
 pub mod UnitEncodings
+pub mod Utf8Lengths

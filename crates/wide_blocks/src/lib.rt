@@ -3,9 +3,11 @@
 
 mod blocks;
 mod fronts;
+mod lengths;
 mod narrow;
 mod steps;
 mod wide;
 
 pub use blocks::encode;
+pub use lengths::utf8_len;
 pub use steps::{Step, put_unit};
