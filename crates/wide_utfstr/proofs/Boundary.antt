@@ -1,10 +1,13 @@
 -- What the unit at a place of well-formed units tells of it, over the units of any type.
-use Rattle.std.proofs.Common.{◌≡◌, ℕ, ◌<◌, ◌≤◌, List, Bool, true, false, not, nat_eq, refl, sym, ◌∙◌, ap, subst, arith, eq-eqb, map, length, get_or, IsTrue, ◌↔◌}
-use Rattle.std.proofs.lemmas.List.{length-map, get_or-map}
+use Rattle.std.proofs.Common.{◌≡◌, ℕ, ◌+◌, ◌<◌, ◌≤◌, List, [], ◌∷◌, take, drop, length-append, length-take, Bool, true, false, not, nat_eq, refl, sym, ◌∙◌, ap, subst, arith, eq-eqb, map, length, get_or, IsTrue, ◌↔◌}
+use Rattle.std.proofs.lemmas.List.{length-map, get_or-map, get_or-take, get_or_at, take-append-drop, length-take-le}
 use borrow.Author.Tests.{eqb-true}
-use Rattle.wide_unit.specs.EncodingForm.{EncodingForm, IsLowSurrogate}
-use Rattle.wide_unit.specs.Items.{IsWellFormed, IsBoundary}
-use Rattle.wide_unit.specs.Laws.Boundaries.{IsBoundary-at, IsBoundary-end, no-low_at_boundary}
+use Rattle.wide_unit.specs.EncodingForm.{EncodingForm, Utf16, Utf32, IsHighSurrogate, IsLowSurrogate}
+use Rattle.wide_unit.specs.Items.{items, IsWellFormed, IsBoundary}
+use Rattle.wide_unit.specs.Places.{IsCharBoundary}
+use Rattle.wide_unit.specs.Laws.Forms.{IsPair-parts}
+use Rattle.wide_unit.specs.Laws.Items.{IsCut}
+use Rattle.wide_unit.specs.Laws.Boundaries.{IsBoundary-at, IsBoundary-end, IsBoundary-of_cut, no-low_at_boundary}
 use Rattle.wide_unit.specs.Laws.Places.{IsBoundary-within}
 
 module _ {X : Type 0} (form : EncodingForm) (number : X → ℕ) (xs : List X) (place : ℕ) where
@@ -36,3 +39,23 @@ module _ {X : Type 0} (form : EncodingForm) (number : X → ℕ) (xs : List X) (
       λ e. IsBoundary-at form (map number xs) place (omega (arith, within)) (λ low. let e : false ≡ true = tells.1 (subst (λ u. IsLowSurrogate form u) unit low) in cc),
       λ at. refl,
     )
+
+-- before a place that is none there is one
+module _ (form : EncodingForm) (us : List ℕ) (n : ℕ) (well : IsWellFormed form us) (below : n + 1 < length us) where
+  not_both : (form : EncodingForm) (u : ℕ) → IsHighSurrogate form u → IsLowSurrogate form u → ⊥
+  not_both Utf16 u high low = omega (arith, high, low)
+  not_both Utf32 u high low = high
+
+  behind_low : IsLowSurrogate form (get_or us n 0) → IsCut form (take (n + 1) us) (drop (n + 1) us)
+  behind_low low front back h l e f pair =
+      let long : length front ≡ n = omega (arith, ap length e, length-append front (h ∷ []), length-take (n + 1) us) in
+      let unit : get_or us n 0 ≡ h = sym (get_or-take (n + 1) us n 0 (omega arith)) ∙ ap (λ xs. get_or xs n 0) e ∙ get_or_at front h [] 0 n long in
+      not_both form h (IsPair-parts form h l pair).0 (subst (λ u. IsLowSurrogate form u) unit low)
+
+  pub boundary_before : ¬ (IsCharBoundary form us (n + 1)) → IsCharBoundary form us n
+  boundary_before none = (omega arith, λ some within low. none (omega arith, λ _ _ second. no-low_at_boundary form us (n + 1) well below (place low) second))
+    where
+      place : IsLowSurrogate form (get_or us n 0) → IsBoundary form us (n + 1)
+      place low =
+          let b = IsBoundary-of_cut form (take (n + 1) us) (drop (n + 1) us) (behind_low low) in
+          (b.0, b.1, ap (λ xs. items form xs) (sym (take-append-drop (n + 1) us)) ∙ b.2, b.3 ∙ length-take-le (n + 1) us (omega arith))

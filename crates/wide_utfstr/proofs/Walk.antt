@@ -3,11 +3,14 @@ use Rattle.std.proofs.Common.{◌≡◌, ℕ, ◌+◌, ◌≤◌, List, [], ◌�
 use Rattle.std.proofs.lemmas.List.{take-append-drop, drop-drop}
 use Rattle.std.proofs.lemmas.List.Concat.{flat_map-append}
 use Rattle.std.proofs.lemmas.List.Elements.{All-drop}
+use Rattle.std.proofs.Math.Seq.{drop-append_seam}
 use Rattle.std.specs.Char.{IsScalar}
 use Rattle.wide_unit.specs.EncodingForm.{EncodingForm, code_units, encode}
-use Rattle.wide_unit.specs.Items.{chars, IsWellFormed}
+use Rattle.wide_unit.specs.Items.{items, chars, characters, IsWellFormed}
 use Rattle.wide_unit.specs.Places.{IsPlaceOf}
+use Rattle.wide_unit.specs.Laws.Ends.{items-append_left}
 use Rattle.wide_unit.specs.Laws.Places.{chars-encode, encode-chars, scalars-chars, IsPlaceOf-front}
+use Rattle.wide_unit.specs.Laws.Policies.{characters-append}
 
 -- what is left of the units is the encoding of their characters from number `index` on, and there are that many
 pub record IsLeftFrom (form : EncodingForm) (us rest : List ℕ) (index : ℕ) : Type 0 where
@@ -50,3 +53,18 @@ module _ (form : EncodingForm) (us : List ℕ) (well : IsWellFormed form us) whe
     left-place place e =
         let long : length (encode form (take index (chars form us))) ≡ place = omega (arith, left-length) in
         subst (λ n. IsPlaceOf form us index n) long (IsPlaceOf-front form us well index)
+
+    -- behind a front of as many characters
+    pub left-front : (front others : List ℕ) (count : ℕ) → front ++ others ≡ rest → IsWellFormed form front → IsWellFormed form others → count ≡ length (chars form front) → count + index ≤ length (chars form us) × IsLeftFrom form us others (index + count)
+    left-front front others count joined before after counted =
+        let split : drop index (chars form us) ≡ chars form front ++ chars form others =
+        sym chars-left ∙ ap (chars form) (sym joined) ∙ ap characters (items-append_left form front others before) ∙ characters-append (items form front) (items form others)
+        in
+        let later : drop (index + count) (chars form us) ≡ chars form others = sym (drop-drop count index (chars form us)) ∙ ap (drop count) split ∙ ap (λ n. drop n (chars form front ++ chars form others)) counted ∙ drop-append_seam (chars form front) (chars form others) in
+        let within : count + index ≤ length (chars form us) = omega (arith, left.within, counted, ap length split, length-append (chars form front) (chars form others), length-drop index (chars form us)) in (
+          within,
+          record {
+            characters = sym (encode-chars form others after) ∙ ap (encode form) (sym later);
+            within = omega (arith, within);
+          },
+        )

@@ -23,6 +23,9 @@ use wide_unit::{Unit, check, range_check, split_first, split_last};
 use wide_ustr::UStr;
 use wide_utferror::{FaultUnit, UtfError};
 
+// As many units as are counted in one step.
+const BLOCK: usize = 256;
+
 /// A view of units that are well formed (Unicode Standard, D85), by its type: no call can make one that isn't.
 ///
 /// It is a slice by another name, and is copied freely; views are equal where their units are, and ordered as these. No call
@@ -92,22 +95,39 @@ impl<'a, C: Unit> UtfStr<'a, C> {
         }
     }
 
-    /// How many characters there are. It reads each unit once.
+    /// How many characters there are. It reads each unit once, by blocks, and in UTF-32 none.
     pub fn char_count(self) -> usize
         ensures { result ≡ length (text_seen self.entry) }
     {
-        self.chars().count()
+        C::char_count(self.units)
     }
 
     /// The offset, in units, at which character number `index` begins, counted from 0: the unit length of the first `index`
-    /// characters, so that their number has the offset of the end. None past it. It reads the units before the offset.
+    /// characters, so that their number has the offset of the end. None past it. It reads the units before the offset, by blocks as far
+    /// as whole blocks stand before it, and at most one block behind it.
     pub fn unit_offset(self, index: usize) -> Option<usize>
         ensures some { IsSome result ↔ (index ≤ length (text_seen self.entry)) }
         ensures place { IfSome result (IsPlaceOf C.form (map C.number (units_seen self.entry)) index) }
         ensures char_boundary { IfSome result (IsCharBoundary C.form (map C.number (units_seen self.entry))) }
     {
         let mut rest = self;
-        for _number in 0..index {
+        let mut passed = 0;
+        'counted: while rest.len() > BLOCK {
+            // Where one place lies within a pair, the place before it doesn't.
+            let end = if rest.is_char_boundary(BLOCK) {
+                BLOCK
+            } else {
+                BLOCK - 1
+            };
+            let (front, others) = rest.split_at(end);
+            let count = front.char_count();
+            if count > index - passed {
+                break 'counted;
+            }
+            passed += count;
+            rest = others;
+        }
+        for _number in passed..index {
             let (_, others) = rest.split_first_char()?;
             rest = others;
         }

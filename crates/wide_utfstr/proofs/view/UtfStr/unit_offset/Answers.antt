@@ -1,17 +1,45 @@
-use Rattle.std.proofs.Common.{◌≡◌, ℕ, ◌+◌, ◌-◌, ◌<◌, ◌≤◌, ◌↔◌, Option, Some, None, IsSome, map, length, subst, arith}
-use Rattle.std.proofs.lemmas.List.{length-map}
+use Rattle.std.proofs.Common.{◌≡◌, ℕ, ◌+◌, ◌-◌, ◌<◌, ◌≤◌, ◌↔◌, Option, Some, None, IsSome, map, length, subst, sym, ap, ◌∙◌, ◌++◌, arith}
+use Rattle.std.proofs.lemmas.List.{length-map, map-append}
 use Rattle.wide_unit.specs.Items.{chars}
-use Rattle.wide_unit.specs.Places.{IsPlaceOf}
+use Rattle.wide_unit.specs.Places.{IsPlaceOf, IsCharBoundary}
 use Rattle.wide_unit.proofs.CharBoundaries.{IsCharBoundary-of}
-use Rattle.wide_utfstr.proofs.Walk.{left-all, left-none, left-more, left-shorter, left-place}
+use Rattle.wide_utfstr.proofs.Walk.{left-front, left-all, left-none, left-more, left-shorter, left-place}
+use Rattle.wide_utfstr.proofs.Boundary.{boundary_before}
+use Rattle.wide_utfstr.proofs.view.UtfStr.unit_offset.Goals.{then-is_char_boundary, else-is_char_boundary}
 use Rattle.wide_utfstr.proofs.view.UtfStr.unit_offset.Goals as goal
 
 none-past : (r : Option ℕ) (index count : ℕ) → r ≡ None → count < index → IsSome r ↔ (index ≤ count)
 none-past None index count e past = (λ some. absurd cc, λ within. absurd (omega arith))
 none-past (Some n) index count e past = absurd cc
 
-pub loop-number-init : goal.loop-number-init
-loop-number-init g c = left-all g.C.Unit.form (map g.C.Unit.number c.args.self.units.now) c.args.self.well_formed
+pub counted-init : goal.counted-init
+counted-init g c = (omega arith, left-all g.C.Unit.form (map g.C.Unit.number c.args.self.units.now) c.args.self.well_formed)
+
+pub split_at-requires : goal.split_at-requires
+split_at-requires g c =
+    let form = g.C.Unit.form in
+    let us = map g.C.Unit.number c.counted.rest.units.now in
+    let long : 256 < length us = omega (arith, length-map c.counted.rest.units.now g.C.Unit.number, c.counted-test.true, c.len.ensures) in
+    elim c.if-is_char_boundary.branch [
+      | then-is_char_boundary w ↦ subst (λ n. IsCharBoundary form us n) (sym w.end-is) (c.is_char_boundary.ensures.char_boundary.0 w.if-is_char_boundary.true)
+      | else-is_char_boundary w ↦
+          subst (λ n. IsCharBoundary form us n) (sym w.end-is)
+          (boundary_before form us 255 c.counted.rest.well_formed long (λ here. let yes = c.is_char_boundary.ensures.char_boundary.1 here in let no = w.if-is_char_boundary.false in absurd cc))
+    ]
+
+pub counted-preserved : goal.counted-preserved
+counted-preserved g c =
+    let form = g.C.Unit.form in
+    let number = g.C.Unit.number in
+    let front = c.split_at.result.0 in
+    let others = c.split_at.result.1 in
+    let us = map number c.args.self.units.now in
+    let joined : map number front.units.now ++ map number others.units.now ≡ map number c.counted.rest.units.now = sym (map-append number front.units.now others.units.now) ∙ ap (map number) c.split_at.ensures.joined in
+    let step =
+    left-front form us c.args.self.well_formed (map number c.counted.rest.units.now) c.counted.passed c.counted.invariant.1 (map number front.units.now) (map number others.units.now) c.char_count-count.result joined front.well_formed
+    others.well_formed c.char_count-count.ensures
+    in
+    (omega (arith, c.if-count-index.false, c.counted.invariant.0), step.1)
 
 pub loop-number-preserved : goal.loop-number-preserved
 loop-number-preserved g c =
