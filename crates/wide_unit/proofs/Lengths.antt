@@ -1,16 +1,17 @@
 -- The length of a text in code units, by its bytes.
-use Rattle.std.proofs.Common.{◌≡◌, ◌<◌, ◌≤◌, ◌+◌, ◌/◌, ◌%◌, ◌^◌, ℕ, List, [], ◌∷◌, length, true, suc, not, cond, eqb, inl, inr, refl, ap, sym, ◌∙◌, arith}
+use Rattle.std.proofs.Common.{◌≡◌, ◌<◌, ◌≤◌, ◌+◌, ◌/◌, ◌%◌, ◌^◌, ℕ, List, [], ◌∷◌, length, true, suc, inl, inr, refl, ap, sym, ◌∙◌, arith, ◌-◌, take, drop}
 use Rattle.std.specs.Char.{IsScalar}
 use Rattle.std.specs.List.{sum_by}
 use Rattle.std.specs.Str.{IsUtf8, chars, all_scalars}
 use Rattle.std.proofs.lemmas.Bool.{cases_lt, and_parts}
 use Rattle.std.proofs.lemmas.Bool.Decides.{nat_tests}
 use Rattle.std.proofs.lemmas.List.Sums.{sum_by-append, sum_by-cons}
+use Rattle.std.proofs.Math.Seq.{take-add, take-length}
 use Rattle.std.proofs.lemmas.List.Concat.{length-flat_map}
 use Rattle.std.proofs.lemmas.Str.{encodes-chars, scalars-chars}
 use Rattle.wide_unit.specs.EncodingForm.{Utf16, Utf32, code_units, encode}
 use Rattle.wide_unit.specs.Utf8.{utf8_bytes, utf8, trailing_byte}
-use Rattle.wide_unit.specs.LeadingByte.{units_begun}
+use Rattle.wide_unit.specs.LeadingByte.{begins, units_begun}
 use Rattle.wide_unit.specs.Laws.Forms.{ranges, one_unit, two_units}
 use Rattle.wide_unit.specs.Laws.Utf8.{utf8-encode_utf8_all, one_byte, two_bytes, three_bytes, four_bytes}
 
@@ -77,9 +78,6 @@ pub length-utf16 : (bs : List ℕ) → IsUtf8 bs → sum_by units_begun bs ≡ l
 length-utf16 bs text = weight-text (λ n. n) refl bs text ∙ sym (length-flat_map (code_units Utf16) (chars bs))
 
 -- and has as many characters as bytes at which some begin
-abbrev pub begins : ℕ → ℕ
-begins n = cond (not (eqb n 0)) 1 0
-
 count-all : (cs : List ℕ) → sum_by (λ c. begins (length (code_units Utf16 c))) cs ≡ length cs
 count-all [] = refl
 count-all (c ∷ cs) =
@@ -92,3 +90,13 @@ length-utf32 bs text = weight-text begins refl bs text ∙ count-all (chars bs)
 pub length-encode_utf32 : (cs : List ℕ) → length (encode Utf32 cs) ≡ length cs
 length-encode_utf32 [] = refl
 length-encode_utf32 (c ∷ cs) = ap suc (length-encode_utf32 cs)
+
+-- what begins at the bytes before a place, and behind it
+module _ (begun : ℕ → ℕ) (bs : List ℕ) where
+  pub begun-on : (at n : ℕ) → sum_by begun (take (at + n) bs) ≡ sum_by begun (take at bs) + sum_by begun (take n (drop at bs))
+  begun-on at n = ap (sum_by begun) (take-add at n bs) ∙ sum_by-append begun (take at bs) (take n (drop at bs))
+
+  pub begun-all : (at : ℕ) → at ≤ length bs → sum_by begun bs ≡ sum_by begun (take at bs) + sum_by begun (take (length bs - at) (drop at bs))
+  begun-all at within =
+      let whole : at + (length bs - at) ≡ length bs = omega arith in
+      ap (sum_by begun) (sym (take-length bs) ∙ ap (λ n. take n bs) (sym whole)) ∙ begun-on at (length bs - at)

@@ -4,7 +4,8 @@ ghost use Rattle.std.specs.Option.{option_map};
 ghost use Rattle.std.specs.Str.{chars};
 ghost use Rattle.wide_unit.specs.EncodingForm.{Utf16, Utf32, encode};
 ghost use Rattle.wide_unit.specs.CodePoint.{code_point_at};
-ghost use Rattle.wide_unit.specs.LeadingByte.{units_begun};
+ghost use Rattle.wide_unit.specs.LeadingByte.{begins, units_begun};
+ghost use Rattle.std.specs.List.{sum_by};
 
 // The bits of a code point with those of one more byte, its six lowest.
 #[inline]
@@ -46,41 +47,92 @@ pub fn next_code_point(bytes: &[u8]) -> Option<(u32, &[u8])>
 }
 
 // How many code units of UTF-16 the character has of which this is the first byte, and 0 where the byte is a later one.
-#[inline]
-fn units_begun(byte: u8) -> usize
+#[inline(always)]
+fn units_begun(byte: u8) -> u8
     ensures value { result ≡ units_begun byte }
     ensures bound { result ≤ 2 }
 {
-    if 0xF0 <= byte {
-        return 2;
+    u8::from(byte < 0x80 || 0xC0 <= byte) + u8::from(0xF0 <= byte)
+}
+
+// As many bytes as are counted in one step.
+const BLOCK: usize = 64;
+
+// What a text has more of than bytes: a count of each byte alone. A counter as wide as a byte is compiled to lanes.
+trait Count {
+    ghost use Rattle.std.specs.Prelude.{ℕ};
+
+    // How many begin at a byte.
+    ghost begun: { ℕ → ℕ };
+
+    // How many begin at some bytes.
+    fn count(bytes: &[u8]) -> u8
+        requires { length bytes.now ≤ 64 }
+        ensures value { result ≡ sum_by begun bytes.now }
+        ensures bound { result ≤ 2 * length bytes.now };
+}
+
+// Units of UTF-16.
+struct Units;
+
+impl Count for Units {
+    ghost begun = { units_begun };
+
+    #[inline(always)]
+    fn count(bytes: &[u8]) -> u8 {
+        let mut units = 0;
+        for byte in bytes {
+            units += units_begun(*byte);
+        }
+        units
     }
-    usize::from(byte < 0x80 || 0xC0 <= byte)
+}
+
+// Characters.
+struct Characters;
+
+impl Count for Characters {
+    ghost begun = { λ byte. begins (units_begun byte) };
+
+    #[inline(always)]
+    fn count(bytes: &[u8]) -> u8 {
+        let mut characters = 0;
+        for byte in bytes {
+            characters += u8::from(units_begun(*byte) != 0);
+        }
+        characters
+    }
+}
+
+// How many begin at all of the bytes.
+fn count_all<T: Count>(bytes: &[u8]) -> usize
+    ensures { result ≡ sum_by T.begun bytes.now }
+{
+    let mut count = 0;
+    let mut at = 0;
+    'counted: while bytes.len() - at > BLOCK {
+        count += usize::from(T::count(&bytes[at..at + BLOCK]));
+        at += BLOCK;
+    }
+    count + usize::from(T::count(&bytes[at..]))
 }
 
 /// The length of the text in UTF-16, in units of 16 bits (Unicode Standard, D91).
 ///
-/// It goes once over the bytes of the text, and takes no memory.
+/// It goes once over the bytes of the text, by blocks, and takes no memory.
 pub fn length_as_utf16(text: &str) -> usize
     ensures { result ≡ length (encode Utf16 (chars text.now)) }
 {
-    let mut units = 0;
-    for byte in text.as_bytes() {
-        units += units_begun(*byte);
-    }
-    units
+    count_all::<Units>(text.as_bytes())
 }
 
 /// The length of the text in UTF-32, in units of 32 bits, which is its number of characters (Unicode Standard,
 /// D90).
 ///
-/// It goes once over the bytes of the text, and takes no memory.
+/// It goes once over the bytes of the text, by blocks, and takes no memory.
 pub fn length_as_utf32(text: &str) -> usize
     ensures units { result ≡ length (encode Utf32 (chars text.now)) }
     ensures characters { result ≡ length (chars text.now) }
 {
-    let mut characters = 0;
-    for byte in text.as_bytes() {
-        characters += usize::from(units_begun(*byte) != 0);
-    }
-    characters
+    count_all::<Characters>(text.as_bytes())
 }
