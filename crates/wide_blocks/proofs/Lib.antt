@@ -5,3 +5,4 @@ pub mod Stores
 pub mod Tables
 pub mod UnitEncodings
 pub mod Utf8Lengths
+pub mod LossyFronts

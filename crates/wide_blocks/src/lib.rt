@@ -4,10 +4,12 @@
 mod blocks;
 mod fronts;
 mod lengths;
+mod lossy;
 mod narrow;
 mod steps;
 mod wide;
 
 pub use blocks::encode;
 pub use lengths::utf8_len;
+pub use lossy::{lossy_front, sound_len};
 pub use steps::{Step, put_unit};

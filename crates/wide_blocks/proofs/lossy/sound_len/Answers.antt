@@ -1,0 +1,8 @@
+use Rattle.std.proofs.Common.{subst}
+use Rattle.std.proofs.lemmas.List.{take-map}
+use Rattle.wide_unit.specs.Items.{IsWellFormed}
+use Rattle.wide_unit.proofs.Faults.{first_fault-front}
+use Rattle.wide_blocks.proofs.lossy.sound_len.Goals as goal
+
+pub returns-in-Err-clause-sound : goal.returns-in-Err-clause-sound
+returns-in-Err-clause-sound g c = subst (IsWellFormed g.C.Unit.form) (take-map g.C.Unit.number c.in-Err.fault.index c.args.units.now) (first_fault-front _ _ _ _ _ c.in-Err.ensures.err)
