@@ -5,7 +5,7 @@ use Rattle.std.specs.Char.{IsScalar}
 use Rattle.std.specs.List.{All, Contains}
 use Rattle.std.specs.Option.{option_map}
 use Rattle.std.proofs.Math.Seq.{take-append_seam}
-use Rattle.std.proofs.lemmas.List.{take-append-drop}
+use Rattle.std.proofs.lemmas.List.{take-append-drop, append_cancel_left}
 use Rattle.std.proofs.lemmas.List.Elements.{Contains-append_right}
 use Rattle.wide_unit.specs.EncodingForm.{EncodingForm, encode}
 use Rattle.wide_unit.specs.Segmentation.{Item, Char, Fault, units_of}
@@ -13,8 +13,9 @@ use Rattle.wide_unit.specs.Items.{items, chars, leading_characters, first_fault_
 use Rattle.wide_unit.specs.Places.{chars_before}
 use Rattle.wide_unit.specs.Lossy.{lossy}
 use Rattle.wide_unit.specs.Laws.Chains.{Chain}
-use Rattle.wide_unit.specs.Laws.Items.{items-chain, units_of-items, units_of-chars, IsWellFormed-of_chars, chars-of_well_formed}
+use Rattle.wide_unit.specs.Laws.Items.{items-chain, units_of-items, units_of-chars, IsWellFormed-of_chars, chars-of_well_formed, items-encode}
 use Rattle.wide_unit.specs.Laws.Boundaries.{units_of-append}
+use Rattle.wide_unit.specs.Laws.Ends.{items-append_left}
 use Rattle.wide_unit.specs.Laws.Lossy.{lossy-after}
 use Rattle.wide_unit.specs.Laws.Places.{IsWellFormed-encode, chars-encode}
 
@@ -112,6 +113,17 @@ pub lossy-behind_front : (form : EncodingForm) (us : List ℕ) (index item u : �
     → encode form (lossy (items form us)) ≡ take index us ++ encode form (lossy (items form (drop index us)))
 lossy-behind_front form us index item u e =
     ap (λ xs. encode form (lossy (items form xs))) (sym (take-append-drop index us)) ∙ lossy-after form (take index us) (drop index us) (first_fault-front form us index item u e)
+
+-- behind them it stands first
+pub first_fault-first : (form : EncodingForm) (us : List ℕ) (index item u : ℕ) → IsFirstFault form us index item u → (rest : List Item) × (items form (drop index us) ≡ Fault u ∷ rest)
+first_fault-first form us index item u e =
+    let (front, rest, split, at, number) = first_fault-split form us index item u e in
+    let scalars : All IsScalar front = front-scalars form front (Fault u ∷ rest) (subst (Chain form) split (items-chain form us)) in
+    let before : items form (take index us) ≡ map Char front = ap (items form) (front-taken form us front u rest index split at) ∙ items-encode form front scalars in
+    let joined : items form us ≡ map Char front ++ items form (drop index us) =
+    ap (items form) (sym (take-append-drop index us)) ∙ items-append_left form (take index us) (drop index us) (first_fault-front form us index item u e) ∙ ap (λ is. is ++ items form (drop index us)) before
+    in
+    (rest, append_cancel_left (map Char front) (items form (drop index us)) (Fault u ∷ rest) (sym joined ∙ split))
 
 contains_after : (is js : List Item) (i : Item) → Contains (is ++ i ∷ js) i
 contains_after is js i = Contains-append_right is (i ∷ js) i (search rules)

@@ -13,6 +13,7 @@ pub mod Printed
 pub mod Kept
 pub mod Debugged
 mod Alone
+mod Mendings
 mod Masks
 mod Pairs
 pub mod Counts

@@ -13,5 +13,6 @@ pub mod AnyUnits
 pub mod Range
 pub mod Nul
 pub mod Searches
+pub mod Mended
 pub mod Statements
 pub mod Laws

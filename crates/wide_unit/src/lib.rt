@@ -11,6 +11,7 @@ mod first;
 mod lanes;
 pub mod laws;
 mod line;
+mod mending;
 mod nul;
 mod policy;
 mod print;

@@ -1,10 +1,11 @@
 //! The code units of UTF-16 and of UTF-32.
-ghost use Rattle.std.specs.Prelude.{◌≡◌, ◌≢◌, ◌≤◌, ◌<◌, ℕ, ◌↔◌, ◌∷◌, [], List, IsTrue, MatchOption, length, map, drop, refl};
+ghost use Rattle.std.specs.Prelude.{◌≡◌, ◌≢◌, ◌≤◌, ◌<◌, ℕ, ◌↔◌, ◌∷◌, [], List, IsTrue, MatchOption, length, map, take, drop, refl};
 ghost use Rattle.std.specs.Char.{IsScalar};
 ghost use Rattle.std.specs.Str.{chars};
 ghost use Rattle.wide_unit.specs.EncodingForm.{EncodingForm, Utf16, Utf32, code_units, encode, IsFault, IsPair, IsCodeUnit, IsHighSurrogate, IsLowSurrogate};
 ghost use Rattle.wide_unit.specs.Segmentation.{Item, Char, IsSegmentation};
 ghost use Rattle.wide_unit.specs.Items.{items, characters, IsWellFormed, BeginsWithChars};
+ghost use Rattle.wide_unit.specs.Lossy.{lossy};
 ghost use Rattle.wide_unit.specs.Unit.{numbers_of};
 ghost use Rattle.wide_unit.specs.AnyUnits.{any_form, any_numbers};
 ghost use Rattle.wide_unit.specs.Searches.{IsFirstPlace, first_place, is_unit};
@@ -16,6 +17,7 @@ use crate::any_units::AnyUnits;
 use crate::lanes::{
     count_low, first_no_scalar, first_same_16, first_same_32, first_surrogate, leading_pairs,
 };
+use crate::mending::{mend_16, mend_32};
 use crate::utf8::{length_as_utf16, length_as_utf32};
 
 /// A code unit: `u16` for UTF-16, `u32` for UTF-32 (Unicode Standard, D77).
@@ -90,6 +92,13 @@ pub trait Unit: Copy {
     /// How many units stand before the first of this number: all, where there is none. They are read by blocks.
     fn place_of(code: u16, units: &[Self]) -> usize
         ensures { result ≡ first_place (is_unit code) (map number units.now) };
+
+    /// Writes the units to the front of `mended`, with U+FFFD in the place of each that belongs to no character (Unicode Standard,
+    /// section 3.9, "U+FFFD Substitution of Maximal Subparts"). They are read by blocks.
+    fn mend(units: &[Self], mended: &mut [Self])
+        requires { length units.now ≤ length mended.old }
+        ensures units { map number (take (length units.now) mended.new) ≡ encode form (lossy (items form (map number units.now))) }
+        ensures behind { drop (length units.now) mended.new ≡ drop (length units.now) mended.old };
 
     /// The units as those of their width, for code that each width has of its own.
     fn as_any(units: &[Self]) -> AnyUnits<'_>
@@ -217,6 +226,10 @@ impl Unit for u16 {
         first_same_16(units, code)
     }
 
+    fn mend(units: &[u16], mended: &mut [u16]) {
+        mend_16(units, mended);
+    }
+
     #[inline]
     fn as_any(units: &[u16]) -> AnyUnits<'_> {
         AnyUnits::U16(units)
@@ -310,6 +323,10 @@ impl Unit for u32 {
 
     fn place_of(code: u16, units: &[u32]) -> usize {
         first_same_32(units, u32::from(code))
+    }
+
+    fn mend(units: &[u32], mended: &mut [u32]) {
+        mend_32(units, mended);
     }
 
     #[inline]

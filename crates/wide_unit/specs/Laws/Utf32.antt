@@ -30,7 +30,7 @@ length-items32 [] = ap length (items-nil Utf32)
 length-items32 (u ∷ us) = let at = one_item32 u us in ap length at.1 ∙ ap suc (length-items32 us)
 
 -- a character is its own unit
-encode32 : (cs : List ℕ) → encode Utf32 cs ≡ cs
+pub encode32 : (cs : List ℕ) → encode Utf32 cs ≡ cs
 encode32 cs = flat_map_single (λ (c : ℕ). c) cs ∙ map-id cs
 
 pub chars32-well_formed : (us : List ℕ) → IsWellFormed Utf32 us → chars Utf32 us ≡ us

@@ -1,0 +1,128 @@
+//! Units with U+FFFD in the place of each that belongs to no character (Unicode Standard, section 3.9, "U+FFFD Substitution of
+//! Maximal Subparts"), by lanes.
+ghost use Rattle.std.specs.Prelude.{◌≡◌, ◌+◌, ◌≤◌, ◌<◌, ◌∷◌, ℕ, slice_index, length, take, drop};
+ghost use Rattle.wide_unit.specs.EncodingForm.{Utf16, Utf32, encode};
+ghost use Rattle.wide_unit.specs.Items.{items};
+ghost use Rattle.wide_unit.specs.Lossy.{lossy};
+ghost use Rattle.wide_unit.specs.Mended.{mended_at, mended_unit, mended_scalar};
+
+// U+FFFD REPLACEMENT CHARACTER.
+const REPLACEMENT: u16 = 0xfffd;
+
+// The unit, or U+FFFD where it belongs to no character with its neighbours.
+#[inline(always)]
+fn mended_unit(before: u16, unit: u16, after: u16) -> u16
+    ensures { result ≡ mended_unit before unit after }
+{
+    let lone_high = unit / 0x400 == 54 && after / 0x400 != 55;
+    let lone_low = unit / 0x400 == 55 && before / 0x400 != 54;
+    if lone_high || lone_low {
+        REPLACEMENT
+    } else {
+        unit
+    }
+}
+
+// The sixteen units between the first and the last of eighteen.
+#[inline(always)]
+fn mended_lanes(units: &[u16], mended: &mut [u16])
+    requires whole { length units.now ≡ 18 }
+    requires room { length mended.old ≡ 16 }
+    ensures { (k : ℕ) → k < 16 → slice_index mended.new k ≡ mended_unit (slice_index units.now k) (slice_index units.now (k + 1)) (slice_index units.now (k + 2)) }
+{
+    for k in 0..16 {
+        mended[k] = mended_unit(units[k], units[k + 1], units[k + 2]);
+    }
+}
+
+// The unit before a place, 0 before the first.
+#[inline(always)]
+#[tactic(auto, using(crate::proofs::Mendings::unit_behind_first))]
+fn unit_before(units: &[u16], at: usize) -> u16
+    requires { at < length units.now }
+    ensures { result ≡ slice_index (0 ∷ units.now) at }
+{
+    if at == 0 { 0 } else { units[at - 1] }
+}
+
+// The unit behind a place, 0 behind the last.
+#[inline(always)]
+#[tactic(auto, using(crate::proofs::Mendings::none_behind_last))]
+fn unit_after(units: &[u16], at: usize) -> u16
+    requires { at < length units.now }
+    ensures { result ≡ slice_index units.now (at + 1) }
+{
+    if units.len() - at == 1 {
+        0
+    } else {
+        units[at + 1]
+    }
+}
+
+// Writes the mended units over exactly as many. The first stands alone, since a step of lanes reads the unit before its own.
+fn mend_whole(units: &[u16], mended: &mut [u16])
+    requires { length mended.old ≡ length units.now }
+    ensures each { (k : ℕ) → k < length units.now → slice_index mended.new k ≡ mended_at units.now k }
+    ensures room { length mended.new ≡ length mended.old }
+{
+    let mut done = 0;
+    if units.len() > 1 {
+        mended[0] = mended_unit(0, units[0], units[1]);
+        done = 1;
+    }
+    'sixteens: while done > 0 && units.len() - done >= 17 {
+        let mut lanes = [0u16; 16];
+        mended_lanes(&units[done - 1..done + 17], &mut lanes);
+        mended[done..done + 16].copy_from_slice(&lanes);
+        done += 16;
+    }
+    'units: while done < units.len() {
+        mended[done] = mended_unit(
+            unit_before(units, done),
+            units[done],
+            unit_after(units, done),
+        );
+        done += 1;
+    }
+}
+
+/// The mended units of UTF-16, at the front of `mended`.
+pub(crate) fn mend_16(units: &[u16], mended: &mut [u16])
+    requires { length units.now ≤ length mended.old }
+    ensures units { take (length units.now) mended.new ≡ encode Utf16 (lossy (items Utf16 units.now)) }
+    ensures behind { drop (length units.now) mended.new ≡ drop (length units.now) mended.old }
+{
+    mend_whole(units, &mut mended[..units.len()]);
+}
+
+// The unit, or U+FFFD where it is no Unicode scalar value.
+#[inline(always)]
+fn mended_scalar(unit: u32) -> u32
+    ensures { result ≡ mended_scalar unit }
+{
+    if (0xd800 <= unit && unit <= 0xdfff) || 0x10_ffff < unit {
+        u32::from(REPLACEMENT)
+    } else {
+        unit
+    }
+}
+
+// Writes the mended units over exactly as many.
+fn mend_scalars(units: &[u32], mended: &mut [u32])
+    requires { length mended.old ≡ length units.now }
+    ensures each { (k : ℕ) → k < length units.now → slice_index mended.new k ≡ mended_scalar (slice_index units.now k) }
+    ensures room { length mended.new ≡ length mended.old }
+{
+    for k in 0..units.len() {
+        mended[k] = mended_scalar(units[k]);
+    }
+}
+
+/// The mended units of UTF-32, at the front of `mended`.
+pub(crate) fn mend_32(units: &[u32], mended: &mut [u32])
+    requires { length units.now ≤ length mended.old }
+    ensures units { take (length units.now) mended.new ≡ encode Utf32 (lossy (items Utf32 units.now)) }
+    ensures behind { drop (length units.now) mended.new ≡ drop (length units.now) mended.old }
+{
+    mend_scalars(units, &mut mended[..units.len()]);
+}
