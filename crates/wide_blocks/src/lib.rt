@@ -5,7 +5,9 @@ mod blocks;
 mod fronts;
 mod narrow;
 mod steps;
+mod text;
 mod wide;
 
 pub use blocks::encode;
 pub use steps::{Step, put_unit};
+pub use text::encode_front;
