@@ -22,9 +22,9 @@ fn bits_of(block: &[u16]) -> u16
     bits
 }
 
-// Stores sixteen ASCII characters.
+/// Stores sixteen ASCII characters.
 #[inline(always)]
-fn put_ascii(block: &[u16], out: &mut [u8], at: usize)
+pub(crate) fn put_ascii(block: &[u16], out: &mut [u8], at: usize)
     requires whole { length block.now ≡ 16 }
     requires room { at + 16 ≤ length out.old }
     requires ascii { (k : ℕ) → k < 16 → slice_index block.now k < 0x80 }

@@ -7,9 +7,11 @@ mod lengths;
 mod lossy;
 mod narrow;
 mod steps;
+mod text;
 mod wide;
 
 pub use blocks::encode;
 pub use lengths::utf8_len;
 pub use lossy::{lossy_front, sound_len};
 pub use steps::{Step, put_unit};
+pub use text::encode_front;
