@@ -7,4 +7,5 @@ pub mod Stores
 pub mod Tables
 pub mod UnitEncodings
 pub mod Utf8Lengths
+pub mod Utf8Texts
 pub mod LossyFronts

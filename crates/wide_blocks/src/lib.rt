@@ -7,6 +7,7 @@ mod lengths;
 mod lossy;
 mod narrow;
 mod steps;
+mod strings;
 mod text;
 mod wide;
 
@@ -14,4 +15,5 @@ pub use blocks::encode;
 pub use lengths::utf8_len;
 pub use lossy::{lossy_front, sound_len};
 pub use steps::{Step, put_unit};
+pub use strings::{push_utf8, utf8_string};
 pub use text::encode_front;

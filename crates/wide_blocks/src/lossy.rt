@@ -42,13 +42,11 @@ fn mended_len<C: Unit>(units: &[C], most: usize) -> usize
 /// section 3.9, "U+FFFD Substitution of Maximal Subparts"), and the units behind that front.
 ///
 /// Units without a fault are handed on as they are. Others are put into `spare`, at most as many as it holds.
-pub fn lossy_front<'u: 'm, 'm, C: Unit>(
-    units: &'u [C],
-    spare: &'m mut [C],
-) -> (&'m [C], &'u [C])
+pub fn lossy_front<'u: 'm, 'm, C: Unit>(units: &'u [C], spare: &'m mut [C]) -> (&'m [C], &'u [C])
     requires { 2 ≤ length spare.old }
     ensures well_formed { IsWellFormed C.form (map C.number result.0.now) }
     ensures text { lossy (items C.form (map C.number units.now)) ≡ chars C.form (map C.number result.0.now) ++ lossy (items C.form (map C.number result.1.now)) }
+    ensures some { 0 < length units.now → 0 < length result.0.now }
     ensures shorter { 0 < length units.now → length result.1.now < length units.now }
 {
     let sound = sound_len(units);

@@ -1,9 +1,5 @@
-use Rattle.std.proofs.Common.{◌≡◌, ◌++◌, ℕ, List, ap, sym, ◌∙◌, map, take, drop, length, arith}
-use Rattle.std.proofs.lemmas.List.{take-append-drop}
-use Rattle.wide_unit.specs.EncodingForm.{encode}
-use Rattle.wide_unit.specs.Items.{items, IsWellFormed}
+use Rattle.std.proofs.Common.{◌≡◌, ap, sym, ◌∙◌, map, take, length}
 use Rattle.wide_unit.specs.Laws.Items.{IsCut}
-use Rattle.wide_unit.specs.Lossy.{lossy}
 use Rattle.wide_blocks.proofs.LossyFronts.{halves, sound_front, mended_front, mended-well_formed}
 use Rattle.wide_blocks.proofs.lossy.lossy_front.Goals as goal
 

@@ -1,0 +1,14 @@
+use Rattle.std.proofs.Common.{◌≡◌, ◌++◌, ◌≤◌, length, map}
+use Rattle.wide_unit.specs.Items.{IsWellFormed, chars}
+use Rattle.wide_unit.specs.Utf8.{utf8}
+use Rattle.wide_blocks.proofs.strings.push_pieces.Given as goal
+
+abbrev pub invariant-pieces : goal.invariant-pieces
+invariant-pieces g l = record {
+  within : length l.rest ≤ length l.units;
+  well_formed : IsWellFormed g.C.Unit.form (map g.C.Unit.number l.rest);
+  so_far : l.text.items ++ utf8 (chars g.C.Unit.form (map g.C.Unit.number l.rest)) ≡ l.fn.text.items ++ utf8 (chars g.C.Unit.form (map g.C.Unit.number l.units));
+}
+
+abbrev pub decreases-pieces : goal.decreases-pieces
+decreases-pieces g l = length l.rest

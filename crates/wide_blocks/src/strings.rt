@@ -1,0 +1,74 @@
+//! The text of well-formed units in UTF-8, as a string.
+
+ghost use Rattle.std.specs.Prelude.{◌≡◌, ◌++◌, ◌≤◌, [], map, length, IsOk, IfOk, OnOk, string_bytes};
+ghost use Rattle.wide_unit.specs.Items.{IsWellFormed, chars};
+ghost use Rattle.wide_unit.specs.Utf8.{utf8};
+
+use crate::lengths::utf8_len;
+use crate::text::encode_front;
+use std::alloc::{AllocError, Allocator};
+use wide_unit::Unit;
+
+// The text of a few units is put into a small array before it is appended, that of others into a large one.
+const FEW: usize = 32;
+
+const SMALL: usize = 100;
+
+const LARGE: usize = 3100;
+
+// Appends the text, a piece after another.
+fn push_pieces<C: Unit, A: Allocator>(
+    text: &mut Vec<u8, A>,
+    units: &[C],
+    piece: &mut [u8],
+) -> Result<(), AllocError>
+    requires well_formed { IsWellFormed C.form (map C.number units.now) }
+    requires room { 64 ≤ length piece.old }
+    ensures text { OnOk result (text.new.items ≡ text.old.items ++ utf8 (chars C.form (map C.number units.now))) }
+    ensures succeeds { units.now ≡ [] → IsOk result }
+{
+    let mut rest = units;
+    'pieces: while !rest.is_empty() {
+        let (read, written) = encode_front(rest, piece);
+        text.extend_from_slice(&piece[..written])?;
+        rest = &rest[read..];
+    }
+    Ok(())
+}
+
+/// Appends the text of well-formed units in UTF-8 (Unicode Standard, D92).
+///
+/// # Errors
+///
+/// Memory was refused: a front of the text may have been appended. There is none where the room suffices.
+pub fn push_utf8<C: Unit, A: Allocator>(
+    text: &mut Vec<u8, A>,
+    units: &[C],
+) -> Result<(), AllocError>
+    requires { IsWellFormed C.form (map C.number units.now) }
+    ensures text { OnOk result (text.new.items ≡ text.old.items ++ utf8 (chars C.form (map C.number units.now))) }
+    ensures succeeds { units.now ≡ [] → IsOk result }
+{
+    if units.len() <= FEW {
+        push_pieces(text, units, &mut [0; SMALL])
+    } else {
+        push_pieces(text, units, &mut [0; LARGE])
+    }
+}
+
+/// The text of well-formed units in UTF-8 (Unicode Standard, D92). It asks for memory once, for as many bytes as the text has: none where
+/// there are no units.
+///
+/// # Errors
+///
+/// The allocation was refused.
+pub fn utf8_string<C: Unit, A: Allocator>(alloc: A, units: &[C]) -> Result<String<A>, AllocError>
+    requires { IsWellFormed C.form (map C.number units.now) }
+    ensures text { IfOk result (λ text. string_bytes text ≡ utf8 (chars C.form (map C.number units.now))) }
+    ensures succeeds { units.now ≡ [] → IsOk result }
+{
+    let mut text = Vec::with_capacity(alloc, utf8_len(units))?;
+    push_utf8(&mut text, units)?;
+    // It was written as UTF-8, so that it needs no check.
+    Ok(unsafe { String::from_utf8_unchecked(text) })
+}
