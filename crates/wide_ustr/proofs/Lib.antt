@@ -1,2 +1,3 @@
 pub mod IndexedLemmas
+pub mod LossyPieces
 mod FaultRows

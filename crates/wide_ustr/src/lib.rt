@@ -5,6 +5,7 @@ mod display;
 mod iter;
 pub mod laws;
 mod lines;
+mod lossy_text;
 mod lossy_with;
 mod places;
 mod text;

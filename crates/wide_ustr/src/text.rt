@@ -1,5 +1,5 @@
 //! Texts of views in UTF-8.
-ghost use Rattle.std.specs.Prelude.{◌≡◌, ◌<◌, ◌-◌, ◌^◌, min, length, [], map, IsOk, IfOk, IfErr, IfSome, IfNone, OnOk, None, string_bytes};
+ghost use Rattle.std.specs.Prelude.{◌≡◌, ◌<◌, length, [], map, IsOk, IfOk, IfErr, IfSome, IfNone, OnOk, None, string_bytes};
 ghost use Rattle.wide_unit.specs.EncodingForm.{Utf16, Utf32};
 ghost use Rattle.wide_unit.specs.Items.{items, chars, IsWellFormed, IsFirstFault};
 ghost use Rattle.wide_unit.specs.Lossy.{lossy, lossy_by};
@@ -7,27 +7,19 @@ ghost use Rattle.wide_unit.specs.Utf8.{utf8};
 ghost use Rattle.wide_utferror.specs.UtfError.{index_of, item_of, unit_of, vec_of};
 ghost use Rattle.wide_ustr.specs.View.{units_seen};
 
+use crate::lossy_text::lossy_string;
 use crate::view::UStr;
 use std::alloc::Allocator;
+use wide_blocks::utf8_string;
 use wide_error::OutOfMemory;
 use wide_unit::{Policy, Unit, check};
 use wide_utferror::{Utf16ConvertError, Utf32ConvertError, UtfError};
 
 impl<C: Unit> UStr<'_, C> {
-    // How many bytes the lossy text has in UTF-8, or the greatest number where they are more.
-    fn lossy_len(self, policy: Policy) -> usize
-        ensures { result ≡ min (length (utf8 (lossy_by policy (items C.form (map C.number (units_seen self.entry)))))) (2 ^ 64 - 1) }
-    {
-        let mut len = 0usize;
-        for c in self.chars_lossy_with(policy) {
-            len = len.saturating_add(c.len_utf8());
-        }
-        len
-    }
-
     /// The text of the view in UTF-8, with U+FFFD for each unit that belongs to no character (Unicode Standard, section 3.9).
     ///
-    /// It reads the units twice, and asks for memory once, for as many bytes as the text has: none where there are no units.
+    /// It reads the units three times, by blocks, and asks for memory once, for as many bytes as the text has: none where there are no
+    /// units.
     ///
     /// # Errors
     ///
@@ -52,11 +44,10 @@ impl<C: Unit> UStr<'_, C> {
         ensures text { IfOk result (λ text. string_bytes text ≡ utf8 (lossy_by policy (items C.form (map C.number (units_seen self.entry))))) }
         ensures succeeds { units_seen self.entry ≡ [] → IsOk result }
     {
-        let mut text = String::with_capacity(alloc, self.lossy_len(policy))?;
-        for c in self.chars_lossy_with(policy) {
-            text.push(c)?;
+        match check(self.units) {
+            Ok(()) => Ok(utf8_string(alloc, self.units)?),
+            Err(_fault) => Ok(lossy_string(alloc, self, policy)?),
         }
-        Ok(text)
     }
 }
 
@@ -65,7 +56,7 @@ impl UStr<'_, u16> {
 
     /// The text of the view in UTF-8, where it is well formed (Unicode Standard, D85).
     ///
-    /// It reads the units three times at most, and asks for memory once, for as many bytes as the text has: none where there
+    /// It reads the units three times at most, by blocks, and asks for memory once, for as many bytes as the text has: none where there
     /// are no units.
     ///
     /// # Errors
@@ -82,7 +73,7 @@ impl UStr<'_, u16> {
         ensures succeeds { units_seen self.entry ≡ [] → IsOk result }
     {
         match check(self.units) {
-            Ok(()) => Ok(self.to_string_lossy(alloc)?),
+            Ok(()) => Ok(utf8_string(alloc, self.units)?),
             Err(fault) => Err(Utf16ConvertError::Utf16(UtfError::new(fault, None))),
         }
     }
@@ -93,7 +84,7 @@ impl UStr<'_, u32> {
 
     /// The text of the view in UTF-8, where it is well formed (Unicode Standard, D85).
     ///
-    /// It reads the units three times at most, and asks for memory once, for as many bytes as the text has: none where there
+    /// It reads the units three times at most, by blocks, and asks for memory once, for as many bytes as the text has: none where there
     /// are no units.
     ///
     /// # Errors
@@ -110,7 +101,7 @@ impl UStr<'_, u32> {
         ensures succeeds { units_seen self.entry ≡ [] → IsOk result }
     {
         match check(self.units) {
-            Ok(()) => Ok(self.to_string_lossy(alloc)?),
+            Ok(()) => Ok(utf8_string(alloc, self.units)?),
             Err(fault) => Err(Utf32ConvertError::Utf32(UtfError::new(fault, None))),
         }
     }

@@ -124,7 +124,7 @@ pub well_formed-lossy_by : (policy : Policy) (form : EncodingForm) (us : List �
 well_formed-lossy_by policy form us = IsWellFormed-encode form (lossy_by policy (items form us)) (scalars-lossy_by policy form us)
 
 -- behind characters, which stay as they are
-behind-chars : (policy : Policy) (cs : List ℕ) (is : List Item) → lossy_by policy (map Char cs ++ is) ≡ cs ++ lossy_by policy is
+pub behind-chars : (policy : Policy) (cs : List ℕ) (is : List Item) → lossy_by policy (map Char cs ++ is) ≡ cs ++ lossy_by policy is
 behind-chars policy [] is = refl
 behind-chars Each (c ∷ cs) is = ap (λ l. c ∷ l) (behind-chars Each cs is)
 behind-chars Run (c ∷ cs) is = ap (λ l. c ∷ l) (behind-chars Run cs is)

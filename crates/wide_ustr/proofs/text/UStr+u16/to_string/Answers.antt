@@ -2,11 +2,10 @@ use Rattle.std.proofs.Common.{ap, ◌∙◌}
 use Rattle.std.proofs.lemmas.List.{map-id}
 use Rattle.wide_unit.specs.EncodingForm.{Utf16}
 use Rattle.wide_unit.specs.Items.{chars}
-use Rattle.wide_unit.specs.Laws.Lossy.{lossy-well_formed}
 use Rattle.wide_unit.specs.Utf8.{utf8}
 use Rattle.wide_ustr.specs.View.{units_seen}
 use Rattle.wide_ustr.proofs.text.UStr+u16.to_string.Goals as goal
 
-pub returns-in_ok-to_string_lossy-in-Ok-clause-text : goal.returns-in_ok-to_string_lossy-in-Ok-clause-text
-returns-in_ok-to_string_lossy-in-Ok-clause-text g c =
-    c.in_ok-to_string_lossy-in-Ok.ensures.text ∙ ap utf8 (lossy-well_formed Utf16 _ c.in-Ok.ensures.ok) ∙ ap (λ us. utf8 (chars Utf16 us)) (map-id (units_seen c.args.self))
+pub returns-in_ok-utf8_string-in-Ok-clause-text : goal.returns-in_ok-utf8_string-in-Ok-clause-text
+returns-in_ok-utf8_string-in-Ok-clause-text g c =
+    c.in_ok-utf8_string-in-Ok.ensures.text ∙ ap (λ us. utf8 (chars Utf16 us)) (map-id (units_seen c.args.self))

@@ -1,0 +1,120 @@
+//! Lossy text under a policy, a piece after another, in UTF-8.
+ghost use Rattle.std.specs.Prelude.{◌≡◌, ◌++◌, ◌<◌, ◌≤◌, ◌^◌, ◌-◌, [], length, map, take, min, IfNone, IfOk, IfSome, OnOk, string_bytes};
+ghost use Rattle.wide_unit.specs.EncodingForm.{code_units};
+ghost use Rattle.wide_unit.specs.Items.{IsWellFormed, items};
+ghost use Rattle.wide_unit.specs.Lossy.{lossy_by};
+ghost use Rattle.wide_unit.specs.Places.{text_of};
+ghost use Rattle.wide_unit.specs.Utf8.{utf8};
+ghost use Rattle.wide_ustr.specs.View.{units_seen};
+
+use crate::lossy_with::CharsLossyWith;
+use crate::view::UStr;
+use std::alloc::{AllocError, Allocator};
+use wide_blocks::{lossy_front, push_utf8, sound_len, utf8_len};
+use wide_unit::{AnyUnits, Policy, Unit};
+
+// As many units as are mended in one step.
+const SPARE: usize = 256;
+
+// Stores the units of a character at the front, and answers how many they are.
+fn put_char<C: Unit>(units: &mut [C], c: char) -> usize
+    requires { 2 ≤ length units.old }
+    ensures within { result ≤ length units.new }
+    ensures units { map C.number (take result units.new) ≡ code_units C.form c }
+{
+    let (first, second) = C::encode_char(c);
+    units[0] = first;
+    let Some(second) = second else { return 1 };
+    units[1] = second;
+    2
+}
+
+impl<'a, C: Unit> CharsLossyWith<'a, C> {
+    ghost use Rattle.wide_ustr.specs.LossyWith.{lossy_with_left};
+
+    // A front of the text to come, as units: those of the view, where they stand as they are, or else some that are put into `spare`.
+    fn next_piece<'m>(&mut self, spare: &'m mut [C]) -> Option<&'m [C]>
+    where
+        'a: 'm,
+        requires { 2 ≤ length spare.old }
+        ensures none { IfNone result (lossy_with_left C.form C.number self.old ≡ []) }
+        ensures well_formed { IfSome result (λ piece. IsWellFormed C.form (map C.number piece.now)) }
+        ensures text { IfSome result (λ piece. lossy_with_left C.form C.number self.old ≡ text_of C.form C.number piece.now ++ lossy_with_left C.form C.number self.new) }
+        ensures some { IfSome result (λ piece. 0 < length (text_of C.form C.number piece.now)) }
+    {
+        if self.rest.is_empty() {
+            return None;
+        }
+        if self.policy == Policy::Each {
+            let (piece, rest) = lossy_front(self.rest, spare);
+            self.rest = rest;
+            return Some(piece);
+        }
+        let sound = sound_len(self.rest);
+        if sound > 0 {
+            let (piece, rest) = self.rest.split_at(sound);
+            self.rest = rest;
+            return Some(piece);
+        }
+        let len = put_char(spare, self.next()?);
+        Some(&spare[..len])
+    }
+
+    // How many bytes the text to come has in UTF-8, or the greatest number where they are more.
+    fn utf8_len(mut self, spare: &mut [C]) -> usize
+        requires { 2 ≤ length spare.old }
+        ensures { result ≡ min (length (utf8 (lossy_with_left C.form C.number self.entry))) (2 ^ 64 - 1) }
+    {
+        let mut len = 0usize;
+        while let Some(piece) = self.next_piece(spare) {
+            len = len.saturating_add(utf8_len(piece));
+        }
+        len
+    }
+
+    // Appends the text to come in UTF-8.
+    fn push_to<A: Allocator>(
+        mut self,
+        text: &mut Vec<u8, A>,
+        spare: &mut [C],
+    ) -> Result<(), AllocError>
+        requires { 2 ≤ length spare.old }
+        ensures { OnOk result (text.new.items ≡ text.old.items ++ utf8 (lossy_with_left C.form C.number self.entry)) }
+    {
+        while let Some(piece) = self.next_piece(spare) {
+            push_utf8(text, piece)?;
+        }
+        Ok(())
+    }
+}
+
+// The lossy text of a view. Units that are not handed on as they are go through the spare room.
+fn lossy_by<C: Unit, A: Allocator>(
+    alloc: A,
+    view: UStr<'_, C>,
+    policy: Policy,
+    spare: &mut [C],
+) -> Result<String<A>, AllocError>
+    requires { 2 ≤ length spare.old }
+    ensures { IfOk result (λ text. string_bytes text ≡ utf8 (lossy_by policy (items C.form (map C.number (units_seen view.entry))))) }
+{
+    let len = view.chars_lossy_with(policy).utf8_len(spare);
+    let mut text = Vec::with_capacity(alloc, len)?;
+    view.chars_lossy_with(policy).push_to(&mut text, spare)?;
+    // It was written as UTF-8, so that it needs no check.
+    Ok(unsafe { String::from_utf8_unchecked(text) })
+}
+
+// The lossy text of a view in UTF-8, of which memory is asked for once.
+pub(crate) fn lossy_string<C: Unit, A: Allocator>(
+    alloc: A,
+    view: UStr<'_, C>,
+    policy: Policy,
+) -> Result<String<A>, AllocError>
+    ensures { IfOk result (λ text. string_bytes text ≡ utf8 (lossy_by policy (items C.form (map C.number (units_seen view.entry))))) }
+{
+    match C::as_any(view.units) {
+        AnyUnits::U16(units) => lossy_by(alloc, UStr { units }, policy, &mut [0; SPARE]),
+        AnyUnits::U32(units) => lossy_by(alloc, UStr { units }, policy, &mut [0; SPARE]),
+    }
+}
