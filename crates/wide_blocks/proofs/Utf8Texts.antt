@@ -10,7 +10,7 @@ use Rattle.wide_unit.specs.Utf8.{utf8}
 use Rattle.wide_unit.specs.Laws.Items.{items-nil}
 use Rattle.wide_unit.specs.Laws.Utf8.{utf8-encode_utf8_all}
 
-all_scalars-of_All : (cs : List ℕ) → All IsScalar cs → all_scalars cs ≡ true
+pub all_scalars-of_All : (cs : List ℕ) → All IsScalar cs → all_scalars cs ≡ true
 all_scalars-of_All [] all = refl
 all_scalars-of_All (c ∷ cs) all = both_true (all 0 c (omega arith)) (all_scalars-of_All cs (λ k d within. all (suc k) d (omega (arith, within))))
 

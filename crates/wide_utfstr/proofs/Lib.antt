@@ -6,5 +6,6 @@ pub mod Counts
 mod Trims
 mod Trimmed
 mod Same
+mod SameBytes
 mod Escaped
 mod Displayed

@@ -4,7 +4,11 @@ ghost use Rattle.std.specs.Str.{chars as str_chars};
 ghost use Rattle.wide_utfstr.specs.View.{text_seen};
 
 use crate::view::{Utf16Str, Utf32Str, UtfStr};
+use wide_blocks::encode_front;
 use wide_unit::Unit;
+
+// As many bytes as are compared in one step, at most.
+const PIECE: usize = 256;
 
 // Whether two texts have the same characters.
 fn same_text<C: Unit, D: Unit>(left: UtfStr<'_, C>, right: UtfStr<'_, D>) -> bool
@@ -20,20 +24,22 @@ fn same_text<C: Unit, D: Unit>(left: UtfStr<'_, C>, right: UtfStr<'_, D>) -> boo
 }
 
 impl<C: Unit> UtfStr<'_, C> {
-    /// Whether the characters are those of the `str`. Both are read once, as far as they agree and one character more.
+    /// Whether the characters are those of the `str`. Both are read once, by blocks, as far as the blocks agree.
     pub fn eq_str(self, text: &str) -> bool
         ensures { IsTrue result ↔ (text_seen self.entry ≡ str_chars text.now) }
     {
-        let mut ours = self.chars();
-        for c in text.chars() {
-            let Some(our) = ours.next() else {
+        let mut piece = [0; PIECE];
+        let mut ours = self.as_slice();
+        let mut theirs = text.as_bytes();
+        'pieces: while !ours.is_empty() {
+            let (read, written) = encode_front(ours, &mut piece);
+            let Some(rest) = theirs.strip_prefix(&piece[..written]) else {
                 return false;
             };
-            if our != c {
-                return false;
-            }
+            (_, ours) = ours.split_at(read);
+            theirs = rest;
         }
-        ours.next().is_none()
+        theirs.is_empty()
     }
 }
 

@@ -5,14 +5,14 @@ ghost use Rattle.wide_utfstr.specs.View.{units_seen, text_seen};
 
 use crate::view::UtfStr;
 use std::alloc::Allocator;
+use wide_blocks::utf8_string;
 use wide_error::OutOfMemory;
 use wide_unit::Unit;
-use wide_ustr::UStr;
 
 impl<C: Unit> UtfStr<'_, C> {
     /// The text of the view in UTF-8.
     ///
-    /// It reads the units twice, and asks for memory once, for as many bytes as the text has: none where there are no units.
+    /// It reads the units twice, by blocks, and asks for memory once, for as many bytes as the text has: none where there are no units.
     ///
     /// # Errors
     ///
@@ -21,6 +21,6 @@ impl<C: Unit> UtfStr<'_, C> {
         ensures text { IfOk result (λ text. string_bytes text ≡ utf8 (text_seen self.entry)) }
         ensures succeeds { units_seen self.entry ≡ [] → IsOk result }
     {
-        UStr::from_slice(self.as_slice()).to_string_lossy(alloc)
+        Ok(utf8_string(alloc, self.as_slice())?)
     }
 }

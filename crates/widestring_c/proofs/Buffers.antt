@@ -1,30 +1,39 @@
 -- What is written of a list into a buffer, piece by piece, and counted whether it fits or not.
-use Rattle.std.proofs.Common.{◌≡◌, ◌≤◌, ◌+◌, ◌-◌, ◌^◌, ◌++◌, ℕ, List, [], ap, arith, sym, ◌∙◌, length, take, drop, subst, length-append, append-nil, append_assoc}
+use Rattle.std.proofs.Common.{◌≡◌, ◌≤◌, ◌+◌, ◌-◌, ◌^◌, ◌++◌, ℕ, List, [], refl, ap, arith, sym, ◌∙◌, length, take, drop, subst, length-append, append-nil, append_assoc}
 use Rattle.std.proofs.lemmas.List.{drop-drop}
 use Rattle.std.specs.Prelude.{min}
 
--- so much of `all` is counted, what is left of it is known, and what is counted is written as long as there is room
-pub record Writing (all : List ℕ) (at : ℕ) (out left : List ℕ) : Type 0 where
+-- of what is put behind the first `from` of `first`, so much is counted, what is left of it is known, and what is counted is written as
+-- long as there is room
+pub record Puts (first : List ℕ) (from : ℕ) (all : List ℕ) (at : ℕ) (out left : List ℕ) : Type 0 where
   pub most : at ≤ 2 ^ 64 - 1
-  pub counted : min (at + length left) (2 ^ 64 - 1) ≡ min (length all) (2 ^ 64 - 1)
-  pub written : at ≤ length out → take at out ++ left ≡ all
+  pub counted : min (at + length left) (2 ^ 64 - 1) ≡ min (from + length all) (2 ^ 64 - 1)
+  pub written : at ≤ length out → take at out ++ left ≡ take from first ++ all
 
-module _ (all old new bs rest : List ℕ) (at end : ℕ) where
-  pub one_more : Writing all at old (bs ++ rest) → end ≡ min (at + length bs) (2 ^ 64 - 1) → (end ≤ length old → take end new ≡ take at old ++ bs) → length new ≡ length old → Writing all end new rest
-  one_more w place text room =
-      let longer : length (bs ++ rest) ≡ length bs + length rest = length-append bs rest in
-      record {
-        most = omega (arith, place);
-        counted = omega (arith, w.most, w.counted, place, longer);
-        written = λ fits.
-            ap (λ xs. xs ++ rest) (text (omega (arith, fits, room))) ∙ append_assoc (take at old) bs rest ∙ w.written (omega (arith, fits, room, place, w.most));
-      }
+-- the same at the front
+abbrev pub Writing : List ℕ → ℕ → List ℕ → List ℕ → Type 0
+Writing all at out left = Puts [] 0 all at out left
 
-pub counted_all : (all out : List ℕ) (at : ℕ) → Writing all at out [] → at ≡ min (length all) (2 ^ 64 - 1)
-counted_all all out at w = omega (arith, w.most, w.counted)
+module _ (first : List ℕ) (from : ℕ) (all : List ℕ) where
+  pub nothing_yet : from ≤ 2 ^ 64 - 1 → Puts first from all from first all
+  nothing_yet fits = record { most = fits; counted = refl; written = λ fits. refl }
 
-pub written_all : (all out : List ℕ) (at : ℕ) → Writing all at out [] → at ≤ length out → take at out ≡ all
-written_all all out at w fits = sym (append-nil (take at out)) ∙ w.written fits
+  module _ (old new bs rest : List ℕ) (at end : ℕ) where
+    pub one_more : Puts first from all at old (bs ++ rest) → end ≡ min (at + length bs) (2 ^ 64 - 1) → (end ≤ length old → take end new ≡ take at old ++ bs) → length new ≡ length old → Puts first from all end new rest
+    one_more w place text room =
+        let longer : length (bs ++ rest) ≡ length bs + length rest = length-append bs rest in
+        record {
+          most = omega (arith, place);
+          counted = omega (arith, w.most, w.counted, place, longer);
+          written = λ fits.
+              ap (λ xs. xs ++ rest) (text (omega (arith, fits, room))) ∙ append_assoc (take at old) bs rest ∙ w.written (omega (arith, fits, room, place, w.most));
+        }
+
+  pub counted_all : (out : List ℕ) (at : ℕ) → Puts first from all at out [] → at ≡ min (from + length all) (2 ^ 64 - 1)
+  counted_all out at w = omega (arith, w.most, w.counted)
+
+  pub written_all : (out : List ℕ) (at : ℕ) → Puts first from all at out [] → at ≤ length out → take at out ≡ take from first ++ all
+  written_all out at w fits = sym (append-nil (take at out)) ∙ w.written fits
 
 -- what stands behind the place stays so
 pub behind_more : (first old new bs : List ℕ) (at end : ℕ) → at ≤ 2 ^ 64 - 1 → end ≡ min (at + length bs) (2 ^ 64 - 1) → drop at old ≡ drop at first → drop end new ≡ drop end old → drop end new ≡ drop end first

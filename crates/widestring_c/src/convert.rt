@@ -1,6 +1,5 @@
 //! Text of units in UTF-8, and back, and lossy text, in a buffer of the caller's.
 ghost use Rattle.std.specs.Prelude.{◌≡◌, ◌≤◌, ◌+◌, ◌-◌, ◌^◌, ◌++◌, ◌∷◌, [], length, min, take, drop};
-ghost use Rattle.std.specs.Char.{encode_utf8};
 ghost use Rattle.std.specs.Str.{IsUtf8, chars as str_chars};
 ghost use Rattle.widestring.specs.EncodingForm.{Utf16, Utf32, code_units, encode};
 ghost use Rattle.widestring.specs.Items.{IsWellFormed, chars, items};
@@ -8,37 +7,28 @@ ghost use Rattle.widestring.specs.Lossy.{lossy};
 ghost use Rattle.widestring.specs.Utf8.{utf8};
 
 use std::str;
+use wide_blocks::{encode_front, lossy_front};
 use widestring::unit::{Unit, check};
 use widestring::{U16Str, U32Str};
 
-// Writes a character in UTF-8 behind a place, where there is room, and answers the place behind it, or the greatest number.
-#[inline(always)]
-fn put_utf8_char(text: &mut [u8], at: usize, c: char) -> usize
-    ensures place { result ≡ min (at + length (encode_utf8 c)) (2 ^ 64 - 1) }
-    ensures text { result ≤ length text.old → take result text.new ≡ take at text.old ++ encode_utf8 c }
-    ensures room { length text.new ≡ length text.old }
-    ensures behind { drop result text.new ≡ drop result text.old }
-{
-    let mut bytes = [0; 4];
-    let written = c.encode_utf8(&mut bytes).as_bytes();
-    let end = at.saturating_add(written.len());
-    if end <= text.len() {
-        text[at..end].copy_from_slice(written);
-    }
-    end
-}
+// The text of a few units is put into a small array before it is copied, that of others into a larger one.
+const FEW: usize = 32;
+const SMALL: usize = 100;
+const MANY: usize = 256;
+const MIDDLE: usize = 772;
+const LARGE: usize = 3100;
 
-// The same of units.
+// Puts items behind a place, where there is room, and answers the place behind them, or the greatest number.
 #[inline(always)]
-fn put_units(units: &mut [u16], at: usize, more: &[u16]) -> usize
+fn put<T: Copy>(out: &mut [T], at: usize, more: &[T]) -> usize
     ensures place { result ≡ min (at + length more.now) (2 ^ 64 - 1) }
-    ensures units { result ≤ length units.old → take result units.new ≡ take at units.old ++ more.now }
-    ensures room { length units.new ≡ length units.old }
-    ensures behind { drop result units.new ≡ drop result units.old }
+    ensures items { result ≤ length out.old → take result out.new ≡ take at out.old ++ more.now }
+    ensures room { length out.new ≡ length out.old }
+    ensures behind { drop result out.new ≡ drop result out.old }
 {
     let end = at.saturating_add(more.len());
-    if end <= units.len() {
-        units[at..end].copy_from_slice(more);
+    if end <= out.len() {
+        out[at..end].copy_from_slice(more);
     }
     end
 }
@@ -52,8 +42,8 @@ fn put_utf16_char(units: &mut [u16], at: usize, c: char) -> usize
     ensures behind { drop result units.new ≡ drop result units.old }
 {
     match u16::encode_char(c) {
-        (unit, None) => put_units(units, at, &[unit]),
-        (high, Some(low)) => put_units(units, at, &[high, low]),
+        (unit, None) => put(units, at, &[unit]),
+        (high, Some(low)) => put(units, at, &[high, low]),
     }
 }
 
@@ -72,18 +62,40 @@ fn put_utf32_char(units: &mut [u32], at: usize, c: char) -> usize
     end
 }
 
-// Writes the lossy text of units in UTF-8, as far as there is room, and answers how many bytes it has, or the greatest number where
-// they are more.
-fn put_utf8(units: &[u16], text: &mut [u8]) -> usize
-    ensures len { result ≡ min (length (utf8 (lossy (items Utf16 units.now)))) (2 ^ 64 - 1) }
-    ensures text { result ≤ length text.old → take result text.new ≡ utf8 (lossy (items Utf16 units.now)) }
+// Puts the text of well-formed units in UTF-8 behind a place, as `put` does, a piece after another.
+fn put_pieces(units: &[u16], text: &mut [u8], at: usize, piece: &mut [u8]) -> usize
+    requires well_formed { IsWellFormed Utf16 units.now }
+    requires piece { 64 ≤ length piece.old }
+    ensures place { result ≡ min (at + length (utf8 (chars Utf16 units.now))) (2 ^ 64 - 1) }
+    ensures text { result ≤ length text.old → take result text.new ≡ take at text.old ++ utf8 (chars Utf16 units.now) }
+    ensures room { length text.new ≡ length text.old }
     ensures behind { drop result text.new ≡ drop result text.old }
 {
-    let mut at = 0;
-    for c in U16Str::from_slice(units).chars_lossy() {
-        at = put_utf8_char(text, at, c);
+    let mut at = at;
+    let mut rest = units;
+    'pieces: while !rest.is_empty() {
+        let (read, written) = encode_front(rest, piece);
+        at = put(text, at, &piece[..written]);
+        (_, rest) = rest.split_at(read);
     }
     at
+}
+
+// The same, by a piece of the size that fits.
+fn put_utf8(units: &[u16], text: &mut [u8], at: usize) -> usize
+    requires { IsWellFormed Utf16 units.now }
+    ensures place { result ≡ min (at + length (utf8 (chars Utf16 units.now))) (2 ^ 64 - 1) }
+    ensures text { result ≤ length text.old → take result text.new ≡ take at text.old ++ utf8 (chars Utf16 units.now) }
+    ensures room { length text.new ≡ length text.old }
+    ensures behind { drop result text.new ≡ drop result text.old }
+{
+    if units.len() <= FEW {
+        put_pieces(units, text, at, &mut [0; SMALL])
+    } else if units.len() <= MANY {
+        put_pieces(units, text, at, &mut [0; MIDDLE])
+    } else {
+        put_pieces(units, text, at, &mut [0; LARGE])
+    }
 }
 
 // The same of a text in UTF-16.
@@ -110,7 +122,7 @@ pub extern "C" fn wide_utf16_to_utf8(units: &[u16], text: &mut [u8]) -> usize
     ensures behind { drop result text.new ≡ drop result text.old }
 {
     match check(units) {
-        Ok(()) => put_utf8(units, text),
+        Ok(()) => put_utf8(units, text, 0),
         Err(_fault) => usize::MAX,
     }
 }
@@ -122,7 +134,15 @@ pub extern "C" fn wide_utf16_to_utf8_lossy(units: &[u16], text: &mut [u8]) -> us
     ensures text { result ≤ length text.old → take result text.new ≡ utf8 (lossy (items Utf16 units.now)) }
     ensures behind { drop result text.new ≡ drop result text.old }
 {
-    put_utf8(units, text)
+    let mut spare = [0; MANY];
+    let mut at = 0;
+    let mut rest = units;
+    'fronts: while !rest.is_empty() {
+        let (front, behind) = lossy_front(rest, &mut spare);
+        at = put_utf8(front, text, at);
+        rest = behind;
+    }
+    at
 }
 
 /// The text of well-formed UTF-8 in UTF-16, in front of `units` where there is room for it. Answers how many units it has, or the

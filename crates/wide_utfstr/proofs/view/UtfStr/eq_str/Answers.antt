@@ -1,24 +1,44 @@
-use Rattle.std.proofs.Common.{◌≡◌, ◌∷◌, [], Some, None, rules}
+use Rattle.std.proofs.Common.{◌≡◌, ◌↔◌, ◌++◌, ap, sym, ◌∙◌, map, length, take, drop, subst, arith}
 use Rattle.std.specs.Str.{chars as str_chars}
-use Rattle.std.specs.Str.Iter.{chars_rest as str_rest}
-use Rattle.wide_unit.proofs.Texts.{text_first}
+use Rattle.wide_unit.specs.Items.{chars}
+use Rattle.wide_unit.specs.Utf8.{utf8}
+use Rattle.wide_unit.specs.Laws.Places.{scalars-chars}
+use Rattle.wide_blocks.proofs.Utf8Texts.{no_text}
 use Rattle.wide_utfstr.specs.View.{text_seen}
-use Rattle.wide_utfstr.specs.Iter.{chars_left}
-use Rattle.wide_utfstr.proofs.Same.{same-more, same-ends}
+use Rattle.wide_utfstr.proofs.SameBytes.{same_bytes, same_behind, no_longer_same, same_at_end}
 use Rattle.wide_utfstr.proofs.view.UtfStr.eq_str.Goals as goal
+
+pub pieces-init : goal.pieces-init
+pieces-init g c =
+    let form = g.C.Unit.form in
+    let number = g.C.Unit.number in
+    let same = same_bytes (text_seen c.args.self) c.args.text.now (scalars-chars form (map number c.args.self.units.now) c.args.self.well_formed) c.utf8.text in
+    record {
+      well_formed = c.as_slice-ours.ensures.well_formed;
+      same = subst (λ us. (text_seen c.args.self ≡ str_chars c.args.text.now) ↔ (utf8 (chars form (map number us)) ≡ c.as_bytes-theirs.result.now)) (sym c.as_slice-ours.ensures.units)
+        (subst (λ bs. (text_seen c.args.self ≡ str_chars c.args.text.now) ↔ (utf8 (text_seen c.args.self) ≡ bs)) (sym c.as_bytes-theirs.ensures.value) same);
+    }
+
+pub returns-in_default : goal.returns-in_default
+returns-in_default g c =
+    let form = g.C.Unit.form in
+    let number = g.C.Unit.number in
+    no_longer_same (utf8 (chars form (map number c.pieces.ours.now))) c.pieces.theirs.now c.pieces.invariant.same (take c.encode_front-read.result.1 c.encode_front-read.new.text)
+    (utf8 (chars form (map number (drop c.encode_front-read.result.0 c.pieces.ours.now)))) c.encode_front-read.ensures.text c.in_default.ensures.cases
+
+pub pieces-preserved : goal.pieces-preserved
+pieces-preserved g c =
+    let form = g.C.Unit.form in
+    let number = g.C.Unit.number in
+    let left = c.split_at.ensures.back in
+    record {
+      well_formed = rw left c.encode_front-read.ensures.rest;
+      same = same_behind (utf8 (chars form (map number c.pieces.ours.now))) c.pieces.theirs.now c.pieces.invariant.same (take c.encode_front-read.result.1 c.encode_front-read.new.text)
+        (utf8 (chars form (map number c.split_at.result.1.now))) c.in-Some.rest.now (c.encode_front-read.ensures.text ∙ ap (λ us. take c.encode_front-read.result.1 c.encode_front-read.new.text ++ utf8 (chars form (map number us))) (sym left))
+        c.in-Some.ensures.cases.0 c.in-Some.ensures.cases.1;
+    }
 
 pub returns : goal.returns
 returns g c =
-    let form = g.C.Unit.form in
-    let number = g.C.Unit.number in
-    let none : str_chars (str_rest c.loop-c.c-iterator) ≡ [] = (text_first c.loop-c.c-iterator c.next.new.self None (search rules) (search rules)).0 in
-    same-ends (text_seen c.args.self) (str_chars c.args.text.now) (chars_left form number c.loop-c.ours) (str_chars (str_rest c.loop-c.c-iterator)) (chars_left form number c.next-2.new.self)
-    c.next-2.result c.is_none.result c.loop-c.invariant none c.next-2.ensures.steps c.is_none.ensures
-
-pub loop-c-preserved : goal.loop-c-preserved
-loop-c-preserved g c =
-    let form = g.C.Unit.form in
-    let number = g.C.Unit.number in
-    let step : str_chars (str_rest c.loop-c.c-iterator) ≡ c.in-Some.c ∷ str_chars (str_rest c.next.new.self) = text_first c.loop-c.c-iterator c.next.new.self (Some c.in-Some.c) (search rules) (search rules) in
-    same-more (text_seen c.args.self) (str_chars c.args.text.now) (chars_left form number c.loop-c.ours) (str_chars (str_rest c.loop-c.c-iterator)) (chars_left form number c.next-in-loop-c.new.self) (str_chars (str_rest c.next.new.self))
-    c.in-Some-next.our c.in-Some.c c.loop-c.invariant c.in-Some-next.ensures.steps step c.if-our-c.false
+    let none : length c.pieces.ours.now ≡ 0 = grind (arith, c.is_empty.ensures, c.pieces-test.false) in
+    same_at_end (utf8 (chars g.C.Unit.form (map g.C.Unit.number c.pieces.ours.now))) c.pieces.theirs.now c.pieces.invariant.same c.is_empty-2.result (no_text g.C.Unit.form g.C.Unit.number c.pieces.ours.now none) c.is_empty-2.ensures

@@ -1,0 +1,49 @@
+-- Text compared with the bytes of a text, a piece after another.
+use Rattle.std.proofs.Common.{◌≡◌, ℕ, List, [], ◌∷◌, ◌++◌, Bool, true, false, nat_eq, IsTrue, ◌↔◌, refl, sym, ◌∙◌, ap, arith, length, take, drop}
+use Rattle.std.proofs.lemmas.List.{append_cancel_left, take-append-drop, append-nil}
+use Rattle.std.proofs.lemmas.Bool.Decides.{Decides-eqb}
+use Rattle.std.proofs.lemmas.Slice.Eq.{slice_eq-Decides}
+use Rattle.std.proofs.lemmas.Str.{chars-encodes, encodes-chars}
+use Rattle.std.proofs.Math.Seq.{take-append_seam}
+use Rattle.std.specs.Char.{IsScalar}
+use Rattle.std.specs.List.{All}
+use Rattle.std.specs.Cmp.Lexicographic.{pointwise}
+use Rattle.std.specs.Str.{IsUtf8}
+use Rattle.std.specs.Str.{chars as str_chars}
+use Rattle.wide_unit.specs.Utf8.{utf8}
+use Rattle.wide_unit.specs.Laws.Utf8.{utf8-encode_utf8_all}
+use Rattle.wide_blocks.proofs.Utf8Texts.{all_scalars-of_All}
+
+-- the characters are those of the text where the bytes are
+pub same_bytes : (cs bs : List ℕ) → All IsScalar cs → IsUtf8 bs → (cs ≡ str_chars bs) ↔ (utf8 cs ≡ bs)
+same_bytes cs bs scalars text = (
+  λ e. ap utf8 e ∙ utf8-encode_utf8_all (str_chars bs) ∙ encodes-chars bs text,
+  λ e. sym (chars-encodes cs (all_scalars-of_All cs scalars)) ∙ ap str_chars (sym (utf8-encode_utf8_all cs) ∙ e),
+)
+
+module _ {T : Type 0} (ours theirs : List ℕ) (so_far : T ↔ (ours ≡ theirs)) where
+  -- behind a piece that both begin with
+  pub same_behind : (piece left rest : List ℕ) → ours ≡ piece ++ left → pointwise nat_eq (take (length piece) theirs) piece ≡ true → rest ≡ drop (length piece) theirs → T ↔ (left ≡ rest)
+  same_behind piece left rest e begins behind =
+      let f : theirs ≡ piece ++ rest = sym (take-append-drop (length piece) theirs) ∙ ap (λ xs. xs ++ drop (length piece) theirs) ((slice_eq-Decides Decides-eqb (take (length piece) theirs) piece true (sym begins)).0 refl) ∙ ap (λ ys. piece ++ ys) (sym behind) in
+      (λ t. append_cancel_left piece left rest (sym e ∙ so_far.0 t ∙ f), λ g. so_far.1 (e ∙ ap (λ ys. piece ++ ys) g ∙ sym f))
+
+  -- where they do not begin with one
+  pub no_longer_same : (piece left : List ℕ) → ours ≡ piece ++ left → pointwise nat_eq (take (length piece) theirs) piece ≡ false → IsTrue false ↔ T
+  no_longer_same piece left e differs = (
+    λ no. absurd cc,
+    λ t. let begins : take (length piece) theirs ≡ piece = ap (take (length piece)) (sym (so_far.0 t) ∙ e) ∙ take-append_seam piece left in
+        let yes : false ≡ true = (slice_eq-Decides Decides-eqb (take (length piece) theirs) piece false (sym differs)).1 begins in
+        absurd cc,
+  )
+
+  -- where none of ours is left
+  pub same_at_end : (empty : Bool) → ours ≡ [] → empty ≡ nat_eq (length theirs) 0 → IsTrue empty ↔ T
+  same_at_end empty e is = (
+    λ yes. so_far.1 (e ∙ sym (nothing theirs ((Decides-eqb (length theirs) 0).0 (sym is ∙ yes)))),
+    λ t. is ∙ (Decides-eqb (length theirs) 0).1 (ap length (sym (so_far.0 t) ∙ e)),
+  )
+    where
+      nothing : (xs : List ℕ) → length xs ≡ 0 → xs ≡ []
+      nothing [] none = refl
+      nothing (x ∷ xs) none = absurd (omega arith)
