@@ -1,2 +1,2 @@
 pub mod IndexedLemmas
-mod FaultRows
+pub mod FaultRows
