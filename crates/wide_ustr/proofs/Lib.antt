@@ -1,3 +1,3 @@
 pub mod IndexedLemmas
-pub mod LossyPieces
-mod FaultRows
+pub mod FaultRows
+mod LossyPieces

@@ -17,5 +17,5 @@ pub use iter::{
     CharIndicesUtf32, Chars, CharsLossy, CharsLossyUtf16, CharsLossyUtf32, CharsUtf16, CharsUtf32,
 };
 pub use lines::{LineView, Lines};
-pub use lossy_with::CharsLossyWith;
+pub use lossy_with::{CharsLossyWith, behind_faults};
 pub use view::{U16Str, U32Str, UStr, WideChar, WideStr};

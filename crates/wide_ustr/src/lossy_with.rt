@@ -8,8 +8,8 @@ ghost use Rattle.wide_ustr.specs.LossyWith.{BeginsPastFaults, EndsBeforeFaults};
 use std::iter::FusedIterator;
 use wide_unit::{Policy, Unit, split_first, split_last};
 
-// The units behind the longest row of faults at the front.
-fn behind_faults<C: Unit>(units: &[C]) -> &[C]
+/// The units behind the longest row of faults at the front.
+pub fn behind_faults<C: Unit>(units: &[C]) -> &[C]
     ensures row { BeginsPastFaults (items C.form (map C.number units.now)) (items C.form (map C.number result.now)) }
     ensures within { length result.now ≤ length units.now }
 {

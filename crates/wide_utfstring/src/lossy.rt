@@ -1,8 +1,9 @@
 //! Well-formed text of any units, with U+FFFD in the place of each fault.
-ghost use Rattle.std.specs.Prelude.{◌≡◌, ◌≤◌, length, map, take, IsOk, IfOk};
+ghost use Rattle.std.specs.Prelude.{◌≡◌, ◌≢◌, ◌≤◌, ◌<◌, length, map, take, IsOk, IfOk};
 ghost use Rattle.wide_unit.specs.EncodingForm.{encode};
-ghost use Rattle.wide_unit.specs.Items.{items, IsWellFormed};
-ghost use Rattle.wide_unit.specs.Lossy.{lossy_by};
+ghost use Rattle.wide_unit.specs.Items.{items, IsWellFormed, IsFirstFault};
+ghost use Rattle.wide_unit.specs.Lossy.{lossy, lossy_by};
+ghost use Rattle.wide_unit.specs.declared.policy.Policy.TheVariants.{Each};
 ghost use Rattle.wide_ustr.specs.View.{units_seen as ustr_units};
 ghost use Rattle.wide_ucstr.specs.View.{contents_seen};
 ghost use Rattle.wide_utfstring.specs.CowText.{IsLossyOf, IsLossyBy};
@@ -11,8 +12,9 @@ use crate::{CowUtfStr, UtfString};
 use std::alloc::Allocator;
 use wide_error::OutOfMemory;
 use wide_ucstr::UCStr;
-use wide_unit::{Policy, check};
-use wide_ustr::UStr;
+use wide_unit::{FirstFault, Policy, check};
+use wide_ustr::{UStr, behind_faults};
+use wide_ustring::UString;
 use wide_utferror::FaultUnit;
 use wide_utfstr::UtfStr;
 
@@ -50,28 +52,71 @@ impl<C: FaultUnit, A: Allocator> UtfString<C, A> {
     {
         match check(units) {
             Ok(()) => Ok(CowUtfStr::Borrowed(UtfStr::from_slice_unchecked(units))),
-            Err(fault) => Ok(CowUtfStr::Owned(UtfString::lossy_copy(
-                alloc,
-                units,
-                fault.index,
-                policy,
-            )?)),
+            Err(fault) => Ok(CowUtfStr::Owned(UtfString::lossy_copy(alloc, units, fault, policy)?)),
         }
     }
 
-    // The text of units that are well formed before this index, with what the policy says for each fault.
-    fn lossy_copy(alloc: A, units: &[C], index: usize, policy: Policy) -> Result<Self, OutOfMemory>
-        requires within { index ≤ length units.now }
-        requires front { IsWellFormed C.form (map C.number (take index units.now)) }
+    // The text of units with this first fault, with what the policy says for each fault. It has at most as many units as there are, so
+    // that all fits in the room that is asked for once.
+    fn lossy_copy(
+        alloc: A,
+        units: &[C],
+        fault: FirstFault<C>,
+        policy: Policy,
+    ) -> Result<Self, OutOfMemory>
+        requires fault { IsFirstFault C.form (map C.number units.now) fault.index fault.item (C.number fault.unit) }
+        requires within { fault.index < length units.now }
         ensures { IfOk result (λ s. map C.number s.units ≡ encode C.form (lossy_by policy (items C.form (map C.number units.now)))) }
     {
-        let (front, rest) = units.split_at(index);
-        // U+FFFD takes one unit, as the fault in whose place it stands, so that all fits.
-        let mut text = UtfString::with_capacity(alloc, units.len())?;
-        text.push_utfstr(UtfStr::from_slice_unchecked(front))?;
-        for c in UStr::from_slice(rest).chars_lossy_with(policy) {
-            text.push(c)?;
+        match policy {
+            Policy::Each => UtfString::mended_copy(alloc, units, fault.index),
+            Policy::Run | Policy::Skip => { UtfString::copy_by_rows(alloc, units, fault, policy) }
         }
+    }
+
+    // The text of units that are well formed before this index, with U+FFFD for each fault.
+    fn mended_copy(alloc: A, units: &[C], index: usize) -> Result<Self, OutOfMemory>
+        requires within { index ≤ length units.now }
+        requires front { IsWellFormed C.form (map C.number (take index units.now)) }
+        ensures { IfOk result (λ s. map C.number s.units ≡ encode C.form (lossy (items C.form (map C.number units.now)))) }
+    {
+        let (front, rest) = units.split_at(index);
+        let mut text = Vec::new(alloc);
+        text.reserve_exact(units.len())?;
+        text.extend_from_slice(front)?;
+        text.resize(units.len(), C::NUL)?;
+        C::mend(rest, &mut text[index..]);
+        Ok(UtfString {
+            string: UString::from_vec(text),
+        })
+    }
+
+    // The text of units with this first fault, with what the policy says for each longest row of faults. The text between the rows is
+    // copied whole.
+    fn copy_by_rows(
+        alloc: A,
+        units: &[C],
+        fault: FirstFault<C>,
+        policy: Policy,
+    ) -> Result<Self, OutOfMemory>
+        requires rows { policy ≢ Each }
+        requires fault { IsFirstFault C.form (map C.number units.now) fault.index fault.item (C.number fault.unit) }
+        requires within { fault.index < length units.now }
+        ensures { IfOk result (λ s. map C.number s.units ≡ encode C.form (lossy_by policy (items C.form (map C.number units.now)))) }
+    {
+        let mut text = UtfString::with_capacity(alloc, units.len())?;
+        let mut rest = units;
+        let mut found = Err(fault);
+        while let Err(fault) = found {
+            let (front, faults) = rest.split_at(fault.index);
+            text.push_utfstr(UtfStr::from_slice_unchecked(front))?;
+            if let Policy::Run = policy {
+                text.push(char::REPLACEMENT_CHARACTER)?;
+            }
+            rest = behind_faults(faults);
+            found = check(rest);
+        }
+        text.push_utfstr(UtfStr::from_slice_unchecked(rest))?;
         Ok(text)
     }
 

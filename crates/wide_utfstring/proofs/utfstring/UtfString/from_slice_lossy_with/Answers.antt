@@ -1,7 +1,4 @@
-use Rattle.std.proofs.Common.{subst, arith}
-use Rattle.std.proofs.lemmas.List.{take-map}
-use Rattle.wide_unit.specs.Items.{IsWellFormed}
-use Rattle.wide_unit.proofs.Faults.{first_fault-not_well_formed, first_fault-front}
+use Rattle.wide_unit.proofs.Faults.{first_fault-not_well_formed}
 use Rattle.wide_utfstring.proofs.Lossies.{lossy_borrowed, lossy_owned}
 use Rattle.wide_utfstring.proofs.utfstring.UtfString.from_slice_lossy_with.Goals as goal
 
@@ -13,9 +10,3 @@ returns-in-Ok-clause-text g c = lossy_borrowed c.args.policy g.C.Unit.form g.C.U
 
 pub returns-in_ok-lossy_copy-in-Err-clause-text : goal.returns-in_ok-lossy_copy-in-Err-clause-text
 returns-in_ok-lossy_copy-in-Err-clause-text g c = lossy_owned c.args.policy g.C.Unit.form g.C.Unit.number c.args.units.now c.in_ok-lossy_copy-in-Err.field-0 _ _ _ c.in-Err.ensures.err c.in_ok-lossy_copy-in-Err.ensures
-
-pub lossy_copy-requires : goal.lossy_copy-requires
-lossy_copy-requires g c = record {
-  within = omega (arith, c.in-Err.ensures.within);
-  front = subst (IsWellFormed g.C.Unit.form) (take-map g.C.Unit.number c.in-Err.fault.index c.args.units.now) (first_fault-front _ _ _ _ _ c.in-Err.ensures.err);
-}
