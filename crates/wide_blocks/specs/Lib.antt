@@ -1,3 +1,4 @@
 pub mod Encoded
 pub mod Narrow
+pub mod Scalars
 pub mod Wide
