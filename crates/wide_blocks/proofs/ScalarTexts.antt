@@ -1,7 +1,8 @@
 -- The text of scalar values: how it grows, and that of 16-bit units that are some.
-use Rattle.std.proofs.Common.{◌≡◌, ℕ, suc, ◌+◌, ◌*◌, ◌/◌, ◌%◌, ◌^◌, ◌<◌, ◌≤◌, List, [], ◌∷◌, ◌++◌, length, get_or, take, drop, refl, sym, ap, ◌∙◌, subst, arith, append_assoc, drop-cons, take-add}
+use Rattle.std.proofs.Common.{◌≡◌, ℕ, suc, inl, inr, ◌+◌, ◌/◌, ◌%◌, ◌^◌, ◌<◌, ◌≤◌, List, [], ◌∷◌, ◌++◌, length, get_or, take, drop, refl, sym, ap, ◌∙◌, subst, arith, append_assoc, drop-cons, take-add}
 use Rattle.std.specs.Char.{IsScalar}
 use Rattle.std.specs.List.{All}
+use Rattle.std.proofs.lemmas.Bool.{cases_lt}
 use Rattle.std.proofs.lemmas.List.{append-nil}
 use Rattle.std.proofs.lemmas.List.Concat.{flat_map-append}
 use Rattle.wide_unit.specs.EncodingForm.{Utf16, Utf32, encode}
@@ -12,20 +13,45 @@ use Rattle.wide_unit.specs.Laws.Forms.{one_unit, ranges}
 use Rattle.wide_unit.specs.Laws.Places.{IsWellFormed-take, chars-encode, scalars-chars}
 use Rattle.wide_unit.specs.Laws.Utf32.{chars32-well_formed}
 use Rattle.wide_unit.specs.Laws.Utf8.{four_bytes}
-use Rattle.wide_blocks.specs.Encoded.{EncodedUnits}
+use Rattle.wide_blocks.specs.Encoded.{EncodedUnits, IsWordOf}
+use Rattle.wide_blocks.specs.Scalars.{IsScalarLen, IsScalarWord}
 use Rattle.wide_blocks.proofs.EncodedFronts.{IsFrontText, front_text-boundary}
 use Rattle.wide_blocks.proofs.Lanes.{encoded-ascii}
-use Rattle.wide_blocks.proofs.Stores.{list4}
+use Rattle.wide_blocks.proofs.Stores.{list4, word-stored}
 
 -- ---- one by one
 
 pub scalar-below : (cs : List ℕ) (k : ℕ) → All IsScalar cs → k < length cs → get_or cs k 0 < 0x11_0000
 scalar-below cs k scalars within = (ranges (get_or cs k 0) (scalars k 0 within)).below
 
-pub scalar-word : (c word : ℕ) → 0x1_0000 ≤ c → c < 0x11_0000 → word ≡ 0x80f0 + c / 0x4_0000 + c / 0x1000 % 0x40 * 0x100 + (0x8080 + c / 0x40 % 0x40 + c % 0x40 * 0x100) * 0x1_0000
-    → (word % 0x100) ∷ (word / 0x100 % 0x100) ∷ (word / 0x10000 % 0x100) ∷ (word / 0x1000000) ∷ [] ≡ utf8_bytes c
-scalar-word c word from below is =
-    list4 _ _ _ _ (240 + c / 2 ^ 18) (trailing_byte (c / 2 ^ 12)) (trailing_byte (c / 2 ^ 6)) (trailing_byte c) (omega arith) (omega arith) (omega arith) (omega arith) ∙ sym (four_bytes c from)
+four-bytes : (c word : ℕ) → 0x1_0000 ≤ c → c < 0x11_0000 → IsScalarWord c word → (word % 0x100) ∷ (word / 0x100 % 0x100) ∷ (word / 0x10000 % 0x100) ∷ (word / 0x1000000) ∷ [] ≡ utf8_bytes c
+four-bytes c word from below w =
+    let is = w.four from in
+    list4 _ _ _ _ (240 + c / 2 ^ 18) (trailing_byte (c / 2 ^ 12)) (trailing_byte (c / 2 ^ 6)) (trailing_byte c) (omega (arith, is)) (omega (arith, is)) (omega (arith, is)) (omega (arith, is)) ∙ sym (four_bytes c from)
+
+word-of_unit : (c word len : ℕ) → c < 0x1_0000 → IsScalarWord c word → IsScalarLen c len → IsWordOf c word len
+word-of_unit c word len below w l = record {
+  one = λ low. (omega (arith, w.one low), l.one low);
+  two = λ from low. (omega (arith, w.two from low), l.two from low);
+  three = λ from. (omega (arith, w.three from below), l.three from below);
+}
+
+-- four bytes are stored, of which the first are kept
+pub scalar-stored : (xs zs : List ℕ) (at c word len : ℕ) → at ≤ length xs → c < 0x11_0000 → IsScalarWord c word → IsScalarLen c len
+    → take (at + 4) zs ≡ take at xs ++ (word % 0x100) ∷ (word / 0x100 % 0x100) ∷ (word / 0x10000 % 0x100) ∷ (word / 0x1000000) ∷ [] → take (at + len) zs ≡ take at xs ++ utf8_bytes c
+scalar-stored xs zs at c word len room below w l stored = elim (cases_lt c 0x1_0000) [
+  | inl low ↦ word-stored xs zs at c word len room low (word-of_unit c word len low w l) stored
+  | inr from ↦ ap (λ n. take (at + n) zs) (l.four from) ∙ stored ∙ ap (λ bs. take at xs ++ bs) (four-bytes c word from below w)
+]
+
+pub scalar-len : {c len : ℕ} → IsScalarLen c len → len ≤ 4
+scalar-len {c} l = elim (cases_lt c 0x80) [
+  | inl low ↦ omega (arith, l.one low)
+  | inr from ↦ elim (cases_lt c 0x800) [
+    | inl low ↦ omega (arith, l.two from low)
+    | inr from_800 ↦ elim (cases_lt c 0x1_0000) [ inl low ↦ omega (arith, l.three from_800 low) | inr high ↦ omega (arith, l.four high) ]
+  ]
+]
 
 pub text-none : (before : List ℕ) (cs : List ℕ) → before ≡ before ++ utf8 (take 0 cs)
 text-none before cs = sym (append-nil before)

@@ -6,10 +6,11 @@ ghost use Rattle.std.specs.List.{All};
 ghost use Rattle.wide_unit.specs.EncodingForm.{Utf16, Utf32};
 ghost use Rattle.wide_unit.specs.Items.{IsWellFormed, chars};
 ghost use Rattle.wide_unit.specs.Utf8.{utf8, utf8_bytes};
+ghost use Rattle.wide_blocks.specs.Scalars.{IsScalarLen, IsScalarWord};
 
 use crate::blocks::{encode, put_ascii};
 use crate::narrow::put_narrow;
-use crate::steps::{put_unit, put_word};
+use crate::steps::put_word;
 use crate::wide::put_wide;
 use wide_unit::{AnyUnits, Unit};
 
@@ -59,6 +60,32 @@ fn narrow(block: &[u32], units: &mut [u16])
     }
 }
 
+// The bytes of a scalar value as a number, low byte first. All are computed and one is taken, as lanes do it.
+#[inline(always)]
+fn word_of(code: u32) -> u32
+    ensures { IsScalarWord code result }
+{
+    // Six bits a byte, the highest first.
+    let parts = code / 0x4_0000
+        + code / 0x1000 % 0x40 * 0x100
+        + code / 0x40 % 0x40 * 0x1_0000
+        + code % 0x40 * 0x100_0000;
+    let two = 0x80c0 + parts / 0x1_0000;
+    let three = 0x80_80e0 + parts / 0x100;
+    let four = 0x8080_80f0 + parts;
+    let short = if code < 0x80 { code } else { two };
+    let plain = if code < 0x800 { short } else { three };
+    if code < 0x1_0000 { plain } else { four }
+}
+
+// How many bytes a scalar value has.
+#[inline(always)]
+fn len_of(code: u32) -> u32
+    ensures { IsScalarLen code result }
+{
+    1 + u32::from(0x80 <= code) + u32::from(0x800 <= code) + u32::from(0x1_0000 <= code)
+}
+
 // Writes the bytes of a scalar value, and answers the place behind them.
 #[inline(always)]
 fn put_scalar(out: &mut [u8], at: usize, code: u32) -> usize
@@ -67,17 +94,47 @@ fn put_scalar(out: &mut [u8], at: usize, code: u32) -> usize
     ensures text { take result out.new ≡ take at out.old ++ utf8_bytes code }
     ensures high { result ≤ at + 4 }
 {
-    if code < 0x1_0000 {
-        return put_unit(out, at, code as u16);
-    }
-    let front = 0x80f0 + code / 0x4_0000 + code / 0x1000 % 0x40 * 0x100;
-    let back = 0x8080 + code / 0x40 % 0x40 + code % 0x40 * 0x100;
-    put_word(out, at, front + back * 0x1_0000);
-    at + 4
+    put_word(out, at, word_of(code));
+    at + len_of(code) as usize
 }
 
-// Writes the text of sixteen scalar values one by one, and answers the place behind it.
+#[inline(always)]
+fn words_of(block: &[u32], words: &mut [u32])
+    requires whole { length block.now ≡ 16 }
+    requires room { length words.old ≡ 16 }
+    ensures { (k : ℕ) → k < 16 → IsScalarWord (slice_index block.now k) (slice_index words.new k) }
+{
+    for k in 0..16 {
+        words[k] = word_of(block[k]);
+    }
+}
+
+#[inline(always)]
+fn lens_of(block: &[u32], lens: &mut [u32])
+    requires whole { length block.now ≡ 16 }
+    requires room { length lens.old ≡ 16 }
+    ensures { (k : ℕ) → k < 16 → IsScalarLen (slice_index block.now k) (slice_index lens.new k) }
+{
+    for k in 0..16 {
+        lens[k] = len_of(block[k]);
+    }
+}
+
+// A function of its own, so that both arrays are compiled to vectors.
 #[inline(never)]
+fn lanes_of(block: &[u32], words: &mut [u32], lens: &mut [u32])
+    requires whole { length block.now ≡ 16 }
+    requires room { length words.old ≡ 16 }
+    requires places { length lens.old ≡ 16 }
+    ensures words { (k : ℕ) → k < 16 → IsScalarWord (slice_index block.now k) (slice_index words.new k) }
+    ensures lens { (k : ℕ) → k < 16 → IsScalarLen (slice_index block.now k) (slice_index lens.new k) }
+{
+    words_of(block, words);
+    lens_of(block, lens);
+}
+
+// Writes the text of sixteen scalar values, and answers the place behind it. Up to three bytes behind it are overwritten.
+#[inline(always)]
 fn put_scalars(block: &[u32], out: &mut [u8], at: usize) -> usize
     requires whole { length block.now ≡ 16 }
     requires room { at + 64 ≤ length out.old }
@@ -85,14 +142,39 @@ fn put_scalars(block: &[u32], out: &mut [u8], at: usize) -> usize
     ensures text { take result out.new ≡ take at out.old ++ utf8 block.now }
     ensures high { result ≤ at + 64 }
 {
+    let mut words = [0u32; 16];
+    let mut lens = [0u32; 16];
+    lanes_of(block, &mut words, &mut lens);
     let mut written = at;
     for k in 0..16 {
-        written = put_scalar(out, written, block[k]);
+        put_word(out, written, words[k]);
+        written += lens[k] as usize;
     }
     written
 }
 
-// As `put_scalars`, in one step where all are below 0x1_0000.
+// Writes the text of sixteen scalar values that are 16-bit units, none of them above `bits`, and answers the place behind it. Up to
+// twelve bytes behind it are overwritten. A function of its own: within the loop the array was filled in pieces, for which loads wait.
+#[inline(never)]
+fn put_units(block: &[u32], bits: u32, out: &mut [u8], at: usize) -> usize
+    requires whole { length block.now ≡ 16 }
+    requires room { at + 64 ≤ length out.old }
+    requires scalars { All IsScalar block.now }
+    requires bits { (k : ℕ) → k < 16 → slice_index block.now k ≤ bits }
+    requires below { bits < 0x1_0000 }
+    ensures text { take result out.new ≡ take at out.old ++ utf8 block.now }
+    ensures high { result ≤ at + 64 }
+{
+    let mut units = [0u16; 16];
+    narrow(block, &mut units);
+    if bits < 0x800 {
+        put_narrow(&units, out, at)
+    } else {
+        put_wide(&units, out, at)
+    }
+}
+
+// As `put_scalars`, by 16-bit units where all are below 0x1_0000.
 #[inline(always)]
 fn put_block(block: &[u32], out: &mut [u8], at: usize) -> usize
     requires whole { length block.now ≡ 16 }
@@ -102,18 +184,15 @@ fn put_block(block: &[u32], out: &mut [u8], at: usize) -> usize
     ensures high { result ≤ at + 64 }
 {
     let bits = bits_of(block);
-    if 0x1_0000 <= bits {
-        return put_scalars(block, out, at);
-    }
-    let mut units = [0u16; 16];
-    narrow(block, &mut units);
     if bits < 0x80 {
+        let mut units = [0u16; 16];
+        narrow(block, &mut units);
         put_ascii(&units, out, at);
         at + 16
-    } else if bits < 0x800 {
-        put_narrow(&units, out, at)
+    } else if bits < 0x1_0000 {
+        put_units(block, bits, out, at)
     } else {
-        put_wide(&units, out, at)
+        put_scalars(block, out, at)
     }
 }
 

@@ -18,14 +18,14 @@ sixteens-preserved c = record {
 }
 
 pub put_scalar-written-requires-clause-below : goal.put_scalar-written-requires-clause-below
-put_scalar-written-requires-clause-below c = scalar-below c.args.units.now c.ones.read (scalars-well_formed c.args.units.now c.requires.well_formed) c.ones-test.true
+put_scalar-written-requires-clause-below c = scalar-below c.args.units.now c.ones.read (scalars-well_formed c.args.units.now c.requires.well_formed) (omega arith)
 
 pub ones-preserved : goal.ones-preserved
 ones-preserved c = record {
   within = omega arith;
   few = omega (arith, c.put_scalar-written.ensures.high, c.ones.invariant.few);
   room = omega (arith, c.put_scalar-written.ensures.high, c.put_scalar-written.auto.out);
-  text = text-one_more c.args.units.now [] c.ones.read c.ones-test.true c.ones.invariant.text c.put_scalar-written.ensures.text;
+  text = text-one_more c.args.units.now [] c.ones.read (omega arith) c.ones.invariant.text c.put_scalar-written.ensures.text;
 }
 
 pub returns-else-text-written-ge4-clause-text : goal.returns-else-text-written-ge4-clause-text

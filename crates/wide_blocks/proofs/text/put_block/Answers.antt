@@ -1,15 +1,7 @@
 use Rattle.std.proofs.Common.{arith}
-use Rattle.wide_blocks.proofs.ScalarTexts.{text-ascii, text-units}
+use Rattle.wide_blocks.proofs.ScalarTexts.{text-ascii}
 use Rattle.wide_blocks.proofs.text.put_block.Goals as goal
 
 pub returns-then-bits-lt128-clause-text : goal.returns-then-bits-lt128-clause-text
 returns-then-bits-lt128-clause-text c =
     text-ascii c.args.block.now c.narrow.new.units _ c.narrow.ensures c.requires.scalars (λ k within. (let low = c.bits_of-bits.ensures k (omega (arith, c.requires.whole)) in omega (arith, low))) c.put_ascii.ensures
-
-pub returns-then-bits-lt2048-clause-text : goal.returns-then-bits-lt2048-clause-text
-returns-then-bits-lt2048-clause-text c =
-    text-units c.args.block.now c.narrow.new.units _ c.narrow.ensures c.requires.scalars (λ k within. (let low = c.bits_of-bits.ensures k (omega (arith, c.requires.whole)) in omega (arith, low))) c.put_narrow.ensures.text
-
-pub returns-else-bits-lt2048-clause-text : goal.returns-else-bits-lt2048-clause-text
-returns-else-bits-lt2048-clause-text c =
-    text-units c.args.block.now c.narrow.new.units _ c.narrow.ensures c.requires.scalars (λ k within. (let low = c.bits_of-bits.ensures k (omega (arith, c.requires.whole)) in omega (arith, low))) c.put_wide.ensures.text
