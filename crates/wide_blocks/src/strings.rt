@@ -51,6 +51,8 @@ pub fn push_utf8<C: Unit, A: Allocator>(
 {
     if units.len() <= FEW {
         push_pieces(text, units, &mut [0; SMALL])
+    } else if units.len() <= MANY {
+        push_pieces(text, units, &mut [0; MIDDLE])
     } else {
         push_pieces(text, units, &mut [0; LARGE])
     }
