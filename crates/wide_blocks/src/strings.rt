@@ -14,6 +14,10 @@ const FEW: usize = 32;
 
 const SMALL: usize = 100;
 
+const MANY: usize = 256;
+
+const MIDDLE: usize = 772;
+
 const LARGE: usize = 3100;
 
 // Appends the text, a piece after another.
