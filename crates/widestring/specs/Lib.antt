@@ -9,6 +9,7 @@ pub use Rattle.wide_unit.specs.Lines
 pub use Rattle.wide_unit.specs.Texts
 pub use Rattle.wide_unit.specs.Nul
 pub use Rattle.wide_unit.specs.Unit
+pub use Rattle.wide_unit.specs.AnyUnits
 pub use Rattle.wide_unit.specs.Utf8
 pub use Rattle.wide_unit.specs.CodePoint
 pub use Rattle.wide_unit.specs.Searches

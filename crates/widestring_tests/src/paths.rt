@@ -70,7 +70,7 @@ pub mod ucstring {
 
 pub mod unit {
     pub use widestring::unit::{
-        FirstFault, Policy, Unit, check, first_no_scalar, first_nul, first_surrogate,
+        AnyUnits, FirstFault, Policy, Unit, check, first_no_scalar, first_nul, first_surrogate,
         length_as_utf16, length_as_utf32, next_code_point, order_of_units, range_check, same_units,
         split_first, split_last, split_line, write_escape,
     };
@@ -91,7 +91,7 @@ pub mod ustr {
         CharIndices, CharIndicesLossy, CharIndicesLossyUtf16, CharIndicesLossyUtf32,
         CharIndicesUtf16, CharIndicesUtf32, Chars, CharsLossy, CharsLossyUtf16, CharsLossyUtf32,
         CharsLossyWith, CharsUtf16, CharsUtf32, Display, DisplaySkipping, LineView, Lines, U16Str,
-        U32Str, UStr, WideChar, WideStr,
+        U32Str, UStr, WideChar, WideStr, behind_faults,
     };
 }
 
