@@ -1,5 +1,5 @@
 //! Text of units in UTF-8, and back, and lossy text, in a buffer of the caller's.
-ghost use Rattle.std.specs.Prelude.{◌≡◌, ◌≤◌, ◌+◌, ◌-◌, ◌^◌, ◌++◌, ◌∷◌, [], length, min, take, drop};
+ghost use Rattle.std.specs.Prelude.{◌≡◌, ◌≤◌, ◌+◌, ◌-◌, ◌^◌, ◌++◌, length, min, take, drop};
 ghost use Rattle.std.specs.Str.{IsUtf8, chars as str_chars};
 ghost use Rattle.widestring.specs.EncodingForm.{Utf16, Utf32, code_units, encode};
 ghost use Rattle.widestring.specs.Items.{IsWellFormed, chars, items};
@@ -9,7 +9,6 @@ ghost use Rattle.widestring.specs.Utf8.{utf8};
 use std::str;
 use wide_blocks::{encode_front, lossy_front};
 use widestring::unit::{Unit, check};
-use widestring::{U16Str, U32Str};
 
 // The text of a few units is put into a small array before it is copied, that of others into a larger one.
 const FEW: usize = 32;
@@ -45,21 +44,6 @@ fn put_utf16_char(units: &mut [u16], at: usize, c: char) -> usize
         (unit, None) => put(units, at, &[unit]),
         (high, Some(low)) => put(units, at, &[high, low]),
     }
-}
-
-// The same of a character in UTF-32.
-#[inline(always)]
-fn put_utf32_char(units: &mut [u32], at: usize, c: char) -> usize
-    ensures place { result ≡ min (at + 1) (2 ^ 64 - 1) }
-    ensures units { result ≤ length units.old → take result units.new ≡ take at units.old ++ c ∷ [] }
-    ensures room { length units.new ≡ length units.old }
-    ensures behind { drop result units.new ≡ drop result units.old }
-{
-    let end = at.saturating_add(1);
-    if end <= units.len() {
-        units[at..end].copy_from_slice(&[c as u32]);
-    }
-    end
 }
 
 // Puts the text of well-formed units in UTF-8 behind a place, as `put` does, a piece after another.
@@ -169,11 +153,10 @@ pub extern "C" fn wide_utf16_repair(units: &[u16], repaired: &mut [u16]) -> usiz
     ensures units { result ≤ length repaired.old → take result repaired.new ≡ encode Utf16 (lossy (items Utf16 units.now)) }
     ensures behind { drop result repaired.new ≡ drop result repaired.old }
 {
-    let mut at = 0;
-    for c in U16Str::from_slice(units).chars_lossy() {
-        at = put_utf16_char(repaired, at, c);
+    if units.len() <= repaired.len() {
+        u16::mend(units, repaired);
     }
-    at
+    units.len()
 }
 
 /// The same of units of UTF-32 (Unicode Standard, D90).
@@ -183,9 +166,8 @@ pub extern "C" fn wide_utf32_repair(units: &[u32], repaired: &mut [u32]) -> usiz
     ensures units { result ≤ length repaired.old → take result repaired.new ≡ lossy (items Utf32 units.now) }
     ensures behind { drop result repaired.new ≡ drop result repaired.old }
 {
-    let mut at = 0;
-    for c in U32Str::from_slice(units).chars_lossy() {
-        at = put_utf32_char(repaired, at, c);
+    if units.len() <= repaired.len() {
+        u32::mend(units, repaired);
     }
-    at
+    units.len()
 }

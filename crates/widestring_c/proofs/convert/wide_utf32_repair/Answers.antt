@@ -1,40 +1,14 @@
-use Rattle.std.proofs.Common.{◌≡◌, ◌++◌, ◌∷◌, ℕ, List, [], subst, arith, map, ◌∙◌}
-use Rattle.std.proofs.lemmas.List.{map-id}
+use Rattle.std.proofs.Common.{◌∙◌, length, arith}
 use Rattle.wide_unit.specs.EncodingForm.{Utf32}
-use Rattle.wide_unit.specs.Items.{items}
-use Rattle.wide_unit.specs.Lossy.{lossy}
-use Rattle.wide_ustr.specs.Iter.{lossy_left}
-use Rattle.widestring_c.proofs.Buffers.{Writing, one_more, behind_more, counted_all, written_all}
+use Rattle.wide_unit.specs.Laws.Utf32.{encode32}
+use Rattle.widestring_c.proofs.Repaired.{repaired_len32, repaired}
 use Rattle.widestring_c.proofs.convert.wide_utf32_repair.Goals as goal
 
-pub loop-c-preserved : goal.loop-c-preserved
-loop-c-preserved c =
-    let left = lossy_left Utf32 (λ (u : ℕ). u) in
-    let all = (lossy (items Utf32 (map (λ (u : ℕ). u) c.args.units.now))) in
-    let rest = left c.next.new.self in
-    let ch = c.in-Some.c in
-    let parts : left c.loop-c.c-iterator ≡ (ch ∷ []) ++ rest = c.in-Some.ensures.steps in
-    let before : Writing all c.loop-c.at c.loop-c.repaired ((ch ∷ []) ++ rest) = subst (λ bs. Writing all c.loop-c.at c.loop-c.repaired bs) parts c.loop-c.invariant.0 in
-    let put = c.put_utf32_char-at.ensures in (
-      one_more all c.loop-c.repaired c.put_utf32_char-at.new.units ((ch ∷ [])) rest c.loop-c.at c.put_utf32_char-at.result before put.place put.units put.room,
-      put.room ∙ c.loop-c.invariant.1,
-      behind_more c.args.repaired.now c.loop-c.repaired c.put_utf32_char-at.new.units (ch ∷ []) c.loop-c.at c.put_utf32_char-at.result before.most put.place c.loop-c.invariant.2 put.behind,
-    )
+pub returns-then-units-repaired-clause-len : goal.returns-then-units-repaired-clause-len
+returns-then-units-repaired-clause-len c = repaired_len32 c.args.units.now (omega arith)
 
-pub returns-clause-len : goal.returns-clause-len
-returns-clause-len c =
-    let all = λ (us : List ℕ). (lossy (items Utf32 us)) in
-    let done : Writing (all c.args.units.now) c.loop-c.at c.loop-c.repaired [] =
-    subst (λ us. Writing (all us) c.loop-c.at c.loop-c.repaired []) (map-id c.args.units.now)
-    (subst (λ bs. Writing (all (map (λ (u : ℕ). u) c.args.units.now)) c.loop-c.at c.loop-c.repaired bs) c.in-None.ensures.steps.0 c.loop-c.invariant.0)
-    in
-    counted_all (all c.args.units.now) c.loop-c.repaired c.loop-c.at done
+pub returns-then-units-repaired-clause-units : goal.returns-then-units-repaired-clause-units
+returns-then-units-repaired-clause-units c = λ _. repaired Utf32 c.args.units.now c.mend.new.mended (length c.args.units.now) c.mend.ensures.units ∙ encode32 _
 
-pub returns-clause-units : goal.returns-clause-units
-returns-clause-units c = λ fits.
-    let all = λ (us : List ℕ). (lossy (items Utf32 us)) in
-    let done : Writing (all c.args.units.now) c.loop-c.at c.loop-c.repaired [] =
-    subst (λ us. Writing (all us) c.loop-c.at c.loop-c.repaired []) (map-id c.args.units.now)
-    (subst (λ bs. Writing (all (map (λ (u : ℕ). u) c.args.units.now)) c.loop-c.at c.loop-c.repaired bs) c.in-None.ensures.steps.0 c.loop-c.invariant.0)
-    in
-    written_all (all c.args.units.now) c.loop-c.repaired c.loop-c.at done (omega (arith, fits, c.loop-c.invariant.1))
+pub returns-else-units-repaired-clause-len : goal.returns-else-units-repaired-clause-len
+returns-else-units-repaired-clause-len c = repaired_len32 c.args.units.now (omega arith)
