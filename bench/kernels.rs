@@ -1,11 +1,11 @@
 //! The calls of the static library beside those of its peers. `bench/kernels` builds and runs it.
 
+mod clock;
 mod compare;
 mod conversions;
 mod race;
 mod texts;
 
-use race::clock;
 use std::hint::black_box;
 use texts::mixed;
 use widestring::{U16CStr, U32CStr, Utf16Str, Utf32Str};
@@ -43,14 +43,14 @@ mod theirs {
 }
 
 /// Times both, in turn, and prints a line.
-fn compare(what: &str, text: &str, calls: u32, ours: impl FnMut() -> bool, theirs: impl FnMut() -> bool) {
+fn time_both(what: &str, text: &str, calls: u32, ours: impl FnMut() -> bool, theirs: impl FnMut() -> bool) {
     let mut runners = [clock::round(calls, ours), clock::round(calls, theirs)];
     let best = clock::best_times(12, &mut runners);
     println!("{what:16} {text:24} {:14.0} ns {:14.0} ns  {:.2}", best[0], best[1], best[0] / best[1]);
 }
 
 fn compare_units16(text: &str, calls: u32, units: &[u16]) {
-    compare(
+    time_both(
         "Utf16Str",
         text,
         calls,
@@ -59,7 +59,7 @@ fn compare_units16(text: &str, calls: u32, units: &[u16]) {
     );
     let mut string = units.to_vec();
     string.push(0);
-    compare(
+    time_both(
         "U16CStr",
         text,
         calls,
@@ -69,7 +69,7 @@ fn compare_units16(text: &str, calls: u32, units: &[u16]) {
 }
 
 fn compare_units32(text: &str, calls: u32, units: &[u32]) {
-    compare(
+    time_both(
         "Utf32Str",
         text,
         calls,
@@ -78,7 +78,7 @@ fn compare_units32(text: &str, calls: u32, units: &[u32]) {
     );
     let mut string = units.to_vec();
     string.push(0);
-    compare(
+    time_both(
         "U32CStr",
         text,
         calls,
