@@ -1,0 +1,125 @@
+//! The answers of the static library and of its peers beside std's, on units made at random.
+
+use crate::conversions::{Conversion, REPAIR, TO_UTF16, TO_UTF8, TO_UTF8_LOSSY};
+use crate::texts::Random;
+use std::fmt::UpperHex;
+
+/// Elements on both sides of a room, which no call may write.
+const MARGIN: usize = 80;
+/// Units at both ends of the characters of one, two and three bytes, of surrogates, and of all units.
+const EDGES: [u16; 14] = [0, 0x7f, 0x80, 0x7ff, 0x800, 0xd7ff, 0xd800, 0xdbff, 0xdc00, 0xdfff, 0xe000, 0xfffd, 0xffff, 0x61];
+
+struct Counts {
+    agreeing: u64,
+    differing: u64,
+}
+
+impl Counts {
+    /// Counts an answer, and prints the first ones that differ.
+    fn add(&mut self, agrees: bool, what: &str, input: &[impl UpperHex]) {
+        if agrees {
+            self.agreeing += 1;
+            return;
+        }
+        self.differing += 1;
+        if self.differing <= 20 {
+            let words: Vec<String> = input.iter().take(200).map(|element| format!("{element:X}")).collect();
+            println!("{what}, {} elements: {}", input.len(), words.join(" "));
+        }
+    }
+}
+
+/// Any units, in one of several mixtures.
+fn any_units(random: &mut Random) -> Vec<u16> {
+    let limit = [25, 70, 200, 9_000][[0, 0, 1, 1, 1, 2, 2, 2, 2, 3][random.below(10)]];
+    let (length, mixture) = (random.below(limit), random.below(8));
+    let mut units = Vec::with_capacity(length + 1);
+    while units.len() < length {
+        let high = 0xd800 + random.below(0x400) as u16;
+        let low = 0xdc00 + random.below(0x400) as u16;
+        match (mixture, random.below(8)) {
+            (0, _) | (1, 0..=5) => units.push(random.below(0x80) as u16),
+            (1, _) | (2, 0..=5) => units.push(random.below(0x800) as u16),
+            (3, 0..=5) => units.push(0x800 + random.below(0xd000) as u16),
+            (4, _) | (5, 0..=6) | (6, 0..=3) => units.extend([high, low]),
+            (6, _) => units.push(0xd800 + random.below(0x800) as u16),
+            (7, _) => units.push(random.below(0x1_0000) as u16),
+            (2 | 3, 6) => units.push(random.below(0x1_0000) as u16),
+            _ => units.push(EDGES[random.below(EDGES.len())]),
+        }
+    }
+    units
+}
+
+/// Rooms of no, of too few, of as many and of more elements than are needed.
+fn rooms(needed: usize, random: &mut Random) -> [usize; 5] {
+    [0, random.below(needed + 1), needed.saturating_sub(1 + random.below(8)), needed, needed + 1 + random.below(MARGIN)]
+}
+
+/// Whether the library answers the same as std, in the midst of a buffer of elements made at random. What is behind the answer is as it
+/// was, and so is all of it for a fault; where the room is too small, all around the room is.
+fn answers_alike<From, To: Copy + Eq + TryFrom<usize>>(
+    conversion: &Conversion<From, To>,
+    input: &[From],
+    answer: Option<&[To]>,
+    room: usize,
+    random: &mut Random,
+) -> bool {
+    let old: Vec<To> = (0..room + 2 * MARGIN).filter_map(|_| To::try_from(random.below(0x100)).ok()).collect();
+    let mut new = old.clone();
+    let (start, end) = (MARGIN, MARGIN + room);
+    let needed = (conversion.library)(input, &mut new[start..end]);
+    let Some(answer) = answer else {
+        return needed == usize::MAX && new == old;
+    };
+    let behind = if answer.len() <= room { start + answer.len() } else { end };
+    needed == answer.len()
+        && new[..start] == old[..start]
+        && new[behind..] == old[behind..]
+        && (answer.len() > room || new[start..behind] == *answer)
+}
+
+fn compare_one<From: UpperHex, To: Copy + Default + Eq + TryFrom<usize>>(
+    conversion: &Conversion<From, To>,
+    input: &[From],
+    random: &mut Random,
+    counts: &mut Counts,
+) {
+    let answer = (conversion.std)(input, &mut []);
+    // Where the Rust crate's answers differ is known, and told in docs/DIFFERENCES.md.
+    for (name, peer) in conversion.others {
+        let mut ample = vec![To::default(); conversion.ample_room(input.len())];
+        counts.add(peer(input, &mut ample) == answer, &format!("{} by {name}", conversion.name), input);
+    }
+    let answer = answer.as_deref();
+    for room in rooms(answer.map_or(input.len(), <[To]>::len), random) {
+        let agrees = answers_alike(conversion, input, answer, room, random);
+        counts.add(agrees, &format!("{} into a room of {room}", conversion.name), input);
+    }
+}
+
+/// The text of the units in UTF-8, lossy, of which one byte in each second text is another.
+fn any_bytes(units: &[u16], random: &mut Random) -> Vec<u8> {
+    let mut bytes = String::from_utf16_lossy(units).into_bytes();
+    if !bytes.is_empty() && random.below(2) == 0 {
+        let place = random.below(bytes.len());
+        bytes[place] = random.below(0x100) as u8;
+    }
+    bytes
+}
+
+/// Compares so many inputs, and answers whether none differs.
+pub fn compare(seed: u64, count: u64) -> bool {
+    let mut random = Random::new(seed);
+    let mut counts = Counts { agreeing: 0, differing: 0 };
+    for _ in 0..count {
+        let units = any_units(&mut random);
+        compare_one(&TO_UTF8, &units, &mut random, &mut counts);
+        compare_one(&TO_UTF8_LOSSY, &units, &mut random, &mut counts);
+        compare_one(&REPAIR, &units, &mut random, &mut counts);
+        let bytes = any_bytes(&units, &mut random);
+        compare_one(&TO_UTF16, &bytes, &mut random, &mut counts);
+    }
+    println!("seed {seed}: {} answers agree, {} differ", counts.agreeing, counts.differing);
+    counts.differing == 0
+}

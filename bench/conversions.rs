@@ -1,0 +1,191 @@
+//! The conversions of the static library, and those of its peers.
+
+use std::borrow::Cow;
+use widestring::{U16Str, Utf16String};
+
+extern "C" {
+    fn wide_utf16_to_utf8(units: *const u16, length: usize, text: *mut u8, room: usize) -> usize;
+    fn wide_utf16_to_utf8_lossy(units: *const u16, length: usize, text: *mut u8, room: usize) -> usize;
+    fn wide_utf8_to_utf16(text: *const u8, length: usize, units: *mut u16, room: usize) -> usize;
+    fn wide_utf16_repair(units: *const u16, length: usize, repaired: *mut u16, room: usize) -> usize;
+}
+
+/// A call of the library: it writes into the room, and answers the length that is needed, or the greatest number for a fault.
+pub type Library<From, To> = fn(&[From], &mut [To]) -> usize;
+
+/// A peer's call: what it answers stands in the room, which is ample, or in memory of its own. There is none for a fault.
+pub type Peer<From, To> = for<'a> fn(&[From], &'a mut [To]) -> Option<Cow<'a, [To]>>;
+
+/// A conversion that several libraries have.
+pub struct Conversion<From: 'static, To: Clone + 'static> {
+    pub name: &'static str,
+    pub library: Library<From, To>,
+    pub rust_crate: Peer<From, To>,
+    /// By std, which also judges the others' answers.
+    pub std: Peer<From, To>,
+    /// By what else is here, with their names.
+    pub others: &'static [(&'static str, Peer<From, To>)],
+    /// How many elements an answer has at most for each that is converted.
+    pub growth: usize,
+}
+
+impl<From, To: Clone> Conversion<From, To> {
+    /// A room that is ample for each peer.
+    pub fn ample_room(&self, length: usize) -> usize {
+        self.growth * length + 1
+    }
+
+    /// All peers, with their names.
+    pub fn peers(&self) -> impl Iterator<Item = (&'static str, Peer<From, To>)> {
+        let always = [("Rust crate", self.rust_crate), ("std", self.std)];
+        always.into_iter().chain(self.others.iter().copied())
+    }
+}
+
+pub const TO_UTF8: Conversion<u16, u8> = Conversion {
+    name: "to UTF-8",
+    // Each slice is memory that may be read or written, of its length, here and below.
+    library: |units, text| unsafe { wide_utf16_to_utf8(units.as_ptr(), units.len(), text.as_mut_ptr(), text.len()) },
+    rust_crate: |units, _| Some(Cow::Owned(U16Str::from_slice(units).to_string().ok()?.into_bytes())),
+    std: |units, _| Some(Cow::Owned(String::from_utf16(units).ok()?.into_bytes())),
+    others: &[
+        ("decode_utf16", |units, _| {
+            let text: Result<String, _> = char::decode_utf16(units.iter().copied()).collect();
+            Some(Cow::Owned(text.ok()?.into_bytes()))
+        }),
+        #[cfg(encoding_rs)]
+        ("encoding_rs", encoding::to_utf8),
+        #[cfg(icu)]
+        ("ICU", icu::to_utf8),
+    ],
+    growth: 3,
+};
+
+pub const TO_UTF8_LOSSY: Conversion<u16, u8> = Conversion {
+    name: "to UTF-8, lossy",
+    library: |units, text| unsafe { wide_utf16_to_utf8_lossy(units.as_ptr(), units.len(), text.as_mut_ptr(), text.len()) },
+    rust_crate: |units, _| Some(Cow::Owned(U16Str::from_slice(units).to_string_lossy().into_bytes())),
+    std: |units, _| Some(Cow::Owned(String::from_utf16_lossy(units).into_bytes())),
+    others: &[
+        ("decode_utf16", |units, _| {
+            let chars = char::decode_utf16(units.iter().copied());
+            let text: String = chars.map(|c| c.unwrap_or(char::REPLACEMENT_CHARACTER)).collect();
+            Some(Cow::Owned(text.into_bytes()))
+        }),
+        #[cfg(encoding_rs)]
+        ("encoding_rs", encoding::to_utf8_lossy),
+        #[cfg(icu)]
+        ("ICU", icu::to_utf8_lossy),
+    ],
+    growth: 3,
+};
+
+pub const TO_UTF16: Conversion<u8, u16> = Conversion {
+    name: "to UTF-16",
+    library: |text, units| unsafe { wide_utf8_to_utf16(text.as_ptr(), text.len(), units.as_mut_ptr(), units.len()) },
+    rust_crate: |text, _| Some(Cow::Owned(Utf16String::from_str(std::str::from_utf8(text).ok()?).into_vec())),
+    std: |text, _| Some(Cow::Owned(std::str::from_utf8(text).ok()?.encode_utf16().collect())),
+    others: &[
+        #[cfg(encoding_rs)]
+        ("encoding_rs", encoding::to_utf16),
+        #[cfg(icu)]
+        ("ICU", icu::to_utf16),
+    ],
+    growth: 1,
+};
+
+/// ICU has no call for this one.
+pub const REPAIR: Conversion<u16, u16> = Conversion {
+    name: "repair",
+    library: |units, repaired| unsafe { wide_utf16_repair(units.as_ptr(), units.len(), repaired.as_mut_ptr(), repaired.len()) },
+    rust_crate: |units, _| Some(Cow::Owned(Utf16String::from_slice_lossy(units).into_owned().into_vec())),
+    std: |units, _| {
+        let mut repaired = Vec::with_capacity(units.len());
+        for c in char::decode_utf16(units.iter().copied()) {
+            repaired.extend_from_slice(c.unwrap_or(char::REPLACEMENT_CHARACTER).encode_utf16(&mut [0; 2]));
+        }
+        Some(Cow::Owned(repaired))
+    },
+    others: &[
+        #[cfg(encoding_rs)]
+        ("encoding_rs", encoding::repaired),
+    ],
+    growth: 1,
+};
+
+#[cfg(encoding_rs)]
+mod encoding {
+    use encoding_rs::mem;
+    use std::borrow::Cow;
+
+    /// Its one conversion is lossy, so what is to be strict is validated first.
+    pub fn to_utf8<'a>(units: &[u16], text: &'a mut [u8]) -> Option<Cow<'a, [u8]>> {
+        if mem::utf16_valid_up_to(units) == units.len() {
+            to_utf8_lossy(units, text)
+        } else {
+            None
+        }
+    }
+
+    pub fn to_utf8_lossy<'a>(units: &[u16], text: &'a mut [u8]) -> Option<Cow<'a, [u8]>> {
+        let length = mem::convert_utf16_to_utf8(units, text);
+        Some(Cow::Borrowed(&text[..length]))
+    }
+
+    pub fn to_utf16<'a>(text: &[u8], units: &'a mut [u16]) -> Option<Cow<'a, [u16]>> {
+        let length = mem::convert_utf8_to_utf16_without_replacement(text, units)?;
+        Some(Cow::Borrowed(&units[..length]))
+    }
+
+    /// It repairs in place, so the units are copied first.
+    pub fn repaired<'a>(units: &[u16], room: &'a mut [u16]) -> Option<Cow<'a, [u16]>> {
+        let repaired = &mut room[..units.len()];
+        repaired.copy_from_slice(units);
+        mem::ensure_utf16_validity(repaired);
+        Some(Cow::Borrowed(repaired))
+    }
+}
+
+#[cfg(icu)]
+mod icu {
+    use std::borrow::Cow;
+    use std::ffi::c_char;
+
+    // ICU's names end with its version, which bench/kernels puts in.
+    extern "C" {
+        #[link_name = "u_strToUTF8ICU_SUFFIX"]
+        fn u_str_to_utf8(text: *mut c_char, room: i32, needed: *mut i32, units: *const u16, length: i32, error: *mut i32) -> *mut c_char;
+        #[link_name = "u_strToUTF8WithSubICU_SUFFIX"]
+        fn u_str_to_utf8_with_sub(
+            text: *mut c_char, room: i32, needed: *mut i32, units: *const u16, length: i32, sub: i32, subs: *mut i32, error: *mut i32,
+        ) -> *mut c_char;
+        #[link_name = "u_strFromUTF8ICU_SUFFIX"]
+        fn u_str_from_utf8(units: *mut u16, room: i32, needed: *mut i32, text: *const c_char, length: i32, error: *mut i32) -> *mut u16;
+    }
+
+    /// The front of the room, of the length that a call wrote, which takes that and its error by pointers. Below 0 are warnings.
+    fn front<To: Clone>(room: &mut [To], call: impl FnOnce(*mut To, i32, *mut i32, *mut i32)) -> Option<Cow<'_, [To]>> {
+        let (mut length, mut error) = (0, 0);
+        call(room.as_mut_ptr(), room.len() as i32, &mut length, &mut error);
+        (error <= 0).then(|| Cow::Borrowed(&room[..length as usize]))
+    }
+
+    pub fn to_utf8<'a>(units: &[u16], text: &'a mut [u8]) -> Option<Cow<'a, [u8]>> {
+        front(text, |text, room, needed, error| unsafe {
+            u_str_to_utf8(text.cast(), room, needed, units.as_ptr(), units.len() as i32, error);
+        })
+    }
+
+    pub fn to_utf8_lossy<'a>(units: &[u16], text: &'a mut [u8]) -> Option<Cow<'a, [u8]>> {
+        let replacement = char::REPLACEMENT_CHARACTER as i32;
+        front(text, |text, room, needed, error| unsafe {
+            u_str_to_utf8_with_sub(text.cast(), room, needed, units.as_ptr(), units.len() as i32, replacement, &mut 0, error);
+        })
+    }
+
+    pub fn to_utf16<'a>(text: &[u8], units: &'a mut [u16]) -> Option<Cow<'a, [u16]>> {
+        front(units, |units, room, needed, error| unsafe {
+            u_str_from_utf8(units, room, needed, text.as_ptr().cast(), text.len() as i32, error);
+        })
+    }
+}

@@ -1,0 +1,105 @@
+//! Each conversion of the static library in turn with those of its peers, on the same texts.
+
+use crate::clock;
+use crate::conversions::{Conversion, REPAIR, TO_UTF16, TO_UTF8, TO_UTF8_LOSSY};
+use crate::texts::{ascii, cyrillic, emoji_alone, emoji_of_20, european_and_chinese, with_faults};
+use std::hint::black_box;
+
+/// The units of a text of 16 KB, which stays in cache, and of one of 64 MB, with the rounds that each is raced and the calls of a round.
+const SIZES: [(&str, usize, u32, u32); 2] = [("16 KB", 8 << 10, 60, 20), ("64 MB", 32 << 20, 5, 1)];
+const TINY_LENGTHS: [usize; 4] = [1, 5, 12, 24];
+
+/// A time in two to five digits.
+fn time_word(nanoseconds: f64) -> String {
+    if nanoseconds < 1e4 {
+        format!("{nanoseconds:.0} ns")
+    } else if nanoseconds < 1e7 {
+        format!("{:.1} us", nanoseconds / 1e3)
+    } else {
+        format!("{:.1} ms", nanoseconds / 1e6)
+    }
+}
+
+/// The library's time, and it as a multiple of each peer's. The library has no more room than the answer takes.
+fn times<From, To: Clone + Default>(conversion: &Conversion<From, To>, input: &[From], rounds: u32, calls: u32) -> String {
+    let needed = (conversion.library)(input, &mut []);
+    let mut exact = vec![To::default(); needed];
+    let mut runners = vec![clock::round(calls, || {
+        let library = black_box(conversion.library);
+        library(black_box(input), &mut exact) == needed
+    })];
+    for (_, peer) in conversion.peers() {
+        let mut ample = vec![To::default(); conversion.ample_room(input.len())];
+        runners.push(clock::round(calls, move || {
+            let peer = black_box(peer);
+            peer(black_box(input), &mut ample).is_some_and(|answer| answer.len() == needed)
+        }));
+    }
+    let best = clock::best_times(rounds, &mut runners);
+    let multiples: Vec<String> = best[1..].iter().map(|peer| format!("{:.2}", best[0] / peer)).collect();
+    format!("{:>8}  {}", time_word(best[0]), multiples.join(" "))
+}
+
+/// A text by its name, of as many units as are wanted.
+type Text<'a, From> = (&'a str, &'a dyn Fn(usize) -> Vec<From>);
+
+/// A line for each text with both sizes, then one for each tiny text.
+fn race<From, To: Clone + Default>(conversion: &Conversion<From, To>, texts: &[Text<From>]) {
+    let peers: Vec<&str> = conversion.peers().map(|(name, _)| name).collect();
+    println!("\n{}: the library's time, and it as multiples of those of {}", conversion.name, peers.join(", "));
+    for (name, text) in texts {
+        print!("{name:40}");
+        for (size, length, rounds, calls) in SIZES {
+            print!("   {size} {}", times(conversion, &text(length), rounds, calls));
+        }
+        println!();
+    }
+    let print_tiny = |what: &str, input: &[From]| println!("{what:40}         {}", times(conversion, input, 40, 2_000));
+    print_tiny("no units", &[]);
+    for (name, text) in texts {
+        for length in TINY_LENGTHS {
+            print_tiny(&format!("{name}, units: {length}"), &text(length));
+        }
+    }
+}
+
+pub fn race_all() {
+    race(
+        &TO_UTF8,
+        &[
+            ("ASCII", &ascii),
+            ("European and Chinese", &european_and_chinese),
+            ("Cyrillic", &cyrillic),
+            ("an emoji of 20", &emoji_of_20),
+            ("emoji alone", &emoji_alone),
+        ],
+    );
+    race(
+        &TO_UTF8_LOSSY,
+        &[
+            ("European and Chinese", &european_and_chinese),
+            ("European and Chinese, faults", &|length| with_faults(european_and_chinese(length))),
+            ("ASCII, faults", &|length| with_faults(ascii(length))),
+        ],
+    );
+    race(
+        &REPAIR,
+        &[
+            ("emoji alone", &emoji_alone),
+            ("emoji alone, faults", &|length| with_faults(emoji_alone(length))),
+            ("European and Chinese", &european_and_chinese),
+            ("European and Chinese, faults", &|length| with_faults(european_and_chinese(length))),
+        ],
+    );
+    let in_utf8 = |units: Vec<u16>| String::from_utf16(&units).expect("well-formed text").into_bytes();
+    race(
+        &TO_UTF16,
+        &[
+            ("ASCII", &|length| in_utf8(ascii(length))),
+            ("European and Chinese", &|length| in_utf8(european_and_chinese(length))),
+            ("Cyrillic", &|length| in_utf8(cyrillic(length))),
+            ("an emoji of 20", &|length| in_utf8(emoji_of_20(length))),
+            ("emoji alone", &|length| in_utf8(emoji_alone(length))),
+        ],
+    );
+}
