@@ -35,6 +35,12 @@ module _ (first : List ℕ) (from : ℕ) (all : List ℕ) where
   pub written_all : (out : List ℕ) (at : ℕ) → Puts first from all at out [] → at ≤ length out → take at out ≡ take from first ++ all
   written_all out at w fits = sym (append-nil (take at out)) ∙ w.written fits
 
+pub nothing_written : (all out : List ℕ) → Writing all 0 out all
+nothing_written all out = record { most = omega arith; counted = omega arith; written = λ fits. refl }
+
+pub counted_front : (all out : List ℕ) (at : ℕ) → Writing all at out [] → at ≡ min (length all) (2 ^ 64 - 1)
+counted_front all out at w = omega (arith, counted_all [] 0 all out at w)
+
 -- what stands behind the place stays so
 pub behind_more : (first old new bs : List ℕ) (at end : ℕ) → at ≤ 2 ^ 64 - 1 → end ≡ min (at + length bs) (2 ^ 64 - 1) → drop at old ≡ drop at first → drop end new ≡ drop end old → drop end new ≡ drop end first
 behind_more first old new bs at end most place before put =

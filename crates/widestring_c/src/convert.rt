@@ -12,22 +12,41 @@ use widestring::unit::{Unit, check};
 
 // The text of a few units is put into a small array before it is copied, that of others into a larger one.
 const FEW: usize = 32;
+
 const SMALL: usize = 100;
+
 const MANY: usize = 256;
+
 const MIDDLE: usize = 772;
+
 const LARGE: usize = 3100;
 
-// Puts items behind a place, where there is room, and answers the place behind them, or the greatest number.
+// Puts bytes behind a place, where there is room, and answers the place behind them, or the greatest number.
 #[inline(always)]
-fn put<T: Copy>(out: &mut [T], at: usize, more: &[T]) -> usize
+fn put_bytes(text: &mut [u8], at: usize, more: &[u8]) -> usize
     ensures place { result ≡ min (at + length more.now) (2 ^ 64 - 1) }
-    ensures items { result ≤ length out.old → take result out.new ≡ take at out.old ++ more.now }
-    ensures room { length out.new ≡ length out.old }
-    ensures behind { drop result out.new ≡ drop result out.old }
+    ensures text { result ≤ length text.old → take result text.new ≡ take at text.old ++ more.now }
+    ensures room { length text.new ≡ length text.old }
+    ensures behind { drop result text.new ≡ drop result text.old }
 {
     let end = at.saturating_add(more.len());
-    if end <= out.len() {
-        out[at..end].copy_from_slice(more);
+    if end <= text.len() {
+        text[at..end].copy_from_slice(more);
+    }
+    end
+}
+
+// The same of units.
+#[inline(always)]
+fn put_units(units: &mut [u16], at: usize, more: &[u16]) -> usize
+    ensures place { result ≡ min (at + length more.now) (2 ^ 64 - 1) }
+    ensures units { result ≤ length units.old → take result units.new ≡ take at units.old ++ more.now }
+    ensures room { length units.new ≡ length units.old }
+    ensures behind { drop result units.new ≡ drop result units.old }
+{
+    let end = at.saturating_add(more.len());
+    if end <= units.len() {
+        units[at..end].copy_from_slice(more);
     }
     end
 }
@@ -41,12 +60,12 @@ fn put_utf16_char(units: &mut [u16], at: usize, c: char) -> usize
     ensures behind { drop result units.new ≡ drop result units.old }
 {
     match u16::encode_char(c) {
-        (unit, None) => put(units, at, &[unit]),
-        (high, Some(low)) => put(units, at, &[high, low]),
+        (unit, None) => put_units(units, at, &[unit]),
+        (high, Some(low)) => put_units(units, at, &[high, low]),
     }
 }
 
-// Puts the text of well-formed units in UTF-8 behind a place, as `put` does, a piece after another.
+// Puts the text of well-formed units in UTF-8 behind a place, as `put_bytes` does, a piece after another.
 fn put_pieces(units: &[u16], text: &mut [u8], at: usize, piece: &mut [u8]) -> usize
     requires well_formed { IsWellFormed Utf16 units.now }
     requires piece { 64 ≤ length piece.old }
@@ -59,7 +78,7 @@ fn put_pieces(units: &[u16], text: &mut [u8], at: usize, piece: &mut [u8]) -> us
     let mut rest = units;
     'pieces: while !rest.is_empty() {
         let (read, written) = encode_front(rest, piece);
-        at = put(text, at, &piece[..written]);
+        at = put_bytes(text, at, &piece[..written]);
         (_, rest) = rest.split_at(read);
     }
     at

@@ -1,4 +1,4 @@
-use Rattle.std.proofs.Common.{◌≡◌, ◌++◌, ℕ, List, [], refl, ap, sym, ◌∙◌, subst, arith, length, take, drop, map}
+use Rattle.std.proofs.Common.{◌≡◌, ◌++◌, ℕ, List, [], refl, ap, sym, ◌∙◌, subst, arith, length, take, drop}
 use Rattle.std.proofs.lemmas.List.{map-id}
 use Rattle.wide_unit.specs.EncodingForm.{Utf16}
 use Rattle.wide_unit.specs.Items.{IsWellFormed, chars}
@@ -22,7 +22,7 @@ pub pieces-preserved : goal.pieces-preserved
 pieces-preserved c =
     let all = utf8 (chars Utf16 c.args.units.now) in
     let e = c.encode_front-read.ensures in
-    let put = c.put-at.ensures in
+    let put = c.put_bytes-at.ensures in
     let piece = take c.encode_front-read.result.1 c.encode_front-read.new.text in
     let left = c.split_at.result.1.now in
     let parts : utf8 (chars Utf16 c.pieces.rest.now) ≡ piece ++ utf8 (chars Utf16 left) =
@@ -31,9 +31,9 @@ pieces-preserved c =
     let before : Puts c.args.text.now c.args.at all c.pieces.at c.pieces.text (piece ++ utf8 (chars Utf16 left)) = subst (λ bs. Puts c.args.text.now c.args.at all c.pieces.at c.pieces.text bs) parts c.pieces.invariant.so_far in
     record {
       well_formed = subst (λ us. IsWellFormed Utf16 us) (map-id (drop c.encode_front-read.result.0 c.pieces.rest.now) ∙ sym c.split_at.ensures.back) e.rest;
-      so_far = one_more c.args.text.now c.args.at all c.pieces.text c.put-at.new.out piece (utf8 (chars Utf16 left)) c.pieces.at c.put-at.result before put.place put.items put.room;
+      so_far = one_more c.args.text.now c.args.at all c.pieces.text c.put_bytes-at.new.text piece (utf8 (chars Utf16 left)) c.pieces.at c.put_bytes-at.result before put.place put.text put.room;
       room = put.room ∙ c.pieces.invariant.room;
-      behind = behind_more c.args.text.now c.pieces.text c.put-at.new.out piece c.pieces.at c.put-at.result before.most put.place c.pieces.invariant.behind put.behind;
+      behind = behind_more c.args.text.now c.pieces.text c.put_bytes-at.new.text piece c.pieces.at c.put_bytes-at.result before.most put.place c.pieces.invariant.behind put.behind;
     }
 
 pub returns-clause-place : goal.returns-clause-place

@@ -3,7 +3,7 @@ use Rattle.std.specs.Str.{chars}
 use Rattle.std.specs.Str.Iter.{chars_rest}
 use Rattle.wide_unit.specs.EncodingForm.{Utf16, code_units, encode}
 use Rattle.wide_unit.proofs.Texts.{text_first}
-use Rattle.widestring_c.proofs.Buffers.{Writing, one_more, behind_more, counted_all, written_all}
+use Rattle.widestring_c.proofs.Buffers.{Writing, one_more, behind_more, counted_front, written_all}
 use Rattle.widestring_c.proofs.convert.put_utf16.Goals as goal
 
 pub loop-c-preserved : goal.loop-c-preserved
@@ -24,7 +24,7 @@ pub returns-clause-len : goal.returns-clause-len
 returns-clause-len c =
     let all = encode Utf16 (chars c.args.text.now) in
     let none : chars (chars_rest c.loop-c.c-iterator) ≡ [] = (text_first c.loop-c.c-iterator c.next.new.self None (search rules) (search rules)).0 in
-    counted_all [] 0 all c.loop-c.units c.loop-c.at (subst (λ us. Writing all c.loop-c.at c.loop-c.units us) (ap (encode Utf16) none) c.loop-c.invariant.0)
+    counted_front all c.loop-c.units c.loop-c.at (subst (λ us. Writing all c.loop-c.at c.loop-c.units us) (ap (encode Utf16) none) c.loop-c.invariant.0)
 
 pub returns-clause-units : goal.returns-clause-units
 returns-clause-units c = λ fits.

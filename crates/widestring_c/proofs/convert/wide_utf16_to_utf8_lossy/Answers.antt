@@ -2,11 +2,11 @@ use Rattle.std.proofs.Common.{◌≡◌, ◌++◌, ◌∷◌, ℕ, List, [], ref
 use Rattle.std.proofs.lemmas.List.{map-id}
 use Rattle.std.proofs.lemmas.List.Concat.{flat_map-append}
 use Rattle.wide_unit.specs.EncodingForm.{Utf16}
-use Rattle.wide_unit.specs.Items.{IsWellFormed, chars, items}
+use Rattle.wide_unit.specs.Items.{chars, items}
 use Rattle.wide_unit.specs.Lossy.{lossy}
 use Rattle.wide_unit.specs.Utf8.{utf8, utf8_bytes}
 use Rattle.wide_unit.specs.Laws.Items.{items-nil}
-use Rattle.widestring_c.proofs.Buffers.{Writing, nothing_yet, one_more, behind_more, counted_all, written_all}
+use Rattle.widestring_c.proofs.Buffers.{Writing, nothing_written, one_more, behind_more, counted_front, written_all}
 use Rattle.widestring_c.proofs.convert.wide_utf16_to_utf8_lossy.Goals as goal
 
 none_left : (us : List ℕ) → length us ≡ 0 → utf8 (lossy (items Utf16 us)) ≡ []
@@ -15,7 +15,7 @@ none_left (u ∷ us) none = absurd (omega arith)
 
 pub fronts-init : goal.fronts-init
 fronts-init c = record {
-  so_far = nothing_yet [] 0 (utf8 (lossy (items Utf16 c.args.units.now))) (omega arith);
+  so_far = nothing_written (utf8 (lossy (items Utf16 c.args.units.now))) c.args.text.now;
   room = refl;
   behind = refl;
 }
@@ -23,10 +23,10 @@ fronts-init c = record {
 pub fronts-preserved : goal.fronts-preserved
 fronts-preserved c =
     let all = utf8 (lossy (items Utf16 c.args.units.now)) in
-    let e = c.lossy_front-front.ensures in
+    let e = c.lossy_front.ensures in
     let put = c.put_utf8-at.ensures in
-    let front = c.lossy_front-front.result.0.now in
-    let rest = c.lossy_front-front.result.1.now in
+    let front = c.lossy_front.result.0.now in
+    let rest = c.lossy_front.result.1.now in
     let piece = utf8 (chars Utf16 front) in
     let text : lossy (items Utf16 c.fronts.rest.now) ≡ chars Utf16 front ++ lossy (items Utf16 rest) =
     ap (λ us. lossy (items Utf16 us)) (sym (map-id c.fronts.rest.now)) ∙ e.text ∙ ap (λ us. chars Utf16 us ++ lossy (items Utf16 (map (λ (u : ℕ). u) rest))) (map-id front) ∙ ap (λ us. chars Utf16 front ++ lossy (items Utf16 us)) (map-id rest)
@@ -43,7 +43,7 @@ pub returns-clause-len : goal.returns-clause-len
 returns-clause-len c =
     let all = utf8 (lossy (items Utf16 c.args.units.now)) in
     let none : length c.fronts.rest.now ≡ 0 = grind (arith, c.is_empty.ensures, c.fronts-test.false) in
-    counted_all [] 0 all c.fronts.text c.fronts.at (subst (λ bs. Writing all c.fronts.at c.fronts.text bs) (none_left c.fronts.rest.now none) c.fronts.invariant.so_far)
+    counted_front all c.fronts.text c.fronts.at (subst (λ bs. Writing all c.fronts.at c.fronts.text bs) (none_left c.fronts.rest.now none) c.fronts.invariant.so_far)
 
 pub returns-clause-text : goal.returns-clause-text
 returns-clause-text c = λ fits.
