@@ -101,7 +101,24 @@ fn put_utf8(units: &[u16], text: &mut [u8], at: usize) -> usize
     }
 }
 
-// The same of a text in UTF-16.
+// Puts the text of units with faults at the front, with U+FFFD for each unit that belongs to no character.
+fn put_lossy(units: &[u16], text: &mut [u8]) -> usize
+    ensures len { result ≡ min (length (utf8 (lossy (items Utf16 units.now)))) (2 ^ 64 - 1) }
+    ensures text { result ≤ length text.old → take result text.new ≡ utf8 (lossy (items Utf16 units.now)) }
+    ensures behind { drop result text.new ≡ drop result text.old }
+{
+    let mut spare = [0; MANY];
+    let mut at = 0;
+    let mut rest = units;
+    'fronts: while !rest.is_empty() {
+        let (front, behind) = lossy_front(rest, &mut spare);
+        at = put_utf8(front, text, at);
+        rest = behind;
+    }
+    at
+}
+
+// Writes a text in UTF-16, as far as there is room, and answers how many units it has, or the greatest number where they are more.
 fn put_utf16(text: &str, units: &mut [u16]) -> usize
     ensures len { result ≡ min (length (encode Utf16 (str_chars text.now))) (2 ^ 64 - 1) }
     ensures units { result ≤ length units.old → take result units.new ≡ encode Utf16 (str_chars text.now) }
@@ -137,15 +154,10 @@ pub extern "C" fn wide_utf16_to_utf8_lossy(units: &[u16], text: &mut [u8]) -> us
     ensures text { result ≤ length text.old → take result text.new ≡ utf8 (lossy (items Utf16 units.now)) }
     ensures behind { drop result text.new ≡ drop result text.old }
 {
-    let mut spare = [0; MANY];
-    let mut at = 0;
-    let mut rest = units;
-    'fronts: while !rest.is_empty() {
-        let (front, behind) = lossy_front(rest, &mut spare);
-        at = put_utf8(front, text, at);
-        rest = behind;
+    match check(units) {
+        Ok(()) => put_utf8(units, text, 0),
+        Err(_fault) => put_lossy(units, text),
     }
-    at
 }
 
 /// The text of well-formed UTF-8 in UTF-16, in front of `units` where there is room for it. Answers how many units it has, or the
