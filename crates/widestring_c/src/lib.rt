@@ -5,6 +5,8 @@
 #![tactic(auto)]
 
 mod convert;
+#[cfg(test)]
+mod room_rows;
 mod search;
 
 pub use convert::{

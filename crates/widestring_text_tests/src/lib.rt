@@ -8,6 +8,8 @@ mod conversion_rows;
 #[cfg(test)]
 mod line_rows;
 #[cfg(test)]
+mod place_rows;
+#[cfg(test)]
 mod policy_rows;
 #[cfg(test)]
 mod print_rows;
