@@ -1,7 +1,5 @@
 //! Text of views that is read by blocks: each kind of character and of fault, at each place of texts of each length, at both widths. What
 //! is wanted is made by the standard library.
-ghost use Rattle.std.specs.Prelude.{◌≤◌};
-
 use std::alloc::{AllocError, Global};
 use std::char;
 use widestring::error::FaultUnit;
@@ -174,6 +172,38 @@ fn holds<C: ReadUnit>(alloc: Global, units: &[C]) -> Result<bool, AllocError> {
     }
 }
 
+// So many of one item.
+fn repeated<C: Copy>(alloc: Global, item: C, len: usize) -> Result<Vec<C>, AllocError> {
+    let mut items = Vec::new(alloc);
+    for _ in 0..len {
+        items.push(item)?;
+    }
+    Ok(items)
+}
+
+// Puts units at a place, as far as they fit.
+fn put<C: Copy>(units: &mut [C], place: usize, kind: &[C]) {
+    if let Some(room) = units.get_mut(place..) {
+        let fits = kind.len().min(room.len());
+        room[..fits].copy_from_slice(&kind[..fits]);
+    }
+}
+
+// Whether all that is said of a text of letters holds, with this at each of the places.
+fn holds_with<C: ReadUnit>(
+    alloc: Global,
+    letter: C,
+    len: usize,
+    places: &[usize],
+    kind: &[C],
+) -> Result<bool, AllocError> {
+    let mut units = repeated(alloc, letter, len)?;
+    for place in places {
+        put(units.as_mut_slice(), *place, kind);
+    }
+    holds(alloc, units.as_slice())
+}
+
 // The first text, by its length, the place of what is put among letters, and the number of its kind, of which a call says something else.
 fn first_failure<C: ReadUnit>(
     alloc: Global,
@@ -182,12 +212,8 @@ fn first_failure<C: ReadUnit>(
 ) -> Option<(usize, usize, usize)> {
     for len in 0..=70 {
         for place in 0..=len {
-            for (number, kind) in kinds.iter().enumerate() {
-                let mut units = [letter; 70];
-                for (unit, other) in units.iter_mut().take(len).skip(place).zip(*kind) {
-                    *unit = *other;
-                }
-                if holds(alloc, &units[..len]) != Ok(true) {
+            for (number, &kind) in kinds.iter().enumerate() {
+                if holds_with(alloc, letter, len, &[place], kind) != Ok(true) {
                     return Some((len, place, number));
                 }
             }
@@ -199,13 +225,7 @@ fn first_failure<C: ReadUnit>(
 // The first place, of which that is so in a long text, with this at the place and one more block of 256 units behind.
 fn first_far_failure<C: ReadUnit>(alloc: Global, letter: C, kind: &[C]) -> Option<usize> {
     for place in 250..260 {
-        let mut units = [letter; 600];
-        for start in [place, place + 256] {
-            for (unit, other) in units.iter_mut().skip(start).zip(kind) {
-                *unit = *other;
-            }
-        }
-        if holds(alloc, &units) != Ok(true) {
+        if holds_with(alloc, letter, 600, &[place, place + 256], kind) != Ok(true) {
             return Some(place);
         }
     }
