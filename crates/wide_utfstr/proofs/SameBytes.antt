@@ -1,6 +1,6 @@
 -- Text compared with the bytes of a text, a piece after another.
 use Rattle.std.proofs.Common.{◌≡◌, ℕ, List, [], ◌∷◌, ◌++◌, Bool, true, false, nat_eq, IsTrue, ◌↔◌, refl, sym, ◌∙◌, ap, arith, length, take, drop}
-use Rattle.std.proofs.lemmas.List.{append_cancel_left, take-append-drop, append-nil}
+use Rattle.std.proofs.lemmas.List.{append_cancel_left, take-append-drop}
 use Rattle.std.proofs.lemmas.Bool.Decides.{Decides-eqb}
 use Rattle.std.proofs.lemmas.Slice.Eq.{slice_eq-Decides}
 use Rattle.std.proofs.lemmas.Str.{chars-encodes, encodes-chars}

@@ -16,7 +16,7 @@ pieces-init g c =
     record {
       well_formed = c.as_slice-ours.ensures.well_formed;
       same = subst (λ us. (text_seen c.args.self ≡ str_chars c.args.text.now) ↔ (utf8 (chars form (map number us)) ≡ c.as_bytes-theirs.result.now)) (sym c.as_slice-ours.ensures.units)
-        (subst (λ bs. (text_seen c.args.self ≡ str_chars c.args.text.now) ↔ (utf8 (text_seen c.args.self) ≡ bs)) (sym c.as_bytes-theirs.ensures.value) same);
+          (subst (λ bs. (text_seen c.args.self ≡ str_chars c.args.text.now) ↔ (utf8 (text_seen c.args.self) ≡ bs)) (sym c.as_bytes-theirs.ensures.value) same);
     }
 
 pub returns-in_default : goal.returns-in_default
@@ -34,8 +34,8 @@ pieces-preserved g c =
     record {
       well_formed = rw left c.encode_front-read.ensures.rest;
       same = same_behind (utf8 (chars form (map number c.pieces.ours.now))) c.pieces.theirs.now c.pieces.invariant.same (take c.encode_front-read.result.1 c.encode_front-read.new.text)
-        (utf8 (chars form (map number c.split_at.result.1.now))) c.in-Some.rest.now (c.encode_front-read.ensures.text ∙ ap (λ us. take c.encode_front-read.result.1 c.encode_front-read.new.text ++ utf8 (chars form (map number us))) (sym left))
-        c.in-Some.ensures.cases.0 c.in-Some.ensures.cases.1;
+          (utf8 (chars form (map number c.split_at.result.1.now))) c.in-Some.rest.now (c.encode_front-read.ensures.text ∙ ap (λ us. take c.encode_front-read.result.1 c.encode_front-read.new.text ++ utf8 (chars form (map number us))) (sym left))
+          c.in-Some.ensures.cases.0 c.in-Some.ensures.cases.1;
     }
 
 pub returns : goal.returns
