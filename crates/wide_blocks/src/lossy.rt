@@ -1,7 +1,7 @@
 //! Lossy text of units, a front of it after another, as well-formed units.
 
-ghost use Rattle.std.specs.Prelude.{◌≡◌, ◌++◌, ◌<◌, ◌≤◌, length, map, take, drop};
-ghost use Rattle.wide_unit.specs.Items.{IsWellFormed, chars, items};
+ghost use Rattle.std.specs.Prelude.{◌≡◌, ℕ, ◌++◌, ◌<◌, ◌≤◌, length, map, take, drop};
+ghost use Rattle.wide_unit.specs.Items.{IsFirstFault, IsWellFormed, chars, items};
 ghost use Rattle.wide_unit.specs.Lossy.{lossy};
 ghost use Rattle.wide_unit.specs.Laws.Items.{IsCut};
 
@@ -14,6 +14,7 @@ const FEW: usize = 64;
 pub fn sound_len<C: Unit>(units: &[C]) -> usize
     ensures within { result ≤ length units.now }
     ensures sound { IsWellFormed C.form (map C.number (take result units.now)) }
+    ensures fault { result < length units.now → (item unit : ℕ) × IsFirstFault C.form (map C.number units.now) result item unit }
 {
     match check(units) {
         Ok(()) => units.len(),

@@ -6,3 +6,6 @@ use Rattle.wide_blocks.proofs.lossy.sound_len.Goals as goal
 
 pub returns-in-Err-clause-sound : goal.returns-in-Err-clause-sound
 returns-in-Err-clause-sound g c = subst (IsWellFormed g.C.Unit.form) (take-map g.C.Unit.number c.in-Err.fault.index c.args.units.now) (first_fault-front _ _ _ _ _ c.in-Err.ensures.err)
+
+pub returns-in-Err-clause-fault : goal.returns-in-Err-clause-fault
+returns-in-Err-clause-fault g c = λ within. (c.in-Err.fault.item, g.C.Unit.number c.in-Err.fault.unit, c.in-Err.ensures.err)
