@@ -1,11 +1,10 @@
 -- How long the text of well-formed units is in UTF-8, by its units.
-use Rattle.std.proofs.Common.{◌≡◌, ℕ, suc, ◌+◌, ◌-◌, ◌<◌, ◌≤◌, List, [], ◌∷◌, inl, inr, refl, sym, ◌∙◌, ap, subst, arith, get_or, length, length-append, take, drop}
+use Rattle.std.proofs.Common.{◌≡◌, ℕ, suc, ◌+◌, ◌<◌, ◌≤◌, List, [], ◌∷◌, inl, inr, refl, sym, ◌∙◌, ap, subst, arith, get_or, length, length-append}
 use Rattle.std.specs.Char.{IsScalar}
 use Rattle.std.specs.List.{sum_by}
 use Rattle.std.proofs.lemmas.Bool.{cases_lt}
 use Rattle.std.proofs.lemmas.Bool.Decides.{nat_tests}
 use Rattle.std.proofs.lemmas.List.Sums.{sum_by-append}
-use Rattle.std.proofs.Math.Seq.{take-add, take-length}
 use Rattle.wide_unit.specs.EncodingForm.{EncodingForm, Utf16, Utf32, code_units, encode}
 use Rattle.wide_unit.specs.Items.{chars, IsWellFormed}
 use Rattle.wide_unit.specs.Utf8.{utf8, utf8_bytes}
@@ -66,13 +65,3 @@ module _ (form : EncodingForm) (us vs : List ℕ) (same : us ≡ vs) (well : IsW
 
   pub len-by_width32 : Utf32 ≡ form → length us + sum_by more_of_32 us ≡ length (utf8 (chars form vs))
   len-by_width32 is = rw same (subst (λ f. length vs + sum_by more_of_32 vs ≡ length (utf8 (chars f vs))) is (len32-all vs (subst (λ f. IsWellFormed f vs) (sym is) well)))
-
--- what was counted up to a place, and of the units behind it
-module _ {C : Type 0} (more : C → ℕ) (us : List C) where
-  pub counted-on : (at n : ℕ) → sum_by more (take (at + n) us) ≡ sum_by more (take at us) + sum_by more (take n (drop at us))
-  counted-on at n = ap (sum_by more) (take-add at n us) ∙ sum_by-append more (take at us) (take n (drop at us))
-
-  pub counted-all : (at : ℕ) → at ≤ length us → sum_by more us ≡ sum_by more (take at us) + sum_by more (take (length us - at) (drop at us))
-  counted-all at within =
-      let whole : at + (length us - at) ≡ length us = omega arith in
-      ap (sum_by more) (sym (take-length us) ∙ ap (λ n. take n us) (sym whole)) ∙ counted-on at (length us - at)

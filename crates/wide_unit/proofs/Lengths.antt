@@ -91,12 +91,12 @@ pub length-encode_utf32 : (cs : List ℕ) → length (encode Utf32 cs) ≡ lengt
 length-encode_utf32 [] = refl
 length-encode_utf32 (c ∷ cs) = ap suc (length-encode_utf32 cs)
 
--- what begins at the bytes before a place, and behind it
-module _ (begun : ℕ → ℕ) (bs : List ℕ) where
-  pub begun-on : (at n : ℕ) → sum_by begun (take (at + n) bs) ≡ sum_by begun (take at bs) + sum_by begun (take n (drop at bs))
-  begun-on at n = ap (sum_by begun) (take-add at n bs) ∙ sum_by-append begun (take at bs) (take n (drop at bs))
+-- what is counted of a list before a place, and behind it
+module _ {C : Type 0} (weight : C → ℕ) (xs : List C) where
+  pub counted-on : (at n : ℕ) → sum_by weight (take (at + n) xs) ≡ sum_by weight (take at xs) + sum_by weight (take n (drop at xs))
+  counted-on at n = ap (sum_by weight) (take-add at n xs) ∙ sum_by-append weight (take at xs) (take n (drop at xs))
 
-  pub begun-all : (at : ℕ) → at ≤ length bs → sum_by begun bs ≡ sum_by begun (take at bs) + sum_by begun (take (length bs - at) (drop at bs))
-  begun-all at within =
-      let whole : at + (length bs - at) ≡ length bs = omega arith in
-      ap (sum_by begun) (sym (take-length bs) ∙ ap (λ n. take n bs) (sym whole)) ∙ begun-on at (length bs - at)
+  pub counted-all : (at : ℕ) → at ≤ length xs → sum_by weight xs ≡ sum_by weight (take at xs) + sum_by weight (take (length xs - at) (drop at xs))
+  counted-all at within =
+      let whole : at + (length xs - at) ≡ length xs = omega arith in
+      ap (sum_by weight) (sym (take-length xs) ∙ ap (λ n. take n xs) (sym whole)) ∙ counted-on at (length xs - at)

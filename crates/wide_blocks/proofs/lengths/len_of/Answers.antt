@@ -1,6 +1,6 @@
 use Rattle.std.proofs.Common.{◌≡◌, ◌+◌, ◌-◌, take, drop, arith}
 use Rattle.std.specs.List.{sum_by}
-use Rattle.wide_blocks.proofs.Utf8Lengths.{counted-on, counted-all}
+use Rattle.wide_unit.proofs.Lengths.{counted-on, counted-all}
 use Rattle.wide_blocks.proofs.lengths.len_of.Goals as goal
 
 pub counted-preserved : goal.counted-preserved
