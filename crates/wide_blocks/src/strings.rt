@@ -1,6 +1,6 @@
 //! The text of well-formed units in UTF-8, as a string.
 
-ghost use Rattle.std.specs.Prelude.{◌≡◌, ◌++◌, ◌+◌, ◌<◌, ◌≤◌, [], map, length, IsOk, IfOk, OnErr, OnOk, string_bytes, vec_capacity, vec_len};
+ghost use Rattle.std.specs.Prelude.{◌≡◌, ℕ, List, ◌++◌, ◌+◌, ◌<◌, ◌≤◌, [], map, length, IsOk, IfOk, OnErr, OnOk, string_bytes, vec_capacity, vec_len};
 ghost use Rattle.wide_unit.specs.Items.{IsWellFormed, chars};
 ghost use Rattle.wide_unit.specs.Utf8.{utf8};
 
@@ -31,6 +31,7 @@ fn push_pieces<C: Unit, A: Allocator>(
     ensures text { OnOk result (text.new.items ≡ text.old.items ++ utf8 (chars C.form (map C.number units.now))) }
     ensures succeeds { units.now ≡ [] → IsOk result }
     ensures full { OnErr result (vec_capacity text.old < vec_len text.old + length (utf8 (chars C.form (map C.number units.now)))) }
+    ensures front { (more : List ℕ) × (text.new.items ≡ text.old.items ++ more) }
 {
     let mut rest = units;
     'pieces: while !rest.is_empty() {
@@ -54,6 +55,7 @@ pub fn push_utf8<C: Unit, A: Allocator>(
     ensures text { OnOk result (text.new.items ≡ text.old.items ++ utf8 (chars C.form (map C.number units.now))) }
     ensures succeeds { units.now ≡ [] → IsOk result }
     ensures full { OnErr result (vec_capacity text.old < vec_len text.old + length (utf8 (chars C.form (map C.number units.now)))) }
+    ensures front { (more : List ℕ) × (text.new.items ≡ text.old.items ++ more) }
 {
     if units.len() <= FEW {
         push_pieces(text, units, &mut [0; SMALL])
