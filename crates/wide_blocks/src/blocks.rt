@@ -5,7 +5,7 @@ ghost use Rattle.wide_blocks.specs.Encoded.{ArePaired, EncodedUnits, IsPairedBac
 
 use crate::fronts::front_of;
 use crate::narrow::put_narrow;
-use crate::steps::{Step, encode_plain, high_word_of, join, low_word_of, put_word};
+use crate::steps::{Step, encode_plain, high_word_of, join, low_word_of, put_pair, put_word};
 use crate::wide::put_wide;
 use std::simd::prelude::*;
 
@@ -188,6 +188,37 @@ fn put_paired(units: &[u16], out: &mut [u8], at: usize) -> (usize, usize)
     (16 + more, written)
 }
 
+// Whether sixteen units are eight pairs.
+#[inline(always)]
+fn are_pairs(block: &[u16]) -> bool
+    requires { length block.now ≡ 16 }
+    ensures high { IsTrue result → (k : ℕ) → k < 8 → slice_index block.now (2 * k) / 0x400 ≡ 54 }
+    ensures low { IsTrue result → (k : ℕ) → k < 8 → slice_index block.now (2 * k + 1) / 0x400 ≡ 55 }
+{
+    let mut pairs = true;
+    for k in 0..8 {
+        pairs &= block[2 * k] / 0x400 == 54;
+        pairs &= block[2 * k + 1] / 0x400 == 55;
+    }
+    pairs
+}
+
+// Writes the text of eight pairs, and answers the place behind it.
+#[inline(always)]
+fn put_pairs(block: &[u16], out: &mut [u8], at: usize) -> usize
+    requires whole { length block.now ≡ 16 }
+    requires room { at + 32 ≤ length out.old }
+    requires high { (k : ℕ) → k < 8 → slice_index block.now (2 * k) / 0x400 ≡ 54 }
+    requires low { (k : ℕ) → k < 8 → slice_index block.now (2 * k + 1) / 0x400 ≡ 55 }
+    ensures text { EncodedUnits block.now (take at out.old) (take result out.new) }
+    ensures high { result ≡ at + 32 }
+{
+    for k in 0..8 {
+        put_pair(out, at + 4 * k, block[2 * k], block[2 * k + 1]);
+    }
+    at + 32
+}
+
 // As many units as are passed one by one before the next block is looked at.
 const RUN: usize = 256;
 
@@ -218,6 +249,13 @@ fn encode_surrogates(units: &[u16], out: &mut [u8], at: usize, repeats: bool) ->
     ensures text { EncodedUnits (take result.read units.now) (take at out.old) (take result.written out.new) }
     ensures stop { is_some result.fault ≡ true → StopsBefore (drop result.read units.now) result.fault }
 {
+    if are_pairs(&units[..16]) {
+        return Step {
+            read: 16,
+            written: put_pairs(&units[..16], out, at),
+            fault: None,
+        };
+    }
     if !repeats && is_paired(&units[..17]) {
         let (read, written) = put_paired(&units[..17], out, at);
         return Step {

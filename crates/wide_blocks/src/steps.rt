@@ -78,9 +78,9 @@ pub(crate) fn low_word_of(high: u16, low: u16) -> u16
     0x8080 + high % 4 * 0x10 + low / 0x40 % 0x10 + low % 0x40 * 0x100
 }
 
-// Writes the bytes of the character of a pair, and answers the place behind them.
+/// Writes the bytes of the character of a pair, and answers the place behind them.
 #[inline(always)]
-fn put_pair(out: &mut [u8], at: usize, high: u16, low: u16) -> usize
+pub(crate) fn put_pair(out: &mut [u8], at: usize, high: u16, low: u16) -> usize
     requires room { at + 4 ≤ length out.old }
     requires from_high { 0xd800 ≤ high }
     requires to_high { high < 0xdc00 }
