@@ -1,5 +1,5 @@
 -- Well-formed units cut behind a front of them: the text of the front, and that of the rest.
-use Rattle.std.proofs.Common.{◌≡◌, ℕ, ◌<◌, ◌≤◌, inl, inr, Option, None, Some, List, [], ◌∷◌, ◌++◌, length, take, drop, sym, ap, ◌∙◌, subst, arith, length-take, take-append-drop}
+use Rattle.std.proofs.Common.{◌≡◌, ℕ, ◌<◌, ◌≤◌, inl, inr, Option, None, Some, List, [], ◌∷◌, ◌++◌, length, take, drop, refl, sym, ap, ◌∙◌, subst, arith, length-drop, length-take, take-append-drop}
 use Rattle.std.specs.Prelude.{map}
 use Rattle.std.specs.Char.{IsScalar}
 use Rattle.std.specs.List.{All}
@@ -81,3 +81,23 @@ some-encoded us n count fault well within all stop some = elim (cases_lt 0 n) [ 
     nothing None cut =
         let whole : take count us ≡ us = take_all count us (omega (arith, all (omega (arith, cut-length (take count us) cut, length-take count us)))) in
         no_half-alone us well some (subst (λ vs. AreCutShort vs) whole cut)
+
+-- units that are encoded to their end
+module _ (us : List ℕ) (n : ℕ) (bytes : List ℕ) (e : EncodedUnits (take n us) [] bytes) where
+  module _ (all : n ≡ length us) where
+    the_units : encode Utf16 e.cs ≡ us
+    the_units = sym e.units ∙ take_all n us (omega (arith, all))
+
+    pub whole-sound : IsWellFormed Utf16 us
+    whole-sound = subst (λ vs. IsWellFormed Utf16 vs) the_units (IsWellFormed-encode Utf16 e.cs e.scalars)
+
+    pub whole-text : bytes ≡ utf8 (chars Utf16 us)
+    whole-text = e.text ∙ ap utf8 (sym (chars-encode Utf16 e.cs e.scalars)) ∙ ap (λ vs. utf8 (chars Utf16 vs)) the_units
+
+  -- well-formed ones are, wherever it stopped
+  pub stop-end : (fault : Option ℕ) → IsWellFormed Utf16 us → n ≤ length us → StopsBefore (drop n us) fault → n ≡ length us
+  stop-end fault well within stop =
+      let rest = drop n us in
+      let rest_well = (front_text-encode Utf16 us well n e.cs bytes within e.scalars e.units e.text).rest in
+      let stop_all : StopsBefore (take (length rest) rest) fault = subst (λ vs. StopsBefore vs fault) (sym (take_all (length rest) rest (omega arith))) stop in
+      elim (cases_lt 0 (length rest)) [ inl more ↦ absurd (omega (arith, some-encoded rest 0 (length rest) fault rest_well (omega arith) (λ few. refl) stop_all more)) | inr none ↦ omega (arith, none, length-drop n us, within) ]

@@ -16,4 +16,4 @@ pub use lengths::utf8_len;
 pub use lossy::{lossy_front, sound_len};
 pub use steps::{Step, put_unit};
 pub use strings::{push_utf8, utf8_string};
-pub use text::encode_front;
+pub use text::{encode_front, encode_whole};

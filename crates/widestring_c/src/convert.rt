@@ -1,5 +1,5 @@
 //! Text of units in UTF-8, and back, and lossy text, in a buffer of the caller's.
-ghost use Rattle.std.specs.Prelude.{◌≡◌, ◌≤◌, ◌+◌, ◌-◌, ◌^◌, ◌++◌, length, min, take, drop};
+ghost use Rattle.std.specs.Prelude.{◌≡◌, ◌≤◌, ◌+◌, ◌-◌, ◌^◌, ◌++◌, ◌*◌, IfNone, IfSome, length, min, take, drop};
 ghost use Rattle.std.specs.Str.{IsUtf8, chars as str_chars};
 ghost use Rattle.widestring.specs.EncodingForm.{Utf16, Utf32, code_units, encode};
 ghost use Rattle.widestring.specs.Items.{IsWellFormed, chars, items};
@@ -7,7 +7,7 @@ ghost use Rattle.widestring.specs.Lossy.{lossy};
 ghost use Rattle.widestring.specs.Utf8.{utf8};
 
 use std::str;
-use wide_blocks::{encode_front, lossy_front};
+use wide_blocks::{encode_front, encode_whole, lossy_front};
 use widestring::unit::{Unit, check};
 
 // The text of a few units is put into a small array before it is copied, that of others into a larger one.
@@ -84,38 +84,73 @@ fn put_pieces(units: &[u16], text: &mut [u8], at: usize, piece: &mut [u8]) -> us
     at
 }
 
-// The same, by a piece of the size that fits.
-fn put_utf8(units: &[u16], text: &mut [u8], at: usize) -> usize
-    requires { IsWellFormed Utf16 units.now }
-    ensures place { result ≡ min (at + length (utf8 (chars Utf16 units.now))) (2 ^ 64 - 1) }
-    ensures text { result ≤ length text.old → take result text.new ≡ take at text.old ++ utf8 (chars Utf16 units.now) }
-    ensures room { length text.new ≡ length text.old }
-    ensures behind { drop result text.new ≡ drop result text.old }
+// Puts the text of some units at the front, if they are well formed, and answers how many bytes it has, or the greatest number where they
+// are more. The units are read once.
+fn put_whole(units: &[u16], text: &mut [u8], piece: &mut [u8]) -> Option<usize>
+    requires { 3 * length units.now + 4 ≤ length piece.old }
+    ensures sound { IfSome result (λ len. IsWellFormed Utf16 units.now) }
+    ensures fault { IfNone result (IsWellFormed Utf16 units.now → ⊥) }
+    ensures len { IfSome result (λ len. len ≡ min (length (utf8 (chars Utf16 units.now))) (2 ^ 64 - 1)) }
+    ensures text { IfSome result (λ len. len ≤ length text.old → take len text.new ≡ utf8 (chars Utf16 units.now)) }
+    ensures unchanged { IfNone result (text.new ≡ text.old) }
+    ensures behind { IfSome result (λ len. drop len text.new ≡ drop len text.old) }
 {
-    if units.len() <= FEW {
-        put_pieces(units, text, at, &mut [0; SMALL])
-    } else if units.len() <= MANY {
-        put_pieces(units, text, at, &mut [0; MIDDLE])
-    } else {
-        put_pieces(units, text, at, &mut [0; LARGE])
+    match encode_whole(units, piece) {
+        Some(len) => Some(put_bytes(text, 0, &piece[..len])),
+        None => None,
     }
 }
 
-// Puts the text of units with faults at the front, with U+FFFD for each unit that belongs to no character.
+// The same of any units: a few are encoded as they are checked, by a piece of the size that fits, and more are checked before.
+fn put_sound(units: &[u16], text: &mut [u8]) -> Option<usize>
+    ensures sound { IfSome result (λ len. IsWellFormed Utf16 units.now) }
+    ensures fault { IfNone result (IsWellFormed Utf16 units.now → ⊥) }
+    ensures len { IfSome result (λ len. len ≡ min (length (utf8 (chars Utf16 units.now))) (2 ^ 64 - 1)) }
+    ensures text { IfSome result (λ len. len ≤ length text.old → take len text.new ≡ utf8 (chars Utf16 units.now)) }
+    ensures unchanged { IfNone result (text.new ≡ text.old) }
+    ensures behind { IfSome result (λ len. drop len text.new ≡ drop len text.old) }
+{
+    if units.len() <= FEW {
+        return put_whole(units, text, &mut [0; SMALL]);
+    }
+    if units.len() <= MANY {
+        return put_whole(units, text, &mut [0; MIDDLE]);
+    }
+    match check(units) {
+        Ok(()) => Some(put_pieces(units, text, 0, &mut [0; LARGE])),
+        Err(_fault) => None,
+    }
+}
+
+// Puts the text of any units at the front, with U+FFFD for each unit that belongs to no character, by arrays for units and for bytes.
+fn put_fronts(units: &[u16], text: &mut [u8], spare: &mut [u16], piece: &mut [u8]) -> usize
+    requires spare { 2 ≤ length spare.old }
+    requires piece { 64 ≤ length piece.old }
+    ensures len { result ≡ min (length (utf8 (lossy (items Utf16 units.now)))) (2 ^ 64 - 1) }
+    ensures text { result ≤ length text.old → take result text.new ≡ utf8 (lossy (items Utf16 units.now)) }
+    ensures behind { drop result text.new ≡ drop result text.old }
+{
+    let mut at = 0;
+    let mut rest = units;
+    'fronts: while !rest.is_empty() {
+        let (front, behind) = lossy_front(rest, spare);
+        at = put_pieces(front, text, at, piece);
+        rest = behind;
+    }
+    at
+}
+
+// The same, by arrays of the size that fits.
 fn put_lossy(units: &[u16], text: &mut [u8]) -> usize
     ensures len { result ≡ min (length (utf8 (lossy (items Utf16 units.now)))) (2 ^ 64 - 1) }
     ensures text { result ≤ length text.old → take result text.new ≡ utf8 (lossy (items Utf16 units.now)) }
     ensures behind { drop result text.new ≡ drop result text.old }
 {
-    let mut spare = [0; MANY];
-    let mut at = 0;
-    let mut rest = units;
-    'fronts: while !rest.is_empty() {
-        let (front, behind) = lossy_front(rest, &mut spare);
-        at = put_utf8(front, text, at);
-        rest = behind;
+    if units.len() <= FEW {
+        put_fronts(units, text, &mut [0; FEW], &mut [0; SMALL])
+    } else {
+        put_fronts(units, text, &mut [0; MANY], &mut [0; LARGE])
     }
-    at
 }
 
 // Writes a text in UTF-16, as far as there is room, and answers how many units it has, or the greatest number where they are more.
@@ -141,9 +176,9 @@ pub extern "C" fn wide_utf16_to_utf8(units: &[u16], text: &mut [u8]) -> usize
     ensures unchanged { (IsWellFormed Utf16 units.now → ⊥) → text.new ≡ text.old }
     ensures behind { drop result text.new ≡ drop result text.old }
 {
-    match check(units) {
-        Ok(()) => put_utf8(units, text, 0),
-        Err(_fault) => usize::MAX,
+    match put_sound(units, text) {
+        Some(len) => len,
+        None => usize::MAX,
     }
 }
 
@@ -154,9 +189,9 @@ pub extern "C" fn wide_utf16_to_utf8_lossy(units: &[u16], text: &mut [u8]) -> us
     ensures text { result ≤ length text.old → take result text.new ≡ utf8 (lossy (items Utf16 units.now)) }
     ensures behind { drop result text.new ≡ drop result text.old }
 {
-    match check(units) {
-        Ok(()) => put_utf8(units, text, 0),
-        Err(_fault) => put_lossy(units, text),
+    match put_sound(units, text) {
+        Some(len) => len,
+        None => put_lossy(units, text),
     }
 }
 

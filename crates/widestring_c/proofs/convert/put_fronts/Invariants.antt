@@ -4,7 +4,7 @@ use Rattle.wide_unit.specs.Items.{items}
 use Rattle.wide_unit.specs.Lossy.{lossy}
 use Rattle.wide_unit.specs.Utf8.{utf8}
 use Rattle.widestring_c.proofs.Buffers.{Writing}
-use Rattle.widestring_c.proofs.convert.put_lossy.Given as goal
+use Rattle.widestring_c.proofs.convert.put_fronts.Given as goal
 
 abbrev pub invariant-fronts : goal.invariant-fronts
 invariant-fronts l = record {

@@ -7,7 +7,7 @@ use Rattle.wide_unit.specs.Lossy.{lossy}
 use Rattle.wide_unit.specs.Utf8.{utf8, utf8_bytes}
 use Rattle.wide_unit.specs.Laws.Items.{items-nil}
 use Rattle.widestring_c.proofs.Buffers.{Writing, nothing_written, one_more, behind_more, counted_front, written_all}
-use Rattle.widestring_c.proofs.convert.put_lossy.Goals as goal
+use Rattle.widestring_c.proofs.convert.put_fronts.Goals as goal
 
 none_left : (us : List ℕ) → length us ≡ 0 → utf8 (lossy (items Utf16 us)) ≡ []
 none_left [] none = ap (λ is. utf8 (lossy is)) (items-nil Utf16)
@@ -24,7 +24,7 @@ pub fronts-preserved : goal.fronts-preserved
 fronts-preserved c =
     let all = utf8 (lossy (items Utf16 c.args.units.now)) in
     let e = c.lossy_front.ensures in
-    let put = c.put_utf8-at.ensures in
+    let put = c.put_pieces-at.ensures in
     let front = c.lossy_front.result.0.now in
     let rest = c.lossy_front.result.1.now in
     let piece = utf8 (chars Utf16 front) in
@@ -34,9 +34,9 @@ fronts-preserved c =
     let parts : utf8 (lossy (items Utf16 c.fronts.rest.now)) ≡ piece ++ utf8 (lossy (items Utf16 rest)) = ap utf8 text ∙ flat_map-append utf8_bytes (chars Utf16 front) (lossy (items Utf16 rest)) in
     let before : Writing all c.fronts.at c.fronts.text (piece ++ utf8 (lossy (items Utf16 rest))) = subst (λ bs. Writing all c.fronts.at c.fronts.text bs) parts c.fronts.invariant.so_far in
     record {
-      so_far = one_more [] 0 all c.fronts.text c.put_utf8-at.new.text piece (utf8 (lossy (items Utf16 rest))) c.fronts.at c.put_utf8-at.result before put.place put.text put.room;
+      so_far = one_more [] 0 all c.fronts.text c.put_pieces-at.new.text piece (utf8 (lossy (items Utf16 rest))) c.fronts.at c.put_pieces-at.result before put.place put.text put.room;
       room = put.room ∙ c.fronts.invariant.room;
-      behind = behind_more c.args.text.now c.fronts.text c.put_utf8-at.new.text piece c.fronts.at c.put_utf8-at.result before.most put.place c.fronts.invariant.behind put.behind;
+      behind = behind_more c.args.text.now c.fronts.text c.put_pieces-at.new.text piece c.fronts.at c.put_pieces-at.result before.most put.place c.fronts.invariant.behind put.behind;
     }
 
 pub returns-clause-len : goal.returns-clause-len
