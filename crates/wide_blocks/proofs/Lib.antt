@@ -1,6 +1,7 @@
 pub mod EncodedFronts
 pub mod Lanes
 pub mod Rows
+pub mod ScalarFronts
 pub mod ScalarTexts
 pub mod Shuffles
 pub mod Stores

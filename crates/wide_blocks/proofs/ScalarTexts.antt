@@ -73,7 +73,7 @@ text-one_more cs s i {t} within so_far more =
 
 -- ---- below 0x1_0000
 
-encode-narrow : (cs : List ℕ) → ((k : ℕ) → k < length cs → get_or cs k 0 < 0x1_0000) → encode Utf16 cs ≡ cs
+pub encode-narrow : (cs : List ℕ) → ((k : ℕ) → k < length cs → get_or cs k 0 < 0x1_0000) → encode Utf16 cs ≡ cs
 encode-narrow [] narrow = refl
 encode-narrow (c ∷ cs) narrow = ap (λ us. us ++ encode Utf16 cs) (one_unit c (narrow 0 (omega arith))) ∙ ap (λ us. c ∷ us) (encode-narrow cs (λ k within. narrow (suc k) (omega arith)))
 

@@ -38,9 +38,9 @@ pub(crate) fn put_ascii(block: &[u16], out: &mut [u8], at: usize)
     u8x16::from_slice(&bytes).copy_to_slice(&mut out[at..at + 16]);
 }
 
-// Whether one of sixteen units is a surrogate.
+/// Whether one of sixteen units is a surrogate.
 #[inline(always)]
-fn has_surrogate(block: &[u16]) -> bool
+pub(crate) fn has_surrogate(block: &[u16]) -> bool
     requires { length block.now ≡ 16 }
     ensures { result ≡ false → (k : ℕ) → k < 16 → 0xd800 ≤ slice_index block.now k → 0xe000 ≤ slice_index block.now k }
 {

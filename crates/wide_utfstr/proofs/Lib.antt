@@ -6,6 +6,6 @@ pub mod Counts
 mod Trims
 mod Trimmed
 mod Same
-mod SameBytes
+mod SamePieces
 mod Escaped
 mod Displayed

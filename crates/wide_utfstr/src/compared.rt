@@ -1,26 +1,31 @@
-//! Well-formed text compared with text of other types, character by character.
+//! Well-formed text compared with text of other types.
 ghost use Rattle.std.specs.Prelude.{◌≡◌, ◌↔◌, IsTrue};
 ghost use Rattle.std.specs.Str.{chars as str_chars};
 ghost use Rattle.wide_utfstr.specs.View.{text_seen};
 
 use crate::view::{Utf16Str, Utf32Str, UtfStr};
-use wide_blocks::encode_front;
+use wide_blocks::{decode_front, encode_front};
 use wide_unit::Unit;
 
-// As many bytes as are compared in one step, at most.
+// As many bytes, or scalar values, as are compared in one step, at most.
 const PIECE: usize = 256;
 
-// Whether two texts have the same characters.
-fn same_text<C: Unit, D: Unit>(left: UtfStr<'_, C>, right: UtfStr<'_, D>) -> bool
-    ensures { IsTrue result ↔ (text_seen left.entry ≡ text_seen right.entry) }
+// Whether two texts have the same characters. The units of UTF-32 are those.
+fn same_text(narrow: Utf16Str<'_>, wide: Utf32Str<'_>) -> bool
+    ensures { IsTrue result ↔ (text_seen narrow.entry ≡ text_seen wide.entry) }
 {
-    let mut theirs = right.chars();
-    for c in left.chars() {
-        if theirs.next() != Some(c) {
+    let mut piece = [0; PIECE];
+    let mut units = narrow.as_slice();
+    let mut scalars = wide.as_slice();
+    'pieces: while !units.is_empty() {
+        let (read, written) = decode_front(units, &mut piece);
+        let Some(rest) = scalars.strip_prefix(&piece[..written]) else {
             return false;
-        }
+        };
+        (_, units) = units.split_at(read);
+        scalars = rest;
     }
-    theirs.next().is_none()
+    scalars.is_empty()
 }
 
 impl<C: Unit> UtfStr<'_, C> {
@@ -44,7 +49,7 @@ impl<C: Unit> UtfStr<'_, C> {
 }
 
 impl UtfStr<'_, u16> {
-    /// Whether the characters are those of the UTF-32 text. Both are read once, as far as they agree and one character more.
+    /// Whether the characters are those of the UTF-32 text. Both are read once, by blocks, as far as the blocks agree.
     pub fn eq_utf32(self, other: Utf32Str<'_>) -> bool
         ensures { IsTrue result ↔ (text_seen self.entry ≡ text_seen other.entry) }
     {
@@ -53,11 +58,11 @@ impl UtfStr<'_, u16> {
 }
 
 impl UtfStr<'_, u32> {
-    /// Whether the characters are those of the UTF-16 text. Both are read once, as far as they agree and one character more.
+    /// Whether the characters are those of the UTF-16 text. Both are read once, by blocks, as far as the blocks agree.
     pub fn eq_utf16(self, other: Utf16Str<'_>) -> bool
         ensures { IsTrue result ↔ (text_seen self.entry ≡ text_seen other.entry) }
     {
-        same_text(self, other)
+        same_text(other, self)
     }
 
     /// Whether the characters are those of the slice. Both are read once, as far as they agree and one character more.

@@ -5,7 +5,7 @@ use Rattle.wide_unit.specs.Utf8.{utf8}
 use Rattle.wide_unit.specs.Laws.Places.{scalars-chars}
 use Rattle.wide_blocks.proofs.Utf8Texts.{no_text}
 use Rattle.wide_utfstr.specs.View.{text_seen}
-use Rattle.wide_utfstr.proofs.SameBytes.{same_bytes, same_behind, no_longer_same, same_at_end}
+use Rattle.wide_utfstr.proofs.SamePieces.{same_bytes, same_behind, no_longer_same, same_at_end}
 use Rattle.wide_utfstr.proofs.view.UtfStr.eq_str.Goals as goal
 
 pub pieces-init : goal.pieces-init

@@ -1,6 +1,6 @@
--- Text compared with the bytes of a text, a piece after another.
-use Rattle.std.proofs.Common.{◌≡◌, ℕ, List, [], ◌∷◌, ◌++◌, Bool, true, false, nat_eq, IsTrue, ◌↔◌, refl, sym, ◌∙◌, ap, arith, length, take, drop}
-use Rattle.std.proofs.lemmas.List.{append_cancel_left, take-append-drop}
+-- Text compared with the bytes of a text, or with its scalar values, a piece after another.
+use Rattle.std.proofs.Common.{◌≡◌, ℕ, List, [], ◌∷◌, ◌++◌, Bool, true, false, nat_eq, IsTrue, ◌↔◌, refl, sym, ◌∙◌, ap, arith, length, map, take, drop, subst}
+use Rattle.std.proofs.lemmas.List.{append_cancel_left, map-id, take-append-drop}
 use Rattle.std.proofs.lemmas.Bool.Decides.{Decides-eqb}
 use Rattle.std.proofs.lemmas.Slice.Eq.{slice_eq-Decides}
 use Rattle.std.proofs.lemmas.Str.{chars-encodes, encodes-chars}
@@ -10,7 +10,11 @@ use Rattle.std.specs.List.{All}
 use Rattle.std.specs.Cmp.Lexicographic.{pointwise}
 use Rattle.std.specs.Str.{IsUtf8}
 use Rattle.std.specs.Str.{chars as str_chars}
+use Rattle.wide_unit.specs.EncodingForm.{Utf16, Utf32}
+use Rattle.wide_unit.specs.Items.{IsWellFormed, characters, chars}
 use Rattle.wide_unit.specs.Utf8.{utf8}
+use Rattle.wide_unit.specs.Laws.Items.{items-nil}
+use Rattle.wide_unit.specs.Laws.Utf32.{chars32-well_formed}
 use Rattle.wide_unit.specs.Laws.Utf8.{utf8-encode_utf8_all}
 use Rattle.wide_blocks.proofs.Utf8Texts.{all_scalars-of_All}
 
@@ -20,6 +24,19 @@ same_bytes cs bs scalars text = (
   λ e. ap utf8 e ∙ utf8-encode_utf8_all (str_chars bs) ∙ encodes-chars bs text,
   λ e. sym (chars-encodes cs (all_scalars-of_All cs scalars)) ∙ ap str_chars (sym (utf8-encode_utf8_all cs) ∙ e),
 )
+
+-- the characters of UTF-16 are those of UTF-32 where they are its units
+pub same_scalars : (us vs narrow wide : List ℕ) → narrow ≡ us → wide ≡ vs → IsWellFormed Utf32 (map (λ (u : ℕ). u) wide) → (chars Utf16 (map (λ (u : ℕ). u) us) ≡ chars Utf32 (map (λ (u : ℕ). u) vs)) ↔ (chars Utf16 narrow ≡ wide)
+same_scalars us vs narrow wide is_narrow is_wide well =
+    let left : chars Utf16 (map (λ (u : ℕ). u) us) ≡ chars Utf16 narrow = ap (chars Utf16) (map-id us ∙ sym is_narrow) in
+    let scalars : chars Utf32 wide ≡ wide = chars32-well_formed wide (subst (λ ws. IsWellFormed Utf32 ws) (map-id wide) well) in
+    let right : chars Utf32 (map (λ (u : ℕ). u) vs) ≡ wide = ap (chars Utf32) (map-id vs ∙ sym is_wide) ∙ scalars in
+    (λ e. sym left ∙ e ∙ right, λ e. left ∙ e ∙ sym right)
+
+-- no units are no characters
+pub no_chars : (us : List ℕ) → length us ≡ 0 → chars Utf16 us ≡ []
+no_chars [] none = ap characters (items-nil Utf16)
+no_chars (u ∷ us) none = absurd (omega arith)
 
 module _ {T : Type 0} (ours theirs : List ℕ) (so_far : T ↔ (ours ≡ theirs)) where
   -- behind a piece that both begin with

@@ -1,0 +1,34 @@
+use Rattle.std.proofs.Common.{◌≡◌, ◌∷◌, ◌++◌, [], ◌∙◌, ap, sym, arith, take}
+use Rattle.std.proofs.lemmas.List.{take_more_set}
+use Rattle.wide_unit.specs.EncodingForm.{Utf16}
+use Rattle.wide_unit.specs.Items.{chars, items}
+use Rattle.wide_unit.specs.Unit.{told_item}
+use Rattle.wide_unit.specs.Laws.WellFormed.{no_first_fault}
+use Rattle.wide_blocks.proofs.ScalarFronts.{front_chars-one, front_chars-then, item-first, left-behind}
+use Rattle.wide_blocks.proofs.scalars.decode_ones.Goals as goal
+
+pub unreachable-requires : goal.unreachable-requires
+unreachable-requires c =
+    let us = c.ones.rest.now in
+    let rest = c.in-Some.others.now in
+    let first : items Utf16 us ≡ told_item c.in-Some.item ∷ items Utf16 rest = item-first us rest _ c.in-Some.ensures.some in
+    no_first_fault Utf16 us rest c.ones.invariant.well_formed c.in_default-item.field-0 (first ∙ ap (λ r. told_item r ∷ items Utf16 rest) c.in_default-item.is)
+
+pub ones-preserved : goal.ones-preserved
+ones-preserved c =
+    let us = c.ones.rest.now in
+    let rest = c.in-Some.others.now in
+    let first : items Utf16 us ≡ told_item c.in-Some.item ∷ items Utf16 rest = item-first us rest _ c.in-Some.ensures.some in
+    let front = front_chars-one us rest c.in-Ok.c c.ones.invariant.well_formed (first ∙ ap (λ r. told_item r ∷ items Utf16 rest) c.in-Ok.is) in
+    let done = take c.ones.written c.ones.scalars in
+    let before = take c.args.at c.args.scalars.now in
+    record {
+      within = omega (arith, c.in-Some.ensures.shorter, c.ones.invariant.within);
+      from = omega (arith, c.ones.invariant.from);
+      few = omega (arith, c.in-Some.ensures.shorter, c.ones.invariant.few);
+      room = omega (arith, c.ones-test.true);
+      behind = left-behind c.args.units.now us rest _ c.ones.invariant.within c.ones.invariant.behind c.in-Some.ensures.rest c.in-Some.ensures.length;
+      text = front_chars-then c.args.units.now us rest before done (c.in-Ok.c ∷ []) c.ones.invariant.text front
+          ∙ ap (λ cs. cs ++ chars Utf16 rest) (sym (take_more_set c.ones.scalars c.ones.written c.in-Ok.c (omega (arith, c.ones-test.true, c.ones.invariant.from, c.ones.auto.scalars, c.requires.room))));
+      well_formed = front.well_formed;
+    }

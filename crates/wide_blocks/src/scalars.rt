@@ -1,0 +1,77 @@
+//! The scalar values of fronts of well-formed 16-bit units, sixteen units in one step.
+
+ghost use Rattle.std.specs.Prelude.{◌≡◌, ◌++◌, ◌+◌, ◌<◌, ◌≤◌, drop, length, take};
+ghost use Rattle.wide_unit.specs.EncodingForm.{Utf16};
+ghost use Rattle.wide_unit.specs.Items.{IsWellFormed, chars};
+
+use crate::blocks::has_surrogate;
+use std::simd::prelude::*;
+use wide_unit::split_first;
+
+// Writes sixteen units, in 32 bits each.
+#[inline(always)]
+fn widen(block: &[u16], scalars: &mut [u32], at: usize)
+    requires whole { length block.now ≡ 16 }
+    requires room { at + 16 ≤ length scalars.old }
+    ensures { take (at + 16) scalars.new ≡ take at scalars.old ++ block.now }
+{
+    // An own array can't overlap the block, so that this is compiled to vectors.
+    let mut wide = [0u32; 16];
+    for k in 0..16 {
+        wide[k] = u32::from(block[k]);
+    }
+    u32x16::from_slice(&wide).copy_to_slice(&mut scalars[at..at + 16]);
+}
+
+// Writes up to sixteen characters behind the first `at` scalar values. Answers how many units they are and the place behind them.
+fn decode_ones(units: &[u16], scalars: &mut [u32], at: usize) -> (usize, usize)
+    requires well_formed { IsWellFormed Utf16 units.now }
+    requires room { at + 16 ≤ length scalars.old }
+    ensures read { result.0 ≤ length units.now }
+    ensures some { 0 < length units.now → 0 < result.0 }
+    ensures few { result.1 ≤ at + result.0 }
+    ensures written { result.1 ≤ length scalars.new }
+    ensures text { take at scalars.old ++ chars Utf16 units.now ≡ take result.1 scalars.new ++ chars Utf16 (drop result.0 units.now) }
+    ensures rest { IsWellFormed Utf16 (drop result.0 units.now) }
+{
+    let mut rest = units;
+    let mut written = at;
+    'ones: while written - at < 16 {
+        let Some((item, others)) = split_first(rest) else {
+            break 'ones;
+        };
+        let Ok(c) = item else { unreachable!() };
+        scalars[written] = c as u32;
+        written += 1;
+        rest = others;
+    }
+    (units.len() - rest.len(), written)
+}
+
+/// Writes the scalar values of a front of well-formed 16-bit units (Unicode Standard, D91: UTF-16) to the front of `scalars`, and
+/// answers how many units it read and how many scalar values it wrote: where any unit is there, at least one is read. Values behind
+/// those may be overwritten.
+pub fn decode_front(units: &[u16], scalars: &mut [u32]) -> (usize, usize)
+    requires well_formed { IsWellFormed Utf16 units.now }
+    requires room { 16 ≤ length scalars.old }
+    ensures read { result.0 ≤ length units.now }
+    ensures some { 0 < length units.now → 0 < result.0 }
+    ensures written { result.1 ≤ length scalars.new }
+    ensures text { chars Utf16 units.now ≡ take result.1 scalars.new ++ chars Utf16 (drop result.0 units.now) }
+    ensures rest { IsWellFormed Utf16 (drop result.0 units.now) }
+{
+    let mut read = 0;
+    let mut written = 0;
+    'fronts: while read < units.len() && scalars.len() - written >= 16 {
+        if units.len() - read >= 16 && !has_surrogate(&units[read..read + 16]) {
+            widen(&units[read..read + 16], scalars, written);
+            read += 16;
+            written += 16;
+        } else {
+            let (passed, behind) = decode_ones(&units[read..], scalars, written);
+            read += passed;
+            written = behind;
+        }
+    }
+    (read, written)
+}
