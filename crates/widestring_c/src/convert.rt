@@ -140,14 +140,26 @@ fn put_fronts(units: &[u16], text: &mut [u8], spare: &mut [u16], piece: &mut [u8
     at
 }
 
-// The same, by arrays of the size that fits.
+// The same of a few units, which are mended at once.
+fn put_mended(units: &[u16], text: &mut [u8]) -> usize
+    requires { length units.now ≤ 32 }
+    ensures len { result ≡ min (length (utf8 (lossy (items Utf16 units.now)))) (2 ^ 64 - 1) }
+    ensures text { result ≤ length text.old → take result text.new ≡ utf8 (lossy (items Utf16 units.now)) }
+    ensures behind { drop result text.new ≡ drop result text.old }
+{
+    let mut mended = [0; FEW];
+    u16::mend(units, &mut mended);
+    put_pieces(&mended[..units.len()], text, 0, &mut [0; SMALL])
+}
+
+// The same of any units, by arrays of the size that fits.
 fn put_lossy(units: &[u16], text: &mut [u8]) -> usize
     ensures len { result ≡ min (length (utf8 (lossy (items Utf16 units.now)))) (2 ^ 64 - 1) }
     ensures text { result ≤ length text.old → take result text.new ≡ utf8 (lossy (items Utf16 units.now)) }
     ensures behind { drop result text.new ≡ drop result text.old }
 {
     if units.len() <= FEW {
-        put_fronts(units, text, &mut [0; FEW], &mut [0; SMALL])
+        put_mended(units, text)
     } else {
         put_fronts(units, text, &mut [0; MANY], &mut [0; LARGE])
     }
