@@ -9,3 +9,6 @@ pub mod UnitEncodings
 pub mod Utf8Lengths
 pub mod Utf8Texts
 pub mod LossyFronts
+pub mod FirstBits
+pub mod FirstCharacters
+pub mod FrontUnits

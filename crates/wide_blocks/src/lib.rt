@@ -9,6 +9,7 @@ mod narrow;
 mod steps;
 mod strings;
 mod text;
+mod units;
 mod wide;
 
 pub use blocks::encode;
@@ -17,3 +18,4 @@ pub use lossy::{lossy_front, sound_len};
 pub use steps::{Step, put_unit};
 pub use strings::{push_utf8, utf8_string};
 pub use text::{encode_front, encode_whole};
+pub use units::decode_utf8_front;
