@@ -1,23 +1,19 @@
 -- Text cut behind a front of its characters: the units of the front, and those of the rest.
-use Rattle.std.proofs.Common.{◌≡◌, ℕ, zero, suc, ◌+◌, ◌-◌, ◌<◌, ◌≤◌, List, [], ◌∷◌, ◌++◌, length, get_or, take, drop, refl, sym, ap, ◌∙◌, subst, arith, append_assoc, get_or-take, length-drop, map}
+use Rattle.std.proofs.Common.{◌≡◌, ℕ, zero, suc, ◌+◌, ◌-◌, ◌*◌, ◌<◌, ◌≤◌, List, [], ◌∷◌, ◌++◌, length, get_or, take, drop, refl, sym, ap, ◌∙◌, subst, arith, append_assoc, length-drop}
 use Rattle.std.specs.Str.{IsUtf8}
 use Rattle.std.specs.Str.{chars as str_chars}
 use Rattle.std.specs.Str.Pattern.{StartsWithChar}
-use Rattle.std.proofs.lemmas.List.{drop-drop, length-map, take-map, take-take, take_all}
+use Rattle.std.proofs.lemmas.List.{drop-drop, take_all}
 use Rattle.std.proofs.lemmas.Str.{chars_past_char}
-use Rattle.wide_blocks.proofs.FirstCharacters.{in_one}
-use Rattle.wide_blocks.proofs.Stores.{kept-front}
-use Rattle.wide_unit.specs.EncodingForm.{EncodingForm, Utf16, Utf32, code_units, encode}
-use Rattle.wide_unit.specs.Laws.Forms.{one_unit}
+use Rattle.wide_blocks.proofs.FirstCharacters.{in_one, in_two, wide}
+use Rattle.wide_blocks.specs.Decoded.{LeadsTwo, code_of_two, codes_of_two}
+use Rattle.wide_blocks.proofs.StoredUnits.{one_unit-plain}
+use Rattle.wide_unit.specs.EncodingForm.{EncodingForm, code_units, encode}
 
 -- the units of the text are those of a front of it and of the rest
 pub record IsFrontUnits (form : EncodingForm) (bs : List ℕ) (place : ℕ) (us : List ℕ) : Type 0 where
   pub units : encode form (str_chars bs) ≡ us ++ encode form (str_chars (drop place bs))
   pub rest : IsUtf8 (drop place bs)
-
-pub one_unit-plain : (form : EncodingForm) (c : ℕ) → c < 0x1_0000 → code_units form c ≡ c ∷ []
-one_unit-plain Utf16 c below = one_unit c below
-one_unit-plain Utf32 c below = refl
 
 module _ (form : EncodingForm) where
   pub front_units-none : (bs : List ℕ) → IsUtf8 bs → IsFrontUnits form bs 0 []
@@ -50,15 +46,32 @@ module _ (form : EncodingForm) where
       let behind : take (length bs - n) (drop n bs) ≡ drop n bs = take_all (length bs - n) (drop n bs) (omega (arith, length-drop n bs)) in
       front_units-then bs us (code_units form c) ws n m front (front_units-char (drop n bs) c m front.rest (subst (λ ds. StartsWithChar ds c m) behind first)) more
 
-  -- or some ASCII characters at the front of a block, of which all was stored
-  pub front_units-ascii_more : {X : Type 0} (number : X → ℕ) (bs : List ℕ) (xs zs : List X) (n at m count full : ℕ) → IsFrontUnits form bs n (map number (take at xs)) → at ≤ length xs → m ≤ count → count ≡ full → n + count ≤ length bs
-      → ((k : ℕ) → k < m → get_or (take count (drop n bs)) k 0 < 0x80) → map number (take (at + full) zs) ≡ map number (take at xs) ++ take count (drop n bs) → IsFrontUnits form bs (n + m) (map number (take (at + m) zs))
-  front_units-ascii_more number bs xs zs n at m count full front room short same within ascii stored =
-      let ours = map number xs in
-      let theirs = map number zs in
-      let all : take (at + full) theirs ≡ take at ours ++ take count (drop n bs) = take-map number (at + full) zs ∙ stored ∙ ap (λ us. us ++ take count (drop n bs)) (sym (take-map number at xs)) in
-      let kept : take (at + m) theirs ≡ take at ours ++ take m (drop n bs) =
-      kept-front ours theirs (take count (drop n bs)) at full m (omega (arith, length-map xs number)) (omega arith) all ∙ ap (λ us. take at ours ++ us) (take-take m count (drop n bs) short) in
-      let back = front_units-ascii m (drop n bs) front.rest (omega (arith, length-drop n bs)) (λ k before. subst (λ b. b < 0x80) (get_or-take count (drop n bs) k 0 (omega arith)) (ascii k before)) in
-      front_units-then bs (map number (take at xs)) (take m (drop n bs)) (map number (take (at + m) zs)) n m front back
-      (sym (take-map number (at + m) zs) ∙ kept ∙ ap (λ us. us ++ take m (drop n bs)) (take-map number at xs))
+  -- characters of two bytes each
+  pub front_units-twos : (m n : ℕ) (bs : List ℕ) → IsUtf8 bs → n ≡ 2 * m → ((k : ℕ) → k < m → LeadsTwo (get_or bs (2 * k) 0)) → IsFrontUnits form bs n (take m (codes_of_two bs))
+  front_units-twos zero n bs text long leading = subst (λ p. IsFrontUnits form bs p []) {x = 0} {y = n} (omega arith) (front_units-none bs text)
+  front_units-twos (suc m) n [] text long leading = (let lead = leading 0 (omega arith) in absurd (omega (arith, lead.0)))
+  front_units-twos (suc m) n (a ∷ []) text long leading = (let lead = leading 0 (omega arith) in absurd (omega (arith, (wide (a ∷ []) text (omega arith)).0 (omega (arith, lead.0)))))
+  front_units-twos (suc m) n (a ∷ b ∷ bs) text long leading =
+      let lead = leading 0 (omega arith) in
+      let v = code_of_two a b in
+      let first : IsFrontUnits form (a ∷ b ∷ bs) 2 (code_units form v) = front_units-char (a ∷ b ∷ bs) v 2 text (in_two (a ∷ b ∷ bs) text (omega arith) (omega (arith, lead.0)) lead.1).1 in
+      let more = front_units-twos m (2 * m) bs first.rest refl (λ k before. (let next : 2 * suc k ≡ suc (suc (2 * k)) = omega arith in subst (λ j. LeadsTwo (get_or (a ∷ b ∷ bs) j 0)) next (leading (suc k) (omega arith)))) in
+      let joined = ap (λ us. us ++ take m (codes_of_two bs)) (sym (one_unit-plain form v (omega arith))) in
+      subst (λ p. IsFrontUnits form (a ∷ b ∷ bs) p (v ∷ take m (codes_of_two bs))) {x = 2 + 2 * m} {y = n} (omega arith) (front_units-then (a ∷ b ∷ bs) (code_units form v) (take m (codes_of_two bs)) (v ∷ take m (codes_of_two bs)) 2 (2 * m) first more joined)
+
+  -- what the units of a front make of the units before
+  pub joined : (bs before after us : List ℕ) (n : ℕ) → after ≡ before ++ us → IsFrontUnits form bs n us → before ++ encode form (str_chars bs) ≡ after ++ encode form (str_chars (drop n bs))
+  joined bs before after us n more front =
+      let rest = encode form (str_chars (drop n bs)) in
+      ap (λ vs. before ++ vs) front.units ∙ sym (append_assoc before us rest) ∙ ap (λ vs. vs ++ rest) (sym more)
+
+  -- behind a front, some more
+  pub front_units-more : (bs us ws : List ℕ) (n m : ℕ) → IsFrontUnits form bs n us → IsUtf8 (drop m (take (length bs - n) (drop n bs))) → us ++ encode form (str_chars (take (length bs - n) (drop n bs))) ≡ ws ++ encode form (str_chars (drop m (take (length bs - n) (drop n bs))))
+      → IsFrontUnits form bs (n + m) ws
+  front_units-more bs us ws n m front text more =
+      let behind : take (length bs - n) (drop n bs) ≡ drop n bs = take_all (length bs - n) (drop n bs) (omega (arith, length-drop n bs)) in
+      let rest : drop m (take (length bs - n) (drop n bs)) ≡ drop (n + m) bs = ap (drop m) behind ∙ drop-drop m n bs in
+      record {
+        units = front.units ∙ ap (λ ds. us ++ encode form (str_chars ds)) (sym behind) ∙ more ∙ ap (λ ds. ws ++ encode form (str_chars ds)) rest;
+        rest = subst (λ ds. IsUtf8 ds) rest text;
+      }

@@ -3,6 +3,7 @@ pub mod Lanes
 pub mod Rows
 pub mod ScalarTexts
 pub mod Shuffles
+pub mod StoredUnits
 pub mod Stores
 pub mod Tables
 pub mod UnitEncodings

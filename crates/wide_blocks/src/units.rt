@@ -1,10 +1,11 @@
 //! The units of text, a front after another.
 
-ghost use Rattle.std.specs.Prelude.{◌≡◌, ◌++◌, ◌+◌, ◌<◌, ◌≤◌, ℕ, length, map, slice_index, take, drop};
+ghost use Rattle.std.specs.Prelude.{◌≡◌, ◌++◌, ◌+◌, ◌*◌, ◌<◌, ◌≤◌, ℕ, length, map, bit_and, slice_index, take, drop};
 ghost use Rattle.std.specs.Char.{IsScalar};
 ghost use Rattle.std.specs.Str.{IsUtf8, chars as str_chars};
 ghost use Rattle.std.specs.Str.Pattern.{StartsWithChar};
 ghost use Rattle.wide_unit.specs.EncodingForm.{code_units, encode};
+ghost use Rattle.wide_blocks.specs.Decoded.{LeadsTwo, code_of_two, codes_of_two};
 
 use std::simd::prelude::*;
 use wide_unit::Unit;
@@ -48,6 +49,7 @@ fn first_char(text: &[u8]) -> (char, usize)
 fn put_char<C: Unit>(units: &mut [C], at: usize, c: char) -> usize
     requires { at + 2 ≤ length units.old }
     ensures units { map C.number (take result units.new) ≡ map C.number (take at units.old) ++ code_units C.form c }
+    ensures low { at ≤ result }
     ensures high { result ≤ at + 2 }
 {
     let (first, second) = C::encode_char(c);
@@ -61,30 +63,29 @@ fn put_char<C: Unit>(units: &mut [C], at: usize, c: char) -> usize
     }
 }
 
-// Stores sixteen bytes as characters.
+// Stores the sixteen bytes that text begins with, each as a character.
 #[inline(always)]
-fn put_bytes<C: Unit>(block: &[u8], units: &mut [C], at: usize)
-    requires whole { length block.now ≡ 16 }
+fn put_bytes<C: Unit>(text: &[u8], units: &mut [C], at: usize)
+    requires whole { 16 ≤ length text.now }
     requires room { at + 16 ≤ length units.old }
-    ensures { map C.number (take (at + 16) units.new) ≡ map C.number (take at units.old) ++ block.now }
+    ensures { map C.number (take (at + 16) units.new) ≡ map C.number (take at units.old) ++ take 16 text.now }
 {
     // An own array can't overlap the units, so that this is compiled to vectors.
-    let bytes = u8x16::from_slice(block).to_array();
+    let bytes = u8x16::from_slice(text).to_array();
     for k in 0..16 {
         let (unit, _) = C::encode_char(char::from(bytes[k]));
         units[at + k] = unit;
     }
 }
 
-// How many of sixteen bytes stand before the first that is not ASCII.
+// How many of the sixteen bytes that text begins with stand before the first that is not ASCII.
 #[inline(always)]
-fn ascii_len(block: &[u8]) -> usize
-    requires { length block.now ≡ 16 }
+fn ascii_len(text: &[u8]) -> usize
+    requires { 16 ≤ length text.now }
     ensures within { result ≤ 16 }
-    ensures ascii { (k : ℕ) → k < result → slice_index block.now k < 0x80 }
-    ensures some { slice_index block.now 0 < 0x80 → 0 < result }
+    ensures ascii { (k : ℕ) → k < result → slice_index text.now k < 0x80 }
 {
-    let bits = u8x16::from_slice(block)
+    let bits = u8x16::from_slice(text)
         .simd_ge(u8x16::splat(0x80))
         .to_bitmask();
     if bits == 0 {
@@ -92,6 +93,90 @@ fn ascii_len(block: &[u8]) -> usize
     } else {
         bits.trailing_zeros() as usize
     }
+}
+
+// How many of those sixteen stand before the first whose masked bits differ from those that are wanted.
+#[inline(always)]
+fn alike_len(text: &[u8], masks: &[u8; 16], wanted: &[u8; 16]) -> usize
+    requires { 16 ≤ length text.now }
+    ensures within { result ≤ 16 }
+    ensures alike { (k : ℕ) → k < result → bit_and (slice_index text.now k) (slice_index masks.now k) ≡ slice_index wanted.now k }
+{
+    let masked = u8x16::from_slice(text) & u8x16::from_array(*masks);
+    let bits = masked.simd_ne(u8x16::from_array(*wanted)).to_bitmask();
+    if bits == 0 {
+        16
+    } else {
+        bits.trailing_zeros() as usize
+    }
+}
+
+// The bits by which a leading byte of two is known, at each second place (Unicode Standard, Table 3-6).
+const TWO_MASKS: [u8; 16] = [
+    0xe0, 0, 0xe0, 0, 0xe0, 0, 0xe0, 0, 0xe0, 0, 0xe0, 0, 0xe0, 0, 0xe0, 0,
+];
+
+const TWO_BITS: [u8; 16] = [
+    0xc0, 0, 0xc0, 0, 0xc0, 0, 0xc0, 0, 0xc0, 0, 0xc0, 0, 0xc0, 0, 0xc0, 0,
+];
+
+// How many characters of two bytes stand side by side at the front of text, up to eight.
+#[inline(always)]
+fn twos_len(text: &[u8]) -> usize
+    requires { 16 ≤ length text.now }
+    ensures within { result ≤ 8 }
+    ensures leading { (k : ℕ) → k < result → LeadsTwo (slice_index text.now (2 * k)) }
+{
+    (alike_len(text, &TWO_MASKS, &TWO_BITS) + 1) / 2
+}
+
+#[inline(always)]
+fn char_of_two(first: u8, second: u8) -> char
+    ensures { result ≡ code_of_two first second }
+{
+    char_of(u32::from(first) % 0x20 * 0x40 + u32::from(second) % 0x40)
+}
+
+// Stores eight characters of two bytes.
+#[inline(always)]
+fn put_twos<C: Unit>(text: &[u8], units: &mut [C], at: usize)
+    requires whole { 16 ≤ length text.now }
+    requires room { at + 8 ≤ length units.old }
+    ensures { map C.number (take (at + 8) units.new) ≡ map C.number (take at units.old) ++ take 8 (codes_of_two text.now) }
+{
+    let bytes = u8x16::from_slice(text).to_array();
+    for k in 0..8 {
+        let (unit, _) = C::encode_char(char_of_two(bytes[2 * k], bytes[2 * k + 1]));
+        units[at + k] = unit;
+    }
+}
+
+// Writes the units of the characters that text begins with, of one kind, and answers how many bytes they have and how many units.
+#[inline(always)]
+fn put_block<C: Unit>(text: &[u8], units: &mut [C], at: usize) -> (usize, usize)
+    requires text { IsUtf8 text.now }
+    requires whole { 16 ≤ length text.now }
+    requires room { at + 16 ≤ length units.old }
+    ensures read { result.0 ≤ length text.now }
+    ensures some { 0 < result.0 }
+    ensures few { result.1 ≤ 2 * result.0 }
+    ensures high { result.1 ≤ 16 }
+    ensures units { map C.number (take at units.old) ++ encode C.form (str_chars text.now) ≡ map C.number (take (at + result.1) units.new) ++ encode C.form (str_chars (drop result.0 text.now)) }
+    ensures rest { IsUtf8 (drop result.0 text.now) }
+{
+    let ascii = ascii_len(text);
+    if ascii > 0 {
+        put_bytes(text, units, at);
+        return (ascii, ascii);
+    }
+    let twos = twos_len(text);
+    if twos > 0 {
+        put_twos(text, units, at);
+        return (2 * twos, twos);
+    }
+    let (c, len) = first_char(text);
+    let behind = put_char(units, at, c);
+    (len, behind - at)
 }
 
 /// Writes the units of a front of text in UTF-8 (Unicode Standard, D92) in the encoding form of `C` (D90, D91) to the front of `units`,
@@ -109,17 +194,9 @@ pub fn decode_utf8_front<C: Unit>(text: &[u8], units: &mut [C]) -> (usize, usize
     let mut read = 0;
     let mut written = 0;
     'sixteens: while text.len() - read >= 16 && units.len() - written >= 16 {
-        if text[read] < 0x80 {
-            let block = &text[read..read + 16];
-            put_bytes(block, units, written);
-            let count = ascii_len(block);
-            read += count;
-            written += count;
-        } else {
-            let (c, len) = first_char(&text[read..]);
-            written = put_char(units, written, c);
-            read += len;
-        }
+        let (bytes, more) = put_block(&text[read..], units, written);
+        read += bytes;
+        written += more;
     }
     'ones: while read < text.len() && units.len() - written >= 2 {
         let (c, len) = first_char(&text[read..]);
