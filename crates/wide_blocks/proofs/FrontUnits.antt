@@ -1,12 +1,13 @@
 -- Text cut behind a front of its characters: the units of the front, and those of the rest.
 use Rattle.std.proofs.Common.{◌≡◌, ℕ, zero, suc, ◌+◌, ◌-◌, ◌*◌, ◌<◌, ◌≤◌, List, [], ◌∷◌, ◌++◌, length, get_or, take, drop, refl, sym, ap, ◌∙◌, subst, arith, append_assoc, length-drop}
+use Rattle.std.specs.Char.{IsScalar}
 use Rattle.std.specs.Str.{IsUtf8}
 use Rattle.std.specs.Str.{chars as str_chars}
 use Rattle.std.specs.Str.Pattern.{StartsWithChar}
 use Rattle.std.proofs.lemmas.List.{drop-drop, take_all}
 use Rattle.std.proofs.lemmas.Str.{chars_past_char}
-use Rattle.wide_blocks.proofs.FirstCharacters.{in_one, in_two, wide}
-use Rattle.wide_blocks.specs.Decoded.{LeadsTwo, code_of_two, codes_of_two}
+use Rattle.wide_blocks.proofs.FirstCharacters.{in_one, in_two, in_three, wide}
+use Rattle.wide_blocks.specs.Decoded.{LeadsThree, LeadsTwo, code_of_three, code_of_two, codes_of_three, codes_of_two}
 use Rattle.wide_blocks.proofs.StoredUnits.{one_unit-plain}
 use Rattle.wide_unit.specs.EncodingForm.{EncodingForm, code_units, encode}
 
@@ -58,6 +59,28 @@ module _ (form : EncodingForm) where
       let more = front_units-twos m (2 * m) bs first.rest refl (λ k before. (let next : 2 * suc k ≡ suc (suc (2 * k)) = omega arith in subst (λ j. LeadsTwo (get_or (a ∷ b ∷ bs) j 0)) next (leading (suc k) (omega arith)))) in
       let joined = ap (λ us. us ++ take m (codes_of_two bs)) (sym (one_unit-plain form v (omega arith))) in
       subst (λ p. IsFrontUnits form (a ∷ b ∷ bs) p (v ∷ take m (codes_of_two bs))) {x = 2 + 2 * m} {y = n} (omega arith) (front_units-then (a ∷ b ∷ bs) (code_units form v) (take m (codes_of_two bs)) (v ∷ take m (codes_of_two bs)) 2 (2 * m) first more joined)
+
+  -- characters of three bytes each
+  pub front_units-threes : (m n : ℕ) (bs : List ℕ) → IsUtf8 bs → n ≡ 3 * m → ((k : ℕ) → k < m → LeadsThree (get_or bs (3 * k) 0)) → IsFrontUnits form bs n (take m (codes_of_three bs)) × ((k : ℕ) → k < m → IsScalar (get_or (codes_of_three bs) k 0))
+  front_units-threes zero n bs text long leading = (subst (λ p. IsFrontUnits form bs p []) {x = 0} {y = n} (omega arith) (front_units-none bs text), λ k before. absurd (omega arith))
+  front_units-threes (suc m) n [] text long leading = (let lead = leading 0 (omega arith) in absurd (omega (arith, lead.0)))
+  front_units-threes (suc m) n (a ∷ []) text long leading = (let lead = leading 0 (omega arith) in absurd (omega (arith, (wide (a ∷ []) text (omega arith)).1 lead.0)))
+  front_units-threes (suc m) n (a ∷ b ∷ []) text long leading = (let lead = leading 0 (omega arith) in absurd (omega (arith, (wide (a ∷ b ∷ []) text (omega arith)).1 lead.0)))
+  front_units-threes (suc m) n (a ∷ b ∷ c ∷ bs) text long leading =
+      let all = a ∷ b ∷ c ∷ bs in
+      let lead = leading 0 (omega arith) in
+      let v = code_of_three a b c in
+      let read = in_three all text (omega arith) lead.0 lead.1 in
+      let first : IsFrontUnits form all 3 (code_units form v) = front_units-char all v 3 text read.1 in
+      let more = front_units-threes m (3 * m) bs first.rest refl (λ k before. (let next : 3 * suc k ≡ suc (suc (suc (3 * k))) = omega arith in subst (λ j. LeadsThree (get_or all j 0)) next (leading (suc k) (omega arith)))) in
+      let joined = ap (λ us. us ++ take m (codes_of_three bs)) (sym (one_unit-plain form v (omega arith))) in (
+        subst (λ p. IsFrontUnits form all p (v ∷ take m (codes_of_three bs))) {x = 3 + 3 * m} {y = n} (omega arith) (front_units-then all (code_units form v) (take m (codes_of_three bs)) (v ∷ take m (codes_of_three bs)) 3 (3 * m) first more.0 joined),
+        scalars v (codes_of_three bs) m read.0 more.1,
+      )
+    where
+      scalars : (v : ℕ) (vs : List ℕ) (m : ℕ) → IsScalar v → ((k : ℕ) → k < m → IsScalar (get_or vs k 0)) → (k : ℕ) → k < suc m → IsScalar (get_or (v ∷ vs) k 0)
+      scalars v vs m first more zero before = first
+      scalars v vs m first more (suc k) before = more k (omega arith)
 
   -- what the units of a front make of the units before
   pub joined : (bs before after us : List ℕ) (n : ℕ) → after ≡ before ++ us → IsFrontUnits form bs n us → before ++ encode form (str_chars bs) ≡ after ++ encode form (str_chars (drop n bs))

@@ -1,10 +1,10 @@
 -- Units that are stored one behind another, of any type.
-use Rattle.std.proofs.Common.{◌≡◌, ℕ, suc, zero, ◌+◌, ◌*◌, ◌<◌, ◌≤◌, List, [], ◌∷◌, ◌++◌, Option, Some, None, length, get_or, map, set, take, refl, sym, ap, ◌∙◌, arith, append_assoc}
+use Rattle.std.proofs.Common.{◌≡◌, ℕ, suc, zero, ◌+◌, ◌*◌, ◌<◌, ◌≤◌, List, [], ◌∷◌, ◌++◌, Option, Some, None, length, get_or, map, set, take, refl, sym, ap, ◌∙◌, arith, append_assoc, get_or-take}
 use Rattle.std.proofs.lemmas.List.{length-map, map-append, take-map, take-take, take_more_set}
 use Rattle.wide_unit.specs.EncodingForm.{EncodingForm, Utf16, Utf32, code_units}
 use Rattle.wide_unit.specs.Unit.{numbers_of}
 use Rattle.wide_unit.specs.Laws.Forms.{one_unit}
-use Rattle.wide_blocks.specs.Decoded.{code_of_two, codes_of_two}
+use Rattle.wide_blocks.specs.Decoded.{code_of_three, code_of_two, codes_of_three, codes_of_two}
 use Rattle.wide_blocks.proofs.Stores.{kept-front}
 use Rattle.wide_blocks.proofs.UnitEncodings.{take-one}
 
@@ -51,3 +51,38 @@ length-codes_of_two bs zero within = omega arith
 length-codes_of_two [] (suc k) within = absurd (omega arith)
 length-codes_of_two (a ∷ []) (suc k) within = absurd (omega arith)
 length-codes_of_two (a ∷ b ∷ bs) (suc k) within = omega (arith, length-codes_of_two bs k (omega arith))
+
+-- ---- and three by three
+
+pub codes-three : (bs : List ℕ) (k : ℕ) → 3 * k + 2 < length bs → get_or (codes_of_three bs) k 0 ≡ code_of_three (get_or bs (3 * k) 0) (get_or bs (3 * k + 1) 0) (get_or bs (3 * k + 2) 0)
+codes-three [] k within = absurd (omega arith)
+codes-three (a ∷ []) k within = absurd (omega arith)
+codes-three (a ∷ b ∷ []) k within = absurd (omega arith)
+codes-three (a ∷ b ∷ c ∷ bs) zero within = refl
+codes-three (a ∷ b ∷ c ∷ bs) (suc k) within =
+    let all = a ∷ b ∷ c ∷ bs in
+    let first : suc (suc (suc (3 * k))) ≡ 3 * suc k = omega arith in
+    let second : suc (suc (suc (3 * k + 1))) ≡ 3 * suc k + 1 = omega arith in
+    let third : suc (suc (suc (3 * k + 2))) ≡ 3 * suc k + 2 = omega arith in
+    codes-three bs k (omega arith) ∙ ap (λ n. code_of_three (get_or all n 0) (get_or bs (3 * k + 1) 0) (get_or bs (3 * k + 2) 0)) first ∙ ap (λ n. code_of_three (get_or all (3 * suc k) 0) (get_or all n 0) (get_or bs (3 * k + 2) 0)) second
+    ∙ ap (λ n. code_of_three (get_or all (3 * suc k) 0) (get_or all (3 * suc k + 1) 0) (get_or all n 0)) third
+
+pub length-codes_of_three : (bs : List ℕ) (k : ℕ) → 3 * k ≤ length bs → k ≤ length (codes_of_three bs)
+length-codes_of_three bs zero within = omega arith
+length-codes_of_three [] (suc k) within = absurd (omega arith)
+length-codes_of_three (a ∷ []) (suc k) within = absurd (omega arith)
+length-codes_of_three (a ∷ b ∷ []) (suc k) within = absurd (omega arith)
+length-codes_of_three (a ∷ b ∷ c ∷ bs) (suc k) within = omega (arith, length-codes_of_three bs k (omega arith))
+
+-- the three bytes at a place, of the first sixteen
+pub three-at : (bs : List ℕ) (k : ℕ) → k < 5 → 16 ≤ length bs → code_of_three (get_or (take 16 bs) (3 * k) 0) (get_or (take 16 bs) (3 * k + 1) 0) (get_or (take 16 bs) (3 * k + 2) 0) ≡ get_or (codes_of_three bs) k 0
+three-at bs k within long =
+    ap (λ a. code_of_three a (get_or (take 16 bs) (3 * k + 1) 0) (get_or (take 16 bs) (3 * k + 2) 0)) (get_or-take 16 bs (3 * k) 0 (omega arith))
+    ∙ ap (λ b. code_of_three (get_or bs (3 * k) 0) b (get_or (take 16 bs) (3 * k + 2) 0)) (get_or-take 16 bs (3 * k + 1) 0 (omega arith))
+    ∙ ap (λ c. code_of_three (get_or bs (3 * k) 0) (get_or bs (3 * k + 1) 0) c) (get_or-take 16 bs (3 * k + 2) 0 (omega arith))
+    ∙ sym (codes-three bs k (omega arith))
+
+-- and the two
+pub two-at : (bs : List ℕ) (k : ℕ) → k < 8 → 16 ≤ length bs → code_of_two (get_or (take 16 bs) (2 * k) 0) (get_or (take 16 bs) (2 * k + 1) 0) ≡ get_or (codes_of_two bs) k 0
+two-at bs k within long =
+    ap (λ a. code_of_two a (get_or (take 16 bs) (2 * k + 1) 0)) (get_or-take 16 bs (2 * k) 0 (omega arith)) ∙ ap (λ b. code_of_two (get_or bs (2 * k) 0) b) (get_or-take 16 bs (2 * k + 1) 0 (omega arith)) ∙ sym (codes-two bs k (omega arith))

@@ -1,11 +1,11 @@
 //! The units of text, a front after another.
 
-ghost use Rattle.std.specs.Prelude.{◌≡◌, ◌++◌, ◌+◌, ◌*◌, ◌<◌, ◌≤◌, ℕ, length, map, bit_and, slice_index, take, drop};
+ghost use Rattle.std.specs.Prelude.{◌≡◌, ◌++◌, ◌+◌, ◌*◌, ◌<◌, ◌≤◌, ℕ, IsTrue, length, map, bit_and, slice_index, take, drop};
 ghost use Rattle.std.specs.Char.{IsScalar};
 ghost use Rattle.std.specs.Str.{IsUtf8, chars as str_chars};
 ghost use Rattle.std.specs.Str.Pattern.{StartsWithChar};
 ghost use Rattle.wide_unit.specs.EncodingForm.{code_units, encode};
-ghost use Rattle.wide_blocks.specs.Decoded.{LeadsTwo, code_of_two, codes_of_two};
+ghost use Rattle.wide_blocks.specs.Decoded.{LeadsThree, LeadsTwo, code_of_three, code_of_two, codes_of_three, codes_of_two};
 
 use std::simd::prelude::*;
 use wide_unit::Unit;
@@ -151,6 +151,49 @@ fn put_twos<C: Unit>(text: &[u8], units: &mut [C], at: usize)
     }
 }
 
+// The same of three bytes, at each third place.
+const THREE_MASKS: [u8; 16] = [
+    0xf0, 0, 0, 0xf0, 0, 0, 0xf0, 0, 0, 0xf0, 0, 0, 0xf0, 0, 0, 0,
+];
+
+const THREE_BITS: [u8; 16] = [
+    0xe0, 0, 0, 0xe0, 0, 0, 0xe0, 0, 0, 0xe0, 0, 0, 0xe0, 0, 0, 0,
+];
+
+// Whether five characters of three bytes stand side by side at the front of text.
+#[inline(always)]
+fn are_threes(text: &[u8]) -> bool
+    requires { 16 ≤ length text.now }
+    ensures { IsTrue result → (k : ℕ) → k < 5 → LeadsThree (slice_index text.now (3 * k)) }
+{
+    alike_len(text, &THREE_MASKS, &THREE_BITS) == 16
+}
+
+#[inline(always)]
+fn char_of_three(first: u8, second: u8, third: u8) -> char
+    requires { IsScalar (code_of_three first second third) }
+    ensures { result ≡ code_of_three first second third }
+{
+    let front = u32::from(first) % 0x10 * 0x1000 + u32::from(second) % 0x40 * 0x40;
+    char_of(front + u32::from(third) % 0x40)
+}
+
+// Stores five characters of three bytes.
+#[inline(always)]
+fn put_threes<C: Unit>(text: &[u8], units: &mut [C], at: usize)
+    requires whole { 16 ≤ length text.now }
+    requires room { at + 5 ≤ length units.old }
+    requires scalars { (k : ℕ) → k < 5 → IsScalar (slice_index (codes_of_three text.now) k) }
+    ensures { map C.number (take (at + 5) units.new) ≡ map C.number (take at units.old) ++ take 5 (codes_of_three text.now) }
+{
+    let bytes = u8x16::from_slice(text).to_array();
+    for k in 0..5 {
+        let c = char_of_three(bytes[3 * k], bytes[3 * k + 1], bytes[3 * k + 2]);
+        let (unit, _) = C::encode_char(c);
+        units[at + k] = unit;
+    }
+}
+
 // Writes the units of the characters that text begins with, of one kind, and answers how many bytes they have and how many units.
 #[inline(always)]
 fn put_block<C: Unit>(text: &[u8], units: &mut [C], at: usize) -> (usize, usize)
@@ -168,6 +211,10 @@ fn put_block<C: Unit>(text: &[u8], units: &mut [C], at: usize) -> (usize, usize)
     if ascii > 0 {
         put_bytes(text, units, at);
         return (ascii, ascii);
+    }
+    if are_threes(text) {
+        put_threes(text, units, at);
+        return (15, 5);
     }
     let twos = twos_len(text);
     if twos > 0 {

@@ -1,7 +1,7 @@
 use Rattle.std.proofs.Common.{◌≡◌, ◌+◌, ◌-◌, ◌*◌, ◌∙◌, ap, arith, map, refl, take}
 use Rattle.wide_unit.specs.EncodingForm.{code_units}
-use Rattle.wide_blocks.specs.Decoded.{codes_of_two}
-use Rattle.wide_blocks.proofs.FrontUnits.{front_units-ascii, front_units-char, front_units-twos, joined}
+use Rattle.wide_blocks.specs.Decoded.{codes_of_three, codes_of_two}
+use Rattle.wide_blocks.proofs.FrontUnits.{front_units-ascii, front_units-char, front_units-threes, front_units-twos, joined}
 use Rattle.wide_blocks.proofs.StoredUnits.{stored-front}
 use Rattle.wide_blocks.proofs.units.put_block.Goals as goal
 
@@ -17,6 +17,18 @@ pub returns-then-ascii-gt0-clause-rest : goal.returns-then-ascii-gt0-clause-rest
 returns-then-ascii-gt0-clause-rest g c =
     let count = c.ascii_len-ascii.result in
     (front_units-ascii g.C.Unit.form count c.args.text.now c.requires.text (omega (arith, c.ascii_len-ascii.ensures.within, c.requires.whole)) c.ascii_len-ascii.ensures.ascii).rest
+
+pub put_threes-requires-clause-scalars : goal.put_threes-requires-clause-scalars
+put_threes-requires-clause-scalars g c = (front_units-threes g.C.Unit.form 5 15 c.args.text.now c.requires.text refl (c.are_threes.ensures c.if-are_threes.true)).1
+
+pub returns-then-are_threes-clause-units : goal.returns-then-are_threes-clause-units
+returns-then-are_threes-clause-units g c =
+    let bs = c.args.text.now in
+    let front = (front_units-threes g.C.Unit.form 5 15 bs c.requires.text refl (c.are_threes.ensures c.if-are_threes.true)).0 in
+    joined g.C.Unit.form bs _ _ (take 5 (codes_of_three bs)) 15 c.put_threes.ensures front
+
+pub returns-then-are_threes-clause-rest : goal.returns-then-are_threes-clause-rest
+returns-then-are_threes-clause-rest g c = (front_units-threes g.C.Unit.form 5 15 c.args.text.now c.requires.text refl (c.are_threes.ensures c.if-are_threes.true)).0.rest
 
 pub returns-then-twos-gt0-clause-units : goal.returns-then-twos-gt0-clause-units
 returns-then-twos-gt0-clause-units g c =
