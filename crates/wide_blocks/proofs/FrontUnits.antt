@@ -7,7 +7,7 @@ use Rattle.std.specs.Str.Pattern.{StartsWithChar}
 use Rattle.std.proofs.lemmas.List.{drop-drop, take_all}
 use Rattle.std.proofs.lemmas.Str.{chars_past_char}
 use Rattle.wide_blocks.proofs.FirstCharacters.{in_one, in_two, in_three, wide}
-use Rattle.wide_blocks.specs.Decoded.{LeadsThree, LeadsTwo, code_of_three, code_of_two, codes_of_three, codes_of_two}
+use Rattle.wide_blocks.specs.Decoded.{IsDecoded, LeadsThree, LeadsTwo, code_of_three, code_of_two, codes_of_three, codes_of_two}
 use Rattle.wide_blocks.proofs.StoredUnits.{one_unit-plain}
 use Rattle.wide_unit.specs.EncodingForm.{EncodingForm, code_units, encode}
 
@@ -40,12 +40,6 @@ module _ (form : EncodingForm) where
       let first : IsFrontUnits form (b ∷ bs) 1 (code_units form b) = front_units-char (b ∷ bs) b 1 text (in_one (b ∷ bs) text (omega arith) low).1 in
       let more = front_units-ascii n bs first.rest (omega arith) (λ k before. ascii (suc k) (omega arith)) in
       record { units = first.units ∙ ap (λ us. us ++ encode form (str_chars bs)) (one_unit-plain form b (omega arith)) ∙ ap (λ us. b ∷ us) more.units; rest = more.rest }
-
-  -- behind a front, one character more
-  pub front_units-char_more : (bs us ws : List ℕ) (n c m : ℕ) → IsFrontUnits form bs n us → StartsWithChar (take (length bs - n) (drop n bs)) c m → ws ≡ us ++ code_units form c → IsFrontUnits form bs (n + m) ws
-  front_units-char_more bs us ws n c m front first more =
-      let behind : take (length bs - n) (drop n bs) ≡ drop n bs = take_all (length bs - n) (drop n bs) (omega (arith, length-drop n bs)) in
-      front_units-then bs us (code_units form c) ws n m front (front_units-char (drop n bs) c m front.rest (subst (λ ds. StartsWithChar ds c m) behind first)) more
 
   -- characters of two bytes each
   pub front_units-twos : (m n : ℕ) (bs : List ℕ) → IsUtf8 bs → n ≡ 2 * m → ((k : ℕ) → k < m → LeadsTwo (get_or bs (2 * k) 0)) → IsFrontUnits form bs n (take m (codes_of_two bs))
@@ -83,18 +77,33 @@ module _ (form : EncodingForm) where
       scalars v vs m first more (suc k) before = more k (omega arith)
 
   -- what the units of a front make of the units before
-  pub joined : (bs before after us : List ℕ) (n : ℕ) → after ≡ before ++ us → IsFrontUnits form bs n us → before ++ encode form (str_chars bs) ≡ after ++ encode form (str_chars (drop n bs))
+  pub joined : (bs before after us : List ℕ) (n : ℕ) → after ≡ before ++ us → IsFrontUnits form bs n us → IsDecoded form bs n before after
   joined bs before after us n more front =
       let rest = encode form (str_chars (drop n bs)) in
-      ap (λ vs. before ++ vs) front.units ∙ sym (append_assoc before us rest) ∙ ap (λ vs. vs ++ rest) (sym more)
+      record { units = ap (λ vs. before ++ vs) front.units ∙ sym (append_assoc before us rest) ∙ ap (λ vs. vs ++ rest) (sym more); rest = front.rest }
 
-  -- behind a front, some more
-  pub front_units-more : (bs us ws : List ℕ) (n m : ℕ) → IsFrontUnits form bs n us → IsUtf8 (drop m (take (length bs - n) (drop n bs))) → us ++ encode form (str_chars (take (length bs - n) (drop n bs))) ≡ ws ++ encode form (str_chars (drop m (take (length bs - n) (drop n bs))))
-      → IsFrontUnits form bs (n + m) ws
-  front_units-more bs us ws n m front text more =
-      let behind : take (length bs - n) (drop n bs) ≡ drop n bs = take_all (length bs - n) (drop n bs) (omega (arith, length-drop n bs)) in
+  pub decoded-none : (bs before : List ℕ) → IsUtf8 bs → IsDecoded form bs 0 before before
+  decoded-none bs before text = record { units = refl; rest = text }
+
+  -- the text behind a front, as a slice of it
+  behind-is : (bs : List ℕ) (n : ℕ) → take (length bs - n) (drop n bs) ≡ drop n bs
+  behind-is bs n = take_all (length bs - n) (drop n bs) (omega (arith, length-drop n bs))
+
+  pub decoded-behind : (bs x y : List ℕ) (n : ℕ) → IsDecoded form bs n x y → IsUtf8 (take (length bs - n) (drop n bs))
+  decoded-behind bs x y n front = subst (λ ds. IsUtf8 ds) (sym (behind-is bs n)) front.rest
+
+  pub decoded-then : (bs x y z : List ℕ) (n m : ℕ) → IsDecoded form bs n x y → IsDecoded form (take (length bs - n) (drop n bs)) m y z → IsDecoded form bs (n + m) x z
+  decoded-then bs x y z n m front back =
+      let behind = behind-is bs n in
       let rest : drop m (take (length bs - n) (drop n bs)) ≡ drop (n + m) bs = ap (drop m) behind ∙ drop-drop m n bs in
       record {
-        units = front.units ∙ ap (λ ds. us ++ encode form (str_chars ds)) (sym behind) ∙ more ∙ ap (λ ds. ws ++ encode form (str_chars ds)) rest;
-        rest = subst (λ ds. IsUtf8 ds) rest text;
+        units = front.units ∙ ap (λ ds. y ++ encode form (str_chars ds)) (sym behind) ∙ back.units ∙ ap (λ ds. z ++ encode form (str_chars ds)) rest;
+        rest = subst (λ ds. IsUtf8 ds) rest back.rest;
       }
+
+  -- one character, and some ASCII characters
+  pub decoded-char : (bs before after : List ℕ) (c n : ℕ) → IsUtf8 bs → StartsWithChar bs c n → after ≡ before ++ code_units form c → IsDecoded form bs n before after
+  decoded-char bs before after c n text first more = joined bs before after (code_units form c) n more (front_units-char bs c n text first)
+
+  pub decoded-ascii : (bs before after : List ℕ) (n : ℕ) → IsUtf8 bs → n ≤ length bs → ((k : ℕ) → k < n → get_or bs k 0 < 0x80) → after ≡ before ++ take n bs → IsDecoded form bs n before after
+  decoded-ascii bs before after n text within ascii more = joined bs before after (take n bs) n more (front_units-ascii n bs text within ascii)

@@ -1,5 +1,13 @@
--- Text whose characters have as many bytes each, by the Standard's Table 3-6.
-use Rattle.std.specs.Prelude.{ℕ, ◌+◌, ◌*◌, ◌%◌, ◌<◌, ◌≤◌, List, [], ◌∷◌}
+-- Fronts of text as units, and text whose characters have as many bytes each, by the Standard's Table 3-6.
+use Rattle.std.specs.Prelude.{◌≡◌, ℕ, ◌+◌, ◌*◌, ◌%◌, ◌<◌, ◌≤◌, List, [], ◌∷◌, ◌++◌, drop}
+use Rattle.std.specs.Str.{IsUtf8}
+use Rattle.std.specs.Str.{chars as str_chars}
+use Rattle.wide_unit.specs.EncodingForm.{EncodingForm, encode}
+
+-- with the units of a front of the text, the units before have become those after
+pub record IsDecoded (form : EncodingForm) (bytes : List ℕ) (place : ℕ) (before after : List ℕ) : Type 0 where
+  pub units : before ++ encode form (str_chars bytes) ≡ after ++ encode form (str_chars (drop place bytes))
+  pub rest : IsUtf8 (drop place bytes)
 
 -- the first byte of two, and of three
 abbrev pub LeadsTwo : ℕ → Type 0

@@ -5,7 +5,7 @@ ghost use Rattle.std.specs.Char.{IsScalar};
 ghost use Rattle.std.specs.Str.{IsUtf8, chars as str_chars};
 ghost use Rattle.std.specs.Str.Pattern.{StartsWithChar};
 ghost use Rattle.wide_unit.specs.EncodingForm.{code_units, encode};
-ghost use Rattle.wide_blocks.specs.Decoded.{LeadsThree, LeadsTwo, code_of_three, code_of_two, codes_of_three, codes_of_two};
+ghost use Rattle.wide_blocks.specs.Decoded.{IsDecoded, LeadsThree, LeadsTwo, code_of_three, code_of_two, codes_of_three, codes_of_two};
 
 use std::simd::prelude::*;
 use wide_unit::Unit;
@@ -93,6 +93,26 @@ fn ascii_len(text: &[u8]) -> usize
     } else {
         bits.trailing_zeros() as usize
     }
+}
+
+// Stores the blocks of sixteen ASCII characters at the front of text, as far as there is room, and answers how many characters they are.
+#[inline(always)]
+fn put_ascii_blocks<C: Unit>(text: &[u8], units: &mut [C], at: usize) -> usize
+    requires text { IsUtf8 text.now }
+    requires at { at ≤ length units.old }
+    ensures read { result ≤ length text.now }
+    ensures room { at + result ≤ length units.new }
+    ensures units { IsDecoded C.form text.now result (map C.number (take at units.old)) (map C.number (take (at + result) units.new)) }
+{
+    let mut count = 0;
+    'sixteens: while text.len() - count >= 16 && units.len() - (at + count) >= 16 {
+        if ascii_len(&text[count..]) < 16 {
+            return count;
+        }
+        put_bytes(&text[count..], units, at + count);
+        count += 16;
+    }
+    count
 }
 
 // How many of those sixteen stand before the first whose masked bits differ from those that are wanted.
@@ -203,11 +223,15 @@ fn put_block<C: Unit>(text: &[u8], units: &mut [C], at: usize) -> (usize, usize)
     ensures read { result.0 ≤ length text.now }
     ensures some { 0 < result.0 }
     ensures few { result.1 ≤ 2 * result.0 }
-    ensures high { result.1 ≤ 16 }
-    ensures units { map C.number (take at units.old) ++ encode C.form (str_chars text.now) ≡ map C.number (take (at + result.1) units.new) ++ encode C.form (str_chars (drop result.0 text.now)) }
-    ensures rest { IsUtf8 (drop result.0 text.now) }
+    ensures room { at + result.1 ≤ length units.new }
+    ensures units { IsDecoded C.form text.now result.0 (map C.number (take at units.old)) (map C.number (take (at + result.1) units.new)) }
 {
     let ascii = ascii_len(text);
+    if ascii == 16 {
+        put_bytes(text, units, at);
+        let more = 16 + put_ascii_blocks(&text[16..], units, at + 16);
+        return (more, more);
+    }
     if ascii > 0 {
         put_bytes(text, units, at);
         return (ascii, ascii);

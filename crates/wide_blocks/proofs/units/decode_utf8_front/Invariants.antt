@@ -1,5 +1,5 @@
-use Rattle.std.proofs.Common.{◌≤◌, ◌*◌, ◌-◌, length, map, take}
-use Rattle.wide_blocks.proofs.FrontUnits.{IsFrontUnits}
+use Rattle.std.proofs.Common.{◌≤◌, ◌*◌, ◌-◌, [], length, map, take}
+use Rattle.wide_blocks.specs.Decoded.{IsDecoded}
 use Rattle.wide_blocks.proofs.units.decode_utf8_front.Given as goal
 
 abbrev pub invariant-sixteens : goal.invariant-sixteens
@@ -7,7 +7,7 @@ invariant-sixteens g l = record {
   within : l.read ≤ length l.text;
   few : l.written ≤ 2 * l.read;
   room : l.written ≤ length l.units;
-  front : IsFrontUnits g.C.Unit.form l.text l.read (map g.C.Unit.number (take l.written l.units));
+  front : IsDecoded g.C.Unit.form l.text l.read [] (map g.C.Unit.number (take l.written l.units));
 }
 
 abbrev pub decreases-sixteens : goal.decreases-sixteens
@@ -18,7 +18,7 @@ invariant-ones g l = record {
   within : l.read ≤ length l.text;
   few : l.written ≤ 2 * l.read;
   room : l.written ≤ length l.units;
-  front : IsFrontUnits g.C.Unit.form l.text l.read (map g.C.Unit.number (take l.written l.units));
+  front : IsDecoded g.C.Unit.form l.text l.read [] (map g.C.Unit.number (take l.written l.units));
 }
 
 abbrev pub decreases-ones : goal.decreases-ones

@@ -1,22 +1,35 @@
-use Rattle.std.proofs.Common.{◌≡◌, ◌+◌, ◌-◌, ◌*◌, ◌∙◌, ap, arith, map, refl, take}
-use Rattle.wide_unit.specs.EncodingForm.{code_units}
-use Rattle.wide_blocks.specs.Decoded.{codes_of_three, codes_of_two}
-use Rattle.wide_blocks.proofs.FrontUnits.{front_units-ascii, front_units-char, front_units-threes, front_units-twos, joined}
+use Rattle.std.proofs.Common.{◌≡◌, ◌+◌, ◌-◌, ◌*◌, ◌∙◌, ap, arith, map, refl, subst, take}
+use Rattle.wide_blocks.specs.Decoded.{IsDecoded, codes_of_three, codes_of_two}
+use Rattle.wide_blocks.proofs.FrontUnits.{decoded-ascii, decoded-behind, decoded-char, decoded-then, front_units-threes, front_units-twos, joined}
 use Rattle.wide_blocks.proofs.StoredUnits.{stored-front}
 use Rattle.wide_blocks.proofs.units.put_block.Goals as goal
+
+pub put_ascii_blocks-more-requires-clause-text : goal.put_ascii_blocks-more-requires-clause-text
+put_ascii_blocks-more-requires-clause-text g c =
+    let bs = c.args.text.now in
+    let all = c.ascii_len-ascii.ensures.ascii in
+    decoded-behind g.C.Unit.form bs _ _ 16 (decoded-ascii g.C.Unit.form bs _ _ 16 c.requires.text c.requires.whole (λ k within. all k (omega (arith, within, c.if-ascii-eq16.true))) c.put_bytes.ensures)
+
+pub returns-then-ascii-eq16-clause-units : goal.returns-then-ascii-eq16-clause-units
+returns-then-ascii-eq16-clause-units g c =
+    let form = g.C.Unit.form in
+    let number = g.C.Unit.number in
+    let bs = c.args.text.now in
+    let at = c.args.at in
+    let more = c.put_ascii_blocks-more.result in
+    let place : at + 16 + more ≡ at + (16 + more) = omega arith in
+    let all = c.ascii_len-ascii.ensures.ascii in
+    let first = decoded-ascii form bs _ _ 16 c.requires.text c.requires.whole (λ k within. all k (omega (arith, within, c.if-ascii-eq16.true))) c.put_bytes.ensures in
+    let ours = map number (take at c.args.units.now) in
+    subst (λ n. IsDecoded form bs (16 + more) ours (map number (take n c.put_ascii_blocks-more.new.units))) place (decoded-then form bs ours _ _ 16 more first c.put_ascii_blocks-more.ensures.units)
 
 pub returns-then-ascii-gt0-clause-units : goal.returns-then-ascii-gt0-clause-units
 returns-then-ascii-gt0-clause-units g c =
     let bs = c.args.text.now in
     let count = c.ascii_len-ascii.result in
     let few = c.ascii_len-ascii.ensures.within in
-    let front = front_units-ascii g.C.Unit.form count bs c.requires.text (omega (arith, few, c.requires.whole)) c.ascii_len-ascii.ensures.ascii in
-    joined g.C.Unit.form bs _ _ (take count bs) count (stored-front g.C.Unit.number c.args.units.now c.put_bytes.new.units bs c.args.at 16 count (omega (arith, c.requires.room)) few c.put_bytes.ensures) front
-
-pub returns-then-ascii-gt0-clause-rest : goal.returns-then-ascii-gt0-clause-rest
-returns-then-ascii-gt0-clause-rest g c =
-    let count = c.ascii_len-ascii.result in
-    (front_units-ascii g.C.Unit.form count c.args.text.now c.requires.text (omega (arith, c.ascii_len-ascii.ensures.within, c.requires.whole)) c.ascii_len-ascii.ensures.ascii).rest
+    let stored = stored-front g.C.Unit.number c.args.units.now c.put_bytes-then-ascii-gt0.new.units bs c.args.at 16 count (omega (arith, c.requires.room)) few c.put_bytes-then-ascii-gt0.ensures in
+    decoded-ascii g.C.Unit.form bs _ _ count c.requires.text (omega (arith, few, c.requires.whole)) c.ascii_len-ascii.ensures.ascii stored
 
 pub put_threes-requires-clause-scalars : goal.put_threes-requires-clause-scalars
 put_threes-requires-clause-scalars g c = (front_units-threes g.C.Unit.form 5 15 c.args.text.now c.requires.text refl (c.are_threes.ensures c.if-are_threes.true)).1
@@ -27,25 +40,17 @@ returns-then-are_threes-clause-units g c =
     let front = (front_units-threes g.C.Unit.form 5 15 bs c.requires.text refl (c.are_threes.ensures c.if-are_threes.true)).0 in
     joined g.C.Unit.form bs _ _ (take 5 (codes_of_three bs)) 15 c.put_threes.ensures front
 
-pub returns-then-are_threes-clause-rest : goal.returns-then-are_threes-clause-rest
-returns-then-are_threes-clause-rest g c = (front_units-threes g.C.Unit.form 5 15 c.args.text.now c.requires.text refl (c.are_threes.ensures c.if-are_threes.true)).0.rest
-
 pub returns-then-twos-gt0-clause-units : goal.returns-then-twos-gt0-clause-units
 returns-then-twos-gt0-clause-units g c =
     let bs = c.args.text.now in
     let count = c.twos_len-twos.result in
     let front = front_units-twos g.C.Unit.form count (2 * count) bs c.requires.text refl c.twos_len-twos.ensures.leading in
-    joined g.C.Unit.form bs _ _ (take count (codes_of_two bs)) (2 * count)
-    (stored-front g.C.Unit.number c.args.units.now c.put_twos.new.units (codes_of_two bs) c.args.at 8 count (omega (arith, c.requires.room)) c.twos_len-twos.ensures.within c.put_twos.ensures) front
-
-pub returns-then-twos-gt0-clause-rest : goal.returns-then-twos-gt0-clause-rest
-returns-then-twos-gt0-clause-rest g c =
-    let count = c.twos_len-twos.result in
-    (front_units-twos g.C.Unit.form count (2 * count) c.args.text.now c.requires.text refl c.twos_len-twos.ensures.leading).rest
+    let stored = stored-front g.C.Unit.number c.args.units.now c.put_twos.new.units (codes_of_two bs) c.args.at 8 count (omega (arith, c.requires.room)) c.twos_len-twos.ensures.within c.put_twos.ensures in
+    joined g.C.Unit.form bs _ _ (take count (codes_of_two bs)) (2 * count) stored front
 
 pub returns-clause-units : goal.returns-clause-units
 returns-clause-units g c =
     let bs = c.args.text.now in
+    let character = c.first_char-c.result in
     let behind : c.args.at + (c.put_char-behind.result - c.args.at) ≡ c.put_char-behind.result = omega (arith, c.put_char-behind.ensures.low) in
-    let front = front_units-char g.C.Unit.form bs c.first_char-c.result.0 c.first_char-c.result.1 c.requires.text c.first_char-c.ensures.first in
-    joined g.C.Unit.form bs _ _ (code_units g.C.Unit.form c.first_char-c.result.0) c.first_char-c.result.1 (ap (λ n. map g.C.Unit.number (take n c.put_char-behind.new.units)) behind ∙ c.put_char-behind.ensures.units) front
+    decoded-char g.C.Unit.form bs _ _ character.0 character.1 c.requires.text c.first_char-c.ensures.first (ap (λ n. map g.C.Unit.number (take n c.put_char-behind.new.units)) behind ∙ c.put_char-behind.ensures.units)
