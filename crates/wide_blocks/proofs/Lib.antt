@@ -4,9 +4,13 @@ pub mod Rows
 pub mod ScalarFronts
 pub mod ScalarTexts
 pub mod Shuffles
+pub mod StoredUnits
 pub mod Stores
 pub mod Tables
 pub mod UnitEncodings
 pub mod Utf8Lengths
 pub mod Utf8Texts
 pub mod LossyFronts
+pub mod FirstBits
+pub mod FirstCharacters
+pub mod FrontUnits

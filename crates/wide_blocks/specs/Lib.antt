@@ -3,3 +3,4 @@ pub mod Narrow
 pub mod Scalars
 pub mod Wide
 pub mod Lengths
+pub mod Decoded

@@ -10,6 +10,7 @@ mod scalars;
 mod steps;
 mod strings;
 mod text;
+mod units;
 mod wide;
 
 pub use blocks::encode;
@@ -19,3 +20,4 @@ pub use scalars::decode_front;
 pub use steps::{Step, put_unit};
 pub use strings::{push_utf8, utf8_string};
 pub use text::{encode_front, encode_whole};
+pub use units::decode_utf8_front;

@@ -1,0 +1,109 @@
+-- Text cut behind a front of its characters: the units of the front, and those of the rest.
+use Rattle.std.proofs.Common.{◌≡◌, ℕ, zero, suc, ◌+◌, ◌-◌, ◌*◌, ◌<◌, ◌≤◌, List, [], ◌∷◌, ◌++◌, length, get_or, take, drop, refl, sym, ap, ◌∙◌, subst, arith, append_assoc, length-drop}
+use Rattle.std.specs.Char.{IsScalar}
+use Rattle.std.specs.Str.{IsUtf8}
+use Rattle.std.specs.Str.{chars as str_chars}
+use Rattle.std.specs.Str.Pattern.{StartsWithChar}
+use Rattle.std.proofs.lemmas.List.{drop-drop, take_all}
+use Rattle.std.proofs.lemmas.Str.{chars_past_char}
+use Rattle.wide_blocks.proofs.FirstCharacters.{in_one, in_two, in_three, wide}
+use Rattle.wide_blocks.specs.Decoded.{IsDecoded, LeadsThree, LeadsTwo, code_of_three, code_of_two, codes_of_three, codes_of_two}
+use Rattle.wide_blocks.proofs.StoredUnits.{one_unit-plain}
+use Rattle.wide_unit.specs.EncodingForm.{EncodingForm, code_units, encode}
+
+-- the units of the text are those of a front of it and of the rest
+pub record IsFrontUnits (form : EncodingForm) (bs : List ℕ) (place : ℕ) (us : List ℕ) : Type 0 where
+  pub units : encode form (str_chars bs) ≡ us ++ encode form (str_chars (drop place bs))
+  pub rest : IsUtf8 (drop place bs)
+
+module _ (form : EncodingForm) where
+  pub front_units-none : (bs : List ℕ) → IsUtf8 bs → IsFrontUnits form bs 0 []
+  front_units-none bs text = record { units = refl; rest = text }
+
+  pub front_units-then : (bs us vs ws : List ℕ) (n m : ℕ) → IsFrontUnits form bs n us → IsFrontUnits form (drop n bs) m vs → ws ≡ us ++ vs → IsFrontUnits form bs (n + m) ws
+  front_units-then bs us vs ws n m front back joined =
+      let behind : drop m (drop n bs) ≡ drop (n + m) bs = drop-drop m n bs in
+      record {
+        units = front.units ∙ ap (λ xs. us ++ xs) (back.units ∙ ap (λ ds. vs ++ encode form (str_chars ds)) behind) ∙ sym (append_assoc us vs (encode form (str_chars (drop (n + m) bs)))) ∙ ap (λ xs. xs ++ encode form (str_chars (drop (n + m) bs))) (sym joined);
+        rest = subst (λ ds. IsUtf8 ds) behind back.rest;
+      }
+
+  pub front_units-char : (bs : List ℕ) (c n : ℕ) → IsUtf8 bs → StartsWithChar bs c n → IsFrontUnits form bs n (code_units form c)
+  front_units-char bs c n text first = record { units = ap (λ cs. encode form cs) (chars_past_char bs (drop n bs) c text first.0); rest = first.4 }
+
+  -- ASCII characters are their own units
+  pub front_units-ascii : (n : ℕ) (bs : List ℕ) → IsUtf8 bs → n ≤ length bs → ((k : ℕ) → k < n → get_or bs k 0 < 0x80) → IsFrontUnits form bs n (take n bs)
+  front_units-ascii zero bs text within ascii = front_units-none bs text
+  front_units-ascii (suc n) [] text within ascii = absurd (omega arith)
+  front_units-ascii (suc n) (b ∷ bs) text within ascii =
+      let low : b < 0x80 = ascii 0 (omega arith) in
+      let first : IsFrontUnits form (b ∷ bs) 1 (code_units form b) = front_units-char (b ∷ bs) b 1 text (in_one (b ∷ bs) text (omega arith) low).1 in
+      let more = front_units-ascii n bs first.rest (omega arith) (λ k before. ascii (suc k) (omega arith)) in
+      record { units = first.units ∙ ap (λ us. us ++ encode form (str_chars bs)) (one_unit-plain form b (omega arith)) ∙ ap (λ us. b ∷ us) more.units; rest = more.rest }
+
+  -- characters of two bytes each
+  pub front_units-twos : (m n : ℕ) (bs : List ℕ) → IsUtf8 bs → n ≡ 2 * m → ((k : ℕ) → k < m → LeadsTwo (get_or bs (2 * k) 0)) → IsFrontUnits form bs n (take m (codes_of_two bs))
+  front_units-twos zero n bs text long leading = subst (λ p. IsFrontUnits form bs p []) {x = 0} {y = n} (omega arith) (front_units-none bs text)
+  front_units-twos (suc m) n [] text long leading = (let lead = leading 0 (omega arith) in absurd (omega (arith, lead.0)))
+  front_units-twos (suc m) n (a ∷ []) text long leading = (let lead = leading 0 (omega arith) in absurd (omega (arith, (wide (a ∷ []) text (omega arith)).0 (omega (arith, lead.0)))))
+  front_units-twos (suc m) n (a ∷ b ∷ bs) text long leading =
+      let lead = leading 0 (omega arith) in
+      let v = code_of_two a b in
+      let first : IsFrontUnits form (a ∷ b ∷ bs) 2 (code_units form v) = front_units-char (a ∷ b ∷ bs) v 2 text (in_two (a ∷ b ∷ bs) text (omega arith) (omega (arith, lead.0)) lead.1).1 in
+      let more = front_units-twos m (2 * m) bs first.rest refl (λ k before. (let next : 2 * suc k ≡ suc (suc (2 * k)) = omega arith in subst (λ j. LeadsTwo (get_or (a ∷ b ∷ bs) j 0)) next (leading (suc k) (omega arith)))) in
+      let joined = ap (λ us. us ++ take m (codes_of_two bs)) (sym (one_unit-plain form v (omega arith))) in
+      subst (λ p. IsFrontUnits form (a ∷ b ∷ bs) p (v ∷ take m (codes_of_two bs))) {x = 2 + 2 * m} {y = n} (omega arith) (front_units-then (a ∷ b ∷ bs) (code_units form v) (take m (codes_of_two bs)) (v ∷ take m (codes_of_two bs)) 2 (2 * m) first more joined)
+
+  -- characters of three bytes each
+  pub front_units-threes : (m n : ℕ) (bs : List ℕ) → IsUtf8 bs → n ≡ 3 * m → ((k : ℕ) → k < m → LeadsThree (get_or bs (3 * k) 0)) → IsFrontUnits form bs n (take m (codes_of_three bs)) × ((k : ℕ) → k < m → IsScalar (get_or (codes_of_three bs) k 0))
+  front_units-threes zero n bs text long leading = (subst (λ p. IsFrontUnits form bs p []) {x = 0} {y = n} (omega arith) (front_units-none bs text), λ k before. absurd (omega arith))
+  front_units-threes (suc m) n [] text long leading = (let lead = leading 0 (omega arith) in absurd (omega (arith, lead.0)))
+  front_units-threes (suc m) n (a ∷ []) text long leading = (let lead = leading 0 (omega arith) in absurd (omega (arith, (wide (a ∷ []) text (omega arith)).1 lead.0)))
+  front_units-threes (suc m) n (a ∷ b ∷ []) text long leading = (let lead = leading 0 (omega arith) in absurd (omega (arith, (wide (a ∷ b ∷ []) text (omega arith)).1 lead.0)))
+  front_units-threes (suc m) n (a ∷ b ∷ c ∷ bs) text long leading =
+      let all = a ∷ b ∷ c ∷ bs in
+      let lead = leading 0 (omega arith) in
+      let v = code_of_three a b c in
+      let read = in_three all text (omega arith) lead.0 lead.1 in
+      let first : IsFrontUnits form all 3 (code_units form v) = front_units-char all v 3 text read.1 in
+      let more = front_units-threes m (3 * m) bs first.rest refl (λ k before. (let next : 3 * suc k ≡ suc (suc (suc (3 * k))) = omega arith in subst (λ j. LeadsThree (get_or all j 0)) next (leading (suc k) (omega arith)))) in
+      let joined = ap (λ us. us ++ take m (codes_of_three bs)) (sym (one_unit-plain form v (omega arith))) in (
+        subst (λ p. IsFrontUnits form all p (v ∷ take m (codes_of_three bs))) {x = 3 + 3 * m} {y = n} (omega arith) (front_units-then all (code_units form v) (take m (codes_of_three bs)) (v ∷ take m (codes_of_three bs)) 3 (3 * m) first more.0 joined),
+        scalars v (codes_of_three bs) m read.0 more.1,
+      )
+    where
+      scalars : (v : ℕ) (vs : List ℕ) (m : ℕ) → IsScalar v → ((k : ℕ) → k < m → IsScalar (get_or vs k 0)) → (k : ℕ) → k < suc m → IsScalar (get_or (v ∷ vs) k 0)
+      scalars v vs m first more zero before = first
+      scalars v vs m first more (suc k) before = more k (omega arith)
+
+  -- what the units of a front make of the units before
+  pub joined : (bs before after us : List ℕ) (n : ℕ) → after ≡ before ++ us → IsFrontUnits form bs n us → IsDecoded form bs n before after
+  joined bs before after us n more front =
+      let rest = encode form (str_chars (drop n bs)) in
+      record { units = ap (λ vs. before ++ vs) front.units ∙ sym (append_assoc before us rest) ∙ ap (λ vs. vs ++ rest) (sym more); rest = front.rest }
+
+  pub decoded-none : (bs before : List ℕ) → IsUtf8 bs → IsDecoded form bs 0 before before
+  decoded-none bs before text = record { units = refl; rest = text }
+
+  -- the text behind a front, as a slice of it
+  behind-is : (bs : List ℕ) (n : ℕ) → take (length bs - n) (drop n bs) ≡ drop n bs
+  behind-is bs n = take_all (length bs - n) (drop n bs) (omega (arith, length-drop n bs))
+
+  pub decoded-behind : (bs x y : List ℕ) (n : ℕ) → IsDecoded form bs n x y → IsUtf8 (take (length bs - n) (drop n bs))
+  decoded-behind bs x y n front = subst (λ ds. IsUtf8 ds) (sym (behind-is bs n)) front.rest
+
+  pub decoded-then : (bs x y z : List ℕ) (n m : ℕ) → IsDecoded form bs n x y → IsDecoded form (take (length bs - n) (drop n bs)) m y z → IsDecoded form bs (n + m) x z
+  decoded-then bs x y z n m front back =
+      let behind = behind-is bs n in
+      let rest : drop m (take (length bs - n) (drop n bs)) ≡ drop (n + m) bs = ap (drop m) behind ∙ drop-drop m n bs in
+      record {
+        units = front.units ∙ ap (λ ds. y ++ encode form (str_chars ds)) (sym behind) ∙ back.units ∙ ap (λ ds. z ++ encode form (str_chars ds)) rest;
+        rest = subst (λ ds. IsUtf8 ds) rest back.rest;
+      }
+
+  -- one character, and some ASCII characters
+  pub decoded-char : (bs before after : List ℕ) (c n : ℕ) → IsUtf8 bs → StartsWithChar bs c n → after ≡ before ++ code_units form c → IsDecoded form bs n before after
+  decoded-char bs before after c n text first more = joined bs before after (code_units form c) n more (front_units-char bs c n text first)
+
+  pub decoded-ascii : (bs before after : List ℕ) (n : ℕ) → IsUtf8 bs → n ≤ length bs → ((k : ℕ) → k < n → get_or bs k 0 < 0x80) → after ≡ before ++ take n bs → IsDecoded form bs n before after
+  decoded-ascii bs before after n text within ascii more = joined bs before after (take n bs) n more (front_units-ascii n bs text within ascii)

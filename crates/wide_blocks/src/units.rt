@@ -1,0 +1,296 @@
+//! The units of text, a front after another.
+
+ghost use Rattle.std.specs.Prelude.{◌≡◌, ◌++◌, ◌+◌, ◌*◌, ◌<◌, ◌≤◌, ℕ, IsTrue, length, map, bit_and, slice_index, take, drop};
+ghost use Rattle.std.specs.Char.{IsScalar};
+ghost use Rattle.std.specs.Str.{IsUtf8, chars as str_chars};
+ghost use Rattle.std.specs.Str.Pattern.{StartsWithChar};
+ghost use Rattle.wide_unit.specs.EncodingForm.{code_units, encode};
+ghost use Rattle.wide_blocks.specs.Decoded.{IsDecoded, LeadsThree, LeadsTwo, code_of_three, code_of_two, codes_of_three, codes_of_two};
+
+use std::simd::prelude::*;
+use wide_unit::Unit;
+
+// A character whose scalar value is known to be one.
+#[inline(always)]
+fn char_of(code: u32) -> char
+    requires { IsScalar code }
+    ensures { result ≡ code }
+{
+    unsafe { char::from_u32_unchecked(code) }
+}
+
+// The first character of text, by its leading byte (Unicode Standard, Table 3-6), and how many bytes it has.
+#[inline(always)]
+fn first_char(text: &[u8]) -> (char, usize)
+    requires text { IsUtf8 text.now }
+    requires some { 0 < length text.now }
+    ensures first { StartsWithChar text.now result.0 result.1 }
+    ensures scalar { IsScalar result.0 }
+{
+    let first = text[0] as u32;
+    if first < 0x80 {
+        return (char_of(first), 1);
+    }
+    let second = text[1] as u32 % 0x40;
+    if first < 0xe0 {
+        return (char_of(first % 0x20 * 0x40 + second), 2);
+    }
+    let third = text[2] as u32 % 0x40;
+    if first < 0xf0 {
+        return (char_of(first % 0x10 * 0x1000 + second * 0x40 + third), 3);
+    }
+    let fourth = text[3] as u32 % 0x40;
+    let code = first % 8 * 0x4_0000 + second * 0x1000 + third * 0x40 + fourth;
+    (char_of(code), 4)
+}
+
+// Stores the units of a character, and answers the place behind them.
+#[inline(always)]
+fn put_char<C: Unit>(units: &mut [C], at: usize, c: char) -> usize
+    requires { at + 2 ≤ length units.old }
+    ensures units { map C.number (take result units.new) ≡ map C.number (take at units.old) ++ code_units C.form c }
+    ensures low { at ≤ result }
+    ensures high { result ≤ at + 2 }
+{
+    let (first, second) = C::encode_char(c);
+    units[at] = first;
+    match second {
+        Some(second) => {
+            units[at + 1] = second;
+            at + 2
+        }
+        None => at + 1,
+    }
+}
+
+// Stores the sixteen bytes that text begins with, each as a character.
+#[inline(always)]
+fn put_bytes<C: Unit>(text: &[u8], units: &mut [C], at: usize)
+    requires whole { 16 ≤ length text.now }
+    requires room { at + 16 ≤ length units.old }
+    ensures { map C.number (take (at + 16) units.new) ≡ map C.number (take at units.old) ++ take 16 text.now }
+{
+    // An own array can't overlap the units, so that this is compiled to vectors.
+    let bytes = u8x16::from_slice(text).to_array();
+    for k in 0..16 {
+        let (unit, _) = C::encode_char(char::from(bytes[k]));
+        units[at + k] = unit;
+    }
+}
+
+// How many of the sixteen bytes that text begins with stand before the first that is not ASCII.
+#[inline(always)]
+fn ascii_len(text: &[u8]) -> usize
+    requires { 16 ≤ length text.now }
+    ensures within { result ≤ 16 }
+    ensures ascii { (k : ℕ) → k < result → slice_index text.now k < 0x80 }
+{
+    let bits = u8x16::from_slice(text)
+        .simd_ge(u8x16::splat(0x80))
+        .to_bitmask();
+    if bits == 0 {
+        16
+    } else {
+        bits.trailing_zeros() as usize
+    }
+}
+
+// Stores the blocks of sixteen ASCII characters at the front of text, as far as there is room, and answers how many characters they are.
+#[inline(always)]
+fn put_ascii_blocks<C: Unit>(text: &[u8], units: &mut [C], at: usize) -> usize
+    requires text { IsUtf8 text.now }
+    requires at { at ≤ length units.old }
+    ensures read { result ≤ length text.now }
+    ensures room { at + result ≤ length units.new }
+    ensures units { IsDecoded C.form text.now result (map C.number (take at units.old)) (map C.number (take (at + result) units.new)) }
+{
+    let mut count = 0;
+    'sixteens: while text.len() - count >= 16 && units.len() - (at + count) >= 16 {
+        if ascii_len(&text[count..]) < 16 {
+            return count;
+        }
+        put_bytes(&text[count..], units, at + count);
+        count += 16;
+    }
+    count
+}
+
+// How many of those sixteen stand before the first whose masked bits differ from those that are wanted.
+#[inline(always)]
+fn alike_len(text: &[u8], masks: &[u8; 16], wanted: &[u8; 16]) -> usize
+    requires { 16 ≤ length text.now }
+    ensures within { result ≤ 16 }
+    ensures alike { (k : ℕ) → k < result → bit_and (slice_index text.now k) (slice_index masks.now k) ≡ slice_index wanted.now k }
+{
+    let masked = u8x16::from_slice(text) & u8x16::from_array(*masks);
+    let bits = masked.simd_ne(u8x16::from_array(*wanted)).to_bitmask();
+    if bits == 0 {
+        16
+    } else {
+        bits.trailing_zeros() as usize
+    }
+}
+
+// The bits by which a leading byte of two is known, at each second place (Unicode Standard, Table 3-6).
+const TWO_MASKS: [u8; 16] = [
+    0xe0, 0, 0xe0, 0, 0xe0, 0, 0xe0, 0, 0xe0, 0, 0xe0, 0, 0xe0, 0, 0xe0, 0,
+];
+
+const TWO_BITS: [u8; 16] = [
+    0xc0, 0, 0xc0, 0, 0xc0, 0, 0xc0, 0, 0xc0, 0, 0xc0, 0, 0xc0, 0, 0xc0, 0,
+];
+
+// How many characters of two bytes stand side by side at the front of text, up to eight.
+#[inline(always)]
+fn twos_len(text: &[u8]) -> usize
+    requires { 16 ≤ length text.now }
+    ensures within { result ≤ 8 }
+    ensures leading { (k : ℕ) → k < result → LeadsTwo (slice_index text.now (2 * k)) }
+{
+    (alike_len(text, &TWO_MASKS, &TWO_BITS) + 1) / 2
+}
+
+#[inline(always)]
+fn char_of_two(first: u8, second: u8) -> char
+    ensures { result ≡ code_of_two first second }
+{
+    char_of(u32::from(first) % 0x20 * 0x40 + u32::from(second) % 0x40)
+}
+
+// Stores eight characters of two bytes.
+#[inline(always)]
+fn put_twos<C: Unit>(text: &[u8], units: &mut [C], at: usize)
+    requires whole { 16 ≤ length text.now }
+    requires room { at + 8 ≤ length units.old }
+    ensures { map C.number (take (at + 8) units.new) ≡ map C.number (take at units.old) ++ take 8 (codes_of_two text.now) }
+{
+    let bytes = u8x16::from_slice(text).to_array();
+    for k in 0..8 {
+        let (unit, _) = C::encode_char(char_of_two(bytes[2 * k], bytes[2 * k + 1]));
+        units[at + k] = unit;
+    }
+}
+
+// The same of three bytes, at each third place.
+const THREE_MASKS: [u8; 16] = [
+    0xf0, 0, 0, 0xf0, 0, 0, 0xf0, 0, 0, 0xf0, 0, 0, 0xf0, 0, 0, 0,
+];
+
+const THREE_BITS: [u8; 16] = [
+    0xe0, 0, 0, 0xe0, 0, 0, 0xe0, 0, 0, 0xe0, 0, 0, 0xe0, 0, 0, 0,
+];
+
+// Whether five characters of three bytes stand side by side at the front of text.
+#[inline(always)]
+fn are_threes(text: &[u8]) -> bool
+    requires { 16 ≤ length text.now }
+    ensures { IsTrue result → (k : ℕ) → k < 5 → LeadsThree (slice_index text.now (3 * k)) }
+{
+    alike_len(text, &THREE_MASKS, &THREE_BITS) == 16
+}
+
+#[inline(always)]
+fn char_of_three(first: u8, second: u8, third: u8) -> char
+    requires { IsScalar (code_of_three first second third) }
+    ensures { result ≡ code_of_three first second third }
+{
+    let front = u32::from(first) % 0x10 * 0x1000 + u32::from(second) % 0x40 * 0x40;
+    char_of(front + u32::from(third) % 0x40)
+}
+
+// Stores five characters of three bytes.
+#[inline(always)]
+fn put_threes<C: Unit>(text: &[u8], units: &mut [C], at: usize)
+    requires whole { 16 ≤ length text.now }
+    requires room { at + 5 ≤ length units.old }
+    requires scalars { (k : ℕ) → k < 5 → IsScalar (slice_index (codes_of_three text.now) k) }
+    ensures { map C.number (take (at + 5) units.new) ≡ map C.number (take at units.old) ++ take 5 (codes_of_three text.now) }
+{
+    let bytes = u8x16::from_slice(text).to_array();
+    for k in 0..5 {
+        let c = char_of_three(bytes[3 * k], bytes[3 * k + 1], bytes[3 * k + 2]);
+        let (unit, _) = C::encode_char(c);
+        units[at + k] = unit;
+    }
+}
+
+// Writes the units of the first character of text, and answers how many bytes it has and how many units.
+#[inline(always)]
+fn put_first<C: Unit>(text: &[u8], units: &mut [C], at: usize) -> (usize, usize)
+    requires text { IsUtf8 text.now }
+    requires some { 0 < length text.now }
+    requires room { at + 2 ≤ length units.old }
+    ensures read { result.0 ≤ length text.now }
+    ensures some { 0 < result.0 }
+    ensures few { result.1 ≤ 2 * result.0 }
+    ensures room { at + result.1 ≤ length units.new }
+    ensures units { IsDecoded C.form text.now result.0 (map C.number (take at units.old)) (map C.number (take (at + result.1) units.new)) }
+{
+    let (c, len) = first_char(text);
+    let behind = put_char(units, at, c);
+    (len, behind - at)
+}
+
+// Writes the units of the characters that text begins with, of one kind, and answers how many bytes they have and how many units.
+#[inline(always)]
+fn put_block<C: Unit>(text: &[u8], units: &mut [C], at: usize) -> (usize, usize)
+    requires text { IsUtf8 text.now }
+    requires whole { 16 ≤ length text.now }
+    requires room { at + 16 ≤ length units.old }
+    ensures read { result.0 ≤ length text.now }
+    ensures some { 0 < result.0 }
+    ensures few { result.1 ≤ 2 * result.0 }
+    ensures room { at + result.1 ≤ length units.new }
+    ensures units { IsDecoded C.form text.now result.0 (map C.number (take at units.old)) (map C.number (take (at + result.1) units.new)) }
+{
+    let ascii = ascii_len(text);
+    if ascii == 16 {
+        put_bytes(text, units, at);
+        let more = 16 + put_ascii_blocks(&text[16..], units, at + 16);
+        return (more, more);
+    }
+    if ascii > 0 {
+        put_bytes(text, units, at);
+        return (ascii, ascii);
+    }
+    if text[0] >= 0xf0 {
+        return put_first(text, units, at);
+    }
+    if are_threes(text) {
+        put_threes(text, units, at);
+        return (15, 5);
+    }
+    let twos = twos_len(text);
+    if twos > 0 {
+        put_twos(text, units, at);
+        return (2 * twos, twos);
+    }
+    put_first(text, units, at)
+}
+
+/// Writes the units of a front of text in UTF-8 (Unicode Standard, D92) in the encoding form of `C` (D90, D91) to the front of `units`,
+/// and answers how many bytes it read and how many units it wrote: where any byte is there, at least one is read. Units behind those
+/// may be overwritten.
+pub fn decode_utf8_front<C: Unit>(text: &[u8], units: &mut [C]) -> (usize, usize)
+    requires text { IsUtf8 text.now }
+    requires room { 64 ≤ length units.old }
+    ensures read { result.0 ≤ length text.now }
+    ensures some { 0 < length text.now → 0 < result.0 }
+    ensures written { result.1 ≤ length units.new }
+    ensures units { encode C.form (str_chars text.now) ≡ map C.number (take result.1 units.new) ++ encode C.form (str_chars (drop result.0 text.now)) }
+    ensures rest { IsUtf8 (drop result.0 text.now) }
+{
+    let mut read = 0;
+    let mut written = 0;
+    'sixteens: while text.len() - read >= 16 && units.len() - written >= 16 {
+        let (bytes, more) = put_block(&text[read..], units, written);
+        read += bytes;
+        written += more;
+    }
+    'ones: while read < text.len() && units.len() - written >= 2 {
+        let (c, len) = first_char(&text[read..]);
+        written = put_char(units, written, c);
+        read += len;
+    }
+    (read, written)
+}
