@@ -1,5 +1,5 @@
 -- Text cut behind a front of its characters: the units of the front, and those of the rest.
-use Rattle.std.proofs.Common.{◌≡◌, ℕ, zero, suc, ◌+◌, ◌-◌, ◌*◌, ◌<◌, ◌≤◌, List, [], ◌∷◌, ◌++◌, length, get_or, take, drop, refl, sym, ap, ◌∙◌, subst, arith, append_assoc, length-drop}
+use Rattle.std.proofs.Common.{◌≡◌, ℕ, zero, suc, ◌+◌, ◌-◌, ◌*◌, ◌<◌, ◌≤◌, List, [], ◌∷◌, ◌++◌, length, get_or, take, drop, refl, sym, ap, ◌∙◌, subst, arith, append_assoc, length-append, length-drop}
 use Rattle.std.specs.Char.{IsScalar}
 use Rattle.std.specs.Str.{IsUtf8}
 use Rattle.std.specs.Str.{chars as str_chars}
@@ -107,3 +107,13 @@ module _ (form : EncodingForm) where
 
   pub decoded-ascii : (bs before after : List ℕ) (n : ℕ) → IsUtf8 bs → n ≤ length bs → ((k : ℕ) → k < n → get_or bs k 0 < 0x80) → after ≡ before ++ take n bs → IsDecoded form bs n before after
   decoded-ascii bs before after n text within ascii more = joined bs before after (take n bs) n more (front_units-ascii n bs text within ascii)
+
+-- behind a front there is room for the next character, where there is room for all
+pub decoded-next : (form : EncodingForm) (bs us rest : List ℕ) (n c m : ℕ) → IsDecoded form bs n [] us → rest ≡ drop n bs → IsUtf8 rest → StartsWithChar rest c m → length us + length (code_units form c) ≤ length (encode form (str_chars bs))
+decoded-next form bs us rest n c m front is text first =
+    let behind = encode form (str_chars (drop n bs)) in
+    let first_units = front_units-char form rest c m text first in
+    let all : length (encode form (str_chars bs)) ≡ length us + length behind = ap length front.units ∙ length-append us behind in
+    let next : length (encode form (str_chars rest)) ≡ length (code_units form c) + length (encode form (str_chars (drop m rest))) = ap length first_units.units ∙ length-append (code_units form c) (encode form (str_chars (drop m rest))) in
+    let same : length (encode form (str_chars rest)) ≡ length behind = ap (λ ds. length (encode form (str_chars ds))) is in
+    omega (arith, all, next, same)

@@ -47,9 +47,9 @@ fn first_char(text: &[u8]) -> (char, usize)
 // Stores the units of a character, and answers the place behind them.
 #[inline(always)]
 fn put_char<C: Unit>(units: &mut [C], at: usize, c: char) -> usize
-    requires { at + 2 ≤ length units.old }
+    requires { at + length (code_units C.form c) ≤ length units.old }
     ensures units { map C.number (take result units.new) ≡ map C.number (take at units.old) ++ code_units C.form c }
-    ensures low { at ≤ result }
+    ensures place { result ≡ at + length (code_units C.form c) }
     ensures high { result ≤ at + 2 }
 {
     let (first, second) = C::encode_char(c);
@@ -269,13 +269,13 @@ fn put_block<C: Unit>(text: &[u8], units: &mut [C], at: usize) -> (usize, usize)
 }
 
 /// Writes the units of a front of text in UTF-8 (Unicode Standard, D92) in the encoding form of `C` (D90, D91) to the front of `units`,
-/// and answers how many bytes it read and how many units it wrote: where any byte is there, at least one is read. Units behind those
-/// may be overwritten.
+/// and answers how many bytes it read and how many units it wrote: all, where there is room for the units of all, and at least one, where
+/// there is room for two. Units behind those may be overwritten.
 pub fn decode_utf8_front<C: Unit>(text: &[u8], units: &mut [C]) -> (usize, usize)
     requires text { IsUtf8 text.now }
-    requires room { 64 ≤ length units.old }
     ensures read { result.0 ≤ length text.now }
-    ensures some { 0 < length text.now → 0 < result.0 }
+    ensures some { 0 < length text.now → 2 ≤ length units.old → 0 < result.0 }
+    ensures whole { length (encode C.form (str_chars text.now)) ≤ length units.old → result.0 ≡ length text.now }
     ensures written { result.1 ≤ length units.new }
     ensures units { encode C.form (str_chars text.now) ≡ map C.number (take result.1 units.new) ++ encode C.form (str_chars (drop result.0 text.now)) }
     ensures rest { IsUtf8 (drop result.0 text.now) }
@@ -287,8 +287,11 @@ pub fn decode_utf8_front<C: Unit>(text: &[u8], units: &mut [C]) -> (usize, usize
         read += bytes;
         written += more;
     }
-    'ones: while read < text.len() && units.len() - written >= 2 {
+    'ones: while read < text.len() {
         let (c, len) = first_char(&text[read..]);
+        if units.len() - written < C::char_len(c) {
+            return (read, written);
+        }
         written = put_char(units, written, c);
         read += len;
     }

@@ -1,5 +1,6 @@
-use Rattle.std.proofs.Common.{◌-◌, [], arith, drop, length, take}
-use Rattle.wide_blocks.proofs.FrontUnits.{decoded-behind, decoded-char, decoded-none, decoded-then}
+use Rattle.std.proofs.Common.{◌≡◌, ◌-◌, ◌∙◌, [], arith, drop, length, length-drop, map, take}
+use Rattle.std.proofs.lemmas.List.{length-map, length-take-le, take_all}
+use Rattle.wide_blocks.proofs.FrontUnits.{decoded-behind, decoded-char, decoded-next, decoded-none, decoded-then}
 use Rattle.wide_blocks.proofs.units.decode_utf8_front.Goals as goal
 
 pub sixteens-init : goal.sixteens-init
@@ -32,18 +33,31 @@ ones-preserved g c =
     record {
       within = omega (arith, first.3);
       few = omega (arith, first.2, c.put_char-written.ensures.high, c.ones.invariant.few);
-      room = omega (arith, c.put_char-written.ensures.high, c.put_char-written.auto.units);
+      room = omega (arith, c.put_char-written.ensures.place, c.char_len.ensures.value, c.if-units-written.false, c.ones.invariant.room, c.put_char-written.auto.units);
       front = decoded-then form bs [] _ _ read character.1 front (decoded-char form (take (length bs - read) (drop read bs)) _ _ character.0 character.1 (decoded-behind form bs [] _ read front) first c.put_char-written.ensures.units);
     }
 
-pub returns-else-units-written-ge2-clause-units : goal.returns-else-units-written-ge2-clause-units
-returns-else-units-written-ge2-clause-units g c = c.ones.invariant.front.units
+pub returns-then-units-written-clause-units : goal.returns-then-units-written-clause-units
+returns-then-units-written-clause-units g c = c.ones.invariant.front.units
 
-pub returns-else-units-written-ge2-clause-rest : goal.returns-else-units-written-ge2-clause-rest
-returns-else-units-written-ge2-clause-rest g c = c.ones.invariant.front.rest
+pub returns-then-units-written-clause-rest : goal.returns-then-units-written-clause-rest
+returns-then-units-written-clause-rest g c = c.ones.invariant.front.rest
 
-pub returns-after-ones-clause-units : goal.returns-after-ones-clause-units
-returns-after-ones-clause-units g c = c.ones.invariant.front.units
+pub returns-then-units-written-clause-whole : goal.returns-then-units-written-clause-whole
+returns-then-units-written-clause-whole g c = λ fits.
+    let form = g.C.Unit.form in
+    let bs = c.args.text.now in
+    let read = c.ones.read in
+    let us = map g.C.Unit.number (take c.ones.written c.ones.units) in
+    let rest = take (length bs - read) (drop read bs) in
+    let same : rest ≡ drop read bs = take_all (length bs - read) (drop read bs) (omega (arith, length-drop read bs)) in
+    let character = c.first_char-c.result in
+    let more = decoded-next form bs us rest read character.0 character.1 c.ones.invariant.front same (decoded-behind form bs [] _ read c.ones.invariant.front) c.first_char-c.ensures.first in
+    let long : length us ≡ c.ones.written = length-map (take c.ones.written c.ones.units) g.C.Unit.number ∙ length-take-le c.ones.written c.ones.units c.ones.invariant.room in
+    absurd (omega (arith, fits, more, long, c.char_len.ensures.value, c.if-units-written.true))
 
-pub returns-after-ones-clause-rest : goal.returns-after-ones-clause-rest
-returns-after-ones-clause-rest g c = c.ones.invariant.front.rest
+pub returns-clause-units : goal.returns-clause-units
+returns-clause-units g c = c.ones.invariant.front.units
+
+pub returns-clause-rest : goal.returns-clause-rest
+returns-clause-rest g c = c.ones.invariant.front.rest
