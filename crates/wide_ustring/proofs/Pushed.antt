@@ -1,21 +1,20 @@
--- The loop that writes the characters of a text behind a list, in room that was found before.
-use Rattle.std.proofs.Common.{◌≡◌, ℕ, ◌+◌, ◌≤◌, List, [], ◌∷◌, ◌++◌, length, ap, sym, ◌∙◌, arith, append_assoc, append-nil, length-append}
-use Rattle.wide_unit.specs.EncodingForm.{EncodingForm, code_units, encode}
+-- The units of a text that are written over a list of as many.
+use Rattle.std.proofs.Common.{◌≡◌, ◌≤◌, ℕ, List, [], ◌∷◌, ◌++◌, length, map, take, drop, refl, sym, ap, ◌∙◌, arith, append-nil, length-drop}
+use Rattle.std.proofs.lemmas.List.{length-map, length-take-le, take_all}
+use Rattle.std.specs.Str.{chars}
+use Rattle.wide_unit.specs.EncodingForm.{EncodingForm, encode}
 
--- what is written and what is to come make the whole, for which there is room
-pub record Pushing (form : EncodingForm) (whole done rest : List ℕ) (len room : ℕ) : Type 0 where
-  pub so_far : done ++ encode form rest ≡ whole
-  pub fits : len + length (encode form rest) ≤ room
+none_left : (form : EncodingForm) (bs : List ℕ) → length bs ≡ 0 → encode form (chars bs) ≡ []
+unfolding chars
+none_left form [] none = refl
+none_left form (b ∷ bs) none = absurd (omega arith)
 
-module _ (form : EncodingForm) (whole done rest : List ℕ) (len room : ℕ) (pushing : Pushing form whole done rest len room) where
-  pub one_fits : (c : ℕ) (cs : List ℕ) → rest ≡ c ∷ cs → len + length (code_units form c) ≤ room
-  one_fits c cs e = omega (arith, pushing.fits, ap (λ l. length (encode form l)) e, length-append (code_units form c) (encode form cs))
-
-  pub one_more : (c : ℕ) (cs new : List ℕ) (len' : ℕ) → rest ≡ c ∷ cs → new ≡ done ++ code_units form c → len' ≡ len + length (code_units form c) → Pushing form whole new cs len' room
-  one_more c cs new len' e pushed longer = record {
-    so_far = ap (λ l. l ++ encode form cs) pushed ∙ append_assoc done (code_units form c) (encode form cs) ∙ ap (λ l. done ++ encode form l) (sym e) ∙ pushing.so_far;
-    fits = omega (arith, pushing.fits, longer, ap (λ l. length (encode form l)) e, length-append (code_units form c) (encode form cs));
-  }
-
-  pub all_done : rest ≡ [] → done ≡ whole
-  all_done e = sym (append-nil done) ∙ ap (λ l. done ++ encode form l) (sym e) ∙ pushing.so_far
+-- a front of the list has the units of the front of a text that was read: of all, where the list is as long as those
+pub all_written : {X : Type 0} (form : EncodingForm) (number : X → ℕ) (text : List ℕ) (written : List X) (read count : ℕ) → length written ≡ length (encode form (chars text)) → read ≡ length text → count ≤ length written
+    → encode form (chars text) ≡ map number (take count written) ++ encode form (chars (drop read text)) → map number written ≡ encode form (chars text)
+all_written form number text written read count long all within units =
+    let rest : encode form (chars (drop read text)) ≡ [] = none_left form (drop read text) (omega (arith, all, length-drop read text)) in
+    let front : encode form (chars text) ≡ map number (take count written) = units ∙ ap (λ us. map number (take count written) ++ us) rest ∙ append-nil (map number (take count written)) in
+    let counted : length (map number (take count written)) ≡ count = length-map (take count written) number ∙ length-take-le count written within in
+    let whole : take count written ≡ written = take_all count written (omega (arith, long, ap length front, counted)) in
+    ap (map number) (sym whole) ∙ sym front

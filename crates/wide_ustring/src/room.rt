@@ -5,6 +5,7 @@ ghost use Rattle.std.specs.Str.{chars};
 ghost use Rattle.wide_unit.specs.EncodingForm.{code_units, encode};
 
 use std::alloc::Allocator;
+use wide_blocks::decode_utf8_front;
 use wide_error::OutOfMemory;
 use wide_unit::Unit;
 
@@ -114,10 +115,11 @@ pub(crate) fn push_str<C: Unit, A: Allocator>(
     ensures succeeds { vec_len units.old + length (encode C.form (chars text.now)) ≤ vec_capacity units.old → IsOk result }
     ensures capacity { vec_capacity units.old ≤ vec_capacity units.new }
 {
-    units.reserve(C::text_len(text))?;
-    for c in text.chars() {
-        push_char(units, c);
-    }
+    let len = units.len();
+    let more = C::text_len(text);
+    units.reserve(more)?;
+    units.resize(len + more, C::NUL)?;
+    decode_utf8_front(text.as_bytes(), units.slice_mut(len..));
     Ok(())
 }
 

@@ -1,32 +1,26 @@
-use Rattle.std.proofs.Common.{rules, arith, ◌≡◌, ◌∷◌, [], Some, None, refl, ◌∙◌}
+use Rattle.std.proofs.Common.{◌≡◌, ◌++◌, ◌∙◌, ap, arith, drop, length, map, sym, take}
+use Rattle.std.proofs.lemmas.Grind.{common_steps}
+use Rattle.std.proofs.lemmas.List.{map-append}
 use Rattle.std.specs.Str.{chars}
-use Rattle.std.specs.Str.Iter.{chars_rest}
-use Rattle.wide_unit.proofs.Texts.{text_first}
-use Rattle.wide_ustring.proofs.Pushed.{one_fits, one_more, all_done}
+use Rattle.wide_unit.specs.EncodingForm.{encode}
+use Rattle.wide_ustring.proofs.Pushed.{all_written}
 use Rattle.wide_ustring.proofs.room.push_str.Goals as goal
-
-pub loop-c-init : goal.loop-c-init
-loop-c-init g c =
-    let whole : chars (chars_rest c.into_iter-c-iterator.result) ≡ chars c.args.text.now = search rules in
-    record {
-      text = record { so_far = rw whole refl; fits = rw whole (omega (arith, c.text_len.ensures, c.in_ok-reserve.ensures.ok)) };
-      room = refl;
-    }
-
-pub push_char-requires : goal.push_char-requires
-push_char-requires g c =
-    let step : chars (chars_rest c.loop-c.c-iterator) ≡ c.in-Some.c ∷ chars (chars_rest c.next.new.self) = text_first c.loop-c.c-iterator c.next.new.self (Some c.in-Some.c) (search rules) (search rules) in
-    one_fits _ _ _ _ _ _ c.loop-c.invariant.text c.in-Some.c (chars (chars_rest c.next.new.self)) step
-
-pub loop-c-preserved : goal.loop-c-preserved
-loop-c-preserved g c =
-    let step : chars (chars_rest c.loop-c.c-iterator) ≡ c.in-Some.c ∷ chars (chars_rest c.next.new.self) = text_first c.loop-c.c-iterator c.next.new.self (Some c.in-Some.c) (search rules) (search rules) in
-    record {
-      text = rw c.push_char.ensures.capacity (one_more _ _ _ _ _ _ c.loop-c.invariant.text c.in-Some.c (chars (chars_rest c.next.new.self)) _ _ step c.push_char.ensures.units c.push_char.ensures.len);
-      room = c.push_char.ensures.capacity ∙ c.loop-c.invariant.room;
-    }
 
 pub returns-clause-ok : goal.returns-clause-ok
 returns-clause-ok g c =
-    let none : chars (chars_rest c.loop-c.c-iterator) ≡ [] = (text_first c.loop-c.c-iterator c.next.new.self None (search rules) (search rules)).0 in
-    rw (← c.in_ok-reserve.ensures.items) (all_done _ _ _ _ _ _ c.loop-c.invariant.text none)
+    let form = g.C.Unit.form in
+    let number = g.C.Unit.number in
+    let old = c.args.units.now.items in
+    let items = c.resize.new.self.items in
+    let len = c.len-len.result in
+    let e = c.decode_utf8_front.ensures in
+    let written = c.decode_utf8_front.new.units in
+    let text = c.args.text.now in
+    let bytes = c.as_bytes.result.now in
+    let same : bytes ≡ text = c.as_bytes.ensures.value in
+    let more : length written ≡ length (encode form (chars text)) = grind (arith, common_steps, c.decode_utf8_front.auto.units, c.slice_mut.ensures.len, c.resize.ensures.len, c.text_len-more.ensures) in
+    let long : length written ≡ length (encode form (chars bytes)) = more ∙ ap (λ bs. length (encode form (chars bs))) (sym same) in
+    let all = e.whole (omega (arith, long, c.decode_utf8_front.auto.units)) in
+    let units = all_written form number bytes written c.decode_utf8_front.result.0 c.decode_utf8_front.result.1 long all e.written e.units ∙ ap (λ bs. encode form (chars bs)) same in
+    let stored : take c.resize.new.self.len (take len items ++ (written ++ drop (length written) (drop len items)) ++ drop (length (take len items ++ (written ++ drop (length written) (drop len items)))) items) ≡ old ++ written = grind (arith, common_steps) in
+    ap (map number) stored ∙ map-append number old written ∙ ap (λ us. map number old ++ us) units
