@@ -1,13 +1,13 @@
 //! Text of units in UTF-8, and back, and lossy text, in a buffer of the caller's.
 ghost use Rattle.std.specs.Prelude.{◌≡◌, ◌≤◌, ◌+◌, ◌-◌, ◌^◌, ◌++◌, ◌*◌, IfNone, IfSome, length, min, take, drop};
 ghost use Rattle.std.specs.Str.{IsUtf8, chars as str_chars};
-ghost use Rattle.widestring.specs.EncodingForm.{Utf16, Utf32, code_units, encode};
+ghost use Rattle.widestring.specs.EncodingForm.{Utf16, Utf32, encode};
 ghost use Rattle.widestring.specs.Items.{IsWellFormed, chars, items};
 ghost use Rattle.widestring.specs.Lossy.{lossy};
 ghost use Rattle.widestring.specs.Utf8.{utf8};
 
 use std::str;
-use wide_blocks::{encode_front, encode_whole, lossy_front};
+use wide_blocks::{decode_utf8_front, encode_front, encode_whole, lossy_front};
 use widestring::unit::{Unit, check};
 
 // The text of a few units is put into a small array before it is copied, that of others into a larger one.
@@ -49,20 +49,6 @@ fn put_units(units: &mut [u16], at: usize, more: &[u16]) -> usize
         units[at..end].copy_from_slice(more);
     }
     end
-}
-
-// The same of a character in UTF-16.
-#[inline(always)]
-fn put_utf16_char(units: &mut [u16], at: usize, c: char) -> usize
-    ensures place { result ≡ min (at + length (code_units Utf16 c)) (2 ^ 64 - 1) }
-    ensures units { result ≤ length units.old → take result units.new ≡ take at units.old ++ code_units Utf16 c }
-    ensures room { length units.new ≡ length units.old }
-    ensures behind { drop result units.new ≡ drop result units.old }
-{
-    match u16::encode_char(c) {
-        (unit, None) => put_units(units, at, &[unit]),
-        (high, Some(low)) => put_units(units, at, &[high, low]),
-    }
 }
 
 // Puts the text of well-formed units in UTF-8 behind a place, as `put_bytes` does, a piece after another.
@@ -165,17 +151,36 @@ fn put_lossy(units: &[u16], text: &mut [u8]) -> usize
     }
 }
 
-// Writes a text in UTF-16, as far as there is room, and answers how many units it has, or the greatest number where they are more.
-fn put_utf16(text: &str, units: &mut [u16]) -> usize
+// Writes the units of a text, as far as there is room, a piece after another, and answers how many they are, or the greatest number where
+// they are more.
+fn put_text(text: &[u8], units: &mut [u16], piece: &mut [u16]) -> usize
+    requires text { IsUtf8 text.now }
+    requires piece { 2 ≤ length piece.old }
     ensures len { result ≡ min (length (encode Utf16 (str_chars text.now))) (2 ^ 64 - 1) }
     ensures units { result ≤ length units.old → take result units.new ≡ encode Utf16 (str_chars text.now) }
     ensures behind { drop result units.new ≡ drop result units.old }
 {
     let mut at = 0;
-    for c in text.chars() {
-        at = put_utf16_char(units, at, c);
+    let mut rest = text;
+    'pieces: while !rest.is_empty() {
+        let (read, written) = decode_utf8_front(rest, piece);
+        at = put_units(units, at, &piece[..written]);
+        (_, rest) = rest.split_at(read);
     }
     at
+}
+
+// The same, by a piece of the size that fits.
+fn put_utf16(text: &str, units: &mut [u16]) -> usize
+    ensures len { result ≡ min (length (encode Utf16 (str_chars text.now))) (2 ^ 64 - 1) }
+    ensures units { result ≤ length units.old → take result units.new ≡ encode Utf16 (str_chars text.now) }
+    ensures behind { drop result units.new ≡ drop result units.old }
+{
+    if text.len() <= FEW {
+        put_text(text.as_bytes(), units, &mut [0; FEW])
+    } else {
+        put_text(text.as_bytes(), units, &mut [0; MIDDLE])
+    }
 }
 
 /// The text of well-formed UTF-16 (Unicode Standard, D91) in UTF-8 (D92), in front of `text` where there is room for it. Answers how many
