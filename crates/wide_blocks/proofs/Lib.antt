@@ -10,6 +10,7 @@ pub mod Tables
 pub mod UnitEncodings
 pub mod Utf8Lengths
 pub mod Utf8Texts
+pub mod ValidFronts
 pub mod LossyFronts
 pub mod FirstBits
 pub mod FirstCharacters

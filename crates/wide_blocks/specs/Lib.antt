@@ -4,3 +4,4 @@ pub mod Scalars
 pub mod Wide
 pub mod Lengths
 pub mod Decoded
+pub mod Following

@@ -1,0 +1,207 @@
+-- Bytes that may each stand behind the three before are well-formed UTF-8, up to the last whole character: the Standard's Table 3-7.
+use Rattle.std.proofs.Common.{◌≡◌, inl, inr, ℕ, zero, suc, ◌+◌, ◌-◌, ◌*◌, ◌/◌, ◌%◌, ◌^◌, ◌<◌, ◌≤◌, List, [], ◌∷◌, ◌++◌, length, get_or, take, drop, refl, sym, ap, ◌∙◌, subst, arith, append_assoc, length-drop}
+use Rattle.std.specs.Char.{encode_utf8}
+use Rattle.std.specs.Str.{IsUtf8, IsValidUpTo, encode_utf8_all}
+use Rattle.std.specs.Str.Lossy.{utf8_valid_len}
+use Rattle.std.proofs.lemmas.Bool.{cases_lt}
+use Rattle.std.proofs.lemmas.List.{get_or-drop, get_or-take, take-append-drop, take_all, take_rest}
+use Rattle.std.proofs.Math.Seq.{take-add}
+use Rattle.std.proofs.lemmas.Str.{IsUtf8-append, IsUtf8-encode, IsUtf8-nil, IsUtf8-past_char, utf8_valid_len-IsUtf8, utf8_valid_len-IsValidUpTo}
+use Rattle.wide_unit.specs.Utf8.{utf8_bytes, trailing_byte}
+use Rattle.wide_unit.specs.Laws.Forms.{scalar_from}
+use Rattle.wide_unit.specs.Laws.Utf8.{one_byte, two_bytes, three_bytes, four_bytes, utf8_bytes-encode_utf8}
+use Rattle.wide_blocks.specs.Following.{CanFollow, IsWholeBehind, IsWholeUpTo}
+
+-- each of the first bytes may stand where it does, behind three others
+abbrev pub Followed : ℕ → ℕ → ℕ → List ℕ → ℕ → Type 0
+Followed a b c bs n = (k : ℕ) → k < n → CanFollow (get_or (a ∷ b ∷ c ∷ bs) k 0) (get_or (a ∷ b ∷ c ∷ bs) (suc k) 0) (get_or (a ∷ b ∷ c ∷ bs) (suc (suc k)) 0) (get_or (a ∷ b ∷ c ∷ bs) (suc (suc (suc k))) 0)
+
+-- no character is cut behind the first bytes
+abbrev Ends : ℕ → ℕ → ℕ → List ℕ → ℕ → Type 0
+Ends a b c bs n = IsWholeBehind (get_or (a ∷ b ∷ c ∷ bs) n 0) (get_or (a ∷ b ∷ c ∷ bs) (suc n) 0) (get_or (a ∷ b ∷ c ∷ bs) (suc (suc n)) 0)
+
+-- the bytes of one character
+is_text : (c : ℕ) (bs : List ℕ) → c < 0x11_0000 → (0xD800 ≤ c → 0xE000 ≤ c) → utf8_bytes c ≡ bs → IsUtf8 bs
+is_text c bs below no_surrogate is = subst (λ xs. IsUtf8 xs) (sym (utf8_bytes-encode_utf8 c) ∙ is) (IsUtf8-encode c (scalar_from c (record { below = below; no_surrogate = no_surrogate })))
+
+one : (d : ℕ) → d < 0x80 → IsUtf8 (d ∷ [])
+one d low = is_text d (d ∷ []) (omega arith) (λ from. omega arith) (one_byte d low)
+
+two : (d e : ℕ) → 0xC2 ≤ d → d < 0xE0 → 0x80 ≤ e → e < 0xC0 → IsUtf8 (d ∷ e ∷ [])
+two d e from to from_e to_e =
+    let v = d % 0x20 * 0x40 + e % 0x40 in
+    let first : 0b1100_0000 + v / 2 ^ 6 ≡ d = omega arith in
+    let second : trailing_byte v ≡ e = omega arith in
+    is_text v (d ∷ e ∷ []) (omega arith) (λ high. omega arith) (two_bytes v (omega arith) (omega arith) ∙ ap (λ x. x ∷ trailing_byte v ∷ []) first ∙ ap (λ x. d ∷ x ∷ []) second)
+
+three : (d e f : ℕ) → 0xE0 ≤ d → d < 0xF0 → 0x80 ≤ e → e < 0xC0 → 0x80 ≤ f → f < 0xC0 → (d ≡ 0xE0 → 0xA0 ≤ e) → (d ≡ 0xED → e < 0xA0) → IsUtf8 (d ∷ e ∷ f ∷ [])
+three d e f from to from_e to_e from_f to_f low high =
+    let v = d % 0x10 * 0x1000 + e % 0x40 * 0x40 + f % 0x40 in
+    let first : 0b1110_0000 + v / 2 ^ 12 ≡ d = omega arith in
+    let second : trailing_byte (v / 2 ^ 6) ≡ e = omega arith in
+    let third : trailing_byte v ≡ f = omega arith in
+    is_text v (d ∷ e ∷ f ∷ []) (omega arith) (λ surrogate. grind (arith, high)) (three_bytes v (grind (arith, low)) (omega arith) ∙ ap (λ x. x ∷ trailing_byte (v / 2 ^ 6) ∷ trailing_byte v ∷ []) first ∙ ap (λ x. d ∷ x ∷ trailing_byte v ∷ []) second ∙ ap (λ x. d ∷ e ∷ x ∷ []) third)
+
+four : (d e f g : ℕ) → 0xF0 ≤ d → d < 0xF5 → 0x80 ≤ e → e < 0xC0 → 0x80 ≤ f → f < 0xC0 → 0x80 ≤ g → g < 0xC0 → (d ≡ 0xF0 → 0x90 ≤ e) → (d ≡ 0xF4 → e < 0x90) → IsUtf8 (d ∷ e ∷ f ∷ g ∷ [])
+four d e f g from to from_e to_e from_f to_f from_g to_g low high =
+    let v = d % 8 * 0x4_0000 + e % 0x40 * 0x1000 + f % 0x40 * 0x40 + g % 0x40 in
+    let first : 0b1111_0000 + v / 2 ^ 18 ≡ d = omega arith in
+    let second : trailing_byte (v / 2 ^ 12) ≡ e = omega arith in
+    let third : trailing_byte (v / 2 ^ 6) ≡ f = omega arith in
+    let fourth : trailing_byte v ≡ g = omega arith in
+    is_text v (d ∷ e ∷ f ∷ g ∷ []) (grind (arith, high)) (λ surrogate. grind (arith, low)) (four_bytes v (grind (arith, low)) ∙ ap (λ x. x ∷ trailing_byte (v / 2 ^ 12) ∷ trailing_byte (v / 2 ^ 6) ∷ trailing_byte v ∷ []) first ∙ ap (λ x. d ∷ x ∷ trailing_byte (v / 2 ^ 6) ∷ trailing_byte v ∷ []) second ∙ ap (λ x. d ∷ e ∷ x ∷ trailing_byte v ∷ []) third ∙ ap (λ x. d ∷ e ∷ f ∷ x ∷ []) fourth)
+
+-- the same of a front, by as many steps as it has characters at most
+abbrev Fronts : ℕ → Type 0
+Fronts steps = (n a b c : ℕ) (bs : List ℕ) → n ≤ steps → IsWholeBehind a b c → n ≤ length bs → Followed a b c bs n → Ends a b c bs n → IsUtf8 (take n bs)
+
+of_two : (steps a b c d : ℕ) → Fronts steps → IsWholeBehind a b c → (n : ℕ) (bs : List ℕ) → n ≤ steps → n ≤ length bs → Followed a b c (d ∷ bs) (suc n) → Ends a b c (d ∷ bs) (suc n) → 0xC2 ≤ d → d < 0xE0 → IsUtf8 (d ∷ take n bs)
+of_two steps a b c d more whole zero bs fits within ok ends from to = absurd (omega (arith, ends.2))
+of_two steps a b c d more whole (suc n) [] fits within ok ends from to = absurd (omega arith)
+of_two steps a b c d more whole (suc n) (e ∷ bs) fits within ok ends from to =
+    let trail = (ok 1 (omega arith)).trails (inr (inr (omega arith))) in
+    IsUtf8-append (d ∷ e ∷ []) (take n bs) (two d e from to trail.0 trail.1) (more n c d e bs (omega arith) (omega (arith, whole.2), to, trail.1) (omega arith) (λ k before. ok (suc (suc k)) (omega arith)) ends)
+
+of_three : (steps a b c d : ℕ) → Fronts steps → IsWholeBehind a b c → (n : ℕ) (bs : List ℕ) → n ≤ steps → n ≤ length bs → Followed a b c (d ∷ bs) (suc n) → Ends a b c (d ∷ bs) (suc n) → 0xE0 ≤ d → d < 0xF0 → IsUtf8 (d ∷ take n bs)
+of_three steps a b c d more whole zero bs fits within ok ends from to = absurd (omega (arith, ends.2))
+of_three steps a b c d more whole (suc zero) bs fits within ok ends from to = absurd (omega (arith, ends.1))
+of_three steps a b c d more whole (suc (suc n)) [] fits within ok ends from to = absurd (omega arith)
+of_three steps a b c d more whole (suc (suc n)) (e ∷ []) fits within ok ends from to = absurd (omega arith)
+of_three steps a b c d more whole (suc (suc n)) (e ∷ f ∷ bs) fits within ok ends from to =
+    let second = ok 1 (omega arith) in
+    let trail = second.trails (inr (inr (omega arith))) in
+    let third = (ok 2 (omega arith)).trails (inr (inl from)) in
+    IsUtf8-append (d ∷ e ∷ f ∷ []) (take n bs) (three d e f from to trail.0 trail.1 third.0 third.1 second.three.0 second.three.1) (more n d e f bs (omega arith) (to, omega (arith, trail.1), third.1) (omega arith) (λ k before. ok (suc (suc (suc k))) (omega arith)) ends)
+
+of_four : (steps a b c d : ℕ) → Fronts steps → IsWholeBehind a b c → (n : ℕ) (bs : List ℕ) → n ≤ steps → n ≤ length bs → Followed a b c (d ∷ bs) (suc n) → Ends a b c (d ∷ bs) (suc n) → 0xF0 ≤ d → d < 0xF5 → IsUtf8 (d ∷ take n bs)
+of_four steps a b c d more whole zero bs fits within ok ends from to = absurd (omega (arith, ends.2))
+of_four steps a b c d more whole (suc zero) bs fits within ok ends from to = absurd (omega (arith, ends.1))
+of_four steps a b c d more whole (suc (suc zero)) bs fits within ok ends from to = absurd (omega (arith, ends.0))
+of_four steps a b c d more whole (suc (suc (suc n))) [] fits within ok ends from to = absurd (omega arith)
+of_four steps a b c d more whole (suc (suc (suc n))) (e ∷ []) fits within ok ends from to = absurd (omega arith)
+of_four steps a b c d more whole (suc (suc (suc n))) (e ∷ f ∷ []) fits within ok ends from to = absurd (omega arith)
+of_four steps a b c d more whole (suc (suc (suc n))) (e ∷ f ∷ g ∷ bs) fits within ok ends from to =
+    let second = ok 1 (omega arith) in
+    let trail = second.trails (inr (inr (omega arith))) in
+    let third = (ok 2 (omega arith)).trails (inr (inl (omega arith))) in
+    let fourth = (ok 3 (omega arith)).trails (inl from) in
+    IsUtf8-append (d ∷ e ∷ f ∷ g ∷ []) (take n bs) (four d e f g from to trail.0 trail.1 third.0 third.1 fourth.0 fourth.1 second.four.0 second.four.1) (more n e f g bs (omega arith) (omega (arith, trail.1), omega (arith, third.1), fourth.1) (omega arith) (λ k before. ok (suc (suc (suc (suc k)))) (omega arith)) ends)
+
+front_by : (steps : ℕ) → Fronts steps
+front_by steps zero a b c bs fits whole within ok ends = IsUtf8-nil
+front_by zero (suc n) a b c bs fits whole within ok ends = absurd (omega arith)
+front_by (suc steps) (suc n) a b c [] fits whole within ok ends = absurd (omega arith)
+front_by (suc steps) (suc n) a b c (d ∷ bs) fits whole within ok ends =
+    elim ((ok 0 (omega arith)).begins whole) [
+      | inl low ↦ IsUtf8-append (d ∷ []) (take n bs) (one d low) (front_by steps n b c d bs (omega arith) (omega (arith, whole.1), omega (arith, whole.2), omega arith) (omega arith) (λ k before. ok (suc k) (omega arith)) ends)
+      | inr high ↦ elim (cases_lt d 0xE0) [
+        | inl low ↦ of_two steps a b c d (front_by steps) whole n bs (omega arith) (omega arith) (λ k before. ok k before) ends high.0 low
+        | inr from ↦ elim (cases_lt d 0xF0) [
+          | inl low ↦ of_three steps a b c d (front_by steps) whole n bs (omega arith) (omega arith) (λ k before. ok k before) ends from low
+          | inr from_four ↦ of_four steps a b c d (front_by steps) whole n bs (omega arith) (omega arith) (λ k before. ok k before) ends from_four high.1
+        ]
+      ]
+    ]
+
+-- the same of a text, before which nothing stands
+abbrev pub AllFollow : List ℕ → ℕ → Type 0
+AllFollow bs n = Followed 0 0 0 bs n
+
+-- what a block tells of its bytes
+abbrev pub BlockFollows : List ℕ → Type 0
+BlockFollows block = (k : ℕ) → k < 64 → CanFollow (get_or block k 0) (get_or block (k + 1) 0) (get_or block (k + 2) 0) (get_or block (k + 3) 0)
+
+-- the same by equal bytes
+follow_as : (a b c d x y z w : ℕ) → a ≡ x → b ≡ y → c ≡ z → d ≡ w → CanFollow a b c d → CanFollow x y z w
+follow_as a b c d x y z w ax by cz dw ok = subst (λ p. CanFollow p y z w) ax (subst (λ p. CanFollow a p z w) by (subst (λ p. CanFollow a b p w) cz (subst (λ p. CanFollow a b c p) dw ok)))
+
+-- a place behind three others
+past_three : (bs : List ℕ) (m j : ℕ) → m ≡ suc (suc (suc j)) → get_or (0 ∷ 0 ∷ 0 ∷ bs) m 0 ≡ get_or bs j 0
+past_three bs m j is = ap (λ k. get_or (0 ∷ 0 ∷ 0 ∷ bs) k 0) is
+
+pub ascii_follow : (block : List ℕ) → ((k : ℕ) → k < 67 → get_or block k 0 < 0x80) → BlockFollows block
+ascii_follow block ascii k within =
+    let third = ascii k (omega arith) in
+    let second = ascii (k + 1) (omega arith) in
+    let first = ascii (k + 2) (omega arith) in
+    let byte = ascii (k + 3) (omega arith) in
+    record {
+      begins = λ whole. inl byte;
+      trails = λ due. absurd (elim due [ inl at ↦ omega (arith, third) | inr others ↦ elim others [ inl at ↦ omega (arith, second) | inr at ↦ omega (arith, first) ] ]);
+      three = (λ is. absurd (omega (arith, first)), λ is. absurd (omega (arith, first)));
+      four = (λ is. absurd (omega (arith, first)), λ is. absurd (omega (arith, first)));
+    }
+
+-- the first block stands behind three zeros
+pub first_follow : (bs xs : List ℕ) → xs ≡ take 64 bs → BlockFollows (0 ∷ 0 ∷ 0 ∷ xs) → AllFollow bs 64
+first_follow bs xs is ok k before = follow_as _ _ _ _ _ _ _ _ (byte k k (omega arith) refl) (byte (k + 1) (suc k) (omega arith) (omega arith)) (byte (k + 2) (suc (suc k)) (omega arith) (omega arith)) (byte (k + 3) (suc (suc (suc k))) (omega arith) (omega arith)) (ok k before)
+  where
+    same : (m : ℕ) → m < 67 → get_or (0 ∷ 0 ∷ 0 ∷ xs) m 0 ≡ get_or (0 ∷ 0 ∷ 0 ∷ bs) m 0
+    same zero few = refl
+    same (suc zero) few = refl
+    same (suc (suc zero)) few = refl
+    same (suc (suc (suc m))) few = ap (λ ys. get_or ys m 0) is ∙ get_or-take 64 bs m 0 (omega arith)
+
+    byte : (i m : ℕ) → i < 67 → m ≡ i → get_or (0 ∷ 0 ∷ 0 ∷ xs) i 0 ≡ get_or (0 ∷ 0 ∷ 0 ∷ bs) m 0
+    byte i m few at = same i few ∙ ap (λ j. get_or (0 ∷ 0 ∷ 0 ∷ bs) j 0) (sym at)
+
+-- a block more, read with the three bytes before it
+pub more_follow : (bs : List ℕ) (end n : ℕ) → n ≡ 67 → 3 ≤ end → AllFollow bs end → BlockFollows (take n (drop (end - 3) bs)) → AllFollow bs (end + 64)
+more_follow bs end n whole some before ok k within = elim (cases_lt k end) [ inl early ↦ before k early | inr late ↦ at late ]
+  where
+    byte : (i m : ℕ) → i < 67 → m ≡ end + i → get_or (take n (drop (end - 3) bs)) i 0 ≡ get_or (0 ∷ 0 ∷ 0 ∷ bs) m 0
+    byte i m few is = get_or-take n (drop (end - 3) bs) i 0 (omega (arith, whole, few)) ∙ get_or-drop (end - 3) bs i 0 ∙ sym (past_three bs m (end - 3 + i) (omega arith))
+
+    at : end ≤ k → CanFollow (get_or (0 ∷ 0 ∷ 0 ∷ bs) k 0) (get_or (0 ∷ 0 ∷ 0 ∷ bs) (suc k) 0) (get_or (0 ∷ 0 ∷ 0 ∷ bs) (suc (suc k)) 0) (get_or (0 ∷ 0 ∷ 0 ∷ bs) (suc (suc (suc k))) 0)
+    at late =
+        let j = k - end in
+        follow_as _ _ _ _ _ _ _ _ (byte j k (omega arith) (omega arith)) (byte (j + 1) (suc k) (omega arith) (omega arith)) (byte (j + 2) (suc (suc k)) (omega arith) (omega arith)) (byte (j + 3) (suc (suc (suc k))) (omega arith) (omega arith)) (ok j (omega arith))
+
+-- the whole characters of a front are well formed
+pub whole_front : (bs : List ℕ) (end place : ℕ) → 3 ≤ end → end ≤ length bs → AllFollow bs end → IsWholeUpTo bs end place → IsUtf8 (take place bs)
+whole_front bs end place some within ok (inl whole) =
+    let ends : Ends 0 0 0 bs end = (
+      omega (arith, whole.1.0, past_three bs end (end - 3) (omega arith)),
+      omega (arith, whole.1.1, past_three bs (suc end) (end - 2) (omega arith)),
+      omega (arith, whole.1.2, past_three bs (suc (suc end)) (end - 1) (omega arith)),
+    ) in
+    subst (λ n. IsUtf8 (take n bs)) (sym whole.0) (front_by end end 0 0 0 bs (omega arith) (omega arith, omega arith, omega arith) within ok ends)
+whole_front bs end place some within ok (inr cut) =
+    let here = ok place cut.0 in
+    let zs = 0 ∷ 0 ∷ 0 ∷ bs in
+    let third : get_or zs place 0 < 0xF0 = elim (cases_lt (get_or zs place 0) 0xF0) [ inl low ↦ low | inr high ↦ absurd (omega (arith, cut.1, (here.trails (inl high)).1)) ] in
+    let second : get_or zs (suc place) 0 < 0xE0 = elim (cases_lt (get_or zs (suc place) 0) 0xE0) [ inl low ↦ low | inr high ↦ absurd (omega (arith, cut.1, (here.trails (inr (inl high))).1)) ] in
+    let first : get_or zs (suc (suc place)) 0 < 0xC0 = elim (cases_lt (get_or zs (suc (suc place)) 0) 0xC0) [ inl low ↦ low | inr high ↦ absurd (omega (arith, cut.1, (here.trails (inr (inr high))).1)) ] in
+    front_by place place 0 0 0 bs (omega arith) (omega arith, omega arith, omega arith) (omega (arith, cut.0, within)) (λ k before. ok k (omega (arith, cut.0))) (third, second, first)
+
+-- text behind text
+text_behind : (cs bs rest : List ℕ) → IsUtf8 bs → bs ≡ encode_utf8_all cs ++ rest → IsUtf8 rest
+text_behind [] bs rest text is = subst (λ xs. IsUtf8 xs) is text
+text_behind (c ∷ cs) bs rest text is = text_behind cs (encode_utf8_all cs ++ rest) rest (IsUtf8-past_char bs (encode_utf8_all cs ++ rest) c text (is ∙ append_assoc (encode_utf8 c) (encode_utf8_all cs) rest)) refl
+
+behind_front : (bs : List ℕ) (n m : ℕ) → IsUtf8 (take n bs) → IsUtf8 (take (n + m) bs) → IsUtf8 (take m (drop n bs))
+behind_front bs n m front text =
+    text_behind front.0 (take (n + m) bs) (take m (drop n bs)) text (take-add n m bs ∙ ap (λ xs. xs ++ take m (drop n bs)) (sym front.1.1))
+
+-- what stands behind a front, as a slice of it
+abbrev Behind : List ℕ → ℕ → List ℕ
+Behind bs n = take (length bs - n) (drop n bs)
+
+-- behind a front that is text, the bytes stop being text where those behind it do
+pub valid_len-behind : (bs : List ℕ) (n m : ℕ) → n ≤ length bs → IsUtf8 (take n bs) → IsValidUpTo (Behind bs n) m → (utf8_valid_len bs ≡ n + m) × IsUtf8 (take (n + m) bs)
+valid_len-behind bs n m within front back =
+    let valid : IsValidUpTo (drop n bs) m = subst (λ xs. IsValidUpTo xs m) (take_rest bs n) back in
+    let whole : IsUtf8 (take (n + m) bs) = subst (λ xs. IsUtf8 xs) (sym (take-add n m bs)) (IsUtf8-append (take n bs) (take m (drop n bs)) front valid.front) in (
+      utf8_valid_len-IsValidUpTo bs (n + m) (record {
+        short = omega (arith, valid.short, length-drop n bs);
+        front = whole;
+        longest = λ k longer text. (let sum : n + (k - n) ≡ k = omega arith in valid.longest (k - n) (omega arith) (behind_front bs n (k - n) front (subst (λ j. IsUtf8 (take j bs)) (sym sum) text)));
+      }),
+      whole,
+    )
+
+pub valid_len-all : (bs : List ℕ) (n : ℕ) → IsUtf8 (take n bs) → IsUtf8 (Behind bs n) → (utf8_valid_len bs ≡ length bs) × IsUtf8 (take (length bs) bs)
+valid_len-all bs n front back =
+    let rest = subst (λ xs. IsUtf8 xs) (take_rest bs n) back in
+    let text : IsUtf8 bs = subst (λ xs. IsUtf8 xs) (take-append-drop n bs) (IsUtf8-append (take n bs) (drop n bs) front rest) in
+    (utf8_valid_len-IsUtf8 bs text, subst (λ xs. IsUtf8 xs) (sym (take_all (length bs) bs (omega arith))) text)

@@ -1,0 +1,116 @@
+//! Where bytes stop being well-formed UTF-8, by lanes: whether each byte may stand behind the three before it.
+
+ghost use Rattle.std.specs.Prelude.{◌≡◌, ◌+◌, ◌-◌, ◌<◌, ◌≤◌, ℕ, IsTrue, length, slice_index, take};
+ghost use Rattle.std.specs.Str.{IsUtf8};
+ghost use Rattle.std.specs.Str.Lossy.{utf8_valid_len};
+ghost use Rattle.wide_blocks.specs.Following.{CanFollow, IsWholeUpTo};
+
+use std::str;
+
+// How many bytes are looked at in one step.
+const BLOCK: usize = 64;
+
+// How many rules a byte breaks behind three others, the nearest last. All are computed, as lanes do it.
+#[inline(always)]
+fn broken_rules(third: u8, second: u8, first: u8, byte: u8) -> u8
+    ensures { result ≡ 0 → CanFollow third second first byte }
+{
+    let due = u8::from(0xf0 <= third) + u8::from(0xe0 <= second) + u8::from(0xc0 <= first);
+    let trails = u8::from(byte / 0x40 == 2);
+    let below_a0 = u8::from(byte < 0xa0);
+    let below_90 = u8::from(byte < 0x90);
+    u8::from(due != trails)
+        + u8::from(byte / 2 == 0x60)
+        + u8::from(0xf5 <= byte)
+        + u8::from(u8::from(first == 0xe0) + below_a0 == 2)
+        + u8::from(below_a0 < u8::from(first == 0xed))
+        + u8::from(u8::from(first == 0xf0) + below_90 == 2)
+        + u8::from(below_90 < u8::from(first == 0xf4))
+}
+
+// Whether all bytes of a block, and the three before it, are ASCII.
+#[inline(always)]
+fn is_ascii(block: &[u8]) -> bool
+    requires { length block.now ≡ 67 }
+    ensures { IsTrue result → (k : ℕ) → k < 67 → slice_index block.now k < 0x80 }
+{
+    let mut bits = 0;
+    for k in 0..67 {
+        bits |= block[k];
+    }
+    bits < 0x80
+}
+
+// Whether each byte of a block, behind three before it, may stand there.
+#[inline(always)]
+fn follow(block: &[u8]) -> bool
+    requires { length block.now ≡ 67 }
+    ensures { IsTrue result → (k : ℕ) → k < 64 → CanFollow (slice_index block.now k) (slice_index block.now (k + 1)) (slice_index block.now (k + 2)) (slice_index block.now (k + 3)) }
+{
+    let mut broken = 0;
+    for k in 0..64 {
+        broken |= broken_rules(block[k], block[k + 1], block[k + 2], block[k + 3]);
+    }
+    broken == 0
+}
+
+// The same, sooner where all is ASCII.
+#[inline(always)]
+fn is_sound(block: &[u8]) -> bool
+    requires { length block.now ≡ 67 }
+    ensures { IsTrue result → (k : ℕ) → k < 64 → CanFollow (slice_index block.now k) (slice_index block.now (k + 1)) (slice_index block.now (k + 2)) (slice_index block.now (k + 3)) }
+{
+    is_ascii(block) || follow(block)
+}
+
+// The place of the last character before another place, where that character isn't whole there, and else that place.
+#[inline(always)]
+fn whole_len(text: &[u8], end: usize) -> usize
+    requires some { 3 ≤ end }
+    requires within { end ≤ length text.now }
+    ensures { IsWholeUpTo text.now end result }
+{
+    if 0xc0 <= text[end - 1] {
+        end - 1
+    } else if 0xe0 <= text[end - 2] {
+        end - 2
+    } else if 0xf0 <= text[end - 3] {
+        end - 3
+    } else {
+        end
+    }
+}
+
+// The length of a front that is well formed, which ends less than two blocks before the first fault or the end.
+fn checked_len(text: &[u8]) -> usize
+    ensures within { result ≤ length text.now }
+    ensures text { IsUtf8 (take result text.now) }
+{
+    if text.len() < BLOCK {
+        return 0;
+    }
+    let mut first = [0; BLOCK + 3];
+    first[3..].copy_from_slice(&text[..BLOCK]);
+    if !is_sound(&first) {
+        return 0;
+    }
+    let mut end = BLOCK;
+    'pieces: while text.len() - end >= BLOCK && is_sound(&text[end - 3..end + BLOCK]) {
+        end += BLOCK;
+    }
+    whole_len(text, end)
+}
+
+/// How many bytes at the front are well-formed UTF-8 (Unicode Standard, D92): all, or as many as stand before the first that belongs to no
+/// character. They are read by blocks.
+pub fn utf8_valid_len(text: &[u8]) -> usize
+    ensures len { result ≡ utf8_valid_len text.now }
+    ensures within { result ≤ length text.now }
+    ensures front { IsUtf8 (take result text.now) }
+{
+    let checked = checked_len(text);
+    match str::from_utf8(&text[checked..]) {
+        Ok(_text) => text.len(),
+        Err(fault) => checked + fault.valid_up_to(),
+    }
+}
