@@ -2,11 +2,10 @@
 use Rattle.std.proofs.Common.{◌≡◌, inl, inr, ℕ, zero, suc, ◌+◌, ◌-◌, ◌*◌, ◌/◌, ◌%◌, ◌^◌, ◌<◌, ◌≤◌, List, [], ◌∷◌, ◌++◌, length, get_or, take, drop, refl, sym, ap, ◌∙◌, subst, arith, append_assoc, length-drop}
 use Rattle.std.specs.Char.{encode_utf8}
 use Rattle.std.specs.Str.{IsUtf8, IsValidUpTo, encode_utf8_all}
-use Rattle.std.specs.Str.Lossy.{utf8_valid_len}
 use Rattle.std.proofs.lemmas.Bool.{cases_lt}
 use Rattle.std.proofs.lemmas.List.{get_or-drop, get_or-take, take-append-drop, take_all, take_rest}
 use Rattle.std.proofs.Math.Seq.{take-add}
-use Rattle.std.proofs.lemmas.Str.{IsUtf8-append, IsUtf8-encode, IsUtf8-nil, IsUtf8-past_char, utf8_valid_len-IsUtf8, utf8_valid_len-IsValidUpTo}
+use Rattle.std.proofs.lemmas.Str.{IsUtf8-append, IsUtf8-encode, IsUtf8-nil, IsUtf8-past_char}
 use Rattle.wide_unit.specs.Utf8.{utf8_bytes, trailing_byte}
 use Rattle.wide_unit.specs.Laws.Forms.{scalar_from}
 use Rattle.wide_unit.specs.Laws.Utf8.{one_byte, two_bytes, three_bytes, four_bytes, utf8_bytes-encode_utf8}
@@ -188,20 +187,17 @@ abbrev Behind : List ℕ → ℕ → List ℕ
 Behind bs n = take (length bs - n) (drop n bs)
 
 -- behind a front that is text, the bytes stop being text where those behind it do
-pub valid_len-behind : (bs : List ℕ) (n m : ℕ) → n ≤ length bs → IsUtf8 (take n bs) → IsValidUpTo (Behind bs n) m → (utf8_valid_len bs ≡ n + m) × IsUtf8 (take (n + m) bs)
-valid_len-behind bs n m within front back =
-    let valid : IsValidUpTo (drop n bs) m = subst (λ xs. IsValidUpTo xs m) (take_rest bs n) back in
-    let whole : IsUtf8 (take (n + m) bs) = subst (λ xs. IsUtf8 xs) (sym (take-add n m bs)) (IsUtf8-append (take n bs) (take m (drop n bs)) front valid.front) in (
-      utf8_valid_len-IsValidUpTo bs (n + m) (record {
-        short = omega (arith, valid.short, length-drop n bs);
-        front = whole;
-        longest = λ k longer text. (let sum : n + (k - n) ≡ k = omega arith in valid.longest (k - n) (omega arith) (behind_front bs n (k - n) front (subst (λ j. IsUtf8 (take j bs)) (sym sum) text)));
-      }),
-      whole,
-    )
+pub valid-behind : (bs : List ℕ) (n v m : ℕ) → v ≡ m → n ≤ length bs → IsUtf8 (take n bs) → IsValidUpTo (Behind bs n) m → IsValidUpTo bs (n + v)
+valid-behind bs n v m is within front back =
+    let valid : IsValidUpTo (drop n bs) v = subst (λ xs. IsValidUpTo xs v) (take_rest bs n) (subst (λ k. IsValidUpTo (Behind bs n) k) (sym is) back) in
+    record {
+      short = omega (arith, valid.short, length-drop n bs);
+      front = subst (λ xs. IsUtf8 xs) (sym (take-add n v bs)) (IsUtf8-append (take n bs) (take v (drop n bs)) front valid.front);
+      longest = λ k longer text. (let sum : n + (k - n) ≡ k = omega arith in valid.longest (k - n) (omega arith) (behind_front bs n (k - n) front (subst (λ j. IsUtf8 (take j bs)) (sym sum) text)));
+    }
 
-pub valid_len-all : (bs : List ℕ) (n : ℕ) → IsUtf8 (take n bs) → IsUtf8 (Behind bs n) → (utf8_valid_len bs ≡ length bs) × IsUtf8 (take (length bs) bs)
-valid_len-all bs n front back =
-    let rest = subst (λ xs. IsUtf8 xs) (take_rest bs n) back in
-    let text : IsUtf8 bs = subst (λ xs. IsUtf8 xs) (take-append-drop n bs) (IsUtf8-append (take n bs) (drop n bs) front rest) in
-    (utf8_valid_len-IsUtf8 bs text, subst (λ xs. IsUtf8 xs) (sym (take_all (length bs) bs (omega arith))) text)
+pub text-behind : (bs : List ℕ) (n : ℕ) → IsUtf8 (take n bs) → IsUtf8 (Behind bs n) → IsUtf8 bs
+text-behind bs n front back = subst (λ xs. IsUtf8 xs) (take-append-drop n bs) (IsUtf8-append (take n bs) (drop n bs) front (subst (λ xs. IsUtf8 xs) (take_rest bs n) back))
+
+pub text-all : (bs : List ℕ) → IsUtf8 bs → IsUtf8 (take (length bs) bs)
+text-all bs text = subst (λ xs. IsUtf8 xs) (sym (take_all (length bs) bs (omega arith))) text

@@ -24,4 +24,4 @@ pub use steps::{Step, put_unit};
 pub use strings::{push_utf8, utf8_string};
 pub use text::{encode_front, encode_whole};
 pub use units::decode_utf8_front;
-pub use valid::utf8_valid_len;
+pub use valid::first_chunk;

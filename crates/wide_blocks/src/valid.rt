@@ -1,8 +1,8 @@
 //! Where bytes stop being well-formed UTF-8, by lanes: whether each byte may stand behind the three before it.
 
-ghost use Rattle.std.specs.Prelude.{◌≡◌, ◌+◌, ◌-◌, ◌<◌, ◌≤◌, ℕ, IsTrue, length, slice_index, take};
-ghost use Rattle.std.specs.Str.{IsUtf8};
-ghost use Rattle.std.specs.Str.Lossy.{utf8_valid_len};
+ghost use Rattle.std.specs.Prelude.{◌≡◌, ◌+◌, ◌-◌, ◌<◌, ◌≤◌, ℕ, IsTrue, drop, length, slice_index, take};
+ghost use Rattle.std.specs.Str.{IsUtf8, IsValidUpTo};
+ghost use Rattle.std.specs.Str.Lossy.{utf8_invalid_len, utf8_valid_len};
 ghost use Rattle.wide_blocks.specs.Following.{CanFollow, IsWholeUpTo};
 
 use std::str;
@@ -101,16 +101,23 @@ fn checked_len(text: &[u8]) -> usize
     whole_len(text, end)
 }
 
-/// How many bytes at the front are well-formed UTF-8 (Unicode Standard, D92): all, or as many as stand before the first that belongs to no
-/// character. They are read by blocks.
-pub fn utf8_valid_len(text: &[u8]) -> usize
-    ensures len { result ≡ utf8_valid_len text.now }
-    ensures within { result ≤ length text.now }
-    ensures front { IsUtf8 (take result text.now) }
+/// How many bytes at the front are well-formed UTF-8 (Unicode Standard, D92), and how many behind them are the first ill-formed part, which
+/// one U+FFFD stands for (D93b, as std's `Utf8Chunks`): all and none, where the bytes are well formed. They are read by blocks.
+pub fn first_chunk(text: &[u8]) -> (usize, usize)
+    ensures within { result.0 + result.1 ≤ length text.now }
+    ensures len { result.0 ≡ utf8_valid_len text.now }
+    ensures front { IsUtf8 (take result.0 text.now) }
+    ensures all { result.1 ≡ 0 → result.0 ≡ length text.now }
+    ensures well_formed { result.1 ≡ 0 → IsUtf8 text.now }
+    ensures fault { 0 < result.1 → IsValidUpTo text.now result.0 }
+    ensures part { 0 < result.1 → result.1 ≡ utf8_invalid_len (drop result.0 text.now) }
 {
     let checked = checked_len(text);
     match str::from_utf8(&text[checked..]) {
-        Ok(_text) => text.len(),
-        Err(fault) => checked + fault.valid_up_to(),
+        Ok(_text) => (text.len(), 0),
+        Err(fault) => {
+            let valid = checked + fault.valid_up_to();
+            (valid, fault.error_len().unwrap_or(text.len() - valid))
+        }
     }
 }
