@@ -40,8 +40,8 @@ module _ {X : Type 0} (number : X → ℕ) where
   pub one_more_by : (first : List ℕ) (from : ℕ) (all : List ℕ) (old new : List X) (bs rest : List ℕ) (at end : ℕ) → Puts first from all at (map number old) (bs ++ rest) → end ≡ min (at + length bs) (2 ^ 64 - 1) → (end ≤ length old → map number (take end new) ≡ map number (take at old) ++ bs) → length new ≡ length old → Puts first from all end (map number new) rest
   one_more_by first from all old new bs rest at end w place text room =
       one_more first from all (map number old) (map number new) bs rest at end w place
-        (λ fits. take-map number end new ∙ text (omega (arith, fits, length-map old number)) ∙ ap (λ xs. xs ++ bs) (sym (take-map number at old)))
-        (omega (arith, room, length-map new number, length-map old number))
+      (λ fits. take-map number end new ∙ text (omega (arith, fits, length-map old number)) ∙ ap (λ xs. xs ++ bs) (sym (take-map number at old)))
+      (omega (arith, room, length-map new number, length-map old number))
 
   pub one_more_of : (first : List ℕ) (from : ℕ) (all : List ℕ) (old new bs : List X) (rest : List ℕ) (at end : ℕ) → Puts first from all at (map number old) (map number bs ++ rest) → end ≡ min (at + length bs) (2 ^ 64 - 1) → (end ≤ length old → take end new ≡ take at old ++ bs) → length new ≡ length old → Puts first from all end (map number new) rest
   one_more_of first from all old new bs rest at end w place text room =

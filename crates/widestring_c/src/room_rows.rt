@@ -1,13 +1,13 @@
 //! Conversions into rooms that are exact, too short and too long: each kind of character and of fault, at each place of texts of each
 //! length. What is wanted is made by the standard library.
+use crate::between::{wide_utf16_to_utf32, wide_utf32_to_utf16};
 use crate::from_utf8::{
     wide_utf8_first_fault, wide_utf8_to_utf16, wide_utf8_to_utf16_lossy, wide_utf8_to_utf32,
 };
 use crate::repair::{wide_utf16_repair, wide_utf32_repair};
 use crate::to_utf8::{wide_utf16_to_utf8, wide_utf16_to_utf8_lossy, wide_utf32_to_utf8};
 use std::alloc::{AllocError, Global};
-use std::char;
-use std::str;
+use std::{char, str};
 
 // The least and the greatest length of texts, and the first place at which something is put: all that few blocks take, those about the
 // ends of blocks of 64 bytes, and about the end of a piece of 256 units.
@@ -92,6 +92,23 @@ fn fills<T: Copy + PartialEq, F: Fn(&mut [T]) -> usize>(
     Ok(well)
 }
 
+// A text in UTF-16, and its scalar values.
+fn units_of(alloc: Global, text: &str) -> Result<Vec<u16>, AllocError> {
+    let mut units = Vec::new(alloc);
+    for unit in text.encode_utf16() {
+        units.push(unit)?;
+    }
+    Ok(units)
+}
+
+fn scalars_of(alloc: Global, text: &str) -> Result<Vec<u32>, AllocError> {
+    let mut scalars = Vec::new(alloc);
+    for c in text.chars() {
+        scalars.push(c as u32)?;
+    }
+    Ok(scalars)
+}
+
 // Whether each function does so with these units.
 fn converts16(alloc: Global, units: &[u16]) -> Result<bool, AllocError> {
     let mut text = String::new(alloc);
@@ -100,16 +117,21 @@ fn converts16(alloc: Global, units: &[u16]) -> Result<bool, AllocError> {
         is_text &= decoded.is_ok();
         text.push(decoded.unwrap_or('\u{fffd}'))?;
     }
-    let mut repaired = Vec::new(alloc);
-    for unit in text.encode_utf16() {
-        repaired.push(unit)?;
-    }
+    let repaired = units_of(alloc, text.as_str())?;
     let bytes = text.as_bytes();
     let strict = if is_text { Some(bytes) } else { None };
+    let scalars = scalars_of(alloc, text.as_str())?;
+    let strict32 = if is_text {
+        Some(scalars.as_slice())
+    } else {
+        None
+    };
+    let to_scalars = |room: &mut [u32]| wide_utf16_to_utf32(units, room);
     let to_text = |room: &mut [u8]| wide_utf16_to_utf8(units, room);
     let to_lossy = |room: &mut [u8]| wide_utf16_to_utf8_lossy(units, room);
     let repair = |room: &mut [u16]| wide_utf16_repair(units, room);
     let mut well = fills(alloc, to_text, bytes.len(), strict, 0xaa)?;
+    well &= fills(alloc, to_scalars, scalars.len(), strict32, 0xaaaa_aaaa)?;
     well &= fills(alloc, to_lossy, bytes.len(), Some(bytes), 0xaa)?;
     well &= fills(
         alloc,
@@ -132,9 +154,17 @@ fn converts32(alloc: Global, units: &[u32]) -> Result<bool, AllocError> {
     let bytes = text.as_bytes();
     let is_text = repaired.as_slice() == units;
     let strict = if is_text { Some(bytes) } else { None };
+    let units16 = units_of(alloc, text.as_str())?;
+    let strict16 = if is_text {
+        Some(units16.as_slice())
+    } else {
+        None
+    };
     let repair = |room: &mut [u32]| wide_utf32_repair(units, room);
+    let to_utf16 = |room: &mut [u16]| wide_utf32_to_utf16(units, room);
     let to_text = |room: &mut [u8]| wide_utf32_to_utf8(units, room);
     let mut well = fills(alloc, to_text, bytes.len(), strict, 0xaa)?;
+    well &= fills(alloc, to_utf16, units16.len(), strict16, 0xaaaa)?;
     well &= fills(
         alloc,
         repair,
@@ -147,21 +177,23 @@ fn converts32(alloc: Global, units: &[u32]) -> Result<bool, AllocError> {
 
 fn converts8(alloc: Global, bytes: &[u8]) -> Result<bool, AllocError> {
     let lossy = String::from_utf8_lossy(alloc, bytes)?;
-    let mut units = Vec::new(alloc);
-    for unit in lossy.encode_utf16() {
-        units.push(unit)?;
-    }
-    let mut scalars = Vec::new(alloc);
-    for c in lossy.chars() {
-        scalars.push(c as u32)?;
-    }
+    let units = units_of(alloc, lossy.as_str())?;
+    let scalars = scalars_of(alloc, lossy.as_str())?;
     let fault = match str::from_utf8(bytes) {
         Ok(_text) => bytes.len(),
         Err(fault) => fault.valid_up_to(),
     };
     let is_text = fault == bytes.len();
-    let strict16 = if is_text { Some(units.as_slice()) } else { None };
-    let strict32 = if is_text { Some(scalars.as_slice()) } else { None };
+    let strict16 = if is_text {
+        Some(units.as_slice())
+    } else {
+        None
+    };
+    let strict32 = if is_text {
+        Some(scalars.as_slice())
+    } else {
+        None
+    };
     let to_utf16 = |room: &mut [u16]| wide_utf8_to_utf16(bytes, room);
     let to_lossy = |room: &mut [u16]| wide_utf8_to_utf16_lossy(bytes, room);
     let to_utf32 = |room: &mut [u32]| wide_utf8_to_utf32(bytes, room);
@@ -255,6 +287,11 @@ fn units_of_32_bits(rt: HostRuntime) {
 
 #[test]
 fn bytes(rt: HostRuntime) {
-    let failing = first_failure(rt.alloc(), 0x61, &KINDS8, |bytes| converts8(rt.alloc(), bytes));
+    let failing = first_failure(
+        rt.alloc(),
+        0x61,
+        &KINDS8,
+        |bytes| converts8(rt.alloc(), bytes),
+    );
     assert_eq!(rt; failing, None);
 }

@@ -1,4 +1,4 @@
-use Rattle.std.proofs.Common.{◌≡◌, ◌++◌, ◌∷◌, ℕ, List, [], refl, ap, sym, ◌∙◌, subst, arith, length, map, take, append-nil}
+use Rattle.std.proofs.Common.{◌≡◌, ◌++◌, ◌∷◌, ℕ, List, [], refl, ap, sym, ◌∙◌, subst, arith, length, map, take}
 use Rattle.wide_unit.specs.EncodingForm.{EncodingForm, encode}
 use Rattle.wide_unit.specs.Items.{IsWellFormed, chars}
 use Rattle.wide_unit.specs.Laws.Items.{items-nil}

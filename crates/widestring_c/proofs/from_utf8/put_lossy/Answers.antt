@@ -1,4 +1,4 @@
-use Rattle.std.proofs.Common.{◌≡◌, ◌+◌, ◌<◌, ◌++◌, ◌∷◌, ℕ, List, [], refl, ap, sym, ◌∙◌, subst, arith, length, map, take, drop}
+use Rattle.std.proofs.Common.{◌≡◌, ◌<◌, ◌++◌, ◌∷◌, [], refl, ap, sym, ◌∙◌, subst, arith, length, map, drop}
 use Rattle.std.specs.Str.{chars}
 use Rattle.std.specs.Str.Lossy.{utf8_lossy}
 use Rattle.wide_unit.specs.EncodingForm.{encode}

@@ -1,4 +1,4 @@
-use Rattle.std.proofs.Common.{◌≡◌, ◌<◌, inl, inr, arith, length}
+use Rattle.std.proofs.Common.{inl, inr, arith}
 use Rattle.std.proofs.lemmas.Bool.{cases_lt}
 use Rattle.widestring_c.proofs.Chunks.{not_text}
 use Rattle.widestring_c.proofs.from_utf8.wide_utf8_first_fault.Goals as goal

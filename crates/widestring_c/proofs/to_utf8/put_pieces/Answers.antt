@@ -1,4 +1,4 @@
-use Rattle.std.proofs.Common.{◌≡◌, ◌++◌, ℕ, List, [], refl, ap, sym, ◌∙◌, subst, arith, length, map, take}
+use Rattle.std.proofs.Common.{◌≡◌, ◌++◌, refl, ap, sym, ◌∙◌, subst, arith, length, map, take}
 use Rattle.wide_unit.specs.Items.{IsWellFormed, chars}
 use Rattle.wide_unit.specs.Utf8.{utf8}
 use Rattle.wide_blocks.proofs.Utf8Texts.{no_text}
