@@ -15,3 +15,4 @@ pub mod LossyFronts
 pub mod FirstBits
 pub mod FirstCharacters
 pub mod FrontUnits
+pub mod PartTexts
