@@ -2,12 +2,12 @@
 use Rattle.std.proofs.Common.{◌≡◌, ℕ, zero, suc, ◌+◌, ◌<◌, ◌≤◌, inl, inr, List, [], ◌∷◌, ◌++◌, true, length, take, drop, sym, ap, ◌∙◌, subst, arith, append_assoc, length-append, length-drop, length-take}
 use Rattle.std.specs.Char.{IsScalar, encode_utf8}
 use Rattle.std.specs.Str.{IsUtf8, StartsWithNoChar, all_scalars, encode_utf8_all, is_utf8}
-use Rattle.std.specs.Str.Lossy.{utf8_invalid_len, utf8_valid_len, valid_len_up_to}
+use Rattle.std.specs.Str.Lossy.{utf8_error_len, utf8_invalid_len, utf8_valid_len, valid_len_up_to}
 use Rattle.std.proofs.Math.Seq.{take-add, take-append_seam}
 use Rattle.std.proofs.lemmas.Bool.{and_parts, cases_Bool, cases_lt}
+use Rattle.std.proofs.lemmas.Bool.Decides.{nat_tests}
 use Rattle.std.proofs.lemmas.List.{take-append-drop}
 use Rattle.std.proofs.lemmas.Str.{IsUtf8-append, IsUtf8-encode, IsUtf8-from_is_utf8, IsUtf8-nil, is_utf8-from_IsUtf8, len_utf8_bounds, length-encode, utf8_valid_len_le}
-use Rattle.std.proofs.str.Lossy.{utf8_invalid_len_pos}
 use Rattle.wide_unit.specs.Utf8.{utf8_bytes}
 use Rattle.wide_unit.specs.Laws.Utf8.{utf8_bytes-encode_utf8}
 
@@ -54,8 +54,13 @@ pub data First : List ℕ → Type 0 where
 pub shorter-char : (c : ℕ) (rest : List ℕ) → length rest < length (utf8_bytes c ++ rest)
 shorter-char c rest = omega (arith, length-append (utf8_bytes c) rest, ap length (utf8_bytes-encode_utf8 c), length-encode c, (len_utf8_bounds c).0)
 
+-- an ill-formed part has a byte
+part-some : (bs : List ℕ) → 0 < length bs → 0 < utf8_invalid_len bs
+unfolding utf8_error_len
+part-some bs some = grind (arith, nat_tests)
+
 pub shorter-part : (bs : List ℕ) → 0 < length bs → length (drop (utf8_invalid_len bs) bs) < length bs
-shorter-part bs some = omega (arith, some, utf8_invalid_len_pos bs some, length-drop (utf8_invalid_len bs) bs)
+shorter-part bs some = omega (arith, some, part-some bs some, length-drop (utf8_invalid_len bs) bs)
 
 first-char : (bs : List ℕ) → 0 < utf8_valid_len bs → First bs
 first-char bs some = by (valid_len-front bs).0 (valid_len-front bs).1.0 (valid_len-front bs).1.1
