@@ -1,6 +1,8 @@
 //! The answers of the static library and of its peers beside std's, on units made at random.
 
-use crate::conversions::{Conversion, REPAIR, TO_UTF16, TO_UTF8, TO_UTF8_LOSSY};
+use crate::conversions::{
+    Conversion, REPAIR, TO_UTF16, TO_UTF16_LOSSY, TO_UTF32, TO_UTF8, TO_UTF8_LOSSY, UTF16_TO_UTF32, UTF32_TO_UTF16, UTF32_TO_UTF8,
+};
 use crate::texts::Random;
 use std::fmt::UpperHex;
 
@@ -98,14 +100,30 @@ fn compare_one<From: UpperHex, To: Copy + Default + Eq + TryFrom<usize>>(
     }
 }
 
-/// The text of the units in UTF-8, lossy, of which one byte in each second text is another.
+/// The text of the units in UTF-8, lossy. In each second text some bytes are others, and in some of those the last character is cut.
 fn any_bytes(units: &[u16], random: &mut Random) -> Vec<u8> {
     let mut bytes = String::from_utf16_lossy(units).into_bytes();
-    if !bytes.is_empty() && random.below(2) == 0 {
+    if bytes.is_empty() || random.below(2) == 0 {
+        return bytes;
+    }
+    for _ in 0..[1, 1, 2, 1 + bytes.len() / 8][random.below(4)] {
         let place = random.below(bytes.len());
         bytes[place] = random.below(0x100) as u8;
     }
+    if random.below(4) == 0 {
+        bytes.truncate(bytes.len() - 1 - random.below(bytes.len().min(4)));
+    }
     bytes
+}
+
+/// The characters of the units, lossy. In each second text one of them is any unit.
+fn any_scalars(units: &[u16], random: &mut Random) -> Vec<u32> {
+    let mut scalars: Vec<u32> = String::from_utf16_lossy(units).chars().map(u32::from).collect();
+    if !scalars.is_empty() && random.below(2) == 0 {
+        let place = random.below(scalars.len());
+        scalars[place] = [0xd7ff, 0xd800, 0xdfff, 0xe000, 0xffff, 0x1_0000, 0x10_ffff, 0x11_0000, u32::MAX][random.below(9)];
+    }
+    scalars
 }
 
 /// Compares so many inputs, and answers whether none differs.
@@ -119,6 +137,12 @@ pub fn compare(seed: u64, count: u64) -> bool {
         compare_one(&REPAIR, &units, &mut random, &mut counts);
         let bytes = any_bytes(&units, &mut random);
         compare_one(&TO_UTF16, &bytes, &mut random, &mut counts);
+        compare_one(&TO_UTF16_LOSSY, &bytes, &mut random, &mut counts);
+        compare_one(&TO_UTF32, &bytes, &mut random, &mut counts);
+        let scalars = any_scalars(&units, &mut random);
+        compare_one(&UTF32_TO_UTF8, &scalars, &mut random, &mut counts);
+        compare_one(&UTF32_TO_UTF16, &scalars, &mut random, &mut counts);
+        compare_one(&UTF16_TO_UTF32, &units, &mut random, &mut counts);
     }
     println!("seed {seed}: {} answers agree, {} differ", counts.agreeing, counts.differing);
     counts.differing == 0

@@ -1,12 +1,17 @@
 //! The conversions of the static library, and those of its peers.
 
 use std::borrow::Cow;
-use widestring::{U16Str, Utf16String};
+use widestring::{U16Str, U32Str, Utf16String, Utf32String};
 
 extern "C" {
     fn wide_utf16_to_utf8(units: *const u16, length: usize, text: *mut u8, room: usize) -> usize;
     fn wide_utf16_to_utf8_lossy(units: *const u16, length: usize, text: *mut u8, room: usize) -> usize;
     fn wide_utf8_to_utf16(text: *const u8, length: usize, units: *mut u16, room: usize) -> usize;
+    fn wide_utf8_to_utf16_lossy(text: *const u8, length: usize, units: *mut u16, room: usize) -> usize;
+    fn wide_utf8_to_utf32(text: *const u8, length: usize, units: *mut u32, room: usize) -> usize;
+    fn wide_utf32_to_utf8(units: *const u32, length: usize, text: *mut u8, room: usize) -> usize;
+    fn wide_utf16_to_utf32(units: *const u16, length: usize, scalars: *mut u32, room: usize) -> usize;
+    fn wide_utf32_to_utf16(scalars: *const u32, length: usize, units: *mut u16, room: usize) -> usize;
     fn wide_utf16_repair(units: *const u16, length: usize, repaired: *mut u16, room: usize) -> usize;
 }
 
@@ -94,6 +99,75 @@ pub const TO_UTF16: Conversion<u8, u16> = Conversion {
     growth: 1,
 };
 
+pub const TO_UTF16_LOSSY: Conversion<u8, u16> = Conversion {
+    name: "to UTF-16, lossy",
+    library: |text, units| unsafe { wide_utf8_to_utf16_lossy(text.as_ptr(), text.len(), units.as_mut_ptr(), units.len()) },
+    rust_crate: |text, _| Some(Cow::Owned(Utf16String::from_str(&String::from_utf8_lossy(text)).into_vec())),
+    std: |text, _| Some(Cow::Owned(String::from_utf8_lossy(text).encode_utf16().collect())),
+    others: &[
+        #[cfg(encoding_rs)]
+        ("encoding_rs", encoding::to_utf16_lossy),
+        #[cfg(icu)]
+        ("ICU", icu::to_utf16_lossy),
+    ],
+    growth: 1,
+};
+
+/// Neither encoding_rs nor ICU has calls for UTF-32 of a whole text in memory.
+pub const TO_UTF32: Conversion<u8, u32> = Conversion {
+    name: "to UTF-32",
+    library: |text, units| unsafe { wide_utf8_to_utf32(text.as_ptr(), text.len(), units.as_mut_ptr(), units.len()) },
+    rust_crate: |text, _| Some(Cow::Owned(Utf32String::from_str(std::str::from_utf8(text).ok()?).into_vec())),
+    std: |text, _| Some(Cow::Owned(std::str::from_utf8(text).ok()?.chars().map(u32::from).collect())),
+    others: &[],
+    growth: 1,
+};
+
+pub const UTF32_TO_UTF8: Conversion<u32, u8> = Conversion {
+    name: "UTF-32 to UTF-8",
+    library: |units, text| unsafe { wide_utf32_to_utf8(units.as_ptr(), units.len(), text.as_mut_ptr(), text.len()) },
+    rust_crate: |units, _| Some(Cow::Owned(U32Str::from_slice(units).to_string().ok()?.into_bytes())),
+    std: |units, _| {
+        let text: Option<String> = units.iter().map(|unit| char::from_u32(*unit)).collect();
+        Some(Cow::Owned(text?.into_bytes()))
+    },
+    others: &[],
+    growth: 4,
+};
+
+pub const UTF16_TO_UTF32: Conversion<u16, u32> = Conversion {
+    name: "UTF-16 to UTF-32",
+    library: |units, scalars| unsafe { wide_utf16_to_utf32(units.as_ptr(), units.len(), scalars.as_mut_ptr(), scalars.len()) },
+    rust_crate: |units, _| {
+        let text = widestring::Utf16Str::from_slice(units).ok()?;
+        Some(Cow::Owned(text.chars().collect::<Utf32String>().into_vec()))
+    },
+    std: |units, _| {
+        let scalars: Result<Vec<u32>, _> = char::decode_utf16(units.iter().copied()).map(|c| c.map(u32::from)).collect();
+        Some(Cow::Owned(scalars.ok()?))
+    },
+    others: &[],
+    growth: 1,
+};
+
+pub const UTF32_TO_UTF16: Conversion<u32, u16> = Conversion {
+    name: "UTF-32 to UTF-16",
+    library: |scalars, units| unsafe { wide_utf32_to_utf16(scalars.as_ptr(), scalars.len(), units.as_mut_ptr(), units.len()) },
+    rust_crate: |units, _| {
+        let text = widestring::Utf32Str::from_slice(units).ok()?;
+        Some(Cow::Owned(text.chars().collect::<Utf16String>().into_vec()))
+    },
+    std: |scalars, _| {
+        let mut units = Vec::with_capacity(scalars.len());
+        for scalar in scalars {
+            units.extend_from_slice(char::from_u32(*scalar)?.encode_utf16(&mut [0; 2]));
+        }
+        Some(Cow::Owned(units))
+    },
+    others: &[],
+    growth: 2,
+};
+
 /// ICU has no call for this one.
 pub const REPAIR: Conversion<u16, u16> = Conversion {
     name: "repair",
@@ -137,6 +211,11 @@ mod encoding {
         Some(Cow::Borrowed(&units[..length]))
     }
 
+    pub fn to_utf16_lossy<'a>(text: &[u8], units: &'a mut [u16]) -> Option<Cow<'a, [u16]>> {
+        let length = mem::convert_utf8_to_utf16(text, units);
+        Some(Cow::Borrowed(&units[..length]))
+    }
+
     /// It repairs in place, so the units are copied first.
     pub fn repaired<'a>(units: &[u16], room: &'a mut [u16]) -> Option<Cow<'a, [u16]>> {
         let repaired = &mut room[..units.len()];
@@ -161,6 +240,10 @@ mod icu {
         ) -> *mut c_char;
         #[link_name = "u_strFromUTF8ICU_SUFFIX"]
         fn u_str_from_utf8(units: *mut u16, room: i32, needed: *mut i32, text: *const c_char, length: i32, error: *mut i32) -> *mut u16;
+        #[link_name = "u_strFromUTF8WithSubICU_SUFFIX"]
+        fn u_str_from_utf8_with_sub(
+            units: *mut u16, room: i32, needed: *mut i32, text: *const c_char, length: i32, sub: i32, subs: *mut i32, error: *mut i32,
+        ) -> *mut u16;
     }
 
     /// The front of the room, of the length that a call wrote, which takes that and its error by pointers. Below 0 are warnings.
@@ -186,6 +269,12 @@ mod icu {
     pub fn to_utf16<'a>(text: &[u8], units: &'a mut [u16]) -> Option<Cow<'a, [u16]>> {
         front(units, |units, room, needed, error| unsafe {
             u_str_from_utf8(units, room, needed, text.as_ptr().cast(), text.len() as i32, error);
+        })
+    }
+    pub fn to_utf16_lossy<'a>(text: &[u8], units: &'a mut [u16]) -> Option<Cow<'a, [u16]>> {
+        let replacement = char::REPLACEMENT_CHARACTER as i32;
+        front(units, |units, room, needed, error| unsafe {
+            u_str_from_utf8_with_sub(units, room, needed, text.as_ptr().cast(), text.len() as i32, replacement, &mut 0, error);
         })
     }
 }

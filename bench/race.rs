@@ -1,8 +1,10 @@
 //! Each conversion of the static library in turn with those of its peers, on the same texts.
 
 use crate::clock;
-use crate::conversions::{Conversion, REPAIR, TO_UTF16, TO_UTF8, TO_UTF8_LOSSY};
-use crate::texts::{ascii, cyrillic, emoji_alone, emoji_of_20, european_and_chinese, with_faults};
+use crate::conversions::{
+    Conversion, REPAIR, TO_UTF16, TO_UTF16_LOSSY, TO_UTF32, TO_UTF8, TO_UTF8_LOSSY, UTF16_TO_UTF32, UTF32_TO_UTF16, UTF32_TO_UTF8,
+};
+use crate::texts::{ascii, chinese, cyrillic, emoji_alone, emoji_of_20, european_and_chinese, with_faults};
 use std::hint::black_box;
 
 /// The units of a text of 16 KB, which stays in cache, and of one of 64 MB, with the rounds that each is raced and the calls of a round.
@@ -91,15 +93,52 @@ pub fn race_all() {
             ("European and Chinese, faults", &|length| with_faults(european_and_chinese(length))),
         ],
     );
-    let in_utf8 = |units: Vec<u16>| String::from_utf16(&units).expect("well-formed text").into_bytes();
+    race_from_utf8();
+    race_utf32();
+}
+
+fn in_utf8(units: Vec<u16>) -> Vec<u8> {
+    String::from_utf16(&units).expect("well-formed text").into_bytes()
+}
+
+/// The text with a byte that no character has in the place of each tenth one.
+fn broken(mut text: Vec<u8>) -> Vec<u8> {
+    text.iter_mut().step_by(10).for_each(|byte| *byte = 0xff);
+    text
+}
+
+fn race_from_utf8() {
+    let texts: [Text<u8>; 6] = [
+        ("ASCII", &|length| in_utf8(ascii(length))),
+        ("European and Chinese", &|length| in_utf8(european_and_chinese(length))),
+        ("Chinese", &|length| in_utf8(chinese(length))),
+        ("Cyrillic", &|length| in_utf8(cyrillic(length))),
+        ("an emoji of 20", &|length| in_utf8(emoji_of_20(length))),
+        ("emoji alone", &|length| in_utf8(emoji_alone(length))),
+    ];
+    race(&TO_UTF16, &texts);
+    race(&TO_UTF32, &texts);
     race(
-        &TO_UTF16,
+        &TO_UTF16_LOSSY,
         &[
-            ("ASCII", &|length| in_utf8(ascii(length))),
             ("European and Chinese", &|length| in_utf8(european_and_chinese(length))),
-            ("Cyrillic", &|length| in_utf8(cyrillic(length))),
-            ("an emoji of 20", &|length| in_utf8(emoji_of_20(length))),
-            ("emoji alone", &|length| in_utf8(emoji_alone(length))),
+            ("European and Chinese, faults", &|length| broken(in_utf8(european_and_chinese(length)))),
+            ("ASCII, faults", &|length| broken(in_utf8(ascii(length)))),
         ],
     );
+}
+
+fn in_utf32(units: Vec<u16>) -> Vec<u32> {
+    String::from_utf16(&units).expect("well-formed text").chars().map(u32::from).collect()
+}
+
+fn race_utf32() {
+    let texts: [Text<u32>; 3] = [
+        ("ASCII", &|length| in_utf32(ascii(length))),
+        ("European and Chinese", &|length| in_utf32(european_and_chinese(length))),
+        ("emoji alone", &|length| in_utf32(emoji_alone(length))),
+    ];
+    race(&UTF32_TO_UTF8, &texts);
+    race(&UTF32_TO_UTF16, &texts);
+    race(&UTF16_TO_UTF32, &[("ASCII", &ascii), ("European and Chinese", &european_and_chinese), ("emoji alone", &emoji_alone)]);
 }

@@ -68,6 +68,11 @@ pub fn european_and_chinese(length: usize) -> Vec<u16> {
     })
 }
 
+pub fn chinese(length: usize) -> Vec<u16> {
+    let mut random = Random::new(6);
+    text(length, || random.chinese())
+}
+
 /// Each sixth or so a space.
 pub fn cyrillic(length: usize) -> Vec<u16> {
     let mut random = Random::new(3);

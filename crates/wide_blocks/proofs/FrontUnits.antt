@@ -16,6 +16,10 @@ pub record IsFrontUnits (form : EncodingForm) (bs : List ℕ) (place : ℕ) (us 
   pub units : encode form (str_chars bs) ≡ us ++ encode form (str_chars (drop place bs))
   pub rest : IsUtf8 (drop place bs)
 
+-- what is behind a front, as a slice of the whole
+pub behind-is : {X : Type 0} (xs : List X) (n : ℕ) → take (length xs - n) (drop n xs) ≡ drop n xs
+behind-is xs n = take_all (length xs - n) (drop n xs) (omega (arith, length-drop n xs))
+
 module _ (form : EncodingForm) where
   pub front_units-none : (bs : List ℕ) → IsUtf8 bs → IsFrontUnits form bs 0 []
   front_units-none bs text = record { units = refl; rest = text }
@@ -84,10 +88,6 @@ module _ (form : EncodingForm) where
 
   pub decoded-none : (bs before : List ℕ) → IsUtf8 bs → IsDecoded form bs 0 before before
   decoded-none bs before text = record { units = refl; rest = text }
-
-  -- the text behind a front, as a slice of it
-  behind-is : (bs : List ℕ) (n : ℕ) → take (length bs - n) (drop n bs) ≡ drop n bs
-  behind-is bs n = take_all (length bs - n) (drop n bs) (omega (arith, length-drop n bs))
 
   pub decoded-behind : (bs x y : List ℕ) (n : ℕ) → IsDecoded form bs n x y → IsUtf8 (take (length bs - n) (drop n bs))
   decoded-behind bs x y n front = subst (λ ds. IsUtf8 ds) (sym (behind-is bs n)) front.rest

@@ -16,3 +16,4 @@ pub mod FirstBits
 pub mod FirstCharacters
 pub mod FrontUnits
 pub mod PartTexts
+pub mod RecodedFronts

@@ -5,11 +5,11 @@ use Rattle.std.specs.List.{All}
 use Rattle.std.proofs.lemmas.Bool.{cases_lt}
 use Rattle.std.proofs.lemmas.List.{append-nil}
 use Rattle.std.proofs.lemmas.List.Concat.{flat_map-append}
-use Rattle.wide_unit.specs.EncodingForm.{Utf16, Utf32, encode}
+use Rattle.wide_unit.specs.EncodingForm.{EncodingForm, Utf16, Utf32, encode}
 use Rattle.wide_unit.specs.Items.{IsWellFormed, chars}
 use Rattle.wide_unit.specs.Utf8.{utf8, utf8_bytes, trailing_byte}
 use Rattle.wide_unit.specs.Laws.Boundaries.{IsBoundary-at}
-use Rattle.wide_unit.specs.Laws.Forms.{one_unit, ranges}
+use Rattle.wide_unit.specs.Laws.Forms.{ranges}
 use Rattle.wide_unit.specs.Laws.Places.{IsWellFormed-take, chars-encode, scalars-chars}
 use Rattle.wide_unit.specs.Laws.Utf32.{chars32-well_formed}
 use Rattle.wide_unit.specs.Laws.Utf8.{four_bytes}
@@ -17,6 +17,7 @@ use Rattle.wide_blocks.specs.Encoded.{EncodedUnits, IsWordOf}
 use Rattle.wide_blocks.specs.Scalars.{IsScalarLen, IsScalarWord}
 use Rattle.wide_blocks.proofs.EncodedFronts.{IsFrontText, front_text-boundary}
 use Rattle.wide_blocks.proofs.Lanes.{encoded-ascii}
+use Rattle.wide_blocks.proofs.StoredUnits.{one_unit-plain}
 use Rattle.wide_blocks.proofs.Stores.{list4, word-stored}
 
 -- ---- one by one
@@ -73,14 +74,14 @@ text-one_more cs s i {t} within so_far more =
 
 -- ---- below 0x1_0000
 
-pub encode-narrow : (cs : List ℕ) → ((k : ℕ) → k < length cs → get_or cs k 0 < 0x1_0000) → encode Utf16 cs ≡ cs
-encode-narrow [] narrow = refl
-encode-narrow (c ∷ cs) narrow = ap (λ us. us ++ encode Utf16 cs) (one_unit c (narrow 0 (omega arith))) ∙ ap (λ us. c ∷ us) (encode-narrow cs (λ k within. narrow (suc k) (omega arith)))
+pub encode-narrow : (form : EncodingForm) (cs : List ℕ) → ((k : ℕ) → k < length cs → get_or cs k 0 < 0x1_0000) → encode form cs ≡ cs
+encode-narrow form [] narrow = refl
+encode-narrow form (c ∷ cs) narrow = ap (λ us. us ++ encode form cs) (one_unit-plain form c (narrow 0 (omega arith))) ∙ ap (λ us. c ∷ us) (encode-narrow form cs (λ k within. narrow (suc k) (omega arith)))
 
 -- what was encoded of 16-bit units that are scalar values is their text
 pub text-units : (cs us s : List ℕ) {t : List ℕ} → us ≡ cs → All IsScalar cs → ((k : ℕ) → k < length cs → get_or cs k 0 < 0x1_0000) → EncodedUnits us s t → t ≡ s ++ utf8 cs
 text-units cs us s same scalars narrow e =
-    let units : encode Utf16 e.cs ≡ encode Utf16 cs = sym e.units ∙ same ∙ sym (encode-narrow cs narrow) in
+    let units : encode Utf16 e.cs ≡ encode Utf16 cs = sym e.units ∙ same ∙ sym (encode-narrow Utf16 cs narrow) in
     let is : e.cs ≡ cs = sym (chars-encode Utf16 e.cs e.scalars) ∙ ap (chars Utf16) units ∙ chars-encode Utf16 cs scalars in
     e.text ∙ ap (λ ds. s ++ utf8 ds) is
 

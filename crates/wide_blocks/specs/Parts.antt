@@ -1,8 +1,9 @@
 -- Bytes as characters and ill-formed parts: the Standard's D93b and, in its section 3.9, "U+FFFD Substitution of Maximal Subparts".
-use Rattle.std.proofs.Common.{◌≡◌, ℕ, zero, suc, ◌<◌, List, [], ◌∷◌, ◌++◌, length, drop, refl, sym, ap, ◌∙◌, arith}
+use Rattle.std.proofs.Common.{◌≡◌, ℕ, zero, suc, ◌+◌, ◌<◌, List, [], ◌∷◌, ◌++◌, length, map, take, drop, refl, sym, ap, ◌∙◌, arith}
 use Rattle.std.specs.Prelude.{slice_index}
 use Rattle.std.specs.Char.{IsScalar}
 use Rattle.std.specs.Str.{StartsWithNoChar}
+use Rattle.std.specs.Str.{chars as str_chars}
 use Rattle.std.specs.Str.Lossy.{utf8_invalid_len}
 use Rattle.std.proofs.lemmas.Str.{encode_same}
 use Rattle.wide_unit.specs.Segmentation.{Item, Char, Fault}
@@ -61,3 +62,7 @@ same_items bs ds is js e (part bs' is' some unread more) (part ds' js' some' unr
 
 pub utf8_items-unique : (bs : List ℕ) (is js : List Item) → AreUtf8Items bs is → AreUtf8Items bs js → is ≡ js
 utf8_items-unique bs is js a b = same_items bs bs is js refl a b
+
+-- The first bytes are text, and behind them stand so many that are the first ill-formed part.
+abbrev pub HasFirstPart : List ℕ → ℕ → ℕ → Type 0
+HasFirstPart bs place len = utf8_items bs ≡ map Char (str_chars (take place bs)) ++ Fault (slice_index bs place) ∷ utf8_items (drop (place + len) bs)

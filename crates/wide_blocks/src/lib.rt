@@ -1,4 +1,4 @@
-//! Text of units in UTF-8, and as scalar values, sixteen units in one step.
+//! Text of units in UTF-8, as scalar values, and in units of another width, sixteen units in one step.
 #![tactic(auto)]
 
 mod blocks;
@@ -6,6 +6,7 @@ mod fronts;
 mod lengths;
 mod lossy;
 mod narrow;
+mod recoded;
 mod scalars;
 mod steps;
 mod strings;
@@ -17,6 +18,7 @@ mod wide;
 pub use blocks::encode;
 pub use lengths::utf8_len;
 pub use lossy::{lossy_front, sound_len};
+pub use recoded::recode_front;
 pub use scalars::decode_front;
 pub use steps::{Step, put_unit};
 pub use strings::{push_utf8, utf8_string};

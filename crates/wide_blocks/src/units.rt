@@ -10,9 +10,9 @@ ghost use Rattle.wide_blocks.specs.Decoded.{IsDecoded, LeadsThree, LeadsTwo, cod
 use std::simd::prelude::*;
 use wide_unit::Unit;
 
-// A character whose scalar value is known to be one.
+/// A character whose scalar value is known to be one.
 #[inline(always)]
-fn char_of(code: u32) -> char
+pub(crate) fn char_of(code: u32) -> char
     requires { IsScalar code }
     ensures { result ≡ code }
 {
@@ -44,9 +44,9 @@ fn first_char(text: &[u8]) -> (char, usize)
     (char_of(code), 4)
 }
 
-// Stores the units of a character, and answers the place behind them.
+/// Stores the units of a character, and answers the place behind them.
 #[inline(always)]
-fn put_char<C: Unit>(units: &mut [C], at: usize, c: char) -> usize
+pub(crate) fn put_char<C: Unit>(units: &mut [C], at: usize, c: char) -> usize
     requires { at + length (code_units C.form c) ≤ length units.old }
     ensures units { map C.number (take result units.new) ≡ map C.number (take at units.old) ++ code_units C.form c }
     ensures place { result ≡ at + length (code_units C.form c) }

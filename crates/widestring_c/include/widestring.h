@@ -28,6 +28,9 @@ size_t wide_utf16_first_fault(const uint16_t *units, size_t length);
 /* The place of the first unit that is no scalar value, or `length` where the units are well-formed UTF-32. */
 size_t wide_utf32_first_fault(const uint32_t *units, size_t length);
 
+/* The place of the first byte that belongs to no character, or `length` where the bytes are well-formed UTF-8. */
+size_t wide_utf8_first_fault(const uint8_t *text, size_t length);
+
 /* The place of the first unit that is 0, or `length` where none is. */
 size_t wide_utf16_first_nul(const uint16_t *units, size_t length);
 size_t wide_utf32_first_nul(const uint32_t *units, size_t length);
@@ -44,8 +47,22 @@ size_t wide_utf16_to_utf8(const uint16_t *units, size_t length, uint8_t *text, s
 /* The same of any units, with U+FFFD, three bytes, for each unit that belongs to no character. */
 size_t wide_utf16_to_utf8_lossy(const uint16_t *units, size_t length, uint8_t *text, size_t room);
 
-/* The text of well-formed UTF-8 in UTF-16. WIDE_FAULT where the bytes are not well formed, and then the buffer is as it was. */
+/* The text of well-formed UTF-32 in UTF-8. WIDE_FAULT where the units are not well formed, and then the buffer is as it was. */
+size_t wide_utf32_to_utf8(const uint32_t *units, size_t length, uint8_t *text, size_t room);
+
+/* The text of well-formed UTF-8 in UTF-16, or in UTF-32. WIDE_FAULT where the bytes are not well formed, and then the buffer is as it was. */
 size_t wide_utf8_to_utf16(const uint8_t *text, size_t length, uint16_t *units, size_t room);
+size_t wide_utf8_to_utf32(const uint8_t *text, size_t length, uint32_t *units, size_t room);
+
+/* The text of well-formed UTF-16 in UTF-32, and of well-formed UTF-32 in UTF-16. WIDE_FAULT as before. */
+size_t wide_utf16_to_utf32(const uint16_t *units, size_t length, uint32_t *scalars, size_t room);
+size_t wide_utf32_to_utf16(const uint32_t *scalars, size_t length, uint16_t *units, size_t room);
+
+/*
+ * The text of any bytes in UTF-16, with U+FFFD for each longest part that begins a character of UTF-8 and does not go on as one, and for
+ * each byte that begins none (Unicode Standard, section 3.9, "U+FFFD Substitution of Maximal Subparts").
+ */
+size_t wide_utf8_to_utf16_lossy(const uint8_t *text, size_t length, uint16_t *units, size_t room);
 
 /* The units with U+FFFD in the place of each that belongs to no character: as many as there are, and well formed. */
 size_t wide_utf16_repair(const uint16_t *units, size_t length, uint16_t *repaired, size_t room);

@@ -1,6 +1,6 @@
 -- What is written of a list into a buffer, piece by piece, and counted whether it fits or not.
-use Rattle.std.proofs.Common.{◌≡◌, ◌≤◌, ◌+◌, ◌-◌, ◌^◌, ◌++◌, ℕ, List, [], refl, ap, arith, sym, ◌∙◌, length, take, drop, subst, length-append, append-nil, append_assoc}
-use Rattle.std.proofs.lemmas.List.{drop-drop}
+use Rattle.std.proofs.Common.{◌≡◌, ◌≤◌, ◌+◌, ◌-◌, ◌^◌, ◌++◌, ℕ, List, [], refl, ap, arith, sym, ◌∙◌, length, map, take, drop, subst, length-append, append-nil, append_assoc}
+use Rattle.std.proofs.lemmas.List.{drop-drop, length-map, map-append, take-map}
 use Rattle.std.specs.Prelude.{min}
 
 -- of what is put behind the first `from` of `first`, so much is counted, what is left of it is known, and what is counted is written as
@@ -35,14 +35,30 @@ module _ (first : List ℕ) (from : ℕ) (all : List ℕ) where
   pub written_all : (out : List ℕ) (at : ℕ) → Puts first from all at out [] → at ≤ length out → take at out ≡ take from first ++ all
   written_all out at w fits = sym (append-nil (take at out)) ∙ w.written fits
 
+-- the same of items that are numbers by a function
+module _ {X : Type 0} (number : X → ℕ) where
+  pub one_more_by : (first : List ℕ) (from : ℕ) (all : List ℕ) (old new : List X) (bs rest : List ℕ) (at end : ℕ) → Puts first from all at (map number old) (bs ++ rest) → end ≡ min (at + length bs) (2 ^ 64 - 1) → (end ≤ length old → map number (take end new) ≡ map number (take at old) ++ bs) → length new ≡ length old → Puts first from all end (map number new) rest
+  one_more_by first from all old new bs rest at end w place text room =
+      one_more first from all (map number old) (map number new) bs rest at end w place
+        (λ fits. take-map number end new ∙ text (omega (arith, fits, length-map old number)) ∙ ap (λ xs. xs ++ bs) (sym (take-map number at old)))
+        (omega (arith, room, length-map new number, length-map old number))
+
+  pub one_more_of : (first : List ℕ) (from : ℕ) (all : List ℕ) (old new bs : List X) (rest : List ℕ) (at end : ℕ) → Puts first from all at (map number old) (map number bs ++ rest) → end ≡ min (at + length bs) (2 ^ 64 - 1) → (end ≤ length old → take end new ≡ take at old ++ bs) → length new ≡ length old → Puts first from all end (map number new) rest
+  one_more_of first from all old new bs rest at end w place text room =
+      one_more_by first from all old new (map number bs) rest at end w (omega (arith, place, length-map bs number)) (λ fits. ap (map number) (text fits) ∙ map-append number (take at old) bs) room
+
+  pub written_all_of : (first : List X) (from : ℕ) (all : List ℕ) (out : List X) (at : ℕ) → Puts (map number first) from all at (map number out) [] → at ≤ length out → map number (take at out) ≡ map number (take from first) ++ all
+  written_all_of first from all out at w fits =
+      sym (take-map number at out) ∙ written_all (map number first) from all (map number out) at w (omega (arith, fits, length-map out number)) ∙ ap (λ xs. xs ++ all) (take-map number from first)
+
 pub nothing_written : (all out : List ℕ) → Writing all 0 out all
 nothing_written all out = record { most = omega arith; counted = omega arith; written = λ fits. refl }
 
 pub counted_front : (all out : List ℕ) (at : ℕ) → Writing all at out [] → at ≡ min (length all) (2 ^ 64 - 1)
 counted_front all out at w = omega (arith, counted_all [] 0 all out at w)
 
--- what stands behind the place stays so
-pub behind_more : (first old new bs : List ℕ) (at end : ℕ) → at ≤ 2 ^ 64 - 1 → end ≡ min (at + length bs) (2 ^ 64 - 1) → drop at old ≡ drop at first → drop end new ≡ drop end old → drop end new ≡ drop end first
-behind_more first old new bs at end most place before put =
+-- what stands behind the place stays so, by how many more there are
+pub behind_more : {X : Type 0} (first old new : List X) (more at end : ℕ) → at ≤ 2 ^ 64 - 1 → end ≡ min (at + more) (2 ^ 64 - 1) → drop at old ≡ drop at first → drop end new ≡ drop end old → drop end new ≡ drop end first
+behind_more first old new more at end most place before put =
     let sum : at + (end - at) ≡ end = omega (arith, place, most) in
     put ∙ subst (λ e. drop e old ≡ drop e first) sum (sym (drop-drop (end - at) at old) ∙ ap (drop (end - at)) before ∙ drop-drop (end - at) at first)

@@ -1,2 +1,3 @@
 mod Buffers
+mod Chunks
 mod Repaired

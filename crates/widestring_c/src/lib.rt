@@ -4,15 +4,21 @@
 //! pointer is to memory that is not `const`, and that what is written overlaps nothing else that is handed in.
 #![tactic(auto)]
 
-mod convert;
+mod between;
+mod from_utf8;
+mod repair;
 #[cfg(test)]
 mod room_rows;
+mod rooms;
 mod search;
+mod to_utf8;
 
-pub use convert::{
-    wide_utf8_to_utf16, wide_utf16_repair, wide_utf16_to_utf8, wide_utf16_to_utf8_lossy,
-    wide_utf32_repair,
+pub use between::{wide_utf16_to_utf32, wide_utf32_to_utf16};
+pub use from_utf8::{
+    wide_utf8_first_fault, wide_utf8_to_utf16, wide_utf8_to_utf16_lossy, wide_utf8_to_utf32,
 };
+pub use repair::{wide_utf16_repair, wide_utf32_repair};
 pub use search::{
     wide_utf16_first_fault, wide_utf16_first_nul, wide_utf32_first_fault, wide_utf32_first_nul,
 };
+pub use to_utf8::{wide_utf16_to_utf8, wide_utf16_to_utf8_lossy, wide_utf32_to_utf8};

@@ -1,4 +1,4 @@
-use Rattle.std.proofs.Common.{◌≡◌, ◌∷◌, ◌++◌, [], ◌∙◌, ap, sym, arith, take}
+use Rattle.std.proofs.Common.{◌≡◌, ◌∷◌, ◌++◌, [], ◌∙◌, refl, ap, sym, arith, take}
 use Rattle.std.proofs.lemmas.List.{take_more_set}
 use Rattle.wide_unit.specs.EncodingForm.{Utf16}
 use Rattle.wide_unit.specs.Items.{chars, items}
@@ -19,7 +19,7 @@ ones-preserved c =
     let us = c.ones.rest.now in
     let rest = c.in-Some.others.now in
     let first : items Utf16 us ≡ told_item c.in-Some.item ∷ items Utf16 rest = item-first us rest _ c.in-Some.ensures.some in
-    let front = front_chars-one us rest c.in-Ok.c c.ones.invariant.well_formed (first ∙ ap (λ r. told_item r ∷ items Utf16 rest) c.in-Ok.is) in
+    let front = front_chars-one Utf16 us rest c.in-Ok.c c.ones.invariant.well_formed (first ∙ ap (λ r. told_item r ∷ items Utf16 rest) c.in-Ok.is) in
     let done = take c.ones.written c.ones.scalars in
     let before = take c.args.at c.args.scalars.now in
     record {
@@ -28,7 +28,7 @@ ones-preserved c =
       few = omega (arith, c.in-Some.ensures.shorter, c.ones.invariant.few);
       room = omega (arith, c.ones-test.true);
       behind = left-behind c.args.units.now us rest _ c.ones.invariant.within c.ones.invariant.behind c.in-Some.ensures.rest c.in-Some.ensures.length;
-      text = front_chars-then c.args.units.now us rest before done (c.in-Ok.c ∷ []) c.ones.invariant.text front
+      text = front_chars-then Utf16 (λ cs. cs) (λ cs ds. refl) us rest (before ++ chars Utf16 c.args.units.now) done (c.in-Ok.c ∷ []) c.ones.invariant.text front
           ∙ ap (λ cs. cs ++ chars Utf16 rest) (sym (take_more_set c.ones.scalars c.ones.written c.in-Ok.c (omega (arith, c.ones-test.true, c.ones.invariant.from, c.ones.auto.scalars, c.requires.room))));
       well_formed = front.well_formed;
     }

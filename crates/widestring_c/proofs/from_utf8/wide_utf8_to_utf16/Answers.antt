@@ -1,0 +1,9 @@
+use Rattle.std.proofs.Common.{arith}
+use Rattle.widestring_c.proofs.Chunks.{not_text}
+use Rattle.widestring_c.proofs.from_utf8.wide_utf8_to_utf16.Goals as goal
+
+pub returns-then-broken-gt0-clause-len : goal.returns-then-broken-gt0-clause-len
+returns-then-broken-gt0-clause-len c = λ text. absurd (not_text c.args.text.now _ (c.first_chunk-broken.ensures.fault (omega arith)) text)
+
+pub returns-then-broken-gt0-clause-units : goal.returns-then-broken-gt0-clause-units
+returns-then-broken-gt0-clause-units c = λ text. absurd (not_text c.args.text.now _ (c.first_chunk-broken.ensures.fault (omega arith)) text)

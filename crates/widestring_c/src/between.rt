@@ -1,0 +1,100 @@
+//! Units of one width in units of the other, in a buffer of the caller's.
+ghost use Rattle.std.specs.Prelude.{◌≡◌, ◌<◌, ◌≤◌, ◌-◌, ◌^◌, IfNone, IfSome, length, map, min, take, drop};
+ghost use Rattle.widestring.specs.EncodingForm.{Utf16, Utf32, encode};
+ghost use Rattle.widestring.specs.Items.{IsWellFormed, chars};
+
+use crate::rooms::put_items;
+use wide_blocks::recode_front;
+use widestring::unit::{Unit, check};
+
+// Few units are put into a small array before they are copied, others into a larger one.
+const FEW: usize = 32;
+
+const MANY: usize = 772;
+
+// Puts well-formed units of one width in units of another at the front, a piece after another. Answers how many they are, or the greatest
+// number where they are more.
+fn put_recoded<C: Unit, D: Unit>(units: &[C], room: &mut [D], piece: &mut [D]) -> usize
+    requires well_formed { IsWellFormed C.form (map C.number units.now) }
+    requires room { length room.old < 2 ^ 64 - 1 }
+    requires piece { 16 ≤ length piece.old }
+    ensures len { result ≡ min (length (encode D.form (chars C.form (map C.number units.now)))) (2 ^ 64 - 1) }
+    ensures units { result ≤ length room.old → map D.number (take result room.new) ≡ encode D.form (chars C.form (map C.number units.now)) }
+    ensures behind { drop result room.new ≡ drop result room.old }
+{
+    let mut at = 0;
+    let mut rest = units;
+    'pieces: while !rest.is_empty() {
+        let (read, written) = recode_front(rest, piece);
+        at = put_items(room, at, &piece[..written]);
+        (_, rest) = rest.split_at(read);
+    }
+    at
+}
+
+// The same of any units, if they are well formed.
+fn put_sound<C: Unit, D: Unit>(units: &[C], room: &mut [D], piece: &mut [D]) -> Option<usize>
+    requires room { length room.old < 2 ^ 64 - 1 }
+    requires piece { 16 ≤ length piece.old }
+    ensures sound { IfSome result (λ len. IsWellFormed C.form (map C.number units.now)) }
+    ensures fault { IfNone result (IsWellFormed C.form (map C.number units.now) → ⊥) }
+    ensures len { IfSome result (λ len. len ≡ min (length (encode D.form (chars C.form (map C.number units.now)))) (2 ^ 64 - 1)) }
+    ensures units { IfSome result (λ len. len ≤ length room.old → map D.number (take len room.new) ≡ encode D.form (chars C.form (map C.number units.now))) }
+    ensures unchanged { IfNone result (room.new ≡ room.old) }
+    ensures behind { IfSome result (λ len. drop len room.new ≡ drop len room.old) }
+{
+    match check(units) {
+        Ok(()) => Some(put_recoded(units, room, piece)),
+        Err(_fault) => None,
+    }
+}
+
+// The same of UTF-16 in UTF-32. Answers the greatest number where the units are not well formed.
+fn put_scalars(units: &[u16], scalars: &mut [u32], piece: &mut [u32]) -> usize
+    requires { 16 ≤ length piece.old }
+    ensures len { IsWellFormed Utf16 units.now → result ≡ min (length (chars Utf16 units.now)) (2 ^ 64 - 1) }
+    ensures scalars { IsWellFormed Utf16 units.now → result ≤ length scalars.old → take result scalars.new ≡ chars Utf16 units.now }
+    ensures fault { (IsWellFormed Utf16 units.now → ⊥) → result ≡ 2 ^ 64 - 1 }
+    ensures unchanged { (IsWellFormed Utf16 units.now → ⊥) → scalars.new ≡ scalars.old }
+    ensures behind { drop result scalars.new ≡ drop result scalars.old }
+{
+    match put_sound(units, scalars, piece) {
+        Some(len) => len,
+        None => usize::MAX,
+    }
+}
+
+/// The scalar values of well-formed UTF-16 (Unicode Standard, D91), which are its text in UTF-32 (D90), in front of `scalars` where there
+/// is room for them. Answers how many they are, or the greatest number where the units are not well formed.
+#[unsafe(no_mangle)]
+pub extern "C" fn wide_utf16_to_utf32(units: &[u16], scalars: &mut [u32]) -> usize
+    ensures len { IsWellFormed Utf16 units.now → result ≡ min (length (chars Utf16 units.now)) (2 ^ 64 - 1) }
+    ensures scalars { IsWellFormed Utf16 units.now → result ≤ length scalars.old → take result scalars.new ≡ chars Utf16 units.now }
+    ensures fault { (IsWellFormed Utf16 units.now → ⊥) → result ≡ 2 ^ 64 - 1 }
+    ensures unchanged { (IsWellFormed Utf16 units.now → ⊥) → scalars.new ≡ scalars.old }
+    ensures behind { drop result scalars.new ≡ drop result scalars.old }
+{
+    if units.len() <= FEW {
+        put_scalars(units, scalars, &mut [0; FEW])
+    } else {
+        put_scalars(units, scalars, &mut [0; MANY])
+    }
+}
+
+/// The text of well-formed UTF-32 (Unicode Standard, D90) in UTF-16 (D91), in front of `units` where there is room for it. Answers how
+/// many units it has, or the greatest number where they are more, or where the scalar values are not well formed.
+#[unsafe(no_mangle)]
+pub extern "C" fn wide_utf32_to_utf16(scalars: &[u32], units: &mut [u16]) -> usize
+    ensures len { IsWellFormed Utf32 scalars.now → result ≡ min (length (encode Utf16 (chars Utf32 scalars.now))) (2 ^ 64 - 1) }
+    ensures units { IsWellFormed Utf32 scalars.now → result ≤ length units.old → take result units.new ≡ encode Utf16 (chars Utf32 scalars.now) }
+    ensures fault { (IsWellFormed Utf32 scalars.now → ⊥) → result ≡ 2 ^ 64 - 1 }
+    ensures unchanged { (IsWellFormed Utf32 scalars.now → ⊥) → units.new ≡ units.old }
+    ensures behind { drop result units.new ≡ drop result units.old }
+{
+    let put = if scalars.len() <= FEW {
+        put_sound(scalars, units, &mut [0; FEW])
+    } else {
+        put_sound(scalars, units, &mut [0; MANY])
+    };
+    put.unwrap_or(usize::MAX)
+}

@@ -1,0 +1,34 @@
+//! Units with U+FFFD for faults, in a buffer of the caller's.
+ghost use Rattle.std.specs.Prelude.{◌≡◌, ◌≤◌, ◌-◌, ◌^◌, length, min, take, drop};
+ghost use Rattle.widestring.specs.EncodingForm.{Utf16, Utf32, encode};
+ghost use Rattle.widestring.specs.Items.{items};
+ghost use Rattle.widestring.specs.Lossy.{lossy};
+
+use widestring::unit::Unit;
+
+/// The units with U+FFFD in the place of each that belongs to no character, in front of `repaired` where there is room for them.
+/// Answers how many they are.
+#[unsafe(no_mangle)]
+pub extern "C" fn wide_utf16_repair(units: &[u16], repaired: &mut [u16]) -> usize
+    ensures len { result ≡ min (length (encode Utf16 (lossy (items Utf16 units.now)))) (2 ^ 64 - 1) }
+    ensures units { result ≤ length repaired.old → take result repaired.new ≡ encode Utf16 (lossy (items Utf16 units.now)) }
+    ensures behind { drop result repaired.new ≡ drop result repaired.old }
+{
+    if units.len() <= repaired.len() {
+        u16::mend(units, repaired);
+    }
+    units.len()
+}
+
+/// The same of units of UTF-32 (Unicode Standard, D90).
+#[unsafe(no_mangle)]
+pub extern "C" fn wide_utf32_repair(units: &[u32], repaired: &mut [u32]) -> usize
+    ensures len { result ≡ min (length (lossy (items Utf32 units.now))) (2 ^ 64 - 1) }
+    ensures units { result ≤ length repaired.old → take result repaired.new ≡ lossy (items Utf32 units.now) }
+    ensures behind { drop result repaired.new ≡ drop result repaired.old }
+{
+    if units.len() <= repaired.len() {
+        u32::mend(units, repaired);
+    }
+    units.len()
+}

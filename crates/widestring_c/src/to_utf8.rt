@@ -1,0 +1,180 @@
+//! Text of units in UTF-8, in a buffer of the caller's.
+ghost use Rattle.std.specs.Prelude.{◌≡◌, ◌≤◌, ◌+◌, ◌-◌, ◌^◌, ◌++◌, ◌*◌, IfNone, IfSome, length, map, min, take, drop};
+ghost use Rattle.widestring.specs.EncodingForm.{Utf16, Utf32};
+ghost use Rattle.widestring.specs.Items.{IsWellFormed, chars, items};
+ghost use Rattle.widestring.specs.Lossy.{lossy};
+ghost use Rattle.widestring.specs.Utf8.{utf8};
+
+use crate::rooms::put_items;
+use wide_blocks::{encode_front, encode_whole, lossy_front};
+use widestring::unit::{Unit, check};
+
+// The text of a few units is put into a small array before it is copied, that of others into a larger one.
+const FEW: usize = 32;
+
+const SMALL: usize = 100;
+
+const MANY: usize = 256;
+
+const MIDDLE: usize = 772;
+
+const LARGE: usize = 3100;
+
+// Puts the text of well-formed units behind a place, as `put_items` does, a piece after another.
+fn put_pieces<C: Unit>(units: &[C], text: &mut [u8], at: usize, piece: &mut [u8]) -> usize
+    requires well_formed { IsWellFormed C.form (map C.number units.now) }
+    requires piece { 64 ≤ length piece.old }
+    ensures place { result ≡ min (at + length (utf8 (chars C.form (map C.number units.now)))) (2 ^ 64 - 1) }
+    ensures text { result ≤ length text.old → take result text.new ≡ take at text.old ++ utf8 (chars C.form (map C.number units.now)) }
+    ensures room { length text.new ≡ length text.old }
+    ensures behind { drop result text.new ≡ drop result text.old }
+{
+    let mut at = at;
+    let mut rest = units;
+    'pieces: while !rest.is_empty() {
+        let (read, written) = encode_front(rest, piece);
+        at = put_items(text, at, &piece[..written]);
+        (_, rest) = rest.split_at(read);
+    }
+    at
+}
+
+// Puts the text of units at the front, if they are well formed, and answers how many bytes it has, or the greatest number where they are
+// more.
+fn put_checked<C: Unit>(units: &[C], text: &mut [u8]) -> Option<usize>
+    ensures sound { IfSome result (λ len. IsWellFormed C.form (map C.number units.now)) }
+    ensures fault { IfNone result (IsWellFormed C.form (map C.number units.now) → ⊥) }
+    ensures len { IfSome result (λ len. len ≡ min (length (utf8 (chars C.form (map C.number units.now)))) (2 ^ 64 - 1)) }
+    ensures text { IfSome result (λ len. len ≤ length text.old → take len text.new ≡ utf8 (chars C.form (map C.number units.now))) }
+    ensures unchanged { IfNone result (text.new ≡ text.old) }
+    ensures behind { IfSome result (λ len. drop len text.new ≡ drop len text.old) }
+{
+    match check(units) {
+        Ok(()) => {
+            if units.len() <= FEW {
+                Some(put_pieces(units, text, 0, &mut [0; SMALL]))
+            } else {
+                Some(put_pieces(units, text, 0, &mut [0; LARGE]))
+            }
+        }
+        Err(_fault) => None,
+    }
+}
+
+// The same of a few units of 16 bits, which are read once.
+fn put_whole(units: &[u16], text: &mut [u8], piece: &mut [u8]) -> Option<usize>
+    requires { 3 * length units.now + 4 ≤ length piece.old }
+    ensures sound { IfSome result (λ len. IsWellFormed Utf16 units.now) }
+    ensures fault { IfNone result (IsWellFormed Utf16 units.now → ⊥) }
+    ensures len { IfSome result (λ len. len ≡ min (length (utf8 (chars Utf16 units.now))) (2 ^ 64 - 1)) }
+    ensures text { IfSome result (λ len. len ≤ length text.old → take len text.new ≡ utf8 (chars Utf16 units.now)) }
+    ensures unchanged { IfNone result (text.new ≡ text.old) }
+    ensures behind { IfSome result (λ len. drop len text.new ≡ drop len text.old) }
+{
+    match encode_whole(units, piece) {
+        Some(len) => Some(put_items(text, 0, &piece[..len])),
+        None => None,
+    }
+}
+
+// The same of any units of 16 bits: a few are encoded as they are checked, by a piece of the size that fits, and more are checked before.
+fn put_sound(units: &[u16], text: &mut [u8]) -> Option<usize>
+    ensures sound { IfSome result (λ len. IsWellFormed Utf16 units.now) }
+    ensures fault { IfNone result (IsWellFormed Utf16 units.now → ⊥) }
+    ensures len { IfSome result (λ len. len ≡ min (length (utf8 (chars Utf16 units.now))) (2 ^ 64 - 1)) }
+    ensures text { IfSome result (λ len. len ≤ length text.old → take len text.new ≡ utf8 (chars Utf16 units.now)) }
+    ensures unchanged { IfNone result (text.new ≡ text.old) }
+    ensures behind { IfSome result (λ len. drop len text.new ≡ drop len text.old) }
+{
+    if units.len() <= FEW {
+        return put_whole(units, text, &mut [0; SMALL]);
+    }
+    if units.len() <= MANY {
+        return put_whole(units, text, &mut [0; MIDDLE]);
+    }
+    put_checked(units, text)
+}
+
+// Puts the text of any units at the front, with U+FFFD for each unit that belongs to no character, by arrays for units and for bytes.
+fn put_fronts(units: &[u16], text: &mut [u8], spare: &mut [u16], piece: &mut [u8]) -> usize
+    requires spare { 2 ≤ length spare.old }
+    requires piece { 64 ≤ length piece.old }
+    ensures len { result ≡ min (length (utf8 (lossy (items Utf16 units.now)))) (2 ^ 64 - 1) }
+    ensures text { result ≤ length text.old → take result text.new ≡ utf8 (lossy (items Utf16 units.now)) }
+    ensures behind { drop result text.new ≡ drop result text.old }
+{
+    let mut at = 0;
+    let mut rest = units;
+    'fronts: while !rest.is_empty() {
+        let (front, behind) = lossy_front(rest, spare);
+        at = put_pieces(front, text, at, piece);
+        rest = behind;
+    }
+    at
+}
+
+// The same of a few units, which are mended at once.
+fn put_mended(units: &[u16], text: &mut [u8]) -> usize
+    requires { length units.now ≤ 32 }
+    ensures len { result ≡ min (length (utf8 (lossy (items Utf16 units.now)))) (2 ^ 64 - 1) }
+    ensures text { result ≤ length text.old → take result text.new ≡ utf8 (lossy (items Utf16 units.now)) }
+    ensures behind { drop result text.new ≡ drop result text.old }
+{
+    let mut mended = [0; FEW];
+    u16::mend(units, &mut mended);
+    put_pieces(&mended[..units.len()], text, 0, &mut [0; SMALL])
+}
+
+// The same of any units, by arrays of the size that fits.
+fn put_lossy(units: &[u16], text: &mut [u8]) -> usize
+    ensures len { result ≡ min (length (utf8 (lossy (items Utf16 units.now)))) (2 ^ 64 - 1) }
+    ensures text { result ≤ length text.old → take result text.new ≡ utf8 (lossy (items Utf16 units.now)) }
+    ensures behind { drop result text.new ≡ drop result text.old }
+{
+    if units.len() <= FEW {
+        put_mended(units, text)
+    } else {
+        put_fronts(units, text, &mut [0; MANY], &mut [0; LARGE])
+    }
+}
+
+/// The text of well-formed UTF-16 (Unicode Standard, D91) in UTF-8 (D92), in front of `text` where there is room for it. Answers how many
+/// bytes it has, or the greatest number where they are more, or where the units are not well formed.
+#[unsafe(no_mangle)]
+pub extern "C" fn wide_utf16_to_utf8(units: &[u16], text: &mut [u8]) -> usize
+    ensures len { IsWellFormed Utf16 units.now → result ≡ min (length (utf8 (chars Utf16 units.now))) (2 ^ 64 - 1) }
+    ensures text { IsWellFormed Utf16 units.now → result ≤ length text.old → take result text.new ≡ utf8 (chars Utf16 units.now) }
+    ensures fault { (IsWellFormed Utf16 units.now → ⊥) → result ≡ 2 ^ 64 - 1 }
+    ensures unchanged { (IsWellFormed Utf16 units.now → ⊥) → text.new ≡ text.old }
+    ensures behind { drop result text.new ≡ drop result text.old }
+{
+    match put_sound(units, text) {
+        Some(len) => len,
+        None => usize::MAX,
+    }
+}
+
+/// The same of any units, with U+FFFD for each unit that belongs to no character.
+#[unsafe(no_mangle)]
+pub extern "C" fn wide_utf16_to_utf8_lossy(units: &[u16], text: &mut [u8]) -> usize
+    ensures len { result ≡ min (length (utf8 (lossy (items Utf16 units.now)))) (2 ^ 64 - 1) }
+    ensures text { result ≤ length text.old → take result text.new ≡ utf8 (lossy (items Utf16 units.now)) }
+    ensures behind { drop result text.new ≡ drop result text.old }
+{
+    match put_sound(units, text) {
+        Some(len) => len,
+        None => put_lossy(units, text),
+    }
+}
+
+/// The text of well-formed UTF-32 (Unicode Standard, D90) in UTF-8, as `wide_utf16_to_utf8`.
+#[unsafe(no_mangle)]
+pub extern "C" fn wide_utf32_to_utf8(units: &[u32], text: &mut [u8]) -> usize
+    ensures len { IsWellFormed Utf32 units.now → result ≡ min (length (utf8 (chars Utf32 units.now))) (2 ^ 64 - 1) }
+    ensures text { IsWellFormed Utf32 units.now → result ≤ length text.old → take result text.new ≡ utf8 (chars Utf32 units.now) }
+    ensures fault { (IsWellFormed Utf32 units.now → ⊥) → result ≡ 2 ^ 64 - 1 }
+    ensures unchanged { (IsWellFormed Utf32 units.now → ⊥) → text.new ≡ text.old }
+    ensures behind { drop result text.new ≡ drop result text.old }
+{
+    put_checked(units, text).unwrap_or(usize::MAX)
+}
