@@ -15,4 +15,5 @@ pub mod LossyFronts
 pub mod FirstBits
 pub mod FirstCharacters
 pub mod FrontUnits
+pub mod PartTexts
 pub mod RecodedFronts

@@ -1,9 +1,11 @@
 -- Bytes that may each stand behind the three before are well-formed UTF-8, up to the last whole character: the Standard's Table 3-7.
-use Rattle.std.proofs.Common.{◌≡◌, inl, inr, ℕ, zero, suc, ◌+◌, ◌-◌, ◌*◌, ◌/◌, ◌%◌, ◌^◌, ◌<◌, ◌≤◌, List, [], ◌∷◌, ◌++◌, length, get_or, take, drop, refl, sym, ap, ◌∙◌, subst, arith, append_assoc, length-drop}
+use Rattle.std.proofs.Common.{◌≡◌, inl, inr, ℕ, zero, suc, ◌+◌, ◌-◌, ◌*◌, ◌/◌, ◌%◌, ◌^◌, ◌<◌, ◌≤◌, List, [], ◌∷◌, ◌++◌, length, get_or, take, drop, refl, sym, ap, ◌∙◌, subst, arith, append_assoc, length-drop, Option}
 use Rattle.std.specs.Char.{encode_utf8}
+use Rattle.std.specs.Option.{unwrap_or}
 use Rattle.std.specs.Str.{IsUtf8, IsValidUpTo, encode_utf8_all}
+use Rattle.std.specs.Str.Lossy.{utf8_error_len, utf8_invalid_len}
 use Rattle.std.proofs.lemmas.Bool.{cases_lt}
-use Rattle.std.proofs.lemmas.List.{get_or-drop, get_or-take, take-append-drop, take_all, take_rest}
+use Rattle.std.proofs.lemmas.List.{drop-drop, get_or-drop, get_or-take, take-append-drop, take_all, take_rest}
 use Rattle.std.proofs.Math.Seq.{take-add}
 use Rattle.std.proofs.lemmas.Str.{IsUtf8-append, IsUtf8-encode, IsUtf8-nil, IsUtf8-past_char}
 use Rattle.wide_unit.specs.Utf8.{utf8_bytes, trailing_byte}
@@ -201,3 +203,9 @@ text-behind bs n front back = subst (λ xs. IsUtf8 xs) (take-append-drop n bs) (
 
 pub text-all : (bs : List ℕ) → IsUtf8 bs → IsUtf8 (take (length bs) bs)
 text-all bs text = subst (λ xs. IsUtf8 xs) (sym (take_all (length bs) bs (omega arith))) text
+
+-- how long the ill-formed part is, by std's answer behind the front
+pub part_len : (bs : List ℕ) (n v m r : ℕ) (e f : Option ℕ) → v ≡ m → r ≡ unwrap_or e (length bs - (n + v)) → e ≡ f → f ≡ utf8_error_len (drop m (Behind bs n)) → r ≡ utf8_invalid_len (drop (n + v) bs)
+part_len bs n v m r e f is r_is e_is f_is =
+    let read : e ≡ utf8_error_len (drop (n + v) bs) = e_is ∙ f_is ∙ ap (λ k. utf8_error_len (drop k (Behind bs n))) (sym is) ∙ ap utf8_error_len (ap (drop v) (take_rest bs n) ∙ drop-drop v n bs) in
+    r_is ∙ ap (λ o. unwrap_or o (length bs - (n + v))) read ∙ ap (unwrap_or (utf8_error_len (drop (n + v) bs))) (sym (length-drop (n + v) bs))

@@ -5,3 +5,5 @@ pub mod Wide
 pub mod Lengths
 pub mod Decoded
 pub mod Following
+pub mod Laws
+pub mod Parts

@@ -1,9 +1,11 @@
 //! Where bytes stop being well-formed UTF-8, by lanes: whether each byte may stand behind the three before it.
 
-ghost use Rattle.std.specs.Prelude.{◌≡◌, ◌+◌, ◌-◌, ◌<◌, ◌≤◌, ℕ, IsTrue, drop, length, slice_index, take};
-ghost use Rattle.std.specs.Str.{IsUtf8, IsValidUpTo};
+ghost use Rattle.std.specs.Prelude.{◌≡◌, ◌+◌, ◌-◌, ◌<◌, ◌≤◌, ℕ, IsTrue, drop, length, map, slice_index, take};
+ghost use Rattle.std.specs.Str.{IsUtf8, IsValidUpTo, chars as str_chars};
 ghost use Rattle.std.specs.Str.Lossy.{utf8_invalid_len, utf8_valid_len};
+ghost use Rattle.wide_unit.specs.Segmentation.{Char};
 ghost use Rattle.wide_blocks.specs.Following.{CanFollow, IsWholeUpTo};
+ghost use Rattle.wide_blocks.specs.Parts.{HasFirstPart, utf8_items};
 
 use std::str;
 
@@ -111,6 +113,8 @@ pub fn first_chunk(text: &[u8]) -> (usize, usize)
     ensures well_formed { result.1 ≡ 0 → IsUtf8 text.now }
     ensures fault { 0 < result.1 → IsValidUpTo text.now result.0 }
     ensures part { 0 < result.1 → result.1 ≡ utf8_invalid_len (drop result.0 text.now) }
+    ensures characters { result.1 ≡ 0 → utf8_items text.now ≡ map Char (str_chars text.now) }
+    ensures items { 0 < result.1 → HasFirstPart text.now result.0 result.1 }
 {
     let checked = checked_len(text);
     match str::from_utf8(&text[checked..]) {

@@ -1,0 +1,68 @@
+-- Bytes as characters and ill-formed parts: the Standard's D93b and, in its section 3.9, "U+FFFD Substitution of Maximal Subparts".
+use Rattle.std.proofs.Common.{◌≡◌, ℕ, zero, suc, ◌+◌, ◌<◌, List, [], ◌∷◌, ◌++◌, length, map, take, drop, refl, sym, ap, ◌∙◌, arith}
+use Rattle.std.specs.Prelude.{slice_index}
+use Rattle.std.specs.Char.{IsScalar}
+use Rattle.std.specs.Str.{StartsWithNoChar}
+use Rattle.std.specs.Str.{chars as str_chars}
+use Rattle.std.specs.Str.Lossy.{utf8_invalid_len}
+use Rattle.std.proofs.lemmas.Str.{encode_same}
+use Rattle.wide_unit.specs.Segmentation.{Item, Char, Fault}
+use Rattle.wide_unit.specs.Utf8.{utf8_bytes}
+use Rattle.wide_unit.specs.Laws.Utf8.{utf8_bytes-encode_utf8}
+use Rattle.wide_blocks.specs.Laws.Parts.{First, nothing, char, no_char, first, shorter-char, shorter-part, below_more, below_next, below_none}
+
+-- The items are the bytes' characters and ill-formed parts, in order. A part is the bytes that one U+FFFD stands for, and is told by its
+-- first byte.
+pub data AreUtf8Items : List ℕ → List Item → Type 0 where
+  none : AreUtf8Items [] []
+  character : (c : ℕ) (bs : List ℕ) (is : List Item) → IsScalar c → AreUtf8Items bs is → AreUtf8Items (utf8_bytes c ++ bs) (Char c ∷ is)
+  part : (bs : List ℕ) (is : List Item) → 0 < length bs → StartsWithNoChar bs → AreUtf8Items (drop (utf8_invalid_len bs) bs) is → AreUtf8Items bs (Fault (slice_index bs 0) ∷ is)
+
+-- bytes have such items
+abbrev ItemsFor : List ℕ → Type 0
+ItemsFor bs = (is : List Item) × AreUtf8Items bs is
+
+with_first : (bs : List ℕ) → ((ds : List ℕ) → length ds < length bs → ItemsFor ds) → First bs → ItemsFor bs
+with_first _ more nothing = ([], none)
+with_first _ more (char c rest scalar) =
+    let behind = more rest (shorter-char c rest) in
+    (Char c ∷ behind.0, character c rest behind.0 scalar behind.1)
+with_first _ more (no_char bs some unread) =
+    let behind = more (drop (utf8_invalid_len bs) bs) (shorter-part bs some) in
+    (Fault (slice_index bs 0) ∷ behind.0, part bs behind.0 some unread behind.1)
+
+items_by : (steps : ℕ) (bs : List ℕ) → length bs < steps → ItemsFor bs
+items_by zero bs within = absurd (below_none (length bs) within)
+items_by (suc steps) bs within = with_first bs (λ ds less. items_by steps ds (below_more (length ds) (length bs) steps less within)) (first bs)
+
+-- The one such list. Opaque: nothing is known of it but `utf8_items-divide`, and that there is no other.
+pub utf8_items : List ℕ → List Item
+utf8_items bs = (items_by (suc (length bs)) bs (below_next (length bs))).0
+
+pub utf8_items-divide : (bs : List ℕ) → AreUtf8Items bs (utf8_items bs)
+unfolding utf8_items
+utf8_items-divide bs = (items_by (suc (length bs)) bs (below_next (length bs))).1
+
+-- there is no other
+same_items : (bs ds : List ℕ) (is js : List Item) → bs ≡ ds → AreUtf8Items bs is → AreUtf8Items ds js → is ≡ js
+same_items bs ds is js e none none = refl
+same_items bs ds is js e none (character d rest js' scalar more) = absurd (omega (arith, ap length e, shorter-char d rest))
+same_items bs ds is js e none (part ds' js' some unread more) = absurd (omega (arith, ap length e, some))
+same_items bs ds is js e (character c rest is' scalar more) none = absurd (omega (arith, ap length e, shorter-char c rest))
+same_items bs ds is js e (part bs' is' some unread more) none = absurd (omega (arith, ap length e, some))
+same_items bs ds is js e (character c rest is' scalar more) (character d rest' js' scalar' more') =
+    let parts = encode_same c d rest rest' (ap (λ xs. xs ++ rest) (sym (utf8_bytes-encode_utf8 c)) ∙ e ∙ ap (λ xs. xs ++ rest') (utf8_bytes-encode_utf8 d)) in
+    let behind = same_items rest rest' is' js' parts.1 more more' in
+    cc
+same_items bs ds is js e (character c rest is' scalar more) (part ds' js' some unread more') = absurd (unread c rest scalar (sym e ∙ ap (λ xs. xs ++ rest) (utf8_bytes-encode_utf8 c)))
+same_items bs ds is js e (part bs' is' some unread more) (character d rest js' scalar more') = absurd (unread d rest scalar (e ∙ ap (λ xs. xs ++ rest) (utf8_bytes-encode_utf8 d)))
+same_items bs ds is js e (part bs' is' some unread more) (part ds' js' some' unread' more') =
+    let behind = same_items (drop (utf8_invalid_len bs') bs') (drop (utf8_invalid_len ds') ds') is' js' (ap (λ xs. drop (utf8_invalid_len xs) xs) e) more more' in
+    ap (λ xs. Fault (slice_index xs 0) ∷ is') e ∙ ap (λ xs. Fault (slice_index ds' 0) ∷ xs) behind
+
+pub utf8_items-unique : (bs : List ℕ) (is js : List Item) → AreUtf8Items bs is → AreUtf8Items bs js → is ≡ js
+utf8_items-unique bs is js a b = same_items bs bs is js refl a b
+
+-- The first bytes are text, and behind them stand so many that are the first ill-formed part.
+abbrev pub HasFirstPart : List ℕ → ℕ → ℕ → Type 0
+HasFirstPart bs place len = utf8_items bs ≡ map Char (str_chars (take place bs)) ++ Fault (slice_index bs place) ∷ utf8_items (drop (place + len) bs)
