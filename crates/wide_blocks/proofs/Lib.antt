@@ -13,6 +13,8 @@ pub mod Utf8Texts
 pub mod ValidFronts
 pub mod LossyFronts
 pub mod FirstBits
+pub mod FirstItems
+pub mod LossyItems
 pub mod FirstCharacters
 pub mod FrontUnits
 pub mod PartTexts

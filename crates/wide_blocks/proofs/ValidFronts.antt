@@ -28,29 +28,42 @@ is_text c bs below no_surrogate is = subst (λ xs. IsUtf8 xs) (sym (utf8_bytes-e
 one : (d : ℕ) → d < 0x80 → IsUtf8 (d ∷ [])
 one d low = is_text d (d ∷ []) (omega arith) (λ from. omega arith) (one_byte d low)
 
-two : (d e : ℕ) → 0xC2 ≤ d → d < 0xE0 → 0x80 ≤ e → e < 0xC0 → IsUtf8 (d ∷ e ∷ [])
-two d e from to from_e to_e =
+-- the bytes of a scalar value that is read off them (Table 3-6)
+pub bytes-two : (d e : ℕ) → 0xC2 ≤ d → d < 0xE0 → 0x80 ≤ e → e < 0xC0 → utf8_bytes (d % 0x20 * 0x40 + e % 0x40) ≡ d ∷ e ∷ []
+bytes-two d e from to from_e to_e =
     let v = d % 0x20 * 0x40 + e % 0x40 in
     let first : 0b1100_0000 + v / 2 ^ 6 ≡ d = omega arith in
     let second : trailing_byte v ≡ e = omega arith in
-    is_text v (d ∷ e ∷ []) (omega arith) (λ high. omega arith) (two_bytes v (omega arith) (omega arith) ∙ ap (λ x. x ∷ trailing_byte v ∷ []) first ∙ ap (λ x. d ∷ x ∷ []) second)
+    two_bytes v (omega arith) (omega arith) ∙ ap (λ x. x ∷ trailing_byte v ∷ []) first ∙ ap (λ x. d ∷ x ∷ []) second
 
-three : (d e f : ℕ) → 0xE0 ≤ d → d < 0xF0 → 0x80 ≤ e → e < 0xC0 → 0x80 ≤ f → f < 0xC0 → (d ≡ 0xE0 → 0xA0 ≤ e) → (d ≡ 0xED → e < 0xA0) → IsUtf8 (d ∷ e ∷ f ∷ [])
-three d e f from to from_e to_e from_f to_f low high =
+two : (d e : ℕ) → 0xC2 ≤ d → d < 0xE0 → 0x80 ≤ e → e < 0xC0 → IsUtf8 (d ∷ e ∷ [])
+two d e from to from_e to_e = is_text (d % 0x20 * 0x40 + e % 0x40) (d ∷ e ∷ []) (omega arith) (λ high. omega arith) (bytes-two d e from to from_e to_e)
+
+pub bytes-three : (d e f : ℕ) → 0xE0 ≤ d → d < 0xF0 → 0x80 ≤ e → e < 0xC0 → 0x80 ≤ f → f < 0xC0 → (d ≡ 0xE0 → 0xA0 ≤ e) → utf8_bytes (d % 0x10 * 0x1000 + e % 0x40 * 0x40 + f % 0x40) ≡ d ∷ e ∷ f ∷ []
+bytes-three d e f from to from_e to_e from_f to_f low =
     let v = d % 0x10 * 0x1000 + e % 0x40 * 0x40 + f % 0x40 in
     let first : 0b1110_0000 + v / 2 ^ 12 ≡ d = omega arith in
     let second : trailing_byte (v / 2 ^ 6) ≡ e = omega arith in
     let third : trailing_byte v ≡ f = omega arith in
-    is_text v (d ∷ e ∷ f ∷ []) (omega arith) (λ surrogate. grind (arith, high)) (three_bytes v (grind (arith, low)) (omega arith) ∙ ap (λ x. x ∷ trailing_byte (v / 2 ^ 6) ∷ trailing_byte v ∷ []) first ∙ ap (λ x. d ∷ x ∷ trailing_byte v ∷ []) second ∙ ap (λ x. d ∷ e ∷ x ∷ []) third)
+    three_bytes v (grind (arith, low)) (omega arith) ∙ ap (λ x. x ∷ trailing_byte (v / 2 ^ 6) ∷ trailing_byte v ∷ []) first ∙ ap (λ x. d ∷ x ∷ trailing_byte v ∷ []) second ∙ ap (λ x. d ∷ e ∷ x ∷ []) third
 
-four : (d e f g : ℕ) → 0xF0 ≤ d → d < 0xF5 → 0x80 ≤ e → e < 0xC0 → 0x80 ≤ f → f < 0xC0 → 0x80 ≤ g → g < 0xC0 → (d ≡ 0xF0 → 0x90 ≤ e) → (d ≡ 0xF4 → e < 0x90) → IsUtf8 (d ∷ e ∷ f ∷ g ∷ [])
-four d e f g from to from_e to_e from_f to_f from_g to_g low high =
+three : (d e f : ℕ) → 0xE0 ≤ d → d < 0xF0 → 0x80 ≤ e → e < 0xC0 → 0x80 ≤ f → f < 0xC0 → (d ≡ 0xE0 → 0xA0 ≤ e) → (d ≡ 0xED → e < 0xA0) → IsUtf8 (d ∷ e ∷ f ∷ [])
+three d e f from to from_e to_e from_f to_f low high =
+    is_text (d % 0x10 * 0x1000 + e % 0x40 * 0x40 + f % 0x40) (d ∷ e ∷ f ∷ []) (omega arith) (λ surrogate. grind (arith, high)) (bytes-three d e f from to from_e to_e from_f to_f low)
+
+pub bytes-four : (d e f g : ℕ) → 0xF0 ≤ d → d < 0xF5 → 0x80 ≤ e → e < 0xC0 → 0x80 ≤ f → f < 0xC0 → 0x80 ≤ g → g < 0xC0 → (d ≡ 0xF0 → 0x90 ≤ e)
+    → utf8_bytes (d % 8 * 0x4_0000 + e % 0x40 * 0x1000 + f % 0x40 * 0x40 + g % 0x40) ≡ d ∷ e ∷ f ∷ g ∷ []
+bytes-four d e f g from to from_e to_e from_f to_f from_g to_g low =
     let v = d % 8 * 0x4_0000 + e % 0x40 * 0x1000 + f % 0x40 * 0x40 + g % 0x40 in
     let first : 0b1111_0000 + v / 2 ^ 18 ≡ d = omega arith in
     let second : trailing_byte (v / 2 ^ 12) ≡ e = omega arith in
     let third : trailing_byte (v / 2 ^ 6) ≡ f = omega arith in
     let fourth : trailing_byte v ≡ g = omega arith in
-    is_text v (d ∷ e ∷ f ∷ g ∷ []) (grind (arith, high)) (λ surrogate. grind (arith, low)) (four_bytes v (grind (arith, low)) ∙ ap (λ x. x ∷ trailing_byte (v / 2 ^ 12) ∷ trailing_byte (v / 2 ^ 6) ∷ trailing_byte v ∷ []) first ∙ ap (λ x. d ∷ x ∷ trailing_byte (v / 2 ^ 6) ∷ trailing_byte v ∷ []) second ∙ ap (λ x. d ∷ e ∷ x ∷ trailing_byte v ∷ []) third ∙ ap (λ x. d ∷ e ∷ f ∷ x ∷ []) fourth)
+    four_bytes v (grind (arith, low)) ∙ ap (λ x. x ∷ trailing_byte (v / 2 ^ 12) ∷ trailing_byte (v / 2 ^ 6) ∷ trailing_byte v ∷ []) first ∙ ap (λ x. d ∷ x ∷ trailing_byte (v / 2 ^ 6) ∷ trailing_byte v ∷ []) second ∙ ap (λ x. d ∷ e ∷ x ∷ trailing_byte v ∷ []) third ∙ ap (λ x. d ∷ e ∷ f ∷ x ∷ []) fourth
+
+four : (d e f g : ℕ) → 0xF0 ≤ d → d < 0xF5 → 0x80 ≤ e → e < 0xC0 → 0x80 ≤ f → f < 0xC0 → 0x80 ≤ g → g < 0xC0 → (d ≡ 0xF0 → 0x90 ≤ e) → (d ≡ 0xF4 → e < 0x90) → IsUtf8 (d ∷ e ∷ f ∷ g ∷ [])
+four d e f g from to from_e to_e from_f to_f from_g to_g low high =
+    is_text (d % 8 * 0x4_0000 + e % 0x40 * 0x1000 + f % 0x40 * 0x40 + g % 0x40) (d ∷ e ∷ f ∷ g ∷ []) (grind (arith, high)) (λ surrogate. grind (arith, low)) (bytes-four d e f g from to from_e to_e from_f to_f from_g to_g low)
 
 -- the same of a front, by as many steps as it has characters at most
 abbrev Fronts : ℕ → Type 0

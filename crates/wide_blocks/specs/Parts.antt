@@ -1,12 +1,15 @@
 -- Bytes as characters and ill-formed parts: the Standard's D93b and, in its section 3.9, "U+FFFD Substitution of Maximal Subparts".
 use Rattle.std.proofs.Common.{◌≡◌, ℕ, zero, suc, ◌+◌, ◌<◌, List, [], ◌∷◌, ◌++◌, length, map, take, drop, refl, sym, ap, ◌∙◌, arith}
-use Rattle.std.specs.Prelude.{slice_index}
+use Rattle.std.specs.Prelude.{Bool, slice_index}
 use Rattle.std.specs.Char.{IsScalar}
 use Rattle.std.specs.Str.{StartsWithNoChar}
 use Rattle.std.specs.Str.{chars as str_chars}
 use Rattle.std.specs.Str.Lossy.{utf8_invalid_len}
 use Rattle.std.proofs.lemmas.Str.{encode_same}
+use Rattle.wide_unit.specs.EncodingForm.{EncodingForm, encode}
 use Rattle.wide_unit.specs.Segmentation.{Item, Char, Fault}
+use Rattle.wide_unit.specs.Lossy.{lossy_after}
+use Rattle.wide_unit.specs.declared.policy.Policy.{Policy}
 use Rattle.wide_unit.specs.Utf8.{utf8_bytes}
 use Rattle.wide_unit.specs.Laws.Utf8.{utf8_bytes-encode_utf8}
 use Rattle.wide_blocks.specs.Laws.Parts.{First, nothing, char, no_char, first, shorter-char, shorter-part, below_more, below_next, below_none}
@@ -66,3 +69,13 @@ utf8_items-unique bs is js a b = same_items bs bs is js refl a b
 -- The first bytes are text, and behind them stand so many that are the first ill-formed part.
 abbrev pub HasFirstPart : List ℕ → ℕ → ℕ → Type 0
 HasFirstPart bs place len = utf8_items bs ≡ map Char (str_chars (take place bs)) ++ Fault (slice_index bs place) ∷ utf8_items (drop (place + len) bs)
+
+-- The bytes begin with an item, which has so many bytes.
+abbrev pub BeginsWith : List ℕ → Item → ℕ → Type 0
+BeginsWith bs item len = utf8_items bs ≡ item ∷ utf8_items (drop len bs)
+
+-- With the units of the lossy text of a front of the bytes, the units before have become those after. The flags tell whether an ill-formed
+-- part is the last of what stands before.
+abbrev pub IsLossyFront : EncodingForm → Policy → List ℕ → ℕ → Bool → Bool → List ℕ → List ℕ → Type 0
+IsLossyFront form policy bs place before after old new =
+    old ++ encode form (lossy_after policy before (utf8_items bs)) ≡ new ++ encode form (lossy_after policy after (utf8_items (drop place bs)))

@@ -3,6 +3,7 @@
 
 mod blocks;
 mod fronts;
+mod items;
 mod lengths;
 mod lossy;
 mod narrow;
@@ -16,6 +17,7 @@ mod valid;
 mod wide;
 
 pub use blocks::encode;
+pub use items::lossy_utf8_front;
 pub use lengths::utf8_len;
 pub use lossy::{lossy_front, sound_len};
 pub use recoded::recode_front;

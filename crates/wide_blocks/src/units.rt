@@ -63,9 +63,9 @@ pub(crate) fn put_char<C: Unit>(units: &mut [C], at: usize, c: char) -> usize
     }
 }
 
-// Stores the sixteen bytes that text begins with, each as a character.
+/// Stores the sixteen bytes that text begins with, each as a character.
 #[inline(always)]
-fn put_bytes<C: Unit>(text: &[u8], units: &mut [C], at: usize)
+pub(crate) fn put_bytes<C: Unit>(text: &[u8], units: &mut [C], at: usize)
     requires whole { 16 ≤ length text.now }
     requires room { at + 16 ≤ length units.old }
     ensures { map C.number (take (at + 16) units.new) ≡ map C.number (take at units.old) ++ take 16 text.now }
@@ -78,9 +78,9 @@ fn put_bytes<C: Unit>(text: &[u8], units: &mut [C], at: usize)
     }
 }
 
-// How many of the sixteen bytes that text begins with stand before the first that is not ASCII.
+/// How many of the sixteen bytes that text begins with stand before the first that is not ASCII.
 #[inline(always)]
-fn ascii_len(text: &[u8]) -> usize
+pub(crate) fn ascii_len(text: &[u8]) -> usize
     requires { 16 ≤ length text.now }
     ensures within { result ≤ 16 }
     ensures ascii { (k : ℕ) → k < result → slice_index text.now k < 0x80 }

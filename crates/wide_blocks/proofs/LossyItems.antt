@@ -1,0 +1,68 @@
+-- Lossy text of bytes, an item after another.
+use Rattle.std.proofs.Common.{◌≡◌, ℕ, zero, suc, ◌+◌, ◌-◌, ◌<◌, ◌≤◌, List, [], ◌∷◌, ◌++◌, Bool, true, false, length, get_or, map, take, drop, refl, sym, ap, ◌∙◌, subst, arith, append_assoc}
+use Rattle.std.specs.Prelude.{if◌then◌else◌}
+use Rattle.std.proofs.lemmas.List.{append-nil, drop-drop}
+use Rattle.std.proofs.lemmas.List.Concat.{flat_map-append}
+use Rattle.wide_unit.specs.EncodingForm.{EncodingForm, code_units, encode}
+use Rattle.wide_unit.specs.Lossy.{ends_in_fault, lossy_after}
+use Rattle.wide_unit.specs.Segmentation.{Item, Char, Fault}
+use Rattle.wide_unit.specs.Laws.Policies.{lossy_after-append, lossy_after-chars}
+use Rattle.wide_unit.specs.declared.policy.Policy.{Policy}
+use Rattle.wide_blocks.specs.Parts.{BeginsWith, IsLossyFront, utf8_items}
+use Rattle.wide_blocks.proofs.FirstItems.{begins-ascii}
+use Rattle.wide_blocks.proofs.FrontUnits.{behind-is}
+use Rattle.wide_blocks.proofs.StoredUnits.{one_unit-plain}
+
+-- ASCII characters are items and units of their own
+items-ascii : (n : ℕ) (bs : List ℕ) → n ≤ length bs → ((k : ℕ) → k < n → get_or bs k 0 < 0x80) → utf8_items bs ≡ map Char (take n bs) ++ utf8_items (drop n bs)
+items-ascii zero bs within ascii = refl
+items-ascii (suc n) [] within ascii = absurd (omega arith)
+items-ascii (suc n) (b ∷ bs) within ascii = begins-ascii (b ∷ bs) (omega arith) (ascii 0 (omega arith)) ∙ ap (λ is. Char b ∷ is) (items-ascii n bs (omega arith) (λ k before. ascii (suc k) (omega arith)))
+
+encode-ascii : (form : EncodingForm) (n : ℕ) (bs : List ℕ) → ((k : ℕ) → k < n → get_or bs k 0 < 0x80) → encode form (take n bs) ≡ take n bs
+encode-ascii form zero bs ascii = refl
+encode-ascii form (suc n) [] ascii = refl
+encode-ascii form (suc n) (b ∷ bs) ascii =
+    let low : b < 0x80 = ascii 0 (omega arith) in
+    ap (λ us. us ++ encode form (take n bs)) (one_unit-plain form b (omega arith)) ∙ ap (λ us. b ∷ us) (encode-ascii form n bs (λ k before. ascii (suc k) (omega arith)))
+
+ends-characters : (cs : List ℕ) → ends_in_fault false (map Char cs) ≡ false
+ends-characters [] = refl
+ends-characters (c ∷ cs) = ends-characters cs
+
+ends-some : (after : Bool) (n : ℕ) (bs : List ℕ) → 0 < n → n ≤ length bs → ends_in_fault after (map Char (take n bs)) ≡ false
+ends-some after zero bs some within = absurd (omega arith)
+ends-some after (suc n) [] some within = absurd (omega arith)
+ends-some after (suc n) (b ∷ bs) some within = ends-characters (take n bs)
+
+module _ (form : EncodingForm) (policy : Policy) where
+  pub lossy-then : (bs x y z : List ℕ) (n m : ℕ) (a b c : Bool) → IsLossyFront form policy bs n a b x y → IsLossyFront form policy (take (length bs - n) (drop n bs)) m b c y z → IsLossyFront form policy bs (n + m) a c x z
+  lossy-then bs x y z n m a b c front back =
+      let behind = behind-is bs n in
+      let rest : drop m (take (length bs - n) (drop n bs)) ≡ drop (n + m) bs = ap (drop m) behind ∙ drop-drop m n bs in
+      front ∙ ap (λ ds. y ++ encode form (lossy_after policy b (utf8_items ds))) (sym behind) ∙ back ∙ ap (λ ds. z ++ encode form (lossy_after policy c (utf8_items ds))) rest
+
+  -- the text of some items
+  lossy-items : (bs old new : List ℕ) (n : ℕ) (after : Bool) (is : List Item) → utf8_items bs ≡ is ++ utf8_items (drop n bs) → new ≡ old ++ encode form (lossy_after policy after is) → IsLossyFront form policy bs n after (ends_in_fault after is) old new
+  lossy-items bs old new n after is begins more =
+      let behind = utf8_items (drop n bs) in
+      let text = lossy_after policy after is in
+      let rest = lossy_after policy (ends_in_fault after is) behind in
+      ap (λ js. old ++ encode form (lossy_after policy after js)) begins ∙ ap (λ cs. old ++ encode form cs) (lossy_after-append policy after is behind) ∙ ap (λ us. old ++ us) (flat_map-append (code_units form) text rest)
+      ∙ sym (append_assoc old (encode form text) (encode form rest)) ∙ ap (λ us. us ++ encode form rest) (sym more)
+
+  pub lossy-character : (bs old new : List ℕ) (n c : ℕ) (after : Bool) → BeginsWith bs (Char c) n → new ≡ old ++ code_units form c → IsLossyFront form policy bs n after false old new
+  lossy-character bs old new n c after begins more =
+      lossy-items bs old new n after (Char c ∷ []) begins (more ∙ ap (λ us. old ++ us) (sym (append-nil (code_units form c))) ∙ ap (λ cs. old ++ encode form cs) (sym (lossy_after-chars policy after (c ∷ []))))
+
+  pub lossy-marked : (bs old new : List ℕ) (n u : ℕ) (after : Bool) → BeginsWith bs (Fault u) n → lossy_after policy after (Fault u ∷ []) ≡ 0xFFFD ∷ [] → new ≡ old ++ code_units form 0xFFFD → IsLossyFront form policy bs n after true old new
+  lossy-marked bs old new n u after begins mark more =
+      lossy-items bs old new n after (Fault u ∷ []) begins (more ∙ ap (λ us. old ++ us) (sym (append-nil (code_units form 0xFFFD))) ∙ ap (λ cs. old ++ encode form cs) (sym mark))
+
+  pub lossy-unmarked : (bs old new : List ℕ) (n u : ℕ) (after : Bool) → BeginsWith bs (Fault u) n → lossy_after policy after (Fault u ∷ []) ≡ [] → new ≡ old → IsLossyFront form policy bs n after true old new
+  lossy-unmarked bs old new n u after begins none more = lossy-items bs old new n after (Fault u ∷ []) begins (more ∙ sym (append-nil old) ∙ ap (λ cs. old ++ encode form cs) (sym none))
+
+  pub lossy-ascii : (bs old new : List ℕ) (n : ℕ) (after : Bool) → 0 < n → n ≤ length bs → ((k : ℕ) → k < n → get_or bs k 0 < 0x80) → new ≡ old ++ take n bs → IsLossyFront form policy bs n after false old new
+  lossy-ascii bs old new n after some within ascii more =
+      let text = ap (λ us. old ++ us) (sym (encode-ascii form n bs ascii) ∙ ap (encode form) (sym (lossy_after-chars policy after (take n bs)))) in
+      subst (λ b. IsLossyFront form policy bs n after b old new) (ends-some after n bs some within) (lossy-items bs old new n after (map Char (take n bs)) (items-ascii n bs within ascii) (more ∙ text))

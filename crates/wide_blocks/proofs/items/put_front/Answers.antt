@@ -1,0 +1,28 @@
+use Rattle.std.proofs.Common.{◌≡◌, ◌+◌, ◌-◌, ◌∙◌, [], ◌∷◌, IfNone, if◌then◌else◌, arith, ap, get_or, map, subst, take}
+use Rattle.wide_unit.specs.Lossy.{lossy_after}
+use Rattle.wide_unit.specs.Segmentation.{Fault}
+use Rattle.wide_blocks.specs.Parts.{BeginsWith}
+use Rattle.wide_blocks.proofs.LossyItems.{lossy-ascii, lossy-marked, lossy-unmarked}
+use Rattle.wide_blocks.proofs.StoredUnits.{stored-front}
+use Rattle.wide_blocks.proofs.items.put_front.Goals as goal
+
+pub returns-then-ascii-gt0-clause-units : goal.returns-then-ascii-gt0-clause-units
+returns-then-ascii-gt0-clause-units g c =
+    let bs = c.args.text.now in
+    let number = g.C.Unit.number in
+    let count = c.ascii_len-ascii.result in
+    let few = c.ascii_len-ascii.ensures.within in
+    let stored = stored-front number c.args.units.now c.put_bytes.new.units bs c.args.at 16 count (omega (arith, c.requires.room)) few c.put_bytes.ensures in
+    lossy-ascii g.C.Unit.form c.args.policy bs _ _ count c.args.after c.if-ascii-gt0.true (omega (arith, few, c.if-text-ge16.true)) c.ascii_len-ascii.ensures.ascii stored
+
+pub returns-then-not-is_marked-clause-units : goal.returns-then-not-is_marked-clause-units
+returns-then-not-is_marked-clause-units g c =
+    let same : c.args.at + 0 ≡ c.args.at = omega arith in
+    let byte = get_or c.args.text.now 0 0 in
+    lossy-unmarked g.C.Unit.form c.args.policy c.args.text.now _ _ c.first_item-item.result.1 byte c.args.after (subst (λ o. IfNone o (BeginsWith c.args.text.now (Fault byte) c.first_item-item.result.1)) c.in_default.is c.first_item-item.ensures.part) (subst (λ b. lossy_after c.args.policy c.args.after (Fault byte ∷ []) ≡ (if b then 0xFFFD ∷ [] else [])) c.if-not-is_marked.true (c.is_marked.ensures byte)) (ap (λ n. map g.C.Unit.number (take n c.args.units.now)) same)
+
+pub returns-clause-units : goal.returns-clause-units
+returns-clause-units g c =
+    let same : c.args.at + (c.put_char-behind-2.result - c.args.at) ≡ c.put_char-behind-2.result = omega (arith, c.put_char-behind-2.ensures.place) in
+    let byte = get_or c.args.text.now 0 0 in
+    lossy-marked g.C.Unit.form c.args.policy c.args.text.now _ _ c.first_item-item.result.1 byte c.args.after (subst (λ o. IfNone o (BeginsWith c.args.text.now (Fault byte) c.first_item-item.result.1)) c.in_default.is c.first_item-item.ensures.part) (subst (λ b. lossy_after c.args.policy c.args.after (Fault byte ∷ []) ≡ (if b then 0xFFFD ∷ [] else [])) c.if-not-is_marked.false (c.is_marked.ensures byte)) (ap (λ n. map g.C.Unit.number (take n c.put_char-behind-2.new.units)) same ∙ c.put_char-behind-2.ensures.units)

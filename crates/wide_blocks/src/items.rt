@@ -1,0 +1,147 @@
+//! The characters and ill-formed parts of any bytes, one after another.
+
+ghost use Rattle.std.specs.Prelude.{◌≡◌, ◌+◌, ◌<◌, ◌≤◌, ℕ, ◌&&◌, ◌∷◌, [], if◌then◌else◌, IfNone, IfSome, length, map, slice_index, take, drop};
+ghost use Rattle.std.specs.Int.{is_in_range};
+ghost use Rattle.std.specs.Str.Lossy.{second_byte_max, second_byte_min};
+ghost use Rattle.wide_unit.specs.Lossy.{lossy_after};
+ghost use Rattle.wide_unit.specs.Segmentation.{Char, Fault};
+ghost use Rattle.wide_blocks.specs.Parts.{BeginsWith, IsLossyFront};
+
+use crate::units::{ascii_len, char_of, put_bytes, put_char};
+use wide_unit::{Policy, Unit};
+
+// Behind so many bytes without a fault they are read by blocks again.
+const SOUND: usize = 64;
+
+// The byte at a place, or zero, which continues no character, behind the end.
+#[inline(always)]
+fn byte_at(text: &[u8], at: usize) -> u8
+    ensures { result ≡ slice_index text.now at }
+{
+    if at < text.len() {
+        text[at]
+    } else {
+        0
+    }
+}
+
+// Whether a byte may stand behind the first of a character (Unicode Standard, Table 3-7).
+#[inline(always)]
+fn may_follow(first: u8, second: u8) -> bool
+    ensures { result ≡ (is_in_range 0xC2 0xF4 first && is_in_range (second_byte_min first) (second_byte_max first) second) }
+{
+    let (least, greatest) = match first {
+        0xe0 => (0xa0, 0xbf),
+        0xed => (0x80, 0x9f),
+        0xf0 => (0x90, 0xbf),
+        0xf4 => (0x80, 0x8f),
+        _ => (0x80, 0xbf),
+    };
+    0xc2 <= first && first <= 0xf4 && least <= second && second <= greatest
+}
+
+// The character that bytes begin with, or none where an ill-formed part does (Unicode Standard, section 3.9, "U+FFFD Substitution of
+// Maximal Subparts"), and how many bytes it has.
+#[inline(always)]
+fn first_item(text: &[u8]) -> (Option<char>, usize)
+    requires { 0 < length text.now }
+    ensures within { result.1 ≤ length text.now }
+    ensures some { 0 < result.1 }
+    ensures character { IfSome result.0 (λ c. BeginsWith text.now (Char c) result.1) }
+    ensures part { IfNone result.0 (BeginsWith text.now (Fault (slice_index text.now 0)) result.1) }
+{
+    let first = text[0] as u32;
+    if first < 0x80 {
+        return (Some(char_of(first)), 1);
+    }
+    let second = byte_at(text, 1);
+    if !may_follow(text[0], second) {
+        return (None, 1);
+    }
+    let second = second as u32 % 0x40;
+    if first < 0xe0 {
+        return (Some(char_of(first % 0x20 * 0x40 + second)), 2);
+    }
+    let third = byte_at(text, 2);
+    if third / 0x40 != 2 {
+        return (None, 2);
+    }
+    let third = third as u32 % 0x40;
+    if first < 0xf0 {
+        return (Some(char_of(first % 0x10 * 0x1000 + second * 0x40 + third)), 3);
+    }
+    let fourth = byte_at(text, 3);
+    if fourth / 0x40 != 2 {
+        return (None, 3);
+    }
+    let code = first % 8 * 0x4_0000 + second * 0x1000 + third * 0x40 + fourth as u32 % 0x40;
+    (Some(char_of(code)), 4)
+}
+
+// Whether a policy gives U+FFFD for an ill-formed part, which stands right behind another or not.
+#[inline(always)]
+fn is_marked(policy: Policy, after: bool) -> bool
+    ensures { (byte : ℕ) → lossy_after policy after (Fault byte ∷ []) ≡ (if result then 0xFFFD ∷ [] else []) }
+{
+    match policy {
+        Policy::Each => true,
+        Policy::Run => !after,
+        Policy::Skip => false,
+    }
+}
+
+// Writes the lossy text of the ASCII characters that bytes begin with, or of the one item. Answers how many bytes they have and how many
+// units were written, and whether an ill-formed part is their last.
+#[inline(always)]
+fn put_front<C: Unit>(text: &[u8], policy: Policy, after: bool, units: &mut [C], at: usize) -> (usize, usize, bool)
+    requires some { 0 < length text.now }
+    requires room { at + 16 ≤ length units.old }
+    ensures read { result.0 ≤ length text.now }
+    ensures some { 0 < result.0 }
+    ensures room { at + result.1 ≤ length units.new }
+    ensures units { IsLossyFront C.form policy text.now result.0 after result.2 (map C.number (take at units.old)) (map C.number (take (at + result.1) units.new)) }
+{
+    if text.len() >= 16 {
+        let ascii = ascii_len(text);
+        if ascii > 0 {
+            put_bytes(text, units, at);
+            return (ascii, ascii, false);
+        }
+    }
+    let (item, len) = first_item(text);
+    if let Some(c) = item {
+        let behind = put_char(units, at, c);
+        return (len, behind - at, false);
+    }
+    if !is_marked(policy, after) {
+        return (len, 0, true);
+    }
+    let behind = put_char(units, at, char::REPLACEMENT_CHARACTER);
+    (len, behind - at, true)
+}
+
+/// Writes the lossy text of a front of any bytes under a policy to the front of `units`, in the encoding form of `C` (Unicode Standard,
+/// D90, D91; section 3.9, "U+FFFD Substitution of Maximal Subparts"). The flag tells whether an ill-formed part stands right before the
+/// bytes. Answers how many bytes it read, at least one where there are some, how many units it wrote, and the flag behind what it read.
+/// It stops where it has met no ill-formed part for a while: text is read faster by `decode_utf8_front`. Units behind those may be
+/// overwritten.
+pub fn lossy_utf8_front<C: Unit>(text: &[u8], policy: Policy, after: bool, units: &mut [C]) -> (usize, usize, bool)
+    requires { 16 ≤ length units.old }
+    ensures read { result.0 ≤ length text.now }
+    ensures some { 0 < length text.now → 0 < result.0 }
+    ensures written { result.1 ≤ length units.new }
+    ensures units { IsLossyFront C.form policy text.now result.0 after result.2 [] (map C.number (take result.1 units.new)) }
+{
+    let mut read = 0;
+    let mut written = 0;
+    let mut is_after = after;
+    let mut sound = 0;
+    'items: while read < text.len() && units.len() - written >= 16 && sound < SOUND {
+        let (bytes, more, is_part) = put_front(&text[read..], policy, is_after, units, written);
+        read += bytes;
+        written += more;
+        is_after = is_part;
+        sound = if is_part { 0 } else { sound + bytes };
+    }
+    (read, written, is_after)
+}
