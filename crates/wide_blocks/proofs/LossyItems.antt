@@ -1,7 +1,11 @@
 -- Lossy text of bytes, an item after another.
-use Rattle.std.proofs.Common.{◌≡◌, ℕ, zero, suc, ◌+◌, ◌-◌, ◌<◌, ◌≤◌, List, [], ◌∷◌, ◌++◌, Bool, true, false, length, get_or, map, take, drop, refl, sym, ap, ◌∙◌, subst, arith, append_assoc}
-use Rattle.std.specs.Prelude.{if◌then◌else◌}
-use Rattle.std.proofs.lemmas.List.{append-nil, drop-drop}
+use Rattle.std.proofs.Common.{◌≡◌, inl, inr, ℕ, zero, suc, ◌+◌, ◌-◌, ◌<◌, ◌≤◌, List, [], ◌∷◌, ◌++◌, Bool, true, false, length, get_or, map, take, drop, refl, sym, ap, ◌∙◌, subst, arith, append_assoc, length-append}
+use Rattle.std.specs.Char.{encode_utf8}
+use Rattle.std.specs.Str.{IsUtf8, encode_utf8_all}
+use Rattle.std.specs.Str.{chars as str_chars}
+use Rattle.std.proofs.lemmas.Bool.{cases_lt}
+use Rattle.std.proofs.lemmas.List.{append-nil, drop-drop, length-take-le}
+use Rattle.std.proofs.lemmas.Str.{chars_from_encodes, len_utf8_bounds, length-encode}
 use Rattle.std.proofs.lemmas.List.Concat.{flat_map-append}
 use Rattle.wide_unit.specs.EncodingForm.{EncodingForm, code_units, encode}
 use Rattle.wide_unit.specs.Lossy.{ends_in_fault, lossy_after}
@@ -11,6 +15,7 @@ use Rattle.wide_unit.specs.declared.policy.Policy.{Policy}
 use Rattle.wide_blocks.specs.Parts.{BeginsWith, IsLossyFront, utf8_items}
 use Rattle.wide_blocks.proofs.FirstItems.{begins-ascii}
 use Rattle.wide_blocks.proofs.FrontUnits.{behind-is}
+use Rattle.wide_blocks.proofs.PartTexts.{utf8_items-front}
 use Rattle.wide_blocks.proofs.StoredUnits.{one_unit-plain}
 
 -- ASCII characters are items and units of their own
@@ -66,3 +71,23 @@ module _ (form : EncodingForm) (policy : Policy) where
   lossy-ascii bs old new n after some within ascii more =
       let text = ap (λ us. old ++ us) (sym (encode-ascii form n bs ascii) ∙ ap (encode form) (sym (lossy_after-chars policy after (take n bs)))) in
       subst (λ b. IsLossyFront form policy bs n after b old new) (ends-some after n bs some within) (lossy-items bs old new n after (map Char (take n bs)) (items-ascii n bs within ascii) (more ∙ text))
+
+-- Lossy text of a text and what stands behind it
+ends-encoded : (after : Bool) (cs front : List ℕ) → encode_utf8_all cs ≡ front → (length front ≡ 0 → ends_in_fault after (map Char cs) ≡ after) × (1 ≤ length front → ends_in_fault after (map Char cs) ≡ false)
+ends-encoded after [] front is = (λ none. refl, λ some. absurd (omega (arith, some, ap length is)))
+ends-encoded after (c ∷ cs) front is =
+    (λ none. absurd (omega (arith, none, ap length is, length-append (encode_utf8 c) (encode_utf8_all cs), length-encode c, (len_utf8_bounds c).0)), λ some. ends-characters cs)
+
+pub lossy-behind_text : (policy : Policy) (bs : List ℕ) (n : ℕ) (after flag : Bool) → n ≤ length bs → IsUtf8 (take n bs) → (n ≡ 0 → flag ≡ after) → (1 ≤ n → flag ≡ false)
+    → lossy_after policy after (utf8_items bs) ≡ str_chars (take n bs) ++ lossy_after policy flag (utf8_items (drop n bs))
+lossy-behind_text policy bs n after flag within text same other =
+    let front = take n bs in
+    let cs = str_chars front in
+    let rest = utf8_items (drop n bs) in
+    let long : length front ≡ n = length-take-le n bs within in
+    let ends = ends-encoded after cs front (ap encode_utf8_all (sym (chars_from_encodes text.0 front text text.1.1)) ∙ text.1.1) in
+    let last : ends_in_fault after (map Char cs) ≡ flag = elim (cases_lt 0 n) [
+      | inl some ↦ ends.1 (omega (arith, some, long)) ∙ sym (other some)
+      | inr none ↦ ends.0 (omega (arith, none, long)) ∙ sym (same (omega arith))
+    ] in
+    ap (lossy_after policy after) (utf8_items-front bs n text) ∙ lossy_after-append policy after (map Char cs) rest ∙ ap (λ ds. ds ++ lossy_after policy (ends_in_fault after (map Char cs)) rest) (lossy_after-chars policy after cs) ∙ ap (λ f. cs ++ lossy_after policy f rest) last

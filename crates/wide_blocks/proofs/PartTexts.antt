@@ -33,6 +33,13 @@ behind_text front bs is text more =
     let same = chars_from_encodes text.0 front text text.1.1 in
     subst (λ xs. AreUtf8Items (xs ++ bs) (map Char (str_chars front) ++ is)) text.1.1 (subst (λ cs. AreUtf8Items (encode_utf8_all text.0 ++ bs) (map Char cs ++ is)) same (behind_chars text.0 bs is text.1.0 more))
 
+-- a front that is text, and then other bytes
+pub utf8_items-front : (bs : List ℕ) (n : ℕ) → IsUtf8 (take n bs) → utf8_items bs ≡ map Char (str_chars (take n bs)) ++ utf8_items (drop n bs)
+utf8_items-front bs n text =
+    let rest = drop n bs in
+    let items = behind_text (take n bs) rest (utf8_items rest) text (utf8_items-divide rest) in
+    utf8_items-unique bs _ _ (utf8_items-divide bs) (subst (λ xs. AreUtf8Items xs (map Char (str_chars (take n bs)) ++ utf8_items rest)) (take-append-drop n bs) items)
+
 pub utf8_items-text : (bs : List ℕ) → IsUtf8 bs → utf8_items bs ≡ map Char (str_chars bs)
 utf8_items-text bs text =
     let items = subst (λ xs. AreUtf8Items xs (map Char (str_chars bs))) (append-nil bs) (subst (λ is. AreUtf8Items (bs ++ []) is) (append-nil (map Char (str_chars bs))) (behind_text bs [] [] text none)) in

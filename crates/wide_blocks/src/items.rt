@@ -1,12 +1,12 @@
 //! The characters and ill-formed parts of any bytes, one after another.
 
-ghost use Rattle.std.specs.Prelude.{◌≡◌, ◌+◌, ◌<◌, ◌≤◌, ℕ, ◌&&◌, ◌∷◌, [], if◌then◌else◌, IfNone, IfSome, length, map, slice_index, take, drop};
+ghost use Rattle.std.specs.Prelude.{◌≡◌, ◌+◌, ◌<◌, ◌≤◌, ℕ, ◌&&◌, [], IfNone, IfSome, length, map, slice_index, take, drop};
 ghost use Rattle.std.specs.Int.{is_in_range};
 ghost use Rattle.std.specs.Str.Lossy.{second_byte_max, second_byte_min};
-ghost use Rattle.wide_unit.specs.Lossy.{lossy_after};
 ghost use Rattle.wide_unit.specs.Segmentation.{Char, Fault};
 ghost use Rattle.wide_blocks.specs.Parts.{BeginsWith, IsLossyFront};
 
+use crate::lossy::is_marked;
 use crate::units::{ascii_len, char_of, put_bytes, put_char};
 use wide_unit::{Policy, Unit};
 
@@ -76,18 +76,6 @@ fn first_item(text: &[u8]) -> (Option<char>, usize)
     }
     let code = first % 8 * 0x4_0000 + second * 0x1000 + third * 0x40 + fourth as u32 % 0x40;
     (Some(char_of(code)), 4)
-}
-
-// Whether a policy gives U+FFFD for an ill-formed part, which stands right behind another or not.
-#[inline(always)]
-fn is_marked(policy: Policy, after: bool) -> bool
-    ensures { (byte : ℕ) → lossy_after policy after (Fault byte ∷ []) ≡ (if result then 0xFFFD ∷ [] else []) }
-{
-    match policy {
-        Policy::Each => true,
-        Policy::Run => !after,
-        Policy::Skip => false,
-    }
 }
 
 // Writes the lossy text of the ASCII characters that bytes begin with, or of the one item. Answers how many bytes they have and how many

@@ -19,7 +19,7 @@ mod wide;
 pub use blocks::encode;
 pub use items::lossy_utf8_front;
 pub use lengths::utf8_len;
-pub use lossy::{lossy_front, sound_len};
+pub use lossy::{is_after_fault, is_marked, lossy_front, sound_len};
 pub use recoded::recode_front;
 pub use scalars::decode_front;
 pub use steps::{Step, put_unit};

@@ -1,11 +1,11 @@
 //! Units of one width in units of the other, in a buffer of the caller's.
 ghost use Rattle.std.specs.Prelude.{◌≡◌, ◌<◌, ◌≤◌, ◌-◌, ◌^◌, IfNone, IfSome, length, map, min, take, drop};
-ghost use Rattle.widestring.specs.EncodingForm.{Utf16, Utf32, encode};
-ghost use Rattle.widestring.specs.Items.{IsWellFormed, chars};
+ghost use Rattle.wide_unit.specs.EncodingForm.{Utf16, Utf32, encode};
+ghost use Rattle.wide_unit.specs.Items.{IsWellFormed, chars};
 
 use crate::rooms::put_items;
 use wide_blocks::recode_front;
-use widestring::unit::{Unit, check};
+use wide_unit::{Unit, check};
 
 // Few units are put into a small array before they are copied, others into a larger one.
 const FEW: usize = 32;

@@ -1,12 +1,16 @@
 //! Text in UTF-8 as units, in a buffer of the caller's.
-ghost use Rattle.std.specs.Prelude.{◌≡◌, ◌<◌, ◌≤◌, ◌↔◌, ◌+◌, ◌-◌, ◌^◌, ◌++◌, length, map, min, take, drop};
+ghost use Rattle.std.specs.Prelude.{◌≡◌, ◌<◌, ◌≤◌, ◌↔◌, ◌+◌, ◌-◌, ◌^◌, ◌++◌, IfNone, IfSome, length, map, min, take, drop};
 ghost use Rattle.std.specs.Str.{IsUtf8, IsValidUpTo, chars as str_chars};
 ghost use Rattle.std.specs.Str.Lossy.{utf8_lossy};
-ghost use Rattle.widestring.specs.EncodingForm.{Utf16, Utf32, encode};
+ghost use Rattle.wide_unit.specs.EncodingForm.{Utf16, encode};
+ghost use Rattle.wide_unit.specs.Lossy.{lossy_by};
+ghost use Rattle.wide_blocks.specs.Parts.{utf8_items};
+ghost use Rattle.widestring_c.specs.Policies.{policy_of};
 
+use crate::policies::policy_of;
 use crate::rooms::put_items;
-use wide_blocks::{decode_utf8_front, first_chunk};
-use widestring::unit::Unit;
+use wide_blocks::{decode_utf8_front, first_chunk, is_after_fault, lossy_utf8_front};
+use wide_unit::{Policy, Unit};
 
 // The units of a few bytes are put into a small array before they are copied, those of others into a larger one.
 const FEW: usize = 32;
@@ -33,29 +37,65 @@ fn put_text<C: Unit>(text: &[u8], units: &mut [C], at: usize, piece: &mut [C]) -
     at
 }
 
-// Puts the lossy text of any bytes at the front, with U+FFFD for each ill-formed part. Answers how many units it has, or the greatest
-// number where they are more.
-fn put_lossy<C: Unit>(text: &[u8], units: &mut [C], piece: &mut [C]) -> usize
+// How many bytes at the front are text and are read by blocks: none where there are few.
+fn text_len(text: &[u8]) -> usize
+    ensures within { result ≤ length text.now }
+    ensures text { IsUtf8 (take result text.now) }
+{
+    if text.len() <= FEW {
+        return 0;
+    }
+    first_chunk(text).0
+}
+
+// Puts the lossy text of any bytes at the front, by what a policy gives for ill-formed parts. Answers how many units it has, or the
+// greatest number where they are more.
+fn put_lossy<C: Unit>(text: &[u8], policy: Policy, units: &mut [C], piece: &mut [C]) -> usize
     requires room { length units.old < 2 ^ 64 - 1 }
-    requires piece { 2 ≤ length piece.old }
-    ensures len { result ≡ min (length (encode C.form (str_chars (utf8_lossy text.now)))) (2 ^ 64 - 1) }
-    ensures units { result ≤ length units.old → map C.number (take result units.new) ≡ encode C.form (str_chars (utf8_lossy text.now)) }
+    requires piece { 16 ≤ length piece.old }
+    ensures len { result ≡ min (length (encode C.form (lossy_by policy (utf8_items text.now)))) (2 ^ 64 - 1) }
+    ensures units { result ≤ length units.old → map C.number (take result units.new) ≡ encode C.form (lossy_by policy (utf8_items text.now)) }
     ensures behind { drop result units.new ≡ drop result units.old }
 {
-    let (replacement, _) = C::encode_char(char::REPLACEMENT_CHARACTER);
     let mut at = 0;
     let mut rest = text;
-    'chunks: while !rest.is_empty() {
-        let (valid, broken) = first_chunk(rest);
-        let (front, behind) = rest.split_at(valid);
+    let mut after = false;
+    'fronts: while !rest.is_empty() {
+        let len = text_len(rest);
+        let (front, behind) = rest.split_at(len);
         at = put_text(front, units, at, piece);
-        if broken == 0 {
-            return at;
-        }
-        at = put_items(units, at, &[replacement]);
-        (_, rest) = behind.split_at(broken);
+        let before = is_after_fault(after, len);
+        let (read, written, is_after) = lossy_utf8_front(behind, policy, before, piece);
+        at = put_items(units, at, &piece[..written]);
+        after = is_after;
+        (_, rest) = behind.split_at(read);
     }
     at
+}
+
+// The same in UTF-16, and in UTF-32, by an array of the size that fits.
+fn put_lossy_16(text: &[u8], policy: Policy, units: &mut [u16]) -> usize
+    ensures len { result ≡ min (length (encode Utf16 (lossy_by policy (utf8_items text.now)))) (2 ^ 64 - 1) }
+    ensures units { result ≤ length units.old → take result units.new ≡ encode Utf16 (lossy_by policy (utf8_items text.now)) }
+    ensures behind { drop result units.new ≡ drop result units.old }
+{
+    if text.len() <= FEW {
+        put_lossy(text, policy, units, &mut [0; FEW])
+    } else {
+        put_lossy(text, policy, units, &mut [0; MANY])
+    }
+}
+
+fn put_lossy_32(text: &[u8], policy: Policy, units: &mut [u32]) -> usize
+    ensures len { result ≡ min (length (lossy_by policy (utf8_items text.now))) (2 ^ 64 - 1) }
+    ensures units { result ≤ length units.old → take result units.new ≡ lossy_by policy (utf8_items text.now) }
+    ensures behind { drop result units.new ≡ drop result units.old }
+{
+    if text.len() <= FEW {
+        put_lossy(text, policy, units, &mut [0; FEW])
+    } else {
+        put_lossy(text, policy, units, &mut [0; MANY])
+    }
 }
 
 /// The place of the first byte that belongs to no character of UTF-8 (Unicode Standard, D92), or the length where the bytes are well
@@ -116,9 +156,47 @@ pub extern "C" fn wide_utf8_to_utf16_lossy(text: &[u8], units: &mut [u16]) -> us
     ensures units { result ≤ length units.old → take result units.new ≡ encode Utf16 (str_chars (utf8_lossy text.now)) }
     ensures behind { drop result units.new ≡ drop result units.old }
 {
-    if text.len() <= FEW {
-        put_lossy(text, units, &mut [0; FEW])
-    } else {
-        put_lossy(text, units, &mut [0; MANY])
+    put_lossy_16(text, Policy::Each, units)
+}
+
+/// The text of any bytes in UTF-32, as `wide_utf8_to_utf16_lossy`.
+#[unsafe(no_mangle)]
+pub extern "C" fn wide_utf8_to_utf32_lossy(text: &[u8], units: &mut [u32]) -> usize
+    ensures len { result ≡ min (length (str_chars (utf8_lossy text.now))) (2 ^ 64 - 1) }
+    ensures units { result ≤ length units.old → take result units.new ≡ str_chars (utf8_lossy text.now) }
+    ensures behind { drop result units.new ≡ drop result units.old }
+{
+    put_lossy_32(text, Policy::Each, units)
+}
+
+/// The text of any bytes in UTF-16, with what a policy gives for the parts that `wide_utf8_to_utf16_lossy` gives U+FFFD for: 0 is U+FFFD
+/// for each, 1 is one for each longest row of them, 2 is nothing. Answers the greatest number, and leaves `units`, where the policy is
+/// none of these.
+#[unsafe(no_mangle)]
+pub extern "C" fn wide_utf8_to_utf16_lossy_with(text: &[u8], policy: u32, units: &mut [u16]) -> usize
+    ensures len { IfSome (policy_of policy) (λ p. result ≡ min (length (encode Utf16 (lossy_by p (utf8_items text.now)))) (2 ^ 64 - 1)) }
+    ensures units { IfSome (policy_of policy) (λ p. result ≤ length units.old → take result units.new ≡ encode Utf16 (lossy_by p (utf8_items text.now))) }
+    ensures other { IfNone (policy_of policy) (result ≡ 2 ^ 64 - 1) }
+    ensures unchanged { IfNone (policy_of policy) (units.new ≡ units.old) }
+    ensures behind { drop result units.new ≡ drop result units.old }
+{
+    match policy_of(policy) {
+        Some(policy) => put_lossy_16(text, policy, units),
+        None => usize::MAX,
+    }
+}
+
+/// The text of any bytes in UTF-32 under a policy, as `wide_utf8_to_utf16_lossy_with`.
+#[unsafe(no_mangle)]
+pub extern "C" fn wide_utf8_to_utf32_lossy_with(text: &[u8], policy: u32, units: &mut [u32]) -> usize
+    ensures len { IfSome (policy_of policy) (λ p. result ≡ min (length (lossy_by p (utf8_items text.now))) (2 ^ 64 - 1)) }
+    ensures units { IfSome (policy_of policy) (λ p. result ≤ length units.old → take result units.new ≡ lossy_by p (utf8_items text.now)) }
+    ensures other { IfNone (policy_of policy) (result ≡ 2 ^ 64 - 1) }
+    ensures unchanged { IfNone (policy_of policy) (units.new ≡ units.old) }
+    ensures behind { drop result units.new ≡ drop result units.old }
+{
+    match policy_of(policy) {
+        Some(policy) => put_lossy_32(text, policy, units),
+        None => usize::MAX,
     }
 }

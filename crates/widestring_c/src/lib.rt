@@ -6,6 +6,7 @@
 
 mod between;
 mod from_utf8;
+mod policies;
 mod repair;
 #[cfg(test)]
 mod room_rows;
@@ -15,7 +16,9 @@ mod to_utf8;
 
 pub use between::{wide_utf16_to_utf32, wide_utf32_to_utf16};
 pub use from_utf8::{
-    wide_utf8_first_fault, wide_utf8_to_utf16, wide_utf8_to_utf16_lossy, wide_utf8_to_utf32,
+    wide_utf8_first_fault, wide_utf8_to_utf16, wide_utf8_to_utf16_lossy,
+    wide_utf8_to_utf16_lossy_with, wide_utf8_to_utf32, wide_utf8_to_utf32_lossy,
+    wide_utf8_to_utf32_lossy_with,
 };
 pub use repair::{wide_utf16_repair, wide_utf32_repair};
 pub use search::{

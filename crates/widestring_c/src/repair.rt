@@ -1,10 +1,10 @@
 //! Units with U+FFFD for faults, in a buffer of the caller's.
 ghost use Rattle.std.specs.Prelude.{◌≡◌, ◌≤◌, ◌-◌, ◌^◌, length, min, take, drop};
-ghost use Rattle.widestring.specs.EncodingForm.{Utf16, Utf32, encode};
-ghost use Rattle.widestring.specs.Items.{items};
-ghost use Rattle.widestring.specs.Lossy.{lossy};
+ghost use Rattle.wide_unit.specs.EncodingForm.{Utf16, Utf32, encode};
+ghost use Rattle.wide_unit.specs.Items.{items};
+ghost use Rattle.wide_unit.specs.Lossy.{lossy};
 
-use widestring::unit::Unit;
+use wide_unit::Unit;
 
 /// The units with U+FFFD in the place of each that belongs to no character, in front of `repaired` where there is room for them.
 /// Answers how many they are.

@@ -1,11 +1,10 @@
 //! Where the first fault or the first NUL stands.
 ghost use Rattle.std.specs.Prelude.{◌≡◌, ◌<◌, ◌≤◌, ◌↔◌, ℕ, length};
-ghost use Rattle.widestring.specs.EncodingForm.{Utf16, Utf32};
-ghost use Rattle.widestring.specs.Items.{IsFirstFault, IsWellFormed};
-ghost use Rattle.widestring.specs.Nul.{HasNoNul, IsFirstNul};
+ghost use Rattle.wide_unit.specs.EncodingForm.{Utf16, Utf32};
+ghost use Rattle.wide_unit.specs.Items.{IsFirstFault, IsWellFormed};
+ghost use Rattle.wide_unit.specs.Nul.{HasNoNul, IsFirstNul};
 
-use widestring::unit::check;
-use widestring::{U16CStr, U32CStr};
+use wide_unit::{check, first_nul};
 
 /// The place of the first fault of UTF-16 (Unicode Standard, D91), or the length where the units are well formed.
 #[unsafe(no_mangle)]
@@ -40,10 +39,7 @@ pub extern "C" fn wide_utf16_first_nul(units: &[u16]) -> usize
     ensures first { result < length units.now → IsFirstNul units.now result }
     ensures within { result ≤ length units.now }
 {
-    match U16CStr::from_slice_truncate(units) {
-        Ok(string) => string.len(),
-        Err(_missing) => units.len(),
-    }
+    first_nul(units).unwrap_or(units.len())
 }
 
 /// The place of the first NUL, or the length where there is none.
@@ -53,8 +49,5 @@ pub extern "C" fn wide_utf32_first_nul(units: &[u32]) -> usize
     ensures first { result < length units.now → IsFirstNul units.now result }
     ensures within { result ≤ length units.now }
 {
-    match U32CStr::from_slice_truncate(units) {
-        Ok(string) => string.len(),
-        Err(_missing) => units.len(),
-    }
+    first_nul(units).unwrap_or(units.len())
 }

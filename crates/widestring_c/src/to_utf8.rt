@@ -1,13 +1,13 @@
 //! Text of units in UTF-8, in a buffer of the caller's.
 ghost use Rattle.std.specs.Prelude.{◌≡◌, ◌≤◌, ◌+◌, ◌-◌, ◌^◌, ◌++◌, ◌*◌, IfNone, IfSome, length, map, min, take, drop};
-ghost use Rattle.widestring.specs.EncodingForm.{Utf16, Utf32};
-ghost use Rattle.widestring.specs.Items.{IsWellFormed, chars, items};
-ghost use Rattle.widestring.specs.Lossy.{lossy};
-ghost use Rattle.widestring.specs.Utf8.{utf8};
+ghost use Rattle.wide_unit.specs.EncodingForm.{Utf16, Utf32};
+ghost use Rattle.wide_unit.specs.Items.{IsWellFormed, chars, items};
+ghost use Rattle.wide_unit.specs.Lossy.{lossy};
+ghost use Rattle.wide_unit.specs.Utf8.{utf8};
 
 use crate::rooms::put_items;
 use wide_blocks::{encode_front, encode_whole, lossy_front};
-use widestring::unit::{Unit, check};
+use wide_unit::{Unit, check};
 
 // The text of a few units is put into a small array before it is copied, that of others into a larger one.
 const FEW: usize = 32;

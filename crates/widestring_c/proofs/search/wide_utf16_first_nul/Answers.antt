@@ -1,6 +1,6 @@
 use Rattle.std.proofs.Common.{refl, subst}
 use Rattle.std.proofs.lemmas.List.{map-id}
-use Rattle.widestring.specs.Nul.{HasNoNul}
+use Rattle.wide_unit.specs.Nul.{HasNoNul}
 use Rattle.widestring_c.proofs.search.wide_utf16_first_nul.Goals as goal
 
 pub returns-in-Err-clause-none : goal.returns-in-Err-clause-none
