@@ -15,6 +15,7 @@ pub mod LossyFronts
 pub mod FirstBits
 pub mod FirstItems
 pub mod LossyItems
+pub mod LossyFaults
 pub mod FirstCharacters
 pub mod FrontUnits
 pub mod PartTexts

@@ -31,7 +31,7 @@ encode-ascii form (suc n) (b ∷ bs) ascii =
     let low : b < 0x80 = ascii 0 (omega arith) in
     ap (λ us. us ++ encode form (take n bs)) (one_unit-plain form b (omega arith)) ∙ ap (λ us. b ∷ us) (encode-ascii form n bs (λ k before. ascii (suc k) (omega arith)))
 
-ends-characters : (cs : List ℕ) → ends_in_fault false (map Char cs) ≡ false
+pub ends-characters : (cs : List ℕ) → ends_in_fault false (map Char cs) ≡ false
 ends-characters [] = refl
 ends-characters (c ∷ cs) = ends-characters cs
 

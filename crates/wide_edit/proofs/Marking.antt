@@ -13,7 +13,7 @@ use Rattle.wide_unit.specs.Places.{IsPlaceOf, IsCharBoundary}
 use Rattle.wide_unit.specs.Laws.Places.{encode-chars, IsPlaceOf-front}
 use Rattle.wide_unit.proofs.CharBoundaries.{IsCharBoundary-of}
 use Rattle.wide_edit.specs.Found.{IsFoundAt}
-use Rattle.wide_unit.specs.Laws.Forms.{code_units-cases}
+use Rattle.wide_unit.specs.Laws.Forms.{some_units}
 use Rattle.wide_edit.specs.Step.{step}
 use Rattle.wide_edit.specs.declared.edits.Edit.{Edit}
 use Rattle.wide_edit.specs.declared.edits.Edit.TheVariants.{Push, PushStr, Pop, Truncate, Insert, InsertStr, Remove, Retain, Drain, Replace, SplitOff, Clear}
@@ -83,12 +83,6 @@ found-none us i None e past = record { some = (λ some. absurd cc, λ le. absurd
 found-none us i (Some at) e past = absurd cc
 
 -- no text has more characters than units
-some_units : (form : EncodingForm) (c : ℕ) → 1 ≤ length (code_units form c)
-some_units form c = elim (code_units-cases form c) [
-  | inl one ↦ rw one.1 (omega arith)
-  | inr two ↦ rw two.2 (omega arith)
-]
-
 pub few-characters : (form : EncodingForm) (l : List ℕ) → length l ≤ size form l
 few-characters form [] = omega arith
 few-characters form (c ∷ l) = omega (arith, length-append (code_units form c) (encode form l), some_units form c, few-characters form l)

@@ -4,7 +4,7 @@ use Rattle.std.proofs.lemmas.List.{length-map}
 use Rattle.std.proofs.Math.Nat.{div-le_of_le-mul}
 use Rattle.wide_unit.specs.EncodingForm.{EncodingForm, Utf16, Utf32, code_units, encode}
 use Rattle.wide_unit.specs.Items.{chars, IsWellFormed}
-use Rattle.wide_unit.specs.Laws.Forms.{code_units-cases}
+use Rattle.wide_unit.specs.Laws.Forms.{code_units-cases, some_units}
 use Rattle.wide_unit.specs.Laws.Places.{encode-chars}
 
 -- A character takes a unit, and no more units than U+10000.
@@ -16,15 +16,9 @@ most_of Utf16 most all c = elim (code_units-cases Utf16 c) [
 most_of Utf32 most all c = all
 
 module _ (form : EncodingForm) where
-  some_units : (c : ℕ) → 1 ≤ length (code_units form c)
-  some_units c = elim (code_units-cases form c) [
-    | inl one ↦ rw one.1 (omega arith)
-    | inr two ↦ rw two.2 (omega arith)
-  ]
-
   at_most_units : (cs : List ℕ) → length cs ≤ length (encode form cs)
   at_most_units [] = omega arith
-  at_most_units (c ∷ cs) = omega (arith, length-append (code_units form c) (encode form cs), some_units c, at_most_units cs)
+  at_most_units (c ∷ cs) = omega (arith, length-append (code_units form c) (encode form cs), some_units form c, at_most_units cs)
 
   at_least_units : (most : ℕ) → length (code_units form 0x1_0000) ≤ most → (cs : List ℕ) → length (encode form cs) ≤ most * length cs
   at_least_units most longest [] = omega arith

@@ -22,6 +22,14 @@ extern "C" {
 /* What a conversion answers where what it was handed is not well formed: no length is so great. */
 #define WIDE_FAULT SIZE_MAX
 
+/*
+ * What lossy conversions give for what belongs to no character: U+FFFD for each, one U+FFFD for each longest row of neighbours, or
+ * nothing. Where a policy is asked for and another number is handed in, the answer is WIDE_FAULT, and the buffer is as it was.
+ */
+#define WIDE_EACH UINT32_C(0)
+#define WIDE_RUN UINT32_C(1)
+#define WIDE_SKIP UINT32_C(2)
+
 /* The place of the first unit that belongs to no character, or `length` where the units are well-formed UTF-16. */
 size_t wide_utf16_first_fault(const uint16_t *units, size_t length);
 
@@ -47,8 +55,15 @@ size_t wide_utf16_to_utf8(const uint16_t *units, size_t length, uint8_t *text, s
 /* The same of any units, with U+FFFD, three bytes, for each unit that belongs to no character. */
 size_t wide_utf16_to_utf8_lossy(const uint16_t *units, size_t length, uint8_t *text, size_t room);
 
+/* The same with what a policy gives for each of those units. */
+size_t wide_utf16_to_utf8_lossy_with(const uint16_t *units, size_t length, uint32_t policy, uint8_t *text, size_t room);
+
 /* The text of well-formed UTF-32 in UTF-8. WIDE_FAULT where the units are not well formed, and then the buffer is as it was. */
 size_t wide_utf32_to_utf8(const uint32_t *units, size_t length, uint8_t *text, size_t room);
+
+/* The same of any units, with U+FFFD, or with what a policy gives, for each unit that is no scalar value. */
+size_t wide_utf32_to_utf8_lossy(const uint32_t *units, size_t length, uint8_t *text, size_t room);
+size_t wide_utf32_to_utf8_lossy_with(const uint32_t *units, size_t length, uint32_t policy, uint8_t *text, size_t room);
 
 /* The text of well-formed UTF-8 in UTF-16, or in UTF-32. WIDE_FAULT where the bytes are not well formed, and then the buffer is as it was. */
 size_t wide_utf8_to_utf16(const uint8_t *text, size_t length, uint16_t *units, size_t room);
@@ -59,10 +74,15 @@ size_t wide_utf16_to_utf32(const uint16_t *units, size_t length, uint32_t *scala
 size_t wide_utf32_to_utf16(const uint32_t *scalars, size_t length, uint16_t *units, size_t room);
 
 /*
- * The text of any bytes in UTF-16, with U+FFFD for each longest part that begins a character of UTF-8 and does not go on as one, and for
- * each byte that begins none (Unicode Standard, section 3.9, "U+FFFD Substitution of Maximal Subparts").
+ * The text of any bytes in UTF-16, or in UTF-32, with U+FFFD for each longest part that begins a character of UTF-8 and does not go on as
+ * one, and for each byte that begins none (Unicode Standard, section 3.9, "U+FFFD Substitution of Maximal Subparts").
  */
 size_t wide_utf8_to_utf16_lossy(const uint8_t *text, size_t length, uint16_t *units, size_t room);
+size_t wide_utf8_to_utf32_lossy(const uint8_t *text, size_t length, uint32_t *units, size_t room);
+
+/* The same with what a policy gives for each of those. */
+size_t wide_utf8_to_utf16_lossy_with(const uint8_t *text, size_t length, uint32_t policy, uint16_t *units, size_t room);
+size_t wide_utf8_to_utf32_lossy_with(const uint8_t *text, size_t length, uint32_t policy, uint32_t *units, size_t room);
 
 /* The units with U+FFFD in the place of each that belongs to no character: as many as there are, and well formed. */
 size_t wide_utf16_repair(const uint16_t *units, size_t length, uint16_t *repaired, size_t room);

@@ -1,10 +1,13 @@
--- Lossy text of bytes, a text and the items behind it at a time.
+-- Lossy text of bytes, a text and the items behind it at a time; and of no units.
 use Rattle.std.proofs.Common.{◌≡◌, ℕ, ◌+◌, ◌≤◌, List, [], ◌∷◌, ◌++◌, Bool, true, false, length, take, drop, refl, sym, ap, ◌∙◌, subst, arith}
 use Rattle.std.specs.Str.{IsUtf8, IsValidUpTo, chars}
 use Rattle.std.proofs.lemmas.List.{take_all}
 use Rattle.std.proofs.lemmas.List.Concat.{flat_map-append}
 use Rattle.wide_unit.specs.EncodingForm.{EncodingForm, code_units, encode}
+use Rattle.wide_unit.specs.Items.{items}
 use Rattle.wide_unit.specs.Lossy.{lossy_after}
+use Rattle.wide_unit.specs.Utf8.{utf8, utf8_bytes}
+use Rattle.wide_unit.specs.Laws.Items.{items-nil}
 use Rattle.wide_unit.specs.declared.policy.Policy.{Policy}
 use Rattle.wide_unit.specs.declared.policy.Policy.TheVariants.{Each, Run, Skip}
 use Rattle.wide_blocks.specs.Parts.{IsLossyFront, none, utf8_items, utf8_items-divide, utf8_items-unique}
@@ -29,6 +32,19 @@ no_text Skip after = refl
 pub lossy_end : (form : EncodingForm) (policy : Policy) (after : Bool) (bs : List ℕ) → length bs ≡ 0 → encode form (lossy_after policy after (utf8_items bs)) ≡ []
 lossy_end form policy after [] empty = ap (λ is. encode form (lossy_after policy after is)) (utf8_items-unique [] _ _ (utf8_items-divide []) none) ∙ ap (encode form) (no_text policy after)
 lossy_end form policy after (b ∷ bs) empty = absurd (omega arith)
+
+-- nor have no units
+pub lossy_units_end : (form : EncodingForm) (policy : Policy) (after : Bool) (us : List ℕ) → length us ≡ 0 → utf8 (lossy_after policy after (items form us)) ≡ []
+lossy_units_end form policy after [] empty = ap (λ is. utf8 (lossy_after policy after is)) (items-nil form) ∙ ap utf8 (no_text policy after)
+lossy_units_end form policy after (u ∷ us) empty = absurd (omega arith)
+
+-- text in three parts
+pub three_texts : (a b c : List ℕ) → utf8 (a ++ (b ++ c)) ≡ utf8 a ++ (utf8 b ++ utf8 c)
+three_texts a b c = flat_map-append utf8_bytes a (b ++ c) ∙ ap (λ bs. utf8 a ++ bs) (flat_map-append utf8_bytes b c)
+
+pub replacement : utf8 (0xFFFD ∷ []) ≡ 0xEF ∷ 0xBF ∷ 0xBD ∷ []
+unfolding utf8_bytes
+replacement = refl
 
 -- bytes with an ill-formed part are no text
 pub not_text : (bs : List ℕ) (n : ℕ) → IsValidUpTo bs n → IsUtf8 bs → ⊥

@@ -24,4 +24,7 @@ pub use repair::{wide_utf16_repair, wide_utf32_repair};
 pub use search::{
     wide_utf16_first_fault, wide_utf16_first_nul, wide_utf32_first_fault, wide_utf32_first_nul,
 };
-pub use to_utf8::{wide_utf16_to_utf8, wide_utf16_to_utf8_lossy, wide_utf32_to_utf8};
+pub use to_utf8::{
+    wide_utf16_to_utf8, wide_utf16_to_utf8_lossy, wide_utf16_to_utf8_lossy_with,
+    wide_utf32_to_utf8, wide_utf32_to_utf8_lossy, wide_utf32_to_utf8_lossy_with,
+};

@@ -2,12 +2,16 @@
 ghost use Rattle.std.specs.Prelude.{◌≡◌, ◌≤◌, ◌+◌, ◌-◌, ◌^◌, ◌++◌, ◌*◌, IfNone, IfSome, length, map, min, take, drop};
 ghost use Rattle.wide_unit.specs.EncodingForm.{Utf16, Utf32};
 ghost use Rattle.wide_unit.specs.Items.{IsWellFormed, chars, items};
-ghost use Rattle.wide_unit.specs.Lossy.{lossy};
+ghost use Rattle.wide_unit.specs.Lossy.{lossy, lossy_by};
 ghost use Rattle.wide_unit.specs.Utf8.{utf8};
+ghost use Rattle.widestring_c.specs.Policies.{policy_of};
 
+use crate::policies::policy_of;
 use crate::rooms::put_items;
-use wide_blocks::{encode_front, encode_whole, lossy_front};
-use wide_unit::{Unit, check};
+use wide_blocks::{
+    encode_front, encode_whole, is_after_fault, is_marked, lossy_front, sound_len,
+};
+use wide_unit::{Policy, Unit, check};
 
 // The text of a few units is put into a small array before it is copied, that of others into a larger one.
 const FEW: usize = 32;
@@ -19,6 +23,9 @@ const MANY: usize = 256;
 const MIDDLE: usize = 772;
 
 const LARGE: usize = 3100;
+
+// U+FFFD REPLACEMENT CHARACTER in UTF-8.
+const REPLACEMENT: [u8; 3] = [0xef, 0xbf, 0xbd];
 
 // Puts the text of well-formed units behind a place, as `put_items` does, a piece after another.
 fn put_pieces<C: Unit>(units: &[C], text: &mut [u8], at: usize, piece: &mut [u8]) -> usize
@@ -138,6 +145,32 @@ fn put_lossy(units: &[u16], text: &mut [u8]) -> usize
     }
 }
 
+// Puts the text of any units at the front, by what a policy gives for faults, with the text between them copied whole.
+fn put_lossy_by<C: Unit>(units: &[C], policy: Policy, text: &mut [u8], piece: &mut [u8]) -> usize
+    requires piece { 64 ≤ length piece.old }
+    ensures len { result ≡ min (length (utf8 (lossy_by policy (items C.form (map C.number units.now))))) (2 ^ 64 - 1) }
+    ensures text { result ≤ length text.old → take result text.new ≡ utf8 (lossy_by policy (items C.form (map C.number units.now))) }
+    ensures behind { drop result text.new ≡ drop result text.old }
+{
+    let mut at = 0;
+    let mut rest = units;
+    let mut after = false;
+    'faults: while !rest.is_empty() {
+        let len = sound_len(rest);
+        let (front, behind) = rest.split_at(len);
+        at = put_pieces(front, text, at, piece);
+        if behind.is_empty() {
+            return at;
+        }
+        if is_marked(policy, is_after_fault(after, len)) {
+            at = put_items(text, at, &REPLACEMENT);
+        }
+        after = true;
+        (_, rest) = behind.split_at(1);
+    }
+    at
+}
+
 /// The text of well-formed UTF-16 (Unicode Standard, D91) in UTF-8 (D92), in front of `text` where there is room for it. Answers how many
 /// bytes it has, or the greatest number where they are more, or where the units are not well formed.
 #[unsafe(no_mangle)]
@@ -148,10 +181,7 @@ pub extern "C" fn wide_utf16_to_utf8(units: &[u16], text: &mut [u8]) -> usize
     ensures unchanged { (IsWellFormed Utf16 units.now → ⊥) → text.new ≡ text.old }
     ensures behind { drop result text.new ≡ drop result text.old }
 {
-    match put_sound(units, text) {
-        Some(len) => len,
-        None => usize::MAX,
-    }
+    put_sound(units, text).unwrap_or(usize::MAX)
 }
 
 /// The same of any units, with U+FFFD for each unit that belongs to no character.
@@ -167,6 +197,23 @@ pub extern "C" fn wide_utf16_to_utf8_lossy(units: &[u16], text: &mut [u8]) -> us
     }
 }
 
+/// The same with what a policy gives for those units: 0 is U+FFFD for each, 1 is one for each longest row of them, 2 is nothing. Answers
+/// the greatest number, and leaves `text`, where the policy is none of these.
+#[unsafe(no_mangle)]
+pub extern "C" fn wide_utf16_to_utf8_lossy_with(units: &[u16], policy: u32, text: &mut [u8]) -> usize
+    ensures len { IfSome (policy_of policy) (λ p. result ≡ min (length (utf8 (lossy_by p (items Utf16 units.now)))) (2 ^ 64 - 1)) }
+    ensures text { IfSome (policy_of policy) (λ p. result ≤ length text.old → take result text.new ≡ utf8 (lossy_by p (items Utf16 units.now))) }
+    ensures other { IfNone (policy_of policy) (result ≡ 2 ^ 64 - 1) }
+    ensures unchanged { IfNone (policy_of policy) (text.new ≡ text.old) }
+    ensures behind { drop result text.new ≡ drop result text.old }
+{
+    match policy_of(policy) {
+        Some(Policy::Each) => wide_utf16_to_utf8_lossy(units, text),
+        Some(policy) => put_lossy_by(units, policy, text, &mut [0; LARGE]),
+        None => usize::MAX,
+    }
+}
+
 /// The text of well-formed UTF-32 (Unicode Standard, D90) in UTF-8, as `wide_utf16_to_utf8`.
 #[unsafe(no_mangle)]
 pub extern "C" fn wide_utf32_to_utf8(units: &[u32], text: &mut [u8]) -> usize
@@ -177,4 +224,29 @@ pub extern "C" fn wide_utf32_to_utf8(units: &[u32], text: &mut [u8]) -> usize
     ensures behind { drop result text.new ≡ drop result text.old }
 {
     put_checked(units, text).unwrap_or(usize::MAX)
+}
+
+/// The text of any UTF-32 in UTF-8, with U+FFFD for each unit that is no scalar value.
+#[unsafe(no_mangle)]
+pub extern "C" fn wide_utf32_to_utf8_lossy(units: &[u32], text: &mut [u8]) -> usize
+    ensures len { result ≡ min (length (utf8 (lossy (items Utf32 units.now)))) (2 ^ 64 - 1) }
+    ensures text { result ≤ length text.old → take result text.new ≡ utf8 (lossy (items Utf32 units.now)) }
+    ensures behind { drop result text.new ≡ drop result text.old }
+{
+    put_lossy_by(units, Policy::Each, text, &mut [0; LARGE])
+}
+
+/// The same under a policy, as `wide_utf16_to_utf8_lossy_with`.
+#[unsafe(no_mangle)]
+pub extern "C" fn wide_utf32_to_utf8_lossy_with(units: &[u32], policy: u32, text: &mut [u8]) -> usize
+    ensures len { IfSome (policy_of policy) (λ p. result ≡ min (length (utf8 (lossy_by p (items Utf32 units.now)))) (2 ^ 64 - 1)) }
+    ensures text { IfSome (policy_of policy) (λ p. result ≤ length text.old → take result text.new ≡ utf8 (lossy_by p (items Utf32 units.now))) }
+    ensures other { IfNone (policy_of policy) (result ≡ 2 ^ 64 - 1) }
+    ensures unchanged { IfNone (policy_of policy) (text.new ≡ text.old) }
+    ensures behind { drop result text.new ≡ drop result text.old }
+{
+    match policy_of(policy) {
+        Some(policy) => put_lossy_by(units, policy, text, &mut [0; LARGE]),
+        None => usize::MAX,
+    }
 }

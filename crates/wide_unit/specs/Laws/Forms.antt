@@ -1,5 +1,5 @@
 -- What the laws of segmentation rest on, for each encoding form.
-use Rattle.std.proofs.Common.{◌≡◌, ◌≢◌, ℕ, ◌+◌, ◌-◌, ◌*◌, ◌/◌, ◌%◌, ◌<◌, ◌≤◌, ◌^◌, true, List, [], ◌∷◌, ◌++◌, ◌⊎◌, inl, inr, refl, ◌∙◌, ap, arith, lit≤}
+use Rattle.std.proofs.Common.{◌≡◌, ◌≢◌, ℕ, ◌+◌, ◌-◌, ◌*◌, ◌/◌, ◌%◌, ◌<◌, ◌≤◌, ◌^◌, true, List, [], ◌∷◌, ◌++◌, ◌⊎◌, inl, inr, refl, ◌∙◌, ap, arith, length, lit≤}
 use Rattle.std.specs.Char.{IsScalar}
 use Rattle.std.proofs.Math.Utf8.{scalar, scalar_cases, low_scalar}
 use Rattle.std.proofs.lemmas.Bool.{cases_lt, cases_Bool, lt-ltb, le-ltb, le-leb}
@@ -34,6 +34,12 @@ two_units c h = rw (le-ltb c 0x1_0000 h)
 pub code_units-cases : (form : EncodingForm) (c : ℕ) → ((u : ℕ) × (code_units form c ≡ u ∷ [])) ⊎ ((h : ℕ) × (l : ℕ) × (code_units form c ≡ h ∷ l ∷ []))
 code_units-cases Utf16 c = elim (cases_lt c 0x1_0000) [ inl below ↦ inl (c, one_unit c below) | inr from ↦ inr (high_of c, low_of c, two_units c from) ]
 code_units-cases Utf32 c = inl (c, refl)
+
+pub some_units : (form : EncodingForm) (c : ℕ) → 1 ≤ length (code_units form c)
+some_units form c = elim (code_units-cases form c) [
+  | inl one ↦ rw one.1 (omega arith)
+  | inr two ↦ rw two.2 (omega arith)
+]
 
 -- no code unit sequence begins another
 same_pair : (c d : ℕ) → 0x1_0000 ≤ c → 0x1_0000 ≤ d → high_of c ≡ high_of d → low_of c ≡ low_of d → c ≡ d
