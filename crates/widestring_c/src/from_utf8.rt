@@ -173,7 +173,11 @@ pub extern "C" fn wide_utf8_to_utf32_lossy(text: &[u8], units: &mut [u32]) -> us
 /// for each, 1 is one for each longest row of them, 2 is nothing. Answers the greatest number, and leaves `units`, where the policy is
 /// none of these.
 #[unsafe(no_mangle)]
-pub extern "C" fn wide_utf8_to_utf16_lossy_with(text: &[u8], policy: u32, units: &mut [u16]) -> usize
+pub extern "C" fn wide_utf8_to_utf16_lossy_with(
+    text: &[u8],
+    policy: u32,
+    units: &mut [u16],
+) -> usize
     ensures len { IfSome (policy_of policy) (λ p. result ≡ min (length (encode Utf16 (lossy_by p (utf8_items text.now)))) (2 ^ 64 - 1)) }
     ensures units { IfSome (policy_of policy) (λ p. result ≤ length units.old → take result units.new ≡ encode Utf16 (lossy_by p (utf8_items text.now))) }
     ensures other { IfNone (policy_of policy) (result ≡ 2 ^ 64 - 1) }
@@ -188,7 +192,11 @@ pub extern "C" fn wide_utf8_to_utf16_lossy_with(text: &[u8], policy: u32, units:
 
 /// The text of any bytes in UTF-32 under a policy, as `wide_utf8_to_utf16_lossy_with`.
 #[unsafe(no_mangle)]
-pub extern "C" fn wide_utf8_to_utf32_lossy_with(text: &[u8], policy: u32, units: &mut [u32]) -> usize
+pub extern "C" fn wide_utf8_to_utf32_lossy_with(
+    text: &[u8],
+    policy: u32,
+    units: &mut [u32],
+) -> usize
     ensures len { IfSome (policy_of policy) (λ p. result ≡ min (length (lossy_by p (utf8_items text.now))) (2 ^ 64 - 1)) }
     ensures units { IfSome (policy_of policy) (λ p. result ≤ length units.old → take result units.new ≡ lossy_by p (utf8_items text.now)) }
     ensures other { IfNone (policy_of policy) (result ≡ 2 ^ 64 - 1) }

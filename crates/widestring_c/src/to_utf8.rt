@@ -8,9 +8,7 @@ ghost use Rattle.widestring_c.specs.Policies.{policy_of};
 
 use crate::policies::policy_of;
 use crate::rooms::put_items;
-use wide_blocks::{
-    encode_front, encode_whole, is_after_fault, is_marked, lossy_front, sound_len,
-};
+use wide_blocks::{encode_front, encode_whole, is_after_fault, is_marked, lossy_front, sound_len};
 use wide_unit::{Policy, Unit, check};
 
 // The text of a few units is put into a small array before it is copied, that of others into a larger one.
@@ -200,7 +198,11 @@ pub extern "C" fn wide_utf16_to_utf8_lossy(units: &[u16], text: &mut [u8]) -> us
 /// The same with what a policy gives for those units: 0 is U+FFFD for each, 1 is one for each longest row of them, 2 is nothing. Answers
 /// the greatest number, and leaves `text`, where the policy is none of these.
 #[unsafe(no_mangle)]
-pub extern "C" fn wide_utf16_to_utf8_lossy_with(units: &[u16], policy: u32, text: &mut [u8]) -> usize
+pub extern "C" fn wide_utf16_to_utf8_lossy_with(
+    units: &[u16],
+    policy: u32,
+    text: &mut [u8],
+) -> usize
     ensures len { IfSome (policy_of policy) (λ p. result ≡ min (length (utf8 (lossy_by p (items Utf16 units.now)))) (2 ^ 64 - 1)) }
     ensures text { IfSome (policy_of policy) (λ p. result ≤ length text.old → take result text.new ≡ utf8 (lossy_by p (items Utf16 units.now))) }
     ensures other { IfNone (policy_of policy) (result ≡ 2 ^ 64 - 1) }
@@ -238,7 +240,11 @@ pub extern "C" fn wide_utf32_to_utf8_lossy(units: &[u32], text: &mut [u8]) -> us
 
 /// The same under a policy, as `wide_utf16_to_utf8_lossy_with`.
 #[unsafe(no_mangle)]
-pub extern "C" fn wide_utf32_to_utf8_lossy_with(units: &[u32], policy: u32, text: &mut [u8]) -> usize
+pub extern "C" fn wide_utf32_to_utf8_lossy_with(
+    units: &[u32],
+    policy: u32,
+    text: &mut [u8],
+) -> usize
     ensures len { IfSome (policy_of policy) (λ p. result ≡ min (length (utf8 (lossy_by p (items Utf32 units.now)))) (2 ^ 64 - 1)) }
     ensures text { IfSome (policy_of policy) (λ p. result ≤ length text.old → take result text.new ≡ utf8 (lossy_by p (items Utf32 units.now))) }
     ensures other { IfNone (policy_of policy) (result ≡ 2 ^ 64 - 1) }

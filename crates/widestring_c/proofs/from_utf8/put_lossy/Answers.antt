@@ -35,7 +35,7 @@ fronts-preserved g c =
       so_far = one_more_of number first 0 all put.new.units more.new.room piece left put.result more.result text more.ensures.place more.ensures.items more.ensures.room;
       room = more.ensures.room ∙ put.ensures.room ∙ c.fronts.invariant.room;
       behind = behind_more c.args.units.now put.new.units more.new.room (length piece) put.result more.result text.most more.ensures.place
-      (behind_more c.args.units.now c.fronts.units put.new.units _ c.fronts.at put.result before.most put.ensures.place c.fronts.invariant.behind put.ensures.behind) more.ensures.behind;
+          (behind_more c.args.units.now c.fronts.units put.new.units _ c.fronts.at put.result before.most put.ensures.place c.fronts.invariant.behind put.ensures.behind) more.ensures.behind;
     }
 
 pub returns-clause-len : goal.returns-clause-len

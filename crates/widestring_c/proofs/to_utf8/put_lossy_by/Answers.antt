@@ -68,23 +68,23 @@ faults-preserved g c =
     let behind = behind_more c.args.text.now c.faults.text put.new.text _ c.faults.at put.result before.most put.ensures.place c.faults.invariant.behind put.ensures.behind in
     elim c.if-is_marked.branch [
       | then-is_marked w ↦ (
-        let more = w.put_items-at in
-        let marked : mark ≡ 0xFFFD ∷ [] = subst (λ b. mark ≡ (if b then 0xFFFD ∷ [] else [])) w.if-is_marked.true (c.is_marked.ensures u) in
-        let named : Writing all put.result put.new.text ((0xEF ∷ 0xBF ∷ 0xBD ∷ []) ++ utf8 left) = subst (λ bs. Writing all put.result put.new.text (bs ++ utf8 left)) (ap utf8 marked ∙ replacement) text in
-        rw (w.text-is, w.at-is) (record {
-          so_far = one_more [] 0 all put.new.text more.new.room (0xEF ∷ 0xBF ∷ 0xBD ∷ []) (utf8 left) put.result more.result named more.ensures.place more.ensures.items more.ensures.room;
-          room = more.ensures.room ∙ put.ensures.room ∙ c.faults.invariant.room;
-          behind = behind_more c.args.text.now put.new.text more.new.room 3 put.result more.result text.most more.ensures.place behind more.ensures.behind;
-        })
-      )
+          let more = w.put_items-at in
+          let marked : mark ≡ 0xFFFD ∷ [] = subst (λ b. mark ≡ (if b then 0xFFFD ∷ [] else [])) w.if-is_marked.true (c.is_marked.ensures u) in
+          let named : Writing all put.result put.new.text ((0xEF ∷ 0xBF ∷ 0xBD ∷ []) ++ utf8 left) = subst (λ bs. Writing all put.result put.new.text (bs ++ utf8 left)) (ap utf8 marked ∙ replacement) text in
+          rw (w.text-is, w.at-is) (record {
+            so_far = one_more [] 0 all put.new.text more.new.room (0xEF ∷ 0xBF ∷ 0xBD ∷ []) (utf8 left) put.result more.result named more.ensures.place more.ensures.items more.ensures.room;
+            room = more.ensures.room ∙ put.ensures.room ∙ c.faults.invariant.room;
+            behind = behind_more c.args.text.now put.new.text more.new.room 3 put.result more.result text.most more.ensures.place behind more.ensures.behind;
+          })
+          )
       | else-is_marked w ↦ (
-        let unmarked : mark ≡ [] = subst (λ b. mark ≡ (if b then 0xFFFD ∷ [] else [])) w.if-is_marked.false (c.is_marked.ensures u) in
-        rw (w.text-is, w.at-is) (record {
-          so_far = subst (λ cs. Writing all put.result put.new.text (utf8 cs ++ utf8 left)) unmarked text;
-          room = put.ensures.room ∙ c.faults.invariant.room;
-          behind = behind;
-        })
-      )
+          let unmarked : mark ≡ [] = subst (λ b. mark ≡ (if b then 0xFFFD ∷ [] else [])) w.if-is_marked.false (c.is_marked.ensures u) in
+          rw (w.text-is, w.at-is) (record {
+            so_far = subst (λ cs. Writing all put.result put.new.text (utf8 cs ++ utf8 left)) unmarked text;
+            room = put.ensures.room ∙ c.faults.invariant.room;
+            behind = behind;
+          })
+          )
     ]
 
 pub returns-clause-len : goal.returns-clause-len
