@@ -3,6 +3,7 @@
 use crate::conversions::{
     Conversion, REPAIR, TO_UTF16, TO_UTF16_LOSSY, TO_UTF32, TO_UTF8, TO_UTF8_LOSSY, UTF16_TO_UTF32, UTF32_TO_UTF16, UTF32_TO_UTF8,
 };
+use crate::policies::{TO_UTF16_BY, TO_UTF32_BY, UTF16_TO_UTF8_BY, UTF32_TO_UTF8_BY};
 use crate::texts::Random;
 use std::fmt::UpperHex;
 
@@ -81,6 +82,18 @@ fn answers_alike<From, To: Copy + Eq + TryFrom<usize>>(
         && (answer.len() > room || new[start..behind] == *answer)
 }
 
+/// Compares a conversion under each policy, on the same input.
+fn compare_all<From: UpperHex, To: Copy + Default + Eq + TryFrom<usize>>(
+    conversions: &[Conversion<From, To>],
+    input: &[From],
+    random: &mut Random,
+    counts: &mut Counts,
+) {
+    for conversion in conversions {
+        compare_one(conversion, input, random, counts);
+    }
+}
+
 fn compare_one<From: UpperHex, To: Copy + Default + Eq + TryFrom<usize>>(
     conversion: &Conversion<From, To>,
     input: &[From],
@@ -143,6 +156,10 @@ pub fn compare(seed: u64, count: u64) -> bool {
         compare_one(&UTF32_TO_UTF8, &scalars, &mut random, &mut counts);
         compare_one(&UTF32_TO_UTF16, &scalars, &mut random, &mut counts);
         compare_one(&UTF16_TO_UTF32, &units, &mut random, &mut counts);
+        compare_all(&TO_UTF16_BY, &bytes, &mut random, &mut counts);
+        compare_all(&TO_UTF32_BY, &bytes, &mut random, &mut counts);
+        compare_all(&UTF16_TO_UTF8_BY, &units, &mut random, &mut counts);
+        compare_all(&UTF32_TO_UTF8_BY, &scalars, &mut random, &mut counts);
     }
     println!("seed {seed}: {} answers agree, {} differ", counts.agreeing, counts.differing);
     counts.differing == 0

@@ -3,6 +3,7 @@
 mod clock;
 mod compare;
 mod conversions;
+mod policies;
 mod race;
 mod texts;
 
