@@ -6,8 +6,8 @@ use Rattle.std.specs.Str.{chars as str_chars}
 use Rattle.std.specs.Str.Pattern.{StartsWithChar}
 use Rattle.std.proofs.lemmas.List.{drop-drop, take_all}
 use Rattle.std.proofs.lemmas.Str.{chars_past_char}
-use Rattle.wide_blocks.proofs.FirstCharacters.{in_one, in_two, in_three, wide}
-use Rattle.wide_blocks.specs.Decoded.{IsDecoded, LeadsThree, LeadsTwo, code_of_three, code_of_two, codes_of_three, codes_of_two}
+use Rattle.wide_blocks.proofs.FirstCharacters.{in_one, in_three, wide}
+use Rattle.wide_blocks.specs.Decoded.{IsDecoded, LeadsThree, code_of_three, codes_of_three}
 use Rattle.wide_blocks.proofs.StoredUnits.{one_unit-plain}
 use Rattle.wide_unit.specs.EncodingForm.{EncodingForm, code_units, encode}
 
@@ -44,19 +44,6 @@ module _ (form : EncodingForm) where
       let first : IsFrontUnits form (b ∷ bs) 1 (code_units form b) = front_units-char (b ∷ bs) b 1 text (in_one (b ∷ bs) text (omega arith) low).1 in
       let more = front_units-ascii n bs first.rest (omega arith) (λ k before. ascii (suc k) (omega arith)) in
       record { units = first.units ∙ ap (λ us. us ++ encode form (str_chars bs)) (one_unit-plain form b (omega arith)) ∙ ap (λ us. b ∷ us) more.units; rest = more.rest }
-
-  -- characters of two bytes each
-  pub front_units-twos : (m n : ℕ) (bs : List ℕ) → IsUtf8 bs → n ≡ 2 * m → ((k : ℕ) → k < m → LeadsTwo (get_or bs (2 * k) 0)) → IsFrontUnits form bs n (take m (codes_of_two bs))
-  front_units-twos zero n bs text long leading = subst (λ p. IsFrontUnits form bs p []) {x = 0} {y = n} (omega arith) (front_units-none bs text)
-  front_units-twos (suc m) n [] text long leading = (let lead = leading 0 (omega arith) in absurd (omega (arith, lead.0)))
-  front_units-twos (suc m) n (a ∷ []) text long leading = (let lead = leading 0 (omega arith) in absurd (omega (arith, (wide (a ∷ []) text (omega arith)).0 (omega (arith, lead.0)))))
-  front_units-twos (suc m) n (a ∷ b ∷ bs) text long leading =
-      let lead = leading 0 (omega arith) in
-      let v = code_of_two a b in
-      let first : IsFrontUnits form (a ∷ b ∷ bs) 2 (code_units form v) = front_units-char (a ∷ b ∷ bs) v 2 text (in_two (a ∷ b ∷ bs) text (omega arith) (omega (arith, lead.0)) lead.1).1 in
-      let more = front_units-twos m (2 * m) bs first.rest refl (λ k before. (let next : 2 * suc k ≡ suc (suc (2 * k)) = omega arith in subst (λ j. LeadsTwo (get_or (a ∷ b ∷ bs) j 0)) next (leading (suc k) (omega arith)))) in
-      let joined = ap (λ us. us ++ take m (codes_of_two bs)) (sym (one_unit-plain form v (omega arith))) in
-      subst (λ p. IsFrontUnits form (a ∷ b ∷ bs) p (v ∷ take m (codes_of_two bs))) {x = 2 + 2 * m} {y = n} (omega arith) (front_units-then (a ∷ b ∷ bs) (code_units form v) (take m (codes_of_two bs)) (v ∷ take m (codes_of_two bs)) 2 (2 * m) first more joined)
 
   -- characters of three bytes each
   pub front_units-threes : (m n : ℕ) (bs : List ℕ) → IsUtf8 bs → n ≡ 3 * m → ((k : ℕ) → k < m → LeadsThree (get_or bs (3 * k) 0)) → IsFrontUnits form bs n (take m (codes_of_three bs)) × ((k : ℕ) → k < m → IsScalar (get_or (codes_of_three bs) k 0))

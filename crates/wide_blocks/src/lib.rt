@@ -3,8 +3,10 @@
 
 mod blocks;
 mod fronts;
+mod kept;
 mod lengths;
 mod lossy;
+mod mixed;
 mod narrow;
 mod recoded;
 mod scalars;
