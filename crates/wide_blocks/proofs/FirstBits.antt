@@ -85,3 +85,9 @@ leads-three b mask bits fits is_mask is_bits same =
     let high : bit_and b 0xF0 ≡ b / 2 ^ 4 * 2 ^ 4 = and_high_mask 8 4 (omega arith) b fits in
     let masked : bit_and b 0xF0 ≡ 0xE0 = ap (bit_and b) (sym is_mask) ∙ same ∙ is_bits in
     (omega (arith, high, masked), omega (arith, high, masked))
+
+pub leads-four : (b mask bits : ℕ) → b < 2 ^ 8 → mask ≡ 0xF0 → bits ≡ 0xF0 → bit_and b mask ≡ bits → 0xF0 ≤ b
+leads-four b mask bits fits is_mask is_bits same =
+    let high : bit_and b 0xF0 ≡ b / 2 ^ 4 * 2 ^ 4 = and_high_mask 8 4 (omega arith) b fits in
+    let masked : bit_and b 0xF0 ≡ 0xF0 = ap (bit_and b) (sym is_mask) ∙ same ∙ is_bits in
+    omega (arith, high, masked)

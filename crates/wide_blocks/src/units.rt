@@ -5,7 +5,7 @@ ghost use Rattle.std.specs.Char.{IsScalar};
 ghost use Rattle.std.specs.Str.{IsUtf8, chars as str_chars};
 ghost use Rattle.std.specs.Str.Pattern.{StartsWithChar};
 ghost use Rattle.wide_unit.specs.EncodingForm.{code_units, encode};
-ghost use Rattle.wide_blocks.specs.Decoded.{IsDecoded, LeadsThree, code_of_three, codes_of_three};
+ghost use Rattle.wide_blocks.specs.Decoded.{IsDecoded, LeadsThree, code_of_four, code_of_three, codes_of_three};
 
 use crate::mixed::put_mixed;
 use std::simd::prelude::*;
@@ -176,6 +176,48 @@ fn put_threes<C: Unit>(text: &[u8], units: &mut [C], at: usize)
     }
 }
 
+// The same of four bytes, at each fourth place.
+const FOUR_BITS: [u8; 16] = [0xf0, 0, 0, 0, 0xf0, 0, 0, 0, 0xf0, 0, 0, 0, 0xf0, 0, 0, 0];
+
+// Whether four characters of four bytes stand side by side at the front of text.
+#[inline(always)]
+fn are_fours(text: &[u8]) -> bool
+    requires { 16 ≤ length text.now }
+    ensures { IsTrue result → (k : ℕ) → k < 4 → 0xf0 ≤ slice_index text.now (4 * k) }
+{
+    alike_len(text, &FOUR_BITS, &FOUR_BITS) == 16
+}
+
+#[inline(always)]
+fn char_of_four(first: u8, second: u8, third: u8, fourth: u8) -> char
+    requires { IsScalar (code_of_four first second third fourth) }
+    ensures { result ≡ code_of_four first second third fourth }
+{
+    let front = u32::from(first) % 8 * 0x4_0000 + u32::from(second) % 0x40 * 0x1000;
+    char_of(front + u32::from(third) % 0x40 * 0x40 + u32::from(fourth) % 0x40)
+}
+
+// Writes the units of four characters of four bytes, and answers the place behind them.
+#[inline(always)]
+fn put_fours<C: Unit>(text: &[u8], units: &mut [C], at: usize) -> usize
+    requires text { IsUtf8 text.now }
+    requires whole { 16 ≤ length text.now }
+    requires fours { (k : ℕ) → k < 4 → 0xf0 ≤ slice_index text.now (4 * k) }
+    requires room { at + 8 ≤ length units.old }
+    ensures from { at ≤ result }
+    ensures few { result ≤ at + 8 }
+    ensures units { IsDecoded C.form text.now 16 (map C.number (take at units.old)) (map C.number (take result units.new)) }
+{
+    let bytes = u8x16::from_slice(text).to_array();
+    let mut behind = at;
+    for k in 0..4 {
+        let (first, second) = (bytes[4 * k], bytes[4 * k + 1]);
+        let c = char_of_four(first, second, bytes[4 * k + 2], bytes[4 * k + 3]);
+        behind = put_char(units, behind, c);
+    }
+    behind
+}
+
 // Writes the units of the first character of text, and answers how many bytes it has and how many units.
 #[inline(always)]
 fn put_first<C: Unit>(text: &[u8], units: &mut [C], at: usize) -> (usize, usize)
@@ -211,6 +253,9 @@ fn put_block<C: Unit>(text: &[u8], units: &mut [C], at: usize) -> (usize, usize)
         return (more, more);
     }
     if text[0] >= 0xf0 {
+        if are_fours(text) {
+            return (16, put_fours(text, units, at) - at);
+        }
         return put_first(text, units, at);
     }
     if text.len() >= 31 && are_threes(text) && are_threes(&text[15..]) {

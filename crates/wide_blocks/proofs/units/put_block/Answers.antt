@@ -1,4 +1,4 @@
-use Rattle.std.proofs.Common.{◌≡◌, ◌+◌, arith, map, refl, subst, take}
+use Rattle.std.proofs.Common.{◌≡◌, ◌+◌, ◌-◌, arith, map, refl, subst, take}
 use Rattle.wide_blocks.specs.Decoded.{IsDecoded, codes_of_three}
 use Rattle.wide_blocks.proofs.FrontUnits.{decoded-ascii, decoded-behind, decoded-then, front_units-threes, joined}
 use Rattle.wide_blocks.proofs.units.put_block.Goals as goal
@@ -21,6 +21,14 @@ returns-then-low_len-eq16-clause-units g c =
     let first = decoded-ascii form bs _ _ 16 c.requires.text (omega (arith, c.requires.whole)) (λ k within. all k (omega (arith, within, c.if-low_len-eq16.true))) c.put_bytes.ensures in
     let ours = map number (take at c.args.units.now) in
     subst (λ n. IsDecoded form bs (16 + more) ours (map number (take n c.put_ascii_blocks-more.new.units))) place (decoded-then form bs ours _ _ 16 more first c.put_ascii_blocks-more.ensures.units)
+
+pub returns-then-are_fours-clause-units : goal.returns-then-are_fours-clause-units
+returns-then-are_fours-clause-units g c =
+    let number = g.C.Unit.number in
+    let at = c.args.at in
+    let put = c.put_fours in
+    let place : put.result ≡ at + (put.result - at) = omega (arith, put.ensures.from) in
+    subst (λ n. IsDecoded g.C.Unit.form c.args.text.now 16 (map number (take at c.args.units.now)) (map number (take n put.new.units))) place put.ensures.units
 
 pub put_threes-requires-clause-scalars : goal.put_threes-requires-clause-scalars
 put_threes-requires-clause-scalars g c = (front_units-threes g.C.Unit.form 5 15 c.args.text.now c.requires.text refl (c.are_threes.ensures c.if-are_threes.true)).1
