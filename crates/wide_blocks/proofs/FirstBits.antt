@@ -1,15 +1,15 @@
 -- Which of sixteen lanes is the first that passes a test, and what the lanes before it are.
-use Rattle.std.proofs.Common.{◌≡◌, ◌≢◌, ℕ, ◌%◌, ◌/◌, ◌*◌, ◌^◌, ◌-◌, ◌<◌, ◌≤◌, Bool, false, cond, not, eqb, List, length, get_or, map, replicate, bit_and, sym, ap, ◌∙◌, subst, arith, w8, take, length-take, get_or-take}
+use Rattle.std.proofs.Common.{◌≡◌, ◌≢◌, ℕ, ◌%◌, ◌/◌, ◌*◌, ◌^◌, ◌-◌, ◌<◌, ◌≤◌, Bool, true, false, cond, not, eqb, List, length, get_or, map, replicate, bit_and, sym, ap, ◌∙◌, subst, arith, w8, take, length-take, get_or-take}
 use Rattle.std.specs.List.{prefix_len}
-use Rattle.std.proofs.lemmas.Bool.{eqb-true, leb-false, not-false, not-true}
+use Rattle.std.proofs.lemmas.Bool.{eqb-true, leb-false, leb-true, not-false, not-true}
 use Rattle.std.proofs.lemmas.List.{map-id, get_or-replicate}
-use Rattle.std.proofs.lemmas.List.Sums.{prefix_len-le-length, prefix_len_passes}
+use Rattle.std.proofs.lemmas.List.Sums.{prefix_len-le-length, prefix_len_passes, prefix_len_stops}
 use Rattle.std.proofs.lemmas.Simd.{get_or-zip2, leading_from_mask_l, length-zip2, mask_l-mod, tops_compared, trailing_mask_l}
 use Rattle.std.proofs.lemmas.Nat.Bits.{and_high_mask}
 use lib.Count.{count_trailing_zeros}
 use lib.Dec.{leb}
 use lib.Lanes.{mask_l, top, zip2}
-use Rattle.wide_blocks.specs.Decoded.{LeadsThree, LeadsTwo}
+use Rattle.wide_blocks.specs.Decoded.{LeadsThree}
 
 -- one bit for each lane that passes
 abbrev pub bits_of : (ℕ → ℕ → Bool) → List ℕ → List ℕ → ℕ
@@ -46,15 +46,29 @@ module _ (test : ℕ → ℕ → Bool) (xs ys : List ℕ) (long : length xs ≡ 
     pub none-before : (k : ℕ) → k < count_trailing_zeros 64 (bits_of test xs ys) → test (get_or xs k 0) (get_or ys k 0) ≡ false
     none-before k before = fails _ k first-is before (omega (arith, before, first-within))
 
--- ---- bytes that are not ASCII
+    pub passes-there : count_trailing_zeros 64 (bits_of test xs ys) < 16 → test (get_or xs (count_trailing_zeros 64 (bits_of test xs ys)) 0) (get_or ys (count_trailing_zeros 64 (bits_of test xs ys)) 0) ≡ true
+    passes-there less =
+        let place = count_trailing_zeros 64 (bits_of test xs ys) in
+        let stops = not-false _ (prefix_len_stops (λ b. not b) (zip2 test xs ys) false (omega (arith, less, first-is, tests-long))) in
+        sym (get_or-zip2 test xs ys place 0 0 false (omega (arith, long, less)) (omega (arith, as_long, less))) ∙ ap (λ k. get_or (zip2 test xs ys) k false) first-is ∙ stops
 
-pub low-byte : (bs : List ℕ) (k : ℕ) → k < 16 → leb (get_or (replicate 16 0x80) k 0) (get_or (take 16 bs) k 0) ≡ false → get_or bs k 0 < 0x80
-low-byte bs k within failed =
-    let high : ℕ = 0x80 in
-    let bound : get_or (replicate 16 high) k 0 ≡ high = get_or-replicate 16 k high 0 within in
-    let byte : get_or (take 16 bs) k 0 ≡ get_or bs k 0 = get_or-take 16 bs k 0 within in
-    let less = leb-false (get_or (replicate 16 0x80) k 0) (get_or (take 16 bs) k 0) failed in
-    omega (arith, bound, byte, less)
+-- ---- bytes from a bound on
+
+module _ (bound : ℕ) (bs : List ℕ) (k : ℕ) (within : k < 16) where
+  bound-is : get_or (replicate 16 bound) k 0 ≡ bound
+  bound-is = get_or-replicate 16 k bound 0 within
+
+  pub low-byte : leb (get_or (replicate 16 bound) k 0) (get_or (take 16 bs) k 0) ≡ false → get_or bs k 0 < bound
+  low-byte failed =
+      let byte : get_or (take 16 bs) k 0 ≡ get_or bs k 0 = get_or-take 16 bs k 0 within in
+      let less = leb-false (get_or (replicate 16 bound) k 0) (get_or (take 16 bs) k 0) failed in
+      omega (arith, bound-is, byte, less)
+
+  pub high-byte : leb (get_or (replicate 16 bound) k 0) (get_or (take 16 bs) k 0) ≡ true → bound ≤ get_or bs k 0
+  high-byte passed =
+      let byte : get_or (take 16 bs) k 0 ≡ get_or bs k 0 = get_or-take 16 bs k 0 within in
+      let from = leb-true (get_or (replicate 16 bound) k 0) (get_or (take 16 bs) k 0) passed in
+      omega (arith, bound-is, byte, from)
 
 -- ---- bytes whose masked bits differ
 
@@ -66,14 +80,14 @@ same-bits bs masks wanted k within long as_long failed =
 
 -- ---- leading bytes, by those bits
 
-pub leads-two : (b mask bits : ℕ) → b < 2 ^ 8 → mask ≡ 0xE0 → bits ≡ 0xC0 → bit_and b mask ≡ bits → LeadsTwo b
-leads-two b mask bits fits is_mask is_bits same =
-    let high : bit_and b 0xE0 ≡ b / 2 ^ 5 * 2 ^ 5 = and_high_mask 8 5 (omega arith) b fits in
-    let masked : bit_and b 0xE0 ≡ 0xC0 = ap (bit_and b) (sym is_mask) ∙ same ∙ is_bits in
-    (omega (arith, high, masked), omega (arith, high, masked))
-
 pub leads-three : (b mask bits : ℕ) → b < 2 ^ 8 → mask ≡ 0xF0 → bits ≡ 0xE0 → bit_and b mask ≡ bits → LeadsThree b
 leads-three b mask bits fits is_mask is_bits same =
     let high : bit_and b 0xF0 ≡ b / 2 ^ 4 * 2 ^ 4 = and_high_mask 8 4 (omega arith) b fits in
     let masked : bit_and b 0xF0 ≡ 0xE0 = ap (bit_and b) (sym is_mask) ∙ same ∙ is_bits in
     (omega (arith, high, masked), omega (arith, high, masked))
+
+pub leads-four : (b mask bits : ℕ) → b < 2 ^ 8 → mask ≡ 0xF0 → bits ≡ 0xF0 → bit_and b mask ≡ bits → 0xF0 ≤ b
+leads-four b mask bits fits is_mask is_bits same =
+    let high : bit_and b 0xF0 ≡ b / 2 ^ 4 * 2 ^ 4 = and_high_mask 8 4 (omega arith) b fits in
+    let masked : bit_and b 0xF0 ≡ 0xF0 = ap (bit_and b) (sym is_mask) ∙ same ∙ is_bits in
+    omega (arith, high, masked)

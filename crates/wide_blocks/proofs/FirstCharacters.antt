@@ -48,6 +48,16 @@ shape bs text some = by text.0 text.1.0 text.1.1
           ]
         ]
 
+abbrev pub Trails : ℕ → Type 0
+Trails b = (0x80 ≤ b) × (b < 0xC0)
+
+-- no character begins with a continuation byte, and the other bytes of one are such
+pub record FirstBytes (bs : List ℕ) : Type 0 where
+  pub leads : 0x80 ≤ get_or bs 0 0 → 0xC0 ≤ get_or bs 0 0
+  pub second : 0x80 ≤ get_or bs 0 0 → Trails (get_or bs 1 0)
+  pub third : 0xE0 ≤ get_or bs 0 0 → Trails (get_or bs 2 0)
+  pub low : get_or bs 0 0 < 0xF5
+
 -- the scalar value is read off the bytes
 named : (bs : List ℕ) (c v n : ℕ) → IsScalar c → v ≡ c → StartsWithChar bs c n → IsScalar v × StartsWithChar bs v n
 named bs c v n scalar same first = subst (λ w. IsScalar w × StartsWithChar bs w n) (sym same) (scalar, first)
@@ -102,3 +112,13 @@ module _ (bs : List ℕ) (text : IsUtf8 bs) (some : 0 < length bs) where
       by (two c rest scalar tail from below same) = (λ high. omega (arith, ap length same), λ high. absurd (omega (arith, byte same 0, high, below)), λ high. absurd (omega (arith, byte same 0, high, below)))
       by (three c rest scalar tail from below same) = (λ high. omega (arith, ap length same), λ high. omega (arith, ap length same), λ high. absurd (omega (arith, byte same 0, high, below)))
       by (four c rest scalar tail from below same) = (λ high. omega (arith, ap length same), λ high. omega (arith, ap length same), λ high. omega (arith, ap length same))
+
+  -- what its bytes are
+  pub parts : FirstBytes bs
+  parts = by (shape bs text some)
+    where
+      by : Shape bs → FirstBytes bs
+      by (one c rest scalar tail below same) = record { leads = λ high. absurd (omega (arith, byte same 0, high, below)); second = λ high. absurd (omega (arith, byte same 0, high, below)); third = λ high. absurd (omega (arith, byte same 0, high, below)); low = omega (arith, byte same 0, below) }
+      by (two c rest scalar tail from below same) = record { leads = λ high. omega (arith, byte same 0, from, below); second = λ high. (omega (arith, byte same 1), omega (arith, byte same 1)); third = λ high. absurd (omega (arith, byte same 0, high, below)); low = omega (arith, byte same 0, below) }
+      by (three c rest scalar tail from below same) = record { leads = λ high. omega (arith, byte same 0, from, below); second = λ high. (omega (arith, byte same 1), omega (arith, byte same 1)); third = λ high. (omega (arith, byte same 2), omega (arith, byte same 2)); low = omega (arith, byte same 0, below) }
+      by (four c rest scalar tail from below same) = record { leads = λ high. omega (arith, byte same 0, from, below); second = λ high. (omega (arith, byte same 1), omega (arith, byte same 1)); third = λ high. (omega (arith, byte same 2), omega (arith, byte same 2)); low = omega (arith, byte same 0, below) }

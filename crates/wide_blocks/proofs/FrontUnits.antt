@@ -1,13 +1,13 @@
 -- Text cut behind a front of its characters: the units of the front, and those of the rest.
-use Rattle.std.proofs.Common.{◌≡◌, ℕ, zero, suc, ◌+◌, ◌-◌, ◌*◌, ◌<◌, ◌≤◌, List, [], ◌∷◌, ◌++◌, length, get_or, take, drop, refl, sym, ap, ◌∙◌, subst, arith, append_assoc, length-append, length-drop}
+use Rattle.std.proofs.Common.{◌≡◌, ℕ, zero, suc, ◌+◌, ◌-◌, ◌*◌, ◌<◌, ◌≤◌, List, [], ◌∷◌, ◌++◌, length, get_or, take, drop, refl, sym, ap, ◌∙◌, subst, arith, append_assoc, get_or-take, length-append, length-drop, length-take}
 use Rattle.std.specs.Char.{IsScalar}
 use Rattle.std.specs.Str.{IsUtf8}
 use Rattle.std.specs.Str.{chars as str_chars}
 use Rattle.std.specs.Str.Pattern.{StartsWithChar}
-use Rattle.std.proofs.lemmas.List.{drop-drop, take_all}
+use Rattle.std.proofs.lemmas.List.{drop-drop, get_or-drop, take_all}
 use Rattle.std.proofs.lemmas.Str.{chars_past_char}
-use Rattle.wide_blocks.proofs.FirstCharacters.{in_one, in_two, in_three, wide}
-use Rattle.wide_blocks.specs.Decoded.{IsDecoded, LeadsThree, LeadsTwo, code_of_three, code_of_two, codes_of_three, codes_of_two}
+use Rattle.wide_blocks.proofs.FirstCharacters.{in_four, in_one, in_three, wide}
+use Rattle.wide_blocks.specs.Decoded.{IsDecoded, LeadsThree, code_of_four, code_of_three, codes_of_three}
 use Rattle.wide_blocks.proofs.StoredUnits.{one_unit-plain}
 use Rattle.wide_unit.specs.EncodingForm.{EncodingForm, code_units, encode}
 
@@ -44,19 +44,6 @@ module _ (form : EncodingForm) where
       let first : IsFrontUnits form (b ∷ bs) 1 (code_units form b) = front_units-char (b ∷ bs) b 1 text (in_one (b ∷ bs) text (omega arith) low).1 in
       let more = front_units-ascii n bs first.rest (omega arith) (λ k before. ascii (suc k) (omega arith)) in
       record { units = first.units ∙ ap (λ us. us ++ encode form (str_chars bs)) (one_unit-plain form b (omega arith)) ∙ ap (λ us. b ∷ us) more.units; rest = more.rest }
-
-  -- characters of two bytes each
-  pub front_units-twos : (m n : ℕ) (bs : List ℕ) → IsUtf8 bs → n ≡ 2 * m → ((k : ℕ) → k < m → LeadsTwo (get_or bs (2 * k) 0)) → IsFrontUnits form bs n (take m (codes_of_two bs))
-  front_units-twos zero n bs text long leading = subst (λ p. IsFrontUnits form bs p []) {x = 0} {y = n} (omega arith) (front_units-none bs text)
-  front_units-twos (suc m) n [] text long leading = (let lead = leading 0 (omega arith) in absurd (omega (arith, lead.0)))
-  front_units-twos (suc m) n (a ∷ []) text long leading = (let lead = leading 0 (omega arith) in absurd (omega (arith, (wide (a ∷ []) text (omega arith)).0 (omega (arith, lead.0)))))
-  front_units-twos (suc m) n (a ∷ b ∷ bs) text long leading =
-      let lead = leading 0 (omega arith) in
-      let v = code_of_two a b in
-      let first : IsFrontUnits form (a ∷ b ∷ bs) 2 (code_units form v) = front_units-char (a ∷ b ∷ bs) v 2 text (in_two (a ∷ b ∷ bs) text (omega arith) (omega (arith, lead.0)) lead.1).1 in
-      let more = front_units-twos m (2 * m) bs first.rest refl (λ k before. (let next : 2 * suc k ≡ suc (suc (2 * k)) = omega arith in subst (λ j. LeadsTwo (get_or (a ∷ b ∷ bs) j 0)) next (leading (suc k) (omega arith)))) in
-      let joined = ap (λ us. us ++ take m (codes_of_two bs)) (sym (one_unit-plain form v (omega arith))) in
-      subst (λ p. IsFrontUnits form (a ∷ b ∷ bs) p (v ∷ take m (codes_of_two bs))) {x = 2 + 2 * m} {y = n} (omega arith) (front_units-then (a ∷ b ∷ bs) (code_units form v) (take m (codes_of_two bs)) (v ∷ take m (codes_of_two bs)) 2 (2 * m) first more joined)
 
   -- characters of three bytes each
   pub front_units-threes : (m n : ℕ) (bs : List ℕ) → IsUtf8 bs → n ≡ 3 * m → ((k : ℕ) → k < m → LeadsThree (get_or bs (3 * k) 0)) → IsFrontUnits form bs n (take m (codes_of_three bs)) × ((k : ℕ) → k < m → IsScalar (get_or (codes_of_three bs) k 0))
@@ -107,6 +94,24 @@ module _ (form : EncodingForm) where
 
   pub decoded-ascii : (bs before after : List ℕ) (n : ℕ) → IsUtf8 bs → n ≤ length bs → ((k : ℕ) → k < n → get_or bs k 0 < 0x80) → after ≡ before ++ take n bs → IsDecoded form bs n before after
   decoded-ascii bs before after n text within ascii more = joined bs before after (take n bs) n more (front_units-ascii n bs text within ascii)
+
+-- behind the first characters of four bytes stands the next
+module _ (bs : List ℕ) (k : ℕ) (within : k < 4) (long : 16 ≤ length bs) where
+  abbrev rest : List ℕ
+  rest = take (length bs - 4 * k) (drop (4 * k) bs)
+
+  byte-at : (i j : ℕ) → j ≡ 4 * k + i → i < 4 → get_or rest i 0 ≡ get_or (take 16 bs) j 0
+  byte-at i j is few = ap (λ ds. get_or ds i 0) (behind-is bs (4 * k)) ∙ get_or-drop (4 * k) bs i 0 ∙ ap (λ n. get_or bs n 0) (sym is) ∙ sym (get_or-take 16 bs j 0 (omega arith))
+
+  pub four-read : IsUtf8 rest → 0xF0 ≤ get_or bs (4 * k) 0 → let v : ℕ = code_of_four (get_or (take 16 bs) (4 * k) 0) (get_or (take 16 bs) (4 * k + 1) 0) (get_or (take 16 bs) (4 * k + 2) 0) (get_or (take 16 bs) (4 * k + 3) 0) in IsScalar v × StartsWithChar rest v 4
+  four-read text high =
+      let first = byte-at 0 (4 * k) (omega arith) (omega arith) in
+      let second = byte-at 1 (4 * k + 1) (omega arith) (omega arith) in
+      let third = byte-at 2 (4 * k + 2) (omega arith) (omega arith) in
+      let fourth = byte-at 3 (4 * k + 3) (omega arith) (omega arith) in
+      let lead = get_or-take 16 bs (4 * k) 0 (omega arith) in
+      let same : code_of_four (get_or rest 0 0) (get_or rest 1 0) (get_or rest 2 0) (get_or rest 3 0) ≡ code_of_four (get_or (take 16 bs) (4 * k) 0) (get_or (take 16 bs) (4 * k + 1) 0) (get_or (take 16 bs) (4 * k + 2) 0) (get_or (take 16 bs) (4 * k + 3) 0) = omega (arith, first, second, third, fourth) in
+      subst (λ v. IsScalar v × StartsWithChar rest v 4) same (in_four rest text (omega (arith, length-take (length bs - 4 * k) (drop (4 * k) bs), length-drop (4 * k) bs)) (omega (arith, first, lead, high)))
 
 -- behind a front there is room for the next character, where there is room for all
 pub decoded-next : (form : EncodingForm) (bs us rest : List ℕ) (n c m : ℕ) → IsDecoded form bs n [] us → rest ≡ drop n bs → IsUtf8 rest → StartsWithChar rest c m → length us + length (code_units form c) ≤ length (encode form (str_chars bs))

@@ -1,5 +1,8 @@
+pub mod CodeLanes
 pub mod EncodedFronts
+pub mod KeptLanes
 pub mod Lanes
+pub mod MixedFronts
 pub mod Rows
 pub mod ScalarFronts
 pub mod ScalarTexts

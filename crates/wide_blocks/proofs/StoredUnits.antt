@@ -4,7 +4,7 @@ use Rattle.std.proofs.lemmas.List.{length-map, map-append, take-map, take-take, 
 use Rattle.wide_unit.specs.EncodingForm.{EncodingForm, Utf16, Utf32, code_units}
 use Rattle.wide_unit.specs.Unit.{numbers_of}
 use Rattle.wide_unit.specs.Laws.Forms.{one_unit}
-use Rattle.wide_blocks.specs.Decoded.{code_of_three, code_of_two, codes_of_three, codes_of_two}
+use Rattle.wide_blocks.specs.Decoded.{code_of_three, codes_of_three}
 use Rattle.wide_blocks.proofs.Stores.{kept-front}
 use Rattle.wide_blocks.proofs.UnitEncodings.{take-one}
 
@@ -35,24 +35,7 @@ module _ {X : Type 0} (number : X → ℕ) where
       sym (take-map number (at + m) zs) ∙ kept-front ours theirs (take full cs) at full m (omega (arith, room, length-map xs number)) short all ∙ ap (λ us. take at ours ++ us) (take-take m full cs short)
       ∙ ap (λ us. us ++ take m cs) (take-map number at xs)
 
--- ---- the scalar values of bytes two by two
-
-pub codes-two : (bs : List ℕ) (k : ℕ) → 2 * k + 1 < length bs → get_or (codes_of_two bs) k 0 ≡ code_of_two (get_or bs (2 * k) 0) (get_or bs (2 * k + 1) 0)
-codes-two [] k within = absurd (omega arith)
-codes-two (a ∷ []) k within = absurd (omega arith)
-codes-two (a ∷ b ∷ bs) zero within = refl
-codes-two (a ∷ b ∷ bs) (suc k) within =
-    let first : suc (suc (2 * k)) ≡ 2 * suc k = omega arith in
-    let second : suc (suc (2 * k + 1)) ≡ 2 * suc k + 1 = omega arith in
-    codes-two bs k (omega arith) ∙ ap (λ n. code_of_two (get_or (a ∷ b ∷ bs) n 0) (get_or bs (2 * k + 1) 0)) first ∙ ap (λ n. code_of_two (get_or (a ∷ b ∷ bs) (2 * suc k) 0) (get_or (a ∷ b ∷ bs) n 0)) second
-
-pub length-codes_of_two : (bs : List ℕ) (k : ℕ) → 2 * k ≤ length bs → k ≤ length (codes_of_two bs)
-length-codes_of_two bs zero within = omega arith
-length-codes_of_two [] (suc k) within = absurd (omega arith)
-length-codes_of_two (a ∷ []) (suc k) within = absurd (omega arith)
-length-codes_of_two (a ∷ b ∷ bs) (suc k) within = omega (arith, length-codes_of_two bs k (omega arith))
-
--- ---- and three by three
+-- ---- the scalar values of bytes three by three
 
 pub codes-three : (bs : List ℕ) (k : ℕ) → 3 * k + 2 < length bs → get_or (codes_of_three bs) k 0 ≡ code_of_three (get_or bs (3 * k) 0) (get_or bs (3 * k + 1) 0) (get_or bs (3 * k + 2) 0)
 codes-three [] k within = absurd (omega arith)
@@ -81,8 +64,3 @@ three-at bs k within long =
     ∙ ap (λ b. code_of_three (get_or bs (3 * k) 0) b (get_or (take 16 bs) (3 * k + 2) 0)) (get_or-take 16 bs (3 * k + 1) 0 (omega arith))
     ∙ ap (λ c. code_of_three (get_or bs (3 * k) 0) (get_or bs (3 * k + 1) 0) c) (get_or-take 16 bs (3 * k + 2) 0 (omega arith))
     ∙ sym (codes-three bs k (omega arith))
-
--- and the two
-pub two-at : (bs : List ℕ) (k : ℕ) → k < 8 → 16 ≤ length bs → code_of_two (get_or (take 16 bs) (2 * k) 0) (get_or (take 16 bs) (2 * k + 1) 0) ≡ get_or (codes_of_two bs) k 0
-two-at bs k within long =
-    ap (λ a. code_of_two a (get_or (take 16 bs) (2 * k + 1) 0)) (get_or-take 16 bs (2 * k) 0 (omega arith)) ∙ ap (λ b. code_of_two (get_or bs (2 * k) 0) b) (get_or-take 16 bs (2 * k + 1) 0 (omega arith)) ∙ sym (codes-two bs k (omega arith))

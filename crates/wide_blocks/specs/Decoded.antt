@@ -9,26 +9,21 @@ pub record IsDecoded (form : EncodingForm) (bytes : List ℕ) (place : ℕ) (bef
   pub units : before ++ encode form (str_chars bytes) ≡ after ++ encode form (str_chars (drop place bytes))
   pub rest : IsUtf8 (drop place bytes)
 
--- the first byte of two, and of three
-abbrev pub LeadsTwo : ℕ → Type 0
-LeadsTwo byte = (0xC0 ≤ byte) × (byte < 0xE0)
-
+-- the first byte of three
 abbrev pub LeadsThree : ℕ → Type 0
 LeadsThree byte = (0xE0 ≤ byte) × (byte < 0xF0)
 
--- the scalar value of two bytes, and of three
+-- the scalar value of two bytes, of three, and of four
 abbrev pub code_of_two : ℕ → ℕ → ℕ
 code_of_two a b = a % 0x20 * 0x40 + b % 0x40
 
 abbrev pub code_of_three : ℕ → ℕ → ℕ → ℕ
 code_of_three a b c = a % 0x10 * 0x1000 + b % 0x40 * 0x40 + c % 0x40
 
--- those of bytes, two by two, and three by three
-abbrev pub codes_of_two : List ℕ → List ℕ
-codes_of_two [] = []
-codes_of_two (a ∷ []) = []
-codes_of_two (a ∷ b ∷ bs) = code_of_two a b ∷ codes_of_two bs
+abbrev pub code_of_four : ℕ → ℕ → ℕ → ℕ → ℕ
+code_of_four a b c d = a % 8 * 0x4_0000 + b % 0x40 * 0x1000 + c % 0x40 * 0x40 + d % 0x40
 
+-- those of bytes three by three
 abbrev pub codes_of_three : List ℕ → List ℕ
 codes_of_three [] = []
 codes_of_three (a ∷ []) = []

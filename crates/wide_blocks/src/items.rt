@@ -7,7 +7,7 @@ ghost use Rattle.wide_unit.specs.Segmentation.{Char, Fault};
 ghost use Rattle.wide_blocks.specs.Parts.{BeginsWith, IsLossyFront};
 
 use crate::lossy::is_marked;
-use crate::units::{ascii_len, char_of, put_bytes, put_char};
+use crate::units::{char_of, low_len, put_bytes, put_char};
 use wide_unit::{Policy, Unit};
 
 // Behind so many bytes without a fault they are read by blocks again.
@@ -18,11 +18,7 @@ const SOUND: usize = 64;
 fn byte_at(text: &[u8], at: usize) -> u8
     ensures { result ≡ slice_index text.now at }
 {
-    if at < text.len() {
-        text[at]
-    } else {
-        0
-    }
+    if at < text.len() { text[at] } else { 0 }
 }
 
 // Whether a byte may stand behind the first of a character (Unicode Standard, Table 3-7).
@@ -68,7 +64,10 @@ fn first_item(text: &[u8]) -> (Option<char>, usize)
     }
     let third = third as u32 % 0x40;
     if first < 0xf0 {
-        return (Some(char_of(first % 0x10 * 0x1000 + second * 0x40 + third)), 3);
+        return (
+            Some(char_of(first % 0x10 * 0x1000 + second * 0x40 + third)),
+            3,
+        );
     }
     let fourth = byte_at(text, 3);
     if fourth / 0x40 != 2 {
@@ -81,7 +80,13 @@ fn first_item(text: &[u8]) -> (Option<char>, usize)
 // Writes the lossy text of the ASCII characters that bytes begin with, or of the one item. Answers how many bytes they have and how many
 // units were written, and whether an ill-formed part is their last.
 #[inline(always)]
-fn put_front<C: Unit>(text: &[u8], policy: Policy, after: bool, units: &mut [C], at: usize) -> (usize, usize, bool)
+fn put_front<C: Unit>(
+    text: &[u8],
+    policy: Policy,
+    after: bool,
+    units: &mut [C],
+    at: usize,
+) -> (usize, usize, bool)
     requires some { 0 < length text.now }
     requires room { at + 16 ≤ length units.old }
     ensures read { result.0 ≤ length text.now }
@@ -90,7 +95,7 @@ fn put_front<C: Unit>(text: &[u8], policy: Policy, after: bool, units: &mut [C],
     ensures units { IsLossyFront C.form policy text.now result.0 after result.2 (map C.number (take at units.old)) (map C.number (take (at + result.1) units.new)) }
 {
     if text.len() >= 16 {
-        let ascii = ascii_len(text);
+        let ascii = low_len(text, 0x80);
         if ascii > 0 {
             put_bytes(text, units, at);
             return (ascii, ascii, false);
@@ -113,7 +118,12 @@ fn put_front<C: Unit>(text: &[u8], policy: Policy, after: bool, units: &mut [C],
 /// bytes. Answers how many bytes it read, at least one where there are some, how many units it wrote, and the flag behind what it read.
 /// It stops where it has met no ill-formed part for a while: text is read faster by `decode_utf8_front`. Units behind those may be
 /// overwritten.
-pub fn lossy_utf8_front<C: Unit>(text: &[u8], policy: Policy, after: bool, units: &mut [C]) -> (usize, usize, bool)
+pub fn lossy_utf8_front<C: Unit>(
+    text: &[u8],
+    policy: Policy,
+    after: bool,
+    units: &mut [C],
+) -> (usize, usize, bool)
     requires { 16 ≤ length units.old }
     ensures read { result.0 ≤ length text.now }
     ensures some { 0 < length text.now → 0 < result.0 }

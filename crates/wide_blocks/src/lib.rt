@@ -4,8 +4,10 @@
 mod blocks;
 mod fronts;
 mod items;
+mod kept;
 mod lengths;
 mod lossy;
+mod mixed;
 mod narrow;
 mod recoded;
 mod scalars;

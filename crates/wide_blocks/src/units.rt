@@ -5,8 +5,9 @@ ghost use Rattle.std.specs.Char.{IsScalar};
 ghost use Rattle.std.specs.Str.{IsUtf8, chars as str_chars};
 ghost use Rattle.std.specs.Str.Pattern.{StartsWithChar};
 ghost use Rattle.wide_unit.specs.EncodingForm.{code_units, encode};
-ghost use Rattle.wide_blocks.specs.Decoded.{IsDecoded, LeadsThree, LeadsTwo, code_of_three, code_of_two, codes_of_three, codes_of_two};
+ghost use Rattle.wide_blocks.specs.Decoded.{IsDecoded, LeadsThree, code_of_four, code_of_three, codes_of_three};
 
+use crate::mixed::put_mixed;
 use std::simd::prelude::*;
 use wide_unit::Unit;
 
@@ -78,15 +79,16 @@ pub(crate) fn put_bytes<C: Unit>(text: &[u8], units: &mut [C], at: usize)
     }
 }
 
-/// How many of the sixteen bytes that text begins with stand before the first that is not ASCII.
+/// How many of the sixteen bytes that text begins with stand before the first from a bound on.
 #[inline(always)]
-pub(crate) fn ascii_len(text: &[u8]) -> usize
+pub(crate) fn low_len(text: &[u8], bound: u8) -> usize
     requires { 16 ≤ length text.now }
     ensures within { result ≤ 16 }
-    ensures ascii { (k : ℕ) → k < result → slice_index text.now k < 0x80 }
+    ensures low { (k : ℕ) → k < result → slice_index text.now k < bound }
+    ensures stop { result < 16 → bound ≤ slice_index text.now result }
 {
     let bits = u8x16::from_slice(text)
-        .simd_ge(u8x16::splat(0x80))
+        .simd_ge(u8x16::splat(bound))
         .to_bitmask();
     if bits == 0 {
         16
@@ -106,7 +108,7 @@ fn put_ascii_blocks<C: Unit>(text: &[u8], units: &mut [C], at: usize) -> usize
 {
     let mut count = 0;
     'sixteens: while text.len() - count >= 16 && units.len() - (at + count) >= 16 {
-        if ascii_len(&text[count..]) < 16 {
+        if low_len(&text[count..], 0x80) < 16 {
             return count;
         }
         put_bytes(&text[count..], units, at + count);
@@ -131,47 +133,7 @@ fn alike_len(text: &[u8], masks: &[u8; 16], wanted: &[u8; 16]) -> usize
     }
 }
 
-// The bits by which a leading byte of two is known, at each second place (Unicode Standard, Table 3-6).
-const TWO_MASKS: [u8; 16] = [
-    0xe0, 0, 0xe0, 0, 0xe0, 0, 0xe0, 0, 0xe0, 0, 0xe0, 0, 0xe0, 0, 0xe0, 0,
-];
-
-const TWO_BITS: [u8; 16] = [
-    0xc0, 0, 0xc0, 0, 0xc0, 0, 0xc0, 0, 0xc0, 0, 0xc0, 0, 0xc0, 0, 0xc0, 0,
-];
-
-// How many characters of two bytes stand side by side at the front of text, up to eight.
-#[inline(always)]
-fn twos_len(text: &[u8]) -> usize
-    requires { 16 ≤ length text.now }
-    ensures within { result ≤ 8 }
-    ensures leading { (k : ℕ) → k < result → LeadsTwo (slice_index text.now (2 * k)) }
-{
-    (alike_len(text, &TWO_MASKS, &TWO_BITS) + 1) / 2
-}
-
-#[inline(always)]
-fn char_of_two(first: u8, second: u8) -> char
-    ensures { result ≡ code_of_two first second }
-{
-    char_of(u32::from(first) % 0x20 * 0x40 + u32::from(second) % 0x40)
-}
-
-// Stores eight characters of two bytes.
-#[inline(always)]
-fn put_twos<C: Unit>(text: &[u8], units: &mut [C], at: usize)
-    requires whole { 16 ≤ length text.now }
-    requires room { at + 8 ≤ length units.old }
-    ensures { map C.number (take (at + 8) units.new) ≡ map C.number (take at units.old) ++ take 8 (codes_of_two text.now) }
-{
-    let bytes = u8x16::from_slice(text).to_array();
-    for k in 0..8 {
-        let (unit, _) = C::encode_char(char_of_two(bytes[2 * k], bytes[2 * k + 1]));
-        units[at + k] = unit;
-    }
-}
-
-// The same of three bytes, at each third place.
+// The bits by which a leading byte of three is known, at each third place (Unicode Standard, Table 3-6).
 const THREE_MASKS: [u8; 16] = [
     0xf0, 0, 0, 0xf0, 0, 0, 0xf0, 0, 0, 0xf0, 0, 0, 0xf0, 0, 0, 0,
 ];
@@ -214,6 +176,48 @@ fn put_threes<C: Unit>(text: &[u8], units: &mut [C], at: usize)
     }
 }
 
+// The same of four bytes, at each fourth place.
+const FOUR_BITS: [u8; 16] = [0xf0, 0, 0, 0, 0xf0, 0, 0, 0, 0xf0, 0, 0, 0, 0xf0, 0, 0, 0];
+
+// Whether four characters of four bytes stand side by side at the front of text.
+#[inline(always)]
+fn are_fours(text: &[u8]) -> bool
+    requires { 16 ≤ length text.now }
+    ensures { IsTrue result → (k : ℕ) → k < 4 → 0xf0 ≤ slice_index text.now (4 * k) }
+{
+    alike_len(text, &FOUR_BITS, &FOUR_BITS) == 16
+}
+
+#[inline(always)]
+fn char_of_four(first: u8, second: u8, third: u8, fourth: u8) -> char
+    requires { IsScalar (code_of_four first second third fourth) }
+    ensures { result ≡ code_of_four first second third fourth }
+{
+    let front = u32::from(first) % 8 * 0x4_0000 + u32::from(second) % 0x40 * 0x1000;
+    char_of(front + u32::from(third) % 0x40 * 0x40 + u32::from(fourth) % 0x40)
+}
+
+// Writes the units of four characters of four bytes, and answers the place behind them.
+#[inline(always)]
+fn put_fours<C: Unit>(text: &[u8], units: &mut [C], at: usize) -> usize
+    requires text { IsUtf8 text.now }
+    requires whole { 16 ≤ length text.now }
+    requires fours { (k : ℕ) → k < 4 → 0xf0 ≤ slice_index text.now (4 * k) }
+    requires room { at + 8 ≤ length units.old }
+    ensures from { at ≤ result }
+    ensures few { result ≤ at + 8 }
+    ensures units { IsDecoded C.form text.now 16 (map C.number (take at units.old)) (map C.number (take result units.new)) }
+{
+    let bytes = u8x16::from_slice(text).to_array();
+    let mut behind = at;
+    for k in 0..4 {
+        let (first, second) = (bytes[4 * k], bytes[4 * k + 1]);
+        let c = char_of_four(first, second, bytes[4 * k + 2], bytes[4 * k + 3]);
+        behind = put_char(units, behind, c);
+    }
+    behind
+}
+
 // Writes the units of the first character of text, and answers how many bytes it has and how many units.
 #[inline(always)]
 fn put_first<C: Unit>(text: &[u8], units: &mut [C], at: usize) -> (usize, usize)
@@ -231,11 +235,11 @@ fn put_first<C: Unit>(text: &[u8], units: &mut [C], at: usize) -> (usize, usize)
     (len, behind - at)
 }
 
-// Writes the units of the characters that text begins with, of one kind, and answers how many bytes they have and how many units.
+// Writes the units of some characters that text begins with, and answers how many bytes they have and how many units.
 #[inline(always)]
 fn put_block<C: Unit>(text: &[u8], units: &mut [C], at: usize) -> (usize, usize)
     requires text { IsUtf8 text.now }
-    requires whole { 16 ≤ length text.now }
+    requires whole { 18 ≤ length text.now }
     requires room { at + 16 ≤ length units.old }
     ensures read { result.0 ≤ length text.now }
     ensures some { 0 < result.0 }
@@ -243,29 +247,23 @@ fn put_block<C: Unit>(text: &[u8], units: &mut [C], at: usize) -> (usize, usize)
     ensures room { at + result.1 ≤ length units.new }
     ensures units { IsDecoded C.form text.now result.0 (map C.number (take at units.old)) (map C.number (take (at + result.1) units.new)) }
 {
-    let ascii = ascii_len(text);
-    if ascii == 16 {
+    if low_len(text, 0x80) == 16 {
         put_bytes(text, units, at);
         let more = 16 + put_ascii_blocks(&text[16..], units, at + 16);
         return (more, more);
     }
-    if ascii > 0 {
-        put_bytes(text, units, at);
-        return (ascii, ascii);
-    }
     if text[0] >= 0xf0 {
+        if are_fours(text) {
+            return (16, put_fours(text, units, at) - at);
+        }
         return put_first(text, units, at);
     }
-    if are_threes(text) {
+    if text.len() >= 31 && are_threes(text) && are_threes(&text[15..]) {
         put_threes(text, units, at);
-        return (15, 5);
+        put_threes(&text[15..], units, at + 5);
+        return (30, 10);
     }
-    let twos = twos_len(text);
-    if twos > 0 {
-        put_twos(text, units, at);
-        return (2 * twos, twos);
-    }
-    put_first(text, units, at)
+    put_mixed(text, units, at)
 }
 
 /// Writes the units of a front of text in UTF-8 (Unicode Standard, D92) in the encoding form of `C` (D90, D91) to the front of `units`,
@@ -282,7 +280,7 @@ pub fn decode_utf8_front<C: Unit>(text: &[u8], units: &mut [C]) -> (usize, usize
 {
     let mut read = 0;
     let mut written = 0;
-    'sixteens: while text.len() - read >= 16 && units.len() - written >= 16 {
+    'sixteens: while text.len() - read >= 18 && units.len() - written >= 16 {
         let (bytes, more) = put_block(&text[read..], units, written);
         read += bytes;
         written += more;

@@ -10,10 +10,10 @@ pub returns-then-ascii-gt0-clause-units : goal.returns-then-ascii-gt0-clause-uni
 returns-then-ascii-gt0-clause-units g c =
     let bs = c.args.text.now in
     let number = g.C.Unit.number in
-    let count = c.ascii_len-ascii.result in
-    let few = c.ascii_len-ascii.ensures.within in
+    let count = c.low_len-ascii.result in
+    let few = c.low_len-ascii.ensures.within in
     let stored = stored-front number c.args.units.now c.put_bytes.new.units bs c.args.at 16 count (omega (arith, c.requires.room)) few c.put_bytes.ensures in
-    lossy-ascii g.C.Unit.form c.args.policy bs _ _ count c.args.after c.if-ascii-gt0.true (omega (arith, few, c.if-text-ge16.true)) c.ascii_len-ascii.ensures.ascii stored
+    lossy-ascii g.C.Unit.form c.args.policy bs _ _ count c.args.after c.if-ascii-gt0.true (omega (arith, few, c.if-text-ge16.true)) c.low_len-ascii.ensures.low stored
 
 pub returns-then-not-is_marked-clause-units : goal.returns-then-not-is_marked-clause-units
 returns-then-not-is_marked-clause-units g c =

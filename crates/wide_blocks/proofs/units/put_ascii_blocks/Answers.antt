@@ -23,7 +23,7 @@ sixteens-preserved g c =
     let rest = take (length bs - count) (drop count bs) in
     let front = c.sixteens.invariant.front in
     let next : at + count + 16 ≡ at + (count + 16) = omega arith in
-    let ascii = c.ascii_len.ensures.ascii in
+    let ascii = c.low_len.ensures.low in
     let more = ap (λ n. map number (take n c.put_bytes.new.units)) (sym next) ∙ c.put_bytes.ensures in
     record {
       within = omega arith;
@@ -31,8 +31,8 @@ sixteens-preserved g c =
       front = decoded-then form bs _ _ _ count 16 front (decoded-ascii form rest _ _ 16 (decoded-behind form bs _ _ count front) (omega (arith, length-take (length bs - count) (drop count bs), length-drop count bs)) (λ k within. ascii k (omega (arith, within))) more);
     }
 
-pub returns-then-ascii_len-lt16-clause-units : goal.returns-then-ascii_len-lt16-clause-units
-returns-then-ascii_len-lt16-clause-units g c = c.sixteens.invariant.front
+pub returns-then-low_len-lt16-clause-units : goal.returns-then-low_len-lt16-clause-units
+returns-then-low_len-lt16-clause-units g c = c.sixteens.invariant.front
 
 pub returns-else-units-at-ge16-clause-units : goal.returns-else-units-at-ge16-clause-units
 returns-else-units-at-ge16-clause-units g c = c.sixteens.invariant.front

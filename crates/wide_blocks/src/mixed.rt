@@ -1,0 +1,74 @@
+//! The units of text that mixes characters of one to three bytes, by the places where they begin.
+
+ghost use Rattle.std.specs.Prelude.{◌≡◌, ◌++◌, ◌+◌, ◌*◌, ◌<◌, ◌≤◌, ℕ, length, map, slice_index, take};
+ghost use Rattle.std.specs.Str.{IsUtf8};
+ghost use Rattle.wide_blocks.specs.Decoded.{IsDecoded};
+ghost use Rattle.wide_blocks.specs.Mixed.{codes_at, lead_bits, trailing_len};
+
+use crate::kept::put_kept;
+use crate::units::low_len;
+use std::simd::prelude::*;
+use wide_unit::Unit;
+
+// The scalar values that characters of one to three bytes have that begin at the first eight places.
+#[inline(always)]
+fn codes_of(text: &[u8]) -> u16x8
+    requires { 10 ≤ length text.now }
+    ensures { result ≡ codes_at 8 text.now }
+{
+    let first = u8x8::from_slice(text).cast::<u16>();
+    let second = u8x8::from_slice(&text[1..]).cast::<u16>() % u16x8::splat(0x40);
+    let third = u8x8::from_slice(&text[2..]).cast::<u16>() % u16x8::splat(0x40);
+    let two = first % u16x8::splat(0x20) * u16x8::splat(0x40) + second;
+    // What of the first byte goes beyond sixteen bits is dropped.
+    let three = first * u16x8::splat(0x1000) + second * u16x8::splat(0x40) + third;
+    let short = first.simd_lt(u16x8::splat(0x80)).select(first, two);
+    first.simd_lt(u16x8::splat(0xe0)).select(short, three)
+}
+
+// One bit for each of the first sixteen bytes that begins a character, from the lowest on.
+#[inline(always)]
+fn leads_of(text: &[u8]) -> usize
+    requires { 16 ≤ length text.now }
+    ensures { result ≡ lead_bits 16 text.now }
+{
+    let high = u8x16::from_slice(text) & u8x16::splat(0xc0);
+    high.simd_ne(u8x16::splat(0x80)).to_bitmask() as usize
+}
+
+// How many of the first two bytes are the rest of a character that was begun before.
+#[inline(always)]
+fn rest_len(text: &[u8]) -> usize
+    requires { 2 ≤ length text.now }
+    ensures { result ≡ trailing_len text.now }
+{
+    let (first, second) = (text[0], text[1]);
+    if first / 0x40 != 2 {
+        0
+    } else if second / 0x40 != 2 {
+        1
+    } else {
+        2
+    }
+}
+
+/// Writes the units of the characters that begin in the first sixteen bytes of text, up to the first of four bytes, and answers how many
+/// bytes they have and how many units. The units up to sixteen places on may be overwritten.
+#[inline(always)]
+pub(crate) fn put_mixed<C: Unit>(text: &[u8], units: &mut [C], at: usize) -> (usize, usize)
+    requires text { IsUtf8 text.now }
+    requires whole { 18 ≤ length text.now }
+    requires first { slice_index text.now 0 < 0xf0 }
+    requires room { at + 16 ≤ length units.old }
+    ensures read { result.0 ≤ length text.now }
+    ensures some { 0 < result.0 }
+    ensures few { result.1 ≤ 2 * result.0 }
+    ensures room { at + result.1 ≤ length units.new }
+    ensures units { IsDecoded C.form text.now result.0 (map C.number (take at units.old)) (map C.number (take (at + result.1) units.new)) }
+{
+    let end = low_len(text, 0xf0);
+    let leads = leads_of(text) % (1 << end);
+    let half = put_kept(codes_of(text), leads % 256, units, at);
+    let behind = put_kept(codes_of(&text[8..]), leads / 256, units, half);
+    (end + rest_len(&text[end..]), behind - at)
+}
