@@ -1,4 +1,4 @@
-use Rattle.std.proofs.Common.{◌≡◌, ◌+◌, ◌*◌, ◌%◌, ◌∙◌, ap, get_or, sym, subst}
+use Rattle.std.proofs.Common.{◌+◌, ◌*◌, ◌%◌, ◌∙◌, ap, get_or, sym, subst}
 use Rattle.wide_unit.specs.Segmentation.{Char}
 use Rattle.wide_blocks.specs.Parts.{BeginsWith}
 use Rattle.wide_blocks.proofs.FirstItems.{begins-ascii, begins-part_of_one, begins-two, begins-part_of_two, begins-three, begins-part_of_three, begins-four, may_follow}

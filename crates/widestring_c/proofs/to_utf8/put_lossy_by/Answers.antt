@@ -1,4 +1,4 @@
-use Rattle.std.proofs.Common.{◌≡◌, ◌<◌, ◌≤◌, ◌++◌, [], ◌∷◌, true, ap, sym, ◌∙◌, subst, arith, length, map, take, drop, refl, if◌then◌else◌, append-nil}
+use Rattle.std.proofs.Common.{◌≡◌, ◌<◌, ◌≤◌, ◌++◌, [], ◌∷◌, true, ap, sym, ◌∙◌, subst, arith, length, map, take, drop, if◌then◌else◌, append-nil}
 use Rattle.std.proofs.lemmas.List.{drop-map, length-map, take-map, take_all}
 use Rattle.wide_unit.specs.Items.{IsWellFormed, chars, items}
 use Rattle.wide_unit.specs.Lossy.{lossy_after, lossy_by}
