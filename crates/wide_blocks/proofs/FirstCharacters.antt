@@ -103,6 +103,15 @@ module _ (bs : List ℕ) (text : IsUtf8 bs) (some : 0 < length bs) where
       by (four c rest scalar tail from below same) =
           named bs c _ 4 scalar (omega (arith, byte same 0, byte same 1, byte same 2, byte same 3, from, below)) (starts bs (_ ∷ _ ∷ _ ∷ _ ∷ []) rest c 4 same (sym (four_bytes c from)) refl (omega arith) tail)
 
+  pub four-from : 0xF0 ≤ get_or bs 0 0 → 0x1_0000 ≤ get_or bs 0 0 % 8 * 0x4_0000 + get_or bs 1 0 % 0x40 * 0x1000 + get_or bs 2 0 % 0x40 * 0x40 + get_or bs 3 0 % 0x40
+  four-from high = by (shape bs text some)
+    where
+      by : Shape bs → 0x1_0000 ≤ get_or bs 0 0 % 8 * 0x4_0000 + get_or bs 1 0 % 0x40 * 0x1000 + get_or bs 2 0 % 0x40 * 0x40 + get_or bs 3 0 % 0x40
+      by (one c rest scalar tail below same) = absurd (omega (arith, byte same 0, high, below))
+      by (two c rest scalar tail from below same) = absurd (omega (arith, byte same 0, high, below))
+      by (three c rest scalar tail from below same) = absurd (omega (arith, byte same 0, high, below))
+      by (four c rest scalar tail from below same) = omega (arith, byte same 0, byte same 1, byte same 2, byte same 3, from, below)
+
   -- how many bytes there are at least
   pub wide : (0x80 ≤ get_or bs 0 0 → 1 < length bs) × (0xE0 ≤ get_or bs 0 0 → 2 < length bs) × (0xF0 ≤ get_or bs 0 0 → 3 < length bs)
   wide = by (shape bs text some)

@@ -6,7 +6,7 @@ use Rattle.std.specs.Str.{chars as str_chars}
 use Rattle.std.specs.Str.Pattern.{StartsWithChar}
 use Rattle.std.proofs.lemmas.List.{drop-drop, get_or-drop, take_all}
 use Rattle.std.proofs.lemmas.Str.{chars_past_char}
-use Rattle.wide_blocks.proofs.FirstCharacters.{in_four, in_one, in_three, wide}
+use Rattle.wide_blocks.proofs.FirstCharacters.{four-from, in_four, in_one, in_three, wide}
 use Rattle.wide_blocks.specs.Decoded.{IsDecoded, LeadsThree, code_of_four, code_of_three, codes_of_three}
 use Rattle.wide_blocks.proofs.StoredUnits.{one_unit-plain}
 use Rattle.wide_unit.specs.EncodingForm.{EncodingForm, code_units, encode}
@@ -103,7 +103,7 @@ module _ (bs : List ℕ) (k : ℕ) (within : k < 4) (long : 16 ≤ length bs) wh
   byte-at : (i j : ℕ) → j ≡ 4 * k + i → i < 4 → get_or rest i 0 ≡ get_or (take 16 bs) j 0
   byte-at i j is few = ap (λ ds. get_or ds i 0) (behind-is bs (4 * k)) ∙ get_or-drop (4 * k) bs i 0 ∙ ap (λ n. get_or bs n 0) (sym is) ∙ sym (get_or-take 16 bs j 0 (omega arith))
 
-  pub four-read : IsUtf8 rest → 0xF0 ≤ get_or bs (4 * k) 0 → let v : ℕ = code_of_four (get_or (take 16 bs) (4 * k) 0) (get_or (take 16 bs) (4 * k + 1) 0) (get_or (take 16 bs) (4 * k + 2) 0) (get_or (take 16 bs) (4 * k + 3) 0) in IsScalar v × StartsWithChar rest v 4
+  pub four-read : IsUtf8 rest → 0xF0 ≤ get_or bs (4 * k) 0 → let v : ℕ = code_of_four (get_or (take 16 bs) (4 * k) 0) (get_or (take 16 bs) (4 * k + 1) 0) (get_or (take 16 bs) (4 * k + 2) 0) (get_or (take 16 bs) (4 * k + 3) 0) in IsScalar v × StartsWithChar rest v 4 × (0x1_0000 ≤ v)
   four-read text high =
       let first = byte-at 0 (4 * k) (omega arith) (omega arith) in
       let second = byte-at 1 (4 * k + 1) (omega arith) (omega arith) in
@@ -111,7 +111,10 @@ module _ (bs : List ℕ) (k : ℕ) (within : k < 4) (long : 16 ≤ length bs) wh
       let fourth = byte-at 3 (4 * k + 3) (omega arith) (omega arith) in
       let lead = get_or-take 16 bs (4 * k) 0 (omega arith) in
       let same : code_of_four (get_or rest 0 0) (get_or rest 1 0) (get_or rest 2 0) (get_or rest 3 0) ≡ code_of_four (get_or (take 16 bs) (4 * k) 0) (get_or (take 16 bs) (4 * k + 1) 0) (get_or (take 16 bs) (4 * k + 2) 0) (get_or (take 16 bs) (4 * k + 3) 0) = omega (arith, first, second, third, fourth) in
-      subst (λ v. IsScalar v × StartsWithChar rest v 4) same (in_four rest text (omega (arith, length-take (length bs - 4 * k) (drop (4 * k) bs), length-drop (4 * k) bs)) (omega (arith, first, lead, high)))
+      let some : 0 < length rest = omega (arith, length-take (length bs - 4 * k) (drop (4 * k) bs), length-drop (4 * k) bs) in
+      let led : 0xF0 ≤ get_or rest 0 0 = omega (arith, first, lead, high) in
+      let read = in_four rest text some led in
+      subst (λ v. IsScalar v × StartsWithChar rest v 4 × (0x1_0000 ≤ v)) same (read.0, read.1, four-from rest text some led)
 
 -- behind a front there is room for the next character, where there is room for all
 pub decoded-next : (form : EncodingForm) (bs us rest : List ℕ) (n c m : ℕ) → IsDecoded form bs n [] us → rest ≡ drop n bs → IsUtf8 rest → StartsWithChar rest c m → length us + length (code_units form c) ≤ length (encode form (str_chars bs))

@@ -10,7 +10,7 @@ use Rattle.std.proofs.lemmas.List.Concat.{flat_map-append}
 use Rattle.wide_unit.specs.EncodingForm.{EncodingForm, code_units, encode}
 use Rattle.wide_unit.specs.Lossy.{ends_in_fault, lossy_after}
 use Rattle.wide_unit.specs.Segmentation.{Item, Char, Fault}
-use Rattle.wide_unit.specs.Laws.Policies.{lossy_after-append, lossy_after-chars}
+use Rattle.wide_unit.specs.Laws.Policies.{ends_in_fault-append, lossy_after-append, lossy_after-chars}
 use Rattle.wide_unit.specs.declared.policy.Policy.{Policy}
 use Rattle.wide_blocks.specs.Parts.{BeginsWith, IsLossyFront, utf8_items}
 use Rattle.wide_blocks.proofs.FirstItems.{begins-ascii}
@@ -41,36 +41,66 @@ ends-some after (suc n) [] some within = absurd (omega arith)
 ends-some after (suc n) (b ∷ bs) some within = ends-characters (take n bs)
 
 module _ (form : EncodingForm) (policy : Policy) where
+  encode-append : (cs ds : List ℕ) → encode form (cs ++ ds) ≡ encode form cs ++ encode form ds
+  encode-append cs ds = flat_map-append (code_units form) cs ds
+
+  pub lossy-none : (bs us : List ℕ) (after : Bool) → IsLossyFront form policy bs 0 after after us us
+  lossy-none bs us after = record { front = []; items = refl; units = sym (append-nil us) ∙ ap (λ cs. us ++ encode form cs) (sym (lossy_after-chars policy after [])); flag = refl }
+
   pub lossy-then : (bs x y z : List ℕ) (n m : ℕ) (a b c : Bool) → IsLossyFront form policy bs n a b x y → IsLossyFront form policy (take (length bs - n) (drop n bs)) m b c y z → IsLossyFront form policy bs (n + m) a c x z
   lossy-then bs x y z n m a b c front back =
       let behind = behind-is bs n in
       let rest : drop m (take (length bs - n) (drop n bs)) ≡ drop (n + m) bs = ap (drop m) behind ∙ drop-drop m n bs in
-      front ∙ ap (λ ds. y ++ encode form (lossy_after policy b (utf8_items ds))) (sym behind) ∙ back ∙ ap (λ ds. z ++ encode form (lossy_after policy c (utf8_items ds))) rest
+      let first = lossy_after policy a front.front in
+      let joined : lossy_after policy a (front.front ++ back.front) ≡ first ++ lossy_after policy b back.front = lossy_after-append policy a front.front back.front ∙ ap (λ f. first ++ lossy_after policy f back.front) (sym front.flag) in
+      record {
+        front = front.front ++ back.front;
+        items = front.items ∙ ap (λ is. front.front ++ is) (ap utf8_items (sym behind) ∙ back.items ∙ ap (λ ds. back.front ++ utf8_items ds) rest) ∙ sym (append_assoc front.front back.front (utf8_items (drop (n + m) bs)));
+        units = back.units ∙ ap (λ us. us ++ encode form (lossy_after policy b back.front)) front.units ∙ append_assoc x (encode form first) (encode form (lossy_after policy b back.front))
+        ∙ ap (λ us. x ++ us) (sym (encode-append first (lossy_after policy b back.front)) ∙ ap (encode form) (sym joined));
+        flag = back.flag ∙ ap (λ f. ends_in_fault f back.front) front.flag ∙ sym (ends_in_fault-append a front.front back.front);
+      }
 
-  -- the text of some items
-  lossy-items : (bs old new : List ℕ) (n : ℕ) (after : Bool) (is : List Item) → utf8_items bs ≡ is ++ utf8_items (drop n bs) → new ≡ old ++ encode form (lossy_after policy after is) → IsLossyFront form policy bs n after (ends_in_fault after is) old new
-  lossy-items bs old new n after is begins more =
+  -- what stands behind goes on as lossy text of its own
+  pub lossy-rest : (bs old new : List ℕ) (n : ℕ) (a b : Bool) → IsLossyFront form policy bs n a b old new → old ++ encode form (lossy_after policy a (utf8_items bs)) ≡ new ++ encode form (lossy_after policy b (utf8_items (drop n bs)))
+  lossy-rest bs old new n a b front =
+      let text = lossy_after policy a front.front in
       let behind = utf8_items (drop n bs) in
-      let text = lossy_after policy after is in
-      let rest = lossy_after policy (ends_in_fault after is) behind in
-      ap (λ js. old ++ encode form (lossy_after policy after js)) begins ∙ ap (λ cs. old ++ encode form cs) (lossy_after-append policy after is behind) ∙ ap (λ us. old ++ us) (flat_map-append (code_units form) text rest)
-      ∙ sym (append_assoc old (encode form text) (encode form rest)) ∙ ap (λ us. us ++ encode form rest) (sym more)
+      let rest = lossy_after policy b behind in
+      ap (λ is. old ++ encode form (lossy_after policy a is)) front.items ∙ ap (λ cs. old ++ encode form cs) (lossy_after-append policy a front.front behind ∙ ap (λ f. text ++ lossy_after policy f behind) (sym front.flag))
+      ∙ ap (λ us. old ++ us) (encode-append text rest) ∙ sym (append_assoc old (encode form text) (encode form rest)) ∙ ap (λ us. us ++ encode form rest) (sym front.units)
 
   pub lossy-character : (bs old new : List ℕ) (n c : ℕ) (after : Bool) → BeginsWith bs (Char c) n → new ≡ old ++ code_units form c → IsLossyFront form policy bs n after false old new
-  lossy-character bs old new n c after begins more =
-      lossy-items bs old new n after (Char c ∷ []) begins (more ∙ ap (λ us. old ++ us) (sym (append-nil (code_units form c))) ∙ ap (λ cs. old ++ encode form cs) (sym (lossy_after-chars policy after (c ∷ []))))
+  lossy-character bs old new n c after begins more = record {
+    front = Char c ∷ [];
+    items = begins;
+    units = more ∙ ap (λ us. old ++ us) (sym (append-nil (code_units form c)) ∙ ap (encode form) (sym (lossy_after-chars policy after (c ∷ []))));
+    flag = refl;
+  }
 
   pub lossy-marked : (bs old new : List ℕ) (n u : ℕ) (after : Bool) → BeginsWith bs (Fault u) n → lossy_after policy after (Fault u ∷ []) ≡ 0xFFFD ∷ [] → new ≡ old ++ code_units form 0xFFFD → IsLossyFront form policy bs n after true old new
-  lossy-marked bs old new n u after begins mark more =
-      lossy-items bs old new n after (Fault u ∷ []) begins (more ∙ ap (λ us. old ++ us) (sym (append-nil (code_units form 0xFFFD))) ∙ ap (λ cs. old ++ encode form cs) (sym mark))
+  lossy-marked bs old new n u after begins mark more = record {
+    front = Fault u ∷ [];
+    items = begins;
+    units = more ∙ ap (λ us. old ++ us) (sym (append-nil (code_units form 0xFFFD)) ∙ ap (encode form) (sym mark));
+    flag = refl;
+  }
 
   pub lossy-unmarked : (bs old new : List ℕ) (n u : ℕ) (after : Bool) → BeginsWith bs (Fault u) n → lossy_after policy after (Fault u ∷ []) ≡ [] → new ≡ old → IsLossyFront form policy bs n after true old new
-  lossy-unmarked bs old new n u after begins none more = lossy-items bs old new n after (Fault u ∷ []) begins (more ∙ sym (append-nil old) ∙ ap (λ cs. old ++ encode form cs) (sym none))
+  lossy-unmarked bs old new n u after begins none more = record {
+    front = Fault u ∷ [];
+    items = begins;
+    units = more ∙ sym (append-nil old) ∙ ap (λ cs. old ++ encode form cs) (sym none);
+    flag = refl;
+  }
 
   pub lossy-ascii : (bs old new : List ℕ) (n : ℕ) (after : Bool) → 0 < n → n ≤ length bs → ((k : ℕ) → k < n → get_or bs k 0 < 0x80) → new ≡ old ++ take n bs → IsLossyFront form policy bs n after false old new
-  lossy-ascii bs old new n after some within ascii more =
-      let text = ap (λ us. old ++ us) (sym (encode-ascii form n bs ascii) ∙ ap (encode form) (sym (lossy_after-chars policy after (take n bs)))) in
-      subst (λ b. IsLossyFront form policy bs n after b old new) (ends-some after n bs some within) (lossy-items bs old new n after (map Char (take n bs)) (items-ascii n bs within ascii) (more ∙ text))
+  lossy-ascii bs old new n after some within ascii more = record {
+    front = map Char (take n bs);
+    items = items-ascii n bs within ascii;
+    units = more ∙ ap (λ us. old ++ us) (sym (encode-ascii form n bs ascii) ∙ ap (encode form) (sym (lossy_after-chars policy after (take n bs))));
+    flag = sym (ends-some after n bs some within);
+  }
 
 -- Lossy text of a text and what stands behind it
 ends-encoded : (after : Bool) (cs front : List ℕ) → encode_utf8_all cs ≡ front → (length front ≡ 0 → ends_in_fault after (map Char cs) ≡ after) × (1 ≤ length front → ends_in_fault after (map Char cs) ≡ false)

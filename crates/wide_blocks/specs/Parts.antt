@@ -8,7 +8,7 @@ use Rattle.std.specs.Str.Lossy.{utf8_invalid_len}
 use Rattle.std.proofs.lemmas.Str.{encode_same}
 use Rattle.wide_unit.specs.EncodingForm.{EncodingForm, encode}
 use Rattle.wide_unit.specs.Segmentation.{Item, Char, Fault}
-use Rattle.wide_unit.specs.Lossy.{lossy_after}
+use Rattle.wide_unit.specs.Lossy.{ends_in_fault, lossy_after}
 use Rattle.wide_unit.specs.declared.policy.Policy.{Policy}
 use Rattle.wide_unit.specs.Utf8.{utf8_bytes}
 use Rattle.wide_unit.specs.Laws.Utf8.{utf8_bytes-encode_utf8}
@@ -74,8 +74,10 @@ HasFirstPart bs place len = utf8_items bs ≡ map Char (str_chars (take place bs
 abbrev pub BeginsWith : List ℕ → Item → ℕ → Type 0
 BeginsWith bs item len = utf8_items bs ≡ item ∷ utf8_items (drop len bs)
 
--- With the units of the lossy text of a front of the bytes, the units before have become those after. The flags tell whether an ill-formed
--- part is the last of what stands before.
-abbrev pub IsLossyFront : EncodingForm → Policy → List ℕ → ℕ → Bool → Bool → List ℕ → List ℕ → Type 0
-IsLossyFront form policy bs place before after old new =
-    old ++ encode form (lossy_after policy before (utf8_items bs)) ≡ new ++ encode form (lossy_after policy after (utf8_items (drop place bs)))
+-- The bytes before a place are some of the items, and with the units of their lossy text the units before have become those after. The flags
+-- tell whether an ill-formed part stands last, of what stands before the bytes and before the place.
+pub record IsLossyFront (form : EncodingForm) (policy : Policy) (bs : List ℕ) (place : ℕ) (before after : Bool) (old new : List ℕ) : Type 0 where
+  pub front : List Item
+  pub items : utf8_items bs ≡ front ++ utf8_items (drop place bs)
+  pub units : new ≡ old ++ encode form (lossy_after policy before front)
+  pub flag : after ≡ ends_in_fault before front

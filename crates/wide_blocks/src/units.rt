@@ -190,11 +190,14 @@ fn are_fours(text: &[u8]) -> bool
 
 #[inline(always)]
 fn char_of_four(first: u8, second: u8, third: u8, fourth: u8) -> char
-    requires { IsScalar (code_of_four first second third fourth) }
+    requires scalar { IsScalar (code_of_four first second third fourth) }
+    requires beyond { 0x1_0000 ≤ code_of_four first second third fourth }
     ensures { result ≡ code_of_four first second third fourth }
 {
     let front = u32::from(first) % 8 * 0x4_0000 + u32::from(second) % 0x40 * 0x1000;
-    char_of(front + u32::from(third) % 0x40 * 0x40 + u32::from(fourth) % 0x40)
+    let code = front + u32::from(third) % 0x40 * 0x40 + u32::from(fourth) % 0x40;
+    // The maximum is for the compiler, which then knows that a pair is due.
+    char_of(code.max(0x1_0000))
 }
 
 // Writes the units of four characters of four bytes, and answers the place behind them.

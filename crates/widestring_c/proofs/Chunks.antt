@@ -11,7 +11,7 @@ use Rattle.wide_unit.specs.Laws.Items.{items-nil}
 use Rattle.wide_unit.specs.declared.policy.Policy.{Policy}
 use Rattle.wide_unit.specs.declared.policy.Policy.TheVariants.{Each, Run, Skip}
 use Rattle.wide_blocks.specs.Parts.{IsLossyFront, none, utf8_items, utf8_items-divide, utf8_items-unique}
-use Rattle.wide_blocks.proofs.LossyItems.{lossy-behind_text}
+use Rattle.wide_blocks.proofs.LossyItems.{lossy-behind_text, lossy-rest}
 
 -- the text at the front, the units of some items behind it, and what stands behind those
 pub lossy_front : (form : EncodingForm) (policy : Policy) (bs us : List ℕ) (n m : ℕ) (after between next : Bool) → n ≤ length bs → IsUtf8 (take n bs) → (n ≡ 0 → between ≡ after) → (1 ≤ n → between ≡ false)
@@ -20,7 +20,7 @@ pub lossy_front : (form : EncodingForm) (policy : Policy) (bs us : List ℕ) (n 
 lossy_front form policy bs us n m after between next within text same other items =
     let cs = chars (take n bs) in
     let rest = lossy_after policy between (utf8_items (drop n bs)) in
-    ap (encode form) (lossy-behind_text policy bs n after between within text same other) ∙ flat_map-append (code_units form) cs rest ∙ ap (λ vs. encode form cs ++ vs) items
+    ap (encode form) (lossy-behind_text policy bs n after between within text same other) ∙ flat_map-append (code_units form) cs rest ∙ ap (λ vs. encode form cs ++ vs) (lossy-rest form policy (drop n bs) [] us m between next items)
 
 -- no bytes have none
 no_text : (policy : Policy) (after : Bool) → lossy_after policy after [] ≡ []

@@ -7,11 +7,17 @@ use Rattle.wide_blocks.proofs.units.put_fours.Goals as goal
 pub loop-k-init : goal.loop-k-init
 loop-k-init g c = record { from = omega arith; few = omega arith; front = decoded-none g.C.Unit.form c.args.text.now _ c.requires.text }
 
-pub char_of_four-c-requires : goal.char_of_four-c-requires
-char_of_four-c-requires g c =
+pub char_of_four-c-requires-clause-scalar : goal.char_of_four-c-requires-clause-scalar
+char_of_four-c-requires-clause-scalar g c =
     let bs = c.args.text.now in
     let k = c.loop-k.k in
     (four-read bs k c.loop-k-test.true c.requires.whole (decoded-behind g.C.Unit.form bs _ _ (4 * k) c.loop-k.invariant.front) (c.requires.fours k c.loop-k-test.true)).0
+
+pub char_of_four-c-requires-clause-beyond : goal.char_of_four-c-requires-clause-beyond
+char_of_four-c-requires-clause-beyond g c =
+    let bs = c.args.text.now in
+    let k = c.loop-k.k in
+    (four-read bs k c.loop-k-test.true c.requires.whole (decoded-behind g.C.Unit.form bs _ _ (4 * k) c.loop-k.invariant.front) (c.requires.fours k c.loop-k-test.true)).2
 
 pub loop-k-preserved : goal.loop-k-preserved
 loop-k-preserved g c =
