@@ -1,5 +1,5 @@
 -- Lossy text of bytes, an item after another.
-use Rattle.std.proofs.Common.{◌≡◌, inl, inr, ℕ, zero, suc, ◌+◌, ◌-◌, ◌<◌, ◌≤◌, List, [], ◌∷◌, ◌++◌, Bool, true, false, length, get_or, map, take, drop, refl, sym, ap, ◌∙◌, subst, arith, append_assoc, length-append}
+use Rattle.std.proofs.Common.{◌≡◌, inl, inr, ℕ, zero, suc, ◌+◌, ◌-◌, ◌<◌, ◌≤◌, List, [], ◌∷◌, ◌++◌, Bool, true, false, length, get_or, map, take, drop, refl, sym, ap, ◌∙◌, arith, append_assoc, length-append}
 use Rattle.std.specs.Char.{encode_utf8}
 use Rattle.std.specs.Str.{IsUtf8, encode_utf8_all}
 use Rattle.std.specs.Str.{chars as str_chars}
@@ -9,7 +9,7 @@ use Rattle.std.proofs.lemmas.Str.{chars_from_encodes, len_utf8_bounds, length-en
 use Rattle.std.proofs.lemmas.List.Concat.{flat_map-append}
 use Rattle.wide_unit.specs.EncodingForm.{EncodingForm, code_units, encode}
 use Rattle.wide_unit.specs.Lossy.{ends_in_fault, lossy_after}
-use Rattle.wide_unit.specs.Segmentation.{Item, Char, Fault}
+use Rattle.wide_unit.specs.Segmentation.{Char, Fault}
 use Rattle.wide_unit.specs.Laws.Policies.{ends_in_fault-append, lossy_after-append, lossy_after-chars}
 use Rattle.wide_unit.specs.declared.policy.Policy.{Policy}
 use Rattle.wide_blocks.specs.Parts.{BeginsWith, IsLossyFront, utf8_items}
@@ -57,7 +57,7 @@ module _ (form : EncodingForm) (policy : Policy) where
         front = front.front ++ back.front;
         items = front.items ∙ ap (λ is. front.front ++ is) (ap utf8_items (sym behind) ∙ back.items ∙ ap (λ ds. back.front ++ utf8_items ds) rest) ∙ sym (append_assoc front.front back.front (utf8_items (drop (n + m) bs)));
         units = back.units ∙ ap (λ us. us ++ encode form (lossy_after policy b back.front)) front.units ∙ append_assoc x (encode form first) (encode form (lossy_after policy b back.front))
-        ∙ ap (λ us. x ++ us) (sym (encode-append first (lossy_after policy b back.front)) ∙ ap (encode form) (sym joined));
+            ∙ ap (λ us. x ++ us) (sym (encode-append first (lossy_after policy b back.front)) ∙ ap (encode form) (sym joined));
         flag = back.flag ∙ ap (λ f. ends_in_fault f back.front) front.flag ∙ sym (ends_in_fault-append a front.front back.front);
       }
 
