@@ -1,3 +1,4 @@
 mod Buffers
 mod Chunks
 mod Repaired
+mod Windows

@@ -17,7 +17,11 @@ const FEW: usize = 32;
 
 const MANY: usize = 772;
 
-// Puts the units of a text behind a place, as `put_items` does, a piece after another.
+// Units go straight into the buffer while at least so many of them are still to come.
+const WINDOW: usize = 256;
+
+// Puts the units of a text behind a place, as `put_items` does, a piece after another. Behind what it answers, decoding may overwrite units,
+// so that it is given a part of the buffer only where the rest of the text fills it: four bytes have a unit at least.
 fn put_text<C: Unit>(text: &[u8], units: &mut [C], at: usize, piece: &mut [C]) -> usize
     requires text { IsUtf8 text.now }
     requires room { length units.old < 2 ^ 64 - 1 }
@@ -29,6 +33,12 @@ fn put_text<C: Unit>(text: &[u8], units: &mut [C], at: usize, piece: &mut [C]) -
 {
     let mut at = at;
     let mut rest = text;
+    'windows: while rest.len() / 4 >= WINDOW && units.len().saturating_sub(at) >= WINDOW {
+        let len = (rest.len() / 4).min(units.len() - at);
+        let (read, written) = decode_utf8_front(rest, &mut units[at..at + len]);
+        at += written;
+        (_, rest) = rest.split_at(read);
+    }
     'pieces: while !rest.is_empty() {
         let (read, written) = decode_utf8_front(rest, piece);
         at = put_items(units, at, &piece[..written]);
