@@ -1,9 +1,10 @@
 -- Units that alone are characters.
 use Rattle.std.proofs.Common.{◌≡◌, ◌≢◌, ℕ, suc, zero, ◌^◌, ◌<◌, ◌≤◌, Bool, true, false, List, [], ◌∷◌, ◌++◌, inl, inr, refl, sym, ◌∙◌, ap, arith, ◌-◌, length, get_or, take, drop, length-drop, length-take, append_assoc, subst, w16, Fits}
-use Rattle.std.specs.Prelude.{map}
+use Rattle.std.specs.Prelude.{map, not}
 use Rattle.std.specs.Char.{IsScalar}
 use Rattle.std.specs.List.{All}
 use Rattle.std.proofs.lemmas.List.{map-id, map-append, drop-map, take_all, length-map}
+use Rattle.std.proofs.lemmas.List.Sums.{prefix_len_is}
 use Rattle.wide_unit.specs.EncodingForm.{EncodingForm, Utf16, Utf32, IsFault}
 use Rattle.wide_unit.specs.Segmentation.{Char}
 use Rattle.wide_unit.specs.Items.{items, BeginsWithChars}
@@ -46,6 +47,9 @@ no_scalar-place us r e = kind-place is_no_scalar (IsFault Utf32) us r (λ u k is
 is_unit-not : (v u : ℕ) → is_unit v u ≡ false → ¬ (u ≡ v)
 is_unit-not v u e same = grind (arith, e, same)
 
+past-unit : (u code : ℕ) → u < code → not (is_unit code u) ≡ true
+past-unit u code l = grind (arith, l)
+
 module _ {X : Type 0} (number : X → ℕ) (v : ℕ) where
   none-at : (n : ℕ) (xs : List X) → NoneBefore (is_unit v) (map number xs) n → n ≤ length xs → (k : ℕ) (d : X) → k < n → number (get_or (take n xs) k d) ≢ v
   none-at zero xs none within k d l = absurd (omega arith)
@@ -71,6 +75,12 @@ module _ {X : Type 0} (number : X → ℕ) (v : ℕ) where
         let here : is_unit v (get_or (map number xs) (first_place (is_unit v) (map number xs)) 0) ≡ true = place_here (is_unit v) (map number xs) (omega (arith, e, below, length-map xs number)) in
         let same : get_or (map number xs) (first_place (is_unit v) (map number xs)) 0 ≡ v = grind (arith, here) in
         subst (λ n. get_or (map number xs) n 0 ≡ v) (sym e) same
+
+-- no 16-bit unit has a greater number than FFFF
+pub past_units : (us : List ℕ) (code : ℕ) → ((k : ℕ) → Fits w16 (get_or us k 0)) → 0xffff < code → length us ≡ first_place (is_unit code) (map (λ (u : ℕ). u) us)
+past_units us code fits above =
+    let none : (k : ℕ) → k < length us → not (is_unit code (get_or us k 0)) ≡ true = λ k l. past-unit (get_or us k 0) code (omega (arith, (fits k).fits, above)) in
+    sym (ap (λ xs. first_place (is_unit code) xs) (map-id us) ∙ prefix_len_is (λ u. not (is_unit code u)) us (length us) 0 (omega arith) none (λ l. absurd (omega (arith, l))))
 
 -- ---- the items of a list that begins with such units
 

@@ -23,6 +23,7 @@ mod validation;
 
 pub use any_units::AnyUnits;
 pub use compare::{order_of_units, same_units};
+pub use first::first_of;
 pub use lanes::{first_no_scalar, first_surrogate};
 pub use line::split_line;
 pub use nul::first_nul;

@@ -90,7 +90,7 @@ pub trait Unit: Copy {
         ensures { result ≡ length (characters (items form (map number units.now))) };
 
     /// How many units stand before the first of this number: all, where there is none. They are read by blocks.
-    fn place_of(code: u16, units: &[Self]) -> usize
+    fn place_of(code: u32, units: &[Self]) -> usize
         ensures { result ≡ first_place (is_unit code) (map number units.now) };
 
     /// Writes the units to the front of `mended`, with U+FFFD in the place of each that belongs to no character (Unicode Standard,
@@ -222,8 +222,13 @@ impl Unit for u16 {
         units.len() - count_low(units)
     }
 
-    fn place_of(code: u16, units: &[u16]) -> usize {
-        first_same_16(units, code)
+    // No 16-bit unit has a greater number.
+    fn place_of(code: u32, units: &[u16]) -> usize {
+        if code <= 0xFFFF {
+            first_same_16(units, code as u16)
+        } else {
+            units.len()
+        }
     }
 
     fn mend(units: &[u16], mended: &mut [u16]) {
@@ -321,8 +326,8 @@ impl Unit for u32 {
         units.len()
     }
 
-    fn place_of(code: u16, units: &[u32]) -> usize {
-        first_same_32(units, u32::from(code))
+    fn place_of(code: u32, units: &[u32]) -> usize {
+        first_same_32(units, code)
     }
 
     fn mend(units: &[u32], mended: &mut [u32]) {

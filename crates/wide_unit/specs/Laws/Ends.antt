@@ -11,7 +11,7 @@ use Rattle.wide_unit.specs.Laws.Chains.{Chain, nonempty}
 use Rattle.wide_unit.specs.Laws.Items.{IsCut, items-append, items-chain, items-code_units, items-fault, units_of-items, chars-of_well_formed, IsWellFormed-of_chars}
 
 -- where a chain's units end in the first unit of a pair, it ends in that fault
-ends-after : (xs ys front : List ℕ) (h : ℕ) → (ys ≡ [] → ⊥) → xs ++ ys ≡ front ++ h ∷ [] → (rest : List ℕ) × (ys ≡ rest ++ h ∷ [])
+pub ends-after : (xs ys front : List ℕ) (h : ℕ) → (ys ≡ [] → ⊥) → xs ++ ys ≡ front ++ h ∷ [] → (rest : List ℕ) × (ys ≡ rest ++ h ∷ [])
 ends-after [] ys front h some e = (front, e)
 ends-after (x ∷ xs) [] front h some e = absurd (some refl)
 ends-after (x ∷ []) (y ∷ ys) [] h some e = absurd cc

@@ -1,0 +1,5 @@
+-- Proofs that contracts and definitions of this crate cite, and the laws that crates above cite.
+pub mod Stands
+pub mod Numbers
+pub mod Ends
+pub mod Characters

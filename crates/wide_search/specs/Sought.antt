@@ -1,0 +1,11 @@
+-- What is searched for.
+use Rattle.std.specs.Prelude.{List, [], ◌∷◌, Option, Some, None}
+use Rattle.wide_search.specs.declared.part.Few.{Few}
+
+abbrev pub first_and : {C : Type 0} → C → Option C → List C
+first_and u None = u ∷ []
+first_and u (Some v) = u ∷ v ∷ []
+
+-- a unit, and the second where there is one
+abbrev pub units_of_few : {C : Type 0} → Few C → List C
+units_of_few few = first_and few.first few.second

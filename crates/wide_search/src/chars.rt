@@ -1,0 +1,27 @@
+//! Searches for a character in units.
+ghost use Rattle.std.specs.Prelude.{◌+◌, ◌≤◌, length, map, IfNone, IfSome};
+ghost use Rattle.wide_unit.specs.EncodingForm.{code_units};
+ghost use Rattle.wide_search.specs.Parts.{IsFirstAt, IsLastAt, StandsNowhere};
+
+use crate::part::Few;
+use crate::search::{find_in, rfind_in};
+use wide_unit::Unit;
+
+/// The first place at which the character stands in the units, of any values: how many stand before it. None where it stands
+/// nowhere. Half of a surrogate pair is no character, so it is never found.
+pub fn find_char<C: Unit>(units: &[C], c: char) -> Option<usize>
+    ensures first { IfSome result (IsFirstAt (code_units C.form c) (map C.number units.now)) }
+    ensures none { IfNone result (StandsNowhere (code_units C.form c) (map C.number units.now)) }
+    ensures within { IfSome result (λ at. at + length (code_units C.form c) ≤ length units.now) }
+{
+    find_in(units, Few::of_char(c))
+}
+
+/// The last place at which the character stands, as [`find_char`] has the first.
+pub fn rfind_char<C: Unit>(units: &[C], c: char) -> Option<usize>
+    ensures last { IfSome result (IsLastAt (code_units C.form c) (map C.number units.now)) }
+    ensures none { IfNone result (StandsNowhere (code_units C.form c) (map C.number units.now)) }
+    ensures within { IfSome result (λ at. at + length (code_units C.form c) ≤ length units.now) }
+{
+    rfind_in(units, Few::of_char(c))
+}

@@ -1,0 +1,52 @@
+//! The places of a part, from both ends.
+ghost use Rattle.std.specs.Prelude.{IfNone, IfSome};
+ghost use Rattle.wide_search.specs.Parts.{IsFirstAt, IsLastAt, StandsNowhere};
+
+use crate::part::Part;
+use wide_unit::{Unit, first_of};
+
+// The first place of the part. What stands before its first unit is passed by blocks.
+pub(crate) fn find_in<C: Unit, P: Part<C>>(units: &[C], part: P) -> Option<usize>
+    ensures first { IfSome result (IsFirstAt (P.sought part) units.now) }
+    ensures none { IfNone result (StandsNowhere (P.sought part) units.now) }
+{
+    let Some(first) = part.first() else {
+        return Some(0);
+    };
+    let mut at = 0;
+    while at < units.len() {
+        let (_, rest) = units.split_at(at);
+        let Some(step) = first_of(rest, first.code()) else {
+            return None;
+        };
+        let (_, here) = rest.split_at(step);
+        if part.begins(here) {
+            return Some(at + step);
+        }
+        at += step + 1;
+    }
+    None
+}
+
+// The last place of the part.
+pub(crate) fn rfind_in<C: Unit, P: Part<C>>(units: &[C], part: P) -> Option<usize>
+    ensures last { IfSome result (IsLastAt (P.sought part) units.now) }
+    ensures none { IfNone result (StandsNowhere (P.sought part) units.now) }
+{
+    let Some(last) = units.len().checked_sub(part.len()) else {
+        return None;
+    };
+    let (_, rest) = units.split_at(last);
+    if part.begins(rest) {
+        return Some(last);
+    }
+    let mut at = last;
+    while at > 0 {
+        at -= 1;
+        let (_, rest) = units.split_at(at);
+        if part.begins(rest) {
+            return Some(at);
+        }
+    }
+    None
+}
