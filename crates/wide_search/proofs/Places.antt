@@ -1,9 +1,9 @@
 -- Where a part stands, as loops see it.
 use Rattle.std.proofs.Common.{◌≡◌, ◌≢◌, ℕ, zero, suc, ◌+◌, ◌-◌, ◌<◌, ◌≤◌, List, [], ◌∷◌, ◌++◌, inl, inr, refl, sym, ◌∙◌, ap, subst, arith, length, length-append, length-drop, get_or, take, drop, IsTrue, IfNone}
-use Rattle.std.specs.Prelude.{◌↔◌, Option, Some, None}
+use Rattle.std.specs.Prelude.{◌↔◌, ◌==◌, Option, Some, None, true, false}
 use Rattle.std.specs.List.{All}
 use Rattle.std.proofs.lemmas.Bool.{cases_lt}
-use Rattle.std.proofs.lemmas.List.{take-append-drop, take_all}
+use Rattle.std.proofs.lemmas.List.{take-append-drop, take_all, nil_from_length}
 use Rattle.std.proofs.Math.Seq.{take-append_seam, drop-append_seam}
 use Rattle.wide_search.specs.Parts.{StandsAt, StandsNowhere, IsFirstAt, IsLastAt, BeginsWith, EndsWith}
 use Rattle.wide_search.specs.Sought.{first_and}
@@ -102,3 +102,11 @@ module _ {X : Type 0} (number : X → ℕ) where
     | inl earlier ↦ before place earlier stands
     | inr later ↦ (let same : place ≡ at + n = omega (arith, l, later) in here (subst (λ k. StandsAt part us k) same stands))
   ]
+
+-- ---- whether a part has units
+
+pub no-units : {X : Type 0} (us : List X) → true ≡ (length us == 0) → us ≡ []
+no-units us e = nil_from_length us (grind (arith, e))
+
+pub some-units : {X : Type 0} (us : List X) → false ≡ (length us == 0) → 0 < length us
+some-units us e = grind (arith, e)

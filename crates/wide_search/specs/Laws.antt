@@ -3,3 +3,4 @@ pub mod Stands
 pub mod Numbers
 pub mod Ends
 pub mod Characters
+pub mod Cuts

@@ -7,7 +7,10 @@ module _ {A : Type 0} where
     pub within : at + length part ≤ length whole
     pub same : take (length part) (drop at whole) ≡ part
 
-  -- the part stands at no place
+  -- the part stands at some place, and at none
+  abbrev pub StandsIn : List A → List A → Type 0
+  StandsIn part whole = (at : ℕ) × StandsAt part whole at
+
   abbrev pub StandsNowhere : List A → List A → Type 0
   StandsNowhere part whole = (at : ℕ) → ¬ (StandsAt part whole at)
 

@@ -3,4 +3,5 @@ pub mod Indexed
 pub mod Iter
 pub mod LossyWith
 pub mod Lines
+pub mod Split
 pub mod Printed

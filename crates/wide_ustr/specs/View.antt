@@ -12,3 +12,7 @@ units_seen view = view.units.now
 -- the characters of its units, and the units that belong to none
 abbrev pub items_seen : {C : Type 0} → EncodingForm → (C → ℕ) → UStr C → List Item
 items_seen form number view = items form (map number (units_seen view))
+
+-- the numbers of its units
+abbrev pub numbers_seen : {C : Type 0} → (C → ℕ) → UStr C → List ℕ
+numbers_seen number view = map number (units_seen view)

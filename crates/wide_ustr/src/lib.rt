@@ -8,6 +8,8 @@ mod lines;
 mod lossy_text;
 mod lossy_with;
 mod places;
+mod search;
+mod split;
 mod text;
 mod view;
 
@@ -18,4 +20,5 @@ pub use iter::{
 };
 pub use lines::{LineView, Lines};
 pub use lossy_with::{CharsLossyWith, behind_faults};
+pub use split::{Split, SplitView};
 pub use view::{U16Str, U32Str, UStr, WideChar, WideStr};

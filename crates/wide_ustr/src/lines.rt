@@ -1,5 +1,5 @@
 //! The lines of a view.
-ghost use Rattle.std.specs.Prelude.{◌≡◌, ◌<◌, ◌∷◌, List, [], length, map, None, IfNone, IfSome};
+ghost use Rattle.std.specs.Prelude.{◌≡◌, ◌<◌, ◌∷◌, ℕ, List, [], length, map, None, IfNone, IfSome};
 ghost use Rattle.std.specs.Iterator.{YieldsFirstBy, at_most, UpTo};
 ghost use Rattle.std.specs.Iterator.SizeHint.{IsWithinCount};
 ghost use Rattle.wide_unit.specs.Segmentation.{Item};
@@ -19,11 +19,16 @@ pub trait LineView: Copy {
     // The characters of the view, and its units that belong to none.
     ghost items_seen: { Self → List Item };
 
+    // How many units it has.
+    ghost units_len: { Self → ℕ };
+
     /// The first line, and the view after it: a line feed (U+000A) ends the line, and with it one carriage return (U+000D) right
-    /// before it; neither belongs to a line. None where the view has no units.
+    /// before it; neither belongs to a line. None where the view has no units. The view after it is shorter, so that a loop over what is left
+    /// ends.
     fn first_line(self) -> Option<(Self, Self)>
         ensures none { IfNone result (lines_of (items_seen self) ≡ []) }
-        ensures some { IfSome result (λ r. lines_of (items_seen self) ≡ items_seen r.0 ∷ lines_of (items_seen r.1)) };
+        ensures some { IfSome result (λ r. lines_of (items_seen self) ≡ items_seen r.0 ∷ lines_of (items_seen r.1)) }
+        ensures shorter { IfSome result (λ r. units_len r.1 < units_len self) };
 }
 
 /// The lines of a view, from the front. Made by [`UStr::lines_lossy`](crate::UStr::lines_lossy) and by `lines` of well-formed
@@ -70,9 +75,11 @@ impl<V: LineView> Iterator for Lines<V> {
 impl<V: LineView> FusedIterator for Lines<V> {}
 
 impl<C: FaultUnit> LineView for UStr<'_, C> {
-    ghost use Rattle.wide_ustr.specs.View.{items_seen};
+    ghost use Rattle.wide_ustr.specs.View.{units_seen, items_seen};
 
     ghost items_seen = { items_seen C.form C.number };
+
+    ghost units_len = { λ view. length (units_seen view) };
 
     fn first_line(self) -> Option<(Self, Self)> {
         let (line, rest) = split_line(self.as_slice())?;

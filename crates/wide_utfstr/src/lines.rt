@@ -1,5 +1,5 @@
 //! The lines of well-formed text.
-ghost use Rattle.std.specs.Prelude.{◌≡◌, map};
+ghost use Rattle.std.specs.Prelude.{◌≡◌, length, map};
 ghost use Rattle.wide_unit.specs.Items.{items};
 ghost use Rattle.wide_unit.specs.Lines.{lines_of};
 ghost use Rattle.wide_ustr.specs.Lines.{lines_left};
@@ -11,6 +11,8 @@ use wide_ustr::{LineView, Lines};
 
 impl<C: Unit> LineView for UtfStr<'_, C> {
     ghost items_seen = { items_seen C.form C.number };
+
+    ghost units_len = { λ view. length (units_seen view) };
 
     fn first_line(self) -> Option<(Self, Self)> {
         let (line, rest) = split_line(self.as_slice())?;

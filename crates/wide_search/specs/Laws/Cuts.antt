@@ -1,0 +1,49 @@
+-- The pieces by the first place of the part.
+use Rattle.std.proofs.Common.{◌≡◌, ℕ, zero, suc, ◌+◌, ◌<◌, List, [], ◌∷◌, ◌++◌, refl, sym, ◌∙◌, ap, subst, arith, length, length-append, take, drop, append_assoc}
+use Rattle.std.specs.Prelude.{map}
+use Rattle.std.proofs.lemmas.List.{length-map, map-append}
+use Rattle.std.proofs.Math.Seq.{take-append_seam, drop-append_seam}
+use Rattle.wide_search.specs.Parts.{StandsNowhere, IsFirstAt, IsFirstSplit}
+use Rattle.wide_search.specs.Pieces.{ArePieces}
+use Rattle.wide_search.specs.Cut.{pieces, pieces-are, pieces-whole}
+use Rattle.wide_search.specs.Laws.Stands.{pieces-unique}
+use Rattle.wide_search.specs.Laws.Numbers.{first-numbers, nowhere-numbers}
+
+-- where it stands nowhere the list is the only piece
+pieces-none : (part whole : List ℕ) → StandsNowhere part whole → pieces part whole ≡ whole ∷ []
+pieces-none [] whole nowhere = pieces-whole whole
+pieces-none (p ∷ part) whole nowhere = pieces-unique (p ∷ part) (pieces (p ∷ part) whole) (whole ∷ []) whole (pieces-are (p ∷ part) whole (omega arith)) (refl, nowhere)
+
+-- a first piece, and those of what lies behind the part
+are-before : (part whole front rest : List ℕ) (ps : List (List ℕ)) → IsFirstSplit part whole front rest → ArePieces part rest ps → ArePieces part whole (front ∷ ps)
+are-before part whole front rest [] split are = absurd are
+are-before part whole front rest (p ∷ ps) split are =
+    let at : take (length front) whole ≡ front = ap (take (length front)) split.joined ∙ take-append_seam front (part ++ rest) in
+    let long : length front + length part ≡ length (front ++ part) = sym (length-append front part) in
+    let behind : drop (length front + length part) whole ≡ rest =
+        ap (λ n. drop n whole) long ∙ ap (λ xs. drop (length (front ++ part)) xs) (split.joined ∙ sym (append_assoc front part rest)) ∙ drop-append_seam (front ++ part) rest in
+    (split.first, sym at, subst (λ xs. ArePieces part xs (p ∷ ps)) (sym behind) are)
+
+pieces-first : (part whole front rest : List ℕ) → 0 < length part → IsFirstSplit part whole front rest → pieces part whole ≡ front ∷ pieces part rest
+pieces-first part whole front rest some split =
+    pieces-unique part (pieces part whole) (front ∷ pieces part rest) whole (pieces-are part whole some) (are-before part whole front rest (pieces part rest) split (pieces-are part rest some))
+
+-- the same of units of any width, by their numbers
+module _ {X : Type 0} (number : X → ℕ) (same : (x y : X) → number x ≡ number y → x ≡ y) (part us : List X) where
+  pub pieces-nowhere : StandsNowhere part us → pieces (map number part) (map number us) ≡ map number us ∷ []
+  pieces-nowhere nowhere = pieces-none (map number part) (map number us) (nowhere-numbers number same part us nowhere)
+
+  pub pieces-empty : part ≡ [] → pieces (map number part) (map number us) ≡ map number us ∷ []
+  pieces-empty e = ap (λ xs. pieces (map number xs) (map number us)) e ∙ pieces-whole (map number us)
+
+  pub split-numbers : (front rest : List X) → IsFirstSplit part us front rest → IsFirstSplit (map number part) (map number us) (map number front) (map number rest)
+  split-numbers front rest split = record {
+    joined = ap (map number) split.joined ∙ map-append number front (part ++ rest) ∙ ap (λ xs. map number front ++ xs) (map-append number part rest);
+    first = subst (λ n. IsFirstAt (map number part) (map number us) n) (sym (length-map front number)) (first-numbers number same part us (length front) split.first);
+  }
+
+  pub pieces-split : (front rest : List X) → 0 < length part → IsFirstSplit part us front rest → pieces (map number part) (map number us) ≡ map number front ∷ pieces (map number part) (map number rest)
+  pieces-split front rest some split = pieces-first (map number part) (map number us) (map number front) (map number rest) (omega (arith, some, length-map part number)) (split-numbers front rest split)
+
+pub pieces-cut : {X : Type 0} (number : X → ℕ) (part us : List X) → 0 < length part → ArePieces (map number part) (map number us) (pieces (map number part) (map number us))
+pieces-cut number part us some = pieces-are (map number part) (map number us) (omega (arith, some, length-map part number))

@@ -1,0 +1,12 @@
+-- What an iterator over the pieces of a view has left.
+use Rattle.std.specs.Prelude.{ℕ, List, [], Option, Some, None}
+use Rattle.wide_search.specs.Cut.{pieces}
+use Rattle.wide_ustr.specs.declared.split.Split.{Split}
+
+abbrev pub pieces_of_rest : {V : Type 0} → (V → List ℕ) → List ℕ → Option V → List (List ℕ)
+pieces_of_rest seen part None = []
+pieces_of_rest seen part (Some view) = pieces part (seen view)
+
+-- the numbers of the units of each piece to come, by what they are of a view and of a part
+abbrev pub pieces_left : {V P : Type 0} → (V → List ℕ) → (P → List ℕ) → Split V P → List (List ℕ)
+pieces_left seen sought s = pieces_of_rest seen (sought s.part) s.rest
