@@ -6,6 +6,7 @@
 mod compare;
 mod display;
 pub mod laws;
+mod search;
 mod text;
 mod view;
 
@@ -14,5 +15,5 @@ pub use view::{U16CStr, U32CStr, UCStr, WideCStr};
 pub use wide_ustr::{
     CharIndices, CharIndicesLossy, CharIndicesLossyUtf16, CharIndicesLossyUtf32, CharIndicesUtf16,
     CharIndicesUtf32, Chars, CharsLossy, CharsLossyUtf16, CharsLossyUtf32, CharsLossyWith,
-    CharsUtf16, CharsUtf32, Display, DisplaySkipping,
+    CharsUtf16, CharsUtf32, Display, DisplaySkipping, Split, SplitView,
 };

@@ -2,14 +2,17 @@
 ghost use Rattle.std.specs.Prelude.{◌≡◌, ◌↔◌, ◌+◌, ◌++◌, ◌∷◌, [], ◌≤◌, ◌<◌, length, map, IsTrue, IsSome, IfNone, IfSome};
 ghost use Rattle.wide_unit.specs.EncodingForm.{code_units};
 ghost use Rattle.wide_search.specs.Parts.{StandsIn, IsFirstAt, IsLastAt, StandsNowhere, BeginsWith, EndsWith, IsFirstSplit, IsLastSplit};
-ghost use Rattle.wide_ustr.specs.View.{units_seen};
+ghost use Rattle.wide_search.specs.Pieces.{ArePieces};
+ghost use Rattle.wide_search.specs.Cut.{pieces};
+ghost use Rattle.wide_ustr.specs.Split.{pieces_left};
+ghost use Rattle.wide_ustr.specs.View.{units_seen, numbers_seen};
 ghost use Rattle.wide_ucstr.specs.View.{contents_seen};
 
 use crate::view::UCStr;
-use wide_unit::Unit;
 use wide_ustr::{Split, UStr};
+use wide_utferror::FaultUnit;
 
-impl<'a, C: Unit> UCStr<'a, C> {
+impl<'a, C: FaultUnit> UCStr<'a, C> {
     /// Whether the view begins with the units of the other. It does where that has none.
     pub fn starts_with(self, part: UCStr<'_, C>) -> bool
         ensures { IsTrue result ↔ BeginsWith (contents_seen part.entry) (contents_seen self.entry) }
@@ -122,5 +125,12 @@ impl<'a, C: Unit> UCStr<'a, C> {
         ensures none { IfNone result (StandsNowhere (contents_seen part.entry) (contents_seen self.entry)) }
     {
         self.as_ustr().rsplit_once(part.as_ustr())
+    }
+    /// The pieces of the contents between the places of the other view's contents, as [`UStr::split`] has them.
+    pub fn split<'p>(self, part: UCStr<'p, C>) -> Split<UStr<'a, C>, UStr<'p, C>>
+        ensures left { pieces_left (numbers_seen C.number) (numbers_seen C.number) result ≡ pieces (map C.number (contents_seen part.entry)) (map C.number (contents_seen self.entry)) }
+        ensures cut { 0 < length (contents_seen part.entry) → ArePieces (map C.number (contents_seen part.entry)) (map C.number (contents_seen self.entry)) (pieces_left (numbers_seen C.number) (numbers_seen C.number) result) }
+    {
+        self.as_ustr().split(part.as_ustr())
     }
 }
