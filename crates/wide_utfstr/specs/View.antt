@@ -17,3 +17,7 @@ text_seen {g = g} view = chars g.form (map g.number view.units.now)
 -- the items of its units, which are its characters alone
 abbrev pub items_seen : {C : Type 0} {g : Ghosts C} → EncodingForm → (C → ℕ) → UtfStr C g → List Item
 items_seen form number view = items form (map number (units_seen view))
+
+-- the numbers of its units
+abbrev pub numbers_seen : {C : Type 0} {g : Ghosts C} → (C → ℕ) → UtfStr C g → List ℕ
+numbers_seen number view = map number (units_seen view)

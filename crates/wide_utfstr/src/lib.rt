@@ -1,12 +1,14 @@
 //! Views of well-formed text, in units of 16 or 32 bits: UTF-16 and UTF-32.
 #![tactic(auto)]
 
+mod boundaries;
 mod compared;
 mod compared_units;
 mod display;
 mod escapes;
 mod iter;
 mod lines;
+mod search;
 mod text;
 mod trim;
 mod view;
@@ -21,4 +23,4 @@ pub use iter::{
 };
 pub use view::{Utf16Str, Utf32Str, UtfStr, WideUtfStr};
 pub use wide_unit::{FirstFault, check};
-pub use wide_ustr::Lines;
+pub use wide_ustr::{Lines, Split, SplitView};

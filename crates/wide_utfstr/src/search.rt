@@ -35,7 +35,8 @@ impl<C: Unit> UtfStr<'_, C> {
     }
 
     /// The first place, in units, at which the other view's units stand in this one: how many units stand before it. None where they
-    /// stand nowhere. An empty view stands at the start. Units may be of any values, so that a place may lie within a surrogate pair.
+    /// stand nowhere. An empty view stands at the start. The
+    /// place is a boundary, and so is the place behind the other view.
     ///
     /// What stands before the first unit of the other view is passed by blocks, and from there on units are compared up to the first that
     /// differs. So the worst case, where a long front of it stands nearly everywhere, is the product of both lengths.
@@ -61,8 +62,8 @@ impl<C: Unit> UtfStr<'_, C> {
         wide_search::rfind(self.as_slice(), part.as_slice())
     }
 
-    /// The first place, in units, at which the character stands: how many units stand before it. None where it stands nowhere. Half of a
-    /// surrogate pair is no character, so it is not found, and both the place and the one behind the character lie between two items.
+    /// The first place, in units, at which the character stands: how many units stand before it. None where it stands nowhere. The place
+    /// is a boundary, and so is the place behind the character.
     pub fn find_char(self, c: char) -> Option<usize>
         ensures first { IfSome result (IsFirstAt (code_units C.form c) (map C.number (units_seen self.entry))) }
         ensures none { IfNone result (StandsNowhere (code_units C.form c) (map C.number (units_seen self.entry))) }
@@ -89,8 +90,11 @@ impl<C: Unit> UtfStr<'_, C> {
         ensures some { IsSome result ↔ BeginsWith (units_seen part.entry) (units_seen self.entry) }
         ensures rest { IfSome result (λ rest. units_seen self.entry ≡ units_seen part.entry ++ units_seen rest) }
     {
-        let rest = wide_search::strip_prefix(self.as_slice(), part.as_slice())?;
-        Some(UtfStr::from_slice_unchecked(rest))
+        if !self.starts_with(part) {
+            return None;
+        }
+        let (_, rest) = self.split_at(part.len());
+        Some(rest)
     }
 
     /// The units before those of the other view, where this one ends with them, and else none.
@@ -98,8 +102,11 @@ impl<C: Unit> UtfStr<'_, C> {
         ensures some { IsSome result ↔ EndsWith (units_seen part.entry) (units_seen self.entry) }
         ensures front { IfSome result (λ front. units_seen self.entry ≡ units_seen front ++ units_seen part.entry) }
     {
-        let front = wide_search::strip_suffix(self.as_slice(), part.as_slice())?;
-        Some(UtfStr::from_slice_unchecked(front))
+        if !self.ends_with(part) {
+            return None;
+        }
+        let (front, _) = self.split_at(self.len() - part.len());
+        Some(front)
     }
 
     /// What stands before the other view's units, and behind them, at their first place. None where they stand nowhere.
@@ -107,8 +114,12 @@ impl<C: Unit> UtfStr<'_, C> {
         ensures first { IfSome result (λ r. IsFirstSplit (units_seen part.entry) (units_seen self.entry) (units_seen r.0) (units_seen r.1)) }
         ensures none { IfNone result (StandsNowhere (units_seen part.entry) (units_seen self.entry)) }
     {
-        let (front, rest) = wide_search::split_once(self.as_slice(), part.as_slice())?;
-        Some((UtfStr::from_slice_unchecked(front), UtfStr::from_slice_unchecked(rest)))
+        let Some(at) = self.find(part) else {
+            return None;
+        };
+        let (front, _) = self.split_at(at);
+        let (_, rest) = self.split_at(at + part.len());
+        Some((front, rest))
     }
 
     /// What stands before the other view's units, and behind them, at their last place. None where they stand nowhere.
@@ -116,7 +127,57 @@ impl<C: Unit> UtfStr<'_, C> {
         ensures last { IfSome result (λ r. IsLastSplit (units_seen part.entry) (units_seen self.entry) (units_seen r.0) (units_seen r.1)) }
         ensures none { IfNone result (StandsNowhere (units_seen part.entry) (units_seen self.entry)) }
     {
-        let (front, rest) = wide_search::rsplit_once(self.as_slice(), part.as_slice())?;
-        Some((UtfStr::from_slice_unchecked(front), UtfStr::from_slice_unchecked(rest)))
+        let Some(at) = self.rfind(part) else {
+            return None;
+        };
+        let (front, _) = self.split_at(at);
+        let (_, rest) = self.split_at(at + part.len());
+        Some((front, rest))
+    }
+
+    /// The pieces between the places of the other view, each well formed, from the front: each place is the first behind the one before, so
+    /// that places never overlap. Where they stand at the start, at the end or one behind another, the piece there is empty; where they
+    /// stand nowhere, and where the other view is empty, the whole text is the only piece.
+    pub fn split<'p>(self, part: UtfStr<'p, C>) -> Split<Self, UtfStr<'p, C>>
+        ensures left { pieces_left (numbers_seen C.number) (numbers_seen C.number) result ≡ pieces (map C.number (units_seen part.entry)) (map C.number (units_seen self.entry)) }
+        ensures cut { 0 < length (units_seen part.entry) → ArePieces (map C.number (units_seen part.entry)) (map C.number (units_seen self.entry)) (pieces_left (numbers_seen C.number) (numbers_seen C.number) result) }
+    {
+        Split::new(self, part)
+    }
+
+    /// The pieces between the places of the character, as [`UtfStr::split`] has them between those of a view.
+    pub fn split_char(self, c: char) -> Split<Self, char>
+        ensures left { pieces_left (numbers_seen C.number) (code_units C.form) result ≡ pieces (code_units C.form c) (map C.number (units_seen self.entry)) }
+        ensures cut { ArePieces (code_units C.form c) (map C.number (units_seen self.entry)) (pieces_left (numbers_seen C.number) (code_units C.form) result) }
+    {
+        Split::new(self, c)
+    }
+}
+
+impl<'a, C: Unit> SplitView<UtfStr<'a, C>> for UtfStr<'_, C> {
+    ghost numbers_seen = { numbers_seen C.number };
+
+    ghost part_numbers = { numbers_seen C.number };
+
+    fn cut_first(self, part: UtfStr<'a, C>) -> Option<(Self, Self)> {
+        if part.is_empty() {
+            return None;
+        }
+        self.split_once(part)
+    }
+}
+
+impl<C: Unit> SplitView<char> for UtfStr<'_, C> {
+    ghost numbers_seen = { numbers_seen C.number };
+
+    ghost part_numbers = { code_units C.form };
+
+    fn cut_first(self, c: char) -> Option<(Self, Self)> {
+        let Some(at) = self.find_char(c) else {
+            return None;
+        };
+        let (piece, _) = self.split_at(at);
+        let (_, rest) = self.split_at(at + C::char_len(c));
+        Some((piece, rest))
     }
 }

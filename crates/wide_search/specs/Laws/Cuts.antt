@@ -1,16 +1,16 @@
 -- The pieces by the first place of the part.
 use Rattle.std.proofs.Common.{◌≡◌, ℕ, zero, suc, ◌+◌, ◌<◌, List, [], ◌∷◌, ◌++◌, refl, sym, ◌∙◌, ap, subst, arith, length, length-append, take, drop, append_assoc}
 use Rattle.std.specs.Prelude.{map}
-use Rattle.std.proofs.lemmas.List.{length-map, map-append}
+use Rattle.std.proofs.lemmas.List.{length-map, map-append, take-map, drop-map, length-take-le}
 use Rattle.std.proofs.Math.Seq.{take-append_seam, drop-append_seam}
 use Rattle.wide_search.specs.Parts.{StandsNowhere, IsFirstAt, IsFirstSplit}
 use Rattle.wide_search.specs.Pieces.{ArePieces}
 use Rattle.wide_search.specs.Cut.{pieces, pieces-are, pieces-whole}
-use Rattle.wide_search.specs.Laws.Stands.{pieces-unique}
+use Rattle.wide_search.specs.Laws.Stands.{pieces-unique, parted}
 use Rattle.wide_search.specs.Laws.Numbers.{first-numbers, nowhere-numbers}
 
 -- where it stands nowhere the list is the only piece
-pieces-none : (part whole : List ℕ) → StandsNowhere part whole → pieces part whole ≡ whole ∷ []
+pub pieces-none : (part whole : List ℕ) → StandsNowhere part whole → pieces part whole ≡ whole ∷ []
 pieces-none [] whole nowhere = pieces-whole whole
 pieces-none (p ∷ part) whole nowhere = pieces-unique (p ∷ part) (pieces (p ∷ part) whole) (whole ∷ []) whole (pieces-are (p ∷ part) whole (omega arith)) (refl, nowhere)
 
@@ -24,7 +24,7 @@ are-before part whole front rest (p ∷ ps) split are =
         ap (λ n. drop n whole) long ∙ ap (λ xs. drop (length (front ++ part)) xs) (split.joined ∙ sym (append_assoc front part rest)) ∙ drop-append_seam (front ++ part) rest in
     (split.first, sym at, subst (λ xs. ArePieces part xs (p ∷ ps)) (sym behind) are)
 
-pieces-first : (part whole front rest : List ℕ) → 0 < length part → IsFirstSplit part whole front rest → pieces part whole ≡ front ∷ pieces part rest
+pub pieces-first : (part whole front rest : List ℕ) → 0 < length part → IsFirstSplit part whole front rest → pieces part whole ≡ front ∷ pieces part rest
 pieces-first part whole front rest some split =
     pieces-unique part (pieces part whole) (front ∷ pieces part rest) whole (pieces-are part whole some) (are-before part whole front rest (pieces part rest) split (pieces-are part rest some))
 
@@ -47,3 +47,16 @@ module _ {X : Type 0} (number : X → ℕ) (same : (x y : X) → number x ≡ nu
 
 pub pieces-cut : {X : Type 0} (number : X → ℕ) (part us : List X) → 0 < length part → ArePieces (map number part) (map number us) (pieces (map number part) (map number us))
 pieces-cut number part us some = pieces-are (map number part) (map number us) (omega (arith, some, length-map part number))
+
+-- a part of numbers at its first place among those of units, by the units before it and behind it
+pub split-at : {X : Type 0} (number : X → ℕ) (part : List ℕ) (us front rest : List X) (at n : ℕ) → n ≡ length part → IsFirstAt part (map number us) at → front ≡ take at us → rest ≡ drop (at + n) us
+    → IsFirstSplit part (map number us) (map number front) (map number rest)
+split-at number part us front rest at n count first is_front is_rest =
+    let before : take at (map number us) ≡ map number front = take-map number at us ∙ ap (map number) (sym is_front) in
+    let behind : drop (at + length part) (map number us) ≡ map number rest =
+        ap (λ k. drop (at + k) (map number us)) (sym count) ∙ drop-map number (at + n) us ∙ ap (map number) (sym is_rest) in
+    let long : at ≡ length (map number front) = sym (length-take-le at (map number us) (omega (arith, first.here.within))) ∙ ap length before in
+    record {
+      joined = parted part (map number us) at first.here ∙ ap (λ xs. xs ++ (part ++ drop (at + length part) (map number us))) before ∙ ap (λ xs. map number front ++ (part ++ xs)) behind;
+      first = subst (λ k. IsFirstAt part (map number us) k) long first;
+    }

@@ -1,0 +1,13 @@
+use Rattle.std.proofs.Common.{sym, subst}
+use Rattle.std.specs.Prelude.{map}
+use Rattle.wide_search.specs.Pieces.{ArePieces}
+use Rattle.wide_search.specs.Laws.Cuts.{pieces-cut}
+use Rattle.wide_utfstr.specs.View.{units_seen}
+use Rattle.wide_utfstr.proofs.view.UtfStr.split.Goals as goal
+
+pub returns-clause-cut : goal.returns-clause-cut
+returns-clause-cut g c = λ some.
+    let number = g.C.Unit.number in
+    let part = units_seen c.args.part in
+    let us = units_seen c.args.self in
+    subst (λ ps. ArePieces (map number part) (map number us) ps) (sym c.new.ensures) (pieces-cut number part us some)
