@@ -1,10 +1,12 @@
 -- What the unit at a place of well-formed units tells of it, over the units of any type.
-use Rattle.std.proofs.Common.{◌≡◌, ℕ, ◌+◌, ◌<◌, ◌≤◌, List, [], ◌∷◌, take, drop, length-append, length-take, Bool, true, false, not, nat_eq, refl, sym, ◌∙◌, ap, subst, arith, eq-eqb, map, length, get_or, IsTrue, ◌↔◌}
+use Rattle.std.proofs.Common.{◌≡◌, ℕ, zero, suc, inl, inr, ◌-◌, ◌+◌, ◌<◌, ◌≤◌, List, [], ◌∷◌, take, drop, length-append, length-take, Bool, true, false, not, nat_eq, refl, sym, ◌∙◌, ap, subst, arith, eq-eqb, map, length, get_or, IsTrue, ◌↔◌}
 use Rattle.std.proofs.lemmas.List.{length-map, get_or-map, get_or-take, get_or_at, take-append-drop, length-take-le}
 use borrow.Author.Tests.{eqb-true}
 use Rattle.wide_unit.specs.EncodingForm.{EncodingForm, Utf16, Utf32, IsHighSurrogate, IsLowSurrogate}
 use Rattle.wide_unit.specs.Items.{items, IsWellFormed, IsBoundary}
 use Rattle.wide_unit.specs.Places.{IsCharBoundary}
+use Rattle.wide_utfstr.specs.Boundaries.{IsFloorBoundary, IsCeilBoundary}
+use Rattle.std.proofs.lemmas.Bool.{cases_eq}
 use Rattle.wide_unit.specs.Laws.Forms.{IsPair-parts}
 use Rattle.wide_unit.specs.Laws.Items.{IsCut}
 use Rattle.wide_unit.specs.Laws.Boundaries.{IsBoundary-at, IsBoundary-end, IsBoundary-of_cut, no-low_at_boundary}
@@ -52,10 +54,48 @@ module _ (form : EncodingForm) (us : List ℕ) (n : ℕ) (well : IsWellFormed fo
       let unit : get_or us n 0 ≡ h = sym (get_or-take (n + 1) us n 0 (omega arith)) ∙ ap (λ xs. get_or xs n 0) e ∙ get_or_at front h [] 0 n long in
       not_both form h (IsPair-parts form h l pair).0 (subst (λ u. IsLowSurrogate form u) unit low)
 
+  pub behind-boundary : IsLowSurrogate form (get_or us n 0) → IsBoundary form us (n + 1)
+  behind-boundary low =
+      let b = IsBoundary-of_cut form (take (n + 1) us) (drop (n + 1) us) (behind_low low) in
+      (b.0, b.1, ap (λ xs. items form xs) (sym (take-append-drop (n + 1) us)) ∙ b.2, b.3 ∙ length-take-le (n + 1) us (omega arith))
+
   pub boundary_before : ¬ (IsCharBoundary form us (n + 1)) → IsCharBoundary form us n
-  boundary_before none = (omega arith, λ some within low. none (omega arith, λ _ _ second. no-low_at_boundary form us (n + 1) well below (place low) second))
-    where
-      place : IsLowSurrogate form (get_or us n 0) → IsBoundary form us (n + 1)
-      place low =
-          let b = IsBoundary-of_cut form (take (n + 1) us) (drop (n + 1) us) (behind_low low) in
-          (b.0, b.1, ap (λ xs. items form xs) (sym (take-append-drop (n + 1) us)) ∙ b.2, b.3 ∙ length-take-le (n + 1) us (omega arith))
+  boundary_before none = (omega arith, λ some within low. none (omega arith, λ _ _ second. no-low_at_boundary form us (n + 1) well below (behind-boundary low) second))
+
+above-of_other : (n other : ℕ) → n ≤ other → (other ≡ n → ⊥) → n + 1 ≤ other
+above-of_other n other l apart = grind (arith, l, apart)
+
+below-of_other : (other n : ℕ) → other ≤ suc n → (other ≡ suc n → ⊥) → other ≤ n
+below-of_other other n l apart = grind (arith, l, apart)
+
+-- and behind it
+module _ (form : EncodingForm) (us : List ℕ) (n : ℕ) (well : IsWellFormed form us) where
+  pub boundary_behind : n < length us → ¬ (IsCharBoundary form us n) → IsCharBoundary form us (n + 1)
+  boundary_behind here none = (omega (arith, here), λ some within second. none (omega (arith, here), λ _ _ low. no-low_at_boundary form us (n + 1) well within (behind-boundary form us n well within low) second))
+
+  pub behind-ceil : n < length us → ¬ (IsCharBoundary form us n) → IsCeilBoundary form us n (n + 1)
+  behind-ceil below none = record {
+    boundary = boundary_behind below none;
+    within = λ l. omega arith;
+    least = λ other here l. elim (cases_eq other n) [
+      | inl same ↦ absurd (none (subst (λ k. IsCharBoundary form us k) same here))
+      | inr apart ↦ above-of_other n other l apart
+    ];
+    past = λ l. absurd (omega (arith, below, l));
+  }
+
+pub before-floor : (form : EncodingForm) (us : List ℕ) (n : ℕ) → IsWellFormed form us → n < length us → ¬ (IsCharBoundary form us n) → IsFloorBoundary form us n (n - 1)
+before-floor form us zero well below none = absurd (none (omega arith, λ some within. absurd (omega (arith, some))))
+before-floor form us (suc n) well below none =
+    let once : suc n ≡ n + 1 = omega arith in
+    let there : suc n - 1 ≡ n = omega arith in
+    let below_there : n + 1 < length us = omega (arith, below) in
+    let before = boundary_before form us n well below_there (subst (λ k. ¬ (IsCharBoundary form us k)) once none) in
+    record {
+      boundary = subst (λ k. IsCharBoundary form us k) (sym there) before;
+      within = omega arith;
+      greatest = λ other here l. elim (cases_eq other (suc n)) [
+        | inl same ↦ absurd (none (subst (λ k. IsCharBoundary form us k) same here))
+        | inr apart ↦ (let less : other ≤ n = below-of_other other n l apart in omega (arith, less))
+      ];
+    }

@@ -1,4 +1,5 @@
 pub mod View
+pub mod Boundaries
 pub mod Trim
 pub mod Indexed
 pub mod Iter

@@ -1,6 +1,6 @@
 //! The boundaries around a place.
 ghost use Rattle.std.specs.Prelude.{map};
-ghost use Rattle.wide_unit.specs.Places.{IsFloorBoundary, IsCeilBoundary};
+ghost use Rattle.wide_utfstr.specs.Boundaries.{IsFloorBoundary, IsCeilBoundary};
 ghost use Rattle.wide_utfstr.specs.View.{units_seen};
 
 use crate::view::UtfStr;

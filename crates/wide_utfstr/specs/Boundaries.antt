@@ -1,0 +1,17 @@
+-- The boundaries around a place of well-formed units.
+use Rattle.std.specs.Prelude.{◌≡◌, ◌≤◌, ℕ, List, length}
+use Rattle.wide_unit.specs.EncodingForm.{EncodingForm}
+use Rattle.wide_unit.specs.Places.{IsCharBoundary}
+
+-- the last at or before it
+pub record IsFloorBoundary (form : EncodingForm) (units : List ℕ) (place at : ℕ) : Type 0 where
+  pub boundary : IsCharBoundary form units at
+  pub within : at ≤ place
+  pub greatest : (other : ℕ) → IsCharBoundary form units other → other ≤ place → other ≤ at
+
+-- the first at or behind it, or the end where it lies past that
+pub record IsCeilBoundary (form : EncodingForm) (units : List ℕ) (place at : ℕ) : Type 0 where
+  pub boundary : IsCharBoundary form units at
+  pub within : place ≤ length units → place ≤ at
+  pub least : (other : ℕ) → IsCharBoundary form units other → place ≤ other → at ≤ other
+  pub past : length units ≤ place → at ≡ length units
