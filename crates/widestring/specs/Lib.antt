@@ -14,6 +14,10 @@ pub use Rattle.wide_unit.specs.Utf8
 pub use Rattle.wide_unit.specs.CodePoint
 pub use Rattle.wide_unit.specs.Searches
 pub use Rattle.wide_unit.specs.Statements
+pub use Rattle.wide_search.specs.Parts
+pub use Rattle.wide_search.specs.Pieces as SearchPieces
+pub use Rattle.wide_search.specs.Cut as SearchCut
+pub use Rattle.wide_search.specs.Statements as SearchStatements
 pub use Rattle.wide_error.specs.Nul as NulPlaces
 pub use Rattle.wide_error.specs.NulError
 pub use Rattle.wide_error.specs.UCStringError
@@ -38,6 +42,7 @@ pub use Rattle.wide_ustr.specs.Iter as UnitIter
 pub use Rattle.wide_ustr.specs.Indexed as UnitIndexed
 pub use Rattle.wide_ustr.specs.LossyWith as UnitLossyWith
 pub use Rattle.wide_ustr.specs.Lines as LinesLeft
+pub use Rattle.wide_ustr.specs.Split
 pub use Rattle.wide_ustr.specs.Printed
 pub use Rattle.wide_ustring.specs.Units
 pub use Rattle.wide_ustring.specs.CowUnits
@@ -54,6 +59,7 @@ pub use Rattle.wide_ucstring.specs.Made
 pub use Rattle.wide_ucstring.specs.Refused
 pub use Rattle.wide_utfstr.specs.View
 pub use Rattle.wide_utfstr.specs.Iter
+pub use Rattle.wide_utfstr.specs.Boundaries
 pub use Rattle.wide_utfstr.specs.Indexed
 pub use Rattle.wide_utfstr.specs.Trim
 pub use Rattle.wide_utfstr.specs.Escapes

@@ -9,5 +9,6 @@ pub mod edits;
 pub mod faults;
 pub mod lockstep;
 pub mod places32;
+pub mod searches;
 pub mod texts;
 pub mod words;

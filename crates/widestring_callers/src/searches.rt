@@ -1,0 +1,145 @@
+//! Texts cut and edited where something was found in them.
+ghost use Rattle.std.specs.Prelude.{◌≡◌, ◌<◌, ◌≤◌, ◌++◌, length, IfSome};
+ghost use Rattle.widestring.specs.View.{units_seen};
+ghost use Rattle.widestring.specs.UnitView.{units_seen as ustr_units};
+
+use widestring::error::{FaultUnit, OutOfMemory};
+use widestring::unit::Unit;
+use widestring::utfstr::UtfStr;
+use widestring::utfstring::UtfString;
+use widestring::{U16CStr, U16Str, Utf16Str, Utf16String};
+
+/// The text before the part, and the text behind it.
+pub fn around<'a>(
+    text: Utf16Str<'a>,
+    part: Utf16Str<'_>,
+) -> Option<(Utf16Str<'a>, Utf16Str<'a>)> {
+    let at = text.find(part)?;
+    let (front, _) = text.split_at(at);
+    let (_, rest) = text.split_at(at + part.len());
+    Some((front, rest))
+}
+
+/// The same at its last place, at any width.
+pub fn around_last<'a, C: Unit>(
+    text: UtfStr<'a, C>,
+    part: UtfStr<'_, C>,
+) -> Option<(UtfStr<'a, C>, UtfStr<'a, C>)> {
+    let at = text.rfind(part)?;
+    let (front, _) = text.split_at(at);
+    let (_, rest) = text.split_at(at + part.len());
+    Some((front, rest))
+}
+
+/// The text behind the part, which a range gives.
+pub fn behind<'a>(text: Utf16Str<'a>, part: Utf16Str<'_>) -> Option<Utf16Str<'a>> {
+    let at = text.find(part)?;
+    let Some(rest) = text.get(at + part.len()..) else {
+        unreachable!()
+    };
+    Some(rest)
+}
+
+/// The text behind the last such character, at any width.
+pub fn behind_char<C: Unit>(text: UtfStr<'_, C>, c: char) -> Option<UtfStr<'_, C>> {
+    let at = text.rfind_char(c)?;
+    let (_, rest) = text.split_at(at + C::char_len(c));
+    Some(rest)
+}
+
+/// A dash in front of the part, and in front of the last such character.
+pub fn mark_part(text: &mut Utf16String, part: Utf16Str<'_>) -> Result<(), OutOfMemory> {
+    match text.as_utfstr().find(part) {
+        Some(at) => text.insert(at, '-'),
+        None => Ok(()),
+    }
+}
+
+pub fn mark_char<C: FaultUnit>(text: &mut UtfString<C>, c: char) -> Result<(), OutOfMemory> {
+    match text.as_utfstr().rfind_char(c) {
+        Some(at) => text.insert(at, '-'),
+        None => Ok(()),
+    }
+}
+
+/// Takes away what stands from the part on, or behind the character.
+pub fn cut_from(text: &mut Utf16String, part: Utf16Str<'_>) {
+    if let Some(at) = text.as_utfstr().find(part) {
+        text.drain(at..);
+    }
+}
+
+pub fn cut_behind(text: &mut Utf16String, c: char) {
+    if let Some(at) = text.as_utfstr().find_char(c) {
+        text.drain(at + u16::char_len(c)..);
+    }
+}
+
+/// No more than so many units of the text, and none of a character in part.
+pub fn at_most<C: Unit>(text: UtfStr<'_, C>, units: usize) -> UtfStr<'_, C>
+    ensures { length (units_seen result) ≤ units }
+{
+    let (front, _) = text.split_at(text.floor_char_boundary(units));
+    front
+}
+
+/// At least so many, where there are so many.
+pub fn at_least<C: Unit>(text: UtfStr<'_, C>, units: usize) -> UtfStr<'_, C>
+    ensures { units ≤ length (units_seen text) → units ≤ length (units_seen result) }
+{
+    let (front, _) = text.split_at(text.ceil_char_boundary(units));
+    front
+}
+
+/// A key and its value, where the text has an equals sign.
+pub fn key_and_value<'a>(text: Utf16Str<'a>, sign: Utf16Str<'_>) -> Option<(Utf16Str<'a>, Utf16Str<'a>)> {
+    let (key, value) = text.split_once(sign)?;
+    Some((key.trim(), value.trim()))
+}
+
+/// How many pieces there are between such characters.
+pub fn count_pieces(text: Utf16Str<'_>, c: char) -> usize {
+    let mut count = 0_usize;
+    for _ in text.split_char(c) {
+        count = count.saturating_add(1);
+    }
+    count
+}
+
+/// The units before such a unit, of any units.
+pub fn before_unit(units: U16Str<'_>, unit: u16) -> U16Str<'_> {
+    match units.find_unit(unit) {
+        Some(at) => {
+            let (front, _) = units.split_at(at);
+            front
+        }
+        None => units,
+    }
+}
+
+/// The units behind a part that they begin with, and else all.
+pub fn without_front<'a>(units: U16Str<'a>, part: U16Str<'_>) -> U16Str<'a> {
+    units.strip_prefix(part).unwrap_or(units)
+}
+
+/// The name of a path's last part, in a C string.
+pub fn last_part<'a>(path: U16CStr<'a>, slash: char) -> U16Str<'a> {
+    match path.rfind_char(slash) {
+        Some(at) => {
+            let (_, name) = path.split_at(at + u16::char_len(slash));
+            name
+        }
+        None => path.as_ustr(),
+    }
+}
+
+/// The lines of the text, by what `first_line` leaves.
+pub fn count_lines(text: Utf16Str<'_>) -> usize {
+    let mut rest = text;
+    let mut count = 0_usize;
+    while let Some((_, behind)) = rest.first_line() {
+        count = count.saturating_add(1);
+        rest = behind;
+    }
+    count
+}
