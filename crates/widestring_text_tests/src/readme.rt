@@ -1,4 +1,4 @@
-//! The code of README.md on damaged text, word for word.
+//! The code of README.md on damaged text and on searches, word for word.
 use std::test::Fail;
 use widestring::{Utf16Str, Utf16String};
 
@@ -18,5 +18,22 @@ fn damaged(rt: HostRuntime) -> Result<(), Fail> {
     mended.push_str("\r\n")?;
     let text = mended.as_utfstr().to_string(rt.alloc())?;
     assert_eq!(rt; text.as_str(), "a😀\r\n b\r\n");
+    Ok(())
+}
+
+#[test]
+fn searched(rt: HostRuntime) -> Result<(), Fail> {
+    let text = Utf16String::from_str(rt.alloc(), "name=😀;size=12;")?;
+    let line = text.as_utfstr();
+    let equals = Utf16Str::from_slice(&[0x3d])?;
+    let Some((name, rest)) = line.split_once(equals) else {
+        panic!(rt; "an equals sign stands at place 4")
+    };
+    assert!(rt; name.eq_str("name"));
+    let mut fields = rest.split_char(';');
+    assert!(rt; fields.next().is_some_and(|field| field.eq_str("😀")));
+    assert!(rt; fields.next().is_some_and(|field| field.eq_str("size=12")));
+    assert_eq!(rt; line.rfind(equals), Some(12));
+    assert_eq!(rt; line.floor_char_boundary(6), 5);
     Ok(())
 }

@@ -9,6 +9,8 @@ mod block_rows;
 #[cfg(test)]
 mod rows;
 #[cfg(test)]
+mod search_rows;
+#[cfg(test)]
 mod standard_rows;
 #[cfg(test)]
 mod ucstr_rows;
