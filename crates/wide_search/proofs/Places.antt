@@ -20,8 +20,8 @@ module _ {A : Type 0} where
   ends-told part us end is told = (
     λ t. (take (length us - length part) us, sym (take-append-drop (length us - length part) us) ∙ ap (λ xs. take (length us - length part) us ++ xs) (sym is ∙ told.0 t)),
     λ ends. told.1 (
-      let at : length us - length part ≡ length ends.0 = omega (arith, ap length ends.1, length-append ends.0 part) in
-      is ∙ ap (λ n. drop n us) at ∙ ap (λ xs. drop (length ends.0) xs) ends.1 ∙ drop-append_seam ends.0 part),
+        let at : length us - length part ≡ length ends.0 = omega (arith, ap length ends.1, length-append ends.0 part) in
+        is ∙ ap (λ n. drop n us) at ∙ ap (λ xs. drop (length ends.0) xs) ends.1 ∙ drop-append_seam ends.0 part),
   )
 
   -- a longer part neither begins nor ends it

@@ -40,9 +40,10 @@ module _ {X : Type 0} (form : EncodingForm) (number : X → ℕ) where
     ends-some : (part : List X) (at : ℕ) → IsWellFormed form (map number part) → 0 < length part → StandsAt part us at → Ends part us at
     ends-some part at well_part some stands =
         let there = stands-numbers number part us at stands in
-        let more : 0 < length (map number part) = omega (arith, some, length-map part number) in
-        (seen at (IsBoundary-part form (map number part) (map number us) at well_part more there),
-         seen (at + length part) (subst (λ n. IsBoundary form (map number us) (at + n)) (length-map part number) (IsBoundary-behind_part form (map number part) (map number us) at well_part more there)))
+        let more : 0 < length (map number part) = omega (arith, some, length-map part number) in (
+          seen at (IsBoundary-part form (map number part) (map number us) at well_part more there),
+          seen (at + length part) (subst (λ n. IsBoundary form (map number us) (at + n)) (length-map part number) (IsBoundary-behind_part form (map number part) (map number us) at well_part more there)),
+        )
 
     ends-none : (at : ℕ) → IsBoundary form (map number us) at → Ends [] us at
     ends-none at b = let same : at ≡ at + 0 = omega arith in (seen at b, seen (at + 0) (subst (λ n. IsBoundary form (map number us) n) same b))
@@ -60,9 +61,10 @@ module _ {X : Type 0} (form : EncodingForm) (number : X → ℕ) where
     pub char-ends : (c at : ℕ) → IsScalar c → StandsAt (code_units form c) (map number us) at
         → IsCharBoundary form (map number us) at × IsCharBoundary form (map number us) (at + length (code_units form c))
     char-ends c at scalar stands =
-        let well_part = IsWellFormed-code_units form c scalar in
-        (seen at (IsBoundary-part form (code_units form c) (map number us) at well_part (some_units form c) stands),
-         seen (at + length (code_units form c)) (IsBoundary-behind_part form (code_units form c) (map number us) at well_part (some_units form c) stands))
+        let well_part = IsWellFormed-code_units form c scalar in (
+          seen at (IsBoundary-part form (code_units form c) (map number us) at well_part (some_units form c) stands),
+          seen (at + length (code_units form c)) (IsBoundary-behind_part form (code_units form c) (map number us) at well_part (some_units form c) stands),
+        )
 
     -- behind a part that the units begin with, and before one that they end with
     stands-start : (part rest : List X) → us ≡ part ++ rest → StandsAt part us 0

@@ -1,8 +1,8 @@
 -- Lines of a text that may have faults.
-use Rattle.std.specs.Prelude.{◌≡◌, ℕ, ◌==◌, Bool, false, if◌then◌else◌, List, [], ◌∷◌}
+use Rattle.std.specs.Prelude.{◌≡◌, ℕ, ◌+◌, ◌-◌, length, ◌==◌, Bool, false, if◌then◌else◌, List, [], ◌∷◌}
 use Rattle.std.specs.List.{slice_split}
 use Rattle.wide_unit.specs.EncodingForm.{EncodingForm}
-use Rattle.wide_unit.specs.Segmentation.{Item, Char, Fault}
+use Rattle.wide_unit.specs.Segmentation.{Item, Char, Fault, units_of}
 use Rattle.wide_unit.specs.Items.{items, IsWellFormed}
 
 abbrev pub line_feed : ℕ
@@ -33,7 +33,23 @@ lines_of_pieces (p ∷ q ∷ ps) = without_return p ∷ lines_of_pieces (q ∷ p
 abbrev pub lines_of : List Item → List (List Item)
 lines_of is = lines_of_pieces (slice_split is_line_feed is)
 
+-- the same lines, each with the place, in units, at which it begins: `place` for the first, and one unit behind the units of the piece before
+abbrev pub placed_pieces : EncodingForm → ℕ → List (List Item) → List (ℕ × List Item)
+placed_pieces form place [] = []
+placed_pieces form place ([] ∷ []) = []
+placed_pieces form place ((i ∷ is) ∷ []) = (place, i ∷ is) ∷ []
+placed_pieces form place (p ∷ q ∷ ps) = (place, without_return p) ∷ placed_pieces form (place + (length (units_of form p) + 1)) (q ∷ ps)
+
+abbrev pub placed_lines : EncodingForm → ℕ → List Item → List (ℕ × List Item)
+placed_lines form place is = placed_pieces form place (slice_split is_line_feed is)
+
+-- the first line of the items, and those behind it, for which so many units were taken
+abbrev pub TakesLine : EncodingForm → List Item → List Item → List Item → ℕ → Type 0
+TakesLine form is line rest taken = (place : ℕ) → placed_lines form place is ≡ (place, line) ∷ placed_lines form (place + taken) rest
+
 -- the first line of the units, and the units after it; they are well formed where all are
 pub record IsFirstLine (form : EncodingForm) (units line rest : List ℕ) : Type 0 where
   pub lines : lines_of (items form units) ≡ items form line ∷ lines_of (items form rest)
   pub well_formed : IsWellFormed form units → IsWellFormed form line × IsWellFormed form rest
+  -- and so with their places
+  pub placed : TakesLine form (items form units) (items form line) (items form rest) (length units - length rest)

@@ -4,6 +4,7 @@
 mod display;
 mod iter;
 pub mod laws;
+mod line_indices;
 mod lines;
 mod lossy_text;
 mod lossy_with;
@@ -18,6 +19,7 @@ pub use iter::{
     CharIndices, CharIndicesLossy, CharIndicesLossyUtf16, CharIndicesLossyUtf32, CharIndicesUtf16,
     CharIndicesUtf32, Chars, CharsLossy, CharsLossyUtf16, CharsLossyUtf32, CharsUtf16, CharsUtf32,
 };
+pub use line_indices::LineIndices;
 pub use lines::{LineView, Lines};
 pub use lossy_with::{CharsLossyWith, behind_faults};
 pub use split::{Split, SplitView};

@@ -1,10 +1,11 @@
 //! The lines of a view.
-ghost use Rattle.std.specs.Prelude.{◌≡◌, ◌<◌, ◌∷◌, ℕ, List, [], length, map, None, IfNone, IfSome};
+ghost use Rattle.std.specs.Prelude.{◌≡◌, ◌-◌, ◌<◌, ◌∷◌, ℕ, List, [], length, map, None, IfNone, IfSome};
 ghost use Rattle.std.specs.Iterator.{YieldsFirstBy, at_most, UpTo};
 ghost use Rattle.std.specs.Iterator.SizeHint.{IsWithinCount};
 ghost use Rattle.wide_unit.specs.Segmentation.{Item};
 ghost use Rattle.wide_unit.specs.Items.{items};
-ghost use Rattle.wide_unit.specs.Lines.{lines_of};
+ghost use Rattle.wide_unit.specs.EncodingForm.{EncodingForm};
+ghost use Rattle.wide_unit.specs.Lines.{lines_of, TakesLine};
 ghost use Rattle.wide_ustr.specs.Lines.{lines_left};
 
 use crate::view::UStr;
@@ -19,8 +20,14 @@ pub trait LineView: Copy {
     // The characters of the view, and its units that belong to none.
     ghost items_seen: { Self → List Item };
 
-    // How many units it has.
-    ghost units_len: { Self → ℕ };
+    // The encoding form of its units, and how many they are.
+    ghost form: { EncodingForm };
+
+    ghost count: { Self → ℕ };
+
+    /// How many units the view has.
+    fn count_units(self) -> usize
+        ensures { result ≡ count self };
 
     /// The first line, and the view after it: a line feed (U+000A) ends the line, and with it one carriage return (U+000D) right
     /// before it; neither belongs to a line. None where the view has no units. The view after it is shorter, so that a loop over what is left
@@ -28,7 +35,8 @@ pub trait LineView: Copy {
     fn first_line(self) -> Option<(Self, Self)>
         ensures none { IfNone result (lines_of (items_seen self) ≡ []) }
         ensures some { IfSome result (λ r. lines_of (items_seen self) ≡ items_seen r.0 ∷ lines_of (items_seen r.1)) }
-        ensures shorter { IfSome result (λ r. units_len r.1 < units_len self) };
+        ensures placed { IfSome result (λ r. TakesLine form (items_seen self) (items_seen r.0) (items_seen r.1) (count self - count r.1)) }
+        ensures shorter { IfSome result (λ r. count r.1 < count self) };
 }
 
 /// The lines of a view, from the front. Made by [`UStr::lines_lossy`](crate::UStr::lines_lossy) and by `lines` of well-formed
@@ -79,7 +87,13 @@ impl<C: FaultUnit> LineView for UStr<'_, C> {
 
     ghost items_seen = { items_seen C.form C.number };
 
-    ghost units_len = { λ view. length (units_seen view) };
+    ghost form = { C.form };
+
+    ghost count = { λ view. length (units_seen view) };
+
+    fn count_units(self) -> usize {
+        self.len()
+    }
 
     fn first_line(self) -> Option<(Self, Self)> {
         let (line, rest) = split_line(self.as_slice())?;

@@ -23,4 +23,4 @@ pub use iter::{
 };
 pub use view::{Utf16Str, Utf32Str, UtfStr, WideUtfStr};
 pub use wide_unit::{FirstFault, check};
-pub use wide_ustr::{Lines, Split, SplitView};
+pub use wide_ustr::{LineIndices, Lines, Split, SplitView};

@@ -1,18 +1,25 @@
 //! The lines of well-formed text.
 ghost use Rattle.std.specs.Prelude.{◌≡◌, length, map};
 ghost use Rattle.wide_unit.specs.Items.{items};
-ghost use Rattle.wide_unit.specs.Lines.{lines_of};
+ghost use Rattle.wide_unit.specs.Lines.{lines_of, placed_lines};
+ghost use Rattle.wide_ustr.specs.LineIndices.{placed_left};
 ghost use Rattle.wide_ustr.specs.Lines.{lines_left};
 ghost use Rattle.wide_utfstr.specs.View.{units_seen, items_seen};
 
 use crate::view::UtfStr;
 use wide_unit::{Unit, split_line};
-use wide_ustr::{LineView, Lines};
+use wide_ustr::{LineIndices, LineView, Lines};
 
 impl<C: Unit> LineView for UtfStr<'_, C> {
     ghost items_seen = { items_seen C.form C.number };
 
-    ghost units_len = { λ view. length (units_seen view) };
+    ghost form = { C.form };
+
+    ghost count = { λ view. length (units_seen view) };
+
+    fn count_units(self) -> usize {
+        self.len()
+    }
 
     fn first_line(self) -> Option<(Self, Self)> {
         let (line, rest) = split_line(self.as_slice())?;
@@ -31,5 +38,12 @@ impl<C: Unit> UtfStr<'_, C> {
         ensures { lines_left (items_seen C.form C.number) result ≡ lines_of (items C.form (map C.number (units_seen self.entry))) }
     {
         Lines::new(self)
+    }
+
+    /// The lines, as [`UtfStr::lines`] has them, each with the place, in units, at which it begins in the text.
+    pub fn line_indices(self) -> LineIndices<Self>
+        ensures { placed_left result ≡ placed_lines C.form 0 (items C.form (map C.number (units_seen self.entry))) }
+    {
+        LineIndices::new(self)
     }
 }

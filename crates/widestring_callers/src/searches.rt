@@ -5,6 +5,7 @@ ghost use Rattle.widestring.specs.UnitView.{units_seen as ustr_units};
 
 use widestring::error::{FaultUnit, OutOfMemory};
 use widestring::unit::Unit;
+use widestring::ustr::LineView;
 use widestring::utfstr::UtfStr;
 use widestring::utfstring::UtfString;
 use widestring::{U16CStr, U16Str, Utf16Str, Utf16String};

@@ -40,7 +40,7 @@ module _ (form : EncodingForm) (part us : List ℕ) (well_part : IsWellFormed fo
     stands-chars stands =
         let rest = drop (at + length part) us in
         let split : chars form (drop at us) ≡ chars form part ++ chars form rest =
-            ap (λ xs. chars form xs) (rest-of_stands part us at stands) ∙ ap characters (items-append_left form part rest well_part) ∙ characters-append (items form part) (items form rest) in
+        ap (λ xs. chars form xs) (rest-of_stands part us at stands) ∙ ap characters (items-append_left form part rest well_part) ∙ characters-append (items form part) (items form rest) in
         stands-of_rest (chars form part) (chars form us) (chars form rest) before (chars_before-within form us well at boundary) (sym (IsPlaceOf-boundary form us well at boundary).rest ∙ split)
 
   -- as characters, so as units, where that character begins
@@ -50,7 +50,7 @@ module _ (form : EncodingForm) (part us : List ℕ) (well_part : IsWellFormed fo
       let more = drop (n + length (chars form part)) cs in
       let place = length (encode form (take n cs)) in
       let split : encode form (drop n cs) ≡ part ++ encode form more =
-          ap (λ xs. encode form xs) (rest-of_stands (chars form part) cs n stands) ∙ flat_map-append (code_units form) (chars form part) more ∙ ap (λ xs. xs ++ encode form more) (encode-chars form part well_part) in
+      ap (λ xs. encode form xs) (rest-of_stands (chars form part) cs n stands) ∙ flat_map-append (code_units form) (chars form part) more ∙ ap (λ xs. xs ++ encode form more) (encode-chars form part well_part) in
       let whole : drop place us ≡ encode form (drop n cs) = ap (λ xs. drop place xs) (sym (encode-chars form us well)) ∙ sym (encode-drop form cs n) in
       stands-of_rest part us (encode form more) place (IsBoundary-within form us place (IsPlaceOf-front form us well n).boundary) (whole ∙ split)
 

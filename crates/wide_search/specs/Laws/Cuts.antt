@@ -21,7 +21,7 @@ are-before part whole front rest (p ∷ ps) split are =
     let at : take (length front) whole ≡ front = ap (take (length front)) split.joined ∙ take-append_seam front (part ++ rest) in
     let long : length front + length part ≡ length (front ++ part) = sym (length-append front part) in
     let behind : drop (length front + length part) whole ≡ rest =
-        ap (λ n. drop n whole) long ∙ ap (λ xs. drop (length (front ++ part)) xs) (split.joined ∙ sym (append_assoc front part rest)) ∙ drop-append_seam (front ++ part) rest in
+    ap (λ n. drop n whole) long ∙ ap (λ xs. drop (length (front ++ part)) xs) (split.joined ∙ sym (append_assoc front part rest)) ∙ drop-append_seam (front ++ part) rest in
     (split.first, sym at, subst (λ xs. ArePieces part xs (p ∷ ps)) (sym behind) are)
 
 pub pieces-first : (part whole front rest : List ℕ) → 0 < length part → IsFirstSplit part whole front rest → pieces part whole ≡ front ∷ pieces part rest
@@ -54,7 +54,7 @@ pub split-at : {X : Type 0} (number : X → ℕ) (part : List ℕ) (us front res
 split-at number part us front rest at n count first is_front is_rest =
     let before : take at (map number us) ≡ map number front = take-map number at us ∙ ap (map number) (sym is_front) in
     let behind : drop (at + length part) (map number us) ≡ map number rest =
-        ap (λ k. drop (at + k) (map number us)) (sym count) ∙ drop-map number (at + n) us ∙ ap (map number) (sym is_rest) in
+    ap (λ k. drop (at + k) (map number us)) (sym count) ∙ drop-map number (at + n) us ∙ ap (map number) (sym is_rest) in
     let long : at ≡ length (map number front) = sym (length-take-le at (map number us) (omega (arith, first.here.within))) ∙ ap length before in
     record {
       joined = parted part (map number us) at first.here ∙ ap (λ xs. xs ++ (part ++ drop (at + length part) (map number us))) before ∙ ap (λ xs. map number front ++ (part ++ xs)) behind;

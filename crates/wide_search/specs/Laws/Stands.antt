@@ -51,7 +51,7 @@ module _ {A : Type 0} where
   pub parted : (part whole : List A) (at : ℕ) → StandsAt part whole at → whole ≡ take at whole ++ (part ++ drop (at + length part) whole)
   parted part whole at stands =
       let rest : drop at whole ≡ part ++ drop (length part) (drop at whole) =
-          sym (take-append-drop (length part) (drop at whole)) ∙ ap (λ xs. xs ++ drop (length part) (drop at whole)) stands.same in
+      sym (take-append-drop (length part) (drop at whole)) ∙ ap (λ xs. xs ++ drop (length part) (drop at whole)) stands.same in
       sym (take-append-drop at whole) ∙ ap (λ xs. take at whole ++ xs) (rest ∙ ap (λ xs. part ++ xs) (drop-drop (length part) at whole))
 
   -- the pieces joined are the list

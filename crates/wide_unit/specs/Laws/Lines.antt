@@ -1,5 +1,5 @@
 -- The first line of a text, and the lines after it.
-use Rattle.std.proofs.Common.{◌≡◌, ◌≢◌, ℕ, Bool, true, false, List, [], ◌∷◌, ◌++◌, refl, sym, ◌∙◌, ap, subst, arith, eqb, cond}
+use Rattle.std.proofs.Common.{◌≡◌, ◌≢◌, ℕ, ◌+◌, ◌-◌, length, length-append, Bool, true, false, List, [], ◌∷◌, ◌++◌, refl, sym, ◌∙◌, ap, subst, arith, eqb, cond}
 use Rattle.std.specs.List.{All, Contains, slice_split, onto_first}
 use Rattle.std.proofs.lemmas.List.{append-nil}
 use Rattle.std.proofs.lemmas.Bool.{eqb-true}
@@ -8,7 +8,7 @@ use Rattle.std.proofs.lemmas.List.Splits.{slice_split_none, slice_split_at}
 use Rattle.wide_unit.specs.EncodingForm.{EncodingForm, Utf16, Utf32, code_units, IsPair}
 use Rattle.wide_unit.specs.Segmentation.{Item, Char, Fault, units_of}
 use Rattle.wide_unit.specs.Items.{items, IsWellFormed}
-use Rattle.wide_unit.specs.Lines.{line_feed, carriage_return, is_line_feed, without_return, lines_of_pieces, lines_of, IsFirstLine}
+use Rattle.wide_unit.specs.Lines.{line_feed, carriage_return, is_line_feed, without_return, lines_of_pieces, lines_of, placed_pieces, placed_lines, TakesLine, IsFirstLine}
 use Rattle.wide_unit.specs.Laws.Forms.{IsPair-parts}
 use Rattle.wide_unit.specs.Laws.Items.{IsCut, items-append, items-nil, units_of-items}
 use Rattle.wide_unit.specs.Laws.Ends.{items-front_char, items-back_char}
@@ -29,6 +29,14 @@ two_pieces : (p : List Item) (ps : List (List Item)) → (ps ≡ [] → ⊥) →
 two_pieces p [] some = absurd (some refl)
 two_pieces p (q ∷ ps) some = refl
 
+one_placed : (form : EncodingForm) (place : ℕ) (is : List Item) → is ≢ [] → placed_pieces form place (is ∷ []) ≡ (place, is) ∷ []
+one_placed form place [] some = absurd (some refl)
+one_placed form place (i ∷ is) some = refl
+
+two_placed : (form : EncodingForm) (place : ℕ) (p : List Item) (ps : List (List Item)) → (ps ≡ [] → ⊥) → placed_pieces form place (p ∷ ps) ≡ (place, without_return p) ∷ placed_pieces form (place + (length (units_of form p) + 1)) ps
+two_placed form place p [] some = absurd (some refl)
+two_placed form place p (q ∷ ps) some = refl
+
 onto-some : (i : Item) (ps : List (List Item)) → onto_first i ps ≡ [] → ⊥
 onto-some i [] e = cc
 onto-some i (p ∷ ps) e = cc
@@ -45,6 +53,21 @@ pieces-some (i ∷ is) e = cond-some (is_line_feed i) ([] ∷ slice_split is_lin
 pub lines-ended : (is rest : List Item) → All (λ i. is_line_feed i ≡ false) is → lines_of (is ++ Char line_feed ∷ rest) ≡ without_return is ∷ lines_of rest
 lines-ended is rest none =
     ap lines_of_pieces (slice_split_at is_line_feed is (Char line_feed) rest none refl) ∙ two_pieces is (slice_split is_line_feed rest) (pieces-some rest)
+
+none_placed : (form : EncodingForm) (place : ℕ) (ps : List (List Item)) → lines_of_pieces ps ≡ [] → placed_pieces form place ps ≡ []
+none_placed form place [] e = refl
+none_placed form place ([] ∷ []) e = refl
+none_placed form place ((i ∷ is) ∷ []) e = cc
+none_placed form place (p ∷ q ∷ ps) e = cc
+
+-- where there are no lines there are none with places
+pub placed-none : (form : EncodingForm) (place : ℕ) (is : List Item) → lines_of is ≡ [] → placed_lines form place is ≡ []
+placed-none form place is e = none_placed form place (slice_split is_line_feed is) e
+
+placed-ended : (form : EncodingForm) (is rest : List Item) (place : ℕ) → All (λ i. is_line_feed i ≡ false) is
+    → placed_lines form place (is ++ Char line_feed ∷ rest) ≡ (place, without_return is) ∷ placed_lines form (place + (length (units_of form is) + 1)) rest
+placed-ended form is rest place none =
+    ap (placed_pieces form place) (slice_split_at is_line_feed is (Char line_feed) rest none refl) ∙ two_placed form place is (slice_split is_line_feed rest) (pieces-some rest)
 
 pub without-return : (is : List Item) → without_return (is ++ Char carriage_return ∷ []) ≡ is
 without-return [] = refl
@@ -125,6 +148,12 @@ module _ (form : EncodingForm) (us front back : List ℕ) (split : us ≡ front 
   feed-lines : lines_of (items form us) ≡ without_return (items form front) ∷ lines_of (items form back)
   feed-lines = ap (λ vs. lines_of (items form vs)) split ∙ lines-at_feed form front back none
 
+  feed-placed : TakesLine form (items form us) (without_return (items form front)) (items form back) (length us - length back)
+  feed-placed place =
+      let taken : length (units_of form (items form front)) + 1 ≡ length us - length back = omega (arith, ap length (units_of-items form front), ap length split, length-append front (line_feed ∷ back)) in
+      ap (placed_lines form place) feed-items ∙ placed-ended form (items form front) (items form back) place (items-no_feed form front none)
+      ∙ ap (λ n. (place, without_return (items form front)) ∷ placed_lines form (place + n) (items form back)) taken
+
   front-well_formed : IsWellFormed form us → IsWellFormed form front
   front-well_formed well = record { no_fault = λ u at. well.no_fault u (subst (λ is. Contains is (Fault u)) (sym feed-items) (Contains-append_left (items form front) (Char line_feed ∷ items form back) (Fault u) at)) }
 
@@ -138,6 +167,7 @@ module _ (form : EncodingForm) (us front back : List ℕ) (split : us ≡ front 
   IsFirstLine-feed other = record {
     lines = feed-lines ∙ ap (λ is. is ∷ lines_of (items form back)) (without-none (items form front) (items-no_return form front other));
     well_formed = λ well. (front-well_formed well, back-well_formed well);
+    placed = subst (λ is. TakesLine form (items form us) is (items form back) (length us - length back)) (without-none (items form front) (items-no_return form front other)) feed-placed;
   }
 
   pub IsFirstLine-return : (line : List ℕ) → front ≡ line ++ carriage_return ∷ [] → IsFirstLine form us line back
@@ -146,6 +176,7 @@ module _ (form : EncodingForm) (us front back : List ℕ) (split : us ≡ front 
       record {
         lines = feed-lines ∙ ap (λ is. without_return is ∷ lines_of (items form back)) ends ∙ ap (λ is. is ∷ lines_of (items form back)) (without-return (items form line));
         well_formed = λ well. (record { no_fault = λ u at. (front-well_formed well).no_fault u (subst (λ is. Contains is (Fault u)) (sym ends) (Contains-append_left (items form line) (Char carriage_return ∷ []) (Fault u) at)) }, back-well_formed well);
+        placed = subst (λ is. TakesLine form (items form us) is (items form back) (length us - length back)) (ap without_return ends ∙ without-return (items form line)) feed-placed;
       }
 
 pub IsFirstLine-whole : (form : EncodingForm) (us : List ℕ) → us ≢ [] → All (λ u. u ≢ line_feed) us → IsFirstLine form us us []
@@ -156,4 +187,7 @@ IsFirstLine-whole form us some none =
     record {
       lines = lines-unended is full (items-no_feed form us none) ∙ ap (λ ls. is ∷ ls) (sym no_more);
       well_formed = λ well. (well, record { no_fault = λ u at. let in_nil : Contains [] (Fault u) = subst (λ js. Contains js (Fault u)) (items-nil form) at in absurd (omega (arith, in_nil.1)) });
+      placed = λ place.
+          let nothing : placed_lines form (place + (length us - 0)) (items form []) ≡ [] = ap (placed_lines form (place + (length us - 0))) (items-nil form) in
+          ap (placed_pieces form place) (slice_split_none is_line_feed is (items-no_feed form us none)) ∙ one_placed form place is full ∙ ap (λ ls. (place, is) ∷ ls) (sym nothing);
     }

@@ -30,7 +30,7 @@ loop-at-preserved g c =
     let step = c.in-Some-first_of.step in
     let cut = c.split_at-in-loop-at.ensures.back ∙ ap (drop step) c.split_at.ensures.back in
     let before = before-told g.C.Unit.number sought c.args.units.now first.0 c.split_at.result.1.now c.in-Some.first c.code.result c.loop-at.at first.1 c.code.ensures c.split_at.ensures.back c.loop-at.invariant step
-        c.in-Some-first_of.ensures.before in
+    c.in-Some-first_of.ensures.before in
     none-through g.C.Unit.number sought c.args.units.now c.loop-at.at step before (λ stands.
-        let no : false ≡ true = c.if-begins.ensures.1 (subst (λ xs. StandsAt sought xs 0) (sym cut) (cut-stands g.C.Unit.number sought c.args.units.now c.loop-at.at step stands)) in
-        cc)
+    let no : false ≡ true = c.if-begins.ensures.1 (subst (λ xs. StandsAt sought xs 0) (sym cut) (cut-stands g.C.Unit.number sought c.args.units.now c.loop-at.at step stands)) in
+    cc)

@@ -1,0 +1,91 @@
+//! The lines of a view with their places.
+ghost use Rattle.std.specs.Prelude.{◌≡◌, ◌≤◌, length, map, None, IfSome, ⊤};
+ghost use Rattle.std.specs.Iterator.{YieldsFirstBy, at_most, UpTo};
+ghost use Rattle.std.specs.Iterator.SizeHint.{IsWithinCount};
+ghost use Rattle.wide_unit.specs.Items.{items};
+ghost use Rattle.wide_unit.specs.Lines.{placed_lines};
+
+use crate::lines::LineView;
+use crate::view::UStr;
+use std::alloc::AllocError;
+use std::iter::FusedIterator;
+use wide_utferror::FaultUnit;
+
+/// The lines of a view, each with the place, in units, at which it begins, from the front. Made by
+/// [`UStr::line_indices_lossy`](crate::UStr::line_indices_lossy) and by `line_indices` of well-formed views.
+#[derive(Debug)]
+pub struct LineIndices<V: LineView> {
+    len: usize,
+    rest: V,
+    ghost within: { V.count rest ≤ len },
+}
+
+impl<V: LineView> Clone for LineIndices<V> {
+    ghost is_clone = { λ s r. r ≡ s };
+
+    ghost is_infallible = { λ _. ⊤ };
+
+    /// A copy: the same lines to come.
+    fn clone(&self) -> Result<Self, AllocError> {
+        Ok(*self)
+    }
+}
+
+impl<V: LineView> Copy for LineIndices<V> {}
+
+impl<V: LineView> LineIndices<V> {
+    ghost use Rattle.wide_ustr.specs.LineIndices.{placed_left};
+
+    /// The lines of the view, the first at place 0.
+    pub fn new(view: V) -> Self
+        ensures { placed_left result ≡ placed_lines V.form 0 (V.items_seen view) }
+    {
+        LineIndices {
+            len: view.count_units(),
+            rest: view,
+        }
+    }
+}
+
+impl<V: LineView> Iterator for LineIndices<V> {
+    ghost use Rattle.wide_ustr.specs.LineIndices.{placed_left, placed_line};
+
+    type Item = (usize, V);
+
+    ghost next_gives = { YieldsFirstBy (placed_line V.items_seen) placed_left };
+
+    ghost remaining = { λ s. at_most (length (placed_left s)) };
+
+    /// The next line and its place. Units are read by blocks, up to the one that holds the line feed that ends it.
+    fn next(&mut self) -> Option<(usize, V)> {
+        let (line, rest) = self.rest.first_line()?;
+        let place = self.len - self.rest.count_units();
+        self.rest = rest;
+        Some((place, line))
+    }
+
+    /// No bounds: how many lines a view has is not known before it is read.
+    fn size_hint(&self) -> (usize, Option<usize>)
+        ensures lower { IsWithinCount result.0 (at_most (length (placed_left self.now))) }
+        ensures upper { IfSome result.1 (UpTo (at_most (length (placed_left self.now)))) }
+        ensures least { result.0 ≡ 0 }
+        ensures most { result.1 ≡ None }
+    {
+        (0, None)
+    }
+}
+
+impl<V: LineView> FusedIterator for LineIndices<V> {}
+
+impl<C: FaultUnit> UStr<'_, C> {
+    ghost use Rattle.wide_ustr.specs.LineIndices.{placed_left};
+    ghost use Rattle.wide_ustr.specs.View.{units_seen};
+
+    /// The lines, as [`UStr::lines_lossy`] has them, each with the place, in units, at which it begins in the view. The call is this port's
+    /// own.
+    pub fn line_indices_lossy(self) -> LineIndices<Self>
+        ensures { placed_left result ≡ placed_lines C.form 0 (items C.form (map C.number (units_seen self.entry))) }
+    {
+        LineIndices::new(self)
+    }
+}
