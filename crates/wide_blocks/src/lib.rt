@@ -28,6 +28,6 @@ pub use scalars::decode_front;
 pub use steps::{Step, put_unit};
 pub use strings::{push_utf8, utf8_string};
 pub use text::{encode_front, encode_whole};
-pub use unit_bytes::{put_be_bytes, put_le_bytes};
+pub use unit_bytes::{byte_len, byte_width, put_be_bytes, put_be_mark, put_le_bytes, put_le_mark};
 pub use units::decode_utf8_front;
 pub use valid::first_chunk;
