@@ -14,6 +14,7 @@ pub use Rattle.wide_unit.specs.Utf8
 pub use Rattle.wide_unit.specs.CodePoint
 pub use Rattle.wide_unit.specs.Searches
 pub use Rattle.wide_unit.specs.Statements
+pub use Rattle.wide_blocks.specs.UnitBytes
 pub use Rattle.wide_error.specs.Nul as NulPlaces
 pub use Rattle.wide_error.specs.NulError
 pub use Rattle.wide_error.specs.UCStringError
@@ -72,4 +73,5 @@ pub use Rattle.wide_bytes.specs.Pieces
 pub use Rattle.wide_bytes.specs.Run
 pub use Rattle.wide_bytes.specs.Transcoded
 pub use Rattle.wide_bytes.specs.UnitsOfBytes
+pub use Rattle.wide_bytes.specs.Utf16OfBytes
 pub use Rattle.wide_include.specs.Include
