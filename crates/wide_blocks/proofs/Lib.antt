@@ -8,6 +8,7 @@ pub mod ScalarFronts
 pub mod ScalarTexts
 pub mod Shuffles
 pub mod StoredUnits
+pub mod StoredBytes
 pub mod Stores
 pub mod Tables
 pub mod UnitEncodings

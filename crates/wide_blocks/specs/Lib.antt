@@ -7,4 +7,5 @@ pub mod Lengths
 pub mod Decoded
 pub mod Following
 pub mod Laws
+pub mod UnitBytes
 pub mod Parts

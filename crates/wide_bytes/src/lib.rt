@@ -12,6 +12,7 @@ mod order;
 mod pieces;
 mod transcoding;
 mod units;
+mod whole;
 
 pub use devices::{ByteSink, ByteSource, FromRead, FromWrite};
 pub use mode::Mode;
@@ -19,3 +20,4 @@ pub use moving::put_all;
 pub use order::{BoM, byte_order};
 pub use transcoding::{transcode, transcode_with};
 pub use units::{UnitsOfBytes, units_of_bytes};
+pub use whole::{Utf16OfBytes, utf16_of_bytes};

@@ -115,6 +115,13 @@ fn without_zero_pair(bytes: &[u8]) -> &[u8]
     }
 }
 
+/// The code units of the whole pairs of bytes.
+pub(crate) fn units_in(order: BoM, bytes: &[u8]) -> UnitsOfBytes<'_>
+    ensures { units_left result ≡ units_in order bytes.now }
+{
+    UnitsOfBytes { order, bytes }
+}
+
 /// The code units that the bytes of a file of UTF-16 mean (Unicode Standard, D98): those of their whole pairs in the order of the
 /// byte order mark at the front, which is dropped, or little endian without one; and where the number of bytes is even, without one
 /// last zero unit. No memory is taken. The call is this port's own.

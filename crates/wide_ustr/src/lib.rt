@@ -1,6 +1,7 @@
 //! Views of units of 16 or 32 bits, well formed or not.
 #![tactic(auto)]
 
+mod bytes;
 mod display;
 mod iter;
 pub mod laws;

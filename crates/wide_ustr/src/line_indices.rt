@@ -58,7 +58,9 @@ impl<V: LineView> Iterator for LineIndices<V> {
 
     /// The next line and its place. Units are read by blocks, up to the one that holds the line feed that ends it.
     fn next(&mut self) -> Option<(usize, V)> {
-        let (line, rest) = self.rest.first_line()?;
+        let Some((line, rest)) = self.rest.first_line() else {
+            return None;
+        };
         let place = self.len - self.rest.count_units();
         self.rest = rest;
         Some((place, line))

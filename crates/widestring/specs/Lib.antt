@@ -18,6 +18,7 @@ pub use Rattle.wide_search.specs.Parts
 pub use Rattle.wide_search.specs.Pieces as SearchPieces
 pub use Rattle.wide_search.specs.Cut as SearchCut
 pub use Rattle.wide_search.specs.Statements as SearchStatements
+pub use Rattle.wide_blocks.specs.UnitBytes
 pub use Rattle.wide_error.specs.Nul as NulPlaces
 pub use Rattle.wide_error.specs.NulError
 pub use Rattle.wide_error.specs.UCStringError
@@ -78,4 +79,5 @@ pub use Rattle.wide_bytes.specs.Pieces
 pub use Rattle.wide_bytes.specs.Run
 pub use Rattle.wide_bytes.specs.Transcoded
 pub use Rattle.wide_bytes.specs.UnitsOfBytes
+pub use Rattle.wide_bytes.specs.Utf16OfBytes
 pub use Rattle.wide_include.specs.Include

@@ -1,7 +1,7 @@
 //! UTF-16 in bytes: byte order and byte order mark, devices, what writes the text of one into another, and files as strings.
 
 pub use wide_bytes::{
-    BoM, ByteSink, ByteSource, FromRead, FromWrite, Mode, UnitsOfBytes, byte_order, laws, put_all,
-    transcode, transcode_with, units_of_bytes,
+    BoM, ByteSink, ByteSource, FromRead, FromWrite, Mode, UnitsOfBytes, Utf16OfBytes, byte_order,
+    laws, put_all, transcode, transcode_with, units_of_bytes, utf16_of_bytes,
 };
 pub use wide_include::include_utf16str;

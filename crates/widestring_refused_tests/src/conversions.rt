@@ -5,6 +5,7 @@ use crate::driver::{Kind, Left, Memory, Room, Row, TEXT, Width, hold_at_both_wid
 use std::alloc::Global;
 use std::test::Fail;
 use widestring::Policy;
+use widestring::bytes::BoM;
 use widestring::error::OutOfMemory;
 use widestring::ucstr::UCStr;
 use widestring::ucstring::{CowUCStr, UCString};
@@ -38,6 +39,8 @@ pub enum Conversion {
     Utf8,
     // The same without faults, of units that are nothing else.
     Utf8OfFaults,
+    // The bytes of a view in an order, behind a byte order mark or not.
+    Bytes(BoM, bool),
     // A string of a view.
     Owned,
     // The string itself.
@@ -121,6 +124,54 @@ fn told<'a, C: Width>(
     }
 }
 
+// The bytes of a view.
+fn bytes_of<'a, C: Width>(
+    order: BoM,
+    is_marked: bool,
+    heap: &'a Heap,
+    view: UStr<'_, C>,
+) -> Result<Vec<u8, &'a Heap>, OutOfMemory> {
+    match (order, is_marked) {
+        (BoM::Little, false) => view.to_le_bytes(heap),
+        (BoM::Big, false) => view.to_be_bytes(heap),
+        (BoM::Little, true) => view.to_le_bytes_with_mark(heap),
+        (BoM::Big, true) => view.to_be_bytes_with_mark(heap),
+    }
+}
+
+// What is left of a call that makes bytes, whose block has to be of their size.
+fn stored<'a, C: Width>(
+    made: Result<Vec<u8, &'a Heap>, OutOfMemory>,
+    units: Vec<C, &'a Heap>,
+) -> Left<'a, C> {
+    match made {
+        Ok(bytes) => (units, Ok(bytes.capacity() == bytes.len())),
+        Err(OutOfMemory) => (units, Err(OutOfMemory)),
+    }
+}
+
+// What is left of a call of a view that makes a text in UTF-8, or bytes.
+fn written<'a, C: Width>(
+    call: Conversion,
+    memory: Memory<'a>,
+    units: Vec<C, &'a Heap>,
+    view: UStr<'_, C>,
+) -> Left<'a, C> {
+    let heap = memory.heap;
+    match call {
+        Conversion::Utf8Lossy => told(view.to_string_lossy(heap), units, TEXT),
+        Conversion::Utf8With(policy) => told(view.to_string_lossy_with(heap, policy), units, TEXT),
+        Conversion::Utf8OfFaults => {
+            told(view.to_string_lossy_with(heap, Policy::Skip), units, "")
+        }
+        Conversion::Bytes(order, is_marked) => stored(
+            bytes_of(order, is_marked, heap, view),
+            units,
+        ),
+        _ => wrong(memory),
+    }
+}
+
 fn kept_units<'a, C: Width>(memory: Memory<'a>, units: Vec<C, &'a Heap>) -> Left<'a, C> {
     let owned: CowUStr<'a, C, &'a Heap> = CowUStr::Owned(UString::from_vec(units));
     match owned.into_owned(memory.heap) {
@@ -152,23 +203,6 @@ impl<C: Width> Kind<C, Conversion> for OfUnits {
                 units,
                 true,
             ),
-            Conversion::Utf8Lossy => {
-                told(
-                    UStr::from_slice(other).to_string_lossy(memory.heap),
-                    units,
-                    TEXT,
-                )
-            }
-            Conversion::Utf8With(policy) => told(
-                UStr::from_slice(other).to_string_lossy_with(memory.heap, policy),
-                units,
-                TEXT,
-            ),
-            Conversion::Utf8OfFaults => told(
-                UStr::from_slice(other).to_string_lossy_with(memory.heap, Policy::Skip),
-                units,
-                "",
-            ),
             Conversion::Owned => {
                 match CowUStr::Borrowed(UStr::from_slice(other)).into_owned(memory.heap) {
                     Ok(string) => (string.into_vec(), Ok(true)),
@@ -176,10 +210,11 @@ impl<C: Width> Kind<C, Conversion> for OfUnits {
                 }
             }
             Conversion::Kept => kept_units(memory, units),
-            _ => match UString::from_vec(units).into_boxed_ustr() {
+            Conversion::Boxed => match UString::from_vec(units).into_boxed_ustr() {
                 Ok(boxed) => (boxed.into_ustring().into_vec(), Ok(true)),
                 Err(string) => (string.into_vec(), Err(OutOfMemory)),
             },
+            _ => written(call, memory, units, UStr::from_slice(other)),
         }
     }
 }
@@ -398,6 +433,27 @@ static OF_POLICIES: [Row<Conversion>; 15] = [
     (Conversion::Boxed, Nothing(0), "", "", ""),
 ];
 
+static OF_BYTES: [Row<Conversion>; 6] = [
+    (
+        Conversion::Bytes(BoM::Little, false),
+        Once(0),
+        "",
+        "a½😀",
+        "",
+    ),
+    (Conversion::Bytes(BoM::Big, false), Once(0), "", "½\0", ""),
+    (Conversion::Bytes(BoM::Little, true), Once(0), "", "a\0", ""),
+    (Conversion::Bytes(BoM::Big, true), Once(0), "", "", ""),
+    (
+        Conversion::Bytes(BoM::Little, false),
+        Nothing(0),
+        "",
+        "",
+        "",
+    ),
+    (Conversion::Bytes(BoM::Big, false), Nothing(0), "", "", ""),
+];
+
 static OF_TEXT: [Row<Conversion>; 5] = [
     (Conversion::Utf8, Once(0), "", "a😀", ""),
     (Conversion::Owned, Once(0), "", "a😀", "a😀"),
@@ -434,6 +490,7 @@ fn conversions(rt: HostRuntime) -> Result<(), Fail> {
     let alloc: Global = rt.alloc();
     hold_at_both_widths::<_, OfUnits>(&rt, alloc, &OF_UNITS)?;
     hold_at_both_widths::<_, OfUnits>(&rt, alloc, &OF_POLICIES)?;
+    hold_at_both_widths::<_, OfUnits>(&rt, alloc, &OF_BYTES)?;
     hold_at_both_widths::<_, OfText>(&rt, alloc, &OF_TEXT)?;
     hold_at_both_widths::<_, OfCStrings>(&rt, alloc, &OF_C_STRINGS)?;
     Ok(())

@@ -6,7 +6,7 @@ use std::io;
 use std::io::{Read, Write};
 use widestring::bytes::{
     BoM, ByteSink, ByteSource, FromRead, FromWrite, Mode, byte_order, laws, put_all, transcode,
-    units_of_bytes,
+    units_of_bytes, utf16_of_bytes,
 };
 use widestring::error::TranscodeError;
 
@@ -47,6 +47,51 @@ fn units_of_files(rt: HostRuntime) {
         has_units(b"\x61\x00\x00\x00\x62", &[0x61, 0]),
     ];
     all_hold(&rt, &rows);
+}
+
+// Whether bytes have these parts.
+fn has_parts(bytes: &[u8], order: BoM, is_marked: bool, units: &[u16], half: Option<u8>) -> bool {
+    let parts = utf16_of_bytes(bytes);
+    let mut given = parts.units;
+    for unit in units {
+        if given.next() != Some(*unit) {
+            return false;
+        }
+    }
+    let told = parts.order == order && parts.is_marked == is_marked;
+    told && given.next().is_none() && parts.half == half
+}
+
+#[test]
+fn parts_of_files(rt: HostRuntime) {
+    let (little, big) = (BoM::Little, BoM::Big);
+    let rows = [
+        has_parts(b"", little, false, &[], None),
+        has_parts(b"\xff", little, false, &[], Some(0xff)),
+        has_parts(b"\xff\xfe", little, true, &[], None),
+        has_parts(b"\xfe\xff", big, true, &[], None),
+        has_parts(b"\xff\xfe\xff\xfe", little, true, &[0xfeff], None),
+        has_parts(b"\xfe\xff\x00\x61\x00\x00", big, true, &[0x61, 0], None),
+        has_parts(
+            b"\x3d\xd8\x00\xde\x00\x00",
+            little,
+            false,
+            &[0xd83d, 0xde00, 0],
+            None,
+        ),
+        has_parts(
+            b"\xff\xfe\x00\xdc\x00\x00\x62",
+            little,
+            true,
+            &[0xdc00, 0],
+            Some(0x62),
+        ),
+        has_parts(b"\x00\xfe\xff", little, false, &[0xfe00], Some(0xff)),
+        has_parts(b"\xfe\xff\x00", big, true, &[], Some(0)),
+    ];
+    all_hold(&rt, &rows);
+    laws::bytes_of_their_units(BoM::Big, &[0xd8, 0x3d, 0x41]);
+    laws::units_of_their_bytes(BoM::Little, &[0xd83d, 0]);
 }
 
 // Whether this is the UTF-8 text of UTF-16 bytes.

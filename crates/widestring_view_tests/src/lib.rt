@@ -7,6 +7,8 @@
 #[cfg(test)]
 mod block_rows;
 #[cfg(test)]
+mod bytes_rows;
+#[cfg(test)]
 mod rows;
 #[cfg(test)]
 mod search_rows;

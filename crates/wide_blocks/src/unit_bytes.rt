@@ -1,0 +1,130 @@
+//! Units as bytes, in either order.
+
+ghost use Rattle.std.specs.Prelude.{◌≡◌, ◌*◌, ◌^◌, ◌<◌, ◌≤◌, length, map, take, drop};
+ghost use Rattle.wide_unit.specs.EncodingForm.{Utf16, Utf32};
+ghost use Rattle.wide_blocks.specs.UnitBytes.{unit_width, little_bytes, little_bytes_of, big_bytes, big_bytes_of, byte_order_mark};
+
+use wide_unit::{AnyUnits, Unit};
+
+// Stores the bytes of 16-bit units, the low one first.
+fn put_little_16(units: &[u16], bytes: &mut [u8])
+    requires { 2 * length units.now ≤ length bytes.old }
+    ensures front { take (2 * length units.now) bytes.new ≡ little_bytes_of Utf16 units.now }
+    ensures behind { drop (2 * length units.now) bytes.new ≡ drop (2 * length units.now) bytes.old }
+{
+    for k in 0..units.len() {
+        bytes[2 * k] = (units[k] % 0x100) as u8;
+        bytes[2 * k + 1] = (units[k] / 0x100) as u8;
+    }
+}
+
+// Stores the bytes of 16-bit units, the high one first.
+fn put_big_16(units: &[u16], bytes: &mut [u8])
+    requires { 2 * length units.now ≤ length bytes.old }
+    ensures front { take (2 * length units.now) bytes.new ≡ big_bytes_of Utf16 units.now }
+    ensures behind { drop (2 * length units.now) bytes.new ≡ drop (2 * length units.now) bytes.old }
+{
+    for k in 0..units.len() {
+        bytes[2 * k] = (units[k] / 0x100) as u8;
+        bytes[2 * k + 1] = (units[k] % 0x100) as u8;
+    }
+}
+
+// Stores the bytes of 32-bit units, the low one first.
+fn put_little_32(units: &[u32], bytes: &mut [u8])
+    requires { 4 * length units.now ≤ length bytes.old }
+    ensures front { take (4 * length units.now) bytes.new ≡ little_bytes_of Utf32 units.now }
+    ensures behind { drop (4 * length units.now) bytes.new ≡ drop (4 * length units.now) bytes.old }
+{
+    for k in 0..units.len() {
+        bytes[4 * k] = (units[k] % 0x100) as u8;
+        bytes[4 * k + 1] = (units[k] / 0x100 % 0x100) as u8;
+        bytes[4 * k + 2] = (units[k] / 0x1_0000 % 0x100) as u8;
+        bytes[4 * k + 3] = (units[k] / 0x100_0000) as u8;
+    }
+}
+
+// Stores the bytes of 32-bit units, the high one first.
+fn put_big_32(units: &[u32], bytes: &mut [u8])
+    requires { 4 * length units.now ≤ length bytes.old }
+    ensures front { take (4 * length units.now) bytes.new ≡ big_bytes_of Utf32 units.now }
+    ensures behind { drop (4 * length units.now) bytes.new ≡ drop (4 * length units.now) bytes.old }
+{
+    for k in 0..units.len() {
+        bytes[4 * k] = (units[k] / 0x100_0000) as u8;
+        bytes[4 * k + 1] = (units[k] / 0x1_0000 % 0x100) as u8;
+        bytes[4 * k + 2] = (units[k] / 0x100 % 0x100) as u8;
+        bytes[4 * k + 3] = (units[k] % 0x100) as u8;
+    }
+}
+
+/// How many bytes a unit has: two, if it has 16 bits, four, if it has 32.
+pub fn byte_width<C: Unit>() -> usize
+    ensures { result ≡ unit_width C.form }
+{
+    match C::as_any(&[]) {
+        AnyUnits::U16(_none) => 2,
+        AnyUnits::U32(_none) => 4,
+    }
+}
+
+/// Stores the bytes of a byte order mark (Unicode Standard, section 23.8) at the front of `bytes`, the low byte first: `FF FE`, or in
+/// UTF-32 `FF FE 00 00`. What lies behind them stays as it was.
+pub fn put_le_mark<C: Unit>(bytes: &mut [u8])
+    requires { unit_width C.form ≤ length bytes.old }
+    ensures front { take (unit_width C.form) bytes.new ≡ little_bytes C.form byte_order_mark }
+    ensures behind { drop (unit_width C.form) bytes.new ≡ drop (unit_width C.form) bytes.old }
+{
+    match C::as_any(&[]) {
+        AnyUnits::U16(_none) => put_little_16(&[0xfeff], bytes),
+        AnyUnits::U32(_none) => put_little_32(&[0xfeff], bytes),
+    }
+}
+
+/// As [`put_le_mark`], the high byte first: `FE FF`, or in UTF-32 `00 00 FE FF`.
+pub fn put_be_mark<C: Unit>(bytes: &mut [u8])
+    requires { unit_width C.form ≤ length bytes.old }
+    ensures front { take (unit_width C.form) bytes.new ≡ big_bytes C.form byte_order_mark }
+    ensures behind { drop (unit_width C.form) bytes.new ≡ drop (unit_width C.form) bytes.old }
+{
+    match C::as_any(&[]) {
+        AnyUnits::U16(_none) => put_big_16(&[0xfeff], bytes),
+        AnyUnits::U32(_none) => put_big_32(&[0xfeff], bytes),
+    }
+}
+
+/// How many bytes the units have: two for a unit of 16 bits, four for one of 32.
+pub fn byte_len<C: Unit>(units: &[C]) -> usize
+    ensures len { result ≡ unit_width C.form * length units.now }
+    ensures bound { result < 2 ^ 63 }
+{
+    match C::as_any(units) {
+        AnyUnits::U16(units) => 2 * units.len(),
+        AnyUnits::U32(units) => 4 * units.len(),
+    }
+}
+
+/// Stores the bytes of the units at the front of `bytes`, the low byte of each first (Unicode Standard, D97 and D100): two for a unit
+/// of 16 bits, four for one of 32. What lies behind them stays as it was.
+pub fn put_le_bytes<C: Unit>(units: &[C], bytes: &mut [u8])
+    requires { unit_width C.form * length units.now ≤ length bytes.old }
+    ensures front { take (unit_width C.form * length units.now) bytes.new ≡ little_bytes_of C.form (map C.number units.now) }
+    ensures behind { drop (unit_width C.form * length units.now) bytes.new ≡ drop (unit_width C.form * length units.now) bytes.old }
+{
+    match C::as_any(units) {
+        AnyUnits::U16(units) => put_little_16(units, bytes),
+        AnyUnits::U32(units) => put_little_32(units, bytes),
+    }
+}
+
+/// As [`put_le_bytes`], the high byte of each unit first (Unicode Standard, D96 and D99).
+pub fn put_be_bytes<C: Unit>(units: &[C], bytes: &mut [u8])
+    requires { unit_width C.form * length units.now ≤ length bytes.old }
+    ensures front { take (unit_width C.form * length units.now) bytes.new ≡ big_bytes_of C.form (map C.number units.now) }
+    ensures behind { drop (unit_width C.form * length units.now) bytes.new ≡ drop (unit_width C.form * length units.now) bytes.old }
+{
+    match C::as_any(units) {
+        AnyUnits::U16(units) => put_big_16(units, bytes),
+        AnyUnits::U32(units) => put_big_32(units, bytes),
+    }
+}
