@@ -1,11 +1,11 @@
 -- Where a part stands, as loops see it.
-use Rattle.std.proofs.Common.{◌≡◌, ◌≢◌, ℕ, zero, suc, ◌+◌, ◌-◌, ◌<◌, ◌≤◌, List, [], ◌∷◌, ◌++◌, inl, inr, refl, sym, ◌∙◌, ap, subst, arith, length, length-append, length-drop, get_or, take, drop, IsTrue, IfNone}
+use Rattle.std.proofs.Common.{◌≡◌, ◌≢◌, ℕ, zero, suc, ◌+◌, ◌-◌, ◌<◌, ◌≤◌, List, [], ◌∷◌, ◌++◌, inl, inr, refl, sym, ◌∙◌, ap, subst, arith, length, length-append, length-drop, get_or, take, drop, IfNone}
 use Rattle.std.specs.Prelude.{◌↔◌, ◌==◌, Option, Some, None, true, false}
 use Rattle.std.specs.List.{All}
 use Rattle.std.proofs.lemmas.Bool.{cases_lt}
 use Rattle.std.proofs.lemmas.List.{take-append-drop, take_all, nil_from_length}
 use Rattle.std.proofs.Math.Seq.{take-append_seam, drop-append_seam}
-use Rattle.wide_search.specs.Parts.{StandsAt, StandsNowhere, IsFirstAt, IsLastAt, BeginsWith, EndsWith}
+use Rattle.wide_search.specs.Parts.{StandsAt, StandsNowhere, BeginsWith, EndsWith}
 use Rattle.wide_search.specs.Sought.{first_and}
 use Rattle.wide_search.specs.Laws.Stands.{stands-back, stands-left, stands-behind}
 

@@ -1,5 +1,5 @@
 -- How a list is cut at a part.
-use Rattle.std.specs.Prelude.{◌≡◌, ◌+◌, ℕ, List, [], ◌∷◌, ◌++◌, length, take, drop}
+use Rattle.std.specs.Prelude.{◌≡◌, ◌+◌, List, [], ◌∷◌, ◌++◌, length, take, drop}
 use Rattle.wide_search.specs.Parts.{StandsNowhere, IsFirstAt}
 
 module _ {A : Type 0} where

@@ -1,9 +1,9 @@
 -- The laws of the definitions, each the contract of a function of the crate.
-use Rattle.std.specs.Prelude.{◌≡◌, ℕ, ◌+◌, ◌<◌, ◌↔◌, List, [], ◌++◌, length, take, drop}
+use Rattle.std.specs.Prelude.{◌≡◌, ℕ, ◌+◌, ◌<◌, ◌↔◌, List, length}
 use Rattle.wide_unit.specs.EncodingForm.{EncodingForm}
 use Rattle.wide_unit.specs.Items.{chars, IsWellFormed, IsBoundary}
 use Rattle.wide_unit.specs.Places.{chars_before}
-use Rattle.wide_search.specs.Parts.{StandsAt, StandsNowhere, IsFirstAt, IsLastAt}
+use Rattle.wide_search.specs.Parts.{StandsAt, IsFirstAt, IsLastAt}
 use Rattle.wide_search.specs.Pieces.{ArePieces, joined_with}
 use Rattle.wide_search.specs.Cut.{pieces}
 

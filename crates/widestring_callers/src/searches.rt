@@ -11,10 +11,7 @@ use widestring::utfstring::UtfString;
 use widestring::{U16CStr, U16Str, Utf16Str, Utf16String};
 
 /// The text before the part, and the text behind it.
-pub fn around<'a>(
-    text: Utf16Str<'a>,
-    part: Utf16Str<'_>,
-) -> Option<(Utf16Str<'a>, Utf16Str<'a>)> {
+pub fn around<'a>(text: Utf16Str<'a>, part: Utf16Str<'_>) -> Option<(Utf16Str<'a>, Utf16Str<'a>)> {
     let at = text.find(part)?;
     let (front, _) = text.split_at(at);
     let (_, rest) = text.split_at(at + part.len());
@@ -93,7 +90,10 @@ pub fn at_least<C: Unit>(text: UtfStr<'_, C>, units: usize) -> UtfStr<'_, C>
 }
 
 /// A key and its value, where the text has an equals sign.
-pub fn key_and_value<'a>(text: Utf16Str<'a>, sign: Utf16Str<'_>) -> Option<(Utf16Str<'a>, Utf16Str<'a>)> {
+pub fn key_and_value<'a>(
+    text: Utf16Str<'a>,
+    sign: Utf16Str<'_>,
+) -> Option<(Utf16Str<'a>, Utf16Str<'a>)> {
     let (key, value) = text.split_once(sign)?;
     Some((key.trim(), value.trim()))
 }

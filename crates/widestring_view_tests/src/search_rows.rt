@@ -133,7 +133,10 @@ fn finds_units<C: FaultUnit>(units: &[C], sought: &[C], places: Places) -> bool 
     let (first, last) = (first_of(places), last_of(places));
     let (text, part) = (UStr::from_slice(units), UStr::from_slice(sought));
     let (len, whole) = (part.len(), text.len());
-    let (starts, ends) = (search::starts_with(units, sought), search::ends_with(units, sought));
+    let (starts, ends) = (
+        search::starts_with(units, sought),
+        search::ends_with(units, sought),
+    );
     let mut well = (text.find(part) == first) & (text.rfind(part) == last);
     well &= (search::find(units, sought) == first) & (search::rfind(units, sought) == last);
     well &= text.contains(part) == first.is_some();
@@ -273,12 +276,15 @@ fn places_in_units_of_any_values(rt: HostRuntime) {
 // Whether the calls of a C string's view find what those of its contents do.
 fn finds_in_contents<C: FaultUnit>(text: UCStr<'_, C>, part: UCStr<'_, C>, unit: C) -> bool {
     let (units, sought) = (text.as_ustr(), part.as_ustr());
-    let mut well = (text.find(part) == units.find(sought)) & (text.rfind(part) == units.rfind(sought));
+    let mut well = (text.find(part) == units.find(sought))
+        & (text.rfind(part) == units.rfind(sought));
     well &= text.contains(part) == units.contains(sought);
     well &= text.starts_with(part) == units.starts_with(sought);
     well &= text.ends_with(part) == units.ends_with(sought);
-    well &= (text.find_unit(unit) == units.find_unit(unit)) & (text.rfind_unit(unit) == units.rfind_unit(unit));
-    well &= (text.find_char('b') == units.find_char('b')) & (text.rfind_char('b') == units.rfind_char('b'));
+    well &= (text.find_unit(unit) == units.find_unit(unit))
+        & (text.rfind_unit(unit) == units.rfind_unit(unit));
+    well &= (text.find_char('b') == units.find_char('b'))
+        & (text.rfind_char('b') == units.rfind_char('b'));
     well &= lengths(text.split_once(part)) == lengths(units.split_once(sought));
     well &= lengths(text.rsplit_once(part)) == lengths(units.rsplit_once(sought));
     well &= length(text.strip_prefix(part)) == length(units.strip_prefix(sought));

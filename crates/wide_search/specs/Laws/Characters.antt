@@ -1,6 +1,5 @@
 -- Places of parts in well-formed units, and in their characters.
-use Rattle.std.proofs.Common.{◌≡◌, ℕ, ◌+◌, ◌-◌, ◌<◌, ◌≤◌, List, ◌++◌, inl, inr, sym, ◌∙◌, ap, subst, arith, length, length-append, length-drop, length-take, take, drop}
-use Rattle.std.specs.Prelude.{◌↔◌}
+use Rattle.std.proofs.Common.{◌≡◌, ℕ, ◌+◌, ◌<◌, ◌≤◌, List, ◌++◌, inl, inr, sym, ◌∙◌, ap, subst, arith, length, length-append, length-drop, length-take, take, drop}
 use Rattle.std.proofs.lemmas.List.{take-append-drop, length-take-le, drop-drop}
 use Rattle.std.proofs.lemmas.Bool.{cases_eq}
 use Rattle.std.proofs.lemmas.List.Concat.{flat_map-append}
@@ -13,8 +12,6 @@ use Rattle.wide_unit.specs.Laws.Encodings.{encode-drop, places-grow}
 use Rattle.wide_unit.specs.Laws.Places.{IsBoundary-within, IsPlaceOf-boundary, IsPlaceOf-front, chars_before-within, encode-chars}
 use Rattle.wide_unit.specs.Laws.Policies.{characters-append}
 use Rattle.wide_search.specs.Parts.{StandsAt, IsFirstAt}
-use Rattle.wide_search.specs.Laws.Stands.{parted}
-use Rattle.wide_search.specs.Laws.Ends.{IsBoundary-part}
 
 -- a list that begins with a part, behind a place
 stands-of_rest : {A : Type 0} (part whole rest : List A) (at : ℕ) → at ≤ length whole → drop at whole ≡ part ++ rest → StandsAt part whole at

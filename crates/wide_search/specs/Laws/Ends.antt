@@ -1,6 +1,6 @@
 -- A well-formed part that isn't empty stands in units of any kind only at a boundary, and the place behind it is one.
 use Rattle.std.proofs.Common.{◌≡◌, ℕ, ◌+◌, ◌<◌, List, [], ◌∷◌, ◌++◌, refl, sym, ◌∙◌, ap, subst, arith, length, length-append, append_assoc, take, drop}
-use Rattle.std.proofs.lemmas.List.{take-append-drop, length-take-le}
+use Rattle.std.proofs.lemmas.List.{length-take-le}
 use Rattle.wide_unit.specs.EncodingForm.{EncodingForm}
 use Rattle.wide_unit.specs.Items.{IsBoundary, IsWellFormed}
 use Rattle.wide_unit.specs.Laws.Items.{IsCut}

@@ -1,5 +1,5 @@
 -- Places of parts: where the first one is, and the pieces that a list is cut into.
-use Rattle.std.proofs.Common.{◌≡◌, ◌⊎◌, ℕ, zero, suc, ◌+◌, ◌-◌, ◌<◌, ◌≤◌, List, [], ◌∷◌, ◌++◌, inl, inr, refl, sym, ◌∙◌, ap, subst, arith, length, take, drop, length-drop, append_assoc}
+use Rattle.std.proofs.Common.{◌≡◌, ◌⊎◌, ℕ, zero, suc, ◌+◌, ◌<◌, ◌≤◌, List, [], ◌∷◌, ◌++◌, inl, inr, refl, sym, ◌∙◌, ap, subst, arith, length, take, drop, length-drop}
 use Rattle.std.proofs.lemmas.List.{take-append-drop, length-take-le, drop-drop}
 use Rattle.std.proofs.lemmas.Bool.{cases_eq, cases_lt}
 use Rattle.wide_search.specs.Parts.{StandsAt, StandsNowhere, IsFirstAt, IsLastAt}

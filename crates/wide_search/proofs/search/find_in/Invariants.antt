@@ -1,4 +1,4 @@
-use Rattle.std.proofs.Common.{length, ℕ, ◌-◌, ◌<◌, ◌≤◌}
+use Rattle.std.proofs.Common.{length, ℕ, ◌-◌, ◌<◌}
 use Rattle.wide_search.specs.Parts.{StandsAt}
 use Rattle.wide_search.proofs.search.find_in.Given as goal
 

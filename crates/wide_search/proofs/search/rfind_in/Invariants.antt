@@ -1,4 +1,4 @@
-use Rattle.std.proofs.Common.{ℕ, ◌<◌, ◌≤◌, length}
+use Rattle.std.proofs.Common.{ℕ, ◌≤◌, length}
 use Rattle.wide_search.specs.Parts.{StandsAt}
 use Rattle.wide_search.proofs.search.rfind_in.Given as goal
 
