@@ -7,7 +7,7 @@ module _ {A : Type 0} where
     pub within : at + length part ≤ length whole
     pub same : take (length part) (drop at whole) ≡ part
 
-  -- the part stands at some place, and at none
+  -- the part stands at some place; it stands at none
   abbrev pub StandsIn : List A → List A → Type 0
   StandsIn part whole = (at : ℕ) × StandsAt part whole at
 

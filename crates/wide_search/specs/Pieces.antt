@@ -3,7 +3,7 @@ use Rattle.std.specs.Prelude.{◌≡◌, ◌+◌, List, [], ◌∷◌, ◌++◌,
 use Rattle.wide_search.specs.Parts.{StandsNowhere, IsFirstAt}
 
 module _ {A : Type 0} where
-  -- Each cut is the first place of the part in what the cut before has left, and in what the last one has left it stands nowhere.
+  -- Each cut is the first place of the part in what the cut before has left, and in what the last one has left it stands nowhere. At an empty part no list is.
   abbrev pub ArePieces : List A → List A → List (List A) → Type 0
   ArePieces part whole [] = ⊥
   ArePieces part whole (piece ∷ []) = (piece ≡ whole) × StandsNowhere part whole

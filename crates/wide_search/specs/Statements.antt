@@ -1,5 +1,5 @@
 -- The laws of the definitions, each the contract of a function of the crate.
-use Rattle.std.specs.Prelude.{◌≡◌, ℕ, ◌+◌, ◌<◌, ◌↔◌, List, length}
+use Rattle.std.specs.Prelude.{◌≡◌, ℕ, ◌+◌, ◌<◌, ◌↔◌, List, [], ◌∷◌, length}
 use Rattle.wide_unit.specs.EncodingForm.{EncodingForm}
 use Rattle.wide_unit.specs.Items.{chars, IsWellFormed, IsBoundary}
 use Rattle.wide_unit.specs.Places.{chars_before}
@@ -8,11 +8,11 @@ use Rattle.wide_search.specs.Pieces.{ArePieces, joined_with}
 use Rattle.wide_search.specs.Cut.{pieces}
 
 -- a part has at most one first place, and at most one last
-abbrev pub FirstIsUnique : Type 0
-FirstIsUnique = (part whole : List ℕ) (one other : ℕ) → IsFirstAt part whole one → IsFirstAt part whole other → one ≡ other
+abbrev pub FirstIsUnique : Type 0 → Type 0
+FirstIsUnique A = (part whole : List A) (one other : ℕ) → IsFirstAt part whole one → IsFirstAt part whole other → one ≡ other
 
-abbrev pub LastIsUnique : Type 0
-LastIsUnique = (part whole : List ℕ) (one other : ℕ) → IsLastAt part whole one → IsLastAt part whole other → one ≡ other
+abbrev pub LastIsUnique : Type 0 → Type 0
+LastIsUnique A = (part whole : List A) (one other : ℕ) → IsLastAt part whole one → IsLastAt part whole other → one ≡ other
 
 -- a list is cut at a part that isn't empty into `pieces`, and no others; joined with the part between them they are the list
 abbrev pub PiecesExist : Type 0
@@ -20,6 +20,10 @@ PiecesExist = (part whole : List ℕ) → 0 < length part → ArePieces part who
 
 abbrev pub PiecesAreUnique : Type 0
 PiecesAreUnique = (part whole : List ℕ) (others : List (List ℕ)) → 0 < length part → ArePieces part whole others → others ≡ pieces part whole
+
+-- at no part at all the list is the only piece
+abbrev pub WholeAtNoPart : Type 0
+WholeAtNoPart = (whole : List ℕ) → pieces [] whole ≡ whole ∷ []
 
 abbrev pub PiecesJoin : Type 0
 PiecesJoin = (part whole : List ℕ) (some : List (List ℕ)) → ArePieces part whole some → joined_with part some ≡ whole

@@ -1,5 +1,5 @@
 //! Searches in units of UTF-16 and UTF-32, well formed or not: where a part, a unit or a character stands in them. Places and
-//! lengths are counted in units. No call takes memory or fails. All are this port's own, with the names that `str` has for them.
+//! lengths are counted in units. No call takes memory or fails. All are this port's own, with the names that `str` has, where it has one.
 //!
 //! `specs/` has what a part, its places and the pieces between them are, and the functions of [`laws`] have their laws as contracts.
 #![tactic(auto)]

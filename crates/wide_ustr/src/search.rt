@@ -72,7 +72,8 @@ impl<C: Unit> UStr<'_, C> {
     }
 
     /// The first place, in units, at which the character stands: how many units stand before it. None where it stands nowhere. Half of a
-    /// surrogate pair is no character, so it is not found, and both the place and the one behind the character lie between two items.
+    /// surrogate pair is no character, so it is not found, and both the place and the one behind the character lie between two items
+    /// (`wide_search::laws::parts_of_text`).
     pub fn find_char(self, c: char) -> Option<usize>
         ensures first { IfSome result (IsFirstAt (code_units C.form c) (map C.number (units_seen self.entry))) }
         ensures none { IfNone result (StandsNowhere (code_units C.form c) (map C.number (units_seen self.entry))) }

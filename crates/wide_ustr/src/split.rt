@@ -26,8 +26,8 @@ pub trait SplitView<P>: Copy {
         ensures some { IfSome result (λ r. pieces (part_numbers part) (numbers_seen self) ≡ numbers_seen r.0 ∷ pieces (part_numbers part) (numbers_seen r.1)) };
 }
 
-/// The pieces of a view that is cut at a part, from the front. Made by [`UStr::split`](crate::UStr::split) and by the calls of that name of
-/// the other views.
+/// The pieces of a view that is cut at a part, from the front. Made by [`UStr::split`](crate::UStr::split) and by `split` and
+/// `split_char` of the other views.
 #[derive(Clone, Copy, Debug, Drop)]
 pub struct Split<V, P> {
     rest: Option<V>,
@@ -53,7 +53,7 @@ impl<P: Copy, V: SplitView<P>> Iterator for Split<V, P> {
 
     ghost remaining = { λ s. at_most (length (pieces_left V.numbers_seen V.part_numbers s)) };
 
-    /// The next piece. Units are read up to the part that ends it.
+    /// The next piece. Units are read by blocks, up to those of the part that ends it, and some behind it may be.
     fn next(&mut self) -> Option<V> {
         let view = self.rest?;
         let Some((piece, rest)) = view.cut_first(self.part) else {
@@ -99,6 +99,7 @@ impl<C: Unit> UStr<'_, C> {
     pub fn split<'p>(self, part: UStr<'p, C>) -> Split<Self, UStr<'p, C>>
         ensures left { pieces_left (numbers_seen C.number) (numbers_seen C.number) result ≡ pieces (map C.number (units_seen part.entry)) (map C.number (units_seen self.entry)) }
         ensures cut { 0 < length (units_seen part.entry) → ArePieces (map C.number (units_seen part.entry)) (map C.number (units_seen self.entry)) (pieces_left (numbers_seen C.number) (numbers_seen C.number) result) }
+        ensures empty { length (units_seen part.entry) ≡ 0 → pieces_left (numbers_seen C.number) (numbers_seen C.number) result ≡ map C.number (units_seen self.entry) ∷ [] }
     {
         Split::new(self, part)
     }

@@ -35,8 +35,7 @@ impl<C: Unit> UtfStr<'_, C> {
     }
 
     /// The first place, in units, at which the other view's units stand in this one: how many units stand before it. None where they
-    /// stand nowhere. An empty view stands at the start. The
-    /// place is a boundary, and so is the place behind the other view.
+    /// stand nowhere. An empty view stands at the start. The place is a boundary, and so is the place behind the other view.
     ///
     /// What stands before the first unit of the other view is passed by blocks, and from there on units are compared up to the first that
     /// differs. So the worst case, where a long front of it stands nearly everywhere, is the product of both lengths.
@@ -136,11 +135,12 @@ impl<C: Unit> UtfStr<'_, C> {
     }
 
     /// The pieces between the places of the other view, each well formed, from the front: each place is the first behind the one before, so
-    /// that places never overlap. Where they stand at the start, at the end or one behind another, the piece there is empty; where they
-    /// stand nowhere, and where the other view is empty, the whole text is the only piece.
+    /// that places never overlap. Where it stands at the start, at the end or one behind another, the piece there is empty; where it
+    /// stands nowhere, and where the other view is empty, the whole text is the only piece.
     pub fn split<'p>(self, part: UtfStr<'p, C>) -> Split<Self, UtfStr<'p, C>>
         ensures left { pieces_left (numbers_seen C.number) (numbers_seen C.number) result ≡ pieces (map C.number (units_seen part.entry)) (map C.number (units_seen self.entry)) }
         ensures cut { 0 < length (units_seen part.entry) → ArePieces (map C.number (units_seen part.entry)) (map C.number (units_seen self.entry)) (pieces_left (numbers_seen C.number) (numbers_seen C.number) result) }
+        ensures empty { length (units_seen part.entry) ≡ 0 → pieces_left (numbers_seen C.number) (numbers_seen C.number) result ≡ map C.number (units_seen self.entry) ∷ [] }
     {
         Split::new(self, part)
     }

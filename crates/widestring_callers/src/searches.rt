@@ -1,7 +1,6 @@
 //! Texts cut and edited where something was found in them.
-ghost use Rattle.std.specs.Prelude.{◌≡◌, ◌<◌, ◌≤◌, ◌++◌, length, IfSome};
+ghost use Rattle.std.specs.Prelude.{◌≤◌, length};
 ghost use Rattle.widestring.specs.View.{units_seen};
-ghost use Rattle.widestring.specs.UnitView.{units_seen as ustr_units};
 
 use widestring::error::{FaultUnit, OutOfMemory};
 use widestring::unit::Unit;
@@ -83,7 +82,7 @@ pub fn at_most<C: Unit>(text: UtfStr<'_, C>, units: usize) -> UtfStr<'_, C>
 
 /// At least so many, where there are so many.
 pub fn at_least<C: Unit>(text: UtfStr<'_, C>, units: usize) -> UtfStr<'_, C>
-    ensures { units ≤ length (units_seen text) → units ≤ length (units_seen result) }
+    ensures { units ≤ length (units_seen text.entry) → units ≤ length (units_seen result) }
 {
     let (front, _) = text.split_at(text.ceil_char_boundary(units));
     front

@@ -1,4 +1,4 @@
-use Rattle.wide_search.specs.Cut.{pieces, pieces-are}
+use Rattle.wide_search.specs.Cut.{pieces, pieces-are, pieces-whole}
 use Rattle.wide_search.specs.Laws.Stands.{pieces-unique, pieces-joined}
 use Rattle.wide_search.proofs.laws.one_list_of_pieces.Goals as goal
 
@@ -10,3 +10,6 @@ returns-clause-unique c = λ part whole others some are. pieces-unique part othe
 
 pub returns-clause-joined : goal.returns-clause-joined
 returns-clause-joined c = λ part whole some are. pieces-joined part some whole are
+
+pub returns-clause-empty : goal.returns-clause-empty
+returns-clause-empty c = λ whole. pieces-whole whole

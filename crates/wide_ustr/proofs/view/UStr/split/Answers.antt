@@ -1,7 +1,8 @@
-use Rattle.std.proofs.Common.{sym, subst}
+use Rattle.std.proofs.Common.{sym, ◌∙◌, subst}
 use Rattle.std.specs.Prelude.{map}
+use Rattle.std.proofs.lemmas.List.{nil_from_length}
 use Rattle.wide_search.specs.Pieces.{ArePieces}
-use Rattle.wide_search.specs.Laws.Cuts.{pieces-cut}
+use Rattle.wide_search.specs.Laws.Cuts.{pieces-cut, pieces-empty}
 use Rattle.wide_ustr.specs.View.{units_seen}
 use Rattle.wide_ustr.proofs.view.UStr.split.Goals as goal
 
@@ -11,3 +12,8 @@ returns-clause-cut g c = λ some.
     let part = units_seen c.args.part in
     let us = units_seen c.args.self in
     subst (λ ps. ArePieces (map number part) (map number us) ps) (sym c.new.ensures) (pieces-cut number part us some)
+
+pub returns-clause-empty : goal.returns-clause-empty
+returns-clause-empty g c = λ none.
+    let part = units_seen c.args.part in
+    c.new.ensures ∙ pieces-empty g.C.Unit.number g.met.C.Unit.same part (units_seen c.args.self) (nil_from_length part none)
