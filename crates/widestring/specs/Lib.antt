@@ -43,6 +43,7 @@ pub use Rattle.wide_ustr.specs.Iter as UnitIter
 pub use Rattle.wide_ustr.specs.Indexed as UnitIndexed
 pub use Rattle.wide_ustr.specs.LossyWith as UnitLossyWith
 pub use Rattle.wide_ustr.specs.Lines as LinesLeft
+pub use Rattle.wide_ustr.specs.LineIndices
 pub use Rattle.wide_ustr.specs.Split
 pub use Rattle.wide_ustr.specs.Printed
 pub use Rattle.wide_ustring.specs.Units

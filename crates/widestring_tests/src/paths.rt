@@ -12,13 +12,14 @@ pub use widestring::{
 
 pub mod bytes {
     pub use widestring::bytes::{
-        BoM, ByteSink, ByteSource, FromRead, FromWrite, Mode, UnitsOfBytes, byte_order,
-        include_utf16str, put_all, transcode, transcode_with, units_of_bytes,
+        BoM, ByteSink, ByteSource, FromRead, FromWrite, Mode, UnitsOfBytes, Utf16OfBytes,
+        byte_order, include_utf16str, put_all, transcode, transcode_with, units_of_bytes,
+        utf16_of_bytes,
     };
 }
 
 pub mod bytes_laws {
-    pub use widestring::bytes::laws::worked_units;
+    pub use widestring::bytes::laws::{bytes_of_their_units, units_of_their_bytes, worked_units};
 }
 
 pub mod edit {
@@ -43,12 +44,23 @@ pub mod iter {
     };
 }
 
+pub mod search {
+    pub use widestring::search::{
+        ends_with, find, find_char, find_unit, rfind, rfind_char, rfind_unit, rsplit_once,
+        split_once, starts_with, strip_prefix, strip_suffix,
+    };
+}
+
+pub mod search_laws {
+    pub use widestring::search::laws::{one_list_of_pieces, one_place, parts_of_text};
+}
+
 pub mod ucstr {
     pub use widestring::ucstr::{
         CharIndices, CharIndicesLossy, CharIndicesLossyUtf16, CharIndicesLossyUtf32,
         CharIndicesUtf16, CharIndicesUtf32, Chars, CharsLossy, CharsLossyUtf16, CharsLossyUtf32,
-        CharsLossyWith, CharsUtf16, CharsUtf32, Display, DisplaySkipping, U16CStr, U16StrInUcstr,
-        U32CStr, U32StrInUcstr, UCStr, UStrInUcstr, WideCStr,
+        CharsLossyWith, CharsUtf16, CharsUtf32, Display, DisplaySkipping, Split, SplitView,
+        U16CStr, U16StrInUcstr, U32CStr, U32StrInUcstr, UCStr, UStrInUcstr, WideCStr,
     };
 }
 
@@ -70,9 +82,9 @@ pub mod ucstring {
 
 pub mod unit {
     pub use widestring::unit::{
-        AnyUnits, FirstFault, Policy, Unit, check, first_no_scalar, first_nul, first_surrogate,
-        length_as_utf16, length_as_utf32, next_code_point, order_of_units, range_check, same_units,
-        split_first, split_last, split_line, write_escape,
+        AnyUnits, FirstFault, Policy, Unit, check, first_no_scalar, first_nul, first_of,
+        first_surrogate, length_as_utf16, length_as_utf32, next_code_point, order_of_units,
+        range_check, same_units, split_first, split_last, split_line, write_escape,
     };
 }
 
@@ -90,8 +102,8 @@ pub mod ustr {
     pub use widestring::ustr::{
         CharIndices, CharIndicesLossy, CharIndicesLossyUtf16, CharIndicesLossyUtf32,
         CharIndicesUtf16, CharIndicesUtf32, Chars, CharsLossy, CharsLossyUtf16, CharsLossyUtf32,
-        CharsLossyWith, CharsUtf16, CharsUtf32, Display, DisplaySkipping, LineView, Lines, U16Str,
-        U32Str, UStr, WideChar, WideStr, behind_faults,
+        CharsLossyWith, CharsUtf16, CharsUtf32, Display, DisplaySkipping, LineIndices, LineView,
+        Lines, Split, SplitView, U16Str, U32Str, UStr, WideChar, WideStr, behind_faults,
     };
 }
 
@@ -115,9 +127,9 @@ pub mod ustring_extend {
 pub mod utfstr {
     pub use widestring::utfstr::{
         CharIndices, CharIndicesUtf16, CharIndicesUtf32, Chars, CharsUtf16, CharsUtf32, CodeUnits,
-        EscapeDebug, EscapeDefault, EscapeUnicode, FirstFault, Lines, U16CStrInUtfstr,
-        U16StrInUtfstr, U32CStrInUtfstr, U32StrInUtfstr, UCStrInUtfstr, UStrInUtfstr, Utf16Str,
-        Utf32Str, UtfStr, WideUtfStr, check,
+        EscapeDebug, EscapeDefault, EscapeUnicode, FirstFault, LineIndices, Lines, Split,
+        SplitView, U16CStrInUtfstr, U16StrInUtfstr, U32CStrInUtfstr, U32StrInUtfstr, UCStrInUtfstr,
+        UStrInUtfstr, Utf16Str, Utf32Str, UtfStr, WideUtfStr, check,
     };
 }
 
