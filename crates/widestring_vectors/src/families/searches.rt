@@ -1,10 +1,11 @@
 //! Searches in units of either width, and in text. A question is the units of a part, a colon, a character, a colon and a place.
 //!
-//! The answer is of several parts. The first is what units of any values answer: whether they contain the part, begin and end with it, each `1`
-//! or `0`; the first and the last place of the part, and of the character; how many units are left without the part at the start and at the end;
-//! how many stand before it and behind it, at its first place and at its last; a `-` where there is none. Then come the lengths of the pieces
-//! that the part cuts, and the first and the last place of its first unit, where it has one. Where both units and part are well formed, there
-//! follow the same two parts of the text, the lengths of the pieces that the character cuts, and the boundaries around the place.
+//! The answer is of several parts. The first is what units of any values answer: whether they contain the part, begin and end with it,
+//! each `1` or `0`; the first and the last place of the part, and of the character; how many units are left without the part at the start
+//! and at the end; how many stand before it and behind it, at its first place and at its last; a `-` where there is none. Then come the
+//! lengths of the pieces that the part cuts, and the first and the last place of its first unit, where it has one. Where both units and
+//! part are well formed, there follow the same first two parts of the text, the lengths of the pieces that the character cuts, and the
+//! boundaries around the place.
 use crate::parse::{self, FromHex, NoAnswer};
 use crate::show::Answer;
 use std::alloc::Global;
