@@ -21,6 +21,7 @@ mod items;
 mod lossy;
 mod offsets;
 mod policies;
+mod searches;
 mod texts;
 mod ucstring;
 mod ustring;
@@ -131,11 +132,15 @@ pub enum Family {
     Edits,
     /// Runs of bytes between slow and failing devices.
     Transcode,
+    /// Searches in 16-bit units, and in text of them.
+    Searches16,
+    /// Searches in 32-bit units, and in text of them.
+    Searches32,
 }
 
 impl Family {
     /// All families, in the order in which they are printed.
-    pub const ALL: [Family; 49] = [
+    pub const ALL: [Family; 51] = [
         Family::Items16,
         Family::Items32,
         Family::Lossy16,
@@ -185,6 +190,8 @@ impl Family {
         Family::Skip32,
         Family::Edits,
         Family::Transcode,
+        Family::Searches16,
+        Family::Searches32,
     ];
 
     /// The family's name, which is its file's without `.txt`.
@@ -239,6 +246,8 @@ impl Family {
             Family::Skip32 => "skip32",
             Family::Edits => "edits",
             Family::Transcode => "transcode",
+            Family::Searches16 => "searches16",
+            Family::Searches32 => "searches32",
         }
     }
 
@@ -309,6 +318,8 @@ impl Family {
             Family::Skip32 => policies::utf32(alloc, list, question, Policy::Skip),
             Family::Edits => edits::replies(alloc, list, question),
             Family::Transcode => devices::run(alloc, list, question),
+            Family::Searches16 => searches::found::<u16>(alloc, list, question),
+            Family::Searches32 => searches::found::<u32>(alloc, list, question),
         }
     }
 }

@@ -142,6 +142,21 @@ impl Answer {
         }
     }
 
+    /// Adds a place or a length in hexadecimal, or a `-` for none.
+    pub fn count(&mut self, count: Option<usize>) {
+        self.gap();
+        match count {
+            None => self.word("-"),
+            Some(count) => self.hex(count as u64),
+        }
+    }
+
+    /// Adds a `1` where something holds, and else a `0`.
+    pub fn decided(&mut self, holds: bool) {
+        self.gap();
+        self.word(if holds { "1" } else { "0" });
+    }
+
     /// Adds a character in hexadecimal, or a `-` for none.
     pub fn character(&mut self, c: Option<char>) {
         self.number(c.map(u32::from));

@@ -1,0 +1,90 @@
+//! Searches in units of either width, and in text. A question is the units of a part, a colon, a character, a colon and a place.
+//!
+//! The answer is of several parts. The first is what units of any values answer: whether they contain the part, begin and end with it,
+//! each `1` or `0`; the first and the last place of the part, and of the character; how many units are left without the part at the start
+//! and at the end; how many stand before it and behind it, at its first place and at its last; a `-` where there is none. Then come the
+//! lengths of the pieces that the part cuts, and the first and the last place of its first unit, where it has one. Where both units and
+//! part are well formed, there follow the same first two parts of the text, the lengths of the pieces that the character cuts, and the
+//! boundaries around the place.
+use crate::parse::{self, FromHex, NoAnswer};
+use crate::show::Answer;
+use std::alloc::Global;
+use widestring::error::FaultUnit;
+use widestring::ustr::UStr;
+use widestring::utfstr::UtfStr;
+
+// What a view answers to the searches that views of units and of text share.
+macro_rules! searched {
+    ($answer:expr, $view:expr, $part:expr, $c:expr) => {
+        $answer.decided($view.contains($part));
+        $answer.decided($view.starts_with($part));
+        $answer.decided($view.ends_with($part));
+        $answer.count($view.find($part));
+        $answer.count($view.rfind($part));
+        $answer.count($view.find_char($c));
+        $answer.count($view.rfind_char($c));
+        $answer.count($view.strip_prefix($part).map(|rest| rest.len()));
+        $answer.count($view.strip_suffix($part).map(|front| front.len()));
+        for halves in [$view.split_once($part), $view.rsplit_once($part)] {
+            $answer.count(halves.map(|(front, _)| front.len()));
+            $answer.count(halves.map(|(_, rest)| rest.len()));
+        }
+        $answer.part();
+        for piece in $view.split($part) {
+            $answer.count(Some(piece.len()));
+        }
+        $answer.part();
+    };
+}
+
+// What is found in units of any values.
+fn in_units<C: FaultUnit>(answer: &mut Answer, view: UStr<'_, C>, part: UStr<'_, C>, c: char) {
+    searched!(answer, view, part, c);
+    if let [unit, ..] = part.as_slice() {
+        answer.count(view.find_unit(*unit));
+        answer.count(view.rfind_unit(*unit));
+    }
+}
+
+// What is found in text, and the boundaries around a place.
+fn in_text<C: FaultUnit>(
+    answer: &mut Answer,
+    text: UtfStr<'_, C>,
+    part: UtfStr<'_, C>,
+    c: char,
+    place: usize,
+) {
+    searched!(answer, text, part, c);
+    for piece in text.split_char(c) {
+        answer.count(Some(piece.len()));
+    }
+    answer.part();
+    answer.count(Some(text.floor_char_boundary(place)));
+    answer.count(Some(text.ceil_char_boundary(place)));
+}
+
+/// What searches find in units of either width.
+pub fn found<C: FaultUnit + FromHex>(
+    alloc: Global,
+    list: &str,
+    question: &str,
+) -> Result<String, NoAnswer> {
+    let (part, rest) = parse::parts(question)?;
+    let (c, place) = parse::parts(rest)?;
+    let c = parse::value::<char>(c)?;
+    let place = parse::value::<usize>(place)?;
+    let units = parse::list::<C>(alloc, list)?;
+    let part = parse::list::<C>(alloc, part)?;
+    let mut answer = Answer::new(alloc);
+    in_units(
+        &mut answer,
+        UStr::from_slice(&units),
+        UStr::from_slice(&part),
+        c,
+    );
+    if let (Ok(text), Ok(part)) = (UtfStr::from_slice(&units), UtfStr::from_slice(&part)) {
+        answer.part();
+        in_text(&mut answer, text, part, c, place);
+    }
+    answer.finish()
+}
