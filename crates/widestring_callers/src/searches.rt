@@ -4,7 +4,6 @@ ghost use Rattle.widestring.specs.View.{units_seen};
 
 use widestring::error::{FaultUnit, OutOfMemory};
 use widestring::unit::Unit;
-use widestring::ustr::LineView;
 use widestring::utfstr::UtfStr;
 use widestring::utfstring::UtfString;
 use widestring::{U16CStr, U16Str, Utf16Str, Utf16String};
@@ -133,13 +132,12 @@ pub fn last_part<'a>(path: U16CStr<'a>, slash: char) -> U16Str<'a> {
     }
 }
 
-/// The lines of the text, by what `first_line` leaves.
-pub fn count_lines(text: Utf16Str<'_>) -> usize {
-    let mut rest = text;
-    let mut count = 0_usize;
-    while let Some((_, behind)) = rest.first_line() {
-        count = count.saturating_add(1);
-        rest = behind;
+/// The place of the first line that is the mark, and nothing else.
+pub fn line_of(text: Utf16Str<'_>, mark: Utf16Str<'_>) -> Option<usize> {
+    for (place, line) in text.line_indices() {
+        if line == mark {
+            return Some(place);
+        }
     }
-    count
+    None
 }
