@@ -47,7 +47,7 @@ fn has_nul<C: FaultUnit>(units: &[C], place: usize) -> bool {
 }
 
 // The units with another one at this place.
-fn with_unit<C: FaultUnit>(units: [C; 72], place: usize, unit: C) -> [C; 72]
+pub(crate) fn with_unit<C: FaultUnit>(units: [C; 72], place: usize, unit: C) -> [C; 72]
     requires { place < 72 }
 {
     let mut changed = units;

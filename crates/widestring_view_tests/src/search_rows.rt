@@ -1,6 +1,8 @@
 //! Searches at both widths: the places and pieces that `str` has for them, counted in units, and units of any values.
+ghost use Rattle.std.specs.Prelude.{◌<◌};
+
+use crate::block_rows::with_unit;
 use crate::rows::all_hold;
-use std::alloc::Global;
 use std::test::Fail;
 use widestring::error::FaultUnit;
 use widestring::ucstr::UCStr;
@@ -163,10 +165,10 @@ fn places_of_parts(rt: HostRuntime) -> Result<(), Fail> {
     let mut holds = [false; 14];
     for row in 0..14 {
         let (text, part, in_16, in_32) = ROWS[row];
-        let text_16 = Utf16String::from_str(Global, text)?;
-        let part_16 = Utf16String::from_str(Global, part)?;
-        let text_32 = Utf32String::from_str(Global, text)?;
-        let part_32 = Utf32String::from_str(Global, part)?;
+        let text_16 = Utf16String::from_str(rt.alloc(), text)?;
+        let part_16 = Utf16String::from_str(rt.alloc(), part)?;
+        let text_32 = Utf32String::from_str(rt.alloc(), text)?;
+        let part_32 = Utf32String::from_str(rt.alloc(), part)?;
         let mut well = finds(text_16.as_utfstr(), part_16.as_utfstr(), in_16);
         well &= finds(text_32.as_utfstr(), part_32.as_utfstr(), in_32);
         well &= finds_char(text_16.as_utfstr(), part, in_16);
@@ -216,10 +218,10 @@ fn pieces_between_parts(rt: HostRuntime) -> Result<(), Fail> {
     let mut holds = [false; 8];
     for row in 0..8 {
         let (text, part, pieces) = PIECES[row];
-        let text_16 = Utf16String::from_str(Global, text)?;
-        let part_16 = Utf16String::from_str(Global, part)?;
-        let text_32 = Utf32String::from_str(Global, text)?;
-        let part_32 = Utf32String::from_str(Global, part)?;
+        let text_16 = Utf16String::from_str(rt.alloc(), text)?;
+        let part_16 = Utf16String::from_str(rt.alloc(), part)?;
+        let text_32 = Utf32String::from_str(rt.alloc(), text)?;
+        let part_32 = Utf32String::from_str(rt.alloc(), part)?;
         let mut well = cuts(text_16.as_utfstr(), part_16.as_utfstr(), pieces);
         well &= cuts(text_32.as_utfstr(), part_32.as_utfstr(), pieces);
         well &= cuts_char(text_16.as_utfstr(), part, pieces);
@@ -229,17 +231,35 @@ fn pieces_between_parts(rt: HostRuntime) -> Result<(), Fail> {
     Ok(())
 }
 
-// Whether one unit among others, and two, are found at each place of a long list, from both ends.
-fn finds_each<C: FaultUnit>(other: C, unit: C) -> bool {
+// Whether a row of two such units is found at this place, from both ends.
+fn finds_pair<C: FaultUnit>(units: &[C], unit: C, place: usize) -> bool
+    requires { place < 71 }
+{
+    let view = UStr::from_slice(units);
+    let part = view.get(place..place + 2).unwrap_or(view);
+    let well = (view.find_unit(unit) == Some(place)) & (view.rfind_unit(unit) == Some(place + 1));
+    well & (view.find(part) == Some(place)) & (view.rfind(part) == Some(place))
+}
+
+// Whether it is, at each place of a long list of others.
+fn finds_each_16(len: usize, other: u16, unit: u16) -> bool
+    requires { len < 71 }
+{
     let mut well = true;
-    for place in 0..70usize {
-        let mut units = [other; 72];
-        units[place] = unit;
-        units[place + 1] = unit;
-        let view = UStr::from_slice(&units);
-        well &= (view.find_unit(unit) == Some(place)) & (view.rfind_unit(unit) == Some(place + 1));
-        let part = UStr::from_slice(&units[place..place + 2]);
-        well &= (view.find(part) == Some(place)) & (view.rfind(part) == Some(place));
+    for place in 0..len {
+        let units = with_unit(with_unit([other; 72], place, unit), place + 1, unit);
+        well &= finds_pair(&units, unit, place);
+    }
+    well
+}
+
+fn finds_each_32(len: usize, other: u32, unit: u32) -> bool
+    requires { len < 71 }
+{
+    let mut well = true;
+    for place in 0..len {
+        let units = with_unit(with_unit([other; 72], place, unit), place + 1, unit);
+        well &= finds_pair(&units, unit, place);
     }
     well
 }
@@ -265,10 +285,10 @@ fn places_in_units_of_any_values(rt: HostRuntime) {
         wide_text.rfind_char('a') == Some(3),
         wide_text.find_unit(0x11_0000) == Some(2),
         wide_text.rfind_unit(0xd800) == Some(0),
-        finds_each(0x61u16, 0x62),
-        finds_each(0xde00u16, 0xd83d),
-        finds_each(0x61u32, 0x62),
-        finds_each(0x1_0061u32, 0x61),
+        finds_each_16(70, 0x61, 0x62),
+        finds_each_16(70, 0xde00, 0xd83d),
+        finds_each_32(70, 0x61, 0x62),
+        finds_each_32(70, 0x1_0061, 0x61),
     ];
     all_hold(&rt, &rows);
 }
@@ -334,6 +354,45 @@ fn boundaries_around_places(rt: HostRuntime) -> Result<(), Fail> {
         wide_text.floor_char_boundary(9) == 3,
         wide_text.ceil_char_boundary(2) == 2,
         wide_text.ceil_char_boundary(9) == 3,
+    ];
+    all_hold(&rt, &rows);
+    Ok(())
+}
+
+// Whether the lines of the text, and those of its units, begin at these places.
+fn begin_at<C: FaultUnit>(text: UtfStr<'_, C>, places: &[usize]) -> bool {
+    let mut wanted = places.iter();
+    let mut well = true;
+    for (place, _) in text.line_indices() {
+        well &= match wanted.next() {
+            Some(want) => *want == place,
+            None => false,
+        };
+    }
+    let mut unit_wanted = places.iter();
+    for (place, _) in UStr::from_slice(text.as_slice()).line_indices_lossy() {
+        well &= match unit_wanted.next() {
+            Some(want) => *want == place,
+            None => false,
+        };
+    }
+    well & wanted.next().is_none() & unit_wanted.next().is_none()
+}
+
+#[test]
+fn places_of_lines(rt: HostRuntime) -> Result<(), Fail> {
+    let text = "a😀\r\n\nb\r\n";
+    let text_16 = Utf16String::from_str(rt.alloc(), text)?;
+    let text_32 = Utf32String::from_str(rt.alloc(), text)?;
+    let none = Utf16String::from_str(rt.alloc(), "")?;
+    let long =
+        "sixteen units and more stand before the line that is last\nin two lines\r\n\r\nlast";
+    let long_16 = Utf16String::from_str(rt.alloc(), long)?;
+    let rows = [
+        begin_at(text_16.as_utfstr(), &[0, 5, 6]),
+        begin_at(text_32.as_utfstr(), &[0, 4, 5]),
+        begin_at(none.as_utfstr(), &[]),
+        begin_at(long_16.as_utfstr(), &[0, 58, 72, 74]),
     ];
     all_hold(&rt, &rows);
     Ok(())
