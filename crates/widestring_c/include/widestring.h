@@ -43,6 +43,17 @@ size_t wide_utf8_first_fault(const uint8_t *text, size_t length);
 size_t wide_utf16_first_nul(const uint16_t *units, size_t length);
 size_t wide_utf32_first_nul(const uint32_t *units, size_t length);
 
+/* The place of the first unit that is `unit`, or `length` where none is. */
+size_t wide_utf16_find_unit(const uint16_t *units, size_t length, uint16_t unit);
+size_t wide_utf32_find_unit(const uint32_t *units, size_t length, uint32_t unit);
+
+/*
+ * The first place at which the part stands in the units, or SIZE_MAX where it stands nowhere. An empty part stands at 0. What stands before the
+ * part's first unit is passed by blocks; the worst case, a part whose front stands nearly everywhere, is the product of both lengths.
+ */
+size_t wide_utf16_find(const uint16_t *units, size_t length, const uint16_t *part, size_t part_length);
+size_t wide_utf32_find(const uint32_t *units, size_t length, const uint32_t *part, size_t part_length);
+
 /*
  * The functions below answer the length that is needed, whatever `room` is. Where the room is as large, that many elements at the
  * front of the buffer are the answer's, and those behind them, within the room, are as they were. Where it is smaller, what the

@@ -12,6 +12,8 @@ mod repair;
 mod room_rows;
 mod rooms;
 mod search;
+#[cfg(test)]
+mod search_rows;
 mod to_utf8;
 
 pub use between::{wide_utf16_to_utf32, wide_utf32_to_utf16};
@@ -22,7 +24,8 @@ pub use from_utf8::{
 };
 pub use repair::{wide_utf16_repair, wide_utf32_repair};
 pub use search::{
-    wide_utf16_first_fault, wide_utf16_first_nul, wide_utf32_first_fault, wide_utf32_first_nul,
+    wide_utf16_find, wide_utf16_find_unit, wide_utf16_first_fault, wide_utf16_first_nul,
+    wide_utf32_find, wide_utf32_find_unit, wide_utf32_first_fault, wide_utf32_first_nul,
 };
 pub use to_utf8::{
     wide_utf16_to_utf8, wide_utf16_to_utf8_lossy, wide_utf16_to_utf8_lossy_with,

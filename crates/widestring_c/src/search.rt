@@ -1,9 +1,11 @@
-//! Where the first fault or the first NUL stands.
-ghost use Rattle.std.specs.Prelude.{◌≡◌, ◌<◌, ◌≤◌, ◌↔◌, ℕ, length};
+//! Where the first fault, the first NUL, a unit or a part stands.
+ghost use Rattle.std.specs.Prelude.{◌≡◌, ◌<◌, ◌≤◌, ◌-◌, ◌^◌, ◌∷◌, [], ◌↔◌, ℕ, length};
 ghost use Rattle.wide_unit.specs.EncodingForm.{Utf16, Utf32};
 ghost use Rattle.wide_unit.specs.Items.{IsFirstFault, IsWellFormed};
 ghost use Rattle.wide_unit.specs.Nul.{HasNoNul, IsFirstNul};
+ghost use Rattle.wide_search.specs.Parts.{IsFirstAt, StandsNowhere};
 
+use wide_search::{find, find_unit};
 use wide_unit::{check, first_nul};
 
 /// The place of the first fault of UTF-16 (Unicode Standard, D91), or the length where the units are well formed.
@@ -50,4 +52,42 @@ pub extern "C" fn wide_utf32_first_nul(units: &[u32]) -> usize
     ensures within { result ≤ length units.now }
 {
     first_nul(units).unwrap_or(units.len())
+}
+
+/// The place of the first unit that is this one, or the length where none is.
+#[unsafe(no_mangle)]
+pub extern "C" fn wide_utf16_find_unit(units: &[u16], unit: u16) -> usize
+    ensures first { result < length units.now → IsFirstAt (unit ∷ []) units.now result }
+    ensures none { result ≡ length units.now → StandsNowhere (unit ∷ []) units.now }
+    ensures within { result ≤ length units.now }
+{
+    find_unit(units, unit).unwrap_or(units.len())
+}
+
+/// The first place of the part, or the greatest number where it stands nowhere. An empty part stands at 0.
+#[unsafe(no_mangle)]
+pub extern "C" fn wide_utf16_find(units: &[u16], part: &[u16]) -> usize
+    ensures first { result < 2 ^ 64 - 1 → IsFirstAt part.now units.now result }
+    ensures none { result ≡ 2 ^ 64 - 1 → StandsNowhere part.now units.now }
+{
+    find(units, part).unwrap_or(usize::MAX)
+}
+
+/// The place of the first unit that is this one, or the length where none is.
+#[unsafe(no_mangle)]
+pub extern "C" fn wide_utf32_find_unit(units: &[u32], unit: u32) -> usize
+    ensures first { result < length units.now → IsFirstAt (unit ∷ []) units.now result }
+    ensures none { result ≡ length units.now → StandsNowhere (unit ∷ []) units.now }
+    ensures within { result ≤ length units.now }
+{
+    find_unit(units, unit).unwrap_or(units.len())
+}
+
+/// The first place of the part, or the greatest number where it stands nowhere. An empty part stands at 0.
+#[unsafe(no_mangle)]
+pub extern "C" fn wide_utf32_find(units: &[u32], part: &[u32]) -> usize
+    ensures first { result < 2 ^ 64 - 1 → IsFirstAt part.now units.now result }
+    ensures none { result ≡ 2 ^ 64 - 1 → StandsNowhere part.now units.now }
+{
+    find(units, part).unwrap_or(usize::MAX)
 }

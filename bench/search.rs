@@ -1,0 +1,95 @@
+//! Races searches in units of 16 bits: `bench/search` builds it and runs it.
+mod clock;
+
+use std::hint::black_box;
+
+extern "C" {
+    fn wide_utf16_find_unit(units: *const u16, length: usize, unit: u16) -> usize;
+    fn wide_utf16_find(units: *const u16, length: usize, part: *const u16, part_length: usize) -> usize;
+}
+
+fn find_unit(units: &[u16], unit: u16) -> Option<usize> {
+    let at = unsafe { wide_utf16_find_unit(units.as_ptr(), units.len(), unit) };
+    (at < units.len()).then_some(at)
+}
+
+fn find(units: &[u16], part: &[u16]) -> Option<usize> {
+    let at = unsafe { wide_utf16_find(units.as_ptr(), units.len(), part.as_ptr(), part.len()) };
+    (at != usize::MAX).then_some(at)
+}
+
+fn windows(units: &[u16], part: &[u16]) -> Option<usize> {
+    units.windows(part.len()).position(|window| window == part)
+}
+
+fn bytes_of(units: &[u16]) -> &[u8] {
+    unsafe { std::slice::from_raw_parts(units.as_ptr().cast(), 2 * units.len()) }
+}
+
+/// `memmem` over the bytes, asked again behind a place between two units.
+fn memmem(units: &[u16], part: &[u16]) -> Option<usize> {
+    let (bytes, sought) = (bytes_of(units), bytes_of(part));
+    let finder = memchr::memmem::Finder::new(sought);
+    let mut from = 0;
+    while let Some(at) = finder.find(&bytes[from..]) {
+        if (from + at) % 2 == 0 {
+            return Some((from + at) / 2);
+        }
+        from += at + 1;
+    }
+    None
+}
+
+/// Words of lower-case letters and spaces, of so many units.
+fn words(length: usize) -> Vec<u16> {
+    let mut state = 0x2545_f491_4f6c_dd1du64;
+    let mut units = Vec::with_capacity(length);
+    for _ in 0..length {
+        state ^= state << 13;
+        state ^= state >> 7;
+        state ^= state << 17;
+        units.push(if state % 6 == 0 { 0x20 } else { 0x61 + (state >> 8) as u16 % 26 });
+    }
+    units
+}
+
+fn text(part: &str) -> Vec<u16> {
+    part.encode_utf16().collect()
+}
+
+/// The library's time, and it as a multiple of each peer's.
+fn race(name: &str, units: &[u16], part: &[u16]) {
+    let calls = if units.len() < 100_000 { 200 } else { 1 };
+    let rounds = if units.len() < 100_000 { 60 } else { 12 };
+    let place = windows(units, part);
+    let mut runners = vec![
+        clock::round(calls, || find(black_box(units), black_box(part)) == place),
+        clock::round(calls, || windows(black_box(units), black_box(part)) == place),
+        clock::round(calls, || memmem(black_box(units), black_box(part)) == place),
+    ];
+    if let [unit] = part {
+        runners[0] = clock::round(calls, || find_unit(black_box(units), black_box(*unit)) == place);
+        runners[1] = clock::round(calls, || black_box(units).iter().position(|other| other == unit) == place);
+    }
+    let times = clock::best_times(rounds, &mut runners);
+    print!("{name:<44} {:>9} units {:>12.0} ns ", units.len(), times[0]);
+    for peer in &times[1..] {
+        print!(" {:.2}", times[0] / peer);
+    }
+    println!();
+}
+
+fn main() {
+    println!("the library's time, and it as multiples of those of std (position, windows), memchr (memmem over the bytes)");
+    for length in [8 << 10, 32 << 20] {
+        let units = words(length);
+        race("a unit that is not there", &units, &[0x3042]);
+        race("a rare first unit", &units, &text("\u{3042}bc"));
+        race("a common first unit", &units, &text("eqzjxkwv"));
+        race("a space and a word", &units, &text(" wquxzj"));
+        let alike = vec![0x61u16; length.min(1 << 20)];
+        let mut hostile = vec![0x61u16; 64];
+        hostile.push(0x62);
+        race("a part whose front stands everywhere", &alike, &hostile);
+    }
+}

@@ -1,0 +1,38 @@
+//! Searches, each called once where something is found and once where nothing is.
+use crate::search::{
+    wide_utf16_find, wide_utf16_find_unit, wide_utf16_first_fault, wide_utf16_first_nul,
+    wide_utf32_find, wide_utf32_find_unit, wide_utf32_first_fault, wide_utf32_first_nul,
+};
+
+#[test]
+fn places(rt: HostRuntime) {
+    let mut units = [0x61u16; 72];
+    units[69] = 0;
+    units[70] = 0xd83d;
+    let mut wide = [0x61u32; 72];
+    wide[69] = 0;
+    wide[70] = 0xd83d;
+    let rows = [
+        wide_utf16_first_fault(&units) == 70,
+        wide_utf16_first_fault(&units[..70]) == 70,
+        wide_utf16_first_nul(&units) == 69,
+        wide_utf16_first_nul(&units[..69]) == 69,
+        wide_utf16_find_unit(&units, 0xd83d) == 70,
+        wide_utf16_find_unit(&units, 0x62) == 72,
+        wide_utf16_find(&units, &[0x61, 0]) == 68,
+        wide_utf16_find(&units, &[0, 0]) == usize::MAX,
+        wide_utf16_find(&units, &[]) == 0,
+        wide_utf32_first_fault(&wide) == 70,
+        wide_utf32_first_fault(&wide[..70]) == 70,
+        wide_utf32_first_nul(&wide) == 69,
+        wide_utf32_first_nul(&wide[..69]) == 69,
+        wide_utf32_find_unit(&wide, 0xd83d) == 70,
+        wide_utf32_find_unit(&wide, 0x62) == 72,
+        wide_utf32_find(&wide, &[0x61, 0]) == 68,
+        wide_utf32_find(&wide, &[0, 0]) == usize::MAX,
+        wide_utf32_find(&wide, &[]) == 0,
+    ];
+    for (place, holds) in rows.iter().enumerate() {
+        assert!(rt; *holds, "row {place} does not hold");
+    }
+}
