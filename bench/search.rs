@@ -67,9 +67,10 @@ fn race(name: &str, units: &[u16], part: &[u16]) {
         clock::round(calls, || windows(black_box(units), black_box(part)) == place),
         clock::round(calls, || memmem(black_box(units), black_box(part)) == place),
     ];
-    if let [unit] = part {
-        runners[0] = clock::round(calls, || find_unit(black_box(units), black_box(*unit)) == place);
-        runners[1] = clock::round(calls, || black_box(units).iter().position(|other| other == unit) == place);
+    if let [only] = part {
+        let unit = *only;
+        runners[0] = clock::round(calls, move || find_unit(black_box(units), black_box(unit)) == place);
+        runners[1] = clock::round(calls, move || black_box(units).iter().position(|other| *other == unit) == place);
     }
     let times = clock::best_times(rounds, &mut runners);
     print!("{name:<44} {:>9} units {:>12.0} ns ", units.len(), times[0]);
