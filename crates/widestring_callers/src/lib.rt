@@ -4,6 +4,7 @@
 //! the ends, and places that the caller has compared. `CALLING.md` begins with some of them.
 #![tactic(auto)]
 
+pub mod bytes;
 pub mod compare;
 pub mod edits;
 pub mod faults;

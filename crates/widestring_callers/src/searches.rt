@@ -43,7 +43,7 @@ pub fn behind_char<C: Unit>(text: UtfStr<'_, C>, c: char) -> Option<UtfStr<'_, C
     Some(rest)
 }
 
-/// A dash in front of the part, and in front of the last such character.
+/// Puts a dash in front of the part, where it stands in the text.
 pub fn mark_part(text: &mut Utf16String, part: Utf16Str<'_>) -> Result<(), OutOfMemory> {
     match text.as_utfstr().find(part) {
         Some(at) => text.insert(at, '-'),
@@ -51,6 +51,7 @@ pub fn mark_part(text: &mut Utf16String, part: Utf16Str<'_>) -> Result<(), OutOf
     }
 }
 
+/// Puts a dash in front of the last such character, at any width.
 pub fn mark_char<C: FaultUnit>(text: &mut UtfString<C>, c: char) -> Result<(), OutOfMemory> {
     match text.as_utfstr().rfind_char(c) {
         Some(at) => text.insert(at, '-'),
@@ -58,13 +59,14 @@ pub fn mark_char<C: FaultUnit>(text: &mut UtfString<C>, c: char) -> Result<(), O
     }
 }
 
-/// Takes away what stands from the part on, or behind the character.
+/// Takes away what stands from the part on.
 pub fn cut_from(text: &mut Utf16String, part: Utf16Str<'_>) {
     if let Some(at) = text.as_utfstr().find(part) {
         text.drain(at..);
     }
 }
 
+/// Takes away what stands behind the first such character.
 pub fn cut_behind(text: &mut Utf16String, c: char) {
     if let Some(at) = text.as_utfstr().find_char(c) {
         text.drain(at + u16::char_len(c)..);
