@@ -143,3 +143,52 @@ pub fn line_of(text: Utf16Str<'_>, mark: Utf16Str<'_>) -> Option<usize> {
     }
     None
 }
+
+/// Puts a character before the last one that is `mark`, whose place a loop remembers: that it is a boundary is asked once behind the loop.
+pub fn insert_before_remembered(
+    text: &mut Utf16String,
+    mark: char,
+    c: char,
+) -> Result<(), OutOfMemory> {
+    let mut place = None;
+    for (at, found) in text.as_utfstr().char_indices() {
+        if found == mark {
+            place = Some(at);
+        }
+    }
+    match place {
+        Some(at) if text.as_utfstr().is_char_boundary(at) => text.insert(at, c),
+        _ => Ok(()),
+    }
+}
+
+/// What stands before the first such character, and from it on.
+pub fn parted<'a>(text: Utf16Str<'a>, mark: char) -> (Utf16Str<'a>, Utf16Str<'a>) {
+    match text.find_char(mark) {
+        Some(at) => text.split_at(at),
+        None => text.split_at(text.len()),
+    }
+}
+
+/// Each text without the blanks at its ends.
+pub fn trim_all(views: &mut Vec<Utf16Str<'_>>) {
+    for view in views.iter_mut() {
+        *view = view.trim();
+    }
+}
+
+/// The same by numbers.
+pub fn trim_each(views: &mut Vec<Utf16Str<'_>>) {
+    for number in 0..views.len() {
+        views[number] = views[number].trim();
+    }
+}
+
+/// How many lines there are.
+pub fn count_lines(text: Utf16Str<'_>) -> usize {
+    let mut count = 0_usize;
+    for _ in text.lines() {
+        count = count.saturating_add(1);
+    }
+    count
+}

@@ -1,0 +1,27 @@
+//! Prints the lines of a file in UTF-16 that hold a word, each with its number.
+#![tactic(auto)]
+
+use std::alloc::AllocError;
+use std::process::ExitCode;
+use std::{env, fs, io};
+use widestring::bytes::utf16_of_bytes;
+use widestring::{U16Str, U16String};
+
+fn main(rt: HostRuntime) -> io::Result<ExitCode> {
+    let mut words = env::args(&rt)?.skip(1);
+    let (Some(path), Some(word)) = (words.next(), words.next()) else {
+        eprintln!(rt; "usage: lines FILE WORD")?;
+        return Ok(ExitCode::from(2));
+    };
+    let bytes = fs::read(&rt, path)?;
+    let units: Vec<u16> = utf16_of_bytes(&bytes).units.collect(rt.alloc())?;
+    let part = U16String::from_str(rt.alloc(), &word).map_err(|_refused| AllocError)?;
+    let mut number = 0_usize;
+    for line in U16Str::from_slice(&units).lines_lossy() {
+        number = number.saturating_add(1);
+        if line.contains(part.as_ustr()) {
+            println!(rt; "{number}: {}", line.display())?;
+        }
+    }
+    Ok(ExitCode::SUCCESS)
+}
