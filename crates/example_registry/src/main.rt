@@ -1,148 +1,473 @@
-//! Prints the keys and values of a registry export as UTF-8, and then where damage was met: the line, from 1, and its unit, from 0.
-//! What stands behind damage is read all the same. The status is 1 where there was some.
+//! Prints the keys and values of a registry export: the text format `.reg` as Windows writes it, UTF-16 behind the mark FF FE, in lines
+//! that end in CR LF.
+//!
+//! Standard output has each line as UTF-8, with U+FFFD for each unit that belongs to no character. The bytes of a value stand in one line,
+//! each as it is written, and behind them what they are as UTF-16, where that may be text. A damaged line is printed too.
+//! Standard error has each damage by its line, from 1, and its unit in that line, from 0, as `line 7, unit 14: fault D83D`.
+//! The status is 0, or 1 where something was told; where the words are not one file's name it is 2, and standard error has the usage.
 #![tactic(auto)]
+
+ghost use Rattle.std.specs.Prelude.{◌≡◌, ◌<◌, ◌≤◌, ◌↔◌, All, IfOk, IfSome, IsNone, IsSome, IsTrue, length, string_len};
+ghost use Rattle.widestring.specs.EncodingForm.{Utf16};
+ghost use Rattle.widestring.specs.Items.{items};
+ghost use Rattle.widestring.specs.LineIndices.{placed_left};
+ghost use Rattle.widestring.specs.Lines.{placed_lines};
+ghost use Rattle.widestring.specs.UnitView.{units_seen};
 
 use std::alloc::{AllocError, Global};
 use std::fmt::{Display, Write};
 use std::process::ExitCode;
 use std::{env, fs, io};
 use widestring::U16Str;
-use widestring::bytes::units_of_bytes;
+use widestring::bytes::{BoM, utf16_of_bytes};
 use widestring::error::OutOfMemory;
-use widestring::unit::length_as_utf16;
+use widestring::ustr::LineIndices;
 
-// What is to be printed, the number of the line, and the bytes of a value that goes on in the next line.
+#[cfg(test)]
+mod rows;
+
+const HEADER: &str = "Windows Registry Editor Version 5.00";
+
+const OLD_HEADER: &str = "REGEDIT4";
+
+const USAGE: &str = "usage: registry FILE\n";
+
+const QUOTE: u16 = b'"' as u16;
+
+const BACKSLASH: u16 = b'\\' as u16;
+
+const SPACE: u16 = b' ' as u16;
+
+const COMMA: [u16; 1] = [b',' as u16];
+
+const GOES_ON: [u16; 2] = [b',' as u16, b'\\' as u16];
+
+// What is written where, and the status.
 #[derive(Drop)]
-struct Export {
-    text: String,
-    damages: String,
+struct Outcome {
+    output: String,
+    told: String,
+    status: u8,
+}
+
+// The bytes of a value, as far as they are read, and whether each was one.
+#[derive(Drop)]
+struct Bytes {
+    all: Vec<u8>,
+    is_sound: bool,
+}
+
+// An export that is being read.
+#[derive(Drop)]
+struct Export<'a> {
+    alloc: Global,
+    text: U16Str<'a>,
+    output: String,
+    told: String,
     line: usize,
-    open: Option<Vec<u8>>,
+    has_key: bool,
+    // The places in the text between which the last sound string stands, which may be that of several lines.
+    string_start: usize,
+    string_end: usize,
+    // The bytes of a value that goes on in the next line.
+    bytes: Option<Bytes>,
 }
 
-// Where the end of a line begins, in units.
-fn place_of(line: &str, end: &str) -> usize {
-    length_as_utf16(line).saturating_sub(length_as_utf16(end))
+// The lines of a text, each with its place: nothing is left out but their ends.
+fn placed_lines_of(text: U16Str<'_>) -> LineIndices<U16Str<'_>>
+    ensures { placed_left result ≡ placed_lines Utf16 0 (items Utf16 (units_seen text.entry)) }
+{
+    text.line_indices_lossy()
 }
 
-impl Export {
-    fn damage(&mut self, unit: usize, what: impl Display + Drop) -> Result<(), AllocError> {
-        writeln!(self.damages, "line {}, unit {unit}: {what}", self.line)
+fn digit(unit: u16) -> Option<u32> {
+    char::from_u32(u32::from(unit))?.to_digit(16)
+}
+
+// The number that hexadecimal digits mean, where there are so many of them, at least and at most, and nothing else.
+fn hex_digits(text: U16Str<'_>, least: usize, most: usize) -> Option<u32>
+    ensures least { IsSome result → least ≤ length (units_seen text.entry) }
+    ensures most { IsSome result → length (units_seen text.entry) ≤ most }
+{
+    if text.len() < least || text.len() > most {
+        return None;
+    }
+    let mut number = 0u32;
+    for unit in text.as_slice() {
+        number = number.checked_mul(16)?.checked_add(digit(*unit)?)?;
+    }
+    Some(number)
+}
+
+// The units behind an ASCII text, where they begin with it.
+fn behind<'a>(units: U16Str<'a>, text: &str) -> Option<U16Str<'a>> {
+    let front = units.get(..text.len())?;
+    if front.chars_lossy().eq(text.chars()) {
+        units.get(text.len()..)
+    } else {
+        None
+    }
+}
+
+fn is_text(units: U16Str<'_>, text: &str) -> bool {
+    behind(units, text).is_some_and(|rest| rest.is_empty())
+}
+
+// The units behind the end of the line, where they begin with one.
+fn next_line(rest: U16Str<'_>) -> Option<U16Str<'_>> {
+    behind(rest, "\r\n").or(behind(rest, "\n"))
+}
+
+// Whether a value that wants more bytes may have them in the next line: one that is empty or begins something else is read as that.
+fn goes_on(rest: U16Str<'_>) -> bool {
+    let first = next_line(rest).and_then(|next| next.chars_lossy().next());
+    first.is_some_and(|c| !matches!(c, '[' | '"' | '@' | ';' | '\r' | '\n'))
+}
+
+// The place of the quote that ends a string, which no backslash escapes.
+fn closing_quote(units: U16Str<'_>) -> Option<usize> {
+    let mut is_escaped = false;
+    for (place, unit) in units.as_slice().iter().enumerate() {
+        if !is_escaped && *unit == QUOTE {
+            return Some(place);
+        }
+        is_escaped = !is_escaped && *unit == BACKSLASH;
+    }
+    None
+}
+
+// What stands behind the `=` of a value.
+fn data_of(line: U16Str<'_>) -> Option<U16Str<'_>> {
+    let Some(name) = behind(line, "\"") else {
+        return behind(line, "@=");
+    };
+    behind(name.get(closing_quote(name)?..)?, "\"=")
+}
+
+// The digits behind `hex:` or `hex(2):`, where the data of a value begins so.
+fn digits_of(data: U16Str<'_>) -> Option<U16Str<'_>> {
+    let rest = behind(data, "hex")?;
+    let Some(kind) = behind(rest, "(") else {
+        return behind(rest, ":");
+    };
+    let len = kind.find_char(')')?;
+    hex_digits(kind.get(..len)?, 1, 8)?;
+    behind(kind.get(len..)?, "):")
+}
+
+fn byte_of(piece: U16Str<'_>) -> Option<u8> {
+    u8::try_from(hex_digits(piece, 2, 2)?).ok()
+}
+
+impl<'a> Export<'a> {
+    fn tell(&mut self, unit: usize, what: impl Display + Drop) -> Result<(), AllocError> {
+        writeln!(self.told, "line {}, unit {unit}: {what}", self.line)
     }
 
-    // A lossy text has one unit for each fault, so a place in it is that place in the line.
-    fn read_line(&mut self, alloc: Global, units: U16Str<'_>) -> Result<(), OutOfMemory> {
+    fn is_in_string(&self, place: usize) -> bool {
+        self.string_start <= place && place < self.string_end
+    }
+
+    fn read_line(&mut self, place: usize, line: U16Str<'a>) -> Result<(), OutOfMemory> {
         self.line = self.line.saturating_add(1);
-        for (unit, item) in units.char_indices() {
-            if let Err(fault) = item {
-                self.damage(
-                    unit,
-                    format_args!("fault {:04X}", fault.unpaired_surrogate()),
-                )?;
-            }
+        let end = place.saturating_add(line.len());
+        let rest = self.text.get(end..).unwrap_or_default();
+        if self.is_in_string(place) {
+            self.tell_escapes(0, line)?;
+            write!(self.output, "{}", line.display())?;
+        } else if let Some(bytes) = self.bytes.take() {
+            let spaces = line.as_slice().iter().take_while(|unit| **unit == SPACE);
+            let indent = spaces.count();
+            let digits = line.get(indent..).unwrap_or_default();
+            self.read_bytes(bytes, indent, digits, rest)?;
+        } else {
+            self.read_entry(place, line, rest)?;
         }
-        let line = units.to_string_lossy(alloc)?;
-        match self.open.take() {
-            Some(bytes) => self.read_bytes(bytes, &line, &line)?,
-            None => self.read_text(alloc, &line)?,
+        self.tell_units(place, line)?;
+        if self.is_in_string(end) {
+            // Which end a line has is a part of the string.
+            let is_whole = behind(rest, "\r\n").is_some();
+            self.output.push_str(if is_whole { "\r\n" } else { "\n" })?;
+            return Ok(());
+        }
+        if rest.is_empty() {
+            self.tell(line.len(), "the line has no end")?;
+        } else if behind(rest, "\r\n").is_none() {
+            self.tell(line.len(), "a line feed alone")?;
+        }
+        if self.bytes.is_none() {
+            self.output.push('\n')?;
         }
         Ok(())
     }
 
-    // Reads a key or a value, which is text, a number or bytes. A name that holds `"=` is taken for damage.
-    fn read_text(&mut self, alloc: Global, line: &str) -> Result<(), AllocError> {
-        let is_value = line.starts_with(['@', '"']);
-        let named = line
-            .strip_prefix("@=")
-            .or(line.split_once("\"=").map(|parts| parts.1));
-        let data = named.filter(|_| is_value).unwrap_or(line);
-        let bytes = data.strip_prefix("hex").unwrap_or("");
-        if let Some((_kind, digits)) = bytes.split_once(':').filter(|_| is_value) {
-            write!(self.text, "{}", line.strip_suffix(digits).unwrap_or(""))?;
-            return self.read_bytes(Vec::new(alloc), line, digits);
+    // Tells of the units of a line that are no characters, and of each carriage return that ends no line.
+    fn tell_units(&mut self, place: usize, line: U16Str<'a>) -> Result<(), AllocError> {
+        for (unit, item) in line.char_indices() {
+            match item {
+                Err(fault) => {
+                    let fault = fault.unpaired_surrogate();
+                    self.tell(unit, format_args!("fault {fault:04X}"))?;
+                }
+                Ok('\r') if !self.is_in_string(place.saturating_add(unit)) => {
+                    self.tell(unit, "a carriage return alone")?;
+                }
+                Ok(_) => {}
+            }
         }
-        let is_text = data.len() > 1 && data.starts_with('"') && data.ends_with('"');
-        let digits = data.strip_prefix("dword:").unwrap_or("");
-        let is_sound = match line.as_bytes().first() {
-            None | Some(b';') => true,
-            Some(b'[') => line.ends_with(']'),
-            Some(b'@' | b'"') => is_text || u32::from_str_radix(digits, 16).is_ok(),
-            Some(_) => self.line == 1,
-        };
-        if !is_sound {
-            self.damage(place_of(line, data), "neither a key nor a value")?;
-        }
-        writeln!(self.text, "{line}")
+        Ok(())
     }
 
-    // Reads the bytes that a line ends in.
-    fn read_bytes(&mut self, bytes: Vec<u8>, line: &str, digits: &str) -> Result<(), AllocError> {
-        let (mut bytes, mut unit) = (bytes, place_of(line, digits));
-        let front = digits.strip_suffix(",\\");
-        for digit in front.unwrap_or(digits).split(',') {
-            match u8::from_str_radix(digit.trim(), 16) {
-                Ok(byte) => bytes.push(byte)?,
-                Err(_) => self.damage(unit, format_args!("no byte, {digit}"))?,
+    // Tells of each backslash of a string, or a name, that escapes neither itself nor a quote.
+    fn tell_escapes(&mut self, unit: usize, text: U16Str<'a>) -> Result<(), AllocError> {
+        let mut escape = None;
+        for (place, c) in text.char_indices_lossy() {
+            match escape.take() {
+                None if c == '\\' => escape = Some(place),
+                Some(at) if !matches!(c, '\\' | '"') => {
+                    self.tell(unit.saturating_add(at), "no escape")?;
+                }
+                _ => {}
             }
-            let len = length_as_utf16(digit);
-            unit = unit.saturating_add(len).saturating_add(1);
+        }
+        match escape {
+            Some(at) => self.tell(unit.saturating_add(at), "no escape"),
+            None => Ok(()),
+        }
+    }
+
+    // Reads a line that stands for itself, and prints it without its end.
+    fn read_entry(
+        &mut self,
+        place: usize,
+        line: U16Str<'a>,
+        rest: U16Str<'a>,
+    ) -> Result<(), OutOfMemory> {
+        let is_header = self.line == 1 && (is_text(line, HEADER) || is_text(line, OLD_HEADER));
+        if self.line == 1 && !is_header {
+            self.tell(0, "no header")?;
+        }
+        match line.chars_lossy().next() {
+            Some('@' | '"') => return self.read_value(place, line, rest),
+            Some('[') => {
+                let is_whole = line.len() > 2 && line.as_slice().ends_with(&[b']' as u16]);
+                self.has_key = behind(line, "[-").is_none();
+                if !is_whole || is_text(line, "[-]") {
+                    self.tell(0, "no key")?;
+                }
+            }
+            None | Some(';') => {}
+            Some(_) if is_header => {}
+            Some(_) => self.tell(0, "neither a key nor a value")?,
+        }
+        Ok(write!(self.output, "{}", line.display())?)
+    }
+
+    // Reads a value, and prints it without the end of its line.
+    fn read_value(
+        &mut self,
+        place: usize,
+        line: U16Str<'a>,
+        rest: U16Str<'a>,
+    ) -> Result<(), OutOfMemory> {
+        if !self.has_key {
+            self.tell(0, "a value under no key")?;
+        }
+        let data = data_of(line).unwrap_or_default();
+        let unit = line.len().saturating_sub(data.len());
+        let name = line.get(..unit).unwrap_or_default();
+        self.tell_escapes(0, name)?;
+        if let Some(digits) = digits_of(data) {
+            let unit = line.len().saturating_sub(digits.len());
+            let front = line.get(..unit).unwrap_or_default();
+            write!(self.output, "{}", front.display())?;
+            if digits.is_empty() {
+                return Ok(());
+            }
+            let (all, is_sound) = (Vec::new(self.alloc), true);
+            return self.read_bytes(Bytes { all, is_sound }, unit, digits, rest);
+        }
+        write!(self.output, "{}", line.display())?;
+        if data_of(line).is_none() {
+            self.tell(0, "no name and =")?;
+        } else if let Some(string) = behind(data, "\"") {
+            self.read_string(place, line, string)?;
+        } else if let Some(digits) = behind(data, "dword:") {
+            if hex_digits(digits, 1, 8).is_none() {
+                self.tell(unit, "no number")?;
+            }
+        } else if !is_text(data, "-") {
+            self.tell(unit, "neither text, a number nor bytes")?;
+        }
+        Ok(())
+    }
+
+    // Finds the end of the string that begins in a line. It may stand in a later one, but as its last unit; where there is none such, the
+    // string ends with the line, so that what follows is read as what it is.
+    fn read_string(
+        &mut self,
+        place: usize,
+        line: U16Str<'a>,
+        string: U16Str<'a>,
+    ) -> Result<(), OutOfMemory> {
+        let unit = line.len().saturating_sub(string.len());
+        self.tell_escapes(unit, string)?;
+        let start = place.saturating_add(unit);
+        let rest = self.text.get(start..).unwrap_or_default();
+        let Some(len) = closing_quote(rest) else {
+            return Ok(self.tell(unit, "the string has no end")?);
+        };
+        let end = len.saturating_add(1);
+        let rest = rest.get(end..).unwrap_or_default();
+        if rest.is_empty() || next_line(rest).is_some() {
+            self.string_start = start;
+            self.string_end = start.saturating_add(end);
+        } else if len < string.len() {
+            self.tell(unit.saturating_add(end), "more behind the string")?;
+        } else {
+            self.tell(unit, "the string has no end")?;
+        }
+        Ok(())
+    }
+
+    // Reads the bytes that a line ends in, and prints them as they are; what is no byte, too.
+    fn read_bytes(
+        &mut self,
+        mut bytes: Bytes,
+        unit: usize,
+        digits: U16Str<'a>,
+        rest: U16Str<'a>,
+    ) -> Result<(), OutOfMemory> {
+        let front = digits.strip_suffix(U16Str::from_slice(&GOES_ON));
+        let mut place = unit;
+        for piece in front.unwrap_or(digits).split(U16Str::from_slice(&COMMA)) {
+            write!(self.output, " {}", piece.display())?;
+            match byte_of(piece) {
+                Some(byte) => bytes.all.push(byte)?,
+                None => {
+                    bytes.is_sound = false;
+                    self.tell(place, format_args!("no byte, {}", piece.display()))?;
+                }
+            }
+            place = place.saturating_add(piece.len()).saturating_add(1);
         }
         if front.is_some() {
-            self.open = Some(bytes);
-            return Ok(());
+            if goes_on(rest) {
+                self.bytes = Some(bytes);
+                return Ok(());
+            }
+            bytes.is_sound = false;
+            self.tell(place, "the value goes on, but no bytes follow")?;
         }
-        self.write_bytes(&bytes)
+        self.write_text(&bytes)
     }
 
-    // Writes bytes, and what they are as UTF-16 where they may be text: where there is a zero among them.
-    fn write_bytes(&mut self, bytes: &Vec<u8>) -> Result<(), AllocError> {
-        for byte in bytes {
-            write!(self.text, " {byte:02x}")?;
+    // Writes what the bytes of a value are as UTF-16 where they may be text: where there is a zero among them.
+    fn write_text(&mut self, bytes: &Bytes) -> Result<(), OutOfMemory> {
+        if !bytes.is_sound || !bytes.all.contains(&0) {
+            return Ok(());
         }
-        let pairs = bytes.as_slice().as_chunks::<2>().0.iter();
+        let pairs = bytes.all.as_slice().as_chunks::<2>().0.iter();
         let units: Vec<u16> = pairs
             .map(|pair| u16::from_le_bytes(*pair))
-            .collect(*bytes.allocator())?;
-        if bytes.contains(&0) {
-            write!(self.text, " {:?}", U16Str::from_slice(&units))?;
-        }
-        writeln!(self.text)
+            .collect(self.alloc)?;
+        Ok(write!(self.output, " {:?}", U16Str::from_slice(&units))?)
     }
 }
 
-fn read_export(alloc: Global, bytes: &[u8]) -> Result<Export, OutOfMemory> {
-    let units: Vec<u16> = units_of_bytes(bytes).collect(alloc)?;
-    let (text, damages) = (String::new(alloc), String::new(alloc));
-    let (line, open) = (0, None);
-    let mut export = Export {
-        text,
-        damages,
-        line,
-        open,
-    };
+impl Outcome {
+    fn new(output: String, told: String) -> Outcome
+        ensures { (result.status ≡ 1) ↔ (0 < string_len result.told) }
+    {
+        let status = u8::from(!told.is_empty());
+        Outcome {
+            output,
+            told,
+            status,
+        }
+    }
+}
+
+// Reads the lines of a text, and the half of a unit that stands behind it.
+fn read<'a>(
+    export: &mut Export<'a>,
+    text: U16Str<'a>,
+    half: Option<u8>,
+) -> Result<(), OutOfMemory> {
     let mut unit = 0;
-    for line in U16Str::from_slice(&units).lines_lossy() {
-        export.read_line(alloc, line)?;
+    for (place, line) in placed_lines_of(text) {
+        export.read_line(place, line)?;
         unit = line.len();
     }
-    if let Some(bytes) = export.open.take() {
-        export.damage(unit, "the value goes on behind the end")?;
-        export.write_bytes(&bytes)?;
+    if export.line == 0 {
+        export.line = 1;
+        export.tell(0, "no header")?;
+    } else if text.as_slice().ends_with(&[b'\n' as u16]) {
+        export.line = export.line.saturating_add(1);
+        unit = 0;
     }
-    // What `units_of_bytes` leaves out.
-    if bytes.len() % 2 == 1 || bytes.ends_with(&[0, 0]) {
-        export.damage(unit, "half of a unit, or a zero unit, ends the file")?;
+    match half {
+        Some(byte) => Ok(export.tell(unit, format_args!("half of a unit, {byte:02x}"))?),
+        None => Ok(()),
     }
-    Ok(export)
+}
+
+// What is written for the bytes of a file.
+fn answer(alloc: Global, bytes: &[u8]) -> Result<Outcome, OutOfMemory>
+    ensures { IfOk result (λ outcome. (outcome.status ≡ 1) ↔ (0 < string_len outcome.told)) }
+{
+    let parts = utf16_of_bytes(bytes);
+    let units: Vec<u16> = parts.units.collect(alloc)?;
+    let text = U16Str::from_slice(&units);
+    let mut export = Export {
+        alloc,
+        text,
+        output: String::new(alloc),
+        told: String::new(alloc),
+        line: 0,
+        has_key: false,
+        string_start: 0,
+        string_end: 0,
+        bytes: None,
+    };
+    if !parts.is_marked {
+        export.line = 1;
+        export.tell(0, "not UTF-16, no mark FF FE")?;
+        return Ok(Outcome::new(export.output, export.told));
+    }
+    if parts.order == BoM::Big {
+        export
+            .told
+            .push_str("line 1, unit 0: the high byte of each unit is first\n")?;
+    }
+    read(&mut export, text, parts.half)?;
+    Ok(Outcome::new(export.output, export.told))
+}
+
+// What is written for a file, or where the words name none.
+fn run(alloc: Global, file: Option<&[u8]>) -> Result<Outcome, OutOfMemory>
+    ensures wrong_words { IsNone file.entry → IfOk result (λ outcome. outcome.status ≡ 2) }
+    ensures told { IsSome file.entry → IfOk result (λ outcome. (outcome.status ≡ 1) ↔ (0 < string_len outcome.told)) }
+{
+    let Some(bytes) = file else {
+        return Ok(Outcome {
+            output: String::new(alloc),
+            told: String::from_str(alloc, USAGE)?,
+            status: 2,
+        });
+    };
+    answer(alloc, bytes)
 }
 
 fn main(rt: HostRuntime) -> io::Result<ExitCode> {
-    let Some(path) = env::args(&rt)?.nth(1) else {
-        println!(rt; "usage: registry FILE")?;
-        return Ok(ExitCode::SUCCESS);
+    let mut words = env::args(&rt)?.skip(1);
+    let file = match (words.next(), words.next()) {
+        (Some(path), None) => Some(fs::read(&rt, path)?),
+        _ => None,
     };
-    let bytes = fs::read(&rt, path)?;
-    let export = read_export(rt.alloc(), &bytes).map_err(|_refused| AllocError)?;
-    print!(rt; "{}{}", export.text, export.damages)?;
-    Ok(ExitCode::from(u8::from(!export.damages.is_empty())))
+    let bytes = file.as_ref().map(|bytes| bytes.as_slice());
+    let outcome = run(rt.alloc(), bytes).map_err(|_refused| AllocError)?;
+    print!(rt; "{}", outcome.output)?;
+    eprint!(rt; "{}", outcome.told)?;
+    Ok(ExitCode::from(outcome.status))
 }

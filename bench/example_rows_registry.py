@@ -1,0 +1,449 @@
+"""What `example_registry` prints of registry exports, worked out from the format alone.
+
+A text is a Python string with one character for each UTF-16 unit, so that a place in it is a number of units.
+"""
+
+import re
+import struct
+
+HEADER = "Windows Registry Editor Version 5.00"
+USAGE = "usage: registry FILE\n"
+
+NAME = re.compile(r'@=|"(?:\\.|[^"\\])*"=', re.S)
+STRING = re.compile(r'"(?:\\.|[^"\\])*"', re.S)
+HEX = re.compile(r"hex(?:\([0-9a-fA-F]{1,8}\))?:")
+DWORD = re.compile(r"dword:[0-9a-fA-F]{1,8}\Z")
+BYTE = re.compile(r"[0-9a-fA-F]{2}\Z")
+KEY = re.compile(r"\[(?!-\]\Z).+\]\Z", re.S)
+ESCAPE = re.compile(r"\\(.)?", re.S)
+# What a line that follows `,\` begins with where it has no bytes.
+NO_BYTES = re.compile(r"\Z|\r?\n|[\[\"@;\r]")
+LINE_END = re.compile(r"\r?\n")
+SHOWN = {"\0": r"\0", "\t": r"\t", "\n": r"\n", "\r": r"\r", '"': r"\"", "\\": r"\\"}
+# What of the units of bytes is shown as it is, beside ASCII: what other characters print is not known here.
+PLAIN = "\u6df1\U0001f41f\U0001f400"
+
+
+class Unknown(Exception):
+    """What is printed is not known here."""
+
+
+def units_of(text):
+    """The text with a character for each unit."""
+    stored = text.encode("utf-16-le", "surrogatepass")
+    return "".join(map(chr, struct.unpack(f"<{len(stored) // 2}H", stored)))
+
+
+def stored(text, order="<"):
+    return struct.pack(f"{order}{len(text)}H", *map(ord, text))
+
+
+def items_of(text):
+    """Each character, or surrogate that has no other half, with its place."""
+    for part in re.finditer(r"[\ud800-\udbff][\udc00-\udfff]|.", text, re.S):
+        high, low = ord(part[0][0]), ord(part[0][-1])
+        pair = chr(0x10000 + ((high - 0xD800) << 10) + (low - 0xDC00)) if len(part[0]) == 2 else part[0]
+        yield part.start(), pair
+
+
+def is_fault(item):
+    return "\ud800" <= item <= "\udfff"
+
+
+def printed(text):
+    return "".join("\ufffd" if is_fault(item) else item for _, item in items_of(text))
+
+
+def shown(item):
+    if is_fault(item):
+        return f"\\<{ord(item):04X}>"
+    if item in SHOWN:
+        return SHOWN[item]
+    if item in PLAIN or " " <= item <= "~" and item != "'":
+        return item
+    if item < " " or item == "\x7f":
+        return f"\\u{{{ord(item):x}}}"
+    raise Unknown
+
+
+class Export:
+    def __init__(self, text):
+        self.text, self.output, self.told = text, [], []
+        # For each line where it begins, where it ends, and where the next one begins.
+        self.lines, place = [], 0
+        while place < len(text):
+            end = LINE_END.search(text, place)
+            self.lines.append((place, *(end.span() if end else (len(text), len(text)))))
+            place = self.lines[-1][2]
+        self.has_key = False
+        self.quoted = set()
+
+    def tell(self, line, unit, what):
+        self.told.append((line, unit, what))
+
+    def escapes(self, line, unit, part):
+        for escape in ESCAPE.finditer(part):
+            if escape[1] not in ("\\", '"'):
+                self.tell(line, unit + escape.start(), "no escape")
+
+    def ends(self, line):
+        """What is told of the units of a line, and of its end."""
+        begin, end, behind = self.lines[line]
+        for place, item in items_of(self.text[begin:end]):
+            if is_fault(item):
+                self.tell(line, place, f"fault {ord(item):04X}")
+            elif item == "\r" and begin + place not in self.quoted:
+                self.tell(line, place, "a carriage return alone")
+        if end not in self.quoted:
+            if end == behind:
+                self.tell(line, end - begin, "the line has no end")
+            elif behind == end + 1:
+                self.tell(line, end - begin, "a line feed alone")
+
+    def string(self, line, place):
+        """Reads the string whose opening quote stands at a place, and answers its last line."""
+        begin, end, _ = self.lines[line]
+        unit = place + 1 - begin
+        self.escapes(line, unit, self.text[place + 1 : end])
+        found = STRING.match(self.text, place)
+        if found and (found.end() == len(self.text) or LINE_END.match(self.text, found.end())):
+            self.quoted.update(range(place + 1, found.end()))
+            self.ends(line)
+            while self.lines[line][1] < found.end():
+                line += 1
+                self.escapes(line, 0, self.text[self.lines[line][0] : self.lines[line][1]])
+                self.ends(line)
+            # The lines of a string are printed with the ends that they have.
+            self.output.append(printed(self.text[begin : found.end()]) + "\n")
+            return line
+        if found and found.end() <= end:
+            self.tell(line, found.end() - begin, "more behind the string")
+        else:
+            self.tell(line, unit, "the string has no end")
+        return self.plain(line)
+
+    def bytes(self, line, place):
+        """Reads the bytes from a place on, and answers the last line that has some."""
+        begin, end, behind = self.lines[line]
+        front, pieces, is_sound = printed(self.text[begin:place]), [], True
+        while True:
+            digits = self.text[place:end]
+            goes_on = digits.endswith(",\\")
+            for piece in (digits[:-2] if goes_on else digits).split(",") if digits or pieces else []:
+                pieces.append(piece)
+                if not BYTE.match(piece):
+                    is_sound = False
+                    self.tell(line, place - begin, f"no byte, {printed(piece)}")
+                place += len(piece) + 1
+            if goes_on and NO_BYTES.match(self.text, behind):
+                is_sound = False
+                self.tell(line, end - begin - 1, "the value goes on, but no bytes follow")
+                goes_on = False
+            self.ends(line)
+            if not goes_on:
+                break
+            line += 1
+            begin, end, behind = self.lines[line]
+            place = begin + len(self.text[begin:end]) - len(self.text[begin:end].lstrip(" "))
+        text = ""
+        if is_sound and "00" in pieces:
+            even = bytes.fromhex("".join(pieces))[: len(pieces) // 2 * 2]
+            units = "".join(map(chr, struct.unpack(f"<{len(even) // 2}H", even)))
+            text = f' "{"".join(shown(item) for _, item in items_of(units))}"'
+        self.output.append(front + "".join(" " + printed(piece) for piece in pieces) + text + "\n")
+        return line
+
+    def plain(self, line):
+        begin, end, _ = self.lines[line]
+        self.ends(line)
+        self.output.append(printed(self.text[begin:end]) + "\n")
+        return line
+
+    def value(self, line):
+        begin, end, _ = self.lines[line]
+        if not self.has_key:
+            self.tell(line, 0, "a value under no key")
+        name = NAME.match(self.text[begin:end])
+        if not name:
+            self.escapes(line, 0, self.text[begin:end])
+            self.tell(line, 0, "no name and =")
+            return self.plain(line)
+        self.escapes(line, 0, name[0])
+        place = begin + name.end()
+        data = self.text[place:end]
+        front = HEX.match(data)
+        if front:
+            return self.bytes(line, place + front.end())
+        if data.startswith('"'):
+            return self.string(line, place)
+        if data.startswith("dword:"):
+            if not DWORD.match(data):
+                self.tell(line, place - begin, "no number")
+        elif data != "-":
+            self.tell(line, place - begin, "neither text, a number nor bytes")
+        return self.plain(line)
+
+    def entry(self, line):
+        """Reads what begins in a line, and answers its last line."""
+        begin, end, _ = self.lines[line]
+        units = self.text[begin:end]
+        if line == 0:
+            if units in (HEADER, "REGEDIT4"):
+                return self.plain(line)
+            self.tell(line, 0, "no header")
+        if units[:1] in ("@", '"') and units:
+            return self.value(line)
+        if units[:1] == "[":
+            self.has_key = not units.startswith("[-")
+            if not KEY.match(units):
+                self.tell(line, 0, "no key")
+        elif units and units[:1] != ";":
+            self.tell(line, 0, "neither a key nor a value")
+        return self.plain(line)
+
+    def read(self, half):
+        line = 0
+        while line < len(self.lines):
+            line = self.entry(line) + 1
+        last, unit = max(len(self.lines) - 1, 0), 0
+        if not self.lines:
+            self.tell(0, 0, "no header")
+        elif self.lines[-1][1] == self.lines[-1][2]:
+            unit = self.lines[-1][1] - self.lines[-1][0]
+        else:
+            last += 1
+        if half:
+            self.tell(last, unit, f"half of a unit, {half[0]:02x}")
+
+
+def answer(file):
+    """What is wanted on standard output and standard error, and the status."""
+    if file is None:
+        return "", USAGE, 2
+    order = {b"\xff\xfe": "<", b"\xfe\xff": ">"}.get(file[:2])
+    if order is None:
+        return "", "line 1, unit 0: not UTF-16, no mark FF FE\n", 1
+    count = len(file) // 2 - 1
+    export = Export("".join(map(chr, struct.unpack_from(f"{order}{count}H", file, 2))))
+    if order == ">":
+        export.tell(0, 0, "the high byte of each unit is first")
+    export.read(file[2 + 2 * count :])
+    told = "".join(f"line {line + 1}, unit {unit}: {what}\n" for line, unit, what in export.told)
+    return "".join(export.output), told, int(bool(told))
+
+
+def lines(*texts):
+    """A file whose lines follow a header and a key."""
+    return "REGEDIT4\r\n[K]\r\n" + "".join(text + "\r\n" for text in texts)
+
+
+# The text of a file, or its bytes, or none where the words name no file.
+INPUTS = [
+    None,
+    # Ordinary.
+    HEADER + '\r\n\r\n[K]\r\n"x"="1"\r\n\r\n',
+    lines('"e"=hex:'),
+    lines('"z"=hex(0):'),
+    lines('"m"=hex(7):'),
+    lines('"n"=-', "@=-", "[-K]"),
+    lines('@="', "[no key]", '"', '"t"="a\rb\nc"', '@=""'),
+    lines("; no value", "[K\\[x]]", '"a\\\\b\\"c"="\U0001f41f \\"d\\\\"', "@=dword:1f"),
+    lines('@=hex(2):41,00,0a,00,22,00,3d,d8,00,\\', "  00,5C", '"w"=hex(8000000a):0A'),
+    # A value that was cut, and what follows it.
+    lines('"x"=hex:01,02,\\', "[K2]", '"y"="1"'),
+    lines('"x"=hex:00,01,\\', '"y"=hex:02,\\', "@=-", '"z"=hex:03,\\', "", '"w"=hex:04,\\', "; 05"),
+    lines('"x"=hex:00,01,\\', "  02,\\"),
+    lines('"s"="no end', "[K2]", '"y"="1"'),
+    lines('"s"="no end'),
+    # Damaged.
+    lines('"p"=hex:+1'),
+    lines('"l"=hex:0001'),
+    lines('"c"=hex:01,,2,xz,\\', "  , 3,\u6df1", "@=hex:\\"),
+    lines('"p"=dword:+1'),
+    lines('"l"=dword:00000000000001'),
+    lines('"n"=dword:', '"z"=dword:0000zz00'),
+    lines('"z"=hex(zz):01'),
+    lines('"a"=hexa:01'),
+    lines('"o"=hex(2:01'),
+    lines('"l"=hex(000000001):', '"n"=hex():', '"h"=hex'),
+    lines('"s"="x\\"'),
+    lines('"q"="a"b"'),
+    lines('"e"="C:\\dir\\', 'x\\y"', '"n\\m"=-', '"d" ="1"', '"e"', "@", '@="a" '),
+    lines("[K", "[]", "[-]", "[-K2]", '"v"=-', "no value", " [K]", "\ufeff"),
+    "REGEDIT4\r\n\"y\"=\"1\"\r\n@=hex:01\r\n",
+    "[K]\r\n@=-\r\n",
+    "REGEDIT5\r\n",
+    "",
+    "REGEDIT4\r\r\n[K]\r@=-\r\n; a\rb\r\n",
+    'REGEDIT4\n[K]\n"s"="1"\n\r\n\n@=-',
+    lines('"f"="\ud83d"', '"\udc1f\U0001f41f\ud83d"=hex:\ud800'),
+    # Bytes.
+    b"REGEDIT4\r\n[K]\r\n\r\n",
+    b"\xff",
+    b"\xfe\xff" + stored("REGEDIT4\r\n[\u6df1]\r\n", ">"),
+    b"\xff\xfe" + stored("REGEDIT4\r\n") + b"A",
+    b"\xff\xfe" + stored("REGEDIT4\r\n[K]") + b"\r",
+]
+
+
+def file_of(made):
+    return made if made is None or isinstance(made, bytes) else b"\xff\xfe" + stored(units_of(made))
+
+
+PARTS = [
+    *("\r\n", "\r\n", "\r\n", "\r\n", "\n", "\r"),
+    *("[K]", "[-K]", "[", "]", "-", ";", "@=", '"n"=', '"n\\"\\\\"=', '"', '"', '"="', '"x"', "\\", '\\"', "\\\\"),
+    *("hex:", "hex(2):", "hex(0):", "hex(", "):", "dword:", "0000002a", "1f,", "00,", "01", "4", "+", ",\\\r\n  ", ",\\\r\n", ",\\"),
+    *(" ", "  ", "a", "=", "\u6df1", "\U0001f41f", "\ud83d", "\udc1f", "\0", HEADER, "REGEDIT4"),
+]
+UNITS = ["\0", "A", "\\", '"', "\n", "\t", "\x01", "\x7f", "\u6df1", "\U0001f41f", "\ud83d", "\udc00"]
+
+
+def sound_line(source):
+    kind = source.randrange(6)
+    if kind == 0:
+        return source.choice(["[K]", "[-K]", "[K\\a]", "", "; a"])
+    name = source.choice(["@=", '"n"=', '"a\\\\b"='])
+    if kind == 1:
+        return name + source.choice(["-", "dword:0000002a", "dword:f"])
+    if kind == 2:
+        return name + '"' + "".join(source.choices(["a", "\\\\", '\\"', "\r\n", "\n", "\r", "[K]"], k=source.randrange(5))) + '"'
+    if kind == 3:
+        stored_bytes = stored(units_of("".join(source.choices(UNITS, k=source.randrange(8)))))
+    else:
+        stored_bytes = bytes(source.randrange(1, 256) for _ in range(source.randrange(6)))
+    digits = ["%02x" % byte for byte in stored_bytes]
+    for place in range(1, len(digits)):
+        digits[place] = ("," if source.randrange(4) else ",\\\r\n  ") + digits[place]
+    return name + source.choice(["hex:", "hex(7):", "hex(0):"]) + "".join(digits)
+
+
+def made(source):
+    """A file made at random: lines in order, of which some parts are lost, doubled or put in."""
+    header = source.choice([HEADER, HEADER, HEADER, "REGEDIT4"]) + "\r\n" + source.choice(["[K]\r\n", "[K]\r\n", ""])
+    text = header + "".join(sound_line(source) + "\r\n" for _ in range(source.randrange(6)))
+    for _ in range(source.randrange(4)):
+        begin = source.randrange(len(text) + 1)
+        if source.randrange(4):
+            begin = max(begin, min(len(header), len(text)))
+        end = begin + source.choice([0, 0, 1, 1, 2, 5])
+        text = text[:begin] + source.choice(["", *source.choices(PARTS, k=2)]) + text[end:]
+    if not source.randrange(3):
+        text = header + "".join(source.choices(PARTS, k=source.randrange(16)))
+    order = ">" if not source.randrange(16) else "<"
+    file = stored(units_of("\ufeff" + text), order)
+    if not source.randrange(8):
+        return file[: source.randrange(len(file) + 1)]
+    return file
+
+
+def question(source, folder):
+    words = source.choice([["export.reg"]] * 30 + [[], ["export.reg", "export.reg"]])
+    while True:
+        file = made(source)
+        try:
+            output, told, status = answer(file if len(words) == 1 else None)
+            break
+        except Unknown:
+            continue
+    with open(f"{folder}/export.reg", "wb") as stream:
+        stream.write(file)
+    return words, output.encode(), told.encode(), status
+
+
+def literal(text):
+    """A text as a literal of the language."""
+    escapes = {"\r": r"\r", "\n": r"\n", "\t": r"\t", "\0": r"\0", '"': r"\"", "\\": r"\\"}
+    return '"' + "".join(escapes.get(c) or (c if " " <= c <= "~" else f"\\u{{{ord(c):x}}}") for c in text) + '"'
+
+
+def bytes_literal(file):
+    escapes = {0x22: '\\"', 0x5C: "\\\\"}
+    return 'b"' + "".join(escapes.get(b) or (chr(b) if 0x20 <= b < 0x7F else f"\\x{b:02x}") for b in file) + '"'
+
+
+def is_sound(text):
+    return not any(is_fault(item) for _, item in items_of(units_of(text)))
+
+
+def file_literal(made_or_listed):
+    if made_or_listed is None:
+        return "File::None"
+    if isinstance(made_or_listed, str) and is_sound(made_or_listed):
+        kind, text = "File::Text", literal(made_or_listed)
+    else:
+        kind, text = "File::Bytes", bytes_literal(file_of(made_or_listed))
+    # The layout of a line that is too long.
+    if len(f"        file: {kind}({text}),") > 100:
+        text = f"\n            {text},\n        "
+    return f"{kind}({text})"
+
+
+def rows():
+    """The rows of the program's test."""
+    text = ROWS_HEAD.format(count=len(INPUTS))
+    for listed in INPUTS:
+        output, told, status = answer(file_of(listed))
+        text += ROW.format(file_literal(listed), literal(output), literal(told), status)
+    return text + ROWS_FOOT
+
+
+ROW = """\
+    Row {{
+        file: {},
+        output: {},
+        told: {},
+        status: {},
+    }},
+"""
+ROWS_HEAD = """\
+//! What is written for files, as `bench/example_rows registry` has worked it out from the format alone.
+
+use crate::run;
+use std::alloc::Global;
+use widestring::Utf16String;
+use widestring::error::OutOfMemory;
+
+// What the words name.
+enum File {{
+    None,
+    Text(&'static str),
+    Bytes(&'static [u8]),
+}}
+
+// A file, what is written to standard output for it, what to standard error, and the status.
+struct Row {{
+    file: File,
+    output: &'static str,
+    told: &'static str,
+    status: u8,
+}}
+
+// The bytes of a file, of a text with a mark.
+fn bytes_of(alloc: Global, text: &str) -> Result<Vec<u8>, OutOfMemory> {{
+    let text = Utf16String::from_str(alloc, text)?;
+    text.as_utfstr().as_ustr().to_le_bytes_with_mark(alloc)
+}}
+
+fn is_as_wanted(alloc: Global, row: &Row) -> Result<bool, OutOfMemory> {{
+    let outcome = match &row.file {{
+        File::None => run(alloc, None)?,
+        File::Text(text) => run(alloc, Some(bytes_of(alloc, text)?.as_slice()))?,
+        File::Bytes(bytes) => run(alloc, Some(*bytes))?,
+    }};
+    let is_printed = outcome.output.as_str() == row.output;
+    let is_told = outcome.told.as_str() == row.told;
+    Ok(is_printed && is_told && outcome.status == row.status)
+}}
+
+#[test]
+fn rows(rt: HostRuntime) {{
+    for (number, row) in ROWS.iter().enumerate() {{
+        let is_right = is_as_wanted(rt.alloc(), row).unwrap_or(false);
+        assert!(rt; is_right, "row {{number}}");
+    }}
+}}
+
+static ROWS: [Row; {count}] = [
+"""
+ROWS_FOOT = "];\n"
