@@ -1,149 +1,355 @@
-//! Prints the string tables of compiled Windows resources, a line for each string: its identifier and its text. With the word
-//! `--lossy` the text of the files behind it has U+FFFD for each fault; else a string with a fault is refused. The status is 1 where
-//! something was refused or is not whole.
+//! Prints the string tables of compiled Windows resources, `.res` files of 32 bits: `resources [--lossy] FILE..`.
+//!
+//! Standard output has a line for each string that is not empty: its language in hexadecimal, its identifier and its text, as in
+//! `0409 17: "Open"`. Resources of other types are passed over. Standard error tells what is damaged, and of which file: the number
+//! of the resource, from 1, its place in bytes, from 0, and for text that is not well formed the string and each unit, from 0. Such a
+//! string is not printed, but with `--lossy` it is, with U+FFFD for each fault, and not told. What can be read behind damage is read.
+//!
+//! Each file is written before the next one is read. The status is 1 where something was told, and 2 for wrong words: `--lossy` comes
+//! before the files, and no file's name begins with `--`.
 #![tactic(auto)]
 
-ghost use Rattle.std.specs.Prelude.{◌+◌, ◌↔◌, ◌≤◌, ◌<◌, ◌^◌, IsSome, length};
+ghost use Rattle.std.specs.Prelude.{
+  ◌≡◌,
+  ◌+◌,
+  ◌%◌,
+  ◌++◌,
+  ◌↔◌,
+  ◌≤◌,
+  [],
+  IfOk,
+  IfSome,
+  IsSome,
+  MatchOption,
+  drop,
+  length,
+  take,
+};
+ghost use Rattle.std.specs.Int.{from_le_bytes, w16, w32};
 
 use std::alloc::{AllocError, Global};
-use std::fmt::Write;
+use std::fmt::{Display, Write};
 use std::process::ExitCode;
-use std::{env, fs, io};
+use std::{env, fmt, fs, io};
 use widestring::error::OutOfMemory;
-use widestring::{Utf16Str, Utf16String};
+use widestring::{U16Str, Utf16Str, Utf16String};
 
-// Whether all that was read is sound, where memory was found.
-type Sound = Result<bool, OutOfMemory>;
+#[cfg(test)]
+mod rows;
 
-// A resource: its name, where it is a block of strings and has a number for a name, and its data, as far as the file has it.
-#[derive(Drop)]
-struct Resource<'a> {
-    block: Option<u16>,
-    data: &'a [u8],
-    is_whole: bool,
+const USAGE: &str = "usage: resources [--lossy] FILE..\n";
+
+// Why no resource can be read.
+#[derive(Clone, Copy)]
+enum Damage {
+    NoSizes,
+    HeaderSize(u32),
+    Missing(usize),
+    NoEnd,
 }
 
-// The resources of a file that are not read yet.
-#[derive(Drop)]
-struct Resources<'a> {
-    bytes: &'a [u8],
+impl Display for Damage {
+    fn fmt<W: fmt::Write>(&self, f: &mut fmt::Formatter<W>) -> fmt::Result {
+        match *self {
+            Damage::NoSizes => write!(f, "its sizes are cut off"),
+            Damage::HeaderSize(size) => write!(f, "no header has {size} bytes"),
+            Damage::Missing(count) => write!(f, "{count} bytes are missing"),
+            Damage::NoEnd => write!(f, "its type or its name has no end"),
+        }
+    }
+}
+
+// A resource: the sizes that its header tells, the numbers of its type and its name, where they are numbers, its language, and its
+// contents as far as the file has them.
+#[derive(Clone, Copy)]
+struct Resource<'a> {
+    header_size: u32,
+    data_size: u32,
+    kind: Option<u16>,
+    name: Option<u16>,
+    language: u16,
+    contents: &'a [u8],
+}
+
+impl Resource<'_> {
+    // Without its padding.
+    fn size(&self) -> usize
+        ensures { result ≡ self.now.header_size + self.now.data_size }
+    {
+        self.header_size as usize + self.data_size as usize
+    }
+
+    // Whether it is the one that a file begins with.
+    fn is_empty(&self) -> bool {
+        let numbers = (self.kind, self.name);
+        self.header_size == 32 && self.data_size == 0 && numbers == (Some(0), Some(0))
+    }
 }
 
 // The little-endian unit at a place.
 fn unit_at(bytes: &[u8], at: usize) -> Option<u16>
-    ensures { IsSome result ↔ (at + 2 ≤ length bytes.now) }
+    ensures found { IsSome result ↔ (at + 2 ≤ length bytes.now) }
+    ensures value { IfSome result (λ unit. unit ≡ from_le_bytes w16 (take 2 (drop at bytes.now))) }
 {
     Some(u16::from_le_bytes(*bytes.get(at..)?.first_chunk::<2>()?))
 }
 
-// The number of a kind or of a name, where it has one.
-fn number_at(bytes: &[u8], at: usize) -> Option<u16> {
-    unit_at(bytes, at).filter(|unit| *unit == 0xffff)?;
-    unit_at(bytes, at + 2)
-}
-
-// The size at a place, which is 0 where the bytes end before.
-fn size_at(bytes: &[u8], at: usize) -> usize
-    ensures { result < 2 ^ 32 }
+// The little-endian size at a place.
+fn size_at(bytes: &[u8], at: usize) -> Option<u32>
+    ensures found { IsSome result ↔ (at + 4 ≤ length bytes.now) }
+    ensures value { IfSome result (λ size. size ≡ from_le_bytes w32 (take 4 (drop at bytes.now))) }
 {
-    let word = bytes.get(at..).and_then(|rest| rest.first_chunk::<4>());
-    word.map_or(0, |word| u32::from_le_bytes(*word) as usize)
+    Some(u32::from_le_bytes(*bytes.get(at..)?.first_chunk::<4>()?))
 }
 
-impl<'a> Iterator for Resources<'a> {
+// The number of a type or of a name, where it has one, and what stands behind it; none where its text has no end.
+fn split_name(bytes: &[u8]) -> Option<(Option<u16>, &[u8])> {
+    if unit_at(bytes, 0)? == 0xffff {
+        let number = unit_at(bytes, 2)?;
+        return Some((Some(number), bytes.get(4..)?));
+    }
+    let units = bytes.as_chunks::<2>().0;
+    let end = units.iter().position(|unit| *unit == [0, 0])?;
+    Some((None, units.get(end + 1..)?.as_flattened()))
+}
+
+// Reads the resource at the front of some bytes.
+fn read_resource(bytes: &[u8]) -> Result<Resource<'_>, Damage>
+    ensures data_size { IfOk result (λ it. it.data_size ≡ from_le_bytes w32 (take 4 bytes.now)) }
+    ensures header_size { IfOk result (λ it. it.header_size ≡ from_le_bytes w32 (take 4 (drop 4 bytes.now))) }
+    ensures aligned { IfOk result (λ it. (28 ≤ it.header_size) × (it.header_size % 4 ≡ 0)) }
+    ensures contents { IfOk result (λ it. it.contents.now ≡ take it.data_size (drop it.header_size bytes.now)) }
+{
+    let (Some(data_size), Some(header_size)) = (size_at(bytes, 0), size_at(bytes, 4)) else {
+        return Err(Damage::NoSizes);
+    };
+    if header_size < 28 || header_size % 4 != 0 {
+        return Err(Damage::HeaderSize(header_size));
+    }
+    let Some((header, rest)) = bytes.split_at_checked(header_size as usize) else {
+        let size = header_size as usize + data_size as usize;
+        return Err(Damage::Missing(size - bytes.len()));
+    };
+    let (kind, behind) = split_name(&header[8..]).ok_or(Damage::NoEnd)?;
+    let (name, behind) = split_name(behind).ok_or(Damage::NoEnd)?;
+    // The header's other fields begin at a multiple of 4, and so many bytes before its end.
+    let fields = &behind[behind.len() % 4..];
+    if fields.len() < 16 {
+        return Err(Damage::HeaderSize(header_size));
+    }
+    Ok(Resource {
+        header_size,
+        data_size,
+        kind,
+        name,
+        language: unit_at(fields, 6).unwrap_or(0),
+        contents: &rest[..rest.len().min(data_size as usize)],
+    })
+}
+
+// The bytes of a resource with its padding, or all that are left where no resource can be read, and their place.
+#[derive(Clone, Copy)]
+struct Part<'a> {
+    at: usize,
+    bytes: &'a [u8],
+    resource: Result<Resource<'a>, Damage>,
+}
+
+// The parts of a file that are not read yet.
+#[derive(Drop)]
+struct Parts<'a> {
+    file: &'a [u8],
+    rest: &'a [u8],
+    ghost within: { length rest.now ≤ length file.now },
+}
+
+impl<'a> Iterator for Parts<'a> {
     ghost use Rattle.std.specs.Iterator.{at_most};
 
-    type Item = Resource<'a>;
+    type Item = Part<'a>;
 
-    ghost remaining = { λ s. at_most (length s.bytes.now) };
+    // A part begins where the one before it ended, and no byte is lost between it and those behind it, up to the end.
+    ghost next_gives = { λ old part new. MatchOption part (old.rest.now ≡ []) (λ it.
+        (it.at + length old.rest.now ≡ length old.file.now) × (old.rest.now ≡ it.bytes.now ++ new.rest.now)) };
 
-    fn next(&mut self) -> Option<Resource<'a>> {
-        let bytes = self.bytes;
-        if bytes.is_empty() {
+    ghost remaining = { λ s. at_most (length s.rest.now) };
+
+    fn next(&mut self) -> Option<Part<'a>> {
+        if self.rest.is_empty() {
             return None;
         }
-        let head = size_at(bytes, 4).max(8);
-        let end = head + size_at(bytes, 0);
-        self.bytes = bytes.get(end.next_multiple_of(4)..).unwrap_or(&[]);
-        Some(Resource {
-            block: number_at(bytes, 8)
-                .filter(|kind| *kind == 6)
-                .and(number_at(bytes, 12)),
-            data: bytes.get(head..end.min(bytes.len())).unwrap_or(&[]),
-            is_whole: end <= bytes.len(),
+        let at = self.file.len() - self.rest.len();
+        let resource = read_resource(self.rest);
+        let end = match resource {
+            Ok(resource) => resource.size().next_multiple_of(4),
+            Err(_) => self.rest.len(),
+        };
+        let (bytes, rest) = self.rest.split_at(end.min(self.rest.len()));
+        self.rest = rest;
+        Some(Part {
+            at,
+            bytes,
+            resource,
         })
     }
 }
 
-// Writes a string and answers whether it is one.
-fn push_string(text: &mut String, id: usize, units: &[u16], is_lossy: bool) -> Sound {
-    match Utf16Str::from_slice(units) {
-        Ok(string) => writeln!(text, "{id}: {string:?}")?,
-        Err(_) if is_lossy => {
-            let lossy = Utf16String::from_slice_lossy(*text.allocator(), units)?;
-            writeln!(text, "{id}: {:?}", lossy.as_utfstr())?;
-        }
-        Err(fault) => {
-            let unit = fault.cause().unpaired_surrogate();
-            writeln!(text, "{id}: fault {unit:04X} at unit {}", fault.index())?;
-            return Ok(false);
-        }
-    }
-    Ok(true)
+// What is printed and told of a file, and which of its resources is being read, and where it begins.
+#[derive(Drop)]
+struct Tables<'a> {
+    alloc: Global,
+    file: &'a str,
+    is_lossy: bool,
+    number: usize,
+    at: usize,
+    text: String,
+    told: String,
 }
 
-// Writes the sixteen strings of a block, or which of them is not whole.
-fn push_block(text: &mut String, name: u16, data: &[u8], is_lossy: bool) -> Sound {
-    let first = usize::from(name).saturating_sub(1) * 16;
-    let mut lines = String::new(*text.allocator());
-    let (mut rest, mut is_sound) = (data, true);
-    for id in first..first + 16 {
-        let end = 2 + 2 * usize::from(unit_at(rest, 0).unwrap_or(0));
-        let Some(string) = rest.get(2..end) else {
-            writeln!(text, "block {name}: truncated in string {id}")?;
-            return Ok(false);
+impl Tables<'_> {
+    fn status(&self) -> u8 {
+        u8::from(!self.told.is_empty())
+    }
+
+    fn tell(&mut self, what: impl Display + Drop) -> Result<(), OutOfMemory> {
+        let (file, number, at) = (self.file, self.number, self.at);
+        Ok(writeln!(self.told, "{file}: resource {number} at byte {at}: {what}")?)
+    }
+
+    // Prints a string, or tells its faults.
+    fn read_string(
+        &mut self,
+        language: u16,
+        id: usize,
+        units: U16Str<'_>,
+    ) -> Result<(), OutOfMemory> {
+        if self.is_lossy || Utf16Str::from_ustr(units).is_ok() {
+            let string = Utf16String::from_ustr_lossy(self.alloc, units)?;
+            return Ok(writeln!(self.text, "{language:04X} {id}: {:?}", string.as_utfstr())?);
+        }
+        for (unit, item) in units.char_indices() {
+            if let Err(fault) = item {
+                let fault = fault.unpaired_surrogate();
+                self.tell(format_args!("string {id}: fault {fault:04X} at unit {unit}"))?;
+            }
+        }
+        Ok(())
+    }
+
+    // Reads the sixteen strings of a table.
+    fn read_strings(&mut self, first: usize, table: &Resource<'_>) -> Result<(), OutOfMemory> {
+        let mut rest = table.contents;
+        for index in 0..16 {
+            let id = first.saturating_add(index);
+            let end = 2 + 2 * usize::from(unit_at(rest, 0).unwrap_or(0));
+            let Some((string, behind)) = rest.split_at_checked(end) else {
+                let missing = end - rest.len();
+                return self.tell(format_args!("ends in string {id}: {missing} bytes are missing"));
+            };
+            rest = behind;
+            let pairs = string[2..].as_chunks::<2>().0.iter();
+            let units: Vec<u16> = pairs
+                .map(|pair| u16::from_le_bytes(*pair))
+                .collect(self.alloc)?;
+            if !units.is_empty() {
+                self.read_string(table.language, id, U16Str::from_slice(&units))?;
+            }
+        }
+        if !rest.is_empty() {
+            self.tell(format_args!("{} bytes behind its strings", rest.len()))?;
+        }
+        Ok(())
+    }
+
+    // Reads a resource, where there is one, and prints it where it is a string table.
+    fn read_part(&mut self, part: &Part<'_>) -> Result<(), OutOfMemory> {
+        let resource = match &part.resource {
+            Ok(resource) => resource,
+            Err(damage) => {
+                let unread = part.bytes.len();
+                return self.tell(format_args!("{damage}, {unread} bytes are not read"));
+            }
         };
-        let pairs = string.as_chunks::<2>().0.iter();
-        let units: Vec<u16> = pairs
-            .map(|pair| u16::from_le_bytes(*pair))
-            .collect(*text.allocator())?;
-        is_sound &= units.is_empty() || push_string(&mut lines, id, &units, is_lossy)?;
-        rest = rest.get(end..).unwrap_or(&[]);
+        if part.at == 0 && !resource.is_empty() {
+            self.tell("is not the empty resource that a file begins with")?;
+        }
+        if resource.size() > part.bytes.len() {
+            self.tell(Damage::Missing(resource.size() - part.bytes.len()))?;
+        }
+        match (resource.kind, resource.name) {
+            (Some(6), Some(name)) if 0 < name && name <= 4096 => {
+                self.read_strings(usize::from(name - 1) * 16, resource)
+            }
+            (Some(6), Some(name)) => {
+                self.tell(format_args!("a string table is named 1 to 4096, not {name}"))
+            }
+            (Some(6), None) => self.tell("a string table is named by a number, not by a text"),
+            _ => Ok(()),
+        }
     }
-    text.push_str(&lines)?;
-    if !rest.is_empty() {
-        writeln!(
-            text,
-            "block {name}: {} bytes behind its strings",
-            rest.len()
-        )?;
+
+    fn read_bytes(&mut self, bytes: &[u8]) -> Result<(), OutOfMemory> {
+        if bytes.is_empty() {
+            return Ok(writeln!(self.told, "{}: no resource", self.file)?);
+        }
+        for part in (Parts {
+            file: bytes,
+            rest: bytes,
+        }) {
+            self.number = self.number.saturating_add(1);
+            self.at = part.at;
+            self.read_part(&part)?;
+        }
+        Ok(())
     }
-    Ok(is_sound && rest.is_empty())
 }
 
-// Writes the strings of a file, and of all else how much there is.
-fn push_file(text: &mut String, bytes: &[u8], is_lossy: bool) -> Sound {
-    let mut is_sound = true;
-    for resource in (Resources { bytes }) {
-        match resource.block {
-            Some(name) => is_sound &= push_block(text, name, resource.data, is_lossy)?,
-            None => writeln!(text, "other resource: {} bytes", resource.data.len())?,
-        }
-        is_sound &= resource.is_whole;
+// What is printed and told of a file, which may be one that can't be read.
+fn read_file<E: Display + Drop>(
+    alloc: Global,
+    file: &str,
+    bytes: Result<Vec<u8>, E>,
+    is_lossy: bool,
+) -> Result<Tables<'_>, OutOfMemory> {
+    let mut tables = Tables {
+        alloc,
+        file,
+        is_lossy,
+        number: 0,
+        at: 0,
+        text: String::new(alloc),
+        told: String::new(alloc),
+    };
+    match bytes {
+        Ok(bytes) => tables.read_bytes(&bytes)?,
+        Err(why) => writeln!(tables.told, "{file}: {why}")?,
     }
-    Ok(is_sound)
+    Ok(tables)
+}
+
+// Whether text is lossy, and the files, where the words are right.
+fn parse(words: &[String]) -> Option<(bool, &[String])> {
+    let (is_lossy, files) = match words {
+        [first, files @ ..] if first.as_str() == "--lossy" => (true, files),
+        _ => (false, words),
+    };
+    let is_right = !files.is_empty() && !files.iter().any(|file| file.starts_with("--"));
+    is_right.then_some((is_lossy, files))
 }
 
 fn main(rt: HostRuntime) -> io::Result<ExitCode> {
-    let (mut text, mut is_lossy, mut is_sound) = (String::new(rt.alloc()), false, true);
-    for word in env::args(&rt)?.skip(1) {
-        if word.as_str() == "--lossy" {
-            is_lossy = true;
-        } else {
-            let bytes = fs::read(&rt, word)?;
-            is_sound &= push_file(&mut text, &bytes, is_lossy).map_err(|_refused| AllocError)?;
-        }
+    let words: Vec<String> = env::args(&rt)?.skip(1).collect(rt.alloc())?;
+    let Some((is_lossy, files)) = parse(&words) else {
+        eprint!(rt; "{USAGE}")?;
+        return Ok(ExitCode::from(2));
+    };
+    let mut status = 0;
+    for file in files {
+        let tables = read_file(rt.alloc(), file, fs::read(&rt, file), is_lossy);
+        let tables = tables.map_err(|_refused| AllocError)?;
+        print!(rt; "{}", tables.text)?;
+        eprint!(rt; "{}", tables.told)?;
+        status = tables.status().max(status);
     }
-    print!(rt; "{text}")?;
-    Ok(ExitCode::from(u8::from(!is_sound)))
+    Ok(ExitCode::from(status))
 }

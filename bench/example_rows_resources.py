@@ -1,0 +1,415 @@
+"""What the example `resources` prints and tells, by a reader of `.res` files of its own."""
+
+import struct
+import unicodedata
+
+USAGE = "usage: resources [--lossy] FILE..\n"
+EMPTY = struct.pack("<8I", 0, 32, 0xFFFF, 0xFFFF, 0, 0, 0, 0)
+
+
+# Files are made of these.
+
+
+def units(text):
+    """The bytes of a text, in which a surrogate may stand alone."""
+    return text.encode("utf-16-le", "surrogatepass")
+
+
+def name_bytes(name):
+    return struct.pack("<HH", 0xFFFF, name) if isinstance(name, int) else units(name + "\0")
+
+
+def padded(data):
+    return data + bytes(-len(data) % 4)
+
+
+def resource(kind, name, data, language=0x409, header_size=None, data_size=None, more=b""):
+    """A resource, its padding left out; its sizes may be told wrong, and `more` stands behind the fields of its header."""
+    names = padded(name_bytes(kind) + name_bytes(name))
+    fields = names + struct.pack("<IHHII", 0, 0x1030, language, 0, 0) + more
+    header_size = len(fields) + 8 if header_size is None else header_size
+    data_size = len(data) if data_size is None else data_size
+    return struct.pack("<II", data_size, header_size) + fields + data
+
+
+def strings(*texts):
+    """The sixteen strings of a table, of which the last ones may be left out where they are empty."""
+    texts = [*texts, *[""] * (16 - len(texts))]
+    return b"".join(struct.pack("<H", len(units(text)) // 2) + units(text) for text in texts)
+
+
+def table(name, *texts, language=0x409):
+    return resource(6, name, strings(*texts), language)
+
+
+def file(*resources):
+    """A file of the empty resource and these; only the last one's padding is left out."""
+    return b"".join([EMPTY, *map(padded, resources[:-1]), *resources[-1:]])
+
+
+# What is printed and told of them.
+
+
+def debug_of(char):
+    """A character as Rust's `{:?}` prints it within a text."""
+    named = {"\0": "\\0", "\t": "\\t", "\r": "\\r", "\n": "\\n", '"': '\\"', "\\": "\\\\"}
+    if char in named:
+        return named[char]
+    is_mark = unicodedata.category(char) in ("Mn", "Me")
+    return char if char.isprintable() and not is_mark else f"\\u{{{ord(char):x}}}"
+
+
+class Fault(Exception):
+    """Why no more resources are read."""
+
+
+class Reader:
+    """A reader of one file, that goes from field to field."""
+
+    def __init__(self, name, data, is_lossy):
+        self.name, self.data, self.is_lossy = name, data, is_lossy
+        self.at = self.number = self.begin = 0
+        self.printed, self.told = [], []
+
+    def tell(self, what):
+        self.told.append(f"{self.name}: resource {self.number} at byte {self.begin}: {what}\n")
+
+    def read(self):
+        if not self.data:
+            self.told.append(f"{self.name}: no resource\n")
+        while self.at < len(self.data):
+            self.number, self.begin = self.number + 1, self.at
+            try:
+                self.read_resource()
+            except Fault as fault:
+                self.tell(f"{fault}, {len(self.data) - self.begin} bytes are not read")
+                return
+
+    def read_name(self, end):
+        """A number, or a text that ends in a zero unit; the header ends at `end`."""
+        found = []
+        while self.at + 2 <= end:
+            (unit,) = struct.unpack_from("<H", self.data, self.at)
+            self.at += 2
+            found.append(unit)
+            if found[0] == 0xFFFF and len(found) == 2:
+                return unit
+            if found[0] != 0xFFFF and unit == 0:
+                return found
+        raise Fault("its type or its name has no end")
+
+    def read_resource(self):
+        if len(self.data) - self.begin < 8:
+            raise Fault("its sizes are cut off")
+        data_size, header_size = struct.unpack_from("<II", self.data, self.begin)
+        header_end = self.begin + header_size
+        missing = header_end + data_size - len(self.data)
+        if header_size < 28 or header_size % 4:
+            raise Fault(f"no header has {header_size} bytes")
+        if header_end > len(self.data):
+            raise Fault(f"{missing} bytes are missing")
+        self.at += 8
+        kind = self.read_name(header_end)
+        name = self.read_name(header_end)
+        self.at += -self.at % 4
+        if self.at + 16 > header_end:
+            raise Fault(f"no header has {header_size} bytes")
+        _, _, language, _, _ = struct.unpack_from("<IHHII", self.data, self.at)
+        self.at = header_end + data_size
+        self.at += -self.at % 4
+        if self.begin == 0 and (header_size, data_size, kind, name) != (32, 0, 0, 0):
+            self.tell("is not the empty resource that a file begins with")
+        if missing > 0:
+            self.tell(f"{missing} bytes are missing")
+        if kind == 6:
+            self.read_table(name, language, self.data[header_end : header_end + data_size])
+
+    def read_table(self, name, language, data):
+        if isinstance(name, list):
+            return self.tell("a string table is named by a number, not by a text")
+        if name not in range(1, 4097):
+            return self.tell(f"a string table is named 1 to 4096, not {name}")
+        at = 0
+        for number in range(16 * name - 16, 16 * name):
+            count = int.from_bytes(data[at : at + 2], "little") if at + 2 <= len(data) else 0
+            end = at + 2 + 2 * count
+            if end > len(data):
+                return self.tell(f"ends in string {number}: {end - len(data)} bytes are missing")
+            self.read_string(number, language, data[at + 2 : end])
+            at = end
+        if at < len(data):
+            self.tell(f"{len(data) - at} bytes behind its strings")
+        return None
+
+    def read_string(self, number, language, data):
+        # A lone surrogate is a character of its own here.
+        text = data.decode("utf-16-le", "surrogatepass")
+        is_fault = [unicodedata.category(char) == "Cs" for char in text]
+        if not data:
+            return
+        if any(is_fault) and not self.is_lossy:
+            place = 0
+            for char, is_one in zip(text, is_fault):
+                if is_one:
+                    self.tell(f"string {number}: fault {ord(char):04X} at unit {place}")
+                place += len(units(char)) // 2
+            return
+        text = "".join(
+            "\ufffd" if is_one else debug_of(char) for char, is_one in zip(text, is_fault)
+        )
+        self.printed.append(f'{language:04X} {number}: "{text}"\n')
+
+
+def answer(words, files):
+    """What is printed and told, and the status. `files` has each word's bytes, or why they can't be read."""
+    is_lossy = words[:1] == ["--lossy"]
+    names = words[1:] if is_lossy else words
+    if not names or any(name.startswith("--") for name in names):
+        return "", USAGE, 2
+    printed, told = "", ""
+    for name, data in zip(names, files):
+        if isinstance(data, str):
+            told += f"{name}: {data}\n"
+            continue
+        reader = Reader(name, data, is_lossy)
+        reader.read()
+        printed += "".join(reader.printed)
+        told += "".join(reader.told)
+    return printed, told, 1 if told else 0
+
+
+# The inputs: words, and the bytes of each file that they name.
+
+UNREADABLE = "it can't be read"
+OPEN = table(2, "", "Open")
+LONE = table(2, "a\ud83d", "\udc00", "\udc00\ud83d\ude00\ud83d", "fine")
+
+
+def one(data):
+    return ["a.res"], [data]
+
+
+def lossy(data):
+    return ["--lossy", "a.res"], [data]
+
+
+INPUTS = [
+    # Words.
+    ([], []),
+    (["--lossy"], []),
+    (["a.res", "--lossy"], [file(OPEN)]),
+    (["--lossy", "--lossy", "a.res"], [file(OPEN)]),
+    (["--all", "a.res"], [file(OPEN)]),
+    # Files without faults.
+    one(EMPTY),
+    one(file(table(1, *"abcdefghijklmnop"))),
+    one(file(table(4096, "first", *[""] * 14, "last"))),
+    # Two languages have one identifier; the first table ends where no multiple of 4 does.
+    one(file(table(2, "", "Opens"), table(2, "", "Öffnet", language=0x407))),
+    # Texts for a type and for names, with and without padding behind them, and none.
+    one(file(resource("AB", "C", b"123"), resource("AB", "", b""), resource(10, "N", b"1"), OPEN)),
+    # A header that is longer than its fields, and two files, one behind the other.
+    one(file(resource(6, 2, strings("x"), more=bytes(4)), EMPTY, OPEN)),
+    # A mark and zero units belong to a text.
+    one(file(table(1, "\ufeffa\0", '"\\\t\r\n\x7f', "\u200b\u0301\ue000é", "深海 🌊", "\0"))),
+    one(file(table(3, "ab" * 40))),
+    # Faults of a file, and of a header.
+    one(b""),
+    one(b"\0"),
+    one(file(OPEN[:7])),
+    one(OPEN),
+    one(file(OPEN[:8])),
+    one(file(resource(6, 2, b"", header_size=0xFFFFFFFC, data_size=0xFFFFFFFF))),
+    one(file(resource(6, 2, strings("x"), header_size=28))),
+    one(file(resource(6, 2, strings("x"), header_size=24), OPEN)),
+    one(file(resource(6, 2, strings("x"), header_size=34))),
+    one(file(struct.pack("<II", 0, 28) + units("A" * 10))),
+    one(file(struct.pack("<II", 0, 28) + name_bytes(6) + units("B" * 8))),
+    # Sizes past the end.
+    one(file(OPEN)[:-1]),
+    one(file(resource(6, 2, strings("x"), data_size=0xFFFFFFFF))),
+    one(file(resource(10, 2, b"12", data_size=4))),
+    # Faults of a table.
+    one(file(table(0, "x"), OPEN)),
+    one(file(table(4097, "x"))),
+    one(file(table("TEXT", "x"))),
+    one(file(resource(6, 2, b""), OPEN)),
+    one(file(resource(6, 2, strings("x")[:-1]))),
+    one(file(resource(6, 2, strings("xy")[:5]))),
+    one(file(resource(6, 2, strings("x") + b"\0"), OPEN)),
+    # Faults of a text.
+    one(file(LONE)),
+    lossy(file(LONE)),
+    # Several files.
+    (["a.res", "no.res", "", "b.res"], [file(OPEN), UNREADABLE, b"", file(OPEN)]),
+]
+
+
+# Questions made at random.
+
+TEXTS = ["", "", "", "a", "Zoë", "深", "🌊", "\ud83d", "\udc00", "\0", '"', "\\", "\n", "\ufeff", "\u200b", "\ufffd", "\u0301", "\uffff", "\x85"]
+
+
+def random_text(source):
+    return "".join(source.choices(TEXTS, k=source.choice([0, 0, 1, 2, 5])))
+
+
+def random_name(source, numbers):
+    return source.choice([*numbers, *numbers, *numbers, random_text(source).replace("\0", "")])
+
+
+def random_resource(source):
+    kind = random_name(source, [6, 6, 6, 6, 0, 10])
+    name = random_name(source, [1, 2, 3, 4095, 4096, 4097, 0, 65535])
+    data = strings(*[random_text(source) for _ in range(source.randint(0, 16))])
+    changed = source.random()
+    if changed < 0.1:
+        data = data[: source.randint(0, len(data))]
+    elif changed < 0.2:
+        data += bytes(source.randint(1, 5))
+    header_size = source.choice([None] * 30 + [0, 8, 24, 28, 32, 33, 36, 40, 44, 0xFFFFFFFC])
+    data_size = source.choice([None] * 30 + [0, 1, 31, 33, 64, 0xFFFFFFFF])
+    more = bytes(source.choice([0] * 20 + [4, 8]))
+    language = source.choice([0, 0x407, 0x409, 0x40C, 0xFFFF])
+    return resource(kind, name, data, language, header_size, data_size, more)
+
+
+def random_file(source):
+    data = file(*[random_resource(source) for _ in range(source.randint(0, 4))])
+    changed = source.random()
+    if changed < 0.1:
+        return data[: source.randint(0, len(data))]
+    if changed < 0.2:
+        data = bytearray(data)
+        for _ in range(source.randint(1, 4)):
+            data[source.randrange(len(data))] = source.choice([0, 1, 6, 0xD8, 0xDC, 0xFF])
+        return bytes(data)
+    return data[32:] if changed < 0.23 else padded(data)
+
+
+def question(source, folder):
+    words = source.choice([[], [], ["--lossy"]])
+    files = [random_file(source) for _ in range(source.choice([1, 1, 1, 2, 3]))]
+    names = [f"{number}.res" for number in range(len(files))]
+    for number, name in enumerate(names):
+        with open(f"{folder}/{name}", "wb") as written:
+            written.write(files[number])
+    if source.random() < 0.05:
+        files[-1], names[-1] = "No such file or directory (os error 2)", "no.res"
+    words = [*words, *names]
+    if source.random() < 0.02:
+        words.insert(source.randint(0, len(words)), source.choice(["--lossy", "--", "--no"]))
+    printed, told, status = answer(words, files)
+    return words, printed.encode(), told.encode(), status
+
+
+# The text of the rows.
+
+HEAD = """\
+//! Inputs, and what is printed and told of them; `bench/example_rows resources` writes this file.
+
+use super::{Tables, USAGE, parse, read_file};
+use std::alloc::{AllocError, Global};
+use widestring::error::OutOfMemory;
+
+// Words, and the bytes of each file that they name, or none where it can't be read; what is printed and told, and the status.
+struct Row {
+    words: &'static [&'static str],
+    files: &'static [Option<&'static [u8]>],
+    printed: &'static str,
+    told: &'static str,
+    status: u8,
+}
+
+"""
+
+DRIVER = """\
+
+// What is printed and told of a row, and the status.
+fn answer(alloc: Global, row: &Row) -> Result<(String, String, u8), OutOfMemory> {
+    let (mut printed, mut told, mut status) = (String::new(alloc), String::new(alloc), 0);
+    let mut words = Vec::new(alloc);
+    for word in row.words {
+        words.push(String::from_str(alloc, word)?)?;
+    }
+    let Some((is_lossy, names)) = parse(&words) else {
+        told.push_str(USAGE)?;
+        return Ok((printed, told, 2));
+    };
+    for (name, file) in names.iter().zip(row.files) {
+        let bytes = match file {
+            Some(bytes) => Ok(Vec::from_slice(alloc, bytes)?),
+            None => Err("it can't be read"),
+        };
+        let tables = read_file(alloc, name, bytes, is_lossy)?;
+        printed.push_str(&tables.text)?;
+        told.push_str(&tables.told)?;
+        status = tables.status().max(status);
+    }
+    Ok((printed, told, status))
+}
+
+// Whether a row is answered as it says.
+fn is_right(alloc: Global, row: &Row) -> bool {
+    match answer(alloc, row) {
+        Ok((printed, told, status)) => {
+            printed.as_str() == row.printed && told.as_str() == row.told && status == row.status
+        }
+        Err(OutOfMemory) => false,
+    }
+}
+
+#[test]
+fn rows(rt: HostRuntime) {
+    for (number, row) in ROWS.iter().enumerate() {
+        assert!(rt; is_right(rt.alloc(), row), "row {number}");
+    }
+}
+"""
+
+
+def byte_literal(data):
+    shown = {0: "\\0", 10: "\\n", 34: '\\"', 92: "\\\\"}
+    return 'b"' + "".join(shown.get(b) or (chr(b) if 32 <= b < 127 else f"\\x{b:02x}") for b in data) + '"'
+
+
+def text_literal(text):
+    shown = {"\n": "\\n", '"': '\\"', "\\": "\\\\"}
+    return '"' + "".join(shown.get(c) or (c if c.isprintable() else f"\\u{{{ord(c):x}}}") for c in text) + '"'
+
+
+def item_of(data, indent, room):
+    """A file in the layout of `rt fmt`, on one line where it has room."""
+    if isinstance(data, str):
+        return "None"
+    literal = byte_literal(data)
+    if len(literal) <= room:
+        return f"Some({literal})"
+    return f"Some(\n{indent}    {literal},\n{indent})"
+
+
+def files_of(files):
+    indent = " " * 8
+    if len(files) < 2:
+        items = "".join(item_of(data, indent, 75) for data in files)
+        return f"&[{items}]"
+    items = "".join(f"{indent}    {item_of(data, indent + '    ', 80)},\n" for data in files)
+    return f"&[\n{items}{indent}]"
+
+
+def row_of(words, files):
+    printed, told, status = answer(words, files)
+    words = ", ".join(text_literal(word) for word in words)
+    fields = [
+        f"words: &[{words}]",
+        f"files: {files_of(files)}",
+        f"printed: {text_literal(printed)}",
+        f"told: {text_literal(told)}",
+        f"status: {status}",
+    ]
+    return "    Row {\n" + "".join(f"        {field},\n" for field in fields) + "    },\n"
+
+
+def rows():
+    made = "".join(row_of(words, files) for words, files in INPUTS)
+    return f"{HEAD}static ROWS: [Row; {len(INPUTS)}] = [\n{made}];\n{DRIVER}"
