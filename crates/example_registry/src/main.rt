@@ -7,7 +7,8 @@
 //! The status is 0, or 1 where something was told; where the words are not one file's name it is 2, and standard error has the usage.
 #![tactic(auto)]
 
-ghost use Rattle.std.specs.Prelude.{◌≡◌, ◌<◌, ◌≤◌, ◌↔◌, All, IfOk, IfSome, IsNone, IsSome, IsTrue, length, string_len};
+ghost use Rattle.std.specs.Prelude.{◌≡◌, ◌<◌, ◌≤◌, ◌↔◌, All, IfOk, IfSome, IsNone, IsSome, drop, length, slice_index, string_len};
+ghost use Rattle.std.specs.Char.{digit_value};
 ghost use Rattle.widestring.specs.EncodingForm.{Utf16};
 ghost use Rattle.widestring.specs.Items.{items};
 ghost use Rattle.widestring.specs.LineIndices.{placed_left};
@@ -80,27 +81,39 @@ fn placed_lines_of(text: U16Str<'_>) -> LineIndices<U16Str<'_>>
     text.line_indices_lossy()
 }
 
-fn digit(unit: u16) -> Option<u32> {
+// The digit that a unit means in hexadecimal.
+fn digit(unit: u16) -> Option<u32>
+    ensures some { IsSome result ↔ (digit_value unit < 16) }
+    ensures value { IfSome result (λ digit. digit ≡ digit_value unit) }
+{
     char::from_u32(u32::from(unit))?.to_digit(16)
 }
 
 // The number that hexadecimal digits mean, where there are so many of them, at least and at most, and nothing else.
 fn hex_digits(text: U16Str<'_>, least: usize, most: usize) -> Option<u32>
-    ensures least { IsSome result → least ≤ length (units_seen text.entry) }
-    ensures most { IsSome result → length (units_seen text.entry) ≤ most }
+    ensures some { IsSome result
+        ↔ (least ≤ length (units_seen text.entry)
+        × length (units_seen text.entry) ≤ most
+        × All (λ unit. digit_value unit < 16) (units_seen text.entry)) }
 {
-    if text.len() < least || text.len() > most {
+    let units = text.as_slice();
+    if units.len() < least || units.len() > most {
         return None;
     }
-    let mut number = 0u32;
-    for unit in text.as_slice() {
-        number = number.checked_mul(16)?.checked_add(digit(*unit)?)?;
+    if !units.iter().all(|unit| digit(*unit).is_some()) {
+        return None;
     }
-    Some(number)
+    let digits = units.iter().filter_map(|unit| digit(*unit));
+    Some(digits.fold(
+        0u32,
+        |number, digit| number.wrapping_mul(16).wrapping_add(digit),
+    ))
 }
 
 // The units behind an ASCII text, where they begin with it.
-fn behind<'a>(units: U16Str<'a>, text: &str) -> Option<U16Str<'a>> {
+fn behind<'a>(units: U16Str<'a>, text: &str) -> Option<U16Str<'a>>
+    ensures { IfSome result (λ rest. units_seen rest ≡ drop (length text.now) (units_seen units.entry)) }
+{
     let front = units.get(..text.len())?;
     if front.chars_lossy().eq(text.chars()) {
         units.get(text.len()..)
@@ -125,7 +138,9 @@ fn goes_on(rest: U16Str<'_>) -> bool {
 }
 
 // The place of the quote that ends a string, which no backslash escapes.
-fn closing_quote(units: U16Str<'_>) -> Option<usize> {
+fn closing_quote(units: U16Str<'_>) -> Option<usize>
+    ensures { IfSome result (λ place. slice_index (units_seen units.entry) place ≡ QUOTE) }
+{
     let mut is_escaped = false;
     for (place, unit) in units.as_slice().iter().enumerate() {
         if !is_escaped && *unit == QUOTE {
