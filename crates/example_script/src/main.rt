@@ -1,34 +1,49 @@
-//! Answers the calls in a file, one a line, that scripts make of a string of any units.
+//! Answers the calls in a file of UTF-8, one a line, that scripts make of a string of any units: on standard output, each call with its
+//! answer. In `string` and `indexOf` a `\u` and four hexadecimal digits are a unit by its number. A line that is no call is told on
+//! standard error, by its number, from 1, and its unit, from 0. The status is 0, or 1 where something was told, or 2 where the words are
+//! wrong.
 #![tactic(auto)]
 
-ghost use Rattle.std.specs.Prelude.{◌≡◌, ◌≤◌, ◌↔◌, IfOk, IsNone, IsTrue, drop, length, take};
+ghost use Rattle.std.specs.Prelude.{◌≡◌, ◌<◌, ◌≤◌, ◌↔◌, ◌∷◌, ℕ, List, Some, IfOk, IsNone, IsSome, IsTrue, drop, length, string_len, take};
 ghost use Rattle.widestring.specs.EncodingForm.{Utf16, Utf32, encode};
 ghost use Rattle.widestring.specs.Items.{IsWellFormed, chars, items};
 ghost use Rattle.widestring.specs.Lossy.{lossy};
+ghost use Rattle.widestring.specs.Segmentation.{Char, Fault, Item};
+ghost use Rattle.widestring.specs.UnitView.{units_seen};
 
 use std::alloc::{AllocError, Global};
+use std::fmt::Write;
+use std::process::ExitCode;
 use std::{env, fs, io};
 use widestring::edit::{Edit, Reply, Stopped, run_both};
 use widestring::error::OutOfMemory;
-use widestring::unit::split_first;
+use widestring::unit::{length_as_utf16, split_first};
 use widestring::{U16Str, U16String, Utf16Str, Utf16String, Utf32String};
+
+#[cfg(test)]
+mod rows;
 
 // The code point that begins at a unit, which is the unit itself where no character does.
 fn code_point_at(units: &[u16], index: usize) -> Option<u32>
-    ensures { IsNone result ↔ (length units.now ≤ index) }
+    ensures none { IsNone result ↔ (length units.now ≤ index) }
+    ensures character { (c : ℕ) (rest : List Item) → items Utf16 (drop index units.now) ≡ Char c ∷ rest → result ≡ Some c }
+    ensures unit { (u : ℕ) (rest : List Item) → items Utf16 (drop index units.now) ≡ Fault u ∷ rest → result ≡ Some u }
 {
-    match split_first(units.get(index..)?)?.0 {
-        Ok(c) => Some(u32::from(c)),
-        Err(unit) => Some(u32::from(unit)),
+    let (_, rest) = units.split_at(index.min(units.len()));
+    match split_first(rest) {
+        Some((Ok(c), _)) => Some(u32::from(c)),
+        Some((Err(unit), _)) => Some(u32::from(unit)),
+        None => None,
     }
 }
 
 // The units from one place up to another, as many as there are; the cuts may part a pair.
-fn slice(units: &[u16], from: usize, to: usize) -> &[u16]
-    ensures { result.now ≡ drop from (take to units.now) }
+fn slice(units: U16Str<'_>, from: usize, to: usize) -> U16Str<'_>
+    ensures { units_seen result ≡ drop from (take to (units_seen units.entry)) }
 {
-    let front = &units[..to.min(units.len())];
-    &front[from.min(front.len())..]
+    let (front, _) = units.split_at(to.min(units.len()));
+    let (_, part) = front.split_at(from.min(front.len()));
+    part
 }
 
 // Whether no surrogate is unpaired.
@@ -59,39 +74,116 @@ fn edit_both(
     run_both(alloc, text, copy, &[edit], replies, &mut Vec::new(alloc))
 }
 
-// The units of a text in which `\uD83D` is a unit by its number.
-fn units_of(alloc: Global, text: &str) -> Result<U16String, OutOfMemory> {
-    let mut units = U16String::new(alloc);
-    for (number, part) in text.split("\\u").enumerate() {
-        match u16::from_str_radix(part.get(..4).unwrap_or(""), 16) {
-            Ok(unit) if number > 0 => {
-                units.push_slice(&[unit])?;
-                units.push_str(part.get(4..).unwrap_or(""))?;
-            }
-            _ => units.push_str(part)?,
-        }
-    }
-    Ok(units)
+// What is wrong in a line, and at which of its units.
+type Damage = (usize, &'static str);
+
+// A call and what it is made with. The text of a search is not read yet.
+#[derive(Clone, Copy)]
+enum Call<'a> {
+    String(&'a str),
+    IndexOf(&'a str),
+    CodePointAt(usize),
+    Slice(usize, usize),
+    IsWellFormed,
+    ToWellFormed,
+    Edit(Edit<'a>),
 }
 
-// The edit that a line names, at places in characters.
-fn edit_of<'a>(name: &str, values: &'a str) -> Option<Edit<'a>> {
-    let (first, rest) = values.split_once(' ').unwrap_or((values, ""));
-    let at = first.parse().ok()?;
+// A place: decimal digits alone. A greater one than any string has is past the end of each.
+fn place_of(word: &str) -> Option<usize> {
+    if word.is_empty() || !word.bytes().all(|digit| digit.is_ascii_digit()) {
+        return None;
+    }
+    Some(word.parse().unwrap_or(usize::MAX))
+}
+
+// The first word, as a place, and what stands behind it.
+fn split_place<'a>(line: &str, values: &'a str) -> Result<(usize, &'a str), Damage> {
+    let (word, rest) = values.split_once(' ').unwrap_or((values, ""));
+    let unit = length_as_utf16(line).saturating_sub(length_as_utf16(values));
+    Ok((place_of(word).ok_or((unit, "no place"))?, rest))
+}
+
+// The call, where nothing stands behind it.
+fn end_of<'a>(line: &str, rest: &str, call: Call<'a>) -> Result<Call<'a>, Damage> {
+    if rest.is_empty() {
+        return Ok(call);
+    }
+    let unit = length_as_utf16(line).saturating_sub(length_as_utf16(rest));
+    Err((unit, "too many words"))
+}
+
+// The call that a line is.
+fn call_of(line: &str) -> Result<Call<'_>, Damage> {
+    let (name, values) = line.split_once(' ').unwrap_or((line, ""));
     match name {
-        "insert" => Some(Edit::InsertStr(at, rest)),
-        "remove" => Some(Edit::Remove(at)),
-        "replace" => {
-            let (end, text) = rest.split_once(' ')?;
-            Some(Edit::Replace(at, end.parse().ok()?, text))
+        "string" => Ok(Call::String(values)),
+        "indexOf" => Ok(Call::IndexOf(values)),
+        "isWellFormed" => end_of(line, values, Call::IsWellFormed),
+        "toWellFormed" => end_of(line, values, Call::ToWellFormed),
+        "codePointAt" => {
+            let (at, rest) = split_place(line, values)?;
+            end_of(line, rest, Call::CodePointAt(at))
         }
-        _ => None,
+        "slice" => {
+            let (from, rest) = split_place(line, values)?;
+            let (to, rest) = split_place(line, rest)?;
+            end_of(line, rest, Call::Slice(from, to))
+        }
+        "insert" => {
+            let (at, text) = split_place(line, values)?;
+            Ok(Call::Edit(Edit::InsertStr(at, text)))
+        }
+        "remove" => {
+            let (at, rest) = split_place(line, values)?;
+            end_of(line, rest, Call::Edit(Edit::Remove(at)))
+        }
+        "replace" => {
+            let (from, rest) = split_place(line, values)?;
+            let (to, text) = split_place(line, rest)?;
+            Ok(Call::Edit(Edit::Replace(from, to, text)))
+        }
+        _ => Err((0, "no such call")),
     }
 }
 
-// Makes an edit of the string, and says how it went and what both encodings hold then.
-fn edit(alloc: Global, string: &mut U16String, edit: Edit<'_>) -> Result<String, OutOfMemory> {
-    let text = string.as_ustr().to_string_lossy(alloc)?;
+// The units of a text at the end of a line in which `\uD83D` is a unit by its number.
+fn units_of(
+    alloc: Global,
+    line: &str,
+    text: &str,
+) -> Result<Result<U16String, Damage>, OutOfMemory> {
+    let mut units = U16String::new(alloc);
+    let mut unit = length_as_utf16(line).saturating_sub(length_as_utf16(text));
+    for (number, part) in text.split("\\u").enumerate() {
+        if number == 0 {
+            units.push_str(part)?;
+        } else {
+            let digits = part.get(..4).unwrap_or("");
+            let is_number = digits.bytes().all(|digit| digit.is_ascii_hexdigit());
+            match u16::from_str_radix(digits, 16) {
+                Ok(escaped) if is_number => units.push_slice(&[escaped])?,
+                _ => return Ok(Err((unit, "bad escape"))),
+            }
+            units.push_str(part.get(4..).unwrap_or(""))?;
+            unit = unit.saturating_add(2);
+        }
+        unit = unit.saturating_add(length_as_utf16(part));
+    }
+    Ok(Ok(units))
+}
+
+// Makes an edit of the string, where it is well formed, and says how it went and what both encodings hold then.
+fn edit(alloc: Global, string: &mut U16String, edit: Edit<'_>) -> Result<String, OutOfMemory>
+    ensures { ¬ (IsWellFormed Utf16 string.old.units) → string.new.units ≡ string.old.units }
+{
+    let text = match Utf16Str::from_slice(string.as_slice()) {
+        Ok(text) => text.to_string(alloc)?,
+        Err(fault) => {
+            let (unit, at) = (fault.cause().unpaired_surrogate(), fault.index());
+            return Ok(format!(in alloc; "not well formed, fault {unit:04X} at unit {at}")?);
+        }
+    };
     let mut narrow = Utf16String::from_str(alloc, &text)?;
     let mut wide = Utf32String::from_str(alloc, &text)?;
     let mut replies = Vec::new(alloc);
@@ -103,40 +195,127 @@ fn edit(alloc: Global, string: &mut U16String, edit: Edit<'_>) -> Result<String,
     Ok(told)
 }
 
-// The answer to a line.
-fn answer(alloc: Global, string: &mut U16String, line: &str) -> Result<String, OutOfMemory> {
-    let (name, values) = line.split_once(' ').unwrap_or((line, ""));
-    if let Some(wanted) = edit_of(name, values) {
-        return edit(alloc, string, wanted);
+// The string of a session, its lines as far as they are read, and what is written of them on either stream.
+#[derive(Drop)]
+struct Session {
+    alloc: Global,
+    string: U16String,
+    line: usize,
+    answers: String,
+    told: String,
+}
+
+impl Session {
+    // Answers a call, or tells what is wrong in it.
+    fn answer(&mut self, line: &str) -> Result<Result<String, Damage>, OutOfMemory> {
+        let call = match call_of(line) {
+            Ok(call) => call,
+            Err(damage) => return Ok(Err(damage)),
+        };
+        let (alloc, units) = (self.alloc, self.string.as_ustr());
+        Ok(Ok(match call {
+            Call::IsWellFormed => format!(in alloc; "{}", is_well_formed(units.as_slice()))?,
+            Call::ToWellFormed => format!(in alloc;
+                "{:?}",
+                to_well_formed(alloc, units.as_slice())?
+            )?,
+            Call::CodePointAt(at) => match code_point_at(units.as_slice(), at) {
+                Some(point) => format!(in alloc; "U+{point:04X}")?,
+                None => String::from_str(alloc, "undefined")?,
+            },
+            Call::Slice(from, to) => format!(in alloc; "{:?}", slice(units, from, to))?,
+            Call::Edit(wanted) => edit(alloc, &mut self.string, wanted)?,
+            Call::String(text) => match units_of(alloc, line, text)? {
+                Ok(string) => {
+                    self.string = string;
+                    format!(in alloc; "{:?}", self.string)?
+                }
+                Err(damage) => return Ok(Err(damage)),
+            },
+            Call::IndexOf(text) => match units_of(alloc, line, text)? {
+                Ok(part) => match units.find(part.as_ustr()) {
+                    Some(at) => format!(in alloc; "{at}")?,
+                    None => String::from_str(alloc, "-1")?,
+                },
+                Err(damage) => return Ok(Err(damage)),
+            },
+        }))
     }
-    let units = string.as_slice();
-    let (first, second) = values.split_once(' ').unwrap_or((values, ""));
-    Ok(match (name, first.parse(), second.parse()) {
-        ("isWellFormed", ..) => format!(in alloc; "{}", is_well_formed(units))?,
-        ("codePointAt", Ok(at), _) => match code_point_at(units, at) {
-            Some(point) => format!(in alloc; "U+{point:04X}")?,
-            None => String::from_str(alloc, "undefined")?,
-        },
-        ("slice", Ok(from), Ok(to)) => {
-            format!(in alloc; "{:?}", U16Str::from_slice(slice(units, from, to)))?
+
+    // Writes a call and its answer, or that it is none.
+    fn read_line(&mut self, line: &str) -> Result<(), OutOfMemory> {
+        match self.answer(line)? {
+            Ok(answer) => writeln!(self.answers, "{line}: {answer}")?,
+            Err((unit, what)) => {
+                writeln!(self.answers, "{line}: {what} at unit {unit}")?;
+                writeln!(self.told, "line {}, unit {unit}: {what}", self.line)?;
+            }
         }
-        ("toWellFormed", ..) => format!(in alloc; "{:?}", to_well_formed(alloc, units)?)?,
-        ("string", ..) => {
-            *string = units_of(alloc, values)?;
-            format!(in alloc; "{string:?}")?
+        Ok(())
+    }
+
+    // Reads the bytes of a line. One that is empty is no call, and nothing is wrong in it.
+    fn read_bytes(&mut self, bytes: &[u8]) -> Result<(), OutOfMemory> {
+        self.line = self.line.saturating_add(1);
+        match str::from_utf8(bytes.strip_suffix(b"\r").unwrap_or(bytes)) {
+            Ok("") => Ok(()),
+            Ok(line) => self.read_line(line),
+            Err(fault) => {
+                let sound = bytes.get(..fault.valid_up_to()).unwrap_or(b"");
+                let unit = length_as_utf16(str::from_utf8(sound).unwrap_or(""));
+                Ok(writeln!(self.told, "line {}, unit {unit}: no UTF-8", self.line)?)
+            }
         }
-        _ => String::from_str(alloc, "no such call")?,
+    }
+}
+
+// What goes to standard output and to standard error, and the status.
+#[derive(Drop)]
+struct Ended {
+    output: String,
+    told: String,
+    status: u8,
+}
+
+// Answers the calls in a file's bytes; where there is no file the words were wrong.
+fn run(alloc: Global, file: Option<&[u8]>) -> Result<Ended, OutOfMemory>
+    ensures told { IsSome file.entry → IfOk result (λ ended. (ended.status ≡ 1) ↔ (0 < string_len ended.told)) }
+    ensures wrong_words { IsNone file.entry → IfOk result (λ ended. ended.status ≡ 2) }
+{
+    let Some(bytes) = file else {
+        return Ok(Ended {
+            output: String::new(alloc),
+            told: String::from_str(alloc, "usage: script FILE\n")?,
+            status: 2,
+        });
+    };
+    let mut session = Session {
+        alloc,
+        string: U16String::new(alloc),
+        line: 0,
+        answers: String::new(alloc),
+        told: String::new(alloc),
+    };
+    for line in bytes.split(|byte| *byte == b'\n') {
+        session.read_bytes(line)?;
+    }
+    let status = u8::from(!session.told.is_empty());
+    Ok(Ended {
+        output: session.answers,
+        told: session.told,
+        status,
     })
 }
 
-fn main(rt: HostRuntime) -> io::Result<()> {
-    let Some(path) = env::args(&rt)?.nth(1) else {
-        return println!(rt; "usage: script FILE");
+fn main(rt: HostRuntime) -> io::Result<ExitCode> {
+    let mut words = env::args(&rt)?.skip(1);
+    let file = match (words.next(), words.next()) {
+        (Some(path), None) => Some(fs::read(&rt, path)?),
+        _ => None,
     };
-    let mut string = U16String::new(rt.alloc());
-    for line in fs::read_to_string(&rt, path)?.lines() {
-        let told = answer(rt.alloc(), &mut string, line).map_err(|_refused| AllocError)?;
-        println!(rt; "{line}: {told}")?;
-    }
-    Ok(())
+    let bytes = file.as_ref().map(|bytes| bytes.as_slice());
+    let ended = run(rt.alloc(), bytes).map_err(|_refused| AllocError)?;
+    print!(rt; "{}", ended.output)?;
+    eprint!(rt; "{}", ended.told)?;
+    Ok(ExitCode::from(ended.status))
 }

@@ -1,0 +1,296 @@
+"""What `example_script` answers: worked out from the calls alone, on a list of code units and on a list of characters."""
+
+import os
+
+NAMES = ["string", "indexOf", "isWellFormed", "toWellFormed", "codePointAt", "slice", "insert", "remove", "replace"]
+USAGE = b"usage: script FILE\n"
+ESCAPES = {"\0": "\\0", "\t": "\\t", "\r": "\\r", "\n": "\\n", "'": "\\'", '"': '\\"', "\\": "\\\\"}
+# Those of the characters of questions that don't print as they stand.
+HIDDEN = "\x7f\u00ad\u0301\u200b"
+
+
+class Damage(Exception):
+    """What is wrong in a line, and at which of its units."""
+
+
+def units_of(text):
+    data = text.encode("utf-16-le", "surrogatepass")
+    return [data[at] + 256 * data[at + 1] for at in range(0, len(data), 2)]
+
+
+def items_of(units):
+    """Each character as a text, and each unit of none as its number."""
+    items, at = [], 0
+    while at < len(units):
+        unit = units[at]
+        behind = units[at + 1] if at + 1 < len(units) else 0
+        if 0xD800 <= unit < 0xDC00 <= behind < 0xE000:
+            items.append(chr(0x10000 + (unit - 0xD800) * 1024 + behind - 0xDC00))
+            at += 2
+        else:
+            items.append(unit if 0xD800 <= unit < 0xE000 else chr(unit))
+            at += 1
+    return items
+
+
+def escaped(char):
+    return ESCAPES.get(char) or (f"\\u{{{ord(char):x}}}" if char in HIDDEN else char)
+
+
+def shown(units):
+    items = items_of(units)
+    return '"' + "".join(f"\\<{item:X}>" if isinstance(item, int) else escaped(item) for item in items) + '"'
+
+
+def shown_char(char):
+    return "'" + (char if char == '"' else escaped(char)) + "'"
+
+
+class Line:
+    """A line, read from its front."""
+
+    def __init__(self, text):
+        self.text, self.rest = text, text
+
+    def fail(self, what, unit=None):
+        place = len(units_of(self.text)) - len(units_of(self.rest)) if unit is None else unit
+        raise Damage(place, what)
+
+    def word(self):
+        word, _, self.rest = self.rest.partition(" ")
+        return word
+
+    def place(self):
+        before = self.rest
+        word = self.word()
+        if not word or any(digit not in "0123456789" for digit in word):
+            self.rest = before
+            self.fail("no place")
+        return int(word)
+
+    def end(self):
+        if self.rest:
+            self.fail("too many words")
+
+    def escaped_units(self):
+        units, text, at = [], self.rest, 0
+        while at < len(text):
+            if text.startswith("\\u", at):
+                digits = text[at + 2 : at + 6]
+                if len(digits) < 4 or any(digit not in "0123456789abcdefABCDEF" for digit in digits):
+                    self.rest = text[at:]
+                    self.fail("bad escape")
+                units.append(int(digits, 16))
+                at += 6
+            else:
+                units += units_of(text[at])
+                at += 1
+        return units
+
+
+def edit(units, name, line):
+    """The new units, and what is answered."""
+    first = line.place()
+    second = line.place() if name == "replace" else first
+    text = line.rest
+    if name == "remove":
+        line.end()
+    items = items_of(units)
+    at = 0
+    for item in items:
+        if isinstance(item, int):
+            return units, f"not well formed, fault {item:04X} at unit {at}"
+        at += len(units_of(item))
+    reply = "Done"
+    if name == "insert" and first <= len(items):
+        items[first:first] = [text]
+    elif name == "replace" and first <= second <= len(items):
+        items[first:second] = [text]
+    elif name == "remove" and first < len(items):
+        reply = f"Char({shown_char(items.pop(first))})"
+    else:
+        reply = "BadRange" if name == "replace" else "BadPlace"
+    new = units_of("".join(items))
+    return new, f"[{reply}] {shown(new)} {shown(new)}"
+
+
+def answer(units, text):
+    """The new units, and what is answered."""
+    line = Line(text)
+    name = line.word()
+    if name not in NAMES:
+        line.fail("no such call", 0)
+    if name in ("insert", "remove", "replace"):
+        return edit(units, name, line)
+    if name == "string":
+        new = line.escaped_units()
+        return new, shown(new)
+    if name == "indexOf":
+        part = line.escaped_units()
+        places = [at for at in range(len(units) + 1) if units[at : at + len(part)] == part]
+        return units, str(places[0] if places else -1)
+    if name == "codePointAt":
+        at = line.place()
+        line.end()
+        items = items_of(units[at:])
+        if not items:
+            return units, "undefined"
+        return units, f"U+{items[0] if isinstance(items[0], int) else ord(items[0]):04X}"
+    if name == "slice":
+        start, end = line.place(), line.place()
+        line.end()
+        return units, shown(units[:end][start:])
+    line.end()
+    items = items_of(units)
+    if name == "isWellFormed":
+        return units, "false" if any(isinstance(item, int) for item in items) else "true"
+    mended = "".join("\ufffd" if isinstance(item, int) else item for item in items)
+    return units, shown(units_of(mended))
+
+
+def read(data):
+    """Standard output, standard error and status."""
+    units, output, told = [], "", ""
+    for number, line in enumerate(data.split(b"\n"), 1):
+        line = line[:-1] if line.endswith(b"\r") else line
+        try:
+            text = line.decode()
+        except UnicodeDecodeError as fault:
+            place = len(units_of(line[: fault.start].decode()))
+            told += f"line {number}, unit {place}: no UTF-8\n"
+            continue
+        if not text:
+            continue
+        try:
+            units, said = answer(units, text)
+        except Damage as damage:
+            place, what = damage.args
+            said = f"{what} at unit {place}"
+            told += f"line {number}, unit {place}: {what}\n"
+        output += f"{text}: {said}\n"
+    return output.encode(), told.encode(), 1 if told else 0
+
+
+# Files, each of which shows what is in its name; the names stand before the rows.
+FILES = [
+    ("no calls", b""),
+    ("an edit of a string that is not well formed leaves it", b"string \\uD800\nremove 99\nisWellFormed\ntoWellFormed\n"),
+    ("and so where its place is there", b"string a\\uDC00\ninsert 0 x\nreplace 0 1 x\nremove 0\nslice 0 9\n"),
+    ("an edit that is refused leaves the string", "string é😀\nremove 2\ninsert 3 x\nreplace 1 3 x\nreplace 1 0 x\nslice 0 9\n".encode()),
+    ("edits at places in characters", "string a😀b\nremove 1\ninsert 1 é😀\nreplace 0 2 ''\nreplace 1 1\ninsert 4\n".encode()),
+    ("an escape is four hexadecimal digits", b"string x\\u12\nslice 0 9\nstring \\u+123\nstring \\u 123\nstring \\u\n"),
+    ("and none is lost", "string 😀\\u00e\nstring \\uD83D\\uDE00\\u00E9\\u004g\nstring \\u00é1\nslice 0 9\n".encode()),
+    ("a bad escape leaves the string", b"string ab\nstring \\u12\nslice 0 9\nindexOf \\u0\nslice 0 9\n"),
+    ("escapes that are units", b"string \\uD83D\\uDE00\\u0061\\u000A\\u005Cu0041\\n\\\\\ncodePointAt 0\n"),
+    ("a place is decimal digits alone", b"string ab\ncodePointAt +1\ncodePointAt -1\ncodePointAt 0x1\ncodePointAt\ncodePointAt  1\n"),
+    ("and so in edits", b"string ab\nremove +1\ninsert +1 x\nreplace 0 +1 x\nreplace 0\nremove\nslice 0 +1\nslice 1\nslice 0 9\n"),
+    ("places past the end", b"string ab\ncodePointAt 2\ncodePointAt 18446744073709551616\nslice 1 99999999999999999999\nslice 3 1\nremove 99999999999999999999\n"),
+    ("code points", "string a😀\\uD83D\\uDE00\\uDE00\\uD83D\ncodePointAt 0\ncodePointAt 1\ncodePointAt 2\ncodePointAt 3\ncodePointAt 5\ncodePointAt 6\ncodePointAt 7\n".encode()),
+    ("cuts that part a pair", "string a😀b\nslice 0 2\nslice 2 9\nslice 2 2\nslice 3 2\nslice 0 4\n".encode()),
+    ("searches of units", "string a😀\\uDE00b\nindexOf 😀\nindexOf \\uDE00\nindexOf \\uDE00b\nindexOf c\nindexOf\n".encode()),
+    ("faults and well-formed text", "string \\uDC00\\uD800😀\\uD800\ntoWellFormed\nisWellFormed\nstring \\uFFFD\nisWellFormed\n".encode()),
+    ("what is shown in escapes", "string '\"\\\t\0\x7f\u0301\u200b\nremove 0\nremove 0\nremove 0\nremove 0\n".encode()),
+    ("no calls of such names", b"charAt 0\nisWellFormed x\ntoWellFormed x\ncodePointAt 0 x\nslice 0 1 x\nremove 0 x\n x\nIsWellFormed\n"),
+    ("spaces at ends", b"isWellFormed \nstring \nstring  a\nslice 0 9 \ncodePointAt 1 \nremove 1 \ninsert 0 \n"),
+    ("ends of lines", b"string a\r\nslice 0 9\r\r\n\r\n\nisWellFormed\r"),
+    ("bytes that are no UTF-8", b"string \xc3\xa9\xff\n\xed\xa0\x80\nstring \xf0\x9f\x98\nisWellFormed\n"),
+    ("units before a fault of a line", "string é😀".encode() + b"\xc3\n" + "é😀 1\nstring é😀\\u\n".encode()),
+]
+CHARACTERS = ["a", "b", "0", "e", "é", "😀", "深", "\ufffd", "'", '"', "\\", "\t", "\0", *HIDDEN, "\r"]
+PARTS = ["\\uD83D", "\\uDE00", "\\ud800", "\\u00e9", "\\u0041", "\\u12", "\\u+123", "\\u", "\\u00g1", " ", "aa", "x😀"]
+WORDS = ["0", "1", "2", "3", "4", "9", "00", "99999999999999999999", "+1", "-1", "", "x", "1.5", "é"]
+
+
+def random_text(random):
+    return "".join(random.choice(random.choice([CHARACTERS, CHARACTERS, PARTS])) for _ in range(random.randrange(6)))
+
+
+def random_line(random):
+    kind, place = random.randrange(20), lambda: random.choice(WORDS[: 6 if random.random() < 0.8 else len(WORDS)])
+    if kind == 0:
+        return random.choice(["", "charAt 0", "é" + random_text(random), " ", "string"])
+    name = random.choice(NAMES)
+    if name in ("string", "indexOf"):
+        return f"{name} {random_text(random)}"
+    values = {"codePointAt": 1, "remove": 1, "insert": 1, "slice": 2, "replace": 2}.get(name, 0)
+    line = " ".join([name] + [place() for _ in range(values)])
+    if name in ("insert", "replace") or kind == 1:
+        line += " " + random_text(random)
+    return line
+
+
+def random_file(random):
+    lines = [random_line(random) for _ in range(random.randrange(1, 12))]
+    lines.insert(0, "string " + "".join(random.choice(CHARACTERS + PARTS[:5]) for _ in range(random.randrange(8))))
+    data = b"".join(line.encode() + random.choice([b"\n", b"\n", b"\n", b"\r\n"]) for line in lines)
+    if random.randrange(12) == 0:
+        at = random.randrange(len(data))
+        data = data[:at] + bytes([random.randrange(256)]) + data[at + random.randrange(2) :]
+    return data[:-1] if random.randrange(3) == 0 else data
+
+
+def question(random, folder):
+    if random.randrange(50) == 0:
+        return random.choice([[], ["calls", "calls"], ["a", "b", "c"]]), b"", USAGE, 2
+    data = random_file(random)
+    with open(os.path.join(folder, "calls"), "wb") as file:
+        file.write(data)
+    return ["calls"], *read(data)
+
+
+def text_literal(text):
+    plain = {'"': '\\"', "\\": "\\\\", "\n": "\\n", "\r": "\\r", "\t": "\\t"}
+    return '"' + "".join(plain.get(c) or (c if " " <= c <= "~" else f"\\u{{{ord(c):x}}}") for c in text) + '"'
+
+
+def bytes_literal(data):
+    plain = {34: '\\"', 92: "\\\\", 10: "\\n", 13: "\\r", 9: "\\t"}
+    return 'b"' + "".join(plain.get(b) or (chr(b) if 32 <= b <= 126 else f"\\x{b:02x}") for b in data) + '"'
+
+
+def row(name, data, wanted):
+    output, told, status = wanted
+    file = "None" if data is None else f"Some({bytes_literal(data)})"
+    # As `rt fmt` lays it out.
+    if len(file) > 100 - len("        file: ,"):
+        file = f"Some(\n            {bytes_literal(data)},\n        )"
+    return (
+        f"    // {name.capitalize()}.\n    Row {{\n        file: {file},\n        output: {text_literal(output.decode())},\n"
+        f"        told: {text_literal(told.decode())},\n        status: {status},\n    }},\n"
+    )
+
+
+def rows():
+    all_rows = [row("wrong words", None, (b"", USAGE, 2))] + [row(name, data, read(data)) for name, data in FILES]
+    return HEAD + f"static ROWS: [Row; {len(all_rows)}] = [\n" + "".join(all_rows) + "];\n"
+
+
+HEAD = """//! What is answered to files, as `bench/example_rows script` works it out from the calls alone.
+
+use crate::run;
+use std::alloc::Global;
+use widestring::error::OutOfMemory;
+
+// A file, or none where the words are wrong; what is written to standard output, what to standard error, and the status.
+struct Row {
+    file: Option<&'static [u8]>,
+    output: &'static str,
+    told: &'static str,
+    status: u8,
+}
+
+fn is_as_wanted(alloc: Global, row: &Row) -> Result<bool, OutOfMemory> {
+    let ended = run(alloc, row.file)?;
+    let is_told = ended.told.as_str() == row.told;
+    Ok(ended.output.as_str() == row.output && is_told && ended.status == row.status)
+}
+
+#[test]
+fn rows(rt: HostRuntime) {
+    for (number, row) in ROWS.iter().enumerate() {
+        let is_right = is_as_wanted(rt.alloc(), row).unwrap_or(false);
+        assert!(rt; is_right, "row {number}");
+    }
+}
+
+"""
