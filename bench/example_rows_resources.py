@@ -50,8 +50,15 @@ def file(*resources):
 # What is printed and told of them.
 
 
+class Unassigned(Exception):
+    """A text has a character that this Python's Unicode does not know, and a later one may."""
+
+
 def debug_of(char):
     """A character as Rust's `{:?}` prints it within a text."""
+    is_noncharacter = ord(char) & 0xFFFE == 0xFFFE or 0xFDD0 <= ord(char) < 0xFDF0
+    if unicodedata.category(char) == "Cn" and not is_noncharacter:
+        raise Unassigned
     named = {"\0": "\\0", "\t": "\\t", "\r": "\\r", "\n": "\\n", '"': '\\"', "\\": "\\\\"}
     if char in named:
         return named[char]
@@ -82,7 +89,7 @@ class Reader:
             try:
                 self.read_resource()
             except Fault as fault:
-                self.tell(f"{fault}, {len(self.data) - self.begin} bytes are not read")
+                self.tell(f"{fault}, bytes not read: {len(self.data) - self.begin}")
                 return
 
     def read_name(self, end):
@@ -105,22 +112,22 @@ class Reader:
         header_end = self.begin + header_size
         missing = header_end + data_size - len(self.data)
         if header_size < 28 or header_size % 4:
-            raise Fault(f"no header has {header_size} bytes")
+            raise Fault(f"its header can't have {header_size} bytes")
         if header_end > len(self.data):
-            raise Fault(f"{missing} bytes are missing")
+            raise Fault(f"bytes missing: {missing}")
         self.at += 8
         kind = self.read_name(header_end)
         name = self.read_name(header_end)
         self.at += -self.at % 4
         if self.at + 16 > header_end:
-            raise Fault(f"no header has {header_size} bytes")
+            raise Fault(f"its header can't have {header_size} bytes")
         _, _, language, _, _ = struct.unpack_from("<IHHII", self.data, self.at)
         self.at = header_end + data_size
         self.at += -self.at % 4
         if self.begin == 0 and (header_size, data_size, kind, name) != (32, 0, 0, 0):
             self.tell("is not the empty resource that a file begins with")
         if missing > 0:
-            self.tell(f"{missing} bytes are missing")
+            self.tell(f"bytes missing: {missing}")
         if kind == 6:
             self.read_table(name, language, self.data[header_end : header_end + data_size])
 
@@ -134,11 +141,11 @@ class Reader:
             count = int.from_bytes(data[at : at + 2], "little") if at + 2 <= len(data) else 0
             end = at + 2 + 2 * count
             if end > len(data):
-                return self.tell(f"ends in string {number}: {end - len(data)} bytes are missing")
+                return self.tell(f"ends in string {number}, bytes missing: {end - len(data)}")
             self.read_string(number, language, data[at + 2 : end])
             at = end
         if at < len(data):
-            self.tell(f"{len(data) - at} bytes behind its strings")
+            self.tell(f"bytes behind its strings: {len(data) - at}")
         return None
 
     def read_string(self, number, language, data):
@@ -247,7 +254,8 @@ INPUTS = [
 
 # Questions made at random.
 
-TEXTS = ["", "", "", "a", "Zoë", "深", "🌊", "\ud83d", "\udc00", "\0", '"', "\\", "\n", "\ufeff", "\u200b", "\ufffd", "\u0301", "\uffff", "\x85"]
+SOUND = ["", "a", "Zoë", "深", "🌊", "\0", '"', "\\", "\n", "\ufeff", "\u200b", "\ufffd", "\u0301", "\uffff", "\x85"]
+TEXTS = [*SOUND * 8, "\ud83d", "\udc00"]
 
 
 def random_text(source):
@@ -255,12 +263,13 @@ def random_text(source):
 
 
 def random_name(source, numbers):
-    return source.choice([*numbers, *numbers, *numbers, random_text(source).replace("\0", "")])
+    text = random_text(source).replace("\0", "")
+    return source.choice([*numbers, *numbers, *numbers, source.choice([text, text, "N" * 20])])
 
 
 def random_resource(source):
-    kind = random_name(source, [6, 6, 6, 6, 0, 10])
-    name = random_name(source, [1, 2, 3, 4095, 4096, 4097, 0, 65535])
+    kind = random_name(source, [6, 6, 6, 6, 6, 6, 0, 10])
+    name = random_name(source, [1, 2, 2, 3, 3, 4095, 4095, 4096, 4096, source.choice([0, 4097, 65535])])
     data = strings(*[random_text(source) for _ in range(source.randint(0, 16))])
     changed = source.random()
     if changed < 0.1:
@@ -288,6 +297,14 @@ def random_file(source):
 
 
 def question(source, folder):
+    while True:
+        try:
+            return one_question(source, folder)
+        except Unassigned:
+            continue
+
+
+def one_question(source, folder):
     words = source.choice([[], [], ["--lossy"]])
     files = [random_file(source) for _ in range(source.choice([1, 1, 1, 2, 3]))]
     names = [f"{number}.res" for number in range(len(files))]

@@ -52,8 +52,8 @@ impl Display for Damage {
     fn fmt<W: fmt::Write>(&self, f: &mut fmt::Formatter<W>) -> fmt::Result {
         match *self {
             Damage::NoSizes => write!(f, "its sizes are cut off"),
-            Damage::HeaderSize(size) => write!(f, "no header has {size} bytes"),
-            Damage::Missing(count) => write!(f, "{count} bytes are missing"),
+            Damage::HeaderSize(size) => write!(f, "its header can't have {size} bytes"),
+            Damage::Missing(count) => write!(f, "bytes missing: {count}"),
             Damage::NoEnd => write!(f, "its type or its name has no end"),
         }
     }
@@ -244,7 +244,7 @@ impl Tables<'_> {
             let end = 2 + 2 * usize::from(unit_at(rest, 0).unwrap_or(0));
             let Some((string, behind)) = rest.split_at_checked(end) else {
                 let missing = end - rest.len();
-                return self.tell(format_args!("ends in string {id}: {missing} bytes are missing"));
+                return self.tell(format_args!("ends in string {id}, bytes missing: {missing}"));
             };
             rest = behind;
             let pairs = string[2..].as_chunks::<2>().0.iter();
@@ -256,7 +256,7 @@ impl Tables<'_> {
             }
         }
         if !rest.is_empty() {
-            self.tell(format_args!("{} bytes behind its strings", rest.len()))?;
+            self.tell(format_args!("bytes behind its strings: {}", rest.len()))?;
         }
         Ok(())
     }
@@ -267,7 +267,7 @@ impl Tables<'_> {
             Ok(resource) => resource,
             Err(damage) => {
                 let unread = part.bytes.len();
-                return self.tell(format_args!("{damage}, {unread} bytes are not read"));
+                return self.tell(format_args!("{damage}, bytes not read: {unread}"));
             }
         };
         if part.at == 0 && !resource.is_empty() {

@@ -136,7 +136,7 @@ static ROWS: [Row; 37] = [
         words: &["a.res"],
         files: &[Some(b"\0")],
         printed: "",
-        told: "a.res: resource 1 at byte 0: its sizes are cut off, 1 bytes are not read\n",
+        told: "a.res: resource 1 at byte 0: its sizes are cut off, bytes not read: 1\n",
         status: 1,
     },
     Row {
@@ -145,7 +145,7 @@ static ROWS: [Row; 37] = [
             b"\0\0\0\0 \0\0\0\xff\xff\0\0\xff\xff\0\0\0\0\0\0\0\0\0\0\0\0\0\0\0\0\0\0(\0\0\0 \0\0",
         )],
         printed: "",
-        told: "a.res: resource 2 at byte 32: its sizes are cut off, 7 bytes are not read\n",
+        told: "a.res: resource 2 at byte 32: its sizes are cut off, bytes not read: 7\n",
         status: 1,
     },
     Row {
@@ -163,7 +163,7 @@ static ROWS: [Row; 37] = [
             b"\0\0\0\0 \0\0\0\xff\xff\0\0\xff\xff\0\0\0\0\0\0\0\0\0\0\0\0\0\0\0\0\0\0(\0\0\0 \0\0\0",
         )],
         printed: "",
-        told: "a.res: resource 2 at byte 32: 64 bytes are missing, 8 bytes are not read\n",
+        told: "a.res: resource 2 at byte 32: bytes missing: 64, bytes not read: 8\n",
         status: 1,
     },
     Row {
@@ -172,7 +172,7 @@ static ROWS: [Row; 37] = [
             b"\0\0\0\0 \0\0\0\xff\xff\0\0\xff\xff\0\0\0\0\0\0\0\0\0\0\0\0\0\0\0\0\0\0\xff\xff\xff\xff\xfc\xff\xff\xff\xff\xff\x06\0\xff\xff\x02\0\0\0\0\00\x10\x09\x04\0\0\0\0\0\0\0\0",
         )],
         printed: "",
-        told: "a.res: resource 2 at byte 32: 8589934555 bytes are missing, 32 bytes are not read\n",
+        told: "a.res: resource 2 at byte 32: bytes missing: 8589934555, bytes not read: 32\n",
         status: 1,
     },
     Row {
@@ -181,7 +181,7 @@ static ROWS: [Row; 37] = [
             b"\0\0\0\0 \0\0\0\xff\xff\0\0\xff\xff\0\0\0\0\0\0\0\0\0\0\0\0\0\0\0\0\0\0\"\0\0\0\x1c\0\0\0\xff\xff\x06\0\xff\xff\x02\0\0\0\0\00\x10\x09\x04\0\0\0\0\0\0\0\0\x01\0x\0\0\0\0\0\0\0\0\0\0\0\0\0\0\0\0\0\0\0\0\0\0\0\0\0\0\0\0\0\0\0",
         )],
         printed: "",
-        told: "a.res: resource 2 at byte 32: no header has 28 bytes, 66 bytes are not read\n",
+        told: "a.res: resource 2 at byte 32: its header can't have 28 bytes, bytes not read: 66\n",
         status: 1,
     },
     Row {
@@ -190,7 +190,7 @@ static ROWS: [Row; 37] = [
             b"\0\0\0\0 \0\0\0\xff\xff\0\0\xff\xff\0\0\0\0\0\0\0\0\0\0\0\0\0\0\0\0\0\0\"\0\0\0\x18\0\0\0\xff\xff\x06\0\xff\xff\x02\0\0\0\0\00\x10\x09\x04\0\0\0\0\0\0\0\0\x01\0x\0\0\0\0\0\0\0\0\0\0\0\0\0\0\0\0\0\0\0\0\0\0\0\0\0\0\0\0\0\0\0\0\0(\0\0\0 \0\0\0\xff\xff\x06\0\xff\xff\x02\0\0\0\0\00\x10\x09\x04\0\0\0\0\0\0\0\0\0\0\x04\0O\0p\0e\0n\0\0\0\0\0\0\0\0\0\0\0\0\0\0\0\0\0\0\0\0\0\0\0\0\0\0\0\0\0",
         )],
         printed: "",
-        told: "a.res: resource 2 at byte 32: no header has 24 bytes, 140 bytes are not read\n",
+        told: "a.res: resource 2 at byte 32: its header can't have 24 bytes, bytes not read: 140\n",
         status: 1,
     },
     Row {
@@ -199,7 +199,7 @@ static ROWS: [Row; 37] = [
             b"\0\0\0\0 \0\0\0\xff\xff\0\0\xff\xff\0\0\0\0\0\0\0\0\0\0\0\0\0\0\0\0\0\0\"\0\0\0\"\0\0\0\xff\xff\x06\0\xff\xff\x02\0\0\0\0\00\x10\x09\x04\0\0\0\0\0\0\0\0\x01\0x\0\0\0\0\0\0\0\0\0\0\0\0\0\0\0\0\0\0\0\0\0\0\0\0\0\0\0\0\0\0\0",
         )],
         printed: "",
-        told: "a.res: resource 2 at byte 32: no header has 34 bytes, 66 bytes are not read\n",
+        told: "a.res: resource 2 at byte 32: its header can't have 34 bytes, bytes not read: 66\n",
         status: 1,
     },
     Row {
@@ -208,7 +208,7 @@ static ROWS: [Row; 37] = [
             b"\0\0\0\0 \0\0\0\xff\xff\0\0\xff\xff\0\0\0\0\0\0\0\0\0\0\0\0\0\0\0\0\0\0\0\0\0\0\x1c\0\0\0A\0A\0A\0A\0A\0A\0A\0A\0A\0A\0",
         )],
         printed: "",
-        told: "a.res: resource 2 at byte 32: its type or its name has no end, 28 bytes are not read\n",
+        told: "a.res: resource 2 at byte 32: its type or its name has no end, bytes not read: 28\n",
         status: 1,
     },
     Row {
@@ -217,7 +217,7 @@ static ROWS: [Row; 37] = [
             b"\0\0\0\0 \0\0\0\xff\xff\0\0\xff\xff\0\0\0\0\0\0\0\0\0\0\0\0\0\0\0\0\0\0\0\0\0\0\x1c\0\0\0\xff\xff\x06\0B\0B\0B\0B\0B\0B\0B\0B\0",
         )],
         printed: "",
-        told: "a.res: resource 2 at byte 32: its type or its name has no end, 28 bytes are not read\n",
+        told: "a.res: resource 2 at byte 32: its type or its name has no end, bytes not read: 28\n",
         status: 1,
     },
     Row {
@@ -226,7 +226,7 @@ static ROWS: [Row; 37] = [
             b"\0\0\0\0 \0\0\0\xff\xff\0\0\xff\xff\0\0\0\0\0\0\0\0\0\0\0\0\0\0\0\0\0\0(\0\0\0 \0\0\0\xff\xff\x06\0\xff\xff\x02\0\0\0\0\00\x10\x09\x04\0\0\0\0\0\0\0\0\0\0\x04\0O\0p\0e\0n\0\0\0\0\0\0\0\0\0\0\0\0\0\0\0\0\0\0\0\0\0\0\0\0\0\0\0\0",
         )],
         printed: "0409 17: \"Open\"\n",
-        told: "a.res: resource 2 at byte 32: 1 bytes are missing\na.res: resource 2 at byte 32: ends in string 31: 1 bytes are missing\n",
+        told: "a.res: resource 2 at byte 32: bytes missing: 1\na.res: resource 2 at byte 32: ends in string 31, bytes missing: 1\n",
         status: 1,
     },
     Row {
@@ -235,7 +235,7 @@ static ROWS: [Row; 37] = [
             b"\0\0\0\0 \0\0\0\xff\xff\0\0\xff\xff\0\0\0\0\0\0\0\0\0\0\0\0\0\0\0\0\0\0\xff\xff\xff\xff \0\0\0\xff\xff\x06\0\xff\xff\x02\0\0\0\0\00\x10\x09\x04\0\0\0\0\0\0\0\0\x01\0x\0\0\0\0\0\0\0\0\0\0\0\0\0\0\0\0\0\0\0\0\0\0\0\0\0\0\0\0\0\0\0",
         )],
         printed: "0409 16: \"x\"\n",
-        told: "a.res: resource 2 at byte 32: 4294967261 bytes are missing\n",
+        told: "a.res: resource 2 at byte 32: bytes missing: 4294967261\n",
         status: 1,
     },
     Row {
@@ -244,7 +244,7 @@ static ROWS: [Row; 37] = [
             b"\0\0\0\0 \0\0\0\xff\xff\0\0\xff\xff\0\0\0\0\0\0\0\0\0\0\0\0\0\0\0\0\0\0\x04\0\0\0 \0\0\0\xff\xff\n\0\xff\xff\x02\0\0\0\0\00\x10\x09\x04\0\0\0\0\0\0\0\012",
         )],
         printed: "",
-        told: "a.res: resource 2 at byte 32: 2 bytes are missing\n",
+        told: "a.res: resource 2 at byte 32: bytes missing: 2\n",
         status: 1,
     },
     Row {
@@ -280,7 +280,7 @@ static ROWS: [Row; 37] = [
             b"\0\0\0\0 \0\0\0\xff\xff\0\0\xff\xff\0\0\0\0\0\0\0\0\0\0\0\0\0\0\0\0\0\0\0\0\0\0 \0\0\0\xff\xff\x06\0\xff\xff\x02\0\0\0\0\00\x10\x09\x04\0\0\0\0\0\0\0\0(\0\0\0 \0\0\0\xff\xff\x06\0\xff\xff\x02\0\0\0\0\00\x10\x09\x04\0\0\0\0\0\0\0\0\0\0\x04\0O\0p\0e\0n\0\0\0\0\0\0\0\0\0\0\0\0\0\0\0\0\0\0\0\0\0\0\0\0\0\0\0\0\0",
         )],
         printed: "0409 17: \"Open\"\n",
-        told: "a.res: resource 2 at byte 32: ends in string 16: 2 bytes are missing\n",
+        told: "a.res: resource 2 at byte 32: ends in string 16, bytes missing: 2\n",
         status: 1,
     },
     Row {
@@ -289,7 +289,7 @@ static ROWS: [Row; 37] = [
             b"\0\0\0\0 \0\0\0\xff\xff\0\0\xff\xff\0\0\0\0\0\0\0\0\0\0\0\0\0\0\0\0\0\0!\0\0\0 \0\0\0\xff\xff\x06\0\xff\xff\x02\0\0\0\0\00\x10\x09\x04\0\0\0\0\0\0\0\0\x01\0x\0\0\0\0\0\0\0\0\0\0\0\0\0\0\0\0\0\0\0\0\0\0\0\0\0\0\0\0\0\0",
         )],
         printed: "0409 16: \"x\"\n",
-        told: "a.res: resource 2 at byte 32: ends in string 31: 1 bytes are missing\n",
+        told: "a.res: resource 2 at byte 32: ends in string 31, bytes missing: 1\n",
         status: 1,
     },
     Row {
@@ -298,7 +298,7 @@ static ROWS: [Row; 37] = [
             b"\0\0\0\0 \0\0\0\xff\xff\0\0\xff\xff\0\0\0\0\0\0\0\0\0\0\0\0\0\0\0\0\0\0\x05\0\0\0 \0\0\0\xff\xff\x06\0\xff\xff\x02\0\0\0\0\00\x10\x09\x04\0\0\0\0\0\0\0\0\x02\0x\0y",
         )],
         printed: "",
-        told: "a.res: resource 2 at byte 32: ends in string 16: 1 bytes are missing\n",
+        told: "a.res: resource 2 at byte 32: ends in string 16, bytes missing: 1\n",
         status: 1,
     },
     Row {
@@ -307,7 +307,7 @@ static ROWS: [Row; 37] = [
             b"\0\0\0\0 \0\0\0\xff\xff\0\0\xff\xff\0\0\0\0\0\0\0\0\0\0\0\0\0\0\0\0\0\0#\0\0\0 \0\0\0\xff\xff\x06\0\xff\xff\x02\0\0\0\0\00\x10\x09\x04\0\0\0\0\0\0\0\0\x01\0x\0\0\0\0\0\0\0\0\0\0\0\0\0\0\0\0\0\0\0\0\0\0\0\0\0\0\0\0\0\0\0\0\0(\0\0\0 \0\0\0\xff\xff\x06\0\xff\xff\x02\0\0\0\0\00\x10\x09\x04\0\0\0\0\0\0\0\0\0\0\x04\0O\0p\0e\0n\0\0\0\0\0\0\0\0\0\0\0\0\0\0\0\0\0\0\0\0\0\0\0\0\0\0\0\0\0",
         )],
         printed: "0409 16: \"x\"\n0409 17: \"Open\"\n",
-        told: "a.res: resource 2 at byte 32: 1 bytes behind its strings\n",
+        told: "a.res: resource 2 at byte 32: bytes behind its strings: 1\n",
         status: 1,
     },
     Row {
