@@ -197,7 +197,7 @@ FILES = [
     ("units before a fault of a line", "string é😀".encode() + b"\xc3\n" + "é😀 1\nstring é😀\\u\n".encode()),
 ]
 CHARACTERS = ["a", "b", "0", "e", "é", "😀", "深", "\ufffd", "'", '"', "\\", "\t", "\0", *HIDDEN, "\r"]
-PARTS = ["\\uD83D", "\\uDE00", "\\ud800", "\\u00e9", "\\u0041", "\\u12", "\\u+123", "\\u", "\\u00g1", " ", "aa", "x😀"]
+PARTS = ["\\uD83D", "\\uDE00", "\\ud83c", "\\u00e9", "\\u0041", "\\u12", "\\u+123", "\\u", "\\u00g1", " ", "aa", "x😀"]
 WORDS = ["0", "1", "2", "3", "4", "9", "00", "99999999999999999999", "+1", "-1", "", "x", "1.5", "é"]
 
 
@@ -225,7 +225,7 @@ def random_file(random):
     data = b"".join(line.encode() + random.choice([b"\n", b"\n", b"\n", b"\r\n"]) for line in lines)
     if random.randrange(12) == 0:
         at = random.randrange(len(data))
-        data = data[:at] + bytes([random.randrange(256)]) + data[at + random.randrange(2) :]
+        data = data[:at] + random.choice([b"\xff", b"\xc0", b"\xf5"]) + data[at + random.randrange(2) :]
     return data[:-1] if random.randrange(3) == 0 else data
 
 
