@@ -1,50 +1,135 @@
-//! Moves the times of subtitles, `.srt` in UTF-16, by so many milliseconds: `+1500` or `-1500`. Units that belong to no character
-//! become U+FFFD, or with the word `drop` their lines are left out. Each is told on standard error, and the status is then 1.
+//! Moves the times of subtitles, a `.srt` file in UTF-16, by so many milliseconds: `+1500` or `-1500`. All else stays as it is, line ends
+//! too, but that units that belong to no character become U+FFFD, or with the word `drop` their lines are left out. Standard output gets
+//! UTF-16, little endian behind a mark; a file without a mark that begins with a zero byte and a digit is read as big endian.
+//!
+//! Told on standard error, by line, from 1, and unit, from 0: such units, lines that are left out, times that would be before 0, what stands
+//! in the place of a number or of times and is none, and half of a unit at the end. The status is 0, or 1 where something was told, or 2
+//! where the words are wrong, which the usage tells.
 #![tactic(auto)]
 
-ghost use Rattle.std.specs.Prelude.{◌≡◌, ◌-◌, IsTrue};
+ghost use Rattle.std.specs.Prelude.{◌≡◌, ◌+◌, ◌-◌, ◌<◌, ◌^◌, ◌↔◌, ◌++◌, IfOk, IfSome, IsFalse, IsNone, IsSome, IsTrue, OnOk, string_len};
+ghost use Rattle.widestring.specs.EncodingForm.{Utf16, encode};
+ghost use Rattle.widestring.specs.Items.{IsWellFormed, items};
+ghost use Rattle.widestring.specs.Lossy.{lossy};
+ghost use Rattle.widestring.specs.UnitView.{units_seen};
 
 use std::alloc::{AllocError, Global};
 use std::fmt::{Display, Write};
 use std::process::ExitCode;
 use std::{env, fs, io};
-use widestring::bytes::units_of_bytes;
-use widestring::edit::{Edit, run};
+use widestring::bytes::utf16_of_bytes;
+use widestring::edit::{Edit, run as run_edits};
 use widestring::error::OutOfMemory;
 use widestring::{U16Str, Utf16String};
 
-// How subtitles are moved, the text that they have then, as far as they are read, and what was told of them.
-#[derive(Drop)]
-struct Subtitles {
-    alloc: Global,
-    by: u64,
+#[cfg(test)]
+mod rows;
+
+// What the words ask for.
+#[derive(Clone, Copy)]
+struct Request<'a> {
+    path: &'a str,
+    by: u32,
     is_earlier: bool,
     drops: bool,
-    text: Utf16String,
-    told: String,
-    line: usize,
 }
 
-// The milliseconds of a time such as `00:01:02,345`.
-fn parse_time(time: &str) -> Option<u64> {
-    let (clock, thousandths) = time.split_once(',')?;
-    let mut seconds = 0u64;
-    for number in clock.split(':') {
-        let number = number.parse().ok()?;
-        seconds = seconds.checked_mul(60)?.checked_add(number)?;
+// What a line of subtitles is to be: each has a number, then its times, then text up to an empty line.
+#[derive(Clone, Copy, PartialEq, Eq)]
+enum Place {
+    Number,
+    Times,
+    Text,
+}
+
+// The times of a line, and where in the line the first ends and the second stands.
+#[derive(Clone, Copy)]
+struct Times {
+    begin: u64,
+    end: u64,
+    first_end: usize,
+    second: usize,
+    second_end: usize,
+    ghost begin_within: { begin < 2 ^ 60 },
+    ghost end_within: { end < 2 ^ 60 },
+}
+
+// A number of decimal digits alone.
+fn number_of(digits: &str) -> Option<u32> {
+    if digits.is_empty() || !digits.bytes().all(|digit| digit.is_ascii_digit()) {
+        return None;
     }
-    let thousandths = thousandths.parse().ok()?;
-    seconds.checked_mul(1000)?.checked_add(thousandths)
+    digits.parse().ok()
+}
+
+// A number of so many digits, below a limit.
+fn part_of(digits: &str, count: usize, limit: u32) -> Option<u32>
+    ensures { IfSome result (λ part. part < limit) }
+{
+    match number_of(digits) {
+        Some(part) if digits.len() == count && part < limit => Some(part),
+        _ => None,
+    }
+}
+
+// The milliseconds of a time such as `00:01:02,345`. From a hundred hours on there are more digits of hours.
+fn parse_time(time: &str) -> Option<u64>
+    ensures { IfSome result (λ time. time < 2 ^ 60) }
+{
+    let (clock, thousandths) = time.split_once(',')?;
+    let (hours, rest) = clock.split_once(':')?;
+    let (minutes, seconds) = rest.split_once(':')?;
+    let hour = number_of(hours).filter(|_| hours.len() > 1)?;
+    let minute = part_of(minutes, 2, 60)?;
+    let second = part_of(seconds, 2, 60)?;
+    let thousandth = part_of(thousandths, 3, 1000)?;
+    let before = u64::from(hour) * 3_600_000 + u64::from(minute) * 60_000;
+    Some(before + u64::from(second) * 1000 + u64::from(thousandth))
+}
+
+// Whether nothing stands behind the times, or where on the screen the text is.
+fn is_behind_times(text: &str) -> bool {
+    let mut names = ["X1:", "X2:", "Y1:", "Y2:"].iter();
+    for word in text.split(' ').filter(|word| !word.is_empty()) {
+        let name = names.next().unwrap_or(&" ");
+        if word.strip_prefix(*name).and_then(number_of).is_none() {
+            return false;
+        }
+    }
+    let is_whole = names.next().is_none();
+    is_whole || text.trim_start_matches(' ').is_empty()
+}
+
+// The times of a line, or the unit from which on it isn't as a line of times is.
+fn times_of(line: &str) -> Result<Times, usize> {
+    let (first, rest) = line.split_once(" --> ").ok_or(0usize)?;
+    let begin = parse_time(first).ok_or(0usize)?;
+    let last = rest.split(' ').next().unwrap_or(rest);
+    let second = first.len().saturating_add(5);
+    let end = parse_time(last).ok_or(second)?;
+    let second_end = second.saturating_add(last.len());
+    if !is_behind_times(rest.strip_prefix(last).unwrap_or(rest)) {
+        return Err(second_end);
+    }
+    Ok(Times {
+        begin,
+        end,
+        first_end: first.len(),
+        second,
+        second_end,
+    })
 }
 
 // A time so much later, or earlier; none is before 0.
-fn moved(time: u64, by: u64, is_earlier: bool) -> u64
-    ensures { IsTrue is_earlier → result ≡ time - by }
+fn moved(time: u64, by: u32, is_earlier: bool) -> u64
+    requires { time < 2 ^ 60 }
+    ensures earlier { IsTrue is_earlier → result ≡ time - by }
+    ensures later { IsFalse is_earlier → result ≡ time + by }
 {
     if is_earlier {
-        time.saturating_sub(by)
+        time.saturating_sub(u64::from(by))
     } else {
-        time.saturating_add(by)
+        time + u64::from(by)
     }
 }
 
@@ -53,97 +138,210 @@ fn time_text(alloc: Global, time: u64) -> Result<String, AllocError> {
     format!(in alloc; "{hours:02}:{minutes:02}:{seconds:02},{:03}", time % 1000)
 }
 
-impl Subtitles {
-    fn tell(&mut self, what: impl Display + Drop) -> Result<(), AllocError> {
-        writeln!(self.told, "line {}: {what}", self.line)
+// Puts units at the end of a text, with U+FFFD in the place of each fault.
+fn push_units(alloc: Global, text: &mut Utf16String, units: U16Str<'_>) -> Result<(), OutOfMemory>
+    ensures lossy { OnOk result (text.new.units ≡ text.old.units ++ encode Utf16 (lossy (items Utf16 (units_seen units.entry)))) }
+    ensures same { IsWellFormed Utf16 (units_seen units.entry) → OnOk result (text.new.units ≡ text.old.units ++ units_seen units.entry) }
+{
+    text.push_utfstr(Utf16String::from_ustr_lossy(alloc, units)?.as_utfstr())
+}
+
+// Subtitles as far as they are read: the text that they have then, what the line is to be, and what was told.
+#[derive(Drop)]
+struct Subtitles<'a> {
+    alloc: Global,
+    request: Request<'a>,
+    text: Utf16String,
+    place: Place,
+    line: usize,
+    told: String,
+}
+
+impl Subtitles<'_> {
+    fn tell(&mut self, unit: usize, what: impl Display + Drop) -> Result<(), AllocError> {
+        writeln!(self.told, "line {}, unit {unit}: {what}", self.line)
     }
 
-    // Puts the times of a line in the place of those that it has, where it has any.
+    // Puts the moved times in the place of those that the line has, or tells that it has none.
     fn move_times(&mut self, line: &mut Utf16String) -> Result<(), OutOfMemory> {
         let text = line.as_utfstr().to_string(self.alloc)?;
-        let Some((from, rest)) = text.split_once(" --> ") else {
-            return Ok(());
+        let times = match times_of(&text) {
+            Ok(times) => times,
+            Err(unit) => return Ok(self.tell(unit, "no times")?),
         };
-        let to = rest.split(' ').next().unwrap_or(rest);
-        let (Some(begin), Some(end)) = (parse_time(from), parse_time(to)) else {
-            return Ok(self.tell("no times")?);
-        };
-        if self.is_earlier && begin < self.by {
-            self.tell("begins at 0, not before")?;
+        let (by, is_earlier) = (self.request.by, self.request.is_earlier);
+        if is_earlier && times.begin < u64::from(by) {
+            self.tell(0, "begins at 0, not before")?;
         }
-        let begin = time_text(self.alloc, moved(begin, self.by, self.is_earlier))?;
-        let end = time_text(self.alloc, moved(end, self.by, self.is_earlier))?;
-        // Places are counted in characters; the later one is replaced first.
-        let (first, second) = (from.len(), from.len() + 5);
+        if is_earlier && times.end < u64::from(by) {
+            self.tell(times.second, "ends at 0, not before")?;
+        }
+        let begin = time_text(self.alloc, moved(times.begin, by, is_earlier))?;
+        let end = time_text(self.alloc, moved(times.end, by, is_earlier))?;
+        // All in such a line is ASCII, so places in characters are those in units. The later one is replaced first.
         let edits = [
-            Edit::Replace(second, second + to.len(), &end),
-            Edit::Replace(0, first, &begin),
+            Edit::Replace(times.second, times.second_end, &end),
+            Edit::Replace(0, times.first_end, &begin),
         ];
-        let ran = run(self.alloc, line, &edits, &mut Vec::new(self.alloc));
+        let ran = run_edits(self.alloc, line, &edits, &mut Vec::new(self.alloc));
         ran.map_err(|_stopped| OutOfMemory)
     }
 
-    // Adds a line, whose units may have faults.
-    fn add_line(&mut self, units: U16Str<'_>) -> Result<(), OutOfMemory> {
-        self.line = self.line.saturating_add(1);
+    // Tells the faults of a line, and answers whether it has none.
+    fn tell_faults(&mut self, units: U16Str<'_>) -> Result<bool, AllocError> {
         let mut is_sound = true;
         for (unit, item) in units.char_indices() {
             if let Err(fault) = item {
                 is_sound = false;
-                self.tell(format_args!("fault {:04X} at unit {unit}", fault.unpaired_surrogate()))?;
+                let surrogate = fault.unpaired_surrogate();
+                self.tell(unit, format_args!("fault {surrogate:04X}"))?;
             }
         }
-        if !is_sound && self.drops {
-            return Ok(self.tell(format_args!("left out, {units:?}"))?);
-        }
-        let mut line = Utf16String::from_ustr_lossy(self.alloc, units)?.into_owned(self.alloc)?;
-        self.move_times(&mut line)?;
-        self.text.push_utfstr(line.as_utfstr())?;
-        self.text.push_str("\r\n")
+        Ok(is_sound)
     }
 
-    // The text in UTF-16, little endian, behind a mark.
-    fn bytes(&self) -> Result<Vec<u8>, AllocError> {
-        let mut bytes = Vec::new(self.alloc);
-        for unit in [0xfeff].iter().chain(self.text.as_slice()) {
-            bytes.extend_from_slice(&unit.to_le_bytes())?;
+    // Adds a line and its end. The line may have faults, and what is to be in its place and is not there is told.
+    fn add_line(&mut self, units: U16Str<'_>, end: &str) -> Result<(), OutOfMemory> {
+        self.line = self.line.saturating_add(1);
+        let is_sound = self.tell_faults(units)?;
+        let mut line = Utf16String::new(self.alloc);
+        push_units(self.alloc, &mut line, units)?;
+        let is_number = units
+            .as_slice()
+            .iter()
+            .all(|unit| (0x30..=0x39).contains(unit));
+        let place = self.place;
+        self.place = match place {
+            _ if units.is_empty() => Place::Number,
+            Place::Number if is_number => Place::Times,
+            _ => Place::Text,
+        };
+        match place {
+            Place::Times => self.move_times(&mut line)?,
+            Place::Number if self.place == Place::Text => self.tell(0, "no number")?,
+            _ => {}
         }
-        Ok(bytes)
+        if !is_sound && self.request.drops {
+            return Ok(self.tell(0, format_args!("left out, {units:?}"))?);
+        }
+        self.text.push_utfstr(line.as_utfstr())?;
+        self.text.push_str(end)
+    }
+
+    // Adds the lines of a file, and answers the unit at which the last one ends; a line end has a line behind it.
+    fn add_lines(&mut self, text: U16Str<'_>) -> Result<usize, OutOfMemory> {
+        let mut unit = 0;
+        for (place, line) in text.line_indices_lossy() {
+            let (_, behind) = text.split_at(place.saturating_add(line.len()).min(text.len()));
+            let end = match behind.as_slice() {
+                [0xd, 0xa, ..] => "\r\n",
+                [0xa, ..] => "\n",
+                _ => "",
+            };
+            self.add_line(line, end)?;
+            unit = line.len();
+        }
+        if text.as_slice().last().is_none_or(|unit| *unit == 0xa) {
+            self.line = self.line.saturating_add(1);
+            unit = 0;
+        }
+        Ok(unit)
     }
 }
 
-// Adds the lines of a file in UTF-16. Each ends in CR LF then.
-fn read(moved: &mut Subtitles, bytes: &[u8]) -> Result<(), OutOfMemory> {
-    let units: Vec<u16> = units_of_bytes(bytes).collect(moved.alloc)?;
-    for line in U16Str::from_slice(&units).lines_lossy() {
-        moved.add_line(line)?;
+// What goes to standard output and to standard error, and the status.
+#[derive(Drop)]
+struct Ended {
+    output: Vec<u8>,
+    told: String,
+    status: u8,
+}
+
+// The units of a file, and half of one at its end.
+fn units_of(alloc: Global, bytes: &[u8]) -> Result<(Vec<u16>, Option<u8>), AllocError> {
+    let parts = utf16_of_bytes(bytes);
+    let is_swapped = !parts.is_marked && matches!(bytes, [0, b'0'..=b'9', ..]);
+    let mut units = Vec::new(alloc);
+    for unit in parts.units {
+        units.push(if is_swapped { unit.swap_bytes() } else { unit })?;
     }
-    if bytes.len() % 2 == 1 || bytes.ends_with(&[0, 0]) {
-        moved.tell("half of a unit, or a zero unit, ends the file")?;
+    Ok((units, parts.half))
+}
+
+fn move_all(alloc: Global, request: Request<'_>, bytes: &[u8]) -> Result<Ended, OutOfMemory>
+    ensures { IfOk result (λ ended. (ended.status ≡ 1) ↔ (0 < string_len ended.told)) }
+{
+    let mut subtitles = Subtitles {
+        alloc,
+        request,
+        text: Utf16String::new(alloc),
+        place: Place::Number,
+        line: 0,
+        told: String::new(alloc),
+    };
+    let (units, half) = units_of(alloc, bytes)?;
+    let unit = subtitles.add_lines(U16Str::from_slice(&units))?;
+    if subtitles.place == Place::Times {
+        subtitles.tell(unit, "no times")?;
     }
-    Ok(())
+    if let Some(byte) = half {
+        subtitles.tell(unit, format_args!("half of a unit, {byte:02X}"))?;
+    }
+    let output = subtitles
+        .text
+        .as_utfstr()
+        .as_ustr()
+        .to_le_bytes_with_mark(alloc)?;
+    let status = u8::from(!subtitles.told.is_empty());
+    Ok(Ended {
+        output,
+        told: subtitles.told,
+        status,
+    })
+}
+
+// What the words ask for, where they ask for something.
+fn request_of<'a>(words: &[&'a str]) -> Option<Request<'a>> {
+    let (path, number, drops) = match words {
+        [path, number] => (*path, *number, false),
+        [path, number, word] if *word == "drop" => (*path, *number, true),
+        _ => return None,
+    };
+    let earlier = number.strip_prefix('-');
+    let digits = earlier.or(number.strip_prefix('+')).unwrap_or(number);
+    Some(Request {
+        path,
+        by: number_of(digits)?,
+        is_earlier: earlier.is_some(),
+        drops,
+    })
+}
+
+// Moves the times of a file's bytes, where the words ask for it.
+fn run(alloc: Global, request: Option<Request<'_>>, bytes: &[u8]) -> Result<Ended, OutOfMemory>
+    ensures told { IsSome request.entry → IfOk result (λ ended. (ended.status ≡ 1) ↔ (0 < string_len ended.told)) }
+    ensures wrong_words { IsNone request.entry → IfOk result (λ ended. ended.status ≡ 2) }
+{
+    match request {
+        Some(request) => move_all(alloc, request, bytes),
+        None => Ok(Ended {
+            output: Vec::new(alloc),
+            told: String::from_str(alloc, "usage: subtitles FILE MILLISECONDS [drop]\n")?,
+            status: 2,
+        }),
+    }
 }
 
 fn main(rt: HostRuntime) -> io::Result<ExitCode> {
-    let mut words = env::args(&rt)?.skip(1);
-    let path = words.next();
-    let by = words.next().unwrap_or(String::new(rt.alloc()));
-    let (Some(path), Ok(number)) = (path, by.trim_start_matches(['+', '-']).parse()) else {
-        println!(rt; "usage: subtitles FILE MILLISECONDS [drop]")?;
-        return Ok(ExitCode::SUCCESS);
+    let words: Vec<String> = env::args(&rt)?.skip(1).collect(rt.alloc())?;
+    let words: Vec<&str> = words.iter().map(|word| word.as_str()).collect(rt.alloc())?;
+    let request = request_of(&words);
+    let bytes = match request {
+        Some(request) => fs::read(&rt, request.path)?,
+        None => Vec::new(rt.alloc()),
     };
-    let bytes = fs::read(&rt, path)?;
-    let mut moved = Subtitles {
-        alloc: rt.alloc(),
-        by: number,
-        is_earlier: by.starts_with('-'),
-        drops: words.next().is_some(),
-        text: Utf16String::new(rt.alloc()),
-        told: String::new(rt.alloc()),
-        line: 0,
-    };
-    read(&mut moved, &bytes).map_err(|_refused| AllocError)?;
-    io::Write::write_all(&mut rt.stdout(), &moved.bytes()?)?;
-    eprint!(rt; "{}", moved.told)?;
-    Ok(ExitCode::from(u8::from(!moved.told.is_empty())))
+    let ended = run(rt.alloc(), request, &bytes).map_err(|_refused| AllocError)?;
+    io::Write::write_all(&mut rt.stdout(), &ended.output)?;
+    eprint!(rt; "{}", ended.told)?;
+    Ok(ExitCode::from(ended.status))
 }

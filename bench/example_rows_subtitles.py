@@ -1,0 +1,339 @@
+"""What `example_subtitles` writes: worked out from the format alone, on a list of code units and by a pattern for a line of times."""
+
+import os
+import re
+
+USAGE = b"usage: subtitles FILE MILLISECONDS [drop]\n"
+GREATEST = 2**32 - 1
+TIME = r"([0-9]{2,}):([0-5][0-9]):([0-5][0-9]),([0-9]{3})"
+COORDINATES = re.compile(r"( +X1:([0-9]+) +X2:([0-9]+) +Y1:([0-9]+) +Y2:([0-9]+))? *")
+ESCAPES = {"\0": "\\0", "\t": "\\t", "\r": "\\r", "'": "\\'", '"': '\\"', "\\": "\\\\", "\ufeff": "\\u{feff}"}
+
+
+def units_of(text):
+    data = text.encode("utf-16-le", "surrogatepass")
+    return [data[at] + 256 * data[at + 1] for at in range(0, len(data), 2)]
+
+
+def text_of(units):
+    """The text, in which each unit of no character is itself."""
+    return b"".join(unit.to_bytes(2, "little") for unit in units).decode("utf-16-le", "surrogatepass")
+
+
+def is_fault(char):
+    return 0xD800 <= ord(char) < 0xE000
+
+
+def shown(text):
+    return '"' + "".join(f"\\<{ord(c):X}>" if is_fault(c) else ESCAPES.get(c, c) for c in text) + '"'
+
+
+def lines_of(text):
+    """Each line with its end; there is none behind the last end."""
+    return re.findall(r"((?:[^\r\n]|\r(?!\n))*)(\r\n|\n|$)", text)[:-1] if text else []
+
+
+def milliseconds(hours, minutes, seconds, thousandths):
+    if int(hours) > GREATEST:
+        return None
+    return ((int(hours) * 60 + int(minutes)) * 60 + int(seconds)) * 1000 + int(thousandths)
+
+
+def written(time):
+    seconds, thousandths = divmod(time, 1000)
+    minutes, seconds = divmod(seconds, 60)
+    return f"{minutes // 60:02}:{minutes % 60:02}:{seconds:02},{thousandths:03}"
+
+
+class Reader:
+    """What was told, and the text that is written."""
+
+    def __init__(self, by, drops):
+        self.by, self.drops = by, drops
+        self.told, self.text, self.line, self.place = "", "", 0, "number"
+
+    def tell(self, unit, what):
+        self.told += f"line {self.line}, unit {unit}: {what}\n"
+
+    def moved(self, line):
+        first, arrow, rest = line.partition(" --> ")
+        begin = re.fullmatch(TIME, first)
+        begin = begin and milliseconds(*begin.groups())
+        if not arrow or begin is None:
+            self.tell(0, "no times")
+            return line
+        last = rest.partition(" ")[0]
+        end = re.fullmatch(TIME, last)
+        end = end and milliseconds(*end.groups())
+        if end is None:
+            self.tell(len(first) + 5, "no times")
+            return line
+        behind = rest[len(last) :]
+        found = COORDINATES.fullmatch(behind)
+        if not found or any(number and int(number) > GREATEST for number in found.groups()[1:]):
+            self.tell(len(first) + 5 + len(last), "no times")
+            return line
+        for time, unit, what in [(begin, 0, "begins"), (end, len(first) + 5, "ends")]:
+            if time + self.by < 0:
+                self.tell(unit, f"{what} at 0, not before")
+        return written(max(begin + self.by, 0)) + arrow + written(max(end + self.by, 0)) + behind
+
+    def add(self, line, end):
+        self.line += 1
+        at, has_fault = 0, False
+        for char in line:
+            if is_fault(char):
+                has_fault = True
+                self.tell(at, f"fault {ord(char):04X}")
+            at += len(units_of(char))
+        mended = "".join("\ufffd" if is_fault(char) else char for char in line)
+        if self.place == "times":
+            mended = self.moved(mended)
+            self.place = "text"
+        elif self.place == "number" and line:
+            if re.fullmatch("[0-9]+", line):
+                self.place = "times"
+            else:
+                self.tell(0, "no number")
+                self.place = "text"
+        if not line:
+            self.place = "number"
+        if has_fault and self.drops:
+            self.tell(0, f"left out, {shown(line)}")
+        else:
+            self.text += mended + end
+
+
+def request_of(words):
+    if not (len(words) == 2 or (len(words) == 3 and words[2] == "drop")):
+        return None
+    number = re.fullmatch(r"([+-]?)([0-9]+)", words[1])
+    if not number or int(number[2]) > GREATEST:
+        return None
+    return int(number[2]) * (-1 if number[1] == "-" else 1), len(words) == 3
+
+
+def read(words, data):
+    """Standard output, standard error and status."""
+    request = request_of(words)
+    if request is None:
+        return b"", USAGE, 2
+    reader = Reader(*request)
+    order, pairs = "little", data
+    if data[:2] == b"\xff\xfe":
+        pairs = data[2:]
+    elif data[:2] == b"\xfe\xff":
+        order, pairs = "big", data[2:]
+    elif re.match(rb"\0[0-9]", data):
+        order = "big"
+    units = [int.from_bytes(pairs[at : at + 2], order) for at in range(0, len(pairs) - 1, 2)]
+    lines = lines_of(text_of(units))
+    for line, end in lines:
+        reader.add(line, end)
+    last = 0
+    if lines and not lines[-1][1]:
+        last = len(units_of(lines[-1][0]))
+    else:
+        reader.line += 1
+    if reader.place == "times":
+        reader.tell(last, "no times")
+    if len(pairs) % 2:
+        reader.tell(last, f"half of a unit, {pairs[-1]:02X}")
+    return b"\xff\xfe" + reader.text.encode("utf-16-le"), reader.told.encode(), 1 if reader.told else 0
+
+
+def little(text):
+    return b"\xff\xfe" + text.encode("utf-16-le", "surrogatepass")
+
+
+ONE = "1\r\n00:00:01,000 --> 00:00:02,500\r\nA😀\r\n\r\n2\r\n00:00:03,000 --> 00:00:04,000\r\nb"
+# What a row shows, its words behind the file, and its file as a text or as bytes.
+ROWS = [
+    ("later", ["+1500"], ONE),
+    ("earlier, and no sign is later", ["-1000"], ONE),
+    ("no sign is later, and line feeds alone stay", ["61500"], ONE.replace("\r\n", "\n") + "\n"),
+    ("by nothing, and an end of each kind stays", ["-0"], "1\n00:00:01,000 --> 00:00:02,000\r\na\r\r\nb\n\r\n\n"),
+    ("a begin and an end below zero", ["-1500"], "1\r\n00:00:01,000 --> 00:00:01,499\r\n\r\n2\r\n00:00:01,499 --> 00:00:01,500\r\n"),
+    ("thousandths are three digits", ["1"], "1\n00:00:01,3456 --> 00:00:02,000\n\n2\n00:00:01,34 --> 00:00:02,000\n\n3\n00:00:01,000 --> 00:00:02,0\n"),
+    ("minutes and seconds are two, below 60", ["1"], "1\n00:60:01,000 --> 00:00:02,000\n\n2\n00:00:60,000 --> 00:00:02,000\n\n3\n00:0:01,000 --> 00:00:02,000\n\n4\n0:00:01,000 --> 00:00:02,000\n"),
+    ("no other digits", ["1"], "1\n00:00:+1,000 --> 00:00:02,000\n\n2\n00:00:01,000 --> 00:00:02.000\n\n3\n00:01,000 --> 00:00:02,000\n\n4\n00:00:01,000 -> 00:00:02,000\n"),
+    ("hours of a hundred and more", ["3600000"], "1\n99:59:59,999 --> 100:00:00,000\n\n2\n4294967296:00:00,000 --> 00:00:00,000\n"),
+    ("dialogue that looks like times", ["1000"], "1\n00:00:01,000 --> 00:00:02,000\n5,0 --> 6,0 eggs\n00:00:01,000 --> 00:00:02,000\n3\n00:00:01,000 --> 00:00:02,000\n"),
+    ("eggs are no times", ["1000"], "1\n5,0 --> 6,0 eggs\n\n2\n00:00:05,000 --> 00:00:06,000 eggs\n"),
+    ("where the text stands", ["1000"], "1\n00:00:01,000 --> 00:00:02,000  X1:40 X2:600 Y1:020 Y2:50 \na\n\n2\n00:00:01,000 --> 00:00:02,000 X1:40 X2:600\n\n3\n00:00:01,000 --> 00:00:02,000 X1:40 X2:600 Y1:20 Y2:x\n\n4\n00:00:01,000 --> 00:00:02,000 X1:1 X2:1 Y1:1 Y2:1 Y2:1\n\n5\n00:00:01,000 --> 00:00:02,000 \n"),
+    ("no number", ["1000"], "00:00:01,000 --> 00:00:02,000\na\n\n1 \n00:00:01,000 --> 00:00:02,000\n\n\n2\n\n3\n"),
+    ("no times at the end", ["1000"], "1"),
+    ("faults", ["1000"], "1\r\n00:00:01,000 --> 00:00:02,000\r\n\ud83d\ud83d\ude00😀\udc00!\r\nb\r\n"),
+    ("faults that are left out", ["1000", "drop"], "1\r\n00:00:01,000 --> 00:00:02,000\r\n😀\ud83d'\r\nb\r\n\udc00"),
+    ("faults in the place of times and of a number", ["1000", "drop"], "1\n00:00:0\ud800,000 --> 00:00:02,000\n\n2\udc00\n00:00:01,000 --> 00:00:02,000\n"),
+    ("a zero unit and a second mark stay", ["1000"], "1\n00:00:01,000 --> 00:00:02,000\n\ufeffa\0"),
+    ("half of a unit in a line", ["1000"], little("1\n00:00:01,000 --> 00:00:02,000\nA😀") + b"."),
+    ("half of a unit behind the last line", ["1000"], little("1\n00:00:01,000 --> 00:00:02,000\nA\n") + b"\n"),
+    ("big endian behind a mark", ["1000"], b"\xfe\xff" + "1\n00:00:01,000 --> 00:00:02,000\n😀".encode("utf-16-be")),
+    ("big endian without a mark", ["1000"], "1\n00:00:01,000 --> 00:00:02,000\n😀".encode("utf-16-be")),
+    ("little endian without a mark", ["1000"], "1\n00:00:01,000 --> 00:00:02,000\n😀".encode("utf-16-le")),
+    ("no bytes", ["1000"], b""),
+    ("one byte", ["1000"], b"1"),
+    ("the greatest number", ["-4294967295"], "1\n1193:02:47,295 --> 1193:02:47,296\n"),
+    ("no such number", ["4294967296"], ONE),
+    ("no number of milliseconds", ["1.5"], ONE),
+    ("two signs", ["--500"], ONE),
+    ("both signs", ["+-5"], ONE),
+    ("a sign alone", ["-"], ONE),
+    ("no such third word", ["5", "Drop"], ONE),
+    ("a fourth word", ["5", "drop", "drop"], ONE),
+    ("one word", [], ONE),
+]
+PARTS = ["a", "é", "😀", "深", "\ud83d", "\udc1f", "\ufffd", " ", "'", '"', " --> ", "1", "\r", "\0", "\\", "\ufeff"]
+
+
+def random_text(random):
+    return "".join(random.choice(PARTS) for _ in range(random.randrange(6)))
+
+
+def random_time(random):
+    time = f"{random.choice([0, 0, 0, 1, 99, 100]):02}:{random.randrange(60):02}:{random.randrange(60):02},{random.randrange(1000):03}"
+    if random.randrange(4):
+        time = f"00:00:{random.randrange(4):02},{random.randrange(1000):03}"
+    if random.randrange(12) == 0:
+        at = random.randrange(len(time))
+        time = time[:at] + random.choice(["", "0", "6", "x", "+", ":", ",", "\ud800", " "]) + time[at + random.randrange(2) :]
+    return time
+
+
+def random_times(random):
+    arrow = random.choice([" --> "] * 12 + ["-->", " -> ", "  -->  "])
+    behind = random.choice(
+        [""] * 8 + [" ", " eggs", " X1:1 X2:22 Y1:3 Y2:4", "  X1:1 X2:22 Y1:3 Y2:4 ", " X1:1 X2:22", " X1:1 X2:2 Y2:3 Y1:4", "X1:1", " X1: X2:1 Y1:1 Y2:1"]
+    )
+    return random_time(random) + arrow + random_time(random) + behind
+
+
+def random_block(random, number):
+    lines = [str(number) if random.randrange(10) else random.choice(["", " ", "x", "1 ", "\ud83d", "+1"])]
+    if random.randrange(12):
+        lines.append(random_times(random))
+    lines += [random_text(random) if random.randrange(8) else random_times(random) for _ in range(random.randrange(3))]
+    return lines + [""] * random.choice([1, 1, 1, 2, 0])
+
+
+def random_file(random):
+    lines = [line for number in range(random.randrange(5)) for line in random_block(random, number + 1)]
+    usual = random.choice(["\n", "\r\n"])
+    text = "".join(line + (usual if random.randrange(12) else random.choice(["\n", "\r\n", "\r\r\n"])) for line in lines)
+    if random.randrange(3) == 0:
+        text = text[: -random.randrange(1, 4)]
+    form = random.choice(["little", "little", "little", "big"])
+    data = text.encode(f"utf-16-{form[0]}e", "surrogatepass")
+    if random.randrange(5):
+        data = (b"\xff\xfe" if form == "little" else b"\xfe\xff") + data
+    return data + random.choice([b"", b"", b"", b"1", b"\n"])
+
+
+def question(random, folder):
+    data = random_file(random)
+    with open(os.path.join(folder, "moved.srt"), "wb") as file:
+        file.write(data)
+    number = random.choice(["+", "-", ""]) + str(random.choice([0, 1, 500, random.randrange(4000), 3600000]))
+    if random.randrange(40) == 0:
+        number = random.choice(["1.5", "--500", "+-5", "", "-", "x", "4294967296", "4294967295", "-4294967295", "99999999999999999999", "1 "])
+    words = ["moved.srt", number] + random.choice([[], [], ["drop"]])
+    if random.randrange(60) == 0:
+        words = random.choice([[], words[:1], [*words[:2], "Drop"], [*words[:2], "drop", "drop"], [*words[:2], ""]])
+    return words, *read(words, data)
+
+
+def text_literal(text):
+    plain = {'"': '\\"', "\\": "\\\\", "\n": "\\n", "\r": "\\r", "\t": "\\t"}
+    return '"' + "".join(plain.get(c) or (c if " " <= c <= "~" else f"\\u{{{ord(c):x}}}") for c in text) + '"'
+
+
+def bytes_literal(data):
+    plain = {34: '\\"', 92: "\\\\", 10: "\\n", 13: "\\r", 9: "\\t"}
+    return 'b"' + "".join(plain.get(b) or (chr(b) if 32 <= b <= 126 else f"\\x{b:02x}") for b in data) + '"'
+
+
+def call(indent, head, inner, end):
+    """A call with one argument, as `rt fmt` lays it out."""
+    line = f"{indent}{head}({inner}){end}"
+    return line if len(line) <= 100 else f"{indent}{head}(\n{indent}    {inner},\n{indent}){end}"
+
+
+def file_of(file):
+    indent, end = "        ", ","
+    if isinstance(file, bytes):
+        return call(indent, "file: File::Bytes", bytes_literal(file), end)
+    try:
+        file.encode()
+    except UnicodeEncodeError:
+        return call(indent, "file: File::Bytes", bytes_literal(little(file)), end)
+    return call(indent, "file: File::Text", text_literal(file), end)
+
+
+def row(name, behind, file):
+    words = ["dive.srt", *behind]
+    output, told, status = read(words, file if isinstance(file, bytes) else little(file))
+    text = "        output: None,"
+    if output:
+        text = call("        ", "output: Some", text_literal(output[2:].decode("utf-16-le")), ",")
+    listed = ", ".join(text_literal(word) for word in words)
+    return (
+        f"    // {name.capitalize()}.\n    Row {{\n        words: &[{listed}],\n{file_of(file)}\n{text}\n"
+        f"        told: {text_literal(told.decode())},\n        status: {status},\n    }},\n"
+    )
+
+
+def rows():
+    return HEAD + f"static ROWS: [Row; {len(ROWS)}] = [\n" + "".join(row(*each) for each in ROWS) + "];\n"
+
+
+HEAD = """//! What is written for words and files, as `bench/example_rows subtitles` works it out from the format alone.
+
+use crate::{request_of, run};
+use std::alloc::Global;
+use widestring::Utf16String;
+use widestring::error::OutOfMemory;
+
+// A file: a text, in UTF-16, little endian behind a mark, or any bytes.
+enum File {
+    Text(&'static str),
+    Bytes(&'static [u8]),
+}
+
+// Words and a file; the text that is written to standard output as such a file, or none, what is written to standard error, and the status.
+struct Row {
+    words: &'static [&'static str],
+    file: File,
+    output: Option<&'static str>,
+    told: &'static str,
+    status: u8,
+}
+
+fn bytes_of(alloc: Global, text: &str) -> Result<Vec<u8>, OutOfMemory> {
+    let text = Utf16String::from_str(alloc, text)?;
+    text.as_utfstr().as_ustr().to_le_bytes_with_mark(alloc)
+}
+
+fn is_as_wanted(alloc: Global, row: &Row) -> Result<bool, OutOfMemory> {
+    let request = request_of(row.words);
+    let ended = match &row.file {
+        File::Text(text) => run(alloc, request, &bytes_of(alloc, text)?)?,
+        File::Bytes(bytes) => run(alloc, request, bytes)?,
+    };
+    let output = match row.output {
+        Some(text) => bytes_of(alloc, text)?,
+        None => Vec::new(alloc),
+    };
+    let is_written = ended.output.as_slice() == output.as_slice();
+    Ok(is_written && ended.told.as_str() == row.told && ended.status == row.status)
+}
+
+#[test]
+fn rows(rt: HostRuntime) {
+    for (number, row) in ROWS.iter().enumerate() {
+        let is_right = is_as_wanted(rt.alloc(), row).unwrap_or(false);
+        assert!(rt; is_right, "row {number}");
+    }
+}
+
+"""
