@@ -4,8 +4,8 @@ ghost use Rattle.std.specs.Prelude.{◌≡◌};
 
 use std::alloc::{AllocError, AllocFailed};
 use std::error::Error;
-use std::fmt;
 use std::marker::Model;
+use std::{fmt, io};
 
 /// A surrogate that is not in a pair, found where UTF-16 was decoded.
 #[derive(Clone, Copy, Debug, PartialEq, Eq)]
@@ -135,6 +135,18 @@ impl<T: Drop> From<AllocFailed<T>> for OutOfMemory {
 
     fn from(_refused: AllocFailed<T>) -> OutOfMemory {
         OutOfMemory
+    }
+}
+
+/// So that `?` takes it to an `io::Result`, such as that of `main`: an error of the kind `OutOfMemory`.
+impl From<OutOfMemory> for io::Error {
+    ghost use Rattle.std.specs.IoError.{error_kind};
+    ghost use Rattle.std.specs.declared.io.ErrorKind.TheVariants.{OutOfMemory};
+
+    ghost from_gives = { λ _ e. error_kind e ≡ OutOfMemory };
+
+    fn from(_refused: OutOfMemory) -> io::Error {
+        io::Error::from(io::ErrorKind::OutOfMemory)
     }
 }
 
