@@ -1,7 +1,6 @@
 //! Prints the lines of a file in UTF-16 that hold a word, each with its number.
 #![tactic(auto)]
 
-use std::alloc::AllocError;
 use std::process::ExitCode;
 use std::{env, fs, io};
 use widestring::bytes::utf16_of_bytes;
@@ -15,12 +14,10 @@ fn main(rt: HostRuntime) -> io::Result<ExitCode> {
     };
     let bytes = fs::read(&rt, path)?;
     let units: Vec<u16> = utf16_of_bytes(&bytes).units.collect(rt.alloc())?;
-    let part = U16String::from_str(rt.alloc(), &word).map_err(|_refused| AllocError)?;
-    let mut number = 0_usize;
-    for line in U16Str::from_slice(&units).lines_lossy() {
-        number = number.saturating_add(1);
+    let part = U16String::from_str(rt.alloc(), &word)?;
+    for (number, line) in U16Str::from_slice(&units).lines_lossy().enumerate() {
         if line.contains(part.as_ustr()) {
-            println!(rt; "{number}: {}", line.display())?;
+            println!(rt; "{}: {}", number + 1, line.display())?;
         }
     }
     Ok(ExitCode::SUCCESS)

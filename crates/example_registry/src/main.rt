@@ -481,7 +481,7 @@ fn main(rt: HostRuntime) -> io::Result<ExitCode> {
         _ => None,
     };
     let bytes = file.as_ref().map(|bytes| bytes.as_slice());
-    let outcome = run(rt.alloc(), bytes).map_err(|_refused| AllocError)?;
+    let outcome = run(rt.alloc(), bytes)?;
     print!(rt; "{}", outcome.output)?;
     eprint!(rt; "{}", outcome.told)?;
     Ok(ExitCode::from(outcome.status))

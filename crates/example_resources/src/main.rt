@@ -27,7 +27,7 @@ ghost use Rattle.std.specs.Prelude.{
 };
 ghost use Rattle.std.specs.Int.{from_le_bytes, w16, w32};
 
-use std::alloc::{AllocError, Global};
+use std::alloc::Global;
 use std::fmt::{Display, Write};
 use std::process::ExitCode;
 use std::{env, fmt, fs, io};
@@ -346,7 +346,7 @@ fn main(rt: HostRuntime) -> io::Result<ExitCode> {
     let mut status = 0;
     for file in files {
         let tables = read_file(rt.alloc(), file, fs::read(&rt, file), is_lossy);
-        let tables = tables.map_err(|_refused| AllocError)?;
+        let tables = tables?;
         print!(rt; "{}", tables.text)?;
         eprint!(rt; "{}", tables.told)?;
         status = tables.status().max(status);

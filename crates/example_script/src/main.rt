@@ -11,7 +11,7 @@ ghost use Rattle.widestring.specs.Lossy.{lossy};
 ghost use Rattle.widestring.specs.Segmentation.{Char, Fault, Item};
 ghost use Rattle.widestring.specs.UnitView.{units_seen};
 
-use std::alloc::{AllocError, Global};
+use std::alloc::Global;
 use std::fmt::Write;
 use std::process::ExitCode;
 use std::{env, fs, io};
@@ -314,7 +314,7 @@ fn main(rt: HostRuntime) -> io::Result<ExitCode> {
         _ => None,
     };
     let bytes = file.as_ref().map(|bytes| bytes.as_slice());
-    let ended = run(rt.alloc(), bytes).map_err(|_refused| AllocError)?;
+    let ended = run(rt.alloc(), bytes)?;
     print!(rt; "{}", ended.output)?;
     eprint!(rt; "{}", ended.told)?;
     Ok(ExitCode::from(ended.status))

@@ -340,7 +340,7 @@ fn main(rt: HostRuntime) -> io::Result<ExitCode> {
         Some(request) => fs::read(&rt, request.path)?,
         None => Vec::new(rt.alloc()),
     };
-    let ended = run(rt.alloc(), request, &bytes).map_err(|_refused| AllocError)?;
+    let ended = run(rt.alloc(), request, &bytes)?;
     io::Write::write_all(&mut rt.stdout(), &ended.output)?;
     eprint!(rt; "{}", ended.told)?;
     Ok(ExitCode::from(ended.status))

@@ -28,7 +28,7 @@ WholeAtNoPart = (whole : List ℕ) → pieces [] whole ≡ whole ∷ []
 abbrev pub PiecesJoin : Type 0
 PiecesJoin = (part whole : List ℕ) (some : List (List ℕ)) → ArePieces part whole some → joined_with part some ≡ whole
 
--- a well-formed part that isn't empty stands in any units only between characters: both its ends are boundaries
+-- a well-formed part that isn't empty stands in any units only between their items: both its ends are boundaries
 abbrev pub PartsAreBetweenCharacters : Type 0
 PartsAreBetweenCharacters = (form : EncodingForm) (part us : List ℕ) (at : ℕ) → IsWellFormed form part → 0 < length part → StandsAt part us at → IsBoundary form us at × IsBoundary form us (at + length part)
 
@@ -41,3 +41,8 @@ PartsAreOfCharacters = (form : EncodingForm) (part us : List ℕ) (at : ℕ) →
 abbrev pub FirstIsOfCharacters : Type 0
 FirstIsOfCharacters = (form : EncodingForm) (part us : List ℕ) (at : ℕ) → IsWellFormed form part → IsWellFormed form us → 0 < length part → IsFirstAt part us at
     → IsFirstAt (chars form part) (chars form us) (chars_before form us at)
+
+-- and so its last place
+abbrev pub LastIsOfCharacters : Type 0
+LastIsOfCharacters = (form : EncodingForm) (part us : List ℕ) (at : ℕ) → IsWellFormed form part → IsWellFormed form us → 0 < length part → IsLastAt part us at
+    → IsLastAt (chars form part) (chars form us) (chars_before form us at)

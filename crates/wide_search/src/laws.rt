@@ -1,5 +1,5 @@
 //! The laws of the definitions. Each function has one as its contract and does nothing.
-ghost use Rattle.wide_search.specs.Statements.{FirstIsUnique, LastIsUnique, PiecesExist, PiecesAreUnique, PiecesJoin, WholeAtNoPart, PartsAreBetweenCharacters, PartsAreOfCharacters, FirstIsOfCharacters};
+ghost use Rattle.wide_search.specs.Statements.{FirstIsUnique, LastIsUnique, PiecesExist, PiecesAreUnique, PiecesJoin, WholeAtNoPart, PartsAreBetweenCharacters, PartsAreOfCharacters, FirstIsOfCharacters, LastIsOfCharacters};
 
 /// A part has at most one first place in a list, and at most one last.
 pub fn one_place<T>()
@@ -24,4 +24,5 @@ pub fn parts_of_text()
     ensures between { PartsAreBetweenCharacters }
     ensures characters { PartsAreOfCharacters }
     ensures first { FirstIsOfCharacters }
+    ensures last { LastIsOfCharacters }
 {}

@@ -1,11 +1,11 @@
 //! Searches in the contents of C strings.
-ghost use Rattle.std.specs.Prelude.{◌≡◌, ◌↔◌, ◌+◌, ◌++◌, ◌∷◌, [], ◌≤◌, ◌<◌, length, map, IsTrue, IsSome, IfNone, IfSome};
+ghost use Rattle.std.specs.Prelude.{◌≡◌, ◌↔◌, ◌+◌, ◌++◌, ◌∷◌, [], ◌≤◌, ◌<◌, ◌^◌, length, map, IsTrue, IsSome, IfNone, IfSome};
 ghost use Rattle.wide_unit.specs.EncodingForm.{code_units};
 ghost use Rattle.wide_search.specs.Parts.{StandsIn, IsFirstAt, IsLastAt, StandsNowhere, BeginsWith, EndsWith, IsFirstSplit, IsLastSplit};
 ghost use Rattle.wide_search.specs.Pieces.{ArePieces};
 ghost use Rattle.wide_search.specs.Cut.{pieces};
-ghost use Rattle.wide_ustr.specs.Split.{pieces_left};
-ghost use Rattle.wide_ustr.specs.View.{units_seen, numbers_seen};
+ghost use Rattle.wide_ustr.specs.Split.{unit_pieces_left};
+ghost use Rattle.wide_ustr.specs.View.{units_seen};
 ghost use Rattle.wide_ucstr.specs.View.{contents_seen};
 
 use crate::view::UCStr;
@@ -131,9 +131,11 @@ impl<'a, C: FaultUnit> UCStr<'a, C> {
 
     /// The pieces of the contents between the places of the other view's contents, as [`UStr::split`] has them.
     pub fn split<'p>(self, part: UCStr<'p, C>) -> Split<UStr<'a, C>, UStr<'p, C>>
-        ensures left { pieces_left (numbers_seen C.number) (numbers_seen C.number) result ≡ pieces (map C.number (contents_seen part.entry)) (map C.number (contents_seen self.entry)) }
-        ensures cut { 0 < length (contents_seen part.entry) → ArePieces (map C.number (contents_seen part.entry)) (map C.number (contents_seen self.entry)) (pieces_left (numbers_seen C.number) (numbers_seen C.number) result) }
-        ensures empty { length (contents_seen part.entry) ≡ 0 → pieces_left (numbers_seen C.number) (numbers_seen C.number) result ≡ map C.number (contents_seen self.entry) ∷ [] }
+        ensures left { unit_pieces_left C.number result ≡ pieces (map C.number (contents_seen part.entry)) (map C.number (contents_seen self.entry)) }
+        ensures cut { 0 < length (contents_seen part.entry) → ArePieces (map C.number (contents_seen part.entry)) (map C.number (contents_seen self.entry)) (unit_pieces_left C.number result) }
+        ensures empty { length (contents_seen part.entry) ≡ 0 → unit_pieces_left C.number result ≡ map C.number (contents_seen self.entry) ∷ [] }
+        ensures most { length (unit_pieces_left C.number result) ≤ length (contents_seen self.entry) + 1 }
+        ensures fits { length (unit_pieces_left C.number result) < 2 ^ 64 }
     {
         self.as_ustr().split(part.as_ustr())
     }

@@ -8,6 +8,7 @@ pub mod Faults
 mod Whole
 pub mod CharBoundaries
 mod Feeds
+pub mod LinePlaces
 mod Ordered
 pub mod Printed
 pub mod Kept

@@ -1,3 +1,4 @@
 pub mod IndexedLemmas
 pub mod FaultRows
 mod LossyPieces
+pub mod PieceCounts

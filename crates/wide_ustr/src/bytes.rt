@@ -1,5 +1,5 @@
 //! The bytes of views, in either order.
-ghost use Rattle.std.specs.Prelude.{◌≡◌, ◌∷◌, ◌*◌, ◌≤◌, [], drop, length, map, take, IfOk, IsOk};
+ghost use Rattle.std.specs.Prelude.{◌≡◌, ◌∷◌, ◌*◌, ◌+◌, ◌≤◌, [], drop, length, map, take, IfOk, IsOk};
 ghost use Rattle.wide_blocks.specs.UnitBytes.{unit_width, little_bytes_of, big_bytes_of, byte_order_mark};
 ghost use Rattle.wide_ustr.specs.View.{units_seen};
 
@@ -104,5 +104,35 @@ impl<C: Unit> UStr<'_, C> {
     {
         put_be_bytes(self.units, bytes);
         byte_len(self.units)
+    }
+
+    /// As [`UStr::put_le_bytes`], behind a byte order mark (Unicode Standard, D98 and D101), as [`UStr::to_le_bytes_with_mark`] has it: there must
+    /// be room for one unit more.
+    pub fn put_le_bytes_with_mark(self, bytes: &mut [u8]) -> usize
+        requires { unit_width C.form * (length (units_seen self) + 1) ≤ length bytes.old }
+        ensures len { result ≡ unit_width C.form * (length (units_seen self.entry) + 1) }
+        ensures front { take result bytes.new ≡ little_bytes_of C.form (byte_order_mark ∷ map C.number (units_seen self.entry)) }
+        ensures behind { drop result bytes.new ≡ drop result bytes.old }
+    {
+        let width = byte_width::<C>();
+        let (mark, rest) = bytes.split_at_mut(width);
+        put_le_mark::<C>(mark);
+        put_le_bytes(self.units, rest);
+        width + byte_len(self.units)
+    }
+
+    /// As [`UStr::put_be_bytes`], behind a byte order mark (Unicode Standard, D98 and D101), as [`UStr::to_be_bytes_with_mark`] has it: there must
+    /// be room for one unit more.
+    pub fn put_be_bytes_with_mark(self, bytes: &mut [u8]) -> usize
+        requires { unit_width C.form * (length (units_seen self) + 1) ≤ length bytes.old }
+        ensures len { result ≡ unit_width C.form * (length (units_seen self.entry) + 1) }
+        ensures front { take result bytes.new ≡ big_bytes_of C.form (byte_order_mark ∷ map C.number (units_seen self.entry)) }
+        ensures behind { drop result bytes.new ≡ drop result bytes.old }
+    {
+        let width = byte_width::<C>();
+        let (mark, rest) = bytes.split_at_mut(width);
+        put_be_mark::<C>(mark);
+        put_be_bytes(self.units, rest);
+        width + byte_len(self.units)
     }
 }

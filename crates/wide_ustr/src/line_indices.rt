@@ -1,8 +1,9 @@
 //! The lines of a view with their places.
-ghost use Rattle.std.specs.Prelude.{◌≡◌, ◌≤◌, length, map, None, IfSome, ⊤};
+ghost use Rattle.std.specs.Prelude.{◌≡◌, ◌<◌, ◌≤◌, ◌^◌, length, map, None, IfSome, ⊤};
 ghost use Rattle.std.specs.Iterator.{YieldsFirstBy, at_most, UpTo};
 ghost use Rattle.std.specs.Iterator.SizeHint.{IsWithinCount};
-ghost use Rattle.wide_unit.specs.Items.{items};
+ghost use Rattle.std.specs.List.{All};
+ghost use Rattle.wide_unit.specs.Items.{items, IsBoundary};
 ghost use Rattle.wide_unit.specs.Lines.{placed_lines};
 
 use crate::lines::LineView;
@@ -86,8 +87,13 @@ impl<C: FaultUnit> UStr<'_, C> {
     /// The lines, as [`UStr::lines_lossy`] has them, each with the place, in units, at which it begins in the view. The call is this port's
     /// own.
     pub fn line_indices_lossy(self) -> LineIndices<Self>
-        ensures { placed_left result ≡ placed_lines C.form 0 (items C.form (map C.number (units_seen self.entry))) }
+        ensures lines { placed_left result ≡ placed_lines C.form 0 (items C.form (map C.number (units_seen self.entry))) }
+        ensures boundaries { All (λ line. IsBoundary C.form (map C.number (units_seen self.entry)) line.0) (placed_left result) }
+        ensures most { length (placed_left result) ≤ length (units_seen self.entry) }
+        ensures fits { length (placed_left result) < 2 ^ 64 }
     {
+        // A call for its contract: a length is below 2 ^ 64, so that lines can be counted.
+        let _units = self.len();
         LineIndices::new(self)
     }
 }

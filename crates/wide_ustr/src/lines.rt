@@ -1,5 +1,5 @@
 //! The lines of a view.
-ghost use Rattle.std.specs.Prelude.{◌≡◌, ◌-◌, ◌<◌, ◌∷◌, ℕ, List, [], length, map, None, IfNone, IfSome};
+ghost use Rattle.std.specs.Prelude.{◌≡◌, ◌-◌, ◌<◌, ◌≤◌, ◌^◌, ◌∷◌, ℕ, List, [], length, map, None, IfNone, IfSome};
 ghost use Rattle.std.specs.Iterator.{YieldsFirstBy, at_most, UpTo};
 ghost use Rattle.std.specs.Iterator.SizeHint.{IsWithinCount};
 ghost use Rattle.wide_unit.specs.Segmentation.{Item};
@@ -108,8 +108,12 @@ impl<C: FaultUnit> UStr<'_, C> {
     /// no line; a line that one ended loses one carriage return (U+000D) at its end, and the last piece is no line where it is
     /// empty. Units that belong to no character stay in the lines as they are.
     pub fn lines_lossy(self) -> Lines<Self>
-        ensures { lines_left (items_seen C.form C.number) result ≡ lines_of (items C.form (map C.number (units_seen self.entry))) }
+        ensures lines { lines_left (items_seen C.form C.number) result ≡ lines_of (items C.form (map C.number (units_seen self.entry))) }
+        ensures most { length (lines_left (items_seen C.form C.number) result) ≤ length (units_seen self.entry) }
+        ensures fits { length (lines_left (items_seen C.form C.number) result) < 2 ^ 64 }
     {
+        // A call for its contract: a length is below 2 ^ 64, so that lines can be counted.
+        let _units = self.len();
         Lines::new(self)
     }
 }

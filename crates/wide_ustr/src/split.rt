@@ -1,14 +1,15 @@
 //! The pieces of a view that is cut at a part.
-ghost use Rattle.std.specs.Prelude.{◌≡◌, ◌<◌, ◌∷◌, ℕ, List, [], length, map, None, IfNone, IfSome};
+ghost use Rattle.std.specs.Prelude.{◌≡◌, ◌<◌, ◌≤◌, ◌+◌, ◌^◌, ◌∷◌, ℕ, List, [], length, None, IfNone, IfSome};
 ghost use Rattle.std.specs.Iterator.{YieldsFirstBy, at_most, UpTo};
 ghost use Rattle.std.specs.Iterator.SizeHint.{IsWithinCount};
 ghost use Rattle.wide_search.specs.Cut.{pieces};
 ghost use Rattle.wide_search.specs.Pieces.{ArePieces};
-ghost use Rattle.wide_ustr.specs.Split.{pieces_left};
+ghost use Rattle.wide_ustr.specs.Split.{pieces_left, unit_pieces_left};
 ghost use Rattle.wide_ustr.specs.View.{numbers_seen};
 
 use crate::view::UStr;
 use std::iter::FusedIterator;
+use wide_blocks::byte_len;
 use wide_unit::Unit;
 
 /// A view that can be cut at a part of some kind: units, or a character.
@@ -97,10 +98,14 @@ impl<C: Unit> UStr<'_, C> {
     /// behind the one before, so that places never overlap. Where they stand at the start, at the end or one behind another, the piece
     /// there is empty; where they stand nowhere, and where the other view is empty, the whole view is the only piece.
     pub fn split<'p>(self, part: UStr<'p, C>) -> Split<Self, UStr<'p, C>>
-        ensures left { pieces_left (numbers_seen C.number) (numbers_seen C.number) result ≡ pieces (map C.number (units_seen part.entry)) (map C.number (units_seen self.entry)) }
-        ensures cut { 0 < length (units_seen part.entry) → ArePieces (map C.number (units_seen part.entry)) (map C.number (units_seen self.entry)) (pieces_left (numbers_seen C.number) (numbers_seen C.number) result) }
-        ensures empty { length (units_seen part.entry) ≡ 0 → pieces_left (numbers_seen C.number) (numbers_seen C.number) result ≡ map C.number (units_seen self.entry) ∷ [] }
+        ensures left { unit_pieces_left C.number result ≡ pieces (numbers_seen C.number part.entry) (numbers_seen C.number self.entry) }
+        ensures cut { 0 < length (units_seen part.entry) → ArePieces (numbers_seen C.number part.entry) (numbers_seen C.number self.entry) (unit_pieces_left C.number result) }
+        ensures empty { length (units_seen part.entry) ≡ 0 → unit_pieces_left C.number result ≡ numbers_seen C.number self.entry ∷ [] }
+        ensures most { length (unit_pieces_left C.number result) ≤ length (units_seen self.entry) + 1 }
+        ensures fits { length (unit_pieces_left C.number result) < 2 ^ 64 }
     {
+        // A call for its contract: there are so few units that one more piece can be counted.
+        let _bytes = byte_len(self.units);
         Split::new(self, part)
     }
 }

@@ -1,8 +1,8 @@
 -- Characters with their offsets: each offset is a boundary, and calls give them in order.
 use Rattle.std.proofs.Common.{◌≡◌, ℕ, ◌+◌, List, [], ◌∷◌, ◌++◌, take, append_assoc, sym, ◌∙◌, ap, subst, length, length-append}
 use Rattle.std.specs.List.{All}
-use Rattle.std.specs.Iterator.Runs.{YieldsInOrder}
-use Rattle.std.proofs.iter.runs.Sources.{from_front, as_is}
+use Rattle.std.specs.Iterator.Runs.{YieldsInOrder, YieldsInReverse}
+use Rattle.std.proofs.iter.runs.Sources.{from_front, from_back, as_is, as_is_back}
 use Rattle.std.proofs.lemmas.List.Elements.{All-nil, All-cons}
 use Rattle.std.proofs.lemmas.List.{append-nil}
 use Rattle.std.proofs.lemmas.List.Concat.{flat_map-append}
@@ -14,7 +14,7 @@ use Rattle.wide_unit.specs.Laws.Places.{IsPlaceOf-front}
 use Rattle.wide_unit.specs.declared.unit.Unit.{Ghosts}
 use Rattle.wide_unit.proofs.CharBoundaries.{IsCharBoundary-of}
 use Rattle.wide_utfstr.specs.Indexed.{indexed_chars}
-use Rattle.wide_utfstr.specs.Iter.{indices_left, IndicesGive}
+use Rattle.wide_utfstr.specs.Iter.{indices_left, IndicesGive, IndicesGiveBack}
 
 encode-push : (form : EncodingForm) (cs : List ℕ) (c : ℕ) → encode form (cs ++ c ∷ []) ≡ encode form cs ++ code_units form c
 encode-push form cs c = flat_map-append (code_units form) cs (c ∷ []) ∙ ap (λ xs. encode form cs ++ xs) (append-nil (code_units form c))
@@ -32,4 +32,8 @@ boundaries_from form us front (c ∷ back) well e =
 
 pub indices_in_order : {C : Type 0} {g : Ghosts C} → YieldsInOrder (IndicesGive {C = C} {g = g}) (indices_left g.form g.number)
 indices_in_order {C} {g} p s = as_is p (indices_left g.form g.number p.from) (from_front (IndicesGive {C = C} {g = g})
+    (λ c. c) (indices_left g.form g.number) (λ s t h. ap length h.0.0) (λ s c t h. h.0) p s)
+
+pub indices_in_reverse : {C : Type 0} {g : Ghosts C} → YieldsInReverse (IndicesGiveBack {C = C} {g = g}) (indices_left g.form g.number)
+indices_in_reverse {C} {g} p s = as_is_back p (indices_left g.form g.number p.from) (from_back (IndicesGiveBack {C = C} {g = g})
     (λ c. c) (indices_left g.form g.number) (λ s t h. ap length h.0.0) (λ s c t h. h.0) p s)

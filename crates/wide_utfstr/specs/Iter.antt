@@ -1,7 +1,7 @@
 -- What the iterators over a well-formed view have left.
 use Rattle.std.specs.Prelude.{◌≡◌, ◌+◌, ℕ, List, map, Option}
-use Rattle.std.specs.Iterator.{YieldsFirst}
-use Rattle.std.specs.Iterator.Runs.{YieldsInOrder}
+use Rattle.std.specs.Iterator.{YieldsFirst, YieldsLast}
+use Rattle.std.specs.Iterator.Runs.{YieldsInOrder, YieldsInReverse}
 use Rattle.wide_ustr.specs.Iter.{given_length}
 use Rattle.wide_unit.specs.EncodingForm.{EncodingForm}
 use Rattle.wide_unit.specs.Items.{chars}
@@ -43,3 +43,11 @@ module _ {C : Type 0} {g : Ghosts C} where
   -- what calls give, one after another, are the characters that were still to come
   abbrev pub IndicesRun : CharIndices C g → Type 0
   IndicesRun _ = YieldsInOrder IndicesGive (indices_left g.form g.number)
+
+  -- a call from the back gave the last character with its offset, and the offset of the next one from the front stays
+  abbrev pub IndicesGiveBack : CharIndices C g → Option (ℕ × ℕ) → CharIndices C g → Type 0
+  IndicesGiveBack s r t = YieldsLast (indices_left g.form g.number) s r t × (offset_of t ≡ offset_of s)
+
+  -- what calls from the back give, one after another, are those characters, the last one first
+  abbrev pub IndicesRunBack : CharIndices C g → Type 0
+  IndicesRunBack _ = YieldsInReverse IndicesGiveBack (indices_left g.form g.number)

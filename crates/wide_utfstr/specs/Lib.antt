@@ -3,5 +3,6 @@ pub mod Boundaries
 pub mod Trim
 pub mod Indexed
 pub mod Iter
+pub mod Split
 pub mod Hand
 pub mod Escapes

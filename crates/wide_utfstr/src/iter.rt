@@ -175,9 +175,9 @@ impl<C: Unit> Iterator for CharIndices<'_, C> {
 }
 
 impl<C: Unit> DoubleEndedIterator for CharIndices<'_, C> {
-    ghost use Rattle.wide_utfstr.specs.Iter.{indices_left, offset_of};
+    ghost use Rattle.wide_utfstr.specs.Iter.{IndicesGiveBack};
 
-    ghost next_back_gives = { λ s r t. YieldsLast (indices_left C.form C.number) s r t × (offset_of t ≡ offset_of s) };
+    ghost next_back_gives = { IndicesGiveBack };
 
     #[inline]
     fn next_back(&mut self) -> Option<(usize, char)> {

@@ -1,6 +1,8 @@
 //! The lines of well-formed text.
-ghost use Rattle.std.specs.Prelude.{◌≡◌, length, map};
+ghost use Rattle.std.specs.Prelude.{◌≡◌, ◌<◌, ◌≤◌, ◌^◌, length, map};
+ghost use Rattle.std.specs.List.{All};
 ghost use Rattle.wide_unit.specs.Items.{items};
+ghost use Rattle.wide_unit.specs.Places.{IsCharBoundary};
 ghost use Rattle.wide_unit.specs.Lines.{lines_of, placed_lines};
 ghost use Rattle.wide_ustr.specs.LineIndices.{placed_left};
 ghost use Rattle.wide_ustr.specs.Lines.{lines_left};
@@ -35,15 +37,24 @@ impl<C: Unit> UtfStr<'_, C> {
     /// belongs to no line; a line that one ended loses one carriage return (U+000D) at its end, and the last piece is no line
     /// where it is empty.
     pub fn lines(self) -> Lines<Self>
-        ensures { lines_left (items_seen C.form C.number) result ≡ lines_of (items C.form (map C.number (units_seen self.entry))) }
+        ensures lines { lines_left (items_seen C.form C.number) result ≡ lines_of (items C.form (map C.number (units_seen self.entry))) }
+        ensures most { length (lines_left (items_seen C.form C.number) result) ≤ length (units_seen self.entry) }
+        ensures fits { length (lines_left (items_seen C.form C.number) result) < 2 ^ 64 }
     {
+        // A call for its contract: a length is below 2 ^ 64, so that lines can be counted.
+        let _units = self.len();
         Lines::new(self)
     }
 
     /// The lines, as [`UtfStr::lines`] has them, each with the place, in units, at which it begins in the text.
     pub fn line_indices(self) -> LineIndices<Self>
-        ensures { placed_left result ≡ placed_lines C.form 0 (items C.form (map C.number (units_seen self.entry))) }
+        ensures lines { placed_left result ≡ placed_lines C.form 0 (items C.form (map C.number (units_seen self.entry))) }
+        ensures boundaries { All (λ line. IsCharBoundary C.form (map C.number (units_seen self.entry)) line.0) (placed_left result) }
+        ensures most { length (placed_left result) ≤ length (units_seen self.entry) }
+        ensures fits { length (placed_left result) < 2 ^ 64 }
     {
+        // A call for its contract: a length is below 2 ^ 64, so that lines can be counted.
+        let _units = self.len();
         LineIndices::new(self)
     }
 }

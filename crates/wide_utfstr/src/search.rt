@@ -1,14 +1,15 @@
 //! Searches in well-formed text.
-ghost use Rattle.std.specs.Prelude.{◌≡◌, ◌↔◌, ◌+◌, ◌++◌, ◌∷◌, [], ◌≤◌, ◌<◌, length, map, IsTrue, IsSome, IfNone, IfSome};
+ghost use Rattle.std.specs.Prelude.{◌≡◌, ◌↔◌, ◌+◌, ◌++◌, ◌∷◌, [], ◌≤◌, ◌<◌, ◌^◌, length, map, IsTrue, IsSome, IfNone, IfSome};
 ghost use Rattle.wide_unit.specs.EncodingForm.{code_units};
 ghost use Rattle.wide_search.specs.Parts.{StandsIn, IsFirstAt, IsLastAt, StandsNowhere, BeginsWith, EndsWith, IsFirstSplit, IsLastSplit};
 ghost use Rattle.wide_unit.specs.Places.{IsCharBoundary};
 ghost use Rattle.wide_search.specs.Cut.{pieces};
 ghost use Rattle.wide_search.specs.Pieces.{ArePieces};
-ghost use Rattle.wide_ustr.specs.Split.{pieces_left};
 ghost use Rattle.wide_utfstr.specs.View.{units_seen, numbers_seen};
+ghost use Rattle.wide_utfstr.specs.Split.{text_pieces_left, char_pieces_left};
 
 use crate::view::UtfStr;
+use wide_blocks::byte_len;
 use wide_unit::Unit;
 use wide_ustr::{Split, SplitView};
 
@@ -138,18 +139,26 @@ impl<C: Unit> UtfStr<'_, C> {
     /// that places never overlap. Where it stands at the start, at the end or one behind another, the piece there is empty; where it
     /// stands nowhere, and where the other view is empty, the whole text is the only piece.
     pub fn split<'p>(self, part: UtfStr<'p, C>) -> Split<Self, UtfStr<'p, C>>
-        ensures left { pieces_left (numbers_seen C.number) (numbers_seen C.number) result ≡ pieces (map C.number (units_seen part.entry)) (map C.number (units_seen self.entry)) }
-        ensures cut { 0 < length (units_seen part.entry) → ArePieces (map C.number (units_seen part.entry)) (map C.number (units_seen self.entry)) (pieces_left (numbers_seen C.number) (numbers_seen C.number) result) }
-        ensures empty { length (units_seen part.entry) ≡ 0 → pieces_left (numbers_seen C.number) (numbers_seen C.number) result ≡ map C.number (units_seen self.entry) ∷ [] }
+        ensures left { text_pieces_left C.number result ≡ pieces (numbers_seen C.number part.entry) (numbers_seen C.number self.entry) }
+        ensures cut { 0 < length (units_seen part.entry) → ArePieces (numbers_seen C.number part.entry) (numbers_seen C.number self.entry) (text_pieces_left C.number result) }
+        ensures empty { length (units_seen part.entry) ≡ 0 → text_pieces_left C.number result ≡ numbers_seen C.number self.entry ∷ [] }
+        ensures most { length (text_pieces_left C.number result) ≤ length (units_seen self.entry) + 1 }
+        ensures fits { length (text_pieces_left C.number result) < 2 ^ 64 }
     {
+        // A call for its contract: there are so few units that one more piece can be counted.
+        let _bytes = byte_len(self.as_slice());
         Split::new(self, part)
     }
 
     /// The pieces between the places of the character, as [`UtfStr::split`] has them between those of a view.
     pub fn split_char(self, c: char) -> Split<Self, char>
-        ensures left { pieces_left (numbers_seen C.number) (code_units C.form) result ≡ pieces (code_units C.form c) (map C.number (units_seen self.entry)) }
-        ensures cut { ArePieces (code_units C.form c) (map C.number (units_seen self.entry)) (pieces_left (numbers_seen C.number) (code_units C.form) result) }
+        ensures left { char_pieces_left C.form C.number result ≡ pieces (code_units C.form c) (numbers_seen C.number self.entry) }
+        ensures cut { ArePieces (code_units C.form c) (numbers_seen C.number self.entry) (char_pieces_left C.form C.number result) }
+        ensures most { length (char_pieces_left C.form C.number result) ≤ length (units_seen self.entry) + 1 }
+        ensures fits { length (char_pieces_left C.form C.number result) < 2 ^ 64 }
     {
+        // A call for its contract: there are so few units that one more piece can be counted.
+        let _bytes = byte_len(self.as_slice());
         Split::new(self, c)
     }
 }

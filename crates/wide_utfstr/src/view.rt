@@ -50,7 +50,7 @@ pub type WideUtfStr<'a> = Utf32Str<'a>;
 
 impl<'a, C: Unit> UtfStr<'a, C> {
     ghost use Rattle.wide_utfstr.specs.View.{units_seen, text_seen};
-    ghost use Rattle.wide_utfstr.specs.Iter.{chars_left, chars_rest, indices_left, offset_of, IndicesRun};
+    ghost use Rattle.wide_utfstr.specs.Iter.{chars_left, chars_rest, indices_left, offset_of, IndicesRun, IndicesRunBack};
     ghost use Rattle.wide_utfstr.specs.Indexed.{indexed_chars};
 
     /// A view of the units, which must be well formed. No check is made.
@@ -197,6 +197,7 @@ impl<'a, C: Unit> UtfStr<'a, C> {
         ensures offset { offset_of result ≡ 0 }
         ensures boundaries { All (λ at. IsCharBoundary C.form (map C.number (units_seen self.entry)) at.0) (indices_left C.form C.number result) }
         ensures runs { IndicesRun result }
+        ensures runs_back { IndicesRunBack result }
     {
         CharIndices::new(self)
     }

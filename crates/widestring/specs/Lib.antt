@@ -61,6 +61,7 @@ pub use Rattle.wide_ucstring.specs.Made
 pub use Rattle.wide_ucstring.specs.Refused
 pub use Rattle.wide_utfstr.specs.View
 pub use Rattle.wide_utfstr.specs.Iter
+pub use Rattle.wide_utfstr.specs.Split as TextSplit
 pub use Rattle.wide_utfstr.specs.Boundaries
 pub use Rattle.wide_utfstr.specs.Indexed
 pub use Rattle.wide_utfstr.specs.Trim

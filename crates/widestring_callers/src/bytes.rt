@@ -22,3 +22,13 @@ pub fn store_big(units: U32Str<'_>, room: &mut [u8]) -> Option<usize>
     }
     Some(units.put_be_bytes(room))
 }
+
+/// The bytes of a file in UTF-16LE, with its mark; none where the room is too small.
+pub fn store_file(units: U16Str<'_>, room: &mut [u8]) -> Option<usize>
+    ensures { IfSome result (λ len. len ≤ length room.old) }
+{
+    if room.len() / 2 <= units.len() {
+        return None;
+    }
+    Some(units.put_le_bytes_with_mark(room))
+}

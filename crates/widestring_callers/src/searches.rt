@@ -144,6 +144,75 @@ pub fn line_of(text: Utf16Str<'_>, mark: Utf16Str<'_>) -> Option<usize> {
     None
 }
 
+/// The number of the first line that is the mark, counted from 0.
+pub fn number_of_line(text: Utf16Str<'_>, mark: Utf16Str<'_>) -> Option<usize> {
+    for (number, line) in text.lines().enumerate() {
+        if line == mark {
+            return Some(number);
+        }
+    }
+    None
+}
+
+/// The same of any units.
+pub fn number_of_any_line(units: U16Str<'_>, mark: U16Str<'_>) -> Option<usize> {
+    for (number, line) in units.lines_lossy().enumerate() {
+        if line == mark {
+            return Some(number);
+        }
+    }
+    None
+}
+
+/// The number of the first field of a row that is the mark.
+pub fn number_of_field(row: Utf16Str<'_>, mark: Utf16Str<'_>) -> Option<usize> {
+    for (number, field) in row.split_char(',').enumerate() {
+        if field == mark {
+            return Some(number);
+        }
+    }
+    None
+}
+
+/// The same of any units, at a part of any length.
+pub fn number_of_any_field(
+    row: U16Str<'_>,
+    part: U16Str<'_>,
+    mark: U16Str<'_>,
+) -> Option<usize> {
+    for (number, field) in row.split(part).enumerate() {
+        if field == mark {
+            return Some(number);
+        }
+    }
+    None
+}
+
+/// The text before the first line that is the mark, and from that line on.
+pub fn parted_at_line<'a>(
+    text: Utf16Str<'a>,
+    mark: Utf16Str<'_>,
+) -> Option<(Utf16Str<'a>, Utf16Str<'a>)> {
+    for (place, line) in text.line_indices() {
+        if line == mark {
+            return Some(text.split_at(place));
+        }
+    }
+    None
+}
+
+/// Puts a character before the last one that is `mark`.
+pub fn insert_before_last(
+    text: &mut Utf16String,
+    mark: char,
+    c: char,
+) -> Result<(), OutOfMemory> {
+    match text.as_utfstr().char_indices().rfind(|at| at.1 == mark) {
+        Some((at, _)) => text.insert(at, c),
+        None => Ok(()),
+    }
+}
+
 /// Puts a character before the last one that is `mark`, whose place a loop remembers: that it is a boundary is asked once behind the loop.
 pub fn insert_before_remembered(
     text: &mut Utf16String,

@@ -2,6 +2,7 @@
 use crate::rows::all_hold;
 use std::alloc::{AllocError, Global};
 use std::fmt::Display;
+use std::io;
 use widestring::error::{
     ContainsNul, DecodeUtf16Error, DecodeUtf32Error, OutOfMemory, TranscodeError, UCStringError,
 };
@@ -86,6 +87,7 @@ fn conversions(rt: HostRuntime) {
     let rows = [
         refused() == Err(OutOfMemory),
         refused_in_a_run() == Err(TranscodeError::OutOfMemory),
+        io::Error::from(OutOfMemory).kind() == io::ErrorKind::OutOfMemory,
     ];
     all_hold(&rt, &rows);
 }

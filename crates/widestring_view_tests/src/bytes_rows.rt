@@ -1,5 +1,5 @@
 //! Units as bytes, in either order, behind a byte order mark or not, made and in a buffer.
-ghost use Rattle.std.specs.Prelude.{◌*◌, ◌≤◌, length};
+ghost use Rattle.std.specs.Prelude.{◌*◌, ◌+◌, ◌≤◌, length};
 ghost use Rattle.widestring.specs.UnitBytes.{unit_width};
 
 use crate::rows::all_hold;
@@ -20,35 +20,43 @@ fn is_made(made: Result<Vec<u8>, OutOfMemory>, mark: &[u8], bytes: &[u8]) -> boo
     }
 }
 
-// Whether a buffer begins with these bytes, and is as it was behind them.
-fn is_put(buffer: &[u8], count: usize, bytes: &[u8]) -> bool
+// Whether a buffer begins with these bytes behind that mark, and is as it was behind them.
+fn is_put(buffer: &[u8], count: usize, mark: &[u8], bytes: &[u8]) -> bool
     requires { count ≤ length buffer.now }
 {
-    &buffer[..count] == bytes && buffer[count..].iter().all(|byte| *byte == 0xaa)
+    let (front, behind) = buffer.split_at(count);
+    let long = count == mark.len() + bytes.len();
+    long && front.starts_with(mark)
+        && front.ends_with(bytes)
+        && behind.iter().all(|byte| *byte == 0xaa)
 }
 
 // Whether the bytes of units are these, the low one of each first, behind this mark or none.
 fn are_little<C: Unit>(alloc: Global, units: &[C], mark: &[u8], bytes: &[u8]) -> bool
-    requires { unit_width C.form * length units.now ≤ 400 }
+    requires { unit_width C.form * (length units.now + 1) ≤ 404 }
 {
     let view = UStr::from_slice(units);
-    let mut buffer = [0xaa; 400];
-    let count = view.put_le_bytes(&mut buffer);
+    let (mut plain, mut marked) = ([0xaa; 404], [0xaa; 404]);
+    let count = view.put_le_bytes(&mut plain);
+    let count_marked = view.put_le_bytes_with_mark(&mut marked);
     is_made(view.to_le_bytes(alloc), &[], bytes)
         && is_made(view.to_le_bytes_with_mark(alloc), mark, bytes)
-        && is_put(&buffer, count, bytes)
+        && is_put(&plain, count, &[], bytes)
+        && is_put(&marked, count_marked, mark, bytes)
 }
 
 // The same with the high byte of each first.
 fn are_big<C: Unit>(alloc: Global, units: &[C], mark: &[u8], bytes: &[u8]) -> bool
-    requires { unit_width C.form * length units.now ≤ 400 }
+    requires { unit_width C.form * (length units.now + 1) ≤ 404 }
 {
     let view = UStr::from_slice(units);
-    let mut buffer = [0xaa; 400];
-    let count = view.put_be_bytes(&mut buffer);
+    let (mut plain, mut marked) = ([0xaa; 404], [0xaa; 404]);
+    let count = view.put_be_bytes(&mut plain);
+    let count_marked = view.put_be_bytes_with_mark(&mut marked);
     is_made(view.to_be_bytes(alloc), &[], bytes)
         && is_made(view.to_be_bytes_with_mark(alloc), mark, bytes)
-        && is_put(&buffer, count, bytes)
+        && is_put(&plain, count, &[], bytes)
+        && is_put(&marked, count_marked, mark, bytes)
 }
 
 fn has_bytes_16(alloc: Global, units: &[u16], little: &[u8], big: &[u8]) -> bool

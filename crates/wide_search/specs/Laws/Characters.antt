@@ -11,7 +11,7 @@ use Rattle.wide_unit.specs.Laws.Ends.{items-append_left}
 use Rattle.wide_unit.specs.Laws.Encodings.{encode-drop, places-grow}
 use Rattle.wide_unit.specs.Laws.Places.{IsBoundary-within, IsPlaceOf-boundary, IsPlaceOf-front, chars_before-within, encode-chars}
 use Rattle.wide_unit.specs.Laws.Policies.{characters-append}
-use Rattle.wide_search.specs.Parts.{StandsAt, IsFirstAt}
+use Rattle.wide_search.specs.Parts.{StandsAt, IsFirstAt, IsLastAt}
 
 -- a list that begins with a part, behind a place
 stands-of_rest : {A : Type 0} (part whole rest : List A) (at : ℕ) → at ≤ length whole → drop at whole ≡ part ++ rest → StandsAt part whole at
@@ -75,4 +75,21 @@ module _ (form : EncodingForm) (part us : List ℕ) (well_part : IsWellFormed fo
     first-chars some first = record {
       here = stands-chars at boundary first.here;
       before = λ n less stands. first.before (length (encode form (take n (chars form us)))) (earlier-below n less) (stands-encoded n stands);
+    }
+
+    -- a later character begins at a later place
+    later-above : (n : ℕ) → before at boundary < n → n ≤ length (chars form us) → at < length (encode form (take n (chars form us)))
+    later-above n more within =
+        let cs = chars form us in
+        let grows = places-grow form cs (before at boundary) n (omega (arith, more)) in
+        elim (cases_eq at (length (encode form (take n cs)))) [
+          | inl same ↦ (let here : IsPlaceOf form us n at = subst (λ k. IsPlaceOf form us n k) (sym same) (IsPlaceOf-front form us well n) in
+              absurd (omega (arith, more, within, ap length here.front, length-take n cs)))
+          | inr other ↦ below-of_other at (length (encode form (take n cs))) (subst (λ k. k ≤ length (encode form (take n cs))) place-is grows) other
+        ]
+
+    pub last-chars : IsLastAt part us at → IsLastAt (chars form part) (chars form us) (before at boundary)
+    last-chars last = record {
+      here = stands-chars at boundary last.here;
+      behind = λ n more stands. last.behind (length (encode form (take n (chars form us)))) (later-above n more (omega (arith, stands.within))) (stands-encoded n stands);
     }

@@ -1,5 +1,5 @@
 -- The pieces by the first place of the part.
-use Rattle.std.proofs.Common.{◌≡◌, ℕ, ◌+◌, ◌<◌, List, [], ◌∷◌, ◌++◌, refl, sym, ◌∙◌, ap, subst, arith, length, length-append, take, drop, append_assoc}
+use Rattle.std.proofs.Common.{◌≡◌, ℕ, ◌+◌, ◌<◌, ◌≤◌, List, [], ◌∷◌, ◌++◌, refl, sym, ◌∙◌, ap, subst, arith, length, length-append, length-drop, take, drop, append_assoc}
 use Rattle.std.specs.Prelude.{map}
 use Rattle.std.proofs.lemmas.List.{length-map, map-append, take-map, drop-map, length-take-le}
 use Rattle.std.proofs.Math.Seq.{take-append_seam, drop-append_seam}
@@ -60,3 +60,15 @@ split-at number part us front rest at n count first is_front is_rest =
       joined = parted part (map number us) at first.here ∙ ap (λ xs. xs ++ (part ++ drop (at + length part) (map number us))) before ∙ ap (λ xs. map number front ++ (part ++ xs)) behind;
       first = subst (λ k. IsFirstAt part (map number us) k) long first;
     }
+
+-- there is at most one piece more than there are units
+are-at_most : (part whole : List ℕ) (ps : List (List ℕ)) → 0 < length part → ArePieces part whole ps → length ps ≤ length whole + 1
+are-at_most part whole [] some are = absurd are
+are-at_most part whole (p ∷ []) some are = omega arith
+are-at_most part whole (p ∷ q ∷ ps) some are =
+    let n = length p + length part in
+    omega (arith, some, are.0.here.within, length-drop n whole, are-at_most part (drop n whole) (q ∷ ps) some are.2)
+
+pub pieces-at_most : (part whole : List ℕ) → length (pieces part whole) ≤ length whole + 1
+pieces-at_most [] whole = omega (arith, ap length (pieces-whole whole))
+pieces-at_most (p ∷ part) whole = are-at_most (p ∷ part) whole (pieces (p ∷ part) whole) (omega arith) (pieces-are (p ∷ part) whole (omega arith))

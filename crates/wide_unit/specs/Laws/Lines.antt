@@ -45,7 +45,7 @@ cond-some : (b : Bool) (xs ys : List (List Item)) → (xs ≡ [] → ⊥) → (y
 cond-some true xs ys some other e = some e
 cond-some false xs ys some other e = other e
 
-pieces-some : (is : List Item) → slice_split is_line_feed is ≡ [] → ⊥
+pub pieces-some : (is : List Item) → slice_split is_line_feed is ≡ [] → ⊥
 pieces-some [] e = cc
 pieces-some (i ∷ is) e = cond-some (is_line_feed i) ([] ∷ slice_split is_line_feed is) (onto_first i (slice_split is_line_feed is)) (λ f. cc) (onto-some i (slice_split is_line_feed is)) e
 
@@ -86,7 +86,7 @@ without-none (Fault u ∷ []) other = refl
 without-none (i ∷ j ∷ is) other = ap (λ js. i ∷ js) (without-none (j ∷ is) (λ front e. other (i ∷ front) (ap (λ js. i ∷ js) e)))
 
 -- A line feed in a list of units is an item of its own.
-one_feed : (form : EncodingForm) → code_units form line_feed ≡ line_feed ∷ []
+pub one_feed : (form : EncodingForm) → code_units form line_feed ≡ line_feed ∷ []
 one_feed Utf16 = refl
 one_feed Utf32 = refl
 

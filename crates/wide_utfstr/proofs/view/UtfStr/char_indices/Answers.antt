@@ -1,6 +1,6 @@
 use Rattle.std.proofs.Common.{[], ap, map, refl}
 use Rattle.wide_unit.specs.Items.{chars}
-use Rattle.wide_utfstr.proofs.Indices.{boundaries_from, indices_in_order}
+use Rattle.wide_utfstr.proofs.Indices.{boundaries_from, indices_in_order, indices_in_reverse}
 use Rattle.wide_utfstr.proofs.view.UtfStr.char_indices.Goals as goal
 
 pub returns-clause-boundaries : goal.returns-clause-boundaries
@@ -12,3 +12,6 @@ returns-clause-boundaries g c =
 
 pub returns-clause-runs : goal.returns-clause-runs
 returns-clause-runs g c = indices_in_order
+
+pub returns-clause-runs_back : goal.returns-clause-runs_back
+returns-clause-runs_back g c = indices_in_reverse

@@ -1,8 +1,10 @@
-use Rattle.std.proofs.Common.{sym, ◌∙◌, subst}
+use Rattle.std.proofs.Common.{◌*◌, sym, ◌∙◌, subst, ap, arith, length}
 use Rattle.std.specs.Prelude.{map}
 use Rattle.std.proofs.lemmas.List.{nil_from_length}
 use Rattle.wide_search.specs.Pieces.{ArePieces}
 use Rattle.wide_search.specs.Laws.Cuts.{pieces-cut, pieces-empty}
+use Rattle.wide_blocks.specs.UnitBytes.{unit_width}
+use Rattle.wide_ustr.proofs.PieceCounts.{pieces-most, pieces-fit}
 use Rattle.wide_utfstr.specs.View.{units_seen}
 use Rattle.wide_utfstr.proofs.view.UtfStr.split.Goals as goal
 
@@ -17,3 +19,13 @@ pub returns-clause-empty : goal.returns-clause-empty
 returns-clause-empty g c = λ none.
     let part = units_seen c.args.part in
     c.new.ensures ∙ pieces-empty g.C.Unit.number g.met.C.Unit.same part (units_seen c.args.self) (nil_from_length part none)
+
+pub returns-clause-most : goal.returns-clause-most
+returns-clause-most g c =
+    let number = g.C.Unit.number in
+    omega (arith, ap length c.new.ensures, pieces-most number (map number (units_seen c.args.part)) (units_seen c.args.self))
+
+pub returns-clause-fits : goal.returns-clause-fits
+returns-clause-fits g c =
+    let number = g.C.Unit.number in
+    omega (arith, ap length c.new.ensures, pieces-fit number (map number (units_seen c.args.part)) (units_seen c.args.self) g.C.Unit.form c.byte_len-bytes.result (c.byte_len-bytes.ensures.len ∙ ap (λ us. unit_width g.C.Unit.form * length us) c.as_slice.ensures.units) c.byte_len-bytes.ensures.bound)

@@ -1,0 +1,20 @@
+-- How many pieces of units there are.
+use Rattle.std.proofs.Common.{◌≡◌, ℕ, ◌+◌, ◌*◌, ◌^◌, ◌<◌, ◌≤◌, List, arith, length}
+use Rattle.std.specs.Prelude.{map}
+use Rattle.std.proofs.lemmas.List.{length-map}
+use Rattle.wide_unit.specs.EncodingForm.{EncodingForm, Utf16, Utf32}
+use Rattle.wide_blocks.specs.UnitBytes.{unit_width}
+use Rattle.wide_search.specs.Cut.{pieces}
+use Rattle.wide_search.specs.Laws.Cuts.{pieces-at_most}
+
+few_units : (form : EncodingForm) (n bytes : ℕ) → bytes ≡ unit_width form * n → bytes < 2 ^ 63 → n + 1 < 2 ^ 64
+few_units Utf16 n bytes long bound = omega (arith, long, bound)
+few_units Utf32 n bytes long bound = omega (arith, long, bound)
+
+module _ {C : Type 0} (number : C → ℕ) (part : List ℕ) (us : List C) where
+  pub pieces-most : length (pieces part (map number us)) ≤ length us + 1
+  pieces-most = omega (arith, pieces-at_most part (map number us), length-map us number)
+
+  -- units take memory, so that there are few enough for one piece more to be counted
+  pub pieces-fit : (form : EncodingForm) (bytes : ℕ) → bytes ≡ unit_width form * length us → bytes < 2 ^ 63 → length (pieces part (map number us)) < 2 ^ 64
+  pieces-fit form bytes long bound = omega (arith, pieces-most, few_units form (length us) bytes long bound)

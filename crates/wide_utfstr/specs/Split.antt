@@ -1,0 +1,17 @@
+-- What an iterator over the pieces of well-formed text has left.
+use Rattle.std.specs.Prelude.{ℕ, List}
+use Rattle.wide_unit.specs.EncodingForm.{EncodingForm, code_units}
+use Rattle.wide_unit.specs.declared.unit.Unit.{Ghosts}
+use Rattle.wide_ustr.specs.Split.{pieces_left}
+use Rattle.wide_ustr.specs.declared.split.Split.{Split}
+use Rattle.wide_utfstr.specs.View.{numbers_seen}
+use Rattle.wide_utfstr.specs.declared.view.UtfStr.{UtfStr}
+
+module _ {C : Type 0} {g : Ghosts C} where
+  -- of text that is cut at text
+  abbrev pub text_pieces_left : (C → ℕ) → Split (UtfStr C g) (UtfStr C g) → List (List ℕ)
+  text_pieces_left number s = pieces_left (numbers_seen number) (numbers_seen number) s
+
+  -- of text that is cut at a character
+  abbrev pub char_pieces_left : EncodingForm → (C → ℕ) → Split (UtfStr C g) ℕ → List (List ℕ)
+  char_pieces_left form number s = pieces_left (numbers_seen number) (code_units form) s
