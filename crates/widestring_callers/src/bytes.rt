@@ -32,3 +32,13 @@ pub fn store_file(units: U16Str<'_>, room: &mut [u8]) -> Option<usize>
     }
     Some(units.put_le_bytes_with_mark(room))
 }
+
+/// The same in UTF-32BE.
+pub fn store_file_big(units: U32Str<'_>, room: &mut [u8]) -> Option<usize>
+    ensures { IfSome result (λ len. len ≤ length room.old) }
+{
+    if room.len() / 4 <= units.len() {
+        return None;
+    }
+    Some(units.put_be_bytes_with_mark(room))
+}
