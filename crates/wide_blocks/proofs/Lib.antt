@@ -1,6 +1,8 @@
 pub mod CodeLanes
 pub mod EncodedFronts
 pub mod KeptLanes
+pub mod FrontLanes
+pub mod HalfTexts
 pub mod Lanes
 pub mod MixedFronts
 pub mod Rows
@@ -12,6 +14,7 @@ pub mod StoredBytes
 pub mod Stores
 pub mod Tables
 pub mod UnitEncodings
+pub mod Tops
 pub mod Utf8Lengths
 pub mod Utf8Texts
 pub mod ValidFronts

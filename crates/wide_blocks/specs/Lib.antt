@@ -1,4 +1,5 @@
 pub mod Encoded
+pub mod Halves
 pub mod Mixed
 pub mod Narrow
 pub mod Scalars

@@ -3,6 +3,7 @@
 
 mod blocks;
 mod fronts;
+mod halves;
 mod items;
 mod kept;
 mod lengths;

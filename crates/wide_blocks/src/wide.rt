@@ -1,11 +1,11 @@
 //! The text of units that are characters, of one to three bytes, by shuffles.
 
 ghost use Rattle.std.specs.Prelude.{◌≡◌, ◌+◌, ◌*◌, ◌/◌, ◌%◌, ◌≤◌, ◌<◌, ◌++◌, ℕ, Bool, slice_index, length, take};
-ghost use Rattle.wide_blocks.specs.Encoded.{EncodedUnits, IsFront};
+ghost use Rattle.wide_blocks.specs.Encoded.{EncodedUnits};
 ghost use Rattle.wide_blocks.specs.Narrow.{below_number, number_of};
-ghost use Rattle.wide_blocks.specs.Wide.{HoldsWord, Size, kept_bytes, row_of, ternary_of};
+ghost use Rattle.wide_blocks.specs.Wide.{HoldsWord, Size, kept_bytes, laid, row_of, ternary_of};
 
-use crate::fronts::{bits_below, fronts_of};
+use crate::fronts::{back_lanes, front_lanes, lanes_below};
 use std::simd::prelude::*;
 
 // By how many bytes each of four units has, in base three from the lowest digit on, where two is one byte, one two bytes and zero three
@@ -131,68 +131,43 @@ fn put_row(words: u8x16, row: usize, out: &mut [u8], at: usize) -> usize
 
 // The bytes of the fronts and backs of eight units, four and four.
 #[inline(always)]
-fn words_of(fronts: &[u16], backs: &[u16]) -> (u8x16, u8x16)
-    requires long { length fronts.now ≡ 8 }
-    requires long_backs { length backs.now ≡ 8 }
-    ensures low { (k : ℕ) → k < 4 → HoldsWord result.0 (4 * k) (slice_index fronts.now k) (slice_index backs.now k) }
-    ensures high { (k : ℕ) → k < 4 → HoldsWord result.1 (4 * k) (slice_index fronts.now (k + 4)) (slice_index backs.now (k + 4)) }
+fn words_of(fronts: u16x8, backs: u16x8) -> (u8x16, u8x16)
+    ensures low { (k : ℕ) → k < 4 → HoldsWord result.0 (4 * k) (slice_index fronts k) (slice_index backs k) }
+    ensures high { (k : ℕ) → k < 4 → HoldsWord result.1 (4 * k) (slice_index fronts (k + 4)) (slice_index backs (k + 4)) }
 {
-    let (fronts, backs) = (u16x8::from_slice(fronts), u16x8::from_slice(backs));
     let low = fronts.shuffle(backs, [0, 8, 1, 9, 2, 10, 3, 11]);
     let high = fronts.shuffle(backs, [4, 12, 5, 13, 6, 14, 7, 15]);
     (low.to_le_bytes(), high.to_le_bytes())
 }
 
-// The third byte of each three-byte character.
+/// Writes the first bytes of eight fronts and backs, for each as many as the text of its key has, and answers the place behind them. Up to
+/// twelve bytes behind it are overwritten.
 #[inline(always)]
-fn backs_of(units: &[u16], backs: &mut [u16])
-    requires whole { 16 ≤ length units.now }
-    requires room { length backs.old ≡ 16 }
-    ensures { (k : ℕ) → k < 16 → slice_index backs.new k ≡ 0x80 + slice_index units.now k % 0x40 }
-{
-    for k in 0..16 {
-        backs[k] = 0x80 + units[k] % 0x40;
-    }
-}
-
-// The bytes of sixteen units without surrogates, two and two. Not inlined, so that they are computed as vectors.
-#[inline(never)]
-fn halves_of(units: &[u16], fronts: &mut [u16], backs: &mut [u16])
-    requires whole { length units.now ≡ 16 }
-    requires front_room { length fronts.old ≡ 16 }
-    requires back_room { length backs.old ≡ 16 }
-    ensures long { length fronts.new ≡ 16 }
-    ensures long_backs { length backs.new ≡ 16 }
-    ensures fronts { (k : ℕ) → k < 16 → IsFront (slice_index units.now k) (slice_index fronts.new k) }
-    ensures backs { (k : ℕ) → k < 16 → slice_index backs.new k ≡ 0x80 + slice_index units.now k % 0x40 }
-{
-    // A loop over an array of known length is compiled without branches.
-    let mut own = [0u16; 16];
-    own.copy_from_slice(units);
-    fronts_of(&own, fronts);
-    backs_of(&own, backs);
-}
-
-// Writes the text of eight units by their fronts and backs, and answers the place behind it. Up to twelve bytes behind it are overwritten.
-#[inline(always)]
-fn put_eight_words(units: &[u16], fronts: &[u16], backs: &[u16], out: &mut [u8], at: usize) -> usize
-    requires whole { length units.now ≡ 8 }
-    requires long { length fronts.now ≡ 8 }
-    requires long_backs { length backs.now ≡ 8 }
+pub(crate) fn put_laid(keys: u16x8, fronts: u16x8, backs: u16x8, out: &mut [u8], at: usize) -> usize
     requires room { at + 28 ≤ length out.old }
-    requires plain { (k : ℕ) → k < 8 → 0xd800 ≤ slice_index units.now k → 0xe000 ≤ slice_index units.now k }
-    requires fronts { (k : ℕ) → k < 8 → IsFront (slice_index units.now k) (slice_index fronts.now k) }
-    requires backs { (k : ℕ) → k < 8 → slice_index backs.now k ≡ 0x80 + slice_index units.now k % 0x40 }
-    ensures text { EncodedUnits units.now (take at out.old) (take result out.new) }
+    ensures text { take result out.new ≡ take at out.old ++ laid keys fronts backs }
     ensures high { result ≤ at + 24 }
 {
-    let ascii = bits_below(units, 0x80) as usize;
-    let narrow = bits_below(units, 0x800) as usize;
+    let ascii = lanes_below(keys, 0x80) as usize;
+    let narrow = lanes_below(keys, 0x800) as usize;
     let first = row_of(ascii % 16, narrow % 16);
     let second = row_of(ascii / 16, narrow / 16);
     let (low, high) = words_of(fronts, backs);
     let half = put_row(low, first, out, at);
     put_row(high, second, out, half)
+}
+
+// Writes the text of eight units, and answers the place behind it. Up to twelve bytes behind it are overwritten.
+#[inline(always)]
+fn put_eight_words(units: &[u16], out: &mut [u8], at: usize) -> usize
+    requires whole { length units.now ≡ 8 }
+    requires room { at + 28 ≤ length out.old }
+    requires plain { (k : ℕ) → k < 8 → 0xd800 ≤ slice_index units.now k → 0xe000 ≤ slice_index units.now k }
+    ensures text { EncodedUnits units.now (take at out.old) (take result out.new) }
+    ensures high { result ≤ at + 24 }
+{
+    let lanes = u16x8::from_slice(units);
+    put_laid(lanes, front_lanes(lanes), back_lanes(lanes), out, at)
 }
 
 /// Writes the text of sixteen units without surrogates, and answers the place behind it. Up to twelve bytes behind it are overwritten.
@@ -204,9 +179,6 @@ pub(crate) fn put_wide(block: &[u16], out: &mut [u8], at: usize) -> usize
     ensures text { EncodedUnits block.now (take at out.old) (take result out.new) }
     ensures high { result ≤ at + 48 }
 {
-    let mut fronts = [0u16; 16];
-    let mut backs = [0u16; 16];
-    halves_of(block, &mut fronts, &mut backs);
-    let half = put_eight_words(&block[..8], &fronts[..8], &backs[..8], out, at);
-    put_eight_words(&block[8..16], &fronts[8..16], &backs[8..16], out, half)
+    let half = put_eight_words(&block[..8], out, at);
+    put_eight_words(&block[8..16], out, half)
 }
