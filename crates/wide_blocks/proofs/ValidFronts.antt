@@ -125,6 +125,10 @@ AllFollow bs n = Followed 0 0 0 bs n
 abbrev pub BlockFollows : List ℕ → Type 0
 BlockFollows block = (k : ℕ) → k < 64 → CanFollow (get_or block k 0) (get_or block (k + 1) 0) (get_or block (k + 2) 0) (get_or block (k + 3) 0)
 
+-- the same of the first bytes behind three others
+abbrev pub Following : ℕ → List ℕ → Type 0
+Following n bs = (k : ℕ) → k < n → CanFollow (get_or bs k 0) (get_or bs (k + 1) 0) (get_or bs (k + 2) 0) (get_or bs (k + 3) 0)
+
 -- the same by equal bytes
 follow_as : (a b c d x y z w : ℕ) → a ≡ x → b ≡ y → c ≡ z → d ≡ w → CanFollow a b c d → CanFollow x y z w
 follow_as a b c d x y z w ax by cz dw ok = subst (λ p. CanFollow p y z w) ax (subst (λ p. CanFollow a p z w) by (subst (λ p. CanFollow a b p w) cz (subst (λ p. CanFollow a b c p) dw ok)))
@@ -160,10 +164,10 @@ first_follow bs xs is ok k before = follow_as _ _ _ _ _ _ _ _ (byte k k (omega a
     byte i m few at = same i few ∙ ap (λ j. get_or (0 ∷ 0 ∷ 0 ∷ bs) j 0) (sym at)
 
 -- a block more, read with the three bytes before it
-pub more_follow : (bs : List ℕ) (end n : ℕ) → n ≡ 67 → 3 ≤ end → AllFollow bs end → BlockFollows (take n (drop (end - 3) bs)) → AllFollow bs (end + 64)
-more_follow bs end n whole some before ok k within = elim (cases_lt k end) [ inl early ↦ before k early | inr late ↦ at late ]
+pub more_follow : (bs : List ℕ) (end n more : ℕ) → more + 3 ≤ n → 3 ≤ end → AllFollow bs end → Following more (take n (drop (end - 3) bs)) → AllFollow bs (end + more)
+more_follow bs end n more whole some before ok k within = elim (cases_lt k end) [ inl early ↦ before k early | inr late ↦ at late ]
   where
-    byte : (i m : ℕ) → i < 67 → m ≡ end + i → get_or (take n (drop (end - 3) bs)) i 0 ≡ get_or (0 ∷ 0 ∷ 0 ∷ bs) m 0
+    byte : (i m : ℕ) → i < more + 3 → m ≡ end + i → get_or (take n (drop (end - 3) bs)) i 0 ≡ get_or (0 ∷ 0 ∷ 0 ∷ bs) m 0
     byte i m few is = get_or-take n (drop (end - 3) bs) i 0 (omega (arith, whole, few)) ∙ get_or-drop (end - 3) bs i 0 ∙ sym (past_three bs m (end - 3 + i) (omega arith))
 
     at : end ≤ k → CanFollow (get_or (0 ∷ 0 ∷ 0 ∷ bs) k 0) (get_or (0 ∷ 0 ∷ 0 ∷ bs) (suc k) 0) (get_or (0 ∷ 0 ∷ 0 ∷ bs) (suc (suc k)) 0) (get_or (0 ∷ 0 ∷ 0 ∷ bs) (suc (suc (suc k))) 0)
@@ -187,6 +191,42 @@ whole_front bs end place some within ok (inr cut) =
     let second : get_or zs (suc place) 0 < 0xE0 = elim (cases_lt (get_or zs (suc place) 0) 0xE0) [ inl low ↦ low | inr high ↦ absurd (omega (arith, cut.1, (here.trails (inr (inl high))).1)) ] in
     let first : get_or zs (suc (suc place)) 0 < 0xC0 = elim (cases_lt (get_or zs (suc (suc place)) 0) 0xC0) [ inl low ↦ low | inr high ↦ absurd (omega (arith, cut.1, (here.trails (inr (inr high))).1)) ] in
     front_by place place 0 0 0 bs (omega arith) (omega arith, omega arith, omega arith) (omega (arith, cut.0, within)) (λ k before. ok k (omega (arith, cut.0))) (third, second, first)
+
+-- ASCII stands behind ASCII
+ascii_follows : (a b c d : ℕ) → a < 0x80 → b < 0x80 → c < 0x80 → d < 0x80 → CanFollow a b c d
+ascii_follows a b c d la lb lc ld = record {
+  begins = λ whole. inl ld;
+  trails = λ lead. elim lead [ inl third ↦ absurd (omega arith) | inr more ↦ elim more [ inl second ↦ absurd (omega arith) | inr first ↦ absurd (omega arith) ] ];
+  three = (λ is. absurd (omega arith), λ is. absurd (omega arith));
+  four = (λ is. absurd (omega arith), λ is. absurd (omega arith));
+}
+
+pub more_ascii : (bs : List ℕ) (len n : ℕ) → n ≡ 128 → ((k : ℕ) → k < len → get_or bs k 0 < 0x80) → ((k : ℕ) → k < 128 → get_or (take n (drop len bs)) k 0 < 0x80) → (k : ℕ) → k < len + 128 → get_or bs k 0 < 0x80
+more_ascii bs len n long before here k within = elim (cases_lt k len) [
+  | inl early ↦ before k early
+  | inr late ↦ (
+      let i = k - len in
+      let same : len + i ≡ k = omega arith in
+      subst (λ b. b < 0x80) (get_or-take n (drop len bs) i 0 (omega arith) ∙ get_or-drop len bs i 0 ∙ ap (λ p. get_or bs p 0) same) (here i (omega arith))
+      )
+]
+
+pub ascii_following : (bs : List ℕ) (n m : ℕ) → ((k : ℕ) → k < 67 → get_or (take 67 bs) k 0 < 0x80) → ((k : ℕ) → k < n → get_or (take m (drop 67 bs)) k 0 < 0x80) → n ≤ m → Following (64 + n) bs
+ascii_following bs n m front back short k within = ascii_follows _ _ _ _ (low k (omega arith)) (low (k + 1) (omega arith)) (low (k + 2) (omega arith)) (low (k + 3) (omega arith))
+  where
+    low : (j : ℕ) → j < 67 + n → get_or bs j 0 < 0x80
+    low j inside = elim (cases_lt j 67) [
+      | inl early ↦ subst (λ b. b < 0x80) (get_or-take 67 bs j 0 early) (front j early)
+      | inr late ↦ (
+          let i = j - 67 in
+          let same : 67 + i ≡ j = omega arith in
+          subst (λ b. b < 0x80) (get_or-take m (drop 67 bs) i 0 (omega arith) ∙ get_or-drop 67 bs i 0 ∙ ap (λ p. get_or bs p 0) same) (back i (omega arith))
+          )
+    ]
+
+pub block_following : (bs : List ℕ) → BlockFollows (take 67 bs) → Following 64 bs
+block_following bs ok k within =
+    follow_as _ _ _ _ _ _ _ _ (get_or-take 67 bs k 0 (omega arith)) (get_or-take 67 bs (k + 1) 0 (omega arith)) (get_or-take 67 bs (k + 2) 0 (omega arith)) (get_or-take 67 bs (k + 3) 0 (omega arith)) (ok k within)
 
 -- text behind text
 text_behind : (cs bs rest : List ℕ) → IsUtf8 bs → bs ≡ encode_utf8_all cs ++ rest → IsUtf8 rest

@@ -43,6 +43,32 @@ fn is_ascii(block: &[u8]) -> bool
     bits < 0x80
 }
 
+// Whether all of 128 bytes are ASCII.
+#[inline(always)]
+fn are_ascii(bytes: &[u8]) -> bool
+    requires { length bytes.now ≡ 128 }
+    ensures { IsTrue result → (k : ℕ) → k < 128 → slice_index bytes.now k < 0x80 }
+{
+    let mut bits = 0;
+    for k in 0..128 {
+        bits |= bytes[k];
+    }
+    bits < 0x80
+}
+
+// How many ASCII bytes stand at the front, two blocks at a time, which vectors join with no byte left over.
+#[inline(always)]
+fn ascii_len(text: &[u8]) -> usize
+    ensures within { result ≤ length text.now }
+    ensures ascii { (k : ℕ) → k < result → slice_index text.now k < 0x80 }
+{
+    let mut len = 0;
+    'runs: while text.len() - len >= 128 && are_ascii(&text[len..len + 128]) {
+        len += 128;
+    }
+    len
+}
+
 // Whether each byte of a block, behind three before it, may stand there.
 #[inline(always)]
 fn follow(block: &[u8]) -> bool
@@ -63,6 +89,20 @@ fn is_sound(block: &[u8]) -> bool
     ensures { IsTrue result → (k : ℕ) → k < 64 → CanFollow (slice_index block.now k) (slice_index block.now (k + 1)) (slice_index block.now (k + 2)) (slice_index block.now (k + 3)) }
 {
     is_ascii(block) || follow(block)
+}
+
+// How many bytes behind three others may stand where they do: those of a block, and where these are ASCII, of blocks of ASCII behind it.
+// There are none where one of the first block may not.
+#[inline(always)]
+fn followed_len(text: &[u8]) -> usize
+    requires { 67 ≤ length text.now }
+    ensures within { result + 3 ≤ length text.now }
+    ensures follow { (k : ℕ) → k < result → CanFollow (slice_index text.now k) (slice_index text.now (k + 1)) (slice_index text.now (k + 2)) (slice_index text.now (k + 3)) }
+{
+    if is_ascii(&text[..BLOCK + 3]) {
+        return BLOCK + ascii_len(&text[BLOCK + 3..]);
+    }
+    if follow(&text[..BLOCK + 3]) { BLOCK } else { 0 }
 }
 
 // The place of the last character before another place, where that character isn't whole there, and else that place.
@@ -97,8 +137,12 @@ fn checked_len(text: &[u8]) -> usize
         return 0;
     }
     let mut end = BLOCK;
-    'pieces: while text.len() - end >= BLOCK && is_sound(&text[end - 3..end + BLOCK]) {
-        end += BLOCK;
+    'pieces: while text.len() - end >= BLOCK {
+        let more = followed_len(&text[end - 3..]);
+        if more == 0 {
+            return whole_len(text, end);
+        }
+        end += more;
     }
     whole_len(text, end)
 }
