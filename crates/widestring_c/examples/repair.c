@@ -7,8 +7,7 @@
 
 /* Prints the text of well-formed UTF-16, in a buffer of the length that is needed. */
 static int print_text(const uint16_t *units, size_t length) {
-    uint8_t none[1] = {0};
-    size_t needed = wide_utf16_to_utf8(units, length, none, 0);
+    size_t needed = wide_utf16_to_utf8(units, length, NULL, 0);
     if (needed == WIDE_FAULT)
         return EXIT_FAILURE;
     uint8_t *text = malloc(needed + 1);

@@ -3,8 +3,8 @@
  *
  * Each function is proved to do what is said of it here, for all units, well formed or not, under one trust: a pointer and the
  * length or room behind it are those of memory that may be read, or written where the pointer is not to `const`; the memory is aligned
- * for its type; and no memory that is written overlaps other memory that is handed in. A pointer is never NULL, also where the length
- * behind it is 0. Nothing checks this, and the caller's pointer and length are all that is trusted.
+ * for its type; and no memory that is written overlaps other memory that is handed in. Where the length or room behind a pointer is 0,
+ * the pointer may be NULL. Nothing checks this, and the caller's pointer and length are all that is trusted.
  *
  * Lengths, rooms and places are counted in elements of the array: units, or bytes of UTF-8. No function takes memory, keeps a pointer,
  * stops the program or has a state, so each may be called in any thread.
@@ -19,16 +19,25 @@
 extern "C" {
 #endif
 
+/* The version that this header belongs to; `wide_version` answers that of the library, which is to be the same. */
+#define WIDESTRING_VERSION_MAJOR 0
+#define WIDESTRING_VERSION_MINOR 1
+#define WIDESTRING_VERSION_PATCH 0
+#define WIDESTRING_VERSION "0.1.0"
+
 /* What a conversion answers where what it was handed is not well formed: no length is so great. */
 #define WIDE_FAULT SIZE_MAX
 
 /*
  * What lossy conversions give for what belongs to no character: U+FFFD for each, one U+FFFD for each longest row of neighbours, or
- * nothing. Where a policy is asked for and another number is handed in, the answer is WIDE_FAULT, and the buffer is as it was.
+ * nothing. A policy is handed in as a number of 32 bits, since an enum of C has no certain width. Where it is another number, the answer
+ * is WIDE_FAULT, and the buffer is as it was.
  */
-#define WIDE_EACH UINT32_C(0)
-#define WIDE_RUN UINT32_C(1)
-#define WIDE_SKIP UINT32_C(2)
+enum WideLossy {
+    WIDE_EACH = 0,
+    WIDE_RUN = 1,
+    WIDE_SKIP = 2
+};
 
 /* The place of the first unit that belongs to no character, or `length` where the units are well-formed UTF-16. */
 size_t wide_utf16_first_fault(const uint16_t *units, size_t length);
