@@ -19,11 +19,15 @@
 extern "C" {
 #endif
 
-/* The version that this header belongs to; `wide_version` answers that of the library, which is to be the same. */
+/* The version that this header belongs to, as numbers, as text, and as one number that grows with it. */
 #define WIDESTRING_VERSION_MAJOR 0
 #define WIDESTRING_VERSION_MINOR 1
 #define WIDESTRING_VERSION_PATCH 0
 #define WIDESTRING_VERSION "0.1.0"
+#define WIDESTRING_VERSION_NUMBER UINT32_C(0x000100)
+
+/* WIDESTRING_VERSION_NUMBER of the library that the program runs with. */
+uint32_t wide_version(void);
 
 /* What a conversion answers where what it was handed is not well formed: no length is so great. */
 #define WIDE_FAULT SIZE_MAX
@@ -47,6 +51,29 @@ size_t wide_utf32_first_fault(const uint32_t *units, size_t length);
 
 /* The place of the first byte that belongs to no character, or `length` where the bytes are well-formed UTF-8. */
 size_t wide_utf8_first_fault(const uint8_t *text, size_t length);
+
+/*
+ * How many characters stand before the first unit that belongs to no character, or SIZE_MAX where the units are well formed. A decoder that
+ * gives an item for each character and each fault gives that fault as the item of this number.
+ */
+size_t wide_utf16_first_fault_item(const uint16_t *units, size_t length);
+size_t wide_utf32_first_fault_item(const uint32_t *units, size_t length);
+
+/* How many characters the units or bytes have, or WIDE_FAULT where they are not well formed. */
+size_t wide_utf16_char_count(const uint16_t *units, size_t length);
+size_t wide_utf32_char_count(const uint32_t *units, size_t length);
+size_t wide_utf8_char_count(const uint8_t *text, size_t length);
+
+/*
+ * How long the text of well-formed units or bytes is in another encoding form, in bytes of UTF-8 or units of the other: what the conversion
+ * answers, and quicker from UTF-16 and UTF-32 to UTF-8, and from UTF-8. WIDE_FAULT where they are not well formed.
+ */
+size_t wide_utf16_utf8_length(const uint16_t *units, size_t length);
+size_t wide_utf32_utf8_length(const uint32_t *units, size_t length);
+size_t wide_utf8_utf16_length(const uint8_t *text, size_t length);
+size_t wide_utf8_utf32_length(const uint8_t *text, size_t length);
+size_t wide_utf16_utf32_length(const uint16_t *units, size_t length);
+size_t wide_utf32_utf16_length(const uint32_t *units, size_t length);
 
 /* The place of the first unit that is 0, or `length` where none is. */
 size_t wide_utf16_first_nul(const uint16_t *units, size_t length);

@@ -6,6 +6,9 @@
 
 mod between;
 mod from_utf8;
+mod lengths;
+#[cfg(test)]
+mod lengths_rows;
 mod policies;
 mod repair;
 #[cfg(test)]
@@ -15,6 +18,7 @@ mod search;
 #[cfg(test)]
 mod search_rows;
 mod to_utf8;
+mod version;
 
 pub use between::{wide_utf16_to_utf32, wide_utf32_to_utf16};
 pub use from_utf8::{
@@ -22,12 +26,19 @@ pub use from_utf8::{
     wide_utf8_to_utf16_lossy_with, wide_utf8_to_utf32, wide_utf8_to_utf32_lossy,
     wide_utf8_to_utf32_lossy_with,
 };
+pub use lengths::{
+    wide_utf8_char_count, wide_utf8_utf16_length, wide_utf8_utf32_length, wide_utf16_char_count,
+    wide_utf16_utf8_length, wide_utf16_utf32_length, wide_utf32_char_count, wide_utf32_utf8_length,
+    wide_utf32_utf16_length,
+};
 pub use repair::{wide_utf16_repair, wide_utf32_repair};
 pub use search::{
-    wide_utf16_find, wide_utf16_find_unit, wide_utf16_first_fault, wide_utf16_first_nul,
-    wide_utf32_find, wide_utf32_find_unit, wide_utf32_first_fault, wide_utf32_first_nul,
+    wide_utf16_find, wide_utf16_find_unit, wide_utf16_first_fault, wide_utf16_first_fault_item,
+    wide_utf16_first_nul, wide_utf32_find, wide_utf32_find_unit, wide_utf32_first_fault,
+    wide_utf32_first_fault_item, wide_utf32_first_nul,
 };
 pub use to_utf8::{
     wide_utf16_to_utf8, wide_utf16_to_utf8_lossy, wide_utf16_to_utf8_lossy_with,
     wide_utf32_to_utf8, wide_utf32_to_utf8_lossy, wide_utf32_to_utf8_lossy_with,
 };
+pub use version::wide_version;

@@ -34,6 +34,32 @@ pub extern "C" fn wide_utf32_first_fault(units: &[u32]) -> usize
     }
 }
 
+/// How many characters stand before the first fault of UTF-16 (Unicode Standard, D91), or the greatest number where the units are well
+/// formed.
+#[unsafe(no_mangle)]
+pub extern "C" fn wide_utf16_first_fault_item(units: &[u16]) -> usize
+    ensures well_formed { IsWellFormed Utf16 units.now → result ≡ 2 ^ 64 - 1 }
+    ensures fault { (IsWellFormed Utf16 units.now → ⊥) → (index unit : ℕ) × IsFirstFault Utf16 units.now index result unit }
+{
+    match check(units) {
+        Ok(()) => usize::MAX,
+        Err(fault) => fault.item,
+    }
+}
+
+/// How many characters, each a unit, stand before the first fault of UTF-32 (Unicode Standard, D90), or the greatest number where the
+/// units are well formed.
+#[unsafe(no_mangle)]
+pub extern "C" fn wide_utf32_first_fault_item(units: &[u32]) -> usize
+    ensures well_formed { IsWellFormed Utf32 units.now → result ≡ 2 ^ 64 - 1 }
+    ensures fault { (IsWellFormed Utf32 units.now → ⊥) → (index unit : ℕ) × IsFirstFault Utf32 units.now index result unit }
+{
+    match check(units) {
+        Ok(()) => usize::MAX,
+        Err(fault) => fault.item,
+    }
+}
+
 /// The place of the first NUL, or the length where there is none.
 #[unsafe(no_mangle)]
 pub extern "C" fn wide_utf16_first_nul(units: &[u16]) -> usize

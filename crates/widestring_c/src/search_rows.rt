@@ -1,7 +1,8 @@
 //! Searches, each called once where something is found and once where nothing is.
 use crate::search::{
-    wide_utf16_find, wide_utf16_find_unit, wide_utf16_first_fault, wide_utf16_first_nul,
-    wide_utf32_find, wide_utf32_find_unit, wide_utf32_first_fault, wide_utf32_first_nul,
+    wide_utf16_find, wide_utf16_find_unit, wide_utf16_first_fault, wide_utf16_first_fault_item,
+    wide_utf16_first_nul, wide_utf32_find, wide_utf32_find_unit, wide_utf32_first_fault,
+    wide_utf32_first_fault_item, wide_utf32_first_nul,
 };
 
 #[test]
@@ -15,6 +16,9 @@ fn places(rt: HostRuntime) {
     let rows = [
         wide_utf16_first_fault(&units) == 70,
         wide_utf16_first_fault(&units[..70]) == 70,
+        wide_utf16_first_fault_item(&units) == 70,
+        wide_utf16_first_fault_item(&units[..70]) == usize::MAX,
+        wide_utf16_first_fault_item(&[0xd83d, 0xde00, 0x61, 0xde00]) == 2,
         wide_utf16_first_nul(&units) == 69,
         wide_utf16_first_nul(&units[..69]) == 69,
         wide_utf16_find_unit(&units, 0xd83d) == 70,
@@ -24,6 +28,8 @@ fn places(rt: HostRuntime) {
         wide_utf16_find(&units, &[]) == 0,
         wide_utf32_first_fault(&wide) == 70,
         wide_utf32_first_fault(&wide[..70]) == 70,
+        wide_utf32_first_fault_item(&wide) == 70,
+        wide_utf32_first_fault_item(&wide[..70]) == usize::MAX,
         wide_utf32_first_nul(&wide) == 69,
         wide_utf32_first_nul(&wide[..69]) == 69,
         wide_utf32_find_unit(&wide, 0xd83d) == 70,

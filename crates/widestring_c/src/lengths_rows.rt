@@ -1,0 +1,79 @@
+//! Lengths and counts, of text with characters of each length and of text with a fault behind it.
+use crate::lengths::{
+    wide_utf8_char_count, wide_utf8_utf16_length, wide_utf8_utf32_length, wide_utf16_char_count,
+    wide_utf16_utf8_length, wide_utf16_utf32_length, wide_utf32_char_count, wide_utf32_utf8_length,
+    wide_utf32_utf16_length,
+};
+use crate::version::wide_version;
+
+// A text with characters of each length among letters, and a fault behind it.
+fn units() -> [u16; 80] {
+    let mut units = [0x61; 80];
+    units[70..74].copy_from_slice(&[0xdf, 0x8a9e, 0xd83d, 0xde00]);
+    units[79] = 0xde00;
+    units
+}
+
+fn wide() -> [u32; 79] {
+    let mut wide = [0x61; 79];
+    wide[70..73].copy_from_slice(&[0xdf, 0x8a9e, 0x1_f600]);
+    wide[78] = 0xde00;
+    wide
+}
+
+fn text() -> [u8; 86] {
+    let mut text = [0x61; 86];
+    text[70..79].copy_from_slice("ß語😀".as_bytes());
+    text[85] = 0xf0;
+    text
+}
+
+#[test]
+fn counts(rt: HostRuntime) {
+    let (units, wide, text) = (units(), wide(), text());
+    let (units, wide, text) = (&units[..79], &wide[..78], &text[..85]);
+    let rows = [
+        (wide_utf16_utf8_length(units), 84),
+        (wide_utf32_utf8_length(wide), 84),
+        (wide_utf8_utf16_length(text), 80),
+        (wide_utf8_utf32_length(text), 79),
+        (wide_utf16_utf32_length(units), 78),
+        (wide_utf32_utf16_length(wide), 79),
+        (wide_utf16_char_count(units), 78),
+        (wide_utf32_char_count(wide), 78),
+        (wide_utf8_char_count(text), 79),
+        (wide_utf16_utf8_length(&[]), 0),
+        (wide_utf32_utf8_length(&[]), 0),
+        (wide_utf8_utf16_length(&[]), 0),
+        (wide_utf8_utf32_length(&[]), 0),
+        (wide_utf16_utf32_length(&[]), 0),
+        (wide_utf32_utf16_length(&[]), 0),
+    ];
+    for (place, (length, wanted)) in rows.iter().enumerate() {
+        assert_eq!(rt; *length, *wanted, "row {place}");
+    }
+}
+
+#[test]
+fn faults(rt: HostRuntime) {
+    let (units, wide, text) = (units(), wide(), text());
+    let rows = [
+        wide_utf16_utf8_length(&units),
+        wide_utf32_utf8_length(&wide),
+        wide_utf8_utf16_length(&text),
+        wide_utf8_utf32_length(&text),
+        wide_utf16_utf32_length(&units),
+        wide_utf32_utf16_length(&wide),
+        wide_utf16_char_count(&units),
+        wide_utf32_char_count(&wide),
+        wide_utf8_char_count(&text),
+    ];
+    for (place, length) in rows.iter().enumerate() {
+        assert_eq!(rt; *length, usize::MAX, "row {place}");
+    }
+}
+
+#[test]
+fn version(rt: HostRuntime) {
+    assert_eq!(rt; wide_version(), 0x00_0100);
+}
