@@ -1,0 +1,387 @@
+/*
+ * Judges every call of the library by decoders and encoders written here: `test COUNT SEED`. COUNT texts are made at random of each kind of
+ * units and of bytes, well formed or not. Each is handed in at the end of readable memory, and each room lies at the end of writable memory
+ * or has marked elements behind it, so that a call which reads or writes outside stops the program or is told.
+ */
+#define _GNU_SOURCE
+#include <stdio.h>
+#include <stdlib.h>
+#include <string.h>
+#include <sys/mman.h>
+#include <unistd.h>
+#include <widestring.h>
+
+#define MOST 512
+#define ROOM (4 * MOST)
+#define FAULT UINT32_MAX
+#define REPLACEMENT 0xfffdu
+
+/* Text as characters, with FAULT for what belongs to none, and the place at which each begins. */
+struct items {
+    uint32_t item[MOST];
+    size_t place[MOST + 1];
+    size_t count;
+};
+
+/* Elements of 1, 2 or 4 bytes: UTF-8, UTF-16 or UTF-32. */
+struct text {
+    int width;
+    size_t length;
+    uint32_t element[ROOM];
+};
+
+/* What a call is to answer, and to leave in front of a room. */
+struct wanted {
+    size_t answer;
+    struct text text;
+};
+
+static uint64_t state;
+static const char *seen_call = "";
+
+static uint32_t random_below(uint32_t bound) {
+    state ^= state << 13;
+    state ^= state >> 7;
+    state ^= state << 17;
+    return (uint32_t)(state >> 33) % bound;
+}
+
+static void fail(const char *why) {
+    fprintf(stderr, "%s: %s\n", seen_call, why);
+    exit(1);
+}
+
+/* Memory that ends where nothing may be read or written. */
+static unsigned char *edge(void) {
+    size_t page = (size_t)sysconf(_SC_PAGESIZE), size = (4 * ROOM / page + 1) * page;
+    unsigned char *memory = mmap(NULL, size + page, PROT_READ | PROT_WRITE, MAP_PRIVATE | MAP_ANONYMOUS, -1, 0);
+    if (memory == MAP_FAILED || mprotect(memory + size, page, PROT_NONE) != 0)
+        fail("no memory");
+    return memory + size;
+}
+
+static void store(void *to, int width, size_t at, uint32_t element) {
+    if (width == 1)
+        ((uint8_t *)to)[at] = (uint8_t)element;
+    else if (width == 2)
+        ((uint16_t *)to)[at] = (uint16_t)element;
+    else
+        ((uint32_t *)to)[at] = element;
+}
+
+static uint32_t load(const void *from, int width, size_t at) {
+    if (width == 1)
+        return ((const uint8_t *)from)[at];
+    return width == 2 ? ((const uint16_t *)from)[at] : ((const uint32_t *)from)[at];
+}
+
+/* The text right in front of the edge, or NULL where it is empty. */
+static void *at_edge(unsigned char *end, const struct text *text) {
+    unsigned char *memory = end - text->length * (size_t)text->width;
+    for (size_t at = 0; at < text->length; at++)
+        store(memory, text->width, at, text->element[at]);
+    return text->length == 0 ? NULL : memory;
+}
+
+static int is_scalar(uint32_t number) {
+    return number < 0xd800 || (number > 0xdfff && number < 0x110000);
+}
+
+static void put(struct text *text, uint32_t element) {
+    text->element[text->length++] = element;
+}
+
+static void encode(struct text *text, uint32_t c) {
+    if (text->width == 4 || c < 0x80 || (text->width == 2 && c < 0x10000)) {
+        put(text, c);
+    } else if (text->width == 2) {
+        put(text, 0xd800 + ((c - 0x10000) >> 10));
+        put(text, 0xdc00 + ((c - 0x10000) & 0x3ff));
+    } else {
+        int more = c < 0x800 ? 1 : c < 0x10000 ? 2 : 3;
+        put(text, (c >> 6 * more) | (more == 1 ? 0xc0 : more == 2 ? 0xe0 : 0xf0));
+        while (more-- > 0)
+            put(text, 0x80 | (c >> 6 * more & 0x3f));
+    }
+}
+
+/* How many bytes the character that begins at a byte has, if those behind its first go on as one, or else minus the length of the part. */
+static int part_of(const struct text *text, size_t at, uint32_t *c) {
+    uint32_t first = text->element[at], least = 0x80, greatest = 0xbf;
+    int length = first < 0x80 ? 1 : first < 0xc2 ? 0 : first < 0xe0 ? 2 : first < 0xf0 ? 3 : first < 0xf5 ? 4 : 0;
+    *c = length == 1 ? first : first & (0x7fu >> length);
+    least = first == 0xe0 ? 0xa0 : first == 0xf0 ? 0x90 : least;
+    greatest = first == 0xed ? 0x9f : first == 0xf4 ? 0x8f : greatest;
+    for (int next = 1; next < length; next++) {
+        uint32_t byte = at + (size_t)next < text->length ? text->element[at + (size_t)next] : 0;
+        if (byte < least || byte > greatest)
+            return -next;
+        *c = *c << 6 | (byte & 0x3f);
+        least = 0x80, greatest = 0xbf;
+    }
+    return length == 0 ? -1 : length;
+}
+
+static size_t item_at(const struct text *text, size_t at, uint32_t *item) {
+    uint32_t unit = text->element[at], next = at + 1 < text->length ? text->element[at + 1] : 0;
+    if (text->width == 1) {
+        int length = part_of(text, at, item);
+        *item = length < 0 ? FAULT : *item;
+        return (size_t)abs(length);
+    }
+    if (text->width == 2 && unit >> 10 == 0x36 && next >> 10 == 0x37) {
+        *item = 0x10000 + ((unit & 0x3ff) << 10) + (next & 0x3ff);
+        return 2;
+    }
+    *item = is_scalar(unit) ? unit : FAULT;
+    return 1;
+}
+
+static void decode(const struct text *text, struct items *items) {
+    size_t at = 0;
+    for (items->count = 0; at < text->length; items->count++) {
+        items->place[items->count] = at;
+        at += item_at(text, at, &items->item[items->count]);
+    }
+    items->place[items->count] = at;
+}
+
+/* The number of the first fault among the items, or that of the items. */
+static size_t fault_of(const struct items *items) {
+    size_t at = 0;
+    while (at < items->count && items->item[at] != FAULT)
+        at++;
+    return at;
+}
+
+/* The text of the items in another width; faults as the policy says, or all of it refused where there is none. */
+static void convert(const struct items *items, int width, int policy, struct wanted *wanted) {
+    wanted->text.width = width;
+    wanted->text.length = 0;
+    wanted->answer = WIDE_FAULT;
+    if (policy > 2 || (policy < 0 && fault_of(items) < items->count))
+        return;
+    for (size_t at = 0; at < items->count; at++) {
+        if (items->item[at] != FAULT)
+            encode(&wanted->text, items->item[at]);
+        else if (policy == WIDE_EACH || (policy == WIDE_RUN && (at == 0 || items->item[at - 1] != FAULT)))
+            encode(&wanted->text, REPLACEMENT);
+    }
+    wanted->answer = wanted->text.length;
+}
+
+typedef size_t (*Call)(const void *, size_t, uint32_t, void *, size_t);
+
+#define TO(name, in, out)                                                                                                                 \
+    static size_t call_##name(const void *from, size_t length, uint32_t policy, void *room, size_t size) {                                \
+        (void)policy;                                                                                                                     \
+        return wide_##name((const in *)from, length, (out *)room, size);                                                                  \
+    }
+#define WITH(name, in, out)                                                                                                               \
+    static size_t call_##name(const void *from, size_t length, uint32_t policy, void *room, size_t size) {                                \
+        return wide_##name((const in *)from, length, policy, (out *)room, size);                                                          \
+    }
+TO(utf16_to_utf8, uint16_t, uint8_t)
+TO(utf32_to_utf8, uint32_t, uint8_t)
+TO(utf8_to_utf16, uint8_t, uint16_t)
+TO(utf8_to_utf32, uint8_t, uint32_t)
+TO(utf16_to_utf32, uint16_t, uint32_t)
+TO(utf32_to_utf16, uint32_t, uint16_t)
+TO(utf16_to_utf8_lossy, uint16_t, uint8_t)
+TO(utf32_to_utf8_lossy, uint32_t, uint8_t)
+TO(utf8_to_utf16_lossy, uint8_t, uint16_t)
+TO(utf8_to_utf32_lossy, uint8_t, uint32_t)
+TO(utf16_repair, uint16_t, uint16_t)
+TO(utf32_repair, uint32_t, uint32_t)
+WITH(utf16_to_utf8_lossy_with, uint16_t, uint8_t)
+WITH(utf32_to_utf8_lossy_with, uint32_t, uint8_t)
+WITH(utf8_to_utf16_lossy_with, uint8_t, uint16_t)
+WITH(utf8_to_utf32_lossy_with, uint8_t, uint32_t)
+
+/* Each conversion, the widths from which and to which, and the policies that it is asked for: none, which is -1, or a range of them. */
+static const struct conversion {
+    const char *name;
+    Call call;
+    int from, to, first, last;
+} conversions[] = {
+    {"wide_utf16_to_utf8", call_utf16_to_utf8, 2, 1, -1, -1},
+    {"wide_utf32_to_utf8", call_utf32_to_utf8, 4, 1, -1, -1},
+    {"wide_utf8_to_utf16", call_utf8_to_utf16, 1, 2, -1, -1},
+    {"wide_utf8_to_utf32", call_utf8_to_utf32, 1, 4, -1, -1},
+    {"wide_utf16_to_utf32", call_utf16_to_utf32, 2, 4, -1, -1},
+    {"wide_utf32_to_utf16", call_utf32_to_utf16, 4, 2, -1, -1},
+    {"wide_utf16_to_utf8_lossy", call_utf16_to_utf8_lossy, 2, 1, WIDE_EACH, WIDE_EACH},
+    {"wide_utf32_to_utf8_lossy", call_utf32_to_utf8_lossy, 4, 1, WIDE_EACH, WIDE_EACH},
+    {"wide_utf8_to_utf16_lossy", call_utf8_to_utf16_lossy, 1, 2, WIDE_EACH, WIDE_EACH},
+    {"wide_utf8_to_utf32_lossy", call_utf8_to_utf32_lossy, 1, 4, WIDE_EACH, WIDE_EACH},
+    {"wide_utf16_repair", call_utf16_repair, 2, 2, WIDE_EACH, WIDE_EACH},
+    {"wide_utf32_repair", call_utf32_repair, 4, 4, WIDE_EACH, WIDE_EACH},
+    {"wide_utf16_to_utf8_lossy_with", call_utf16_to_utf8_lossy_with, 2, 1, WIDE_EACH, WIDE_SKIP + 1},
+    {"wide_utf32_to_utf8_lossy_with", call_utf32_to_utf8_lossy_with, 4, 1, WIDE_EACH, WIDE_SKIP + 1},
+    {"wide_utf8_to_utf16_lossy_with", call_utf8_to_utf16_lossy_with, 1, 2, WIDE_EACH, WIDE_SKIP + 1},
+    {"wide_utf8_to_utf32_lossy_with", call_utf8_to_utf32_lossy_with, 1, 4, WIDE_EACH, WIDE_SKIP + 1},
+};
+
+/* A room of this size, with `behind` more elements in front of the edge, which the call is not told of. */
+static void check_room(const struct conversion *it, const void *from, size_t length, int policy, const struct wanted *wanted,
+                       unsigned char *end, size_t size, size_t behind) {
+    const uint32_t mark = 0xa5a5a5a5u >> 8 * (4 - it->to);
+    unsigned char *room = end - (size + behind) * (size_t)it->to;
+    for (size_t at = 0; at < size + behind; at++)
+        store(room, it->to, at, mark);
+    size_t answer = it->call(from, length, (uint32_t)policy, size == 0 ? NULL : room, size);
+    if (answer != wanted->answer)
+        fail("another answer");
+    size_t written = answer == WIDE_FAULT ? 0 : answer <= size ? answer : size;
+    for (size_t at = 0; answer <= size && at < written; at++)
+        if (load(room, it->to, at) != wanted->text.element[at])
+            fail("another text");
+    for (size_t at = written; at < size + behind; at++)
+        if (load(room, it->to, at) != mark)
+            fail("written outside");
+}
+
+static void check_conversion(const struct conversion *it, const void *from, size_t length, const struct items *items, unsigned char *end) {
+    static struct wanted wanted;
+    seen_call = it->name;
+    for (int policy = it->first; policy <= it->last; policy++) {
+        convert(items, it->to, policy, &wanted);
+        size_t exact = wanted.text.length;
+        check_room(it, from, length, policy, &wanted, end, exact, 0);
+        check_room(it, from, length, policy, &wanted, end, exact, 1 + random_below(70));
+        check_room(it, from, length, policy, &wanted, end, exact + 1 + random_below(70), 0);
+        check_room(it, from, length, policy, &wanted, end, 0, 3);
+        if (exact > 0)
+            check_room(it, from, length, policy, &wanted, end, random_below((uint32_t)exact), 70);
+    }
+}
+
+static void equal(const char *call, size_t answer, size_t wanted) {
+    seen_call = call;
+    if (answer != wanted)
+        fail("another answer");
+}
+
+/* Lengths and counts, and where the first fault stands. */
+static void check_counts(const void *from, const struct text *text, const struct items *items) {
+    static struct wanted to[3];
+    size_t n = text->length, fault = fault_of(items), is_sound = fault == items->count;
+    for (int width = 0; width < 3; width++)
+        convert(items, 1 << width, -1, &to[width]);
+    size_t characters = to[2].answer, item = is_sound ? SIZE_MAX : fault;
+    if (text->width == 1) {
+        equal("wide_utf8_first_fault", wide_utf8_first_fault(from, n), items->place[fault]);
+        equal("wide_utf8_char_count", wide_utf8_char_count(from, n), characters);
+        equal("wide_utf8_utf16_length", wide_utf8_utf16_length(from, n), to[1].answer);
+        equal("wide_utf8_utf32_length", wide_utf8_utf32_length(from, n), characters);
+    } else if (text->width == 2) {
+        equal("wide_utf16_first_fault", wide_utf16_first_fault(from, n), items->place[fault]);
+        equal("wide_utf16_first_fault_item", wide_utf16_first_fault_item(from, n), item);
+        equal("wide_utf16_char_count", wide_utf16_char_count(from, n), characters);
+        equal("wide_utf16_utf8_length", wide_utf16_utf8_length(from, n), to[0].answer);
+        equal("wide_utf16_utf32_length", wide_utf16_utf32_length(from, n), characters);
+    } else {
+        equal("wide_utf32_first_fault", wide_utf32_first_fault(from, n), items->place[fault]);
+        equal("wide_utf32_first_fault_item", wide_utf32_first_fault_item(from, n), item);
+        equal("wide_utf32_char_count", wide_utf32_char_count(from, n), characters);
+        equal("wide_utf32_utf8_length", wide_utf32_utf8_length(from, n), to[0].answer);
+        equal("wide_utf32_utf16_length", wide_utf32_utf16_length(from, n), to[1].answer);
+    }
+}
+
+/* The first place at which elements stand in a text, or SIZE_MAX. */
+static size_t place_of(const struct text *text, const struct text *part) {
+    for (size_t at = 0; at + part->length <= text->length; at++)
+        if (memcmp(&text->element[at], part->element, part->length * sizeof part->element[0]) == 0)
+            return at;
+    return SIZE_MAX;
+}
+
+/* A part that stands in the text, or one unit changed of it. */
+static void cut_part(const struct text *text, struct text *part) {
+    size_t first = random_below((uint32_t)text->length + 1), left = text->length - first;
+    part->width = text->width;
+    part->length = random_below(left < 9 ? (uint32_t)left + 1 : 9);
+    memcpy(part->element, &text->element[first], part->length * sizeof part->element[0]);
+    if (part->length > 0 && random_below(4) == 0)
+        part->element[random_below((uint32_t)part->length)] ^= 1;
+}
+
+static void check_searches(const void *from, const struct text *text, unsigned char *end) {
+    static struct text part, one;
+    size_t n = text->length;
+    cut_part(text, &part);
+    one = (struct text){.width = text->width, .length = 1, .element = {part.length > 0 ? part.element[0] : 0x7a}};
+    const struct text nul = {.width = text->width, .length = 1, .element = {0}};
+    size_t place = place_of(text, &one), zero = place_of(text, &nul);
+    const void *piece = at_edge(end, &part);
+    if (text->width == 2) {
+        equal("wide_utf16_first_nul", wide_utf16_first_nul(from, n), zero < n ? zero : n);
+        equal("wide_utf16_find_unit", wide_utf16_find_unit(from, n, (uint16_t)one.element[0]), place < n ? place : n);
+        equal("wide_utf16_find", wide_utf16_find(from, n, piece, part.length), place_of(text, &part));
+    } else {
+        equal("wide_utf32_first_nul", wide_utf32_first_nul(from, n), zero < n ? zero : n);
+        equal("wide_utf32_find_unit", wide_utf32_find_unit(from, n, one.element[0]), place < n ? place : n);
+        equal("wide_utf32_find", wide_utf32_find(from, n, piece, part.length), place_of(text, &part));
+    }
+}
+
+/* A character: of ASCII mostly, and of each length of UTF-8. */
+static uint32_t random_character(uint32_t kinds) {
+    static const uint32_t first[] = {0x20, 0x20, 0, 0x80, 0x800, 0xe000, 0x10000};
+    static const uint32_t behind[] = {0x7f, 0x7f, 0x80, 0x800, 0xd800, 0x10000, 0x110000};
+    uint32_t kind = random_below(kinds);
+    return first[kind] + random_below(behind[kind] - first[kind]);
+}
+
+/* An element of any value, among them those that no text has. */
+static uint32_t random_element(int width) {
+    if (width == 1)
+        return random_below(2) == 0 ? 0x80 + random_below(0x80) : random_below(0x100);
+    if (random_below(2) == 0)
+        return 0xd800 + random_below(0x800);
+    return width == 2 ? random_below(0x10000) : random_below(2) == 0 ? 0x110000 + random_below(0x10000) : random_below(0x7fffffff) * 2 + 1;
+}
+
+static void make_text(struct text *text, int width) {
+    size_t most = random_below(16) == 0 ? MOST - 4 : random_below(8) == 0 ? 80 : 20;
+    size_t length = random_below((uint32_t)most);
+    uint32_t kinds = 1 + random_below(7), faults = random_below(2) == 0 ? 0 : 1 + random_below(40);
+    text->width = width;
+    text->length = 0;
+    while (text->length < length) {
+        if (faults > 0 && random_below(40) < faults)
+            put(text, random_element(width));
+        else
+            encode(text, random_character(kinds));
+    }
+    if (faults > 0 && text->length > 0 && random_below(4) == 0)
+        text->length--;
+}
+
+static void check_text(int width, unsigned char *ends[3]) {
+    static struct text text;
+    static struct items items;
+    make_text(&text, width);
+    decode(&text, &items);
+    const void *from = at_edge(ends[0], &text);
+    check_counts(from, &text, &items);
+    if (width > 1)
+        check_searches(from, &text, ends[1]);
+    for (size_t row = 0; row < sizeof conversions / sizeof conversions[0]; row++)
+        if (conversions[row].from == width)
+            check_conversion(&conversions[row], from, text.length, &items, ends[2]);
+}
+
+int main(int count, char **words) {
+    long texts = count > 1 ? atol(words[1]) : 100000;
+    long seed = count > 2 ? atol(words[2]) : 1;
+    state = 0x9e3779b97f4a7c15u * (uint64_t)(2 * seed + 1);
+    unsigned char *ends[3] = {edge(), edge(), edge()};
+    equal("wide_version", wide_version(), WIDESTRING_VERSION_NUMBER);
+    for (long at = 0; at < texts; at++)
+        for (int width = 1; width <= 4; width *= 2)
+            check_text(width, ends);
+    printf("seed %ld: every call agrees on %ld texts of each width\n", seed, texts);
+    return 0;
+}
