@@ -1,0 +1,13 @@
+// Names the first fault of a text in UTF-16, and prints the text in UTF-8 under each policy.
+#include <iostream>
+#include <widestring.hpp>
+
+int main() {
+    const std::u16string units = {u'H', u'i', 0xd83d, 0xde00, 0xdc00, 0xdc00};
+    if (const auto place = widestring::first_fault(units))
+        std::cout << "a fault at unit " << *place << '\n';
+    if (!widestring::to_utf8(units))
+        std::cout << "no text\n";
+    for (const auto policy : {widestring::Lossy::each, widestring::Lossy::run, widestring::Lossy::skip})
+        std::cout << widestring::to_utf8_lossy(units, policy) << '\n';
+}

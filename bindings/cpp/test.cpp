@@ -1,0 +1,240 @@
+// Judges widestring.hpp by decoders and encoders written here: `test COUNT SEED`, with COUNT texts of each kind made at random.
+#include <cstdlib>
+#include <iostream>
+#include <random>
+#include <vector>
+#include <widestring.hpp>
+
+namespace {
+
+// Characters, and a fault where something belongs to none.
+constexpr std::uint32_t fault = UINT32_MAX;
+
+struct Items {
+    std::vector<std::uint32_t> item;
+    std::vector<std::size_t> place;
+};
+
+std::mt19937_64 numbers;
+
+std::uint32_t below(std::uint32_t bound) {
+    return static_cast<std::uint32_t>(numbers() >> 32) % bound;
+}
+
+void must(bool holds, const char *call) {
+    if (holds)
+        return;
+    std::cerr << call << ": another answer\n";
+    std::exit(1);
+}
+
+bool is_scalar(std::uint32_t number) {
+    return number < 0xd800 || (number > 0xdfff && number < 0x110000);
+}
+
+// The shortest form of a character, by the number of its bits.
+void put(std::string &text, std::uint32_t c) {
+    const int more = c < 0x80 ? 0 : c < 0x800 ? 1 : c < 0x10000 ? 2 : 3;
+    static const std::uint32_t lead[] = {0, 0xc0, 0xe0, 0xf0};
+    text.push_back(static_cast<char>(lead[more] | c >> 6 * more));
+    for (int left = more - 1; left >= 0; left--)
+        text.push_back(static_cast<char>(0x80 | (c >> 6 * left & 0x3f)));
+}
+
+void put(std::u16string &text, std::uint32_t c) {
+    if (c < 0x10000) {
+        text.push_back(static_cast<char16_t>(c));
+        return;
+    }
+    text.push_back(static_cast<char16_t>(0xd7c0 + (c >> 10)));
+    text.push_back(static_cast<char16_t>(0xdc00 | (c & 0x3ff)));
+}
+
+void put(std::u32string &text, std::uint32_t c) {
+    text.push_back(c);
+}
+
+// The length of the item that the rest begins with, which is told: the character whose shortest form stands there, or a fault.
+std::size_t first_item(std::string_view rest, std::uint32_t &item) {
+    const auto byte = [&](std::size_t at) { return at < rest.size() ? static_cast<unsigned char>(rest[at]) : 0u; };
+    const unsigned lead = byte(0);
+    const std::size_t length = lead < 0x80 ? 1 : lead < 0xc0 ? 0 : lead < 0xe0 ? 2 : lead < 0xf0 ? 3 : lead < 0xf8 ? 4 : 0;
+    item = length == 1 ? lead : length == 0 ? fault : lead & (0xffu >> (length + 1));
+    std::size_t at = 1;
+    for (; at < length && (byte(at) & 0xc0) == 0x80; at++) {
+        const std::uint32_t left = 6 * static_cast<std::uint32_t>(length - 1 - at);
+        const std::uint32_t grown = item << 6 | (byte(at) & 0x3f), least = grown << left, greatest = least | ((1u << left) - 1);
+        const std::uint32_t shortest = length == 2 ? 0x80 : length == 3 ? 0x800 : 0x10000;
+        if (greatest < shortest || least > 0x10ffff || (least >= 0xd800 && greatest < 0xe000))
+            break;
+        item = grown;
+    }
+    if (at < length || length == 0)
+        item = fault;
+    return at;
+}
+
+std::size_t first_item(std::u16string_view rest, std::uint32_t &item) {
+    const bool is_pair = rest.size() > 1 && (rest[0] & 0xfc00) == 0xd800 && (rest[1] & 0xfc00) == 0xdc00;
+    item = is_pair ? 0x10000u + (rest[0] - 0xd800u) * 0x400u + (rest[1] - 0xdc00u) : is_scalar(rest[0]) ? rest[0] : fault;
+    return is_pair ? 2 : 1;
+}
+
+std::size_t first_item(std::u32string_view rest, std::uint32_t &item) {
+    item = is_scalar(rest[0]) ? rest[0] : fault;
+    return 1;
+}
+
+template <class View> Items items_of(View rest) {
+    Items items;
+    for (std::size_t at = 0; at < rest.size();) {
+        items.item.push_back(0);
+        items.place.push_back(at);
+        at += first_item(rest.substr(at), items.item.back());
+    }
+    return items;
+}
+
+template <class String> String lossy_of(const Items &items, widestring::Lossy policy) {
+    String text;
+    bool after = false;
+    for (const std::uint32_t item : items.item) {
+        if (item != fault)
+            put(text, item);
+        else if (policy == widestring::Lossy::each || (policy == widestring::Lossy::run && !after))
+            put(text, 0xfffd);
+        after = item == fault;
+    }
+    return text;
+}
+
+template <class String> std::optional<String> text_of(const Items &items) {
+    for (const std::uint32_t item : items.item)
+        if (item == fault)
+            return std::nullopt;
+    return lossy_of<String>(items, widestring::Lossy::skip);
+}
+
+constexpr widestring::Lossy policies[] = {widestring::Lossy::each, widestring::Lossy::run, widestring::Lossy::skip};
+
+template <class View> void check_faults(View text, const Items &items) {
+    std::optional<std::size_t> place;
+    for (std::size_t at = items.item.size(); at-- > 0;)
+        if (items.item[at] == fault)
+            place = items.place[at];
+    must(widestring::first_fault(text) == place, "first_fault");
+    must(widestring::valid(text) == !place, "valid");
+    must(widestring::char_count(text) == (place ? std::nullopt : std::optional(items.item.size())), "char_count");
+}
+
+template <class String> std::optional<std::size_t> length_of(const std::optional<String> &text) {
+    return text ? std::optional(text->size()) : std::nullopt;
+}
+
+void check(std::string_view text) {
+    const Items items = items_of(text);
+    check_faults(text, items);
+    const auto units = text_of<std::u16string>(items);
+    const auto wide = text_of<std::u32string>(items);
+    must(widestring::to_utf16(text) == units, "to_utf16");
+    must(widestring::to_utf32(text) == wide, "to_utf32");
+    must(widestring::utf16_length(text) == length_of(units), "utf16_length");
+    must(widestring::utf32_length(text) == length_of(wide), "utf32_length");
+    for (const auto policy : policies) {
+        must(widestring::to_utf16_lossy(text, policy) == lossy_of<std::u16string>(items, policy), "to_utf16_lossy");
+        must(widestring::to_utf32_lossy(text, policy) == lossy_of<std::u32string>(items, policy), "to_utf32_lossy");
+    }
+}
+
+// What both widths of units have: searches, repair and UTF-8.
+template <class View> void check_units(View text, const Items &items) {
+    using String = std::basic_string<typename View::value_type>;
+    check_faults(text, items);
+    std::optional<std::size_t> number;
+    for (std::size_t at = items.item.size(); at-- > 0;)
+        if (items.item[at] == fault)
+            number = at;
+    must(widestring::first_fault_item(text) == number, "first_fault_item");
+    must(widestring::repair(text) == lossy_of<String>(items, widestring::Lossy::each), "repair");
+    must(widestring::to_utf8(text) == text_of<std::string>(items), "to_utf8");
+    must(widestring::utf8_length(text) == length_of(text_of<std::string>(items)), "utf8_length");
+    for (const auto policy : policies)
+        must(widestring::to_utf8_lossy(text, policy) == lossy_of<std::string>(items, policy), "to_utf8_lossy");
+    const auto found = [](std::size_t at) { return at == View::npos ? std::nullopt : std::optional(at); };
+    const std::size_t at = below(static_cast<std::uint32_t>(text.size()) + 1);
+    const View part = text.substr(at, below(9));
+    must(widestring::find(text, part) == found(text.find(part)), "find of a part");
+    must(widestring::find(part, text) == found(part.find(text)), "find of a longer part");
+    must(widestring::find(text, typename View::value_type{0x7a}) == found(text.find(0x7a)), "find of a unit");
+    must(widestring::first_nul(text) == found(text.find(typename View::value_type{0})), "first_nul");
+}
+
+void check(std::u16string_view text) {
+    const Items items = items_of(text);
+    check_units(text, items);
+    must(widestring::to_utf32(text) == text_of<std::u32string>(items), "to_utf32");
+    must(widestring::utf32_length(text) == length_of(text_of<std::u32string>(items)), "utf32_length");
+}
+
+void check(std::u32string_view text) {
+    const Items items = items_of(text);
+    check_units(text, items);
+    must(widestring::to_utf16(text) == text_of<std::u16string>(items), "to_utf16");
+    must(widestring::utf16_length(text) == length_of(text_of<std::u16string>(items)), "utf16_length");
+}
+
+// A character, of ASCII or below a bound.
+std::uint32_t random_character(std::uint32_t bound) {
+    const std::uint32_t c = below(4) == 0 ? below(bound) : below(0x80);
+    return is_scalar(c) ? c : 0x7a;
+}
+
+// An element of any value.
+template <class String> void put_any(String &text) {
+    const std::uint32_t wild = below(3) == 0 ? 0xd800 + below(0x800) : below(2) == 0 ? below(0x120000) : static_cast<std::uint32_t>(numbers());
+    text.push_back(static_cast<typename String::value_type>(wild));
+}
+
+template <class String> String random_text() {
+    static const std::uint32_t bounds[] = {0x80, 0x800, 0x10000, 0x110000};
+    const std::uint32_t length = below(below(16) == 0 ? 600 : below(4) == 0 ? 150 : 20), bound = bounds[below(4)];
+    const std::uint32_t faults = below(2) == 0 ? 0 : 1 + below(20);
+    String text;
+    while (text.size() < length)
+        below(20) < faults ? put_any(text) : put(text, random_character(bound));
+    return text;
+}
+
+#ifdef __cpp_lib_span
+void check_views() {
+    const std::uint16_t units[] = {0x61, 0xd83d, 0xde00};
+    const std::uint32_t wide[] = {0x61, 0x1f600};
+    const std::uint8_t bytes[] = {0x61, 0xf0, 0x9f, 0x98, 0x80};
+    const std::string text(reinterpret_cast<const char *>(bytes), 5);
+    must(widestring::to_utf8(widestring::view(units)) == text, "view of units");
+    must(widestring::to_utf8(widestring::view(wide)) == text, "view of wide units");
+    must(widestring::to_utf16(widestring::view(bytes)) == std::u16string({0x61, 0xd83d, 0xde00}), "view of bytes");
+    must(widestring::to_utf16(widestring::view(u8"a")) == u"a", "view of char8_t");
+}
+#endif
+
+} // namespace
+
+int main(int count, char **words) {
+    const long texts = count > 1 ? std::atol(words[1]) : 100000, seed = count > 2 ? std::atol(words[2]) : 1;
+    numbers.seed(static_cast<std::uint64_t>(seed));
+    must(widestring::version() == WIDESTRING_VERSION_NUMBER, "version");
+#ifdef __cpp_lib_span
+    check_views();
+#endif
+    // Views of nothing have no memory behind them.
+    check(std::string_view());
+    check(std::u16string_view());
+    check(std::u32string_view());
+    for (long at = 0; at < texts; at++) {
+        check(random_text<std::string>());
+        check(random_text<std::u16string>());
+        check(random_text<std::u32string>());
+    }
+    std::cout << "seed " << seed << ": every call agrees on " << texts << " texts of each kind\n";
+}
