@@ -6,42 +6,40 @@ use crate::lengths::{
 };
 use crate::version::wide_version;
 
-// A text with characters of each length among letters, and a fault behind it.
-fn units() -> [u16; 80] {
-    let mut units = [0x61; 80];
+// A text with characters of each length among letters.
+fn units() -> [u16; 79] {
+    let mut units = [0x61; 79];
     units[70..74].copy_from_slice(&[0xdf, 0x8a9e, 0xd83d, 0xde00]);
-    units[79] = 0xde00;
     units
 }
 
-fn wide() -> [u32; 79] {
-    let mut wide = [0x61; 79];
+fn wide() -> [u32; 78] {
+    let mut wide = [0x61; 78];
     wide[70..73].copy_from_slice(&[0xdf, 0x8a9e, 0x1_f600]);
-    wide[78] = 0xde00;
     wide
 }
 
-fn text() -> [u8; 86] {
-    let mut text = [0x61; 86];
+fn text() -> [u8; 85] {
+    let mut text = [0x61; 85];
     text[70..79].copy_from_slice("ß語😀".as_bytes());
-    text[85] = 0xf0;
     text
 }
 
 #[test]
 fn counts(rt: HostRuntime) {
-    let (units, wide, text) = (units(), wide(), text());
-    let (units, wide, text) = (&units[..79], &wide[..78], &text[..85]);
+    let units = units();
+    let wide = wide();
+    let text = text();
     let rows = [
-        (wide_utf16_utf8_length(units), 84),
-        (wide_utf32_utf8_length(wide), 84),
-        (wide_utf8_utf16_length(text), 80),
-        (wide_utf8_utf32_length(text), 79),
-        (wide_utf16_utf32_length(units), 78),
-        (wide_utf32_utf16_length(wide), 79),
-        (wide_utf16_char_count(units), 78),
-        (wide_utf32_char_count(wide), 78),
-        (wide_utf8_char_count(text), 79),
+        (wide_utf16_utf8_length(&units), 84),
+        (wide_utf32_utf8_length(&wide), 84),
+        (wide_utf8_utf16_length(&text), 80),
+        (wide_utf8_utf32_length(&text), 79),
+        (wide_utf16_utf32_length(&units), 78),
+        (wide_utf32_utf16_length(&wide), 79),
+        (wide_utf16_char_count(&units), 78),
+        (wide_utf32_char_count(&wide), 78),
+        (wide_utf8_char_count(&text), 79),
         (wide_utf16_utf8_length(&[]), 0),
         (wide_utf32_utf8_length(&[]), 0),
         (wide_utf8_utf16_length(&[]), 0),
@@ -56,7 +54,12 @@ fn counts(rt: HostRuntime) {
 
 #[test]
 fn faults(rt: HostRuntime) {
-    let (units, wide, text) = (units(), wide(), text());
+    let mut units = units();
+    let mut wide = wide();
+    let mut text = text();
+    units[78] = 0xde00;
+    wide[77] = 0xde00;
+    text[84] = 0xf0;
     let rows = [
         wide_utf16_utf8_length(&units),
         wide_utf32_utf8_length(&wide),

@@ -1,0 +1,11 @@
+"""Names the first fault of a text in UTF-16, and prints the text in UTF-8 under each policy."""
+
+import widestring
+
+units = "Hi😀".encode("utf-16-le") + b"\x00\xdc\x00\xdc"
+try:
+    print(widestring.utf16_to_utf8(units).decode())
+except widestring.Fault as fault:
+    print(f"a fault at unit {fault.place}")
+for policy in widestring.Lossy:
+    print(widestring.utf16_to_utf8_lossy(units, policy).decode())

@@ -1,0 +1,282 @@
+"""UTF-16, UTF-32 and UTF-8 as bytes, by the library's calls, which are proved for all units, well formed or not.
+
+Units are in the order of the machine, which is little on those that the library is built for: `utf-16-le` and `utf-32-le` of Python's codecs,
+with no mark. Places and lengths are counted in units, or in bytes of UTF-8. Text is anything that has bytes; of `bytes` no copy is made.
+
+The shared library is that which WIDESTRING_LIBRARY names, or one that the system's loader finds. It is CPython's, for memory of bytes that is
+not filled before it is written.
+"""
+
+import ctypes
+import ctypes.util
+import enum
+import os
+
+# The version of the library of which the calls below are, and the name under which the loader knows it.
+_VERSION = (0, 1)
+_NAME = "libwidestring.so.0.1"
+# What a call answers where it has no number to tell.
+_NONE = ctypes.c_size_t(-1).value
+
+
+class Fault(ValueError):
+    """The text is not well formed: `place` tells where the first fault stands."""
+
+    def __init__(self, place):
+        super().__init__(f"not well formed at place {place}")
+        self.place = place
+
+
+class Lossy(enum.IntEnum):
+    """What lossy text has for what belongs to no character: U+FFFD for each, one for each longest row of neighbours, or nothing."""
+
+    EACH = 0
+    RUN = 1
+    SKIP = 2
+
+
+def _load():
+    named = os.environ.get("WIDESTRING_LIBRARY")
+    try:
+        return ctypes.CDLL(named or _NAME)
+    except OSError:
+        found = None if named else ctypes.util.find_library("widestring")
+        if found is None:
+            raise
+        return ctypes.CDLL(found)
+
+
+_library = _load()
+_new_bytes = ctypes.pythonapi.PyBytes_FromStringAndSize
+_new_bytes.argtypes = [ctypes.c_void_p, ctypes.c_ssize_t]
+_new_bytes.restype = ctypes.py_object
+
+
+def _call(name, *types):
+    """A call of the library on text, a length and what else it takes."""
+    call = getattr(_library, f"wide_{name}")
+    call.argtypes = [ctypes.c_char_p, ctypes.c_size_t, *types]
+    call.restype = ctypes.c_size_t
+    return call
+
+
+def version():
+    """The version of the library, as three numbers."""
+    call = _library.wide_version
+    call.argtypes, call.restype = [], ctypes.c_uint32
+    number = call()
+    return number >> 16, number >> 8 & 0xFF, number & 0xFF
+
+
+if version()[:2] != _VERSION:
+    raise ImportError(f"the library of widestring has version {version()}")
+
+
+def _elements(data, width):
+    """The text as bytes, and its length in elements."""
+    data = data if isinstance(data, bytes) else memoryview(data).tobytes()
+    if len(data) % width:
+        raise ValueError("part of a unit stands at the end")
+    return data, len(data) // width
+
+
+def _number(call, data, width, *more):
+    """What a call answers, or None for the number that stands for nothing."""
+    data, length = _elements(data, width)
+    answer = call(data, length, *more)
+    return None if answer == _NONE else answer
+
+
+def _place(call, data, width, *more):
+    """The same of a call that answers the length where it finds nothing."""
+    data, length = _elements(data, width)
+    answer = call(data, length, *more)
+    return None if answer == length else answer
+
+
+class _Conversion:
+    """A call that writes: the widths of what it reads and writes, and the call that tells the length of sound text."""
+
+    def __init__(self, name, width, room_width, length_name=None, *types):
+        self.call = _call(name, *types, ctypes.c_char_p, ctypes.c_size_t)
+        self.length = _call(length_name) if length_name else None
+        self.width, self.room_width = width, room_width
+
+    def write(self, data, length, needed, *more):
+        """Bytes that the call writes once they are made: nobody else has them yet."""
+        room = _new_bytes(None, needed * self.room_width)
+        self.call(data, length, *more, room, needed)
+        return room
+
+    def strict(self, data, first_fault):
+        data, length = _elements(data, self.width)
+        needed = self.length(data, length)
+        if needed == _NONE:
+            raise Fault(first_fault(data, length))
+        return self.write(data, length, needed)
+
+    def lossy(self, data, *more):
+        data, length = _elements(data, self.width)
+        # Where nothing has to be changed, the length is that of strict text, which is told sooner.
+        needed = self.length(data, length) if self.length else _NONE
+        if needed == _NONE:
+            needed = self.call(data, length, *more, None, 0)
+        return self.write(data, length, needed, *more)
+
+
+_first_fault8 = _call("utf8_first_fault")
+_first_fault16 = _call("utf16_first_fault")
+_first_fault32 = _call("utf32_first_fault")
+_first_fault_item16 = _call("utf16_first_fault_item")
+_first_fault_item32 = _call("utf32_first_fault_item")
+_char_count8 = _call("utf8_char_count")
+_char_count16 = _call("utf16_char_count")
+_char_count32 = _call("utf32_char_count")
+_first_nul16 = _call("utf16_first_nul")
+_first_nul32 = _call("utf32_first_nul")
+_find_unit16 = _call("utf16_find_unit", ctypes.c_uint16)
+_find_unit32 = _call("utf32_find_unit", ctypes.c_uint32)
+_find16 = _call("utf16_find", ctypes.c_char_p, ctypes.c_size_t)
+_find32 = _call("utf32_find", ctypes.c_char_p, ctypes.c_size_t)
+_utf16_to_utf8 = _Conversion("utf16_to_utf8", 2, 1, "utf16_utf8_length")
+_utf32_to_utf8 = _Conversion("utf32_to_utf8", 4, 1, "utf32_utf8_length")
+_utf8_to_utf16 = _Conversion("utf8_to_utf16", 1, 2, "utf8_utf16_length")
+_utf8_to_utf32 = _Conversion("utf8_to_utf32", 1, 4, "utf8_utf32_length")
+_utf16_to_utf32 = _Conversion("utf16_to_utf32", 2, 4, "utf16_utf32_length")
+_utf32_to_utf16 = _Conversion("utf32_to_utf16", 4, 2, "utf32_utf16_length")
+_utf16_to_utf8_lossy = _Conversion("utf16_to_utf8_lossy_with", 2, 1, "utf16_utf8_length", ctypes.c_uint32)
+_utf32_to_utf8_lossy = _Conversion("utf32_to_utf8_lossy_with", 4, 1, "utf32_utf8_length", ctypes.c_uint32)
+_utf8_to_utf16_lossy = _Conversion("utf8_to_utf16_lossy_with", 1, 2, "utf8_utf16_length", ctypes.c_uint32)
+_utf8_to_utf32_lossy = _Conversion("utf8_to_utf32_lossy_with", 1, 4, "utf8_utf32_length", ctypes.c_uint32)
+_utf16_repair = _Conversion("utf16_repair", 2, 2)
+_utf32_repair = _Conversion("utf32_repair", 4, 4)
+
+
+def utf8_first_fault(text):
+    """The place of the first byte that belongs to no character, or None where the text is well formed."""
+    return _place(_first_fault8, text, 1)
+
+
+def utf16_first_fault(units):
+    """The place of the first unit that belongs to no character, or None where the units are well formed."""
+    return _place(_first_fault16, units, 2)
+
+
+def utf32_first_fault(units):
+    """The same of UTF-32."""
+    return _place(_first_fault32, units, 4)
+
+
+def utf16_first_fault_item(units):
+    """How many characters stand before the first fault, or None where the units are well formed."""
+    return _number(_first_fault_item16, units, 2)
+
+
+def utf32_first_fault_item(units):
+    """The same of UTF-32."""
+    return _number(_first_fault_item32, units, 4)
+
+
+def utf8_char_count(text):
+    """How many characters the text has, or None where it is not well formed."""
+    return _number(_char_count8, text, 1)
+
+
+def utf16_char_count(units):
+    """The same of UTF-16."""
+    return _number(_char_count16, units, 2)
+
+
+def utf32_char_count(units):
+    """The same of UTF-32."""
+    return _number(_char_count32, units, 4)
+
+
+def utf16_first_nul(units):
+    """The place of the first unit that is 0, or None."""
+    return _place(_first_nul16, units, 2)
+
+
+def utf32_first_nul(units):
+    """The same of UTF-32."""
+    return _place(_first_nul32, units, 4)
+
+
+def utf16_find_unit(units, unit):
+    """The place of the first unit of this number, or None."""
+    return _place(_find_unit16, units, 2, unit) if 0 <= unit <= 0xFFFF else None
+
+
+def utf32_find_unit(units, unit):
+    """The same of UTF-32."""
+    return _place(_find_unit32, units, 4, unit) if 0 <= unit <= 0xFFFFFFFF else None
+
+
+def utf16_find(units, part):
+    """The first place at which the part stands, or None. An empty part stands at 0."""
+    return _number(_find16, units, 2, *_elements(part, 2))
+
+
+def utf32_find(units, part):
+    """The same of UTF-32."""
+    return _number(_find32, units, 4, *_elements(part, 4))
+
+
+def utf16_to_utf8(units):
+    """The text in UTF-8. Raises Fault where the units are not well formed, as the conversions below do."""
+    return _utf16_to_utf8.strict(units, _first_fault16)
+
+
+def utf32_to_utf8(units):
+    """The text in UTF-8."""
+    return _utf32_to_utf8.strict(units, _first_fault32)
+
+
+def utf8_to_utf16(text):
+    """The text in UTF-16."""
+    return _utf8_to_utf16.strict(text, _first_fault8)
+
+
+def utf8_to_utf32(text):
+    """The text in UTF-32."""
+    return _utf8_to_utf32.strict(text, _first_fault8)
+
+
+def utf16_to_utf32(units):
+    """The text in UTF-32."""
+    return _utf16_to_utf32.strict(units, _first_fault16)
+
+
+def utf32_to_utf16(units):
+    """The text in UTF-16."""
+    return _utf32_to_utf16.strict(units, _first_fault32)
+
+
+def utf16_to_utf8_lossy(units, policy=Lossy.EACH):
+    """The text of any units in UTF-8, with what the policy gives for each unit that belongs to no character."""
+    return _utf16_to_utf8_lossy.lossy(units, Lossy(policy))
+
+
+def utf32_to_utf8_lossy(units, policy=Lossy.EACH):
+    """The same of UTF-32."""
+    return _utf32_to_utf8_lossy.lossy(units, Lossy(policy))
+
+
+def utf8_to_utf16_lossy(text, policy=Lossy.EACH):
+    """The text of any bytes in UTF-16, with what the policy gives for each longest part that begins a character and doesn't go on as one."""
+    return _utf8_to_utf16_lossy.lossy(text, Lossy(policy))
+
+
+def utf8_to_utf32_lossy(text, policy=Lossy.EACH):
+    """The same in UTF-32."""
+    return _utf8_to_utf32_lossy.lossy(text, Lossy(policy))
+
+
+def utf16_repair(units):
+    """The units with U+FFFD in the place of each that belongs to no character."""
+    return _utf16_repair.lossy(units)
+
+
+def utf32_repair(units):
+    """The same of UTF-32."""
+    return _utf32_repair.lossy(units)
