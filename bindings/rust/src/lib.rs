@@ -1,0 +1,381 @@
+//! UTF-16, UTF-32 and UTF-8 by a library whose functions are proved for all units, well formed or not.
+//!
+//! Places and lengths are counted in elements: units, or bytes of UTF-8. What makes a vector asks for its memory once, of the length of the
+//! text; the calls whose names end with `_into` write into a room of the caller's, and leave what lies behind their answer.
+#![no_std]
+#![warn(missing_docs)]
+
+extern crate alloc;
+
+mod calls;
+
+use alloc::string::String;
+use alloc::vec::Vec;
+use calls::{Ask, Put, PutWith};
+use core::fmt;
+
+/// The text is not well formed: the place of the first element that belongs to no character.
+#[derive(Clone, Copy, Debug, PartialEq, Eq)]
+pub struct Fault {
+    /// The place, in elements.
+    pub place: usize,
+}
+
+impl fmt::Display for Fault {
+    fn fmt(&self, f: &mut fmt::Formatter<'_>) -> fmt::Result {
+        write!(f, "not well formed at place {}", self.place)
+    }
+}
+
+/// What lossy text has for what belongs to no character.
+#[derive(Clone, Copy, Debug, PartialEq, Eq)]
+#[repr(u32)]
+pub enum Lossy {
+    /// U+FFFD for each.
+    Each = 0,
+    /// One U+FFFD for each longest row of neighbours.
+    Run = 1,
+    /// Nothing.
+    Skip = 2,
+}
+
+/// The version of the library: 65,536 times its first number, 256 times the second, and the third.
+pub fn version() -> u32 {
+    // It takes nothing.
+    unsafe { calls::wide_version() }
+}
+
+fn ask<T>(items: &[T], call: Ask<T>) -> usize {
+    // A slice is memory that may be read, of this length.
+    unsafe { call(items.as_ptr(), items.len()) }
+}
+
+/// What a call answers, or none for the number that stands for it.
+fn unless(none: usize, answer: usize) -> Option<usize> {
+    (answer != none).then_some(answer)
+}
+
+/// The length that a conversion answers, or the place of the first fault.
+fn or_fault<T>(items: &[T], length: usize, first_fault: Ask<T>) -> Result<usize, Fault> {
+    unless(usize::MAX, length).ok_or_else(|| Fault {
+        place: ask(items, first_fault),
+    })
+}
+
+fn put<T, U>(items: &[T], room: &mut [U], call: Put<T, U>) -> usize {
+    // Both slices are memory of these lengths, and one that may be written overlaps no other.
+    unsafe { call(items.as_ptr(), items.len(), room.as_mut_ptr(), room.len()) }
+}
+
+fn put_with<T, U>(items: &[T], policy: Lossy, room: &mut [U], call: PutWith<T, U>) -> usize {
+    // As before.
+    unsafe {
+        call(
+            items.as_ptr(),
+            items.len(),
+            policy as u32,
+            room.as_mut_ptr(),
+            room.len(),
+        )
+    }
+}
+
+/// A vector of this length, which a call writes as a whole, and is told of as a pointer and a room.
+fn written<U: Copy>(length: usize, call: impl FnOnce(*mut U, usize) -> usize) -> Vec<U> {
+    let mut vec = Vec::with_capacity(length);
+    let answer = call(vec.as_mut_ptr(), length);
+    assert_eq!(
+        answer, length,
+        "the library answers one length for one text"
+    );
+    // The call has written what it answers, since there was room for it.
+    unsafe { vec.set_len(length) };
+    vec
+}
+
+fn strict<T, U: Copy>(
+    items: &[T],
+    length: Ask<T>,
+    first_fault: Ask<T>,
+    call: Put<T, U>,
+) -> Result<Vec<U>, Fault> {
+    let needed = or_fault(items, ask(items, length), first_fault)?;
+    // The vector has this room, and is new.
+    Ok(written(needed, |room, size| unsafe {
+        call(items.as_ptr(), items.len(), room, size)
+    }))
+}
+
+fn lossy<T, U: Copy>(items: &[T], policy: Lossy, length: Ask<T>, call: PutWith<T, U>) -> Vec<U> {
+    // Where nothing has to be changed, the length is that of strict text, which is told sooner.
+    let needed = unless(usize::MAX, ask(items, length))
+        .unwrap_or_else(|| put_with(items, policy, &mut [], call));
+    // The vector has this room, and is new.
+    written(needed, |room, size| unsafe {
+        call(items.as_ptr(), items.len(), policy as u32, room, size)
+    })
+}
+
+/// A string of bytes that the library wrote as UTF-8.
+fn string(text: Vec<u8>) -> String {
+    // That it writes UTF-8 alone is proved.
+    unsafe { String::from_utf8_unchecked(text) }
+}
+
+/// The place of the first byte that belongs to no character of UTF-8, where there is one.
+pub fn utf8_first_fault(text: &[u8]) -> Option<usize> {
+    unless(text.len(), ask(text, calls::wide_utf8_first_fault))
+}
+
+/// The place of the first unit of UTF-16 that belongs to no character, where there is one.
+pub fn utf16_first_fault(units: &[u16]) -> Option<usize> {
+    unless(units.len(), ask(units, calls::wide_utf16_first_fault))
+}
+
+/// The place of the first unit that is no scalar value, where there is one.
+pub fn utf32_first_fault(units: &[u32]) -> Option<usize> {
+    unless(units.len(), ask(units, calls::wide_utf32_first_fault))
+}
+
+/// How many characters stand before the first fault of UTF-16, where there is one.
+pub fn utf16_first_fault_item(units: &[u16]) -> Option<usize> {
+    unless(usize::MAX, ask(units, calls::wide_utf16_first_fault_item))
+}
+
+/// The same of UTF-32.
+pub fn utf32_first_fault_item(units: &[u32]) -> Option<usize> {
+    unless(usize::MAX, ask(units, calls::wide_utf32_first_fault_item))
+}
+
+/// How many characters well-formed UTF-8 has.
+pub fn utf8_char_count(text: &[u8]) -> Option<usize> {
+    unless(usize::MAX, ask(text, calls::wide_utf8_char_count))
+}
+
+/// How many characters well-formed UTF-16 has.
+pub fn utf16_char_count(units: &[u16]) -> Option<usize> {
+    unless(usize::MAX, ask(units, calls::wide_utf16_char_count))
+}
+
+/// How many characters well-formed UTF-32 has.
+pub fn utf32_char_count(units: &[u32]) -> Option<usize> {
+    unless(usize::MAX, ask(units, calls::wide_utf32_char_count))
+}
+
+/// The place of the first unit that is 0, where there is one.
+pub fn utf16_first_nul(units: &[u16]) -> Option<usize> {
+    unless(units.len(), ask(units, calls::wide_utf16_first_nul))
+}
+
+/// The same of UTF-32.
+pub fn utf32_first_nul(units: &[u32]) -> Option<usize> {
+    unless(units.len(), ask(units, calls::wide_utf32_first_nul))
+}
+
+/// The place of the first unit that is `unit`, where there is one.
+pub fn utf16_find_unit(units: &[u16], unit: u16) -> Option<usize> {
+    // A slice is memory that may be read, of this length.
+    unless(units.len(), unsafe {
+        calls::wide_utf16_find_unit(units.as_ptr(), units.len(), unit)
+    })
+}
+
+/// The same of UTF-32.
+pub fn utf32_find_unit(units: &[u32], unit: u32) -> Option<usize> {
+    // As before.
+    unless(units.len(), unsafe {
+        calls::wide_utf32_find_unit(units.as_ptr(), units.len(), unit)
+    })
+}
+
+/// The first place at which the part stands, where it does. An empty part stands at 0.
+pub fn utf16_find(units: &[u16], part: &[u16]) -> Option<usize> {
+    // As before, of both.
+    unless(usize::MAX, unsafe {
+        calls::wide_utf16_find(units.as_ptr(), units.len(), part.as_ptr(), part.len())
+    })
+}
+
+/// The same of UTF-32.
+pub fn utf32_find(units: &[u32], part: &[u32]) -> Option<usize> {
+    // As before, of both.
+    unless(usize::MAX, unsafe {
+        calls::wide_utf32_find(units.as_ptr(), units.len(), part.as_ptr(), part.len())
+    })
+}
+
+/// The text of well-formed UTF-16 in UTF-8.
+pub fn utf16_to_utf8(units: &[u16]) -> Result<String, Fault> {
+    strict(
+        units,
+        calls::wide_utf16_utf8_length,
+        calls::wide_utf16_first_fault,
+        calls::wide_utf16_to_utf8,
+    )
+    .map(string)
+}
+
+/// The text of well-formed UTF-32 in UTF-8.
+pub fn utf32_to_utf8(units: &[u32]) -> Result<String, Fault> {
+    strict(
+        units,
+        calls::wide_utf32_utf8_length,
+        calls::wide_utf32_first_fault,
+        calls::wide_utf32_to_utf8,
+    )
+    .map(string)
+}
+
+/// The text of well-formed UTF-8 in UTF-16.
+pub fn utf8_to_utf16(text: &[u8]) -> Result<Vec<u16>, Fault> {
+    strict(
+        text,
+        calls::wide_utf8_utf16_length,
+        calls::wide_utf8_first_fault,
+        calls::wide_utf8_to_utf16,
+    )
+}
+
+/// The text of well-formed UTF-8 in UTF-32.
+pub fn utf8_to_utf32(text: &[u8]) -> Result<Vec<u32>, Fault> {
+    strict(
+        text,
+        calls::wide_utf8_utf32_length,
+        calls::wide_utf8_first_fault,
+        calls::wide_utf8_to_utf32,
+    )
+}
+
+/// The text of well-formed UTF-16 in UTF-32.
+pub fn utf16_to_utf32(units: &[u16]) -> Result<Vec<u32>, Fault> {
+    strict(
+        units,
+        calls::wide_utf16_utf32_length,
+        calls::wide_utf16_first_fault,
+        calls::wide_utf16_to_utf32,
+    )
+}
+
+/// The text of well-formed UTF-32 in UTF-16.
+pub fn utf32_to_utf16(units: &[u32]) -> Result<Vec<u16>, Fault> {
+    strict(
+        units,
+        calls::wide_utf32_utf16_length,
+        calls::wide_utf32_first_fault,
+        calls::wide_utf32_to_utf16,
+    )
+}
+
+/// The text of any UTF-16 in UTF-8, with what the policy gives for each unit that belongs to no character.
+pub fn utf16_to_utf8_lossy(units: &[u16], policy: Lossy) -> String {
+    string(lossy(
+        units,
+        policy,
+        calls::wide_utf16_utf8_length,
+        calls::wide_utf16_to_utf8_lossy_with,
+    ))
+}
+
+/// The same of UTF-32.
+pub fn utf32_to_utf8_lossy(units: &[u32], policy: Lossy) -> String {
+    string(lossy(
+        units,
+        policy,
+        calls::wide_utf32_utf8_length,
+        calls::wide_utf32_to_utf8_lossy_with,
+    ))
+}
+
+/// The text of any bytes in UTF-16, with what the policy gives for each longest part that begins a character of UTF-8 and does not go on as
+/// one, and for each byte that begins none.
+pub fn utf8_to_utf16_lossy(text: &[u8], policy: Lossy) -> Vec<u16> {
+    lossy(
+        text,
+        policy,
+        calls::wide_utf8_utf16_length,
+        calls::wide_utf8_to_utf16_lossy_with,
+    )
+}
+
+/// The same in UTF-32.
+pub fn utf8_to_utf32_lossy(text: &[u8], policy: Lossy) -> Vec<u32> {
+    lossy(
+        text,
+        policy,
+        calls::wide_utf8_utf32_length,
+        calls::wide_utf8_to_utf32_lossy_with,
+    )
+}
+
+/// The units with U+FFFD in the place of each that belongs to no character.
+pub fn utf16_repair(units: &[u16]) -> Vec<u16> {
+    // The vector has this room, and is new.
+    written(units.len(), |room, size| unsafe {
+        calls::wide_utf16_repair(units.as_ptr(), units.len(), room, size)
+    })
+}
+
+/// The same of UTF-32.
+pub fn utf32_repair(units: &[u32]) -> Vec<u32> {
+    // The vector has this room, and is new.
+    written(units.len(), |room, size| unsafe {
+        calls::wide_utf32_repair(units.as_ptr(), units.len(), room, size)
+    })
+}
+
+/// Puts the text of well-formed UTF-16 in UTF-8 in front of the room, if it is as large, and answers how many bytes it has. Where the room is
+/// smaller, what it holds is not said; a fault leaves it as it was. So do the calls below.
+pub fn utf16_to_utf8_into(units: &[u16], room: &mut [u8]) -> Result<usize, Fault> {
+    or_fault(
+        units,
+        put(units, room, calls::wide_utf16_to_utf8),
+        calls::wide_utf16_first_fault,
+    )
+}
+
+/// The same of UTF-32.
+pub fn utf32_to_utf8_into(units: &[u32], room: &mut [u8]) -> Result<usize, Fault> {
+    or_fault(
+        units,
+        put(units, room, calls::wide_utf32_to_utf8),
+        calls::wide_utf32_first_fault,
+    )
+}
+
+/// The text of well-formed UTF-8 in UTF-16.
+pub fn utf8_to_utf16_into(text: &[u8], room: &mut [u16]) -> Result<usize, Fault> {
+    or_fault(
+        text,
+        put(text, room, calls::wide_utf8_to_utf16),
+        calls::wide_utf8_first_fault,
+    )
+}
+
+/// The text of well-formed UTF-8 in UTF-32.
+pub fn utf8_to_utf32_into(text: &[u8], room: &mut [u32]) -> Result<usize, Fault> {
+    or_fault(
+        text,
+        put(text, room, calls::wide_utf8_to_utf32),
+        calls::wide_utf8_first_fault,
+    )
+}
+
+/// The text of any UTF-16 in UTF-8, under a policy.
+pub fn utf16_to_utf8_lossy_into(units: &[u16], policy: Lossy, room: &mut [u8]) -> usize {
+    put_with(units, policy, room, calls::wide_utf16_to_utf8_lossy_with)
+}
+
+/// The same of UTF-32.
+pub fn utf32_to_utf8_lossy_into(units: &[u32], policy: Lossy, room: &mut [u8]) -> usize {
+    put_with(units, policy, room, calls::wide_utf32_to_utf8_lossy_with)
+}
+
+/// The text of any bytes in UTF-16, under a policy.
+pub fn utf8_to_utf16_lossy_into(text: &[u8], policy: Lossy, room: &mut [u16]) -> usize {
+    put_with(text, policy, room, calls::wide_utf8_to_utf16_lossy_with)
+}
+
+/// The same in UTF-32.
+pub fn utf8_to_utf32_lossy_into(text: &[u8], policy: Lossy, room: &mut [u32]) -> usize {
+    put_with(text, policy, room, calls::wide_utf8_to_utf32_lossy_with)
+}

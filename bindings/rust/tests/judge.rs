@@ -1,0 +1,267 @@
+//! Judges the crate by std, with texts made at random: JUDGE_COUNT of each kind, or 100,000, from JUDGE_SEED.
+use std::fmt::Debug;
+use widestring_proved::*;
+
+const POLICIES: [Lossy; 3] = [Lossy::Each, Lossy::Run, Lossy::Skip];
+
+/// Text as std reads it: characters, and none for each fault.
+type Items = Vec<Option<char>>;
+
+struct Numbers(u64);
+
+impl Numbers {
+    fn new() -> Self {
+        Self(0x9e37_79b9_7f4a_7c15_u64.wrapping_mul(2 * asked("JUDGE_SEED", 1) + 1))
+    }
+
+    fn below(&mut self, bound: u32) -> u32 {
+        self.0 ^= self.0 << 13;
+        self.0 ^= self.0 >> 7;
+        self.0 ^= self.0 << 17;
+        (self.0 >> 33) as u32 % bound
+    }
+
+    /// A text of std's: of ASCII mostly, and of characters below a bound.
+    fn text(&mut self) -> String {
+        let bound = [0x80, 0x800, 0x1_0000, 0x11_0000][self.below(4) as usize];
+        let most = [20, 20, 20, 20, 20, 20, 150, 600][self.below(8) as usize];
+        let length = self.below(most);
+        (0..length)
+            .filter_map(|_| {
+                let bound = if self.below(4) == 0 { bound } else { 0x80 };
+                char::from_u32(self.below(bound))
+            })
+            .collect()
+    }
+
+    /// Elements with others of any value in every second case, and cut at a place in some.
+    fn broken<T: Copy>(&mut self, mut items: Vec<T>, any: impl Fn(u32) -> T) -> Vec<T> {
+        for _ in 0..if self.below(2) == 0 { 0 } else { self.below(8) } {
+            let wild = match self.below(3) {
+                0 => 0xd800 + self.below(0x800),
+                1 => self.below(0x12_0000),
+                _ => self.below(u32::MAX),
+            };
+            let at = self.below(items.len() as u32 + 1) as usize;
+            items.insert(at, any(wild));
+        }
+        if self.below(8) == 0 {
+            items.truncate(self.below(items.len() as u32 + 1) as usize);
+        }
+        items
+    }
+}
+
+fn asked(name: &str, otherwise: u64) -> u64 {
+    std::env::var(name).map_or(otherwise, |text| text.parse().expect("a number"))
+}
+
+fn lossy_of(items: &Items, policy: Lossy) -> String {
+    let mut text = String::new();
+    let mut after = false;
+    for item in items {
+        match item {
+            Some(c) => text.push(*c),
+            None if policy == Lossy::Each || policy == Lossy::Run && !after => {
+                text.push('\u{fffd}')
+            }
+            None => {}
+        }
+        after = item.is_none();
+    }
+    text
+}
+
+/// The text, if it has no fault.
+fn sound<T>(items: &Items, place: Option<usize>, make: impl Fn(&str) -> T) -> Result<T, Fault> {
+    match place {
+        None => Ok(make(&lossy_of(items, Lossy::Skip))),
+        Some(place) => Err(Fault { place }),
+    }
+}
+
+/// A call into rooms that are exact, longer, shorter and of no element, with marked elements behind each.
+fn fills<T: Copy + PartialEq + Debug>(
+    wanted: Result<&[T], Fault>,
+    mark: T,
+    call: impl Fn(&mut [T]) -> Result<usize, Fault>,
+) {
+    let needed = wanted.map_or(7, <[T]>::len);
+    for size in [needed, needed + 9, needed / 2, needed.saturating_sub(1), 0] {
+        let mut all = vec![mark; size + 70];
+        let (room, behind) = all.split_at_mut(size);
+        assert_eq!(call(room), wanted.map(<[T]>::len));
+        assert!(behind.iter().all(|item| *item == mark));
+        match wanted {
+            Ok(items) if items.len() <= size => {
+                assert_eq!(&room[..needed], items);
+                assert!(room[needed..].iter().all(|item| *item == mark));
+            }
+            Ok(_) => {}
+            Err(_) => assert!(room.iter().all(|item| *item == mark)),
+        }
+    }
+}
+
+fn utf16_of(text: &str) -> Vec<u16> {
+    text.encode_utf16().collect()
+}
+
+fn utf32_of(text: &str) -> Vec<u32> {
+    text.chars().map(u32::from).collect()
+}
+
+fn check_utf8(text: &[u8]) {
+    let mut items = Items::new();
+    for chunk in text.utf8_chunks() {
+        items.extend(chunk.valid().chars().map(Some));
+        items.extend((!chunk.invalid().is_empty()).then_some(None));
+    }
+    let place = std::str::from_utf8(text)
+        .err()
+        .map(|error| error.valid_up_to());
+    assert_eq!(utf8_first_fault(text), place);
+    assert_eq!(
+        utf8_char_count(text),
+        place.is_none().then_some(items.len())
+    );
+    assert_eq!(utf8_to_utf16(text), sound(&items, place, utf16_of));
+    assert_eq!(utf8_to_utf32(text), sound(&items, place, utf32_of));
+    assert_eq!(
+        utf8_to_utf16_lossy(text, Lossy::Each),
+        utf16_of(&String::from_utf8_lossy(text))
+    );
+    let (units, wide) = (
+        sound(&items, place, utf16_of),
+        sound(&items, place, utf32_of),
+    );
+    fills(units.as_deref().map_err(|fault| *fault), 0xa5a5, |room| {
+        utf8_to_utf16_into(text, room)
+    });
+    fills(
+        wide.as_deref().map_err(|fault| *fault),
+        0xa5a5_a5a5,
+        |room| utf8_to_utf32_into(text, room),
+    );
+    for policy in POLICIES {
+        let lossy = lossy_of(&items, policy);
+        let (units, wide) = (utf16_of(&lossy), utf32_of(&lossy));
+        assert_eq!(utf8_to_utf16_lossy(text, policy), units);
+        assert_eq!(utf8_to_utf32_lossy(text, policy), wide);
+        fills(Ok(&units), 0xa5a5, |room| {
+            Ok(utf8_to_utf16_lossy_into(text, policy, room))
+        });
+        fills(Ok(&wide), 0xa5a5_a5a5, |room| {
+            Ok(utf8_to_utf32_lossy_into(text, policy, room))
+        });
+    }
+}
+
+/// The first place of a part, by std's windows.
+fn place_of<T: PartialEq>(items: &[T], part: &[T]) -> Option<usize> {
+    match part.len() {
+        0 => Some(0),
+        length => items.windows(length).position(|window| window == part),
+    }
+}
+
+fn check_utf16(units: &[u16], numbers: &mut Numbers) {
+    let items: Items = char::decode_utf16(units.iter().copied())
+        .map(Result::ok)
+        .collect();
+    let item = items.iter().position(Option::is_none);
+    let place = item.map(|item| items[..item].iter().flatten().map(|c| c.len_utf16()).sum());
+    let text = sound(&items, place, str::to_owned);
+    assert_eq!(text.clone().ok(), String::from_utf16(units).ok());
+    assert_eq!(utf16_first_fault(units), place);
+    assert_eq!(utf16_first_fault_item(units), item);
+    assert_eq!(
+        utf16_char_count(units),
+        place.is_none().then_some(items.len())
+    );
+    assert_eq!(utf16_to_utf8(units), text);
+    assert_eq!(utf16_to_utf32(units), sound(&items, place, utf32_of));
+    assert_eq!(
+        utf16_repair(units),
+        utf16_of(&String::from_utf16_lossy(units))
+    );
+    fills(
+        text.as_ref()
+            .map(|text| text.as_bytes())
+            .map_err(|fault| *fault),
+        0xa5,
+        |room| utf16_to_utf8_into(units, room),
+    );
+    for policy in POLICIES {
+        let lossy = lossy_of(&items, policy);
+        assert_eq!(utf16_to_utf8_lossy(units, policy), lossy);
+        fills(Ok(lossy.as_bytes()), 0xa5, |room| {
+            Ok(utf16_to_utf8_lossy_into(units, policy, room))
+        });
+    }
+    let at = numbers.below(units.len() as u32 + 1) as usize;
+    let part = &units[at..(at + numbers.below(9) as usize).min(units.len())];
+    assert_eq!(utf16_find(units, part), place_of(units, part));
+    assert_eq!(utf16_find_unit(units, 0x7a), place_of(units, &[0x7a]));
+    assert_eq!(utf16_first_nul(units), place_of(units, &[0]));
+}
+
+fn check_utf32(units: &[u32], numbers: &mut Numbers) {
+    let items: Items = units.iter().map(|unit| char::from_u32(*unit)).collect();
+    let place = items.iter().position(Option::is_none);
+    let text = sound(&items, place, str::to_owned);
+    assert_eq!(utf32_first_fault(units), place);
+    assert_eq!(utf32_first_fault_item(units), place);
+    assert_eq!(
+        utf32_char_count(units),
+        place.is_none().then_some(items.len())
+    );
+    assert_eq!(utf32_to_utf8(units), text);
+    assert_eq!(utf32_to_utf16(units), sound(&items, place, utf16_of));
+    assert_eq!(
+        utf32_repair(units),
+        utf32_of(&lossy_of(&items, Lossy::Each))
+    );
+    fills(
+        text.as_ref()
+            .map(|text| text.as_bytes())
+            .map_err(|fault| *fault),
+        0xa5,
+        |room| utf32_to_utf8_into(units, room),
+    );
+    for policy in POLICIES {
+        let lossy = lossy_of(&items, policy);
+        assert_eq!(utf32_to_utf8_lossy(units, policy), lossy);
+        fills(Ok(lossy.as_bytes()), 0xa5, |room| {
+            Ok(utf32_to_utf8_lossy_into(units, policy, room))
+        });
+    }
+    let at = numbers.below(units.len() as u32 + 1) as usize;
+    let part = &units[at..(at + numbers.below(9) as usize).min(units.len())];
+    assert_eq!(utf32_find(units, part), place_of(units, part));
+    assert_eq!(utf32_find_unit(units, 0x7a), place_of(units, &[0x7a]));
+    assert_eq!(utf32_first_nul(units), place_of(units, &[0]));
+}
+
+#[test]
+fn version_is_the_crates() {
+    let number = env!("CARGO_PKG_VERSION")
+        .split('.')
+        .fold(0, |number, part| {
+            256 * number + part.parse::<u32>().expect("a number")
+        });
+    assert_eq!(version(), number);
+}
+
+#[test]
+fn texts() {
+    let mut numbers = Numbers::new();
+    for _ in 0..asked("JUDGE_COUNT", 100_000) {
+        let text = numbers.text();
+        check_utf8(&numbers.broken(text.clone().into_bytes(), |wild| wild as u8));
+        let units = numbers.broken(utf16_of(&text), |wild| wild as u16);
+        check_utf16(&units, &mut numbers);
+        let wide = numbers.broken(utf32_of(&text), |wild| wild);
+        check_utf32(&wide, &mut numbers);
+    }
+}
