@@ -6,8 +6,8 @@ int main() {
     const std::u16string units = {u'H', u'i', 0xd83d, 0xde00, 0xdc00, 0xdc00};
     if (const auto place = widestring::first_fault(units))
         std::cout << "a fault at unit " << *place << '\n';
-    if (!widestring::to_utf8(units))
-        std::cout << "no text\n";
+    if (const auto text = widestring::to_utf8(units))
+        std::cout << *text << '\n';
     for (const auto policy : {widestring::Lossy::each, widestring::Lossy::run, widestring::Lossy::skip})
         std::cout << widestring::to_utf8_lossy(units, policy) << '\n';
 }

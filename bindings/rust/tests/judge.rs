@@ -111,7 +111,8 @@ fn utf32_of(text: &str) -> Vec<u32> {
     text.chars().map(u32::from).collect()
 }
 
-fn check_utf8(text: &[u8]) {
+/// The items of bytes, and the place of the first fault.
+fn utf8_items(text: &[u8]) -> (Items, Option<usize>) {
     let mut items = Items::new();
     for chunk in text.utf8_chunks() {
         items.extend(chunk.valid().chars().map(Some));
@@ -120,20 +121,25 @@ fn check_utf8(text: &[u8]) {
     let place = std::str::from_utf8(text)
         .err()
         .map(|error| error.valid_up_to());
+    (items, place)
+}
+
+fn check_utf8(text: &[u8]) {
+    let (items, place) = utf8_items(text);
+    let (units, wide) = (
+        sound(&items, place, utf16_of),
+        sound(&items, place, utf32_of),
+    );
     assert_eq!(utf8_first_fault(text), place);
     assert_eq!(
         utf8_char_count(text),
         place.is_none().then_some(items.len())
     );
-    assert_eq!(utf8_to_utf16(text), sound(&items, place, utf16_of));
-    assert_eq!(utf8_to_utf32(text), sound(&items, place, utf32_of));
+    assert_eq!(utf8_to_utf16(text), units);
+    assert_eq!(utf8_to_utf32(text), wide);
     assert_eq!(
         utf8_to_utf16_lossy(text, Lossy::Each),
         utf16_of(&String::from_utf8_lossy(text))
-    );
-    let (units, wide) = (
-        sound(&items, place, utf16_of),
-        sound(&items, place, utf32_of),
     );
     fills(units.as_deref().map_err(|fault| *fault), 0xa5a5, |room| {
         utf8_to_utf16_into(text, room)
@@ -144,17 +150,20 @@ fn check_utf8(text: &[u8]) {
         |room| utf8_to_utf32_into(text, room),
     );
     for policy in POLICIES {
-        let lossy = lossy_of(&items, policy);
-        let (units, wide) = (utf16_of(&lossy), utf32_of(&lossy));
-        assert_eq!(utf8_to_utf16_lossy(text, policy), units);
-        assert_eq!(utf8_to_utf32_lossy(text, policy), wide);
-        fills(Ok(&units), 0xa5a5, |room| {
-            Ok(utf8_to_utf16_lossy_into(text, policy, room))
-        });
-        fills(Ok(&wide), 0xa5a5_a5a5, |room| {
-            Ok(utf8_to_utf32_lossy_into(text, policy, room))
-        });
+        check_utf8_lossy(text, policy, &lossy_of(&items, policy));
     }
+}
+
+fn check_utf8_lossy(text: &[u8], policy: Lossy, lossy: &str) {
+    let (units, wide) = (utf16_of(lossy), utf32_of(lossy));
+    assert_eq!(utf8_to_utf16_lossy(text, policy), units);
+    assert_eq!(utf8_to_utf32_lossy(text, policy), wide);
+    fills(Ok(&units), 0xa5a5, |room| {
+        Ok(utf8_to_utf16_lossy_into(text, policy, room))
+    });
+    fills(Ok(&wide), 0xa5a5_a5a5, |room| {
+        Ok(utf8_to_utf32_lossy_into(text, policy, room))
+    });
 }
 
 /// The first place of a part, by std's windows.
@@ -199,6 +208,10 @@ fn check_utf16(units: &[u16], numbers: &mut Numbers) {
             Ok(utf16_to_utf8_lossy_into(units, policy, room))
         });
     }
+    check_searches16(units, numbers);
+}
+
+fn check_searches16(units: &[u16], numbers: &mut Numbers) {
     let at = numbers.below(units.len() as u32 + 1) as usize;
     let part = &units[at..(at + numbers.below(9) as usize).min(units.len())];
     assert_eq!(utf16_find(units, part), place_of(units, part));
@@ -236,6 +249,10 @@ fn check_utf32(units: &[u32], numbers: &mut Numbers) {
             Ok(utf32_to_utf8_lossy_into(units, policy, room))
         });
     }
+    check_searches32(units, numbers);
+}
+
+fn check_searches32(units: &[u32], numbers: &mut Numbers) {
     let at = numbers.below(units.len() as u32 + 1) as usize;
     let part = &units[at..(at + numbers.below(9) as usize).min(units.len())];
     assert_eq!(utf32_find(units, part), place_of(units, part));
