@@ -183,6 +183,21 @@ void check(std::u32string_view text) {
     must(widestring::utf16_length(text) == length_of(text_of<std::u16string>(items)), "utf16_length");
 }
 
+// Texts of several pieces, which begin as they don't go on: with faults alone, and with shorter characters.
+void check_longer() {
+    for (const std::size_t length : {4091u, 4092u, 4093u, 4094u, 4095u, 4096u, 4097u, 5000u, 20000u}) {
+        check(std::string(length, '\x80') + "a");
+        check(std::u16string(length, 0xd800) + u"\xdc00");
+        check(std::u32string(length, 0xd800) + U"a");
+        check(std::u16string(length, u'a') + u"\xd83d\xde00\xde00\xde00");
+        check(std::u16string(length, u'a') + u"\xd83d\xd83d\xde00\xde00");
+        check(std::string(length, 'a') + "\xf0\x9f\x98\x80\x80\x80\x80\x80\x80");
+        check(std::string(length, 'a') + std::string(length, '\xf0'));
+        check(std::u16string(length, u'a') + std::u16string(length, 0x8a9e) + u"\xd83d\xde00");
+        check(std::u32string(length, U'a') + std::u32string(length, 0x1f600));
+    }
+}
+
 // A character, of ASCII or below a bound.
 std::uint32_t random_character(std::uint32_t bound) {
     const std::uint32_t c = below(4) == 0 ? below(bound) : below(0x80);
@@ -197,7 +212,8 @@ template <class String> void put_any(String &text) {
 
 template <class String> String random_text() {
     static const std::uint32_t bounds[] = {0x80, 0x800, 0x10000, 0x110000};
-    const std::uint32_t length = below(below(16) == 0 ? 600 : below(4) == 0 ? 150 : 20), bound = bounds[below(4)];
+    const std::uint32_t most = below(128) == 0 ? 15000 : below(16) == 0 ? 600 : below(4) == 0 ? 150 : 20;
+    const std::uint32_t length = below(most), bound = bounds[below(4)];
     const std::uint32_t faults = below(2) == 0 ? 0 : 1 + below(20);
     String text;
     while (text.size() < length)
@@ -231,6 +247,7 @@ int main(int count, char **words) {
     check(std::string_view());
     check(std::u16string_view());
     check(std::u32string_view());
+    check_longer();
     for (long at = 0; at < texts; at++) {
         check(random_text<std::string>());
         check(random_text<std::u16string>());

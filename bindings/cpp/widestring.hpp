@@ -1,7 +1,7 @@
 /*
- * The library for C++17 and later: UTF-8, UTF-16 and UTF-32 as views of std in, and strings of std out. Each call is one or two calls of
- * widestring.h, whose rules hold: they are proved for all units, well formed or not. What needs no string neither throws nor asks for memory;
- * what makes one asks for its memory once, of the length of the text, and throws what the string throws where that is refused.
+ * The library for C++17 and later: UTF-8, UTF-16 and UTF-32 as views of std in, and strings of std out, by calls of widestring.h, which are
+ * proved for all units, well formed or not. What needs no string neither throws nor asks for memory. What makes one asks for its memory once
+ * where the text goes on as it begins, and else as a string that grows, and throws what the string throws where memory is refused.
  *
  * Places and lengths are counted in elements: units, or bytes of UTF-8. Text that is not well formed is no value where a call is strict.
  */
@@ -15,6 +15,7 @@
 #include <optional>
 #include <string>
 #include <string_view>
+#include <utility>
 
 #if defined(__has_include) && __cplusplus >= 202002L
 #if __has_include(<span>)
@@ -55,8 +56,8 @@ inline std::string_view view(std::u8string_view text) noexcept {
 
 namespace detail {
 
-/* Text of at most so many elements goes by an array, since it is read once then. */
-constexpr std::size_t few = 128;
+/* So many elements go by an array on the stack: what they are and what is written of them stays in cache, and no string is filled before. */
+constexpr std::size_t piece = 4096;
 
 inline const std::uint8_t *elements(std::string_view text) noexcept {
     return reinterpret_cast<const std::uint8_t *>(text.data());
@@ -87,43 +88,99 @@ inline std::optional<std::size_t> unless(std::size_t none, std::size_t answer) n
     return answer == none ? std::nullopt : std::optional<std::size_t>(answer);
 }
 
-/* A string of this length, which a call writes. Where std can, it is not filled before; some versions hand on a greater length then. */
-template <class String, class Put> String written(std::size_t length, Put put) {
+/* The length of a front that ends between two characters, or behind what is none. A pair is not parted. */
+inline std::size_t front(std::u16string_view units) noexcept {
+    if (units.size() <= piece)
+        return units.size();
+    const bool is_pair = (units[piece - 1] & 0xfc00) == 0xd800 && (units[piece] & 0xfc00) == 0xdc00;
+    return is_pair ? piece - 1 : piece;
+}
+
+inline std::size_t front(std::u32string_view units) noexcept {
+    return units.size() <= piece ? units.size() : piece;
+}
+
+/* No more than three bytes go on with a character, so that one which begins before four of them ends before the last. */
+inline std::size_t front(std::string_view text) noexcept {
+    if (text.size() <= piece)
+        return text.size();
+    for (std::size_t at = piece; at > piece - 4; at--)
+        if ((text[at] & 0xc0) != 0x80)
+            return at;
+    return piece;
+}
+
+/*
+ * What a conversion writes of the rest of a text, behind what it wrote of the first piece in an array, as a string of a likely length. Where
+ * std can make one that is not filled before, all goes straight into it, and once more where that is too short; else it goes by the array.
+ */
+template <class String, class View, class Put, std::size_t Size>
+std::optional<String> joined(typename String::value_type (&room)[Size], std::size_t length, View rest, std::size_t likely, Put put) {
     String string;
 #ifdef __cpp_lib_string_resize_and_overwrite
-    string.resize_and_overwrite(length, [&](typename String::value_type *room, std::size_t) {
-        put(elements(room), length);
-        return length;
-    });
+    std::size_t whole = 0, needed = likely;
+    bool is_fault = false;
+    do {
+        whole = needed;
+        /* Some versions of std tell a greater length than there was asked for. */
+        string.resize_and_overwrite(whole, [&](typename String::value_type *to, std::size_t) {
+            String::traits_type::copy(to, room, length);
+            const std::size_t more = put(elements(rest), rest.size(), elements(to) + length, whole - length);
+            is_fault = more == WIDE_FAULT;
+            needed = is_fault ? 0 : length + more;
+            return needed <= whole ? needed : 0;
+        });
+    } while (needed > whole);
+    if (is_fault)
+        return std::nullopt;
 #else
-    string.resize(length);
-    put(elements(string.data()), length);
+    string.reserve(likely);
+    string.append(room, length);
+    while (!rest.empty()) {
+        const View next = rest.substr(0, front(rest));
+        const std::size_t more = put(elements(next), next.size(), elements(room), Size);
+        if (more == WIDE_FAULT)
+            return std::nullopt;
+        string.append(room, more);
+        rest.remove_prefix(next.size());
+    }
 #endif
+    return std::optional<String>(std::move(string));
+}
+
+/* The text that a conversion writes, or none where it answers a fault. Of a longer text, the first piece tells the likely length. */
+template <class String, class View, class Put> std::optional<String> converted(View text, Put put) {
+    /* An element becomes four bytes at most in each form. */
+    constexpr std::size_t size = 4 * piece / sizeof(typename String::value_type);
+    typename String::value_type room[size];
+    const View first = text.substr(0, front(text));
+    const std::size_t length = put(elements(first), first.size(), elements(room), size);
+    if (length == WIDE_FAULT)
+        return std::nullopt;
+    if (first.size() == text.size())
+        return std::optional<String>(std::in_place, room, length);
+    const std::size_t likely = length * (text.size() / first.size() + 1);
+    return joined<String>(room, length, text.substr(first.size()), likely + likely / 16, put);
+}
+
+/* Lossy text. A row of faults may go across pieces, so that under the policy of rows a text with faults is converted as a whole. */
+template <class String, class View, class Put, class PutLossy> String lossy(View text, Lossy policy, Put put, PutLossy put_lossy) {
+    const auto number = static_cast<std::uint32_t>(policy);
+    const auto put_with = [&](auto *from, std::size_t size, auto *room, std::size_t room_size) {
+        return put_lossy(from, size, number, room, room_size);
+    };
+    if (policy != Lossy::run)
+        return *converted<String>(text, put_with);
+    if (auto string = converted<String>(text, put))
+        return *std::move(string);
+    String string(put_lossy(elements(text), text.size(), number, nullptr, 0), 0);
+    put_with(elements(text), text.size(), elements(string.data()), string.size());
     return string;
 }
 
-/* What a call writes of a few elements, each of which has four elements at most. */
-template <class String, class Put> std::optional<String> written_of_few(Put put) {
-    typename String::value_type room[4 * few];
-    const std::size_t length = put(elements(room), 4 * few);
-    return length == WIDE_FAULT ? std::nullopt : std::optional<String>(std::in_place, room, length);
-}
-
-/* The text that a conversion writes, by the call that tells its length. */
-template <class String, class Length, class Put> std::optional<String> strict(std::size_t size, Length length, Put put) {
-    if (size <= few)
-        return written_of_few<String>(put);
-    const std::size_t needed = length();
-    return needed == WIDE_FAULT ? std::nullopt : std::optional<String>(written<String>(needed, put));
-}
-
-/* Lossy text: that of sound text by the strict calls, which are quicker, and else by two calls of the lossy one. */
-template <class String, class Length, class Put, class PutLossy>
-String lossy(std::size_t size, Length length, Put put, PutLossy put_lossy) {
-    if (size <= few)
-        return *written_of_few<String>(put_lossy);
-    const std::size_t needed = length();
-    return needed == WIDE_FAULT ? written<String>(put_lossy(nullptr, 0), put_lossy) : written<String>(needed, put);
+/* As many units as there are, with U+FFFD in the place of each that belongs to no character. */
+template <class View, class Put> auto repaired(View units, Put put) {
+    return *converted<std::basic_string<typename View::value_type>>(units, put);
 }
 
 } // namespace detail
@@ -221,68 +278,36 @@ inline std::optional<std::size_t> find(std::u32string_view units, std::u32string
 
 /* The text of well-formed units or bytes in UTF-8, UTF-16 or UTF-32, or none where they are not well formed. */
 inline std::optional<std::string> to_utf8(std::u16string_view units) {
-    const auto *from = detail::elements(units);
-    return detail::strict<std::string>(
-        units.size(), [&] { return wide_utf16_utf8_length(from, units.size()); },
-        [&](std::uint8_t *room, std::size_t size) { return wide_utf16_to_utf8(from, units.size(), room, size); });
+    return detail::converted<std::string>(units, wide_utf16_to_utf8);
 }
 
 inline std::optional<std::string> to_utf8(std::u32string_view units) {
-    const auto *from = detail::elements(units);
-    return detail::strict<std::string>(
-        units.size(), [&] { return wide_utf32_utf8_length(from, units.size()); },
-        [&](std::uint8_t *room, std::size_t size) { return wide_utf32_to_utf8(from, units.size(), room, size); });
+    return detail::converted<std::string>(units, wide_utf32_to_utf8);
 }
 
 inline std::optional<std::u16string> to_utf16(std::string_view text) {
-    const auto *from = detail::elements(text);
-    return detail::strict<std::u16string>(
-        text.size(), [&] { return wide_utf8_utf16_length(from, text.size()); },
-        [&](std::uint16_t *room, std::size_t size) { return wide_utf8_to_utf16(from, text.size(), room, size); });
+    return detail::converted<std::u16string>(text, wide_utf8_to_utf16);
 }
 
 inline std::optional<std::u16string> to_utf16(std::u32string_view units) {
-    const auto *from = detail::elements(units);
-    return detail::strict<std::u16string>(
-        units.size(), [&] { return wide_utf32_utf16_length(from, units.size()); },
-        [&](std::uint16_t *room, std::size_t size) { return wide_utf32_to_utf16(from, units.size(), room, size); });
+    return detail::converted<std::u16string>(units, wide_utf32_to_utf16);
 }
 
 inline std::optional<std::u32string> to_utf32(std::string_view text) {
-    const auto *from = detail::elements(text);
-    return detail::strict<std::u32string>(
-        text.size(), [&] { return wide_utf8_utf32_length(from, text.size()); },
-        [&](std::uint32_t *room, std::size_t size) { return wide_utf8_to_utf32(from, text.size(), room, size); });
+    return detail::converted<std::u32string>(text, wide_utf8_to_utf32);
 }
 
 inline std::optional<std::u32string> to_utf32(std::u16string_view units) {
-    const auto *from = detail::elements(units);
-    return detail::strict<std::u32string>(
-        units.size(), [&] { return wide_utf16_utf32_length(from, units.size()); },
-        [&](std::uint32_t *room, std::size_t size) { return wide_utf16_to_utf32(from, units.size(), room, size); });
+    return detail::converted<std::u32string>(units, wide_utf16_to_utf32);
 }
 
 /* The text of any units in UTF-8, with what a policy gives for each unit that belongs to no character. */
 inline std::string to_utf8_lossy(std::u16string_view units, Lossy policy = Lossy::each) {
-    const auto *from = detail::elements(units);
-    const auto number = static_cast<std::uint32_t>(policy);
-    return detail::lossy<std::string>(
-        units.size(), [&] { return wide_utf16_utf8_length(from, units.size()); },
-        [&](std::uint8_t *room, std::size_t size) { return wide_utf16_to_utf8(from, units.size(), room, size); },
-        [&](std::uint8_t *room, std::size_t size) {
-            return wide_utf16_to_utf8_lossy_with(from, units.size(), number, room, size);
-        });
+    return detail::lossy<std::string>(units, policy, wide_utf16_to_utf8, wide_utf16_to_utf8_lossy_with);
 }
 
 inline std::string to_utf8_lossy(std::u32string_view units, Lossy policy = Lossy::each) {
-    const auto *from = detail::elements(units);
-    const auto number = static_cast<std::uint32_t>(policy);
-    return detail::lossy<std::string>(
-        units.size(), [&] { return wide_utf32_utf8_length(from, units.size()); },
-        [&](std::uint8_t *room, std::size_t size) { return wide_utf32_to_utf8(from, units.size(), room, size); },
-        [&](std::uint8_t *room, std::size_t size) {
-            return wide_utf32_to_utf8_lossy_with(from, units.size(), number, room, size);
-        });
+    return detail::lossy<std::string>(units, policy, wide_utf32_to_utf8, wide_utf32_to_utf8_lossy_with);
 }
 
 /*
@@ -290,38 +315,20 @@ inline std::string to_utf8_lossy(std::u32string_view units, Lossy policy = Lossy
  * go on as one, and for each byte that begins none.
  */
 inline std::u16string to_utf16_lossy(std::string_view text, Lossy policy = Lossy::each) {
-    const auto *from = detail::elements(text);
-    const auto number = static_cast<std::uint32_t>(policy);
-    return detail::lossy<std::u16string>(
-        text.size(), [&] { return wide_utf8_utf16_length(from, text.size()); },
-        [&](std::uint16_t *room, std::size_t size) { return wide_utf8_to_utf16(from, text.size(), room, size); },
-        [&](std::uint16_t *room, std::size_t size) {
-            return wide_utf8_to_utf16_lossy_with(from, text.size(), number, room, size);
-        });
+    return detail::lossy<std::u16string>(text, policy, wide_utf8_to_utf16, wide_utf8_to_utf16_lossy_with);
 }
 
 inline std::u32string to_utf32_lossy(std::string_view text, Lossy policy = Lossy::each) {
-    const auto *from = detail::elements(text);
-    const auto number = static_cast<std::uint32_t>(policy);
-    return detail::lossy<std::u32string>(
-        text.size(), [&] { return wide_utf8_utf32_length(from, text.size()); },
-        [&](std::uint32_t *room, std::size_t size) { return wide_utf8_to_utf32(from, text.size(), room, size); },
-        [&](std::uint32_t *room, std::size_t size) {
-            return wide_utf8_to_utf32_lossy_with(from, text.size(), number, room, size);
-        });
+    return detail::lossy<std::u32string>(text, policy, wide_utf8_to_utf32, wide_utf8_to_utf32_lossy_with);
 }
 
 /* The units with U+FFFD in the place of each that belongs to no character. */
 inline std::u16string repair(std::u16string_view units) {
-    return detail::written<std::u16string>(units.size(), [&](std::uint16_t *room, std::size_t size) {
-        return wide_utf16_repair(detail::elements(units), units.size(), room, size);
-    });
+    return detail::repaired(units, wide_utf16_repair);
 }
 
 inline std::u32string repair(std::u32string_view units) {
-    return detail::written<std::u32string>(units.size(), [&](std::uint32_t *room, std::size_t size) {
-        return wide_utf32_repair(detail::elements(units), units.size(), room, size);
-    });
+    return detail::repaired(units, wide_utf32_repair);
 }
 
 } // namespace widestring
