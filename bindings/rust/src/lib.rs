@@ -1,7 +1,8 @@
 //! UTF-16, UTF-32 and UTF-8 by a library whose functions are proved for all units, well formed or not.
 //!
-//! Places and lengths are counted in elements: units, or bytes of UTF-8. What makes a vector asks for its memory once, of the length of the
-//! text; the calls whose names end with `_into` write into a room of the caller's, and leave what lies behind their answer.
+//! Places and lengths are counted in elements: units, or bytes of UTF-8. What makes a vector asks for its memory once
+//! where the text goes on as it begins, and else twice; the calls whose names end with `_into` write into a room of the caller's, and leave
+//! what lies behind their answer.
 #![no_std]
 #![warn(missing_docs)]
 
@@ -39,6 +40,11 @@ pub enum Lossy {
     Skip = 2,
 }
 
+/// Text of at most so many elements has the room that its longest form needs, and of longer text so many tell the likely length.
+const SHORT: usize = 128;
+
+const PIECE: usize = 1024;
+
 /// The version of the library: 65,536 times its first number, 256 times the second, and the third.
 pub fn version() -> u32 {
     // It takes nothing.
@@ -53,13 +59,6 @@ fn ask<T>(items: &[T], call: Ask<T>) -> usize {
 /// What a call answers, or none for the number that stands for it.
 fn unless(none: usize, answer: usize) -> Option<usize> {
     (answer != none).then_some(answer)
-}
-
-/// The length that a conversion answers, or the place of the first fault.
-fn or_fault<T>(items: &[T], length: usize, first_fault: Ask<T>) -> Result<usize, Fault> {
-    unless(usize::MAX, length).ok_or_else(|| Fault {
-        place: ask(items, first_fault),
-    })
 }
 
 fn put<T, U>(items: &[T], room: &mut [U], call: Put<T, U>) -> usize {
@@ -80,41 +79,118 @@ fn put_with<T, U>(items: &[T], policy: Lossy, room: &mut [U], call: PutWith<T, U
     }
 }
 
-/// A vector of this length, which a call writes as a whole, and is told of as a pointer and a room.
-fn written<U: Copy>(length: usize, call: impl FnOnce(*mut U, usize) -> usize) -> Vec<U> {
-    let mut vec = Vec::with_capacity(length);
-    let answer = call(vec.as_mut_ptr(), length);
-    assert_eq!(
-        answer, length,
-        "the library answers one length for one text"
-    );
-    // The call has written what it answers, since there was room for it.
-    unsafe { vec.set_len(length) };
-    vec
+/// A vector with what a call writes, which is told a pointer and a room, and answers the length. A first room that is too short costs a
+/// second call. None where the call answers a fault.
+fn written<U: Copy>(likely: usize, call: impl Fn(*mut U, usize) -> usize) -> Option<Vec<U>> {
+    let mut vec = Vec::new();
+    let mut needed = likely;
+    loop {
+        vec.reserve_exact(needed);
+        let room = vec.capacity();
+        needed = unless(usize::MAX, call(vec.as_mut_ptr(), room))?;
+        if needed <= room {
+            // The call has written what it answers, since there was room for it.
+            unsafe { vec.set_len(needed) };
+            return Some(vec);
+        }
+    }
 }
 
-fn strict<T, U: Copy>(
-    items: &[T],
+/// How long the text likely is, by that of its first piece: of a short text, what it has at most.
+fn likely_length<T>(items: &[T], most: usize, length: Ask<T>, first_fault: Ask<T>) -> usize {
+    if items.len() <= SHORT {
+        return items.len() * most;
+    }
+    let piece = &items[..items.len().min(PIECE)];
+    // A character that the end cuts is not counted.
+    let sound = &piece[..ask(piece, first_fault)];
+    if sound.is_empty() {
+        return items.len();
+    }
+    let likely = ask(sound, length) * (items.len() / sound.len() + 1);
+    likely + likely / 16
+}
+
+/// The calls that belong to one conversion, and how many elements one of what it reads becomes at most.
+struct Conversion<T, U> {
+    most: usize,
     length: Ask<T>,
     first_fault: Ask<T>,
-    call: Put<T, U>,
-) -> Result<Vec<U>, Fault> {
-    let needed = or_fault(items, ask(items, length), first_fault)?;
-    // The vector has this room, and is new.
-    Ok(written(needed, |room, size| unsafe {
-        call(items.as_ptr(), items.len(), room, size)
-    }))
+    put: Put<T, U>,
 }
 
-fn lossy<T, U: Copy>(items: &[T], policy: Lossy, length: Ask<T>, call: PutWith<T, U>) -> Vec<U> {
-    // Where nothing has to be changed, the length is that of strict text, which is told sooner.
-    let needed = unless(usize::MAX, ask(items, length))
-        .unwrap_or_else(|| put_with(items, policy, &mut [], call));
-    // The vector has this room, and is new.
-    written(needed, |room, size| unsafe {
-        call(items.as_ptr(), items.len(), policy as u32, room, size)
-    })
+impl<T, U: Copy> Conversion<T, U> {
+    fn likely_length(&self, items: &[T]) -> usize {
+        likely_length(items, self.most, self.length, self.first_fault)
+    }
+
+    fn strict(&self, items: &[T]) -> Result<Vec<U>, Fault> {
+        // The vector has this room, and is new.
+        let text = written(self.likely_length(items), |room, size| unsafe {
+            (self.put)(items.as_ptr(), items.len(), room, size)
+        });
+        text.ok_or_else(|| Fault {
+            place: ask(items, self.first_fault),
+        })
+    }
+
+    fn lossy(&self, items: &[T], policy: Lossy, call: PutWith<T, U>) -> Vec<U> {
+        // The vector has this room, and is new.
+        let text = written(self.likely_length(items), |room, size| unsafe {
+            call(items.as_ptr(), items.len(), policy as u32, room, size)
+        });
+        text.expect("each policy has a number")
+    }
+
+    fn strict_into(&self, items: &[T], room: &mut [U]) -> Result<usize, Fault> {
+        let needed = put(items, room, self.put);
+        unless(usize::MAX, needed).ok_or_else(|| Fault {
+            place: ask(items, self.first_fault),
+        })
+    }
 }
+
+const UTF16_TO_UTF8: Conversion<u16, u8> = Conversion {
+    most: 3,
+    length: calls::wide_utf16_utf8_length,
+    first_fault: calls::wide_utf16_first_fault,
+    put: calls::wide_utf16_to_utf8,
+};
+
+const UTF32_TO_UTF8: Conversion<u32, u8> = Conversion {
+    most: 4,
+    length: calls::wide_utf32_utf8_length,
+    first_fault: calls::wide_utf32_first_fault,
+    put: calls::wide_utf32_to_utf8,
+};
+
+const UTF8_TO_UTF16: Conversion<u8, u16> = Conversion {
+    most: 1,
+    length: calls::wide_utf8_utf16_length,
+    first_fault: calls::wide_utf8_first_fault,
+    put: calls::wide_utf8_to_utf16,
+};
+
+const UTF8_TO_UTF32: Conversion<u8, u32> = Conversion {
+    most: 1,
+    length: calls::wide_utf8_utf32_length,
+    first_fault: calls::wide_utf8_first_fault,
+    put: calls::wide_utf8_to_utf32,
+};
+
+const UTF16_TO_UTF32: Conversion<u16, u32> = Conversion {
+    most: 1,
+    length: calls::wide_utf16_utf32_length,
+    first_fault: calls::wide_utf16_first_fault,
+    put: calls::wide_utf16_to_utf32,
+};
+
+const UTF32_TO_UTF16: Conversion<u32, u16> = Conversion {
+    most: 2,
+    length: calls::wide_utf32_utf16_length,
+    first_fault: calls::wide_utf32_first_fault,
+    put: calls::wide_utf32_to_utf16,
+};
 
 /// A string of bytes that the library wrote as UTF-8.
 fn string(text: Vec<u8>) -> String {
@@ -206,105 +282,53 @@ pub fn utf32_find(units: &[u32], part: &[u32]) -> Option<usize> {
 
 /// The text of well-formed UTF-16 in UTF-8.
 pub fn utf16_to_utf8(units: &[u16]) -> Result<String, Fault> {
-    strict(
-        units,
-        calls::wide_utf16_utf8_length,
-        calls::wide_utf16_first_fault,
-        calls::wide_utf16_to_utf8,
-    )
-    .map(string)
+    UTF16_TO_UTF8.strict(units).map(string)
 }
 
 /// The text of well-formed UTF-32 in UTF-8.
 pub fn utf32_to_utf8(units: &[u32]) -> Result<String, Fault> {
-    strict(
-        units,
-        calls::wide_utf32_utf8_length,
-        calls::wide_utf32_first_fault,
-        calls::wide_utf32_to_utf8,
-    )
-    .map(string)
+    UTF32_TO_UTF8.strict(units).map(string)
 }
 
 /// The text of well-formed UTF-8 in UTF-16.
 pub fn utf8_to_utf16(text: &[u8]) -> Result<Vec<u16>, Fault> {
-    strict(
-        text,
-        calls::wide_utf8_utf16_length,
-        calls::wide_utf8_first_fault,
-        calls::wide_utf8_to_utf16,
-    )
+    UTF8_TO_UTF16.strict(text)
 }
 
 /// The text of well-formed UTF-8 in UTF-32.
 pub fn utf8_to_utf32(text: &[u8]) -> Result<Vec<u32>, Fault> {
-    strict(
-        text,
-        calls::wide_utf8_utf32_length,
-        calls::wide_utf8_first_fault,
-        calls::wide_utf8_to_utf32,
-    )
+    UTF8_TO_UTF32.strict(text)
 }
 
 /// The text of well-formed UTF-16 in UTF-32.
 pub fn utf16_to_utf32(units: &[u16]) -> Result<Vec<u32>, Fault> {
-    strict(
-        units,
-        calls::wide_utf16_utf32_length,
-        calls::wide_utf16_first_fault,
-        calls::wide_utf16_to_utf32,
-    )
+    UTF16_TO_UTF32.strict(units)
 }
 
 /// The text of well-formed UTF-32 in UTF-16.
 pub fn utf32_to_utf16(units: &[u32]) -> Result<Vec<u16>, Fault> {
-    strict(
-        units,
-        calls::wide_utf32_utf16_length,
-        calls::wide_utf32_first_fault,
-        calls::wide_utf32_to_utf16,
-    )
+    UTF32_TO_UTF16.strict(units)
 }
 
 /// The text of any UTF-16 in UTF-8, with what the policy gives for each unit that belongs to no character.
 pub fn utf16_to_utf8_lossy(units: &[u16], policy: Lossy) -> String {
-    string(lossy(
-        units,
-        policy,
-        calls::wide_utf16_utf8_length,
-        calls::wide_utf16_to_utf8_lossy_with,
-    ))
+    string(UTF16_TO_UTF8.lossy(units, policy, calls::wide_utf16_to_utf8_lossy_with))
 }
 
 /// The same of UTF-32.
 pub fn utf32_to_utf8_lossy(units: &[u32], policy: Lossy) -> String {
-    string(lossy(
-        units,
-        policy,
-        calls::wide_utf32_utf8_length,
-        calls::wide_utf32_to_utf8_lossy_with,
-    ))
+    string(UTF32_TO_UTF8.lossy(units, policy, calls::wide_utf32_to_utf8_lossy_with))
 }
 
 /// The text of any bytes in UTF-16, with what the policy gives for each longest part that begins a character of UTF-8 and does not go on as
 /// one, and for each byte that begins none.
 pub fn utf8_to_utf16_lossy(text: &[u8], policy: Lossy) -> Vec<u16> {
-    lossy(
-        text,
-        policy,
-        calls::wide_utf8_utf16_length,
-        calls::wide_utf8_to_utf16_lossy_with,
-    )
+    UTF8_TO_UTF16.lossy(text, policy, calls::wide_utf8_to_utf16_lossy_with)
 }
 
 /// The same in UTF-32.
 pub fn utf8_to_utf32_lossy(text: &[u8], policy: Lossy) -> Vec<u32> {
-    lossy(
-        text,
-        policy,
-        calls::wide_utf8_utf32_length,
-        calls::wide_utf8_to_utf32_lossy_with,
-    )
+    UTF8_TO_UTF32.lossy(text, policy, calls::wide_utf8_to_utf32_lossy_with)
 }
 
 /// The units with U+FFFD in the place of each that belongs to no character.
@@ -313,6 +337,7 @@ pub fn utf16_repair(units: &[u16]) -> Vec<u16> {
     written(units.len(), |room, size| unsafe {
         calls::wide_utf16_repair(units.as_ptr(), units.len(), room, size)
     })
+    .expect("repair has no fault")
 }
 
 /// The same of UTF-32.
@@ -321,43 +346,28 @@ pub fn utf32_repair(units: &[u32]) -> Vec<u32> {
     written(units.len(), |room, size| unsafe {
         calls::wide_utf32_repair(units.as_ptr(), units.len(), room, size)
     })
+    .expect("repair has no fault")
 }
 
 /// Puts the text of well-formed UTF-16 in UTF-8 in front of the room, if it is as large, and answers how many bytes it has. Where the room is
 /// smaller, what it holds is not said; a fault leaves it as it was. So do the calls below.
 pub fn utf16_to_utf8_into(units: &[u16], room: &mut [u8]) -> Result<usize, Fault> {
-    or_fault(
-        units,
-        put(units, room, calls::wide_utf16_to_utf8),
-        calls::wide_utf16_first_fault,
-    )
+    UTF16_TO_UTF8.strict_into(units, room)
 }
 
 /// The same of UTF-32.
 pub fn utf32_to_utf8_into(units: &[u32], room: &mut [u8]) -> Result<usize, Fault> {
-    or_fault(
-        units,
-        put(units, room, calls::wide_utf32_to_utf8),
-        calls::wide_utf32_first_fault,
-    )
+    UTF32_TO_UTF8.strict_into(units, room)
 }
 
 /// The text of well-formed UTF-8 in UTF-16.
 pub fn utf8_to_utf16_into(text: &[u8], room: &mut [u16]) -> Result<usize, Fault> {
-    or_fault(
-        text,
-        put(text, room, calls::wide_utf8_to_utf16),
-        calls::wide_utf8_first_fault,
-    )
+    UTF8_TO_UTF16.strict_into(text, room)
 }
 
 /// The text of well-formed UTF-8 in UTF-32.
 pub fn utf8_to_utf32_into(text: &[u8], room: &mut [u32]) -> Result<usize, Fault> {
-    or_fault(
-        text,
-        put(text, room, calls::wide_utf8_to_utf32),
-        calls::wide_utf8_first_fault,
-    )
+    UTF8_TO_UTF32.strict_into(text, room)
 }
 
 /// The text of any UTF-16 in UTF-8, under a policy.

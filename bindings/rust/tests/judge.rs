@@ -24,7 +24,16 @@ impl Numbers {
     /// A text of std's: of ASCII mostly, and of characters below a bound.
     fn text(&mut self) -> String {
         let bound = [0x80, 0x800, 0x1_0000, 0x11_0000][self.below(4) as usize];
-        let most = [20, 20, 20, 20, 20, 20, 150, 600][self.below(8) as usize];
+        let most = [
+            20,
+            20,
+            20,
+            20,
+            20,
+            20,
+            150,
+            if self.below(16) == 0 { 6000 } else { 600 },
+        ][self.below(8) as usize];
         let length = self.below(most);
         (0..length)
             .filter_map(|_| {
