@@ -1,7 +1,8 @@
-//! Wide strings for programs in C and in Rust, as a static library. `include/widestring.h` has each function's rules in words.
+//! Wide strings for programs in C and what calls C, as a static library. `include/widestring.h` has each function's rules in words.
 //!
 //! Of its caller each function trusts that a pointer and a length are those of memory that may be read, or written where the
-//! pointer is to memory that is not `const`, and that what is written overlaps nothing else that is handed in.
+//! pointer is to memory that is not `const`, and that what is written overlaps nothing else that is handed in. A pointer to no elements
+//! may be NULL.
 #![tactic(auto)]
 
 mod between;
