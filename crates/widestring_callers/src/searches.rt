@@ -175,11 +175,7 @@ pub fn number_of_field(row: Utf16Str<'_>, mark: Utf16Str<'_>) -> Option<usize> {
 }
 
 /// The same of any units, at a part of any length.
-pub fn number_of_any_field(
-    row: U16Str<'_>,
-    part: U16Str<'_>,
-    mark: U16Str<'_>,
-) -> Option<usize> {
+pub fn number_of_any_field(row: U16Str<'_>, part: U16Str<'_>, mark: U16Str<'_>) -> Option<usize> {
     for (number, field) in row.split(part).enumerate() {
         if field == mark {
             return Some(number);
@@ -202,11 +198,7 @@ pub fn parted_at_line<'a>(
 }
 
 /// Puts a character before the last one that is `mark`.
-pub fn insert_before_last(
-    text: &mut Utf16String,
-    mark: char,
-    c: char,
-) -> Result<(), OutOfMemory> {
+pub fn insert_before_last(text: &mut Utf16String, mark: char, c: char) -> Result<(), OutOfMemory> {
     match text.as_utfstr().char_indices().rfind(|at| at.1 == mark) {
         Some((at, _)) => text.insert(at, c),
         None => Ok(()),
