@@ -102,6 +102,10 @@ class _Conversion:
         self.length = _call(length_name) if length_name else None
         self.width, self.room_width = width, room_width
 
+    def needed(self, data, length):
+        """How long sound text becomes: in bytes that are ASCII, as long as it is."""
+        return length if self.width == 1 and data.isascii() else self.length(data, length)
+
     def write(self, data, length, needed, *more):
         """Bytes that the call writes once they are made: nobody else has them yet."""
         room = _new_bytes(None, needed * self.room_width)
@@ -110,7 +114,7 @@ class _Conversion:
 
     def strict(self, data, first_fault):
         data, length = _elements(data, self.width)
-        needed = self.length(data, length)
+        needed = self.needed(data, length)
         if needed == _NONE:
             raise Fault(first_fault(data, length))
         return self.write(data, length, needed)
@@ -118,7 +122,7 @@ class _Conversion:
     def lossy(self, data, *more):
         data, length = _elements(data, self.width)
         # Where nothing has to be changed, the length is that of strict text, which is told sooner.
-        needed = self.length(data, length) if self.length else _NONE
+        needed = self.needed(data, length) if self.length else _NONE
         if needed == _NONE:
             needed = self.call(data, length, *more, None, 0)
         return self.write(data, length, needed, *more)

@@ -20,8 +20,8 @@ fn fault_before_zero(order: BoM, rest: &[u8]) -> Option<u16>
     None
 }
 
-// How many bytes stand before a zero unit that may be the last.
-fn len_before_zero(bytes: &[u8]) -> usize
+/// How many bytes stand before a zero unit that may be the last.
+pub(crate) fn len_before_zero(bytes: &[u8]) -> usize
     ensures within { result ≤ length bytes.now }
     ensures all { result ≡ length bytes.now → length bytes.now % 2 ≡ 0 → ends_with nat_eq bytes.now (0 ∷ 0 ∷ []) ≡ false }
     ensures some { result < length bytes.now → (result + 2 ≡ length bytes.now) × (result % 2 ≡ 0) × (drop result bytes.now ≡ 0 ∷ 0 ∷ []) }

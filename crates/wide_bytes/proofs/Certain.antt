@@ -1,0 +1,165 @@
+-- The units of a piece that are certain, and their text with each fault mended.
+use Rattle.std.proofs.Common.{◌≡◌, ◌≢◌, ℕ, zero, suc, ◌+◌, ◌-◌, ◌*◌, ◌/◌, ◌%◌, ◌<◌, ◌≤◌, ◌⊎◌, inl, inr, Bool, true, false, List, [], ◌∷◌, ◌++◌, Option, Some, None, Result, Ok, Err, length, get_or, take, drop, refl, sym, ap, ◌∙◌, subst, arith, length-drop, length-take-le, drop-cons}
+use Rattle.std.proofs.Math.Seq.{take-suc}
+use Rattle.std.proofs.lemmas.List.{map-id}
+use Rattle.std.specs.Prelude.{map, nat_eq, IfNone, IfSome, unwrap_or}
+use Rattle.std.specs.List.{ends_with}
+use Rattle.wide_unit.specs.EncodingForm.{Utf16, encode, IsHighSurrogate, IsLowSurrogate}
+use Rattle.wide_unit.specs.Segmentation.{Item, Char, Fault}
+use Rattle.wide_unit.specs.Items.{items, chars, IsWellFormed}
+use Rattle.wide_unit.specs.Lossy.{lossy, ends_in_fault}
+use Rattle.wide_unit.specs.Unit.{item_of}
+use Rattle.wide_unit.specs.Utf8.{utf8}
+use Rattle.wide_unit.specs.Laws.Forms.{IsPair-parts, high-no_low}
+use Rattle.wide_unit.specs.Laws.Items.{IsCut}
+use Rattle.wide_unit.specs.Laws.Lossy.{lossy-well_formed, scalars-lossy, well_formed-lossy}
+use Rattle.wide_unit.specs.Laws.Places.{chars-encode}
+use Rattle.wide_unit.specs.Laws.Policies.{ends_in_fault-append}
+use Rattle.wide_unit.specs.declared.policy.Policy.TheVariants.{Each}
+use Rattle.wide_bytes.specs.Bytes.{unit_in, units_in}
+use Rattle.wide_bytes.specs.Encoded.{IsHeld}
+use Rattle.wide_bytes.specs.Lossied.{Lossied, faulty}
+use Rattle.wide_bytes.specs.declared.order.BoM.{BoM}
+use Rattle.wide_bytes.proofs.Held.{ZeroBehind, zero-unit}
+use Rattle.wide_bytes.proofs.Lossied.{first-unit, last-of, only, block-no_zero}
+use Rattle.wide_bytes.proofs.Pairs.{length-units_in}
+use Rattle.wide_bytes.proofs.UnitsHeld.{units_in-take, units_in-drop}
+
+-- ---- the last item
+
+last : (was : Bool) (us front : List ℕ) (i : Item) → items Utf16 us ≡ items Utf16 front ++ i ∷ [] → faulty was us ≡ ends_in_fault (faulty was front) (i ∷ [])
+last was us front i e = ap (λ is. ends_in_fault was is) e ∙ ends_in_fault-append was (items Utf16 front) (i ∷ [])
+
+same-items : (us front : List ℕ) (i : Item) → items Utf16 (map (λ u. u) us) ≡ items Utf16 (map (λ u. u) front) ++ i ∷ [] → items Utf16 us ≡ items Utf16 front ++ i ∷ []
+same-items us front i e = ap (λ xs. items Utf16 xs) (sym (map-id us)) ∙ e ∙ ap (λ xs. items Utf16 xs ++ i ∷ []) (map-id front)
+
+pub last-char : (was : Bool) (us front : List ℕ) (r : Result ℕ ℕ) (c : ℕ) → items Utf16 (map (λ u. u) us) ≡ items Utf16 (map (λ u. u) front) ++ item_of (λ u. u) r ∷ [] → r ≡ Ok c → false ≡ faulty was us
+last-char was us front r c e is = sym (last was us front (Char c) (same-items us front (Char c) (e ∙ ap (λ x. items Utf16 (map (λ u. u) front) ++ item_of (λ u. u) x ∷ []) is)))
+
+pub last-fault : (was : Bool) (us front : List ℕ) (r : Result ℕ ℕ) (v : ℕ) → items Utf16 (map (λ u. u) us) ≡ items Utf16 (map (λ u. u) front) ++ item_of (λ u. u) r ∷ [] → r ≡ Err v → true ≡ faulty was us
+last-fault was us front r v e is = sym (last was us front (Fault v) (same-items us front (Fault v) (e ∙ ap (λ x. items Utf16 (map (λ u. u) front) ++ item_of (λ u. u) x ∷ []) is)))
+
+-- ---- a high surrogate is left
+
+is-high : (u : ℕ) → u / 0x400 ≡ 54 → IsHighSurrogate Utf16 u
+is-high u e = (omega arith, omega arith)
+
+held-high : (order : BoM) (rest tail : List ℕ) (u : ℕ) → length rest < 4 → units_in order rest ≡ u ∷ tail → IsHighSurrogate Utf16 u → IsHeld order rest
+held-high order [] tail u short e high = tt
+held-high order (a ∷ []) tail u short e high = tt
+held-high order (a ∷ b ∷ []) tail u short e high = inl (subst (λ v. IsHighSurrogate Utf16 v) (sym (first-unit order a b u [] tail e).0) high)
+held-high order (a ∷ b ∷ c ∷ []) tail u short e high = subst (λ v. IsHighSurrogate Utf16 v) (sym (first-unit order a b u (c ∷ []) tail e).0) high
+held-high order (a ∷ b ∷ c ∷ d ∷ rest) tail u short e high = absurd (omega arith)
+
+-- what follows some bytes doesn't change their first unit
+same-first : (order : BoM) (rest more tail back : List ℕ) (u l : ℕ) → 2 ≤ length rest → units_in order rest ≡ u ∷ tail → units_in order (rest ++ more) ≡ l ∷ back → u ≡ l
+same-first order [] more tail back u l long e f = absurd (omega arith)
+same-first order (a ∷ []) more tail back u l long e f = absurd (omega arith)
+same-first order (a ∷ b ∷ rest) more tail back u l long e f = sym (first-unit order a b u rest tail e).0 ∙ (first-unit order a b l (rest ++ more) back f).0
+
+-- no pair is cut before a unit that is no low surrogate
+cut-before : (order : BoM) (passed rest more tail : List ℕ) (u : ℕ) → 2 ≤ length rest → units_in order rest ≡ u ∷ tail → ¬ (IsLowSurrogate Utf16 u) → IsCut Utf16 passed (units_in order (rest ++ more))
+cut-before order passed rest more tail u long e not_low front back h l ends begins pair =
+    not_low (subst (λ v. IsLowSurrogate Utf16 v) (sym (same-first order rest more tail back u l long e begins)) (IsPair-parts Utf16 h l pair).1)
+
+module _ (order : BoM) (bytes us : List ℕ) (q : ℕ) (same : us ≡ units_in order bytes) (long : 2 * q + 2 ≤ length bytes) (high : get_or us q 0 / 0x400 ≡ 54) where
+  first : units_in order (drop (2 * q) bytes) ≡ get_or us q 0 ∷ drop (suc q) us
+  first = units_in-drop order q bytes ∙ ap (λ xs. drop q xs) (sym same) ∙ drop-cons us q 0 (omega (arith, ap length same, length-units_in order bytes))
+
+  pub high-held : length bytes < 2 * q + 4 → IsHeld order (drop (2 * q) bytes)
+  high-held short = held-high order (drop (2 * q) bytes) (drop (suc q) us) (get_or us q 0) (omega (arith, length-drop (2 * q) bytes)) first (is-high (get_or us q 0) high)
+
+  pub high-cut : (more : List ℕ) → IsCut Utf16 (units_in order (take (2 * q) bytes)) (units_in order (drop (2 * q) bytes ++ more))
+  high-cut more =
+      cut-before order (units_in order (take (2 * q) bytes)) (drop (2 * q) bytes) more (drop (suc q) us) (get_or us q 0) (omega (arith, length-drop (2 * q) bytes)) first (λ low. high-no_low Utf16 (get_or us q 0) (is-high (get_or us q 0) high) low)
+
+pub some-left : (bytes : List ℕ) (n : ℕ) → n < length bytes → drop n bytes ≡ [] → ⊥
+some-left bytes n within none = omega (arith, ap length none, length-drop n bytes)
+
+-- ---- all is certain but a zero unit
+
+held-half : (order : BoM) (rest : List ℕ) → length rest < 2 → IsHeld order rest
+held-half order [] short = tt
+held-half order (a ∷ []) short = tt
+held-half order (a ∷ b ∷ rest) short = absurd (omega arith)
+
+held-zero : (order : BoM) (rest : List ℕ) → rest ≡ 0 ∷ 0 ∷ [] → IsHeld order rest
+held-zero order rest e = subst (λ bs. IsHeld order bs) (sym e) (inr (zero-unit order))
+
+one-zero : (order : BoM) → units_in order (0 ∷ 0 ∷ []) ≡ unit_in order 0 0 ∷ []
+unfolding units_in
+one-zero order = refl
+
+module _ (order : BoM) (bytes us : List ℕ) (n : ℕ) (same : us ≡ units_in order bytes) (high : n ≤ length bytes) (zeros : ZeroBehind bytes n) where
+  all-or : (n ≡ length bytes) ⊎ (n < length bytes)
+  all-or = grind arith
+
+  zero-left : n < length bytes → drop (2 * (n / 2)) bytes ≡ 0 ∷ 0 ∷ []
+  zero-left some = let z = zeros some in let twice : 2 * (n / 2) ≡ n = omega (arith, z.1) in ap (λ m. drop m bytes) twice ∙ z.2
+
+  pub ready-held : IsHeld order (drop (2 * (n / 2)) bytes)
+  ready-held = elim all-or [
+    | inl all ↦ held-half order (drop (2 * (n / 2)) bytes) (omega (arith, length-drop (2 * (n / 2)) bytes))
+    | inr some ↦ held-zero order (drop (2 * (n / 2)) bytes) (zero-left some)
+  ]
+
+  -- the last unit that is ready, where nothing is left but half a unit, is no high surrogate
+  module _ (plain : 0 < n / 2 → length bytes - 2 * (n / 2) < 2 → get_or us (n / 2 - 1) 0 / 0x400 ≢ 54) where
+    last-ready : (r : ℕ) → r ≤ length us → (front : List ℕ) (h : ℕ) → take r us ≡ front ++ h ∷ [] → (0 < r) × (get_or us (r - 1) 0 ≡ h)
+    last-ready zero within [] h e = absurd cc
+    last-ready zero within (x ∷ front) h e = absurd cc
+    last-ready (suc q) within front h e =
+        let rest = last-of (take q us) (get_or us q 0 ∷ []) front h (λ none. absurd cc) (sym (take-suc us q 0 (omega arith)) ∙ e) in
+        let before : suc q - 1 ≡ q = omega arith in
+        (omega arith, ap (λ m. get_or us m 0) before ∙ only (get_or us q 0) h rest.0 rest.1)
+
+    whole-cut : n ≡ length bytes → (more : List ℕ) → IsCut Utf16 (units_in order (take (2 * (n / 2)) bytes)) (units_in order (drop (2 * (n / 2)) bytes ++ more))
+    whole-cut all more front back h l ends begins pair =
+        let r = n / 2 in
+        let within : r ≤ length us = omega (arith, ap length same, length-units_in order bytes) in
+        let at = last-ready r within front h (ap (λ xs. take r xs) same ∙ sym (units_in-take order r bytes) ∙ ends) in
+        let is : IsHighSurrogate Utf16 h = (IsPair-parts Utf16 h l pair).0 in
+        plain at.0 (omega arith) (omega (arith, at.1, is.0, is.1))
+
+    pub ready-cut : (more : List ℕ) → IsCut Utf16 (units_in order (take (2 * (n / 2)) bytes)) (units_in order (drop (2 * (n / 2)) bytes ++ more))
+    ready-cut more = elim all-or [
+      | inl all ↦ whole-cut all more
+      | inr some ↦ (
+          let zero_unit = zero-left some in
+          cut-before order (units_in order (take (2 * (n / 2)) bytes)) (drop (2 * (n / 2)) bytes) more [] (unit_in order 0 0) (omega (arith, ap length zero_unit)) (ap (λ bs. units_in order bs) zero_unit ∙ one-zero order) (λ low. (let none = zero-unit order in omega (arith, none, low.0)))
+          )
+    ]
+
+  pub ready-no_zero : (n ≡ length bytes → length bytes % 2 ≡ 0 → ends_with nat_eq bytes (0 ∷ 0 ∷ []) ≡ false) → drop (2 * (n / 2)) bytes ≡ [] → ends_with nat_eq (units_in order (take (2 * (n / 2)) bytes)) (0 ∷ []) ≡ false
+  ready-no_zero none left =
+      let all : length bytes ≤ 2 * (n / 2) = omega (arith, ap length left, length-drop (2 * (n / 2)) bytes) in
+      block-no_zero order bytes (2 * (n / 2)) (omega arith) (omega (arith, length-take-le (2 * (n / 2)) bytes (omega arith))) (λ e. none (omega arith) (omega arith)) left
+
+-- ---- their text
+
+pub sound-text : (us : List ℕ) → IsWellFormed Utf16 us → utf8 (chars Utf16 us) ≡ utf8 (lossy (items Utf16 us))
+sound-text us well = ap (λ cs. utf8 cs) (sym (lossy-well_formed Utf16 us well))
+
+-- what is mended is well formed, so that its text is written
+pub mended-text : (us front text : List ℕ) (r : Option ℕ) (n : ℕ) → front ≡ encode Utf16 (lossy (items Utf16 us)) → IfNone r (IsWellFormed Utf16 front → ⊥) → IfSome r (λ len. take len text ≡ utf8 (chars Utf16 front)) → n ≡ unwrap_or r 0
+    → take n text ≡ utf8 (lossy (items Utf16 us))
+mended-text us front text None n e none some is = absurd (none (subst (λ xs. IsWellFormed Utf16 xs) (sym e) (well_formed-lossy Utf16 us)))
+mended-text us front text (Some len) n e none some is =
+    ap (λ m. take m text) is ∙ some ∙ ap (λ xs. utf8 (chars Utf16 xs)) e ∙ ap (λ cs. utf8 cs) (chars-encode Utf16 (lossy (items Utf16 us)) (scalars-lossy Utf16 us))
+
+pub mended-units : (us mended : List ℕ) (k : ℕ) → k ≤ length us → map (λ u. u) (take (length (take k us)) mended) ≡ encode Utf16 (lossy (items Utf16 (map (λ u. u) (take k us)))) → take k mended ≡ encode Utf16 (lossy (items Utf16 (take k us)))
+mended-units us mended k within e =
+    ap (λ m. take m mended) (sym (length-take-le k us within)) ∙ sym (map-id (take (length (take k us)) mended)) ∙ e ∙ ap (λ xs. encode Utf16 (lossy (items Utf16 xs))) (map-id (take k us))
+
+pub lossied-certain : {order : BoM} (was is : Bool) (bytes us text : List ℕ) (k : ℕ) → us ≡ units_in order bytes → 2 * k ≤ length bytes → is ≡ faulty was (take k us) → text ≡ utf8 (lossy (items Utf16 (take k us)))
+    → ((more : List ℕ) → IsCut Utf16 (units_in order (take (2 * k) bytes)) (units_in order (drop (2 * k) bytes ++ more))) → (drop (2 * k) bytes ≡ [] → ends_with nat_eq (units_in order (take (2 * k) bytes)) (0 ∷ []) ≡ false)
+    → Lossied order Each (take (2 * k) bytes) (drop (2 * k) bytes) was [] is text
+lossied-certain {order} was is bytes us text k same within flagged written uncut none =
+    let front : take k us ≡ units_in order (take (2 * k) bytes) = ap (λ xs. take k xs) same ∙ sym (units_in-take order k bytes) in
+    record {
+      even = omega (arith, length-take-le (2 * k) bytes within);
+      text = written ∙ ap (λ xs. utf8 (lossy (items Utf16 xs))) front;
+      flag = flagged ∙ ap (λ xs. faulty was xs) front;
+      cut = uncut;
+      no_zero = none;
+    }
