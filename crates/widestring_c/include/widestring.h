@@ -66,7 +66,7 @@ size_t wide_utf8_char_count(const uint8_t *text, size_t length);
 
 /*
  * How long the text of well-formed units or bytes is in another encoding form, in bytes of UTF-8 or units of the other: what the conversion
- * answers. All but the last only count; that is the conversion with no room. WIDE_FAULT where they are not well formed.
+ * answers. They only count. WIDE_FAULT where they are not well formed.
  */
 size_t wide_utf16_utf8_length(const uint16_t *units, size_t length);
 size_t wide_utf32_utf8_length(const uint32_t *units, size_t length);

@@ -1,4 +1,5 @@
 mod Buffers
 mod Chunks
+mod Pairs
 mod Repaired
 mod Windows

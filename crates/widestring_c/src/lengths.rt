@@ -1,11 +1,11 @@
 //! How long a text is in other units, and how many characters it has, with no buffer.
-ghost use Rattle.std.specs.Prelude.{◌≡◌, ◌-◌, ◌^◌, length, min};
+ghost use Rattle.std.specs.Prelude.{◌≡◌, ◌-◌, ◌^◌, length, min, nat_le};
+ghost use Rattle.std.specs.List.{count_by};
 ghost use Rattle.std.specs.Str.{IsUtf8, chars as str_chars};
 ghost use Rattle.wide_unit.specs.EncodingForm.{Utf16, Utf32, encode};
 ghost use Rattle.wide_unit.specs.Items.{IsWellFormed, chars};
 ghost use Rattle.wide_unit.specs.Utf8.{utf8};
 
-use crate::between::wide_utf32_to_utf16;
 use std::str;
 use wide_blocks::{first_chunk, utf8_len};
 use wide_unit::{Unit, check, length_as_utf16, length_as_utf32};
@@ -106,6 +106,17 @@ pub extern "C" fn wide_utf16_utf32_length(units: &[u16]) -> usize
     wide_utf16_char_count(units)
 }
 
+// How many scalar values have two units in UTF-16.
+fn count_pairs(scalars: &[u32]) -> usize
+    ensures { result ≡ count_by (nat_le 0x1_0000) scalars.now }
+{
+    let mut count = 0;
+    for scalar in scalars {
+        count += usize::from(0x1_0000 <= *scalar);
+    }
+    count
+}
+
 /// How many units the text of well-formed UTF-32 has in UTF-16, or the greatest number where they are more, or where the units are not
 /// well formed.
 #[unsafe(no_mangle)]
@@ -113,5 +124,8 @@ pub extern "C" fn wide_utf32_utf16_length(units: &[u32]) -> usize
     ensures len { IsWellFormed Utf32 units.now → result ≡ min (length (encode Utf16 (chars Utf32 units.now))) (2 ^ 64 - 1) }
     ensures fault { (IsWellFormed Utf32 units.now → ⊥) → result ≡ 2 ^ 64 - 1 }
 {
-    wide_utf32_to_utf16(units, &mut [])
+    match check(units) {
+        Ok(()) => units.len() + count_pairs(units),
+        Err(_fault) => usize::MAX,
+    }
 }
