@@ -1,4 +1,4 @@
-//! OfOneWidth of views as text, their text in UTF-8, and files: calls whose errors are of one width.
+//! Copies of views as text, their text in UTF-8, and files: calls whose errors are of one width.
 use crate::driver::Asks::{Nothing, Once};
 use crate::driver::{Kind, Left, Memory, Room, Row, TEXT, Width, hold, wrong};
 use std::test::Fail;
@@ -24,7 +24,7 @@ enum Copying {
 
 impl Room for Copying {}
 
-// OfOneWidth at one width.
+// Those rows, at one width.
 struct OfOneWidth;
 
 // What is left of a copy that is no text, of which the fault has the units.
