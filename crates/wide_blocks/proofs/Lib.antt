@@ -11,6 +11,7 @@ pub mod ScalarTexts
 pub mod Shuffles
 pub mod StoredUnits
 pub mod StoredBytes
+pub mod Staying
 pub mod Stores
 pub mod Tables
 pub mod UnitEncodings

@@ -1,5 +1,6 @@
 pub mod Encoded
 pub mod Halves
+pub mod Kept
 pub mod Mixed
 pub mod Narrow
 pub mod Scalars

@@ -270,9 +270,9 @@ const KEPT_PLACES: [[u8; 16]; 256] = [
     [0, 1, 2, 3, 4, 5, 6, 7, 8, 9, 10, 11, 12, 13, 14, 15],
 ];
 
-// Those of eight lanes whose bits are set, and behind them any of the eight.
+/// Those of eight lanes whose bits are set, and behind them any of the eight.
 #[inline(always)]
-fn kept_of(lanes: u16x8, bits: usize) -> u16x8
+pub(crate) fn kept_of(lanes: u16x8, bits: usize) -> u16x8
     requires below { bits < 256 }
     ensures kept { take (count_ones bits) result ≡ kept_lanes bits lanes }
     ensures within { (k : ℕ) → k < 8 → (j : ℕ) × (j < 8) × (slice_index result k ≡ slice_index lanes j) }

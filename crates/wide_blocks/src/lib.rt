@@ -5,6 +5,7 @@ mod blocks;
 mod fronts;
 mod halves;
 mod items;
+mod keeping;
 mod kept;
 mod lengths;
 mod lossy;
@@ -22,6 +23,7 @@ mod wide;
 
 pub use blocks::encode;
 pub use items::lossy_utf8_front;
+pub use keeping::lossy_units;
 pub use lengths::utf8_len;
 pub use lossy::{is_after_fault, is_marked, lossy_front, sound_len};
 pub use recoded::recode_front;

@@ -5,20 +5,23 @@ use Rattle.std.proofs.lemmas.List.{map-id}
 use Rattle.std.specs.Prelude.{map, nat_eq, IfNone, IfSome, unwrap_or}
 use Rattle.std.specs.List.{ends_with}
 use Rattle.wide_unit.specs.EncodingForm.{Utf16, encode, IsHighSurrogate, IsLowSurrogate}
-use Rattle.wide_unit.specs.Segmentation.{Item, Char, Fault}
+use Rattle.std.specs.Char.{IsScalar}
+use Rattle.std.specs.List.{All}
+use Rattle.wide_unit.specs.Segmentation.{Item, Char, Fault, units_of}
 use Rattle.wide_unit.specs.Items.{items, chars, IsWellFormed}
-use Rattle.wide_unit.specs.Lossy.{lossy, ends_in_fault}
+use Rattle.wide_unit.specs.Lossy.{lossy_after, lossy_by, past_faults, ends_in_fault}
 use Rattle.wide_unit.specs.Unit.{item_of}
 use Rattle.wide_unit.specs.Utf8.{utf8}
 use Rattle.wide_unit.specs.Laws.Forms.{IsPair-parts, high-no_low}
-use Rattle.wide_unit.specs.Laws.Items.{IsCut}
-use Rattle.wide_unit.specs.Laws.Lossy.{lossy-well_formed, scalars-lossy, well_formed-lossy}
-use Rattle.wide_unit.specs.Laws.Places.{chars-encode}
-use Rattle.wide_unit.specs.Laws.Policies.{ends_in_fault-append}
-use Rattle.wide_unit.specs.declared.policy.Policy.TheVariants.{Each}
+use Rattle.wide_unit.specs.Laws.Chains.{Chain}
+use Rattle.wide_unit.specs.Laws.Items.{IsCut, chars-of_well_formed, items-chain, items-of_chain}
+use Rattle.wide_unit.specs.Laws.Places.{IsWellFormed-encode, chars-encode}
+use Rattle.wide_unit.specs.Laws.Policies.{ends_in_fault-append, lossy_after-chars, scalars-lossy_by}
+use Rattle.wide_unit.specs.declared.policy.Policy.{Policy}
+use Rattle.wide_unit.specs.declared.policy.Policy.TheVariants.{Each, Run, Skip}
 use Rattle.wide_bytes.specs.Bytes.{unit_in, units_in}
 use Rattle.wide_bytes.specs.Encoded.{IsHeld}
-use Rattle.wide_bytes.specs.Lossied.{Lossied, faulty}
+use Rattle.wide_bytes.specs.Lossied.{Lossied, faulty, lossy_text}
 use Rattle.wide_bytes.specs.declared.order.BoM.{BoM}
 use Rattle.wide_bytes.proofs.Held.{ZeroBehind, zero-unit}
 use Rattle.wide_bytes.proofs.Lossied.{first-unit, last-of, only, block-no_zero}
@@ -137,28 +140,39 @@ module _ (order : BoM) (bytes us : List ℕ) (n : ℕ) (same : us ≡ units_in o
 
 -- ---- their text
 
-pub sound-text : (us : List ℕ) → IsWellFormed Utf16 us → utf8 (chars Utf16 us) ≡ utf8 (lossy (items Utf16 us))
-sound-text us well = ap (λ cs. utf8 cs) (sym (lossy-well_formed Utf16 us well))
+pub sound-text : (policy : Policy) (was : Bool) (us : List ℕ) → IsWellFormed Utf16 us → utf8 (chars Utf16 us) ≡ lossy_text policy was us
+sound-text policy was us well = ap (λ cs. utf8 cs) (sym (ap (λ is. lossy_after policy was is) (chars-of_well_formed Utf16 us well) ∙ lossy_after-chars policy was (chars Utf16 us)))
 
--- what is mended is well formed, so that its text is written
-pub mended-text : (us front text : List ℕ) (r : Option ℕ) (n : ℕ) → front ≡ encode Utf16 (lossy (items Utf16 us)) → IfNone r (IsWellFormed Utf16 front → ⊥) → IfSome r (λ len. take len text ≡ utf8 (chars Utf16 front)) → n ≡ unwrap_or r 0
-    → take n text ≡ utf8 (lossy (items Utf16 us))
-mended-text us front text None n e none some is = absurd (none (subst (λ xs. IsWellFormed Utf16 xs) (sym e) (well_formed-lossy Utf16 us)))
-mended-text us front text (Some len) n e none some is =
-    ap (λ m. take m text) is ∙ some ∙ ap (λ xs. utf8 (chars Utf16 xs)) e ∙ ap (λ cs. utf8 cs) (chars-encode Utf16 (lossy (items Utf16 us)) (scalars-lossy Utf16 us))
+chain-past : (is : List Item) → Chain Utf16 is → Chain Utf16 (past_faults is)
+chain-past [] chain = tt
+chain-past (Char c ∷ is) chain = chain
+chain-past (Fault u ∷ is) chain = chain-past is chain.2
 
-pub mended-units : (us mended : List ℕ) (k : ℕ) → k ≤ length us → map (λ u. u) (take (length (take k us)) mended) ≡ encode Utf16 (lossy (items Utf16 (map (λ u. u) (take k us)))) → take k mended ≡ encode Utf16 (lossy (items Utf16 (take k us)))
-mended-units us mended k within e =
-    ap (λ m. take m mended) (sym (length-take-le k us within)) ∙ sym (map-id (take (length (take k us)) mended)) ∙ e ∙ ap (λ xs. encode Utf16 (lossy (items Utf16 xs))) (map-id (take k us))
+-- lossy text is text, behind a fault too
+scalars-after : (policy : Policy) (was : Bool) (us : List ℕ) → All IsScalar (lossy_after policy was (items Utf16 us))
+scalars-after Each was us = scalars-lossy_by Each Utf16 us
+scalars-after Skip was us = scalars-lossy_by Skip Utf16 us
+scalars-after Run false us = scalars-lossy_by Run Utf16 us
+scalars-after Run true us =
+    let past = past_faults (items Utf16 us) in
+    subst (λ is. All IsScalar (lossy_by Run is)) (items-of_chain Utf16 past (chain-past (items Utf16 us) (items-chain Utf16 us))) (scalars-lossy_by Run Utf16 (units_of Utf16 past))
 
-pub lossied-certain : {order : BoM} (was is : Bool) (bytes us text : List ℕ) (k : ℕ) → us ≡ units_in order bytes → 2 * k ≤ length bytes → is ≡ faulty was (take k us) → text ≡ utf8 (lossy (items Utf16 (take k us)))
+-- it is well formed, so that it is written
+pub kept-text : (policy : Policy) (was : Bool) (us front text : List ℕ) (r : Option ℕ) (n : ℕ) → front ≡ encode Utf16 (lossy_after policy was (items Utf16 us)) → IfNone r (IsWellFormed Utf16 front → ⊥) → IfSome r (λ len. take len text ≡ utf8 (chars Utf16 front)) → n ≡ unwrap_or r 0
+    → take n text ≡ lossy_text policy was us
+kept-text policy was us front text None n e none some is = absurd (none (subst (λ xs. IsWellFormed Utf16 xs) (sym e) (IsWellFormed-encode Utf16 (lossy_after policy was (items Utf16 us)) (scalars-after policy was us))))
+kept-text policy was us front text (Some len) n e none some is =
+    let cs = lossy_after policy was (items Utf16 us) in
+    ap (λ m. take m text) is ∙ some ∙ ap (λ xs. utf8 (chars Utf16 xs)) e ∙ ap (λ xs. utf8 xs) (chars-encode Utf16 cs (scalars-after policy was us))
+
+pub lossied-certain : {order : BoM} {policy : Policy} (was is : Bool) (bytes us text : List ℕ) (k : ℕ) → us ≡ units_in order bytes → 2 * k ≤ length bytes → is ≡ faulty was (take k us) → text ≡ lossy_text policy was (take k us)
     → ((more : List ℕ) → IsCut Utf16 (units_in order (take (2 * k) bytes)) (units_in order (drop (2 * k) bytes ++ more))) → (drop (2 * k) bytes ≡ [] → ends_with nat_eq (units_in order (take (2 * k) bytes)) (0 ∷ []) ≡ false)
-    → Lossied order Each (take (2 * k) bytes) (drop (2 * k) bytes) was [] is text
-lossied-certain {order} was is bytes us text k same within flagged written uncut none =
+    → Lossied order policy (take (2 * k) bytes) (drop (2 * k) bytes) was [] is text
+lossied-certain {order} {policy} was is bytes us text k same within flagged written uncut none =
     let front : take k us ≡ units_in order (take (2 * k) bytes) = ap (λ xs. take k xs) same ∙ sym (units_in-take order k bytes) in
     record {
       even = omega (arith, length-take-le (2 * k) bytes within);
-      text = written ∙ ap (λ xs. utf8 (lossy (items Utf16 xs))) front;
+      text = written ∙ ap (λ xs. lossy_text policy was xs) front;
       flag = flagged ∙ ap (λ xs. faulty was xs) front;
       cut = uncut;
       no_zero = none;

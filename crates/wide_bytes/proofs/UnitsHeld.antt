@@ -1,6 +1,5 @@
 -- From units back to bytes: encodings, and what stops them.
-use Rattle.std.proofs.Common.{◌≡◌, ℕ, zero, suc, ◌+◌, ◌-◌, ◌*◌, ◌/◌, ◌%◌, ◌<◌, ◌≤◌, ◌⊎◌, inl, inr, List, [], ◌∷◌, Option, Some, None, length, get_or, take, drop, refl, sym, ap, ◌∙◌, subst, arith, length-take-le, length-drop, w8, Fits}
-use Rattle.std.proofs.lemmas.List.{take_all}
+use Rattle.std.proofs.Common.{◌≡◌, ℕ, zero, suc, ◌+◌, ◌*◌, ◌/◌, ◌%◌, ◌<◌, ◌≤◌, ◌⊎◌, inl, inr, List, [], ◌∷◌, Option, Some, None, length, get_or, take, drop, refl, sym, ap, ◌∙◌, subst, arith, length-take-le, w8, Fits}
 use Rattle.wide_unit.specs.EncodingForm.{Utf16, IsLowSurrogate}
 use Rattle.wide_bytes.specs.Bytes.{unit_in, units_in}
 use Rattle.wide_blocks.specs.Encoded.{EncodedUnits, BeginsWithFault, AreCutShort, StopsBefore}
@@ -48,12 +47,6 @@ units_in-half order n bytes = halves (n / 2) n bytes (grind arith)
     halves (suc h) (suc (suc n)) (a ∷ []) e = refl
     halves (suc h) (suc (suc n)) (a ∷ b ∷ bytes) (inl e) = ap (λ us. unit_in order a b ∷ us) (halves h n bytes (inl (omega arith)))
     halves (suc h) (suc (suc n)) (a ∷ b ∷ bytes) (inr e) = ap (λ us. unit_in order a b ∷ us) (halves h n bytes (inr (omega arith)))
-
-pub units-behind : (order : BoM) (bytes us : List ℕ) (i n m : ℕ) → us ≡ units_in order bytes → i % 2 ≡ 0 → n ≡ length bytes - i → m ≡ length us - i / 2 → take m (drop (i / 2) us) ≡ units_in order (take n (drop i bytes))
-units-behind order bytes us i n m same even all_bytes all_units =
-    let twice : 2 * (i / 2) ≡ i = omega arith in
-    take_all m (drop (i / 2) us) (omega (arith, length-drop (i / 2) us)) ∙ ap (drop (i / 2)) same ∙ sym (units_in-drop order (i / 2) bytes) ∙ ap (λ j. units_in order (drop j bytes)) twice
-    ∙ ap (units_in order) (sym (take_all n (drop i bytes) (omega (arith, length-drop i bytes))))
 
 -- ---- encodings
 

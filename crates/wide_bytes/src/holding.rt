@@ -33,7 +33,8 @@ pub(crate) fn len_before_zero(bytes: &[u8]) -> usize
     }
 }
 
-/// As [`encode_piece_behind`], at the front of `out`.
+/// Writes the text of the characters that the bytes of a piece begin with to the front of `out`, up to a fault or the end. A zero unit
+/// at the end is left, and so is what may still become a character. `units` are those of the bytes; bytes are counted.
 pub(crate) fn encode_piece(order: BoM, bytes: &[u8], units: &[u16], out: &mut [u8]) -> Step
     requires units { units.now ≡ units_in order bytes.now }
     requires room { 3 * length bytes.now + 8 ≤ 2 * length out.old }
@@ -43,29 +44,8 @@ pub(crate) fn encode_piece(order: BoM, bytes: &[u8], units: &[u16], out: &mut [u
     ensures stop { HoldsAt order (drop result.read bytes.now) result.fault }
     ensures no_zero { result.read ≡ length bytes.now → ends_with nat_eq bytes.now (0 ∷ 0 ∷ []) ≡ false }
 {
-    encode_piece_behind(order, bytes, units, out, 0)
-}
-
-/// Writes the text of the characters that the bytes of a piece begin with behind the first `at` bytes of `out`, up to a fault or the
-/// end. A zero unit at the end is left, and so is what may still become a character. `units` are those of the bytes; bytes are
-/// counted.
-pub(crate) fn encode_piece_behind(
-    order: BoM,
-    bytes: &[u8],
-    units: &[u16],
-    out: &mut [u8],
-    at: usize,
-) -> Step
-    requires units { units.now ≡ units_in order bytes.now }
-    requires room { 2 * at + 3 * length bytes.now + 8 ≤ 2 * length out.old }
-    ensures read { result.read ≤ length bytes.now }
-    ensures written { 2 * result.written ≤ 2 * at + 3 * result.read }
-    ensures text { Encoded order (take result.read bytes.now) (take at out.old) (take result.written out.new) }
-    ensures stop { HoldsAt order (drop result.read bytes.now) result.fault }
-    ensures no_zero { result.read ≡ length bytes.now → ends_with nat_eq bytes.now (0 ∷ 0 ∷ []) ≡ false }
-{
     let ready = len_before_zero(bytes);
-    let step = encode(&units[..ready / 2], out, at);
+    let step = encode(&units[..ready / 2], out, 0);
     let read = 2 * step.read;
     let fault = match step.fault {
         Some(unit) => Some(unit),

@@ -1,11 +1,11 @@
-use Rattle.std.proofs.Common.{◌≡◌, ◌≤◌, ◌/◌, ◌-◌, ◌*◌, Some, None, length, take, drop, refl, sym, ap, subst, arith, length-take-le, length-take, length-drop}
+use Rattle.std.proofs.Common.{[], ◌≡◌, ◌≤◌, ◌/◌, ◌-◌, ◌*◌, Some, None, length, take, drop, refl, sym, ap, subst, arith, length-take-le, length-take, length-drop}
 use Rattle.std.proofs.lemmas.List.{take_all}
 use Rattle.wide_blocks.specs.Encoded.{EncodedUnits, StopsBefore}
 use Rattle.wide_bytes.specs.Encoded.{IsHeldOr}
 use Rattle.wide_bytes.proofs.Held.{held-fault, held-or_of}
 use Rattle.wide_bytes.proofs.Pairs.{length-units_in}
 use Rattle.wide_bytes.proofs.UnitsHeld.{encoded-bytes, stops-bytes}
-use Rattle.wide_bytes.proofs.holding.encode_piece_behind.Goals as goal
+use Rattle.wide_bytes.proofs.holding.encode_piece.Goals as goal
 
 pub slice_bounds-encode-end : goal.slice_bounds-encode-end
 slice_bounds-encode-end c =
@@ -29,7 +29,7 @@ returns-in-Some-clause-text c =
     let n = c.len_before_zero-ready.result in
     let r = c.encode-step.result.read in
     let few : r ≤ n / 2 = omega (arith, c.encode-step.ensures.read, length-take (n / 2) c.args.units.now) in
-    encoded-bytes c.args.order c.args.bytes.now r n (omega arith) c.len_before_zero-ready.ensures.within (subst (λ us. EncodedUnits (take r (take (n / 2) us)) (take c.args.at c.args.out.now) (take c.encode-step.result.written c.encode-step.new.out)) c.requires.units c.encode-step.ensures.text)
+    encoded-bytes c.args.order c.args.bytes.now r n (omega arith) c.len_before_zero-ready.ensures.within (subst (λ us. EncodedUnits (take r (take (n / 2) us)) [] (take c.encode-step.result.written c.encode-step.new.out)) c.requires.units c.encode-step.ensures.text)
 
 pub returns-in-Some-clause-stop : goal.returns-in-Some-clause-stop
 returns-in-Some-clause-stop c =
@@ -45,4 +45,4 @@ returns-in-None-clause-text c =
     let n = c.len_before_zero-ready.result in
     let r = c.encode-step.result.read in
     let few : r ≤ n / 2 = omega (arith, c.encode-step.ensures.read, length-take (n / 2) c.args.units.now) in
-    encoded-bytes c.args.order c.args.bytes.now r n (omega arith) c.len_before_zero-ready.ensures.within (subst (λ us. EncodedUnits (take r (take (n / 2) us)) (take c.args.at c.args.out.now) (take c.encode-step.result.written c.encode-step.new.out)) c.requires.units c.encode-step.ensures.text)
+    encoded-bytes c.args.order c.args.bytes.now r n (omega arith) c.len_before_zero-ready.ensures.within (subst (λ us. EncodedUnits (take r (take (n / 2) us)) [] (take c.encode-step.result.written c.encode-step.new.out)) c.requires.units c.encode-step.ensures.text)

@@ -1,0 +1,20 @@
+-- Mended units of which marks, the U+FFFD of faults, are left out where a policy has fewer than one for each.
+use Rattle.std.specs.Prelude.{ℕ, zero, suc, ◌+◌, ◌*◌, nat_eq, Bool, true, false, if◌then◌else◌, List, [], ◌∷◌}
+use Rattle.wide_blocks.specs.Narrow.{bit_of}
+
+-- whether a mended unit stays: where it is the unit itself, or is a mark, marks stay, and none stands right before it
+abbrev pub stays : Bool → ℕ → ℕ → ℕ → ℕ → Bool
+stays marks before mended_before unit mended = if nat_eq unit mended then true else if marks then nat_eq before mended_before else false
+
+-- one bit for each of the first units, from the lowest on, behind a unit and what is mended of it
+abbrev pub stay_bits : ℕ → Bool → ℕ → ℕ → List ℕ → List ℕ → ℕ
+stay_bits zero marks u m us ms = 0
+stay_bits (suc n) marks u m [] ms = 0
+stay_bits (suc n) marks u m (v ∷ us) [] = 0
+stay_bits (suc n) marks u m (v ∷ us) (w ∷ ms) = bit_of (stays marks u m v w) + 2 * stay_bits n marks v w us ms
+
+-- the mended units that stay
+abbrev pub staying : Bool → ℕ → ℕ → List ℕ → List ℕ → List ℕ
+staying marks u m [] ms = []
+staying marks u m (v ∷ us) [] = []
+staying marks u m (v ∷ us) (w ∷ ms) = if stays marks u m v w then w ∷ staying marks v w us ms else staying marks v w us ms
