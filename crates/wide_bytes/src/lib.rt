@@ -15,9 +15,10 @@ mod units;
 mod whole;
 
 pub use devices::{ByteSink, ByteSource, FromRead, FromWrite};
+pub use lossy::ends_in_fault;
 pub use mode::Mode;
 pub use moving::put_all;
 pub use order::{BoM, byte_order};
 pub use transcoding::{transcode, transcode_with};
-pub use units::{UnitsOfBytes, units_of_bytes};
+pub use units::{UnitsOfBytes, fill_units, unit_in, units_of_bytes};
 pub use whole::{Utf16OfBytes, utf16_of_bytes};

@@ -15,9 +15,9 @@ pub struct UnitsOfBytes<'a> {
     bytes: &'a [u8],
 }
 
-// The code unit of two bytes.
+/// The code unit of two bytes (Unicode Standard, D96 and D97). The call is this port's own.
 #[inline(always)]
-pub(crate) fn unit_in(order: BoM, first: u8, second: u8) -> u16
+pub fn unit_in(order: BoM, first: u8, second: u8) -> u16
     ensures { result ≡ unit_in order first second }
 {
     let (first, second) = (u16::from(first), u16::from(second));
@@ -49,8 +49,8 @@ fn swap_bytes(units: &mut [u16], count: usize)
     }
 }
 
-/// Stores the code units of the whole pairs of bytes at the front of `units`.
-pub(crate) fn fill_units(order: BoM, bytes: &[u8], units: &mut [u16])
+/// Stores the code units of the whole pairs of bytes at the front of `units`. The call is this port's own.
+pub fn fill_units(order: BoM, bytes: &[u8], units: &mut [u16])
     requires { length bytes.now / 2 ≤ length units.old }
     ensures { take (length bytes.now / 2) units.new ≡ units_in order bytes.now }
 {

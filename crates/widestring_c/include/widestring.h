@@ -43,6 +43,17 @@ enum WideLossy {
     WIDE_SKIP = 2
 };
 
+/*
+ * The order of the two bytes of a unit of UTF-16, where units come as bytes: that of little endian, the low byte first, or of big endian;
+ * and what wide_bytes_order answers where no mark tells one. An order is handed in as a number of 32 bits, as a policy is. Where it is
+ * neither of the two orders, the answer is WIDE_FAULT, or 0 of wide_bytes_ends_in_fault, and the buffer is as it was.
+ */
+enum WideOrder {
+    WIDE_LITTLE_ENDIAN = 0,
+    WIDE_BIG_ENDIAN = 1,
+    WIDE_NO_MARK = 2
+};
+
 /* The place of the first unit that belongs to no character, or `length` where the units are well-formed UTF-16. */
 size_t wide_utf16_first_fault(const uint16_t *units, size_t length);
 
@@ -104,6 +115,53 @@ size_t wide_utf16_to_utf8_lossy(const uint16_t *units, size_t length, uint8_t *t
 
 /* The same with what a policy gives for each of those units. */
 size_t wide_utf16_to_utf8_lossy_with(const uint16_t *units, size_t length, uint32_t policy, uint8_t *text, size_t room);
+
+/*
+ * UTF-16 that comes as bytes (Unicode Standard, D96 and D97). `length` is a number of bytes; bytes need no alignment. The units are those of
+ * the whole pairs of bytes: half a unit at the end is none.
+ *
+ * A stream is read in pieces with three things kept by the caller: the order, a number that tells whether a fault was last, 0 at first, and a
+ * buffer whose front holds the few bytes that the piece before left, none at first, and then the bytes of the next piece. For each piece:
+ *
+ *     certain = wide_bytes_certain(buffer, length, order);
+ *     needed = wide_bytes_to_utf8_lossy_with(buffer, certain, order, policy, after_fault, text, room);
+ *     after_fault = wide_bytes_ends_in_fault(buffer, certain, order, after_fault);
+ *     memmove(buffer, buffer + certain, length - certain);
+ *
+ * At the end of the stream what is left, at most three bytes, is converted too, all of it. The texts, one behind another, are that of the
+ * whole stream. An odd length then is half a unit, and a place from wide_bytes_first_fault below length / 2 a fault. Before the first piece
+ * wide_bytes_order tells the order, and the two bytes of the mark are dropped.
+ */
+
+/* The order that the byte order mark at the front tells (Unicode Standard, section 23.8), or WIDE_NO_MARK. */
+uint32_t wide_bytes_order(const uint8_t *bytes, size_t length);
+
+/*
+ * How many bytes at the front are whole units whose meaning no bytes behind them can change: all whole units, but a high surrogate that
+ * has no whole unit behind it. At most three bytes are behind them.
+ */
+size_t wide_bytes_certain(const uint8_t *bytes, size_t length, uint32_t order);
+
+/* The place, in units, of the first unit that belongs to no character, or length / 2 where there is none. */
+size_t wide_bytes_first_fault(const uint8_t *bytes, size_t length, uint32_t order);
+
+/*
+ * 1 where the last unit is one that belongs to no character, and else 0. Where there are no units, it is so of what stands before the bytes,
+ * as `after_fault` tells it: 0 for no, another number for yes.
+ */
+uint32_t wide_bytes_ends_in_fault(const uint8_t *bytes, size_t length, uint32_t order, uint32_t after_fault);
+
+/*
+ * The text in UTF-8 of bytes that are whole units of well-formed UTF-16. WIDE_FAULT where half a unit is left or the units are not well
+ * formed, and then the buffer is as it was.
+ */
+size_t wide_bytes_to_utf8(const uint8_t *bytes, size_t length, uint32_t order, uint8_t *text, size_t room);
+
+/*
+ * The text in UTF-8 of any units in bytes, with what a policy gives for each unit that belongs to no character, behind one or not, as
+ * `after_fault` tells it.
+ */
+size_t wide_bytes_to_utf8_lossy_with(const uint8_t *bytes, size_t length, uint32_t order, uint32_t policy, uint32_t after_fault, uint8_t *text, size_t room);
 
 /* The text of well-formed UTF-32 in UTF-8. WIDE_FAULT where the units are not well formed, and then the buffer is as it was. */
 size_t wide_utf32_to_utf8(const uint32_t *units, size_t length, uint8_t *text, size_t room);

@@ -23,7 +23,7 @@ lossy_front form policy bs us n m after between next within text same other item
     ap (encode form) (lossy-behind_text policy bs n after between within text same other) ∙ flat_map-append (code_units form) cs rest ∙ ap (λ vs. encode form cs ++ vs) (lossy-rest form policy (drop n bs) [] us m between next items)
 
 -- no bytes have none
-no_text : (policy : Policy) (after : Bool) → lossy_after policy after [] ≡ []
+pub no_text : (policy : Policy) (after : Bool) → lossy_after policy after [] ≡ []
 no_text Each after = refl
 no_text Run true = refl
 no_text Run false = refl

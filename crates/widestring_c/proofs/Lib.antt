@@ -1,5 +1,7 @@
 mod Buffers
 mod Chunks
+mod Cuts
 mod Pairs
+mod Pieces
 mod Repaired
 mod Windows

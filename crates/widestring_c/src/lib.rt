@@ -6,6 +6,7 @@
 #![tactic(auto)]
 
 mod between;
+mod bytes;
 mod from_utf8;
 mod lengths;
 #[cfg(test)]
@@ -22,6 +23,10 @@ mod to_utf8;
 mod version;
 
 pub use between::{wide_utf16_to_utf32, wide_utf32_to_utf16};
+pub use bytes::{
+    wide_bytes_certain, wide_bytes_ends_in_fault, wide_bytes_first_fault, wide_bytes_order,
+    wide_bytes_to_utf8, wide_bytes_to_utf8_lossy_with,
+};
 pub use from_utf8::{
     wide_utf8_first_fault, wide_utf8_to_utf16, wide_utf8_to_utf16_lossy,
     wide_utf8_to_utf16_lossy_with, wide_utf8_to_utf32, wide_utf8_to_utf32_lossy,

@@ -2,7 +2,7 @@
 ghost use Rattle.std.specs.Prelude.{◌≡◌, ◌≤◌, ◌+◌, ◌-◌, ◌^◌, ◌++◌, ◌*◌, IfNone, IfSome, length, map, min, take, drop};
 ghost use Rattle.wide_unit.specs.EncodingForm.{Utf16, Utf32};
 ghost use Rattle.wide_unit.specs.Items.{IsWellFormed, chars, items};
-ghost use Rattle.wide_unit.specs.Lossy.{lossy, lossy_by};
+ghost use Rattle.wide_unit.specs.Lossy.{lossy, lossy_after, lossy_by};
 ghost use Rattle.wide_unit.specs.Utf8.{utf8};
 ghost use Rattle.widestring_c.specs.Policies.{policy_of};
 
@@ -20,7 +20,7 @@ const MANY: usize = 256;
 
 const MIDDLE: usize = 772;
 
-const LARGE: usize = 3100;
+pub(crate) const LARGE: usize = 3100;
 
 // U+FFFD REPLACEMENT CHARACTER in UTF-8.
 const REPLACEMENT: [u8; 3] = [0xef, 0xbf, 0xbd];
@@ -143,16 +143,25 @@ fn put_lossy(units: &[u16], text: &mut [u8]) -> usize
     }
 }
 
-// Puts the text of any units at the front, by what a policy gives for faults, with the text between them copied whole.
-fn put_lossy_by<C: Unit>(units: &[C], policy: Policy, text: &mut [u8], piece: &mut [u8]) -> usize
+// Puts the text of any units behind a place, as `put_items` does, by what a policy gives for faults, with the text between them copied
+// whole. The flag tells whether a fault is the last of what stands before the units.
+pub(crate) fn put_lossy_behind<C: Unit>(
+    units: &[C],
+    policy: Policy,
+    after_fault: bool,
+    text: &mut [u8],
+    at: usize,
+    piece: &mut [u8],
+) -> usize
     requires piece { 64 ≤ length piece.old }
-    ensures len { result ≡ min (length (utf8 (lossy_by policy (items C.form (map C.number units.now))))) (2 ^ 64 - 1) }
-    ensures text { result ≤ length text.old → take result text.new ≡ utf8 (lossy_by policy (items C.form (map C.number units.now))) }
+    ensures place { result ≡ min (at + length (utf8 (lossy_after policy after_fault (items C.form (map C.number units.now))))) (2 ^ 64 - 1) }
+    ensures text { result ≤ length text.old → take result text.new ≡ take at text.old ++ utf8 (lossy_after policy after_fault (items C.form (map C.number units.now))) }
+    ensures room { length text.new ≡ length text.old }
     ensures behind { drop result text.new ≡ drop result text.old }
 {
-    let mut at = 0;
+    let mut at = at;
     let mut rest = units;
-    let mut after = false;
+    let mut after = after_fault;
     'faults: while !rest.is_empty() {
         let len = sound_len(rest);
         let (front, behind) = rest.split_at(len);
@@ -167,6 +176,15 @@ fn put_lossy_by<C: Unit>(units: &[C], policy: Policy, text: &mut [u8], piece: &m
         (_, rest) = behind.split_at(1);
     }
     at
+}
+
+// The same at the front.
+fn put_lossy_by<C: Unit>(units: &[C], policy: Policy, text: &mut [u8]) -> usize
+    ensures len { result ≡ min (length (utf8 (lossy_by policy (items C.form (map C.number units.now))))) (2 ^ 64 - 1) }
+    ensures text { result ≤ length text.old → take result text.new ≡ utf8 (lossy_by policy (items C.form (map C.number units.now))) }
+    ensures behind { drop result text.new ≡ drop result text.old }
+{
+    put_lossy_behind(units, policy, false, text, 0, &mut [0; LARGE])
 }
 
 /// The text of well-formed UTF-16 (Unicode Standard, D91) in UTF-8 (D92), in front of `text` where there is room for it. Answers how many
@@ -211,7 +229,7 @@ pub extern "C" fn wide_utf16_to_utf8_lossy_with(
 {
     match policy_of(policy) {
         Some(Policy::Each) => wide_utf16_to_utf8_lossy(units, text),
-        Some(policy) => put_lossy_by(units, policy, text, &mut [0; LARGE]),
+        Some(policy) => put_lossy_by(units, policy, text),
         None => usize::MAX,
     }
 }
@@ -235,7 +253,7 @@ pub extern "C" fn wide_utf32_to_utf8_lossy(units: &[u32], text: &mut [u8]) -> us
     ensures text { result ≤ length text.old → take result text.new ≡ utf8 (lossy (items Utf32 units.now)) }
     ensures behind { drop result text.new ≡ drop result text.old }
 {
-    put_lossy_by(units, Policy::Each, text, &mut [0; LARGE])
+    put_lossy_by(units, Policy::Each, text)
 }
 
 /// The same under a policy, as `wide_utf16_to_utf8_lossy_with`.
@@ -252,7 +270,7 @@ pub extern "C" fn wide_utf32_to_utf8_lossy_with(
     ensures behind { drop result text.new ≡ drop result text.old }
 {
     match policy_of(policy) {
-        Some(policy) => put_lossy_by(units, policy, text, &mut [0; LARGE]),
+        Some(policy) => put_lossy_by(units, policy, text),
         None => usize::MAX,
     }
 }

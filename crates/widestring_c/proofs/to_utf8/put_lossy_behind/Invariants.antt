@@ -1,13 +1,13 @@
 use Rattle.std.proofs.Common.{◌≡◌, length, map, drop}
 use Rattle.wide_unit.specs.Items.{items}
-use Rattle.wide_unit.specs.Lossy.{lossy_after, lossy_by}
+use Rattle.wide_unit.specs.Lossy.{lossy_after}
 use Rattle.wide_unit.specs.Utf8.{utf8}
-use Rattle.widestring_c.proofs.Buffers.{Writing}
-use Rattle.widestring_c.proofs.to_utf8.put_lossy_by.Given as goal
+use Rattle.widestring_c.proofs.Buffers.{Puts}
+use Rattle.widestring_c.proofs.to_utf8.put_lossy_behind.Given as goal
 
 abbrev pub invariant-faults : goal.invariant-faults
 invariant-faults g l = record {
-  so_far : Writing (utf8 (lossy_by l.policy (items g.C.Unit.form (map g.C.Unit.number l.units)))) l.at l.text (utf8 (lossy_after l.policy l.after (items g.C.Unit.form (map g.C.Unit.number l.rest))));
+  so_far : Puts l.fn.text l.fn.at (utf8 (lossy_after l.policy l.after_fault (items g.C.Unit.form (map g.C.Unit.number l.units)))) l.at l.text (utf8 (lossy_after l.policy l.after (items g.C.Unit.form (map g.C.Unit.number l.rest))));
   room : length l.text ≡ length l.fn.text;
   behind : drop l.at l.text ≡ drop l.at l.fn.text;
 }

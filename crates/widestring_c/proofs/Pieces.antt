@@ -1,0 +1,111 @@
+-- What the units of bytes are, a piece of them after another.
+use Rattle.std.proofs.Common.{◌≡◌, ℕ, ◌+◌, ◌%◌, ◌<◌, ◌≤◌, Bool, List, [], ◌∷◌, ◌++◌, length, map, take, drop, refl, sym, ap, ◌∙◌, subst, arith, append_assoc, append-nil, length-append, length-drop, length-take-le}
+use Rattle.std.proofs.lemmas.List.{map-append, take-append-drop}
+use Rattle.std.proofs.lemmas.List.Concat.{flat_map-append}
+use Rattle.wide_unit.specs.EncodingForm.{Utf16, code_units, encode}
+use Rattle.wide_unit.specs.Segmentation.{Item, Char, Fault}
+use Rattle.wide_unit.specs.Items.{IsFirstFault, IsWellFormed, chars, items}
+use Rattle.wide_unit.specs.Lossy.{ends_in_fault, lossy_after}
+use Rattle.wide_unit.specs.Utf8.{utf8, utf8_bytes}
+use Rattle.wide_unit.specs.Laws.Items.{IsCut, IsWellFormed-of_chars, chars-of_well_formed, encode-of_items, items-append, items-nil, length-items16}
+use Rattle.wide_unit.specs.Laws.Policies.{ends_in_fault-append, lossy_after-append}
+use Rattle.wide_unit.specs.declared.policy.Policy.{Policy}
+use Rattle.wide_unit.proofs.Faults.{IsFirstFault-of, first_fault-split}
+use Rattle.wide_bytes.specs.Bytes.{units_in}
+use Rattle.wide_bytes.specs.Lossied.{faulty, lossy_text}
+use Rattle.wide_bytes.specs.declared.order.BoM.{BoM}
+use Rattle.wide_bytes.proofs.Pairs.{length-units_in, units_in-append, units_in-short}
+use Rattle.widestring_c.proofs.Chunks.{no_text}
+
+-- half a unit alone has no units, so that no pair is cut before it
+pub cut-before_half : (order : BoM) (us bytes : List ℕ) → length bytes < 2 → IsCut Utf16 us (units_in order bytes)
+cut-before_half order us bytes short front back h l ends begins pair = let none : [] ≡ l ∷ back = sym (units_in-short order bytes short) ∙ begins in absurd cc
+
+pub cut-before_none : (order : BoM) (us bytes : List ℕ) → IsCut Utf16 us (units_in order (bytes ++ [])) → IsCut Utf16 us (units_in order bytes)
+cut-before_none order us bytes cut = subst (λ bs. IsCut Utf16 us (units_in order bs)) (append-nil bytes) cut
+
+units-parted : (order : BoM) (bytes : List ℕ) (n : ℕ) → n % 2 ≡ 0 → n ≤ length bytes → units_in order bytes ≡ units_in order (take n bytes) ++ units_in order (drop n bytes)
+units-parted order bytes n even within =
+    ap (units_in order) (sym (take-append-drop n bytes)) ∙ units_in-append order (take n bytes) (drop n bytes) (omega (arith, even, length-take-le n bytes within))
+
+-- the items of a piece, and of what is behind it
+pub items-parted : (order : BoM) (bytes : List ℕ) (n : ℕ) → n % 2 ≡ 0 → n ≤ length bytes → IsCut Utf16 (units_in order (take n bytes)) (units_in order (drop n bytes))
+    → items Utf16 (units_in order bytes) ≡ items Utf16 (units_in order (take n bytes)) ++ items Utf16 (units_in order (drop n bytes))
+items-parted order bytes n even within cut = ap (items Utf16) (units-parted order bytes n even within) ∙ items-append Utf16 (units_in order (take n bytes)) (units_in order (drop n bytes)) cut
+
+-- ---- lossy text
+
+module _ (policy : Policy) (after : Bool) where
+  pub text-parted : (order : BoM) (bytes : List ℕ) (n : ℕ) → n % 2 ≡ 0 → n ≤ length bytes → IsCut Utf16 (units_in order (take n bytes)) (units_in order (drop n bytes))
+      → lossy_text policy after (units_in order bytes) ≡ lossy_text policy after (units_in order (take n bytes)) ++ lossy_text policy (faulty after (units_in order (take n bytes))) (units_in order (drop n bytes))
+  text-parted order bytes n even within cut =
+      let a = items Utf16 (units_in order (take n bytes)) in
+      let b = items Utf16 (units_in order (drop n bytes)) in
+      ap (λ is. utf8 (lossy_after policy after is)) (items-parted order bytes n even within cut) ∙ ap utf8 (lossy_after-append policy after a b)
+      ∙ flat_map-append utf8_bytes (lossy_after policy after a) (lossy_after policy (ends_in_fault after a) b)
+
+  pub no_text-left : (order : BoM) (bytes : List ℕ) → length bytes < 2 → lossy_text policy after (units_in order bytes) ≡ []
+  no_text-left order bytes short =
+      ap (λ us. lossy_text policy after us) (units_in-short order bytes short) ∙ ap (λ is. utf8 (lossy_after policy after is)) (items-nil Utf16) ∙ ap utf8 (no_text policy after)
+
+-- ---- whether a fault is the last
+
+ends-any : (a b : Bool) (is : List Item) → 1 ≤ length is → ends_in_fault a is ≡ ends_in_fault b is
+ends-any a b [] some = absurd (omega arith)
+ends-any a b (Char c ∷ is) some = refl
+ends-any a b (Fault u ∷ is) some = refl
+
+pub ends-behind : (after : Bool) (order : BoM) (bytes : List ℕ) (n : ℕ) → n % 2 ≡ 0 → n + 2 ≤ length bytes → IsCut Utf16 (units_in order (take n bytes)) (units_in order (drop n bytes))
+    → faulty after (units_in order bytes) ≡ faulty after (units_in order (drop n bytes))
+ends-behind after order bytes n even within cut =
+    let a = items Utf16 (units_in order (take n bytes)) in
+    let b = items Utf16 (units_in order (drop n bytes)) in
+    let some : 1 ≤ length b = omega (arith, within, length-items16 (units_in order (drop n bytes)), length-units_in order (drop n bytes), length-drop n bytes) in
+    ap (λ is. ends_in_fault after is) (items-parted order bytes n even (omega (arith, within)) cut) ∙ ends_in_fault-append after a b ∙ ends-any (ends_in_fault after a) after b some
+
+pub none-last : (after : Bool) (order : BoM) (bytes : List ℕ) → length bytes < 2 → after ≡ faulty after (units_in order bytes)
+none-last after order bytes short = sym (ap (λ us. faulty after us) (units_in-short order bytes short) ∙ ap (λ is. ends_in_fault after is) (items-nil Utf16))
+
+-- ---- the first fault
+
+-- so many units at the front are those of characters, and what is left of them are the units of these bytes
+pub record Passed (us : List ℕ) (passed : ℕ) (left : List ℕ) : Type 0 where
+  pub cs : List ℕ
+  pub parted : items Utf16 us ≡ map Char cs ++ items Utf16 left
+  pub long : length (encode Utf16 cs) ≡ passed
+
+pub none-passed : (us : List ℕ) → Passed us 0 us
+none-passed us = record { cs = []; parted = refl; long = refl }
+
+module _ (us : List ℕ) (passed : ℕ) (left : List ℕ) (p : Passed us passed left) (front back : List ℕ) (parts : items Utf16 left ≡ items Utf16 front ++ items Utf16 back) where
+  pub more-passed : (n : ℕ) → IsWellFormed Utf16 front → length front ≡ n → Passed us (passed + n) back
+  more-passed n well long =
+      let ds = chars Utf16 front in
+      let is : items Utf16 front ≡ map Char ds = chars-of_well_formed Utf16 front well in
+      let joined : items Utf16 us ≡ map Char (p.cs ++ ds) ++ items Utf16 back =
+      p.parted ∙ ap (λ is. map Char p.cs ++ is) (parts ∙ ap (λ is. is ++ items Utf16 back) is) ∙ sym (append_assoc (map Char p.cs) (map Char ds) (items Utf16 back))
+      ∙ ap (λ is. is ++ items Utf16 back) (sym (map-append Char p.cs ds))
+      in
+      let counted : length (encode Utf16 (p.cs ++ ds)) ≡ passed + n =
+      ap length (flat_map-append (code_units Utf16) p.cs ds) ∙ length-append (encode Utf16 p.cs) (encode Utf16 ds) ∙ ap (λ m. m + length (encode Utf16 ds)) p.long
+      ∙ ap (λ vs. passed + length vs) (encode-of_items Utf16 ds front is) ∙ ap (λ m. passed + m) long
+      in
+      record { cs = p.cs ++ ds; parted = joined; long = counted }
+
+  pub fault-behind : (n item u : ℕ) → IsFirstFault Utf16 front n item u → IsFirstFault Utf16 us (passed + n) (length p.cs + item) u
+  fault-behind n item u fault =
+      let (ds, rest, split, at, number) = first_fault-split Utf16 front n item u fault in
+      let joined : items Utf16 us ≡ map Char (p.cs ++ ds) ++ Fault u ∷ (rest ++ items Utf16 back) =
+      p.parted ∙ ap (λ is. map Char p.cs ++ is) (parts ∙ ap (λ is. is ++ items Utf16 back) split ∙ append_assoc (map Char ds) (Fault u ∷ rest) (items Utf16 back))
+      ∙ sym (append_assoc (map Char p.cs) (map Char ds) (Fault u ∷ (rest ++ items Utf16 back))) ∙ ap (λ is. is ++ Fault u ∷ (rest ++ items Utf16 back)) (sym (map-append Char p.cs ds))
+      in
+      let counted : length (encode Utf16 (p.cs ++ ds)) ≡ passed + n =
+      ap length (flat_map-append (code_units Utf16) p.cs ds) ∙ length-append (encode Utf16 p.cs) (encode Utf16 ds) ∙ ap (λ m. m + length (encode Utf16 ds)) p.long ∙ ap (λ m. passed + m) at
+      in
+      IsFirstFault-of Utf16 us (p.cs ++ ds) (rest ++ items Utf16 back) (passed + n) (length p.cs + item) u joined counted (length-append p.cs ds ∙ ap (λ m. length p.cs + m) number)
+
+-- where no unit is left, all are well formed
+pub all-passed : (order : BoM) (bytes us : List ℕ) (passed : ℕ) → length bytes < 2 → Passed us passed (units_in order bytes) → IsWellFormed Utf16 us
+all-passed order bytes us passed short p =
+    let none : items Utf16 (units_in order bytes) ≡ [] = ap (items Utf16) (units_in-short order bytes short) ∙ items-nil Utf16 in
+    IsWellFormed-of_chars Utf16 us p.cs (p.parted ∙ ap (λ is. map Char p.cs ++ is) none ∙ append-nil (map Char p.cs))

@@ -1,0 +1,15 @@
+use Rattle.std.proofs.Common.{◌≡◌, length, drop}
+use Rattle.wide_bytes.specs.Bytes.{units_in}
+use Rattle.wide_bytes.specs.Lossied.{lossy_text}
+use Rattle.widestring_c.proofs.Buffers.{Writing}
+use Rattle.widestring_c.proofs.bytes.put_bytes_by.Given as goal
+
+abbrev pub invariant-pieces : goal.invariant-pieces
+invariant-pieces l = record {
+  so_far : Writing (lossy_text l.policy l.after_fault (units_in l.order l.bytes)) l.at l.text (lossy_text l.policy l.after (units_in l.order l.rest));
+  room : length l.text ≡ length l.fn.text;
+  behind : drop l.at l.text ≡ drop l.at l.fn.text;
+}
+
+abbrev pub decreases-pieces : goal.decreases-pieces
+decreases-pieces l = length l.rest

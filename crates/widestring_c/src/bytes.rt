@@ -1,0 +1,287 @@
+//! UTF-16 that comes as bytes of either order, also in pieces, whose state is the caller's.
+ghost use Rattle.std.specs.Prelude.{◌≡◌, ◌<◌, ◌≤◌, ◌+◌, ◌-◌, ◌/◌, ◌%◌, ◌^◌, ◌++◌, ◌↔◌, ℕ, List, IfNone, IfSome, slice_index, length, min, take, drop};
+ghost use Rattle.wide_unit.specs.EncodingForm.{Utf16, IsHighSurrogate};
+ghost use Rattle.wide_unit.specs.Items.{IsFirstFault, IsWellFormed, chars};
+ghost use Rattle.wide_unit.specs.Utf8.{utf8};
+ghost use Rattle.wide_unit.specs.Laws.Items.{IsCut};
+ghost use Rattle.wide_bytes.specs.Bytes.{mark_of, unit_in, units_in};
+ghost use Rattle.wide_bytes.specs.Encoded.{IsCutShort};
+ghost use Rattle.wide_bytes.specs.Lossied.{faulty, lossy_text};
+ghost use Rattle.widestring_c.specs.Bytes.{is_set, number_of_flag, number_of_mark, order_named};
+ghost use Rattle.widestring_c.specs.Policies.{policy_of};
+
+use crate::policies::policy_of;
+use crate::to_utf8::{LARGE, put_lossy_behind};
+use wide_blocks::sound_len;
+use wide_bytes::{BoM, byte_order, ends_in_fault, fill_units, unit_in};
+use wide_unit::Policy;
+
+// So many units are read at a time.
+const PIECE: usize = 1024;
+
+// The order that a number names.
+pub(crate) fn order_named(number: u32) -> Option<BoM>
+    ensures { result ≡ order_named number }
+{
+    match number {
+        0 => Some(BoM::Little),
+        1 => Some(BoM::Big),
+        _ => None,
+    }
+}
+
+// What a number tells as a flag.
+pub(crate) fn is_set(flag: u32) -> bool
+    ensures { result ≡ is_set flag }
+{
+    flag != 0
+}
+
+// How many bytes at a front of whole units stay before what follows it: all, but a last high surrogate, which may begin a pair.
+pub(crate) fn uncut_len(order: BoM, bytes: &[u8], front: usize) -> usize
+    requires within { front ≤ length bytes.now }
+    requires even { front % 2 ≡ 0 }
+    ensures within { result ≤ front }
+    ensures even { result % 2 ≡ 0 }
+    ensures one_unit { result < front → result + 2 ≡ front }
+    ensures high { result < front → IsHighSurrogate Utf16 (unit_in order (slice_index bytes.now result) (slice_index bytes.now (result + 1))) }
+    ensures cut { (more : List ℕ) → IsCut Utf16 (units_in order (take result bytes.now)) (units_in order (drop result bytes.now ++ more)) }
+{
+    if front >= 2 && unit_in(order, bytes[front - 2], bytes[front - 1]) / 0x400 == 54 {
+        front - 2
+    } else {
+        front
+    }
+}
+
+// How many bytes at the front are whole units that nothing behind the bytes changes.
+fn certain_len(order: BoM, bytes: &[u8]) -> usize
+    ensures within { result ≤ length bytes.now }
+    ensures even { result % 2 ≡ 0 }
+    ensures rest { IsCutShort order (drop result bytes.now) }
+    ensures cut { (more : List ℕ) → IsCut Utf16 (units_in order (take result bytes.now)) (units_in order (drop result bytes.now ++ more)) }
+{
+    uncut_len(order, bytes, bytes.len() / 2 * 2)
+}
+
+// How many bytes are read next: all whole units where they are few, or else so many that no pair is cut behind them.
+fn piece_len(order: BoM, bytes: &[u8]) -> usize
+    requires { 2 ≤ length bytes.now }
+    ensures some { 2 ≤ result }
+    ensures within { result ≤ length bytes.now }
+    ensures few { result ≤ 2048 }
+    ensures even { result % 2 ≡ 0 }
+    ensures cut { IsCut Utf16 (units_in order (take result bytes.now)) (units_in order (drop result bytes.now)) }
+{
+    if bytes.len() <= 2 * PIECE {
+        bytes.len() / 2 * 2
+    } else {
+        uncut_len(order, bytes, 2 * PIECE)
+    }
+}
+
+// Puts the text of the units of bytes at the front, by what a policy gives for faults, piece by piece, by arrays for units and for text.
+// The flag tells whether a fault is the last of what stands before the bytes.
+fn put_bytes_by(
+    order: BoM,
+    bytes: &[u8],
+    policy: Policy,
+    after_fault: bool,
+    text: &mut [u8],
+    units: &mut [u16],
+    piece: &mut [u8],
+) -> usize
+    requires units { 1024 ≤ length units.old }
+    requires piece { 64 ≤ length piece.old }
+    ensures len { result ≡ min (length (lossy_text policy after_fault (units_in order bytes.now))) (2 ^ 64 - 1) }
+    ensures text { result ≤ length text.old → take result text.new ≡ lossy_text policy after_fault (units_in order bytes.now) }
+    ensures behind { drop result text.new ≡ drop result text.old }
+{
+    let mut at = 0;
+    let mut rest = bytes;
+    let mut after = after_fault;
+    'pieces: while rest.len() >= 2 {
+        let (front, behind) = rest.split_at(piece_len(order, rest));
+        fill_units(order, front, units);
+        let read = &units[..front.len() / 2];
+        at = put_lossy_behind(read, policy, after, text, at, piece);
+        after = ends_in_fault(read, after);
+        rest = behind;
+    }
+    at
+}
+
+// The same by arrays of its own.
+fn put_bytes(order: BoM, bytes: &[u8], policy: Policy, after_fault: bool, text: &mut [u8]) -> usize
+    ensures len { result ≡ min (length (lossy_text policy after_fault (units_in order bytes.now))) (2 ^ 64 - 1) }
+    ensures text { result ≤ length text.old → take result text.new ≡ lossy_text policy after_fault (units_in order bytes.now) }
+    ensures behind { drop result text.new ≡ drop result text.old }
+{
+    let mut units = [0; PIECE];
+    let mut piece = [0; LARGE];
+    put_bytes_by(
+        order,
+        bytes,
+        policy,
+        after_fault,
+        text,
+        &mut units,
+        &mut piece,
+    )
+}
+
+// How many units of bytes stand before the first fault, piece by piece, by an array for units.
+fn sound_units(order: BoM, bytes: &[u8], units: &mut [u16]) -> usize
+    requires { 1024 ≤ length units.old }
+    ensures well_formed { (result ≡ length bytes.now / 2) ↔ IsWellFormed Utf16 (units_in order bytes.now) }
+    ensures fault { result < length bytes.now / 2 → (item unit : ℕ) × IsFirstFault Utf16 (units_in order bytes.now) result item unit }
+    ensures within { result ≤ length bytes.now / 2 }
+{
+    let mut passed = 0;
+    let mut rest = bytes;
+    'pieces: while rest.len() >= 2 {
+        let (front, behind) = rest.split_at(piece_len(order, rest));
+        fill_units(order, front, units);
+        let read = &units[..front.len() / 2];
+        let len = sound_len(read);
+        passed += len;
+        if len < read.len() {
+            return passed;
+        }
+        rest = behind;
+    }
+    passed
+}
+
+// Puts the text of bytes that are whole units and well formed at the front, or answers the greatest number.
+fn put_sound_bytes(order: BoM, bytes: &[u8], text: &mut [u8]) -> usize
+    ensures len { length bytes.now % 2 ≡ 0 → IsWellFormed Utf16 (units_in order bytes.now) → result ≡ min (length (utf8 (chars Utf16 (units_in order bytes.now)))) (2 ^ 64 - 1) }
+    ensures text { length bytes.now % 2 ≡ 0 → IsWellFormed Utf16 (units_in order bytes.now) → result ≤ length text.old → take result text.new ≡ utf8 (chars Utf16 (units_in order bytes.now)) }
+    ensures odd { length bytes.now % 2 ≡ 1 → (result ≡ 2 ^ 64 - 1) × (text.new ≡ text.old) }
+    ensures fault { (IsWellFormed Utf16 (units_in order bytes.now) → ⊥) → (result ≡ 2 ^ 64 - 1) × (text.new ≡ text.old) }
+    ensures behind { drop result text.new ≡ drop result text.old }
+{
+    if bytes.len() % 2 == 0 && sound_units(order, bytes, &mut [0; PIECE]) == bytes.len() / 2 {
+        // No fault is there for a policy to mark.
+        put_bytes(order, bytes, Policy::Each, false, text)
+    } else {
+        usize::MAX
+    }
+}
+
+// Whether a fault is the last of the units of bytes, or of what stands before them where they have none. The last item is read alone.
+fn ends_bytes(order: BoM, bytes: &[u8], after_fault: bool) -> bool
+    ensures { result ≡ faulty after_fault (units_in order bytes.now) }
+{
+    if bytes.len() < 2 {
+        return after_fault;
+    }
+    let (_, last) = bytes.split_at(uncut_len(order, bytes, bytes.len() / 2 * 2 - 2));
+    let mut units = [0; 2];
+    fill_units(order, last, &mut units);
+    ends_in_fault(&units[..last.len() / 2], after_fault)
+}
+
+/// The order of the bytes of UTF-16 that the byte order mark at their front tells (Unicode Standard, section 23.8): 0 for little endian, 1
+/// for big endian, and 2 where no mark stands there. The two bytes of the mark are no part of the text.
+#[unsafe(no_mangle)]
+pub extern "C" fn wide_bytes_order(bytes: &[u8]) -> u32
+    ensures { result ≡ number_of_mark (mark_of bytes.now) }
+{
+    match byte_order(bytes) {
+        Some(BoM::Little) => 0,
+        Some(BoM::Big) => 1,
+        None => 2,
+    }
+}
+
+/// How many bytes at the front are whole units of UTF-16 (Unicode Standard, D96 and D97) whose meaning no bytes behind them change: all
+/// whole units, but a high surrogate that has no whole unit behind it. The order of the bytes is 0 for little endian and 1 for big endian;
+/// where it is another number, the answer is the greatest number.
+#[unsafe(no_mangle)]
+pub extern "C" fn wide_bytes_certain(bytes: &[u8], order: u32) -> usize
+    ensures within { IfSome (order_named order) (λ o. result ≤ length bytes.now) }
+    ensures even { IfSome (order_named order) (λ o. result % 2 ≡ 0) }
+    ensures rest { IfSome (order_named order) (λ o. IsCutShort o (drop result bytes.now)) }
+    ensures cut { IfSome (order_named order) (λ o. (more : List ℕ) → IsCut Utf16 (units_in o (take result bytes.now)) (units_in o (drop result bytes.now ++ more))) }
+    ensures other { IfNone (order_named order) (result ≡ 2 ^ 64 - 1) }
+{
+    match order_named(order) {
+        Some(order) => certain_len(order, bytes),
+        None => usize::MAX,
+    }
+}
+
+/// The text in UTF-8 of the whole units of UTF-16 in bytes (Unicode Standard, D96 and D97), in front of `text` where there is room for it,
+/// with what a policy gives for units that belong to no character; half a unit at the end is not read. `after_fault` is 0, or another
+/// number where such a unit is the last of what stands before the bytes. Order and policy are numbers, as for `wide_bytes_certain` and
+/// `wide_utf16_to_utf8_lossy_with`. Answers how many bytes the text has, or the greatest number where they are more; and where the order
+/// or the policy is another number, the greatest number, with `text` as it was.
+#[unsafe(no_mangle)]
+pub extern "C" fn wide_bytes_to_utf8_lossy_with(
+    bytes: &[u8],
+    order: u32,
+    policy: u32,
+    after_fault: u32,
+    text: &mut [u8],
+) -> usize
+    ensures len { IfSome (order_named order) (λ o. IfSome (policy_of policy) (λ p. result ≡ min (length (lossy_text p (is_set after_fault) (units_in o bytes.now))) (2 ^ 64 - 1))) }
+    ensures text { IfSome (order_named order) (λ o. IfSome (policy_of policy) (λ p. result ≤ length text.old → take result text.new ≡ lossy_text p (is_set after_fault) (units_in o bytes.now))) }
+    ensures other_order { IfNone (order_named order) (result ≡ 2 ^ 64 - 1) }
+    ensures other_policy { IfNone (policy_of policy) (result ≡ 2 ^ 64 - 1) }
+    ensures unchanged_order { IfNone (order_named order) (text.new ≡ text.old) }
+    ensures unchanged_policy { IfNone (policy_of policy) (text.new ≡ text.old) }
+    ensures behind { drop result text.new ≡ drop result text.old }
+{
+    match (order_named(order), policy_of(policy)) {
+        (Some(order), Some(policy)) => put_bytes(order, bytes, policy, is_set(after_fault), text),
+        _ => usize::MAX,
+    }
+}
+
+/// Whether a unit that belongs to no character is the last of the whole units of bytes, or of what stands before them where they have
+/// none: 1 where it is, and else 0. `after_fault` tells it of what stands before, as for `wide_bytes_to_utf8_lossy_with`. The answer is 0
+/// where the order is no number of one, too.
+#[unsafe(no_mangle)]
+pub extern "C" fn wide_bytes_ends_in_fault(bytes: &[u8], order: u32, after_fault: u32) -> u32
+    ensures last { IfSome (order_named order) (λ o. result ≡ number_of_flag (faulty (is_set after_fault) (units_in o bytes.now))) }
+    ensures other { IfNone (order_named order) (result ≡ 0) }
+{
+    match order_named(order) {
+        Some(order) => u32::from(ends_bytes(order, bytes, is_set(after_fault))),
+        None => 0,
+    }
+}
+
+/// The text in UTF-8 of bytes that are well-formed UTF-16 (Unicode Standard, D91, D96 and D97), in front of `text` where there is room for
+/// it. Answers how many bytes it has, or the greatest number where they are more. Where half a unit is left, the units are not well formed
+/// or the order is no number of one, the answer is the greatest number, and `text` is as it was.
+#[unsafe(no_mangle)]
+pub extern "C" fn wide_bytes_to_utf8(bytes: &[u8], order: u32, text: &mut [u8]) -> usize
+    ensures len { IfSome (order_named order) (λ o. length bytes.now % 2 ≡ 0 → IsWellFormed Utf16 (units_in o bytes.now) → result ≡ min (length (utf8 (chars Utf16 (units_in o bytes.now)))) (2 ^ 64 - 1)) }
+    ensures text { IfSome (order_named order) (λ o. length bytes.now % 2 ≡ 0 → IsWellFormed Utf16 (units_in o bytes.now) → result ≤ length text.old → take result text.new ≡ utf8 (chars Utf16 (units_in o bytes.now))) }
+    ensures odd { length bytes.now % 2 ≡ 1 → (result ≡ 2 ^ 64 - 1) × (text.new ≡ text.old) }
+    ensures fault { IfSome (order_named order) (λ o. (IsWellFormed Utf16 (units_in o bytes.now) → ⊥) → (result ≡ 2 ^ 64 - 1) × (text.new ≡ text.old)) }
+    ensures other { IfNone (order_named order) ((result ≡ 2 ^ 64 - 1) × (text.new ≡ text.old)) }
+    ensures behind { drop result text.new ≡ drop result text.old }
+{
+    match order_named(order) {
+        Some(order) => put_sound_bytes(order, bytes, text),
+        None => usize::MAX,
+    }
+}
+
+/// The place, in units, of the first unit that belongs to no character among the whole units of UTF-16 in bytes (Unicode Standard, D91,
+/// D96 and D97), or how many those are where there is none. Where the order is no number of one, the answer is the greatest number.
+#[unsafe(no_mangle)]
+pub extern "C" fn wide_bytes_first_fault(bytes: &[u8], order: u32) -> usize
+    ensures well_formed { IfSome (order_named order) (λ o. (result ≡ length bytes.now / 2) ↔ IsWellFormed Utf16 (units_in o bytes.now)) }
+    ensures fault { IfSome (order_named order) (λ o. result < length bytes.now / 2 → (item unit : ℕ) × IsFirstFault Utf16 (units_in o bytes.now) result item unit) }
+    ensures within { IfSome (order_named order) (λ o. result ≤ length bytes.now / 2) }
+    ensures other { IfNone (order_named order) (result ≡ 2 ^ 64 - 1) }
+{
+    match order_named(order) {
+        Some(order) => sound_units(order, bytes, &mut [0; PIECE]),
+        None => usize::MAX,
+    }
+}
