@@ -5,8 +5,8 @@ ghost use Rattle.std.specs.List.{ends_with};
 ghost use Rattle.wide_bytes.specs.Bytes.{units_in};
 ghost use Rattle.wide_bytes.specs.Encoded.{Encoded, HoldsAt, IsHeldOr};
 
+use crate::filled::unit_in;
 use crate::order::BoM;
-use crate::units::unit_in;
 use wide_blocks::{Step, encode};
 
 // The fault that what is left of a piece begins with: a high surrogate before a zero unit.

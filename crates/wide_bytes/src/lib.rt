@@ -3,6 +3,7 @@
 #![tactic(auto)]
 
 mod devices;
+mod filled;
 mod holding;
 pub mod laws;
 mod lossy;
@@ -15,10 +16,11 @@ mod units;
 mod whole;
 
 pub use devices::{ByteSink, ByteSource, FromRead, FromWrite};
+pub use filled::{fill_units, unit_in};
 pub use lossy::ends_in_fault;
 pub use mode::Mode;
 pub use moving::put_all;
 pub use order::{BoM, byte_order};
 pub use transcoding::{transcode, transcode_with};
-pub use units::{UnitsOfBytes, fill_units, unit_in, units_of_bytes};
+pub use units::{UnitsOfBytes, units_of_bytes};
 pub use whole::{Utf16OfBytes, utf16_of_bytes};

@@ -1,11 +1,11 @@
 //! The UTF-16 code units of bytes, read one by one.
 
-ghost use Rattle.std.specs.Prelude.{◌≡◌, ◌≤◌, ◌<◌, ◌+◌, ◌*◌, ◌/◌, ◌%◌, ◌-◌, ℕ, slice_index, [], ◌∷◌, length, take, nat_eq, IfSome, if◌then◌else◌};
+ghost use Rattle.std.specs.Prelude.{◌≡◌, ◌-◌, [], ◌∷◌, length, take, nat_eq, IfSome, if◌then◌else◌};
 ghost use Rattle.std.specs.List.{ends_with};
-ghost use Rattle.wide_bytes.specs.Bytes.{unit_in, units_in, units_of_bytes, without_mark};
-ghost use Rattle.wide_bytes.specs.declared.order.BoM.TheVariants.{Little};
+ghost use Rattle.wide_bytes.specs.Bytes.{units_in, units_of_bytes, without_mark};
 ghost use Rattle.wide_bytes.specs.UnitsOfBytes.{units_left};
 
+use super::filled::unit_in;
 use super::order::{BoM, byte_order};
 
 /// The code units of bytes that are not read yet, from the front. Made by [`units_of_bytes`]; this port's own.
@@ -13,53 +13,6 @@ use super::order::{BoM, byte_order};
 pub struct UnitsOfBytes<'a> {
     order: BoM,
     bytes: &'a [u8],
-}
-
-/// The code unit of two bytes (Unicode Standard, D96 and D97). The call is this port's own.
-#[inline(always)]
-pub fn unit_in(order: BoM, first: u8, second: u8) -> u16
-    ensures { result ≡ unit_in order first second }
-{
-    let (first, second) = (u16::from(first), u16::from(second));
-    match order {
-        BoM::Little => first + 0x100 * second,
-        BoM::Big => 0x100 * first + second,
-    }
-}
-
-// Stores little-endian units.
-fn fill_little(bytes: &[u8], units: &mut [u16])
-    requires { length bytes.now / 2 ≤ length units.old }
-    ensures long { length units.new ≡ length units.old }
-    ensures units { (k : ℕ) → k < length bytes.now / 2 → slice_index units.new k ≡ unit_in Little (slice_index bytes.now (2 * k)) (slice_index bytes.now (2 * k + 1)) }
-{
-    for k in 0..bytes.len() / 2 {
-        units[k] = unit_in(BoM::Little, bytes[2 * k], bytes[2 * k + 1]);
-    }
-}
-
-// Changes the order of the bytes of the first `count` units.
-fn swap_bytes(units: &mut [u16], count: usize)
-    requires { count ≤ length units.old }
-    ensures long { length units.new ≡ length units.old }
-    ensures units { (k : ℕ) → k < count → slice_index units.new k ≡ slice_index units.old k % 0x100 * 0x100 + slice_index units.old k / 0x100 }
-{
-    for k in 0..count {
-        units[k] = units[k] % 0x100 * 0x100 + units[k] / 0x100;
-    }
-}
-
-/// Stores the code units of the whole pairs of bytes at the front of `units`. The call is this port's own.
-pub fn fill_units(order: BoM, bytes: &[u8], units: &mut [u16])
-    requires { length bytes.now / 2 ≤ length units.old }
-    ensures { take (length bytes.now / 2) units.new ≡ units_in order bytes.now }
-{
-    // Little-endian bytes are copied as they are, and swapped by vectors.
-    fill_little(bytes, units);
-    match order {
-        BoM::Little => {}
-        BoM::Big => swap_bytes(units, bytes.len() / 2),
-    }
 }
 
 impl Iterator for UnitsOfBytes<'_> {

@@ -2,7 +2,7 @@ use Rattle.std.proofs.Common.{◌/◌, ◌∙◌, length, sym, ap, arith}
 use Rattle.wide_bytes.specs.Bytes.{units_in}
 use Rattle.wide_bytes.proofs.UnitsHeld.{swapped, units-filled}
 use Rattle.wide_bytes.specs.declared.order.BoM.TheVariants.{Little, Big}
-use Rattle.wide_bytes.proofs.units.fill_units.Goals as goal
+use Rattle.wide_bytes.proofs.filled.fill_units.Goals as goal
 
 pub returns-in-Little : goal.returns-in-Little
 returns-in-Little c =
