@@ -24,31 +24,45 @@ cut-before_half order us bytes short front back h l ends begins pair = let none 
 pub cut-before_none : (order : BoM) (us bytes : List ℕ) → IsCut Utf16 us (units_in order (bytes ++ [])) → IsCut Utf16 us (units_in order bytes)
 cut-before_none order us bytes cut = subst (λ bs. IsCut Utf16 us (units_in order bs)) (append-nil bytes) cut
 
-units-parted : (order : BoM) (bytes : List ℕ) (n : ℕ) → n % 2 ≡ 0 → n ≤ length bytes → units_in order bytes ≡ units_in order (take n bytes) ++ units_in order (drop n bytes)
-units-parted order bytes n even within =
-    ap (units_in order) (sym (take-append-drop n bytes)) ∙ units_in-append order (take n bytes) (drop n bytes) (omega (arith, even, length-take-le n bytes within))
-
 -- the items of a piece, and of what is behind it
+items-joined : (order : BoM) (front back : List ℕ) → length front % 2 ≡ 0 → IsCut Utf16 (units_in order front) (units_in order back)
+    → items Utf16 (units_in order (front ++ back)) ≡ items Utf16 (units_in order front) ++ items Utf16 (units_in order back)
+items-joined order front back even cut = ap (items Utf16) (units_in-append order front back even) ∙ items-append Utf16 (units_in order front) (units_in order back) cut
+
+even-front : (bytes : List ℕ) (n : ℕ) → n % 2 ≡ 0 → n ≤ length bytes → length (take n bytes) % 2 ≡ 0
+even-front bytes n even within = omega (arith, even, length-take-le n bytes within)
+
 pub items-parted : (order : BoM) (bytes : List ℕ) (n : ℕ) → n % 2 ≡ 0 → n ≤ length bytes → IsCut Utf16 (units_in order (take n bytes)) (units_in order (drop n bytes))
     → items Utf16 (units_in order bytes) ≡ items Utf16 (units_in order (take n bytes)) ++ items Utf16 (units_in order (drop n bytes))
-items-parted order bytes n even within cut = ap (items Utf16) (units-parted order bytes n even within) ∙ items-append Utf16 (units_in order (take n bytes)) (units_in order (drop n bytes)) cut
+items-parted order bytes n even within cut =
+    ap (λ bs. items Utf16 (units_in order bs)) (sym (take-append-drop n bytes)) ∙ items-joined order (take n bytes) (drop n bytes) (even-front bytes n even within) cut
 
 -- ---- lossy text
 
 module _ (policy : Policy) (after : Bool) where
+  pub text-joined : (order : BoM) (front back : List ℕ) → length front % 2 ≡ 0 → IsCut Utf16 (units_in order front) (units_in order back)
+      → lossy_text policy after (units_in order (front ++ back)) ≡ lossy_text policy after (units_in order front) ++ lossy_text policy (faulty after (units_in order front)) (units_in order back)
+  text-joined order front back even cut =
+      let a = items Utf16 (units_in order front) in
+      let b = items Utf16 (units_in order back) in
+      ap (λ is. utf8 (lossy_after policy after is)) (items-joined order front back even cut) ∙ ap utf8 (lossy_after-append policy after a b)
+      ∙ flat_map-append utf8_bytes (lossy_after policy after a) (lossy_after policy (ends_in_fault after a) b)
+
   pub text-parted : (order : BoM) (bytes : List ℕ) (n : ℕ) → n % 2 ≡ 0 → n ≤ length bytes → IsCut Utf16 (units_in order (take n bytes)) (units_in order (drop n bytes))
       → lossy_text policy after (units_in order bytes) ≡ lossy_text policy after (units_in order (take n bytes)) ++ lossy_text policy (faulty after (units_in order (take n bytes))) (units_in order (drop n bytes))
   text-parted order bytes n even within cut =
-      let a = items Utf16 (units_in order (take n bytes)) in
-      let b = items Utf16 (units_in order (drop n bytes)) in
-      ap (λ is. utf8 (lossy_after policy after is)) (items-parted order bytes n even within cut) ∙ ap utf8 (lossy_after-append policy after a b)
-      ∙ flat_map-append utf8_bytes (lossy_after policy after a) (lossy_after policy (ends_in_fault after a) b)
+      ap (λ bs. lossy_text policy after (units_in order bs)) (sym (take-append-drop n bytes)) ∙ text-joined order (take n bytes) (drop n bytes) (even-front bytes n even within) cut
 
   pub no_text-left : (order : BoM) (bytes : List ℕ) → length bytes < 2 → lossy_text policy after (units_in order bytes) ≡ []
   no_text-left order bytes short =
       ap (λ us. lossy_text policy after us) (units_in-short order bytes short) ∙ ap (λ is. utf8 (lossy_after policy after is)) (items-nil Utf16) ∙ ap utf8 (no_text policy after)
 
 -- ---- whether a fault is the last
+
+pub last-joined : (after : Bool) (order : BoM) (front back : List ℕ) → length front % 2 ≡ 0 → IsCut Utf16 (units_in order front) (units_in order back)
+    → faulty after (units_in order (front ++ back)) ≡ faulty (faulty after (units_in order front)) (units_in order back)
+last-joined after order front back even cut =
+    ap (λ is. ends_in_fault after is) (items-joined order front back even cut) ∙ ends_in_fault-append after (items Utf16 (units_in order front)) (items Utf16 (units_in order back))
 
 ends-any : (a b : Bool) (is : List Item) → 1 ≤ length is → ends_in_fault a is ≡ ends_in_fault b is
 ends-any a b [] some = absurd (omega arith)

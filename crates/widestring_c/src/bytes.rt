@@ -20,7 +20,7 @@ use wide_unit::Policy;
 const PIECE: usize = 1024;
 
 // The order that a number names.
-pub(crate) fn order_named(number: u32) -> Option<BoM>
+fn order_named(number: u32) -> Option<BoM>
     ensures { result ≡ order_named number }
 {
     match number {
@@ -31,14 +31,14 @@ pub(crate) fn order_named(number: u32) -> Option<BoM>
 }
 
 // What a number tells as a flag.
-pub(crate) fn is_set(flag: u32) -> bool
+fn is_set(flag: u32) -> bool
     ensures { result ≡ is_set flag }
 {
     flag != 0
 }
 
 // How many bytes at a front of whole units stay before what follows it: all, but a last high surrogate, which may begin a pair.
-pub(crate) fn uncut_len(order: BoM, bytes: &[u8], front: usize) -> usize
+fn uncut_len(order: BoM, bytes: &[u8], front: usize) -> usize
     requires within { front ≤ length bytes.now }
     requires even { front % 2 ≡ 0 }
     ensures within { result ≤ front }

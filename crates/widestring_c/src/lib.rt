@@ -8,6 +8,7 @@
 mod between;
 mod bytes;
 mod from_utf8;
+pub mod laws;
 mod lengths;
 #[cfg(test)]
 mod lengths_rows;

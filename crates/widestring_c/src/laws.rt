@@ -1,0 +1,18 @@
+//! What a stream of UTF-16 in bytes is of its pieces. Each is a function that does nothing, whose contract is the law.
+ghost use Rattle.std.specs.Prelude.{◌≡◌, ◌%◌, ◌++◌, length};
+ghost use Rattle.wide_unit.specs.EncodingForm.{Utf16};
+ghost use Rattle.wide_unit.specs.Laws.Items.{IsCut};
+ghost use Rattle.wide_bytes.specs.Bytes.{units_in};
+ghost use Rattle.wide_bytes.specs.Lossied.{faulty, lossy_text};
+
+use wide_bytes::BoM;
+use wide_unit::Policy;
+
+/// The text of a stream behind a fault or not is that of a front behind which no pair is cut, and then that of what comes behind it, by
+/// the flag that tells whether a fault is the last of the front; and so is what is last of the whole.
+pub fn text_of_a_stream(order: BoM, policy: Policy, after_fault: bool, front: &[u8], back: &[u8])
+    requires whole { length front.now % 2 ≡ 0 }
+    requires cut { IsCut Utf16 (units_in order front.now) (units_in order back.now) }
+    ensures text { lossy_text policy after_fault (units_in order (front.now ++ back.now)) ≡ lossy_text policy after_fault (units_in order front.now) ++ lossy_text policy (faulty after_fault (units_in order front.now)) (units_in order back.now) }
+    ensures last { faulty after_fault (units_in order (front.now ++ back.now)) ≡ faulty (faulty after_fault (units_in order front.now)) (units_in order back.now) }
+{}
