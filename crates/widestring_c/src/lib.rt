@@ -7,6 +7,8 @@
 
 mod between;
 mod bytes;
+#[cfg(test)]
+mod bytes_rows;
 mod from_utf8;
 pub mod laws;
 mod lengths;

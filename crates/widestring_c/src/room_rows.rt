@@ -20,7 +20,7 @@ use wide_unit::Policy;
 static LENGTHS: [(usize, usize, usize); 3] = [(0, 70, 0), (127, 131, 60), (255, 258, 250)];
 
 // What is put at a place, as far as it fits: a character of each length in UTF-8, and faults. Half a pair is a fault too.
-static KINDS16: [&[u16]; 8] = [
+pub(crate) static KINDS16: [&[u16]; 8] = [
     &[0x7a],
     &[0xdf],
     &[0x8a9e],
@@ -59,7 +59,7 @@ static KINDS8: [&[u8]; 12] = [
 ];
 
 // The policies, each at the number that names it.
-static POLICIES: [Policy; 3] = [Policy::Each, Policy::Run, Policy::Skip];
+pub(crate) static POLICIES: [Policy; 3] = [Policy::Each, Policy::Run, Policy::Skip];
 
 // Whether a call puts these items in front of a room of this size, where they fit, and answers how many they are. Where there are none to
 // put, it answers the greatest number. All behind them stays.
@@ -87,7 +87,7 @@ fn fills_room<T: Copy + PartialEq, F: Fn(&mut [T]) -> usize>(
 }
 
 // The same of a room that is exact, of one that is one shorter and of one that is five longer.
-fn fills<T: Copy + PartialEq, F: Fn(&mut [T]) -> usize>(
+pub(crate) fn fills<T: Copy + PartialEq, F: Fn(&mut [T]) -> usize>(
     alloc: Global,
     call: F,
     len: usize,
@@ -121,7 +121,7 @@ fn scalars_of(alloc: Global, text: &str) -> Result<Vec<u32>, AllocError> {
 }
 
 // The characters of units and of bytes, with none for each fault.
-fn items16(alloc: Global, units: &[u16]) -> Result<Vec<Option<char>>, AllocError> {
+pub(crate) fn items16(alloc: Global, units: &[u16]) -> Result<Vec<Option<char>>, AllocError> {
     let mut items = Vec::new(alloc);
     for decoded in char::decode_utf16(units.iter().copied()) {
         items.push(decoded.ok())?;
@@ -151,7 +151,11 @@ fn items8(alloc: Global, bytes: &[u8]) -> Result<Vec<Option<char>>, AllocError> 
 }
 
 // Their text, with what a policy gives for faults.
-fn text_of(alloc: Global, items: &[Option<char>], policy: Policy) -> Result<String, AllocError> {
+pub(crate) fn text_of(
+    alloc: Global,
+    items: &[Option<char>],
+    policy: Policy,
+) -> Result<String, AllocError> {
     let mut text = String::new(alloc);
     let mut after = false;
     for item in items {
@@ -167,7 +171,7 @@ fn text_of(alloc: Global, items: &[Option<char>], policy: Policy) -> Result<Stri
 }
 
 // Those items where no fault is among them.
-fn strict<'a, T>(is_text: bool, items: &'a [T]) -> Option<&'a [T]> {
+pub(crate) fn strict<'a, T>(is_text: bool, items: &'a [T]) -> Option<&'a [T]> {
     if is_text { Some(items) } else { None }
 }
 
@@ -282,7 +286,7 @@ fn converts8_by_policies(alloc: Global, bytes: &[u8]) -> Result<bool, AllocError
 }
 
 // Letters, as many as told, with this put at a place as far as it fits.
-fn with_kind<T: Copy>(
+pub(crate) fn with_kind<T: Copy>(
     alloc: Global,
     letter: T,
     len: usize,
