@@ -39,6 +39,9 @@ struct wanted {
 static uint64_t state;
 static const char *seen_call = "";
 
+/* The order of bytes that calls are handed, and whether a fault stands before them. */
+static uint32_t order, fault_before;
+
 static uint32_t random_below(uint32_t bound) {
     state ^= state << 13;
     state ^= state >> 7;
@@ -164,7 +167,7 @@ static void convert(const struct items *items, int width, int policy, struct wan
     for (size_t at = 0; at < items->count; at++) {
         if (items->item[at] != FAULT)
             encode(&wanted->text, items->item[at]);
-        else if (policy == WIDE_EACH || (policy == WIDE_RUN && (at == 0 || items->item[at - 1] != FAULT)))
+        else if (policy == WIDE_EACH || (policy == WIDE_RUN && (at == 0 ? !fault_before : items->item[at - 1] != FAULT)))
             encode(&wanted->text, REPLACEMENT);
     }
     wanted->answer = wanted->text.length;
@@ -198,6 +201,14 @@ WITH(utf32_to_utf8_lossy_with, uint32_t, uint8_t)
 WITH(utf8_to_utf16_lossy_with, uint8_t, uint16_t)
 WITH(utf8_to_utf32_lossy_with, uint8_t, uint32_t)
 
+static size_t call_bytes_to_utf8(const void *from, size_t length, uint32_t policy, void *room, size_t size) {
+    (void)policy;
+    return wide_bytes_to_utf8((const uint8_t *)from, length, order, (uint8_t *)room, size);
+}
+static size_t call_bytes_to_utf8_lossy_with(const void *from, size_t length, uint32_t policy, void *room, size_t size) {
+    return wide_bytes_to_utf8_lossy_with((const uint8_t *)from, length, order, policy, fault_before, (uint8_t *)room, size);
+}
+
 /* Each conversion, the widths from which and to which, and the policies that it is asked for: none, which is -1, or a range of them. */
 static const struct conversion {
     const char *name;
@@ -221,6 +232,10 @@ static const struct conversion {
     {"wide_utf8_to_utf16_lossy_with", call_utf8_to_utf16_lossy_with, 1, 2, WIDE_EACH, WIDE_SKIP + 1},
     {"wide_utf8_to_utf32_lossy_with", call_utf8_to_utf32_lossy_with, 1, 4, WIDE_EACH, WIDE_SKIP + 1},
 };
+
+/* The same of UTF-16 that comes as bytes. */
+static const struct conversion strict_bytes = {"wide_bytes_to_utf8", call_bytes_to_utf8, 2, 1, -1, -1};
+static const struct conversion lossy_bytes = {"wide_bytes_to_utf8_lossy_with", call_bytes_to_utf8_lossy_with, 2, 1, WIDE_EACH, WIDE_SKIP + 1};
 
 /* A room of this size, with `behind` more elements in front of the edge, which the call is not told of. */
 static void check_room(const struct conversion *it, const void *from, size_t length, int policy, const struct wanted *wanted,
@@ -326,6 +341,74 @@ static void check_searches(const void *from, const struct text *text, unsigned c
     }
 }
 
+/* UTF-16 as bytes, with half a unit behind them or not, right in front of the edge, or NULL where there are none. */
+static const uint8_t *bytes_at_edge(unsigned char *end, const struct text *text, size_t half) {
+    size_t length = 2 * text->length + half;
+    unsigned char *memory = end - length;
+    for (size_t at = 0; at < text->length; at++) {
+        memory[2 * at + (order == WIDE_BIG_ENDIAN)] = (unsigned char)text->element[at];
+        memory[2 * at + (order != WIDE_BIG_ENDIAN)] = (unsigned char)(text->element[at] >> 8);
+    }
+    if (half > 0)
+        memory[length - 1] = 0xd8;
+    return length == 0 ? NULL : memory;
+}
+
+/* Bytes that come in pieces of any sizes, read as the header tells it. */
+static void check_stream(const uint8_t *from, size_t length, uint32_t policy, const struct items *items) {
+    static struct wanted wanted;
+    static uint8_t held[2 * MOST + 2], text[ROOM];
+    size_t read = 0, count = 0, written = 0;
+    uint32_t after_fault = 0;
+    while (read < length) {
+        size_t piece = 1 + random_below(random_below(2) == 0 ? 3 : (uint32_t)(length - read));
+        piece = piece < length - read ? piece : length - read;
+        memcpy(held + count, from + read, piece);
+        read += piece, count += piece;
+        size_t certain = wide_bytes_certain(held, count, order);
+        written += wide_bytes_to_utf8_lossy_with(held, certain, order, policy, after_fault, text + written, ROOM - written);
+        after_fault = wide_bytes_ends_in_fault(held, certain, order, after_fault);
+        memmove(held, held + certain, count - certain);
+        count -= certain;
+    }
+    written += wide_bytes_to_utf8_lossy_with(held, count, order, policy, after_fault, text + written, ROOM - written);
+    convert(items, 1, (int)policy, &wanted);
+    equal("a stream in pieces", written, wanted.answer);
+    for (size_t at = 0; at < written; at++)
+        if (text[at] != wanted.text.element[at])
+            fail("another text");
+}
+
+/* UTF-16 that comes as bytes of either order, behind a fault or not. */
+static void check_bytes(const struct text *text, const struct items *items, unsigned char *ends[3]) {
+    uint8_t mark[2] = {(uint8_t)(0xfd + random_below(3)), (uint8_t)(0xfd + random_below(3))};
+    uint32_t told = mark[0] == 0xff && mark[1] == 0xfe ? WIDE_LITTLE_ENDIAN : mark[0] == 0xfe && mark[1] == 0xff ? WIDE_BIG_ENDIAN : WIDE_NO_MARK;
+    size_t half = random_below(2), length = 2 * text->length + half;
+    size_t high = text->length > 0 && text->element[text->length - 1] >> 10 == 0x36;
+    equal("wide_bytes_order", wide_bytes_order(mark, 2), told);
+    equal("wide_bytes_order", wide_bytes_order(mark, 1), WIDE_NO_MARK);
+    for (order = 0; order < 2; order++) {
+        const uint8_t *from = bytes_at_edge(ends[0], text, half);
+        fault_before = random_below(2) * (1 + random_below(9));
+        uint32_t is_last = items->count > 0 ? items->item[items->count - 1] == FAULT : fault_before > 0;
+        equal("wide_bytes_certain", wide_bytes_certain(from, length, order), length - half - 2 * high);
+        equal("wide_bytes_first_fault", wide_bytes_first_fault(from, length, order), items->place[fault_of(items)]);
+        equal("wide_bytes_ends_in_fault", wide_bytes_ends_in_fault(from, length, order, fault_before), is_last);
+        check_conversion(&lossy_bytes, from, length, items, ends[2]);
+        fault_before = 0;
+        if (half == 0)
+            check_conversion(&strict_bytes, from, length, items, ends[2]);
+        else
+            equal("wide_bytes_to_utf8", wide_bytes_to_utf8(from, length, order, NULL, 0), WIDE_FAULT);
+        check_stream(from, length, random_below(3), items);
+    }
+    equal("wide_bytes_certain", wide_bytes_certain(mark, 2, order), WIDE_FAULT);
+    equal("wide_bytes_first_fault", wide_bytes_first_fault(mark, 2, order), WIDE_FAULT);
+    equal("wide_bytes_ends_in_fault", wide_bytes_ends_in_fault(mark, 2, order, 1), 0);
+    equal("wide_bytes_to_utf8", wide_bytes_to_utf8(mark, 2, order, NULL, 0), WIDE_FAULT);
+    equal("wide_bytes_to_utf8_lossy_with", wide_bytes_to_utf8_lossy_with(mark, 2, order, WIDE_EACH, 0, NULL, 0), WIDE_FAULT);
+}
+
 /* A character: of ASCII mostly, and of each length of UTF-8. */
 static uint32_t random_character(uint32_t kinds) {
     static const uint32_t first[] = {0x20, 0x20, 0, 0x80, 0x800, 0xe000, 0x10000};
@@ -371,6 +454,8 @@ static void check_text(int width, unsigned char *ends[3]) {
     for (size_t row = 0; row < sizeof conversions / sizeof conversions[0]; row++)
         if (conversions[row].from == width)
             check_conversion(&conversions[row], from, text.length, &items, ends[2]);
+    if (width == 2)
+        check_bytes(&text, &items, ends);
 }
 
 int main(int count, char **words) {
