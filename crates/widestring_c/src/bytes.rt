@@ -157,8 +157,10 @@ fn sound_units(order: BoM, bytes: &[u8], units: &mut [u16]) -> usize
 fn put_sound_bytes(order: BoM, bytes: &[u8], text: &mut [u8]) -> usize
     ensures len { length bytes.now % 2 ≡ 0 → IsWellFormed Utf16 (units_in order bytes.now) → result ≡ min (length (utf8 (chars Utf16 (units_in order bytes.now)))) (2 ^ 64 - 1) }
     ensures text { length bytes.now % 2 ≡ 0 → IsWellFormed Utf16 (units_in order bytes.now) → result ≤ length text.old → take result text.new ≡ utf8 (chars Utf16 (units_in order bytes.now)) }
-    ensures odd { length bytes.now % 2 ≡ 1 → (result ≡ 2 ^ 64 - 1) × (text.new ≡ text.old) }
-    ensures fault { (IsWellFormed Utf16 (units_in order bytes.now) → ⊥) → (result ≡ 2 ^ 64 - 1) × (text.new ≡ text.old) }
+    ensures odd { length bytes.now % 2 ≡ 1 → result ≡ 2 ^ 64 - 1 }
+    ensures odd_unchanged { length bytes.now % 2 ≡ 1 → text.new ≡ text.old }
+    ensures fault { (IsWellFormed Utf16 (units_in order bytes.now) → ⊥) → result ≡ 2 ^ 64 - 1 }
+    ensures unchanged { (IsWellFormed Utf16 (units_in order bytes.now) → ⊥) → text.new ≡ text.old }
     ensures behind { drop result text.new ≡ drop result text.old }
 {
     if bytes.len() % 2 == 0 && sound_units(order, bytes, &mut [0; PIECE]) == bytes.len() / 2 {
@@ -260,9 +262,12 @@ pub extern "C" fn wide_bytes_ends_in_fault(bytes: &[u8], order: u32, after_fault
 pub extern "C" fn wide_bytes_to_utf8(bytes: &[u8], order: u32, text: &mut [u8]) -> usize
     ensures len { IfSome (order_named order) (λ o. length bytes.now % 2 ≡ 0 → IsWellFormed Utf16 (units_in o bytes.now) → result ≡ min (length (utf8 (chars Utf16 (units_in o bytes.now)))) (2 ^ 64 - 1)) }
     ensures text { IfSome (order_named order) (λ o. length bytes.now % 2 ≡ 0 → IsWellFormed Utf16 (units_in o bytes.now) → result ≤ length text.old → take result text.new ≡ utf8 (chars Utf16 (units_in o bytes.now))) }
-    ensures odd { length bytes.now % 2 ≡ 1 → (result ≡ 2 ^ 64 - 1) × (text.new ≡ text.old) }
-    ensures fault { IfSome (order_named order) (λ o. (IsWellFormed Utf16 (units_in o bytes.now) → ⊥) → (result ≡ 2 ^ 64 - 1) × (text.new ≡ text.old)) }
-    ensures other { IfNone (order_named order) ((result ≡ 2 ^ 64 - 1) × (text.new ≡ text.old)) }
+    ensures odd { length bytes.now % 2 ≡ 1 → result ≡ 2 ^ 64 - 1 }
+    ensures odd_unchanged { length bytes.now % 2 ≡ 1 → text.new ≡ text.old }
+    ensures fault { IfSome (order_named order) (λ o. (IsWellFormed Utf16 (units_in o bytes.now) → ⊥) → result ≡ 2 ^ 64 - 1) }
+    ensures unchanged { IfSome (order_named order) (λ o. (IsWellFormed Utf16 (units_in o bytes.now) → ⊥) → text.new ≡ text.old) }
+    ensures other { IfNone (order_named order) (result ≡ 2 ^ 64 - 1) }
+    ensures other_unchanged { IfNone (order_named order) (text.new ≡ text.old) }
     ensures behind { drop result text.new ≡ drop result text.old }
 {
     match order_named(order) {
