@@ -169,11 +169,49 @@ template <class View> void check_units(View text, const Items &items) {
     must(widestring::first_nul(text) == found(text.find(typename View::value_type{0})), "first_nul");
 }
 
+void check_bytes(std::u16string_view text);
+
 void check(std::u16string_view text) {
     const Items items = items_of(text);
     check_units(text, items);
     must(widestring::to_utf32(text) == text_of<std::u32string>(items), "to_utf32");
     must(widestring::utf32_length(text) == length_of(text_of<std::u32string>(items)), "utf32_length");
+    check_bytes(text);
+}
+
+std::string bytes_of(std::u16string_view text, widestring::Order order) {
+    std::string bytes;
+    for (const char16_t unit : text) {
+        const char low = static_cast<char>(unit), high = static_cast<char>(unit >> 8);
+        bytes.push_back(order == widestring::Order::little ? low : high);
+        bytes.push_back(order == widestring::Order::little ? high : low);
+    }
+    return bytes;
+}
+
+// Units as bytes, with half of a unit behind them or not, in one piece and in two, the second of which has what the first left.
+void check_bytes(std::u16string_view text) {
+    const Items items = items_of(text);
+    const auto order = below(2) == 0 ? widestring::Order::little : widestring::Order::big;
+    const std::string whole = bytes_of(text, order), bytes = whole + std::string(below(2), 'a');
+    const bool is_odd = bytes.size() > whole.size();
+    const auto strict = is_odd ? std::nullopt : text_of<std::string>(items);
+    must(widestring::to_utf8(std::string_view(bytes), order) == strict, "to_utf8 of bytes");
+    must(widestring::first_fault(bytes, order) == widestring::first_fault(text), "first_fault of bytes");
+    const bool is_high = !text.empty() && (text.back() & 0xfc00) == 0xd800;
+    must(widestring::certain(bytes, order) == whole.size() - (is_high ? 2 : 0), "certain");
+    must(widestring::ends_in_fault(bytes, order, true) == (items.item.empty() || items.item.back() == fault), "ends_in_fault");
+    must(widestring::byte_order(bytes_of(u"\xfeff", order) + bytes) == order, "byte_order");
+    must(widestring::byte_order("ab") == std::nullopt, "byte_order of no mark");
+    const std::string_view all = bytes;
+    const auto cut = widestring::certain(all.substr(0, below(static_cast<std::uint32_t>(all.size()) + 1)), order);
+    const bool after = widestring::ends_in_fault(all.substr(0, cut), order);
+    for (const auto policy : policies) {
+        const auto wanted = lossy_of<std::string>(items, policy);
+        must(widestring::to_utf8_lossy(bytes, order, policy) == wanted, "to_utf8_lossy of bytes");
+        const auto front = widestring::to_utf8_lossy(all.substr(0, cut), order, policy);
+        must(front + widestring::to_utf8_lossy(all.substr(cut), order, policy, after) == wanted, "to_utf8_lossy in pieces");
+    }
 }
 
 void check(std::u32string_view text) {

@@ -28,6 +28,9 @@ namespace widestring {
 /* What lossy text has for what belongs to no character: U+FFFD for each, one for each longest row of neighbours, or nothing. */
 enum class Lossy : std::uint32_t { each = WIDE_EACH, run = WIDE_RUN, skip = WIDE_SKIP };
 
+/* Which of the two bytes of a unit of UTF-16 comes first. */
+enum class Order : std::uint32_t { little = WIDE_LITTLE_ENDIAN, big = WIDE_BIG_ENDIAN };
+
 /* WIDESTRING_VERSION_NUMBER of the library that the program runs with. */
 inline std::uint32_t version() noexcept {
     return wide_version();
@@ -178,6 +181,16 @@ template <class String, class View, class Put, class PutLossy> String lossy(View
     return string;
 }
 
+/* What a conversion writes of bytes, which is asked for the length first, or none where it answers a fault. */
+template <class Put> std::optional<std::string> asked_twice(std::string_view bytes, Put put) {
+    const std::size_t length = put(elements(bytes), bytes.size(), static_cast<std::uint8_t *>(nullptr), 0);
+    if (length == WIDE_FAULT)
+        return std::nullopt;
+    std::string text(length, 0);
+    put(elements(bytes), bytes.size(), elements(text.data()), length);
+    return std::optional<std::string>(std::move(text));
+}
+
 /* As many units as there are, with U+FFFD in the place of each that belongs to no character. */
 template <class View, class Put> auto repaired(View units, Put put) {
     return *converted<std::basic_string<typename View::value_type>>(units, put);
@@ -320,6 +333,49 @@ inline std::u16string to_utf16_lossy(std::string_view text, Lossy policy = Lossy
 
 inline std::u32string to_utf32_lossy(std::string_view text, Lossy policy = Lossy::each) {
     return detail::lossy<std::u32string>(text, policy, wide_utf8_to_utf32, wide_utf8_to_utf32_lossy_with);
+}
+
+/* The order that the byte order mark at the front of UTF-16 in bytes tells. The two bytes of the mark are no part of the text. */
+inline std::optional<Order> byte_order(std::string_view bytes) noexcept {
+    const std::uint32_t number = wide_bytes_order(detail::elements(bytes), bytes.size());
+    return number == WIDE_NO_MARK ? std::nullopt : std::optional<Order>(static_cast<Order>(number));
+}
+
+/* How many bytes at the front no bytes behind them change: all whole units, but a high surrogate that has no whole unit behind it. */
+inline std::size_t certain(std::string_view bytes, Order order) noexcept {
+    return wide_bytes_certain(detail::elements(bytes), bytes.size(), static_cast<std::uint32_t>(order));
+}
+
+/* The place, in units, of the first one among the bytes that belongs to no character. */
+inline std::optional<std::size_t> first_fault(std::string_view bytes, Order order) noexcept {
+    const auto number = static_cast<std::uint32_t>(order);
+    return detail::unless(bytes.size() / 2, wide_bytes_first_fault(detail::elements(bytes), bytes.size(), number));
+}
+
+/* Whether such a unit is the last of the bytes, or where they have none of what stands before them. */
+inline bool ends_in_fault(std::string_view bytes, Order order, bool after_fault = false) noexcept {
+    const auto number = static_cast<std::uint32_t>(order);
+    return wide_bytes_ends_in_fault(detail::elements(bytes), bytes.size(), number, after_fault) != 0;
+}
+
+/* The text in UTF-8 of bytes that are whole units of well-formed UTF-16, or none where they are not. */
+inline std::optional<std::string> to_utf8(std::string_view bytes, Order order) {
+    const auto put = [number = static_cast<std::uint32_t>(order)](auto *from, std::size_t size, auto *room, std::size_t room_size) {
+        return wide_bytes_to_utf8(from, size, number, room, room_size);
+    };
+    return detail::asked_twice(bytes, put);
+}
+
+/*
+ * The text in UTF-8 of the whole units of any bytes, with what a policy gives for each unit that belongs to no character, where the flag tells
+ * whether one is the last of what stands before the bytes. The header of C tells how a stream is read.
+ */
+inline std::string to_utf8_lossy(std::string_view bytes, Order order, Lossy policy = Lossy::each, bool after_fault = false) {
+    const auto put = [=](auto *from, std::size_t size, auto *room, std::size_t room_size) {
+        const auto number = static_cast<std::uint32_t>(order), policy_number = static_cast<std::uint32_t>(policy);
+        return wide_bytes_to_utf8_lossy_with(from, size, number, policy_number, after_fault, room, room_size);
+    };
+    return *detail::asked_twice(bytes, put);
 }
 
 /* The units with U+FFFD in the place of each that belongs to no character. */

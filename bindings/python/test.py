@@ -7,7 +7,7 @@ import re
 import sys
 
 import widestring
-from widestring import Lossy
+from widestring import Lossy, Order
 
 # What stands for a fault in a text of the judge's: a surrogate, which no text has.
 MARK = "\udfff"
@@ -100,6 +100,39 @@ def check_utf16(data):
     check_strict(widestring.utf16_to_utf32, data, items, "utf-32-le", place)
     check_lossy(widestring.utf16_to_utf8_lossy, data, items, "utf-8")
     check_searches(16, array.array("H", data))
+    check_bytes(data)
+
+
+def check_bytes(units):
+    """Units in either order, with half of a unit behind them or not, in one piece and in two, the second of which has what the first left."""
+    items = items_of(units, "utf-16-le")
+    order = random.choice(list(Order))
+    whole = array.array("H", units)
+    if order == Order.BIG:
+        whole.byteswap()
+    data = whole.tobytes() + b"a" * random.randrange(2)
+    item = fault_item(items)
+    place = None if item is None else len(items[:item].encode("utf-16-le")) // 2
+    equal("bytes_first_fault", widestring.bytes_first_fault(data, order), place)
+    is_high = units[-1:] != b"" and units[-1] >> 2 == 0x36
+    equal("certain", widestring.certain(data, order), len(units) - 2 * is_high)
+    equal("ends_in_fault", widestring.ends_in_fault(data, order, True), items == "" or "\ud800" <= items[-1] <= "\udfff")
+    mark = (codecs.BOM_UTF16_LE, codecs.BOM_UTF16_BE)[order]
+    equal("byte_order", (widestring.byte_order(mark + data), widestring.byte_order(b"ab")), (order, None))
+    is_sound = place is None and len(data) == len(units)
+    try:
+        answer = widestring.bytes_to_utf8(data, order)
+    except widestring.Fault as fault:
+        equal("bytes_to_utf8", (is_sound, fault.place), (False, len(units) // 2 if place is None else place))
+    else:
+        equal("bytes_to_utf8", (is_sound, answer), (True, items.encode("utf-8", "replace")))
+    front = data[: widestring.certain(data[: random.randrange(len(data) + 1)], order)]
+    after = widestring.ends_in_fault(front, order)
+    for policy in Lossy:
+        wanted = lossy_of(items, policy).encode()
+        equal("bytes_to_utf8_lossy", widestring.bytes_to_utf8_lossy(data, order, policy), wanted)
+        rest = widestring.bytes_to_utf8_lossy(data[len(front) :], order, policy, after)
+        equal("bytes_to_utf8_lossy in pieces", widestring.bytes_to_utf8_lossy(front, order, policy) + rest, wanted)
 
 
 def check_utf32(data):

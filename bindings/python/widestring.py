@@ -35,6 +35,13 @@ class Lossy(enum.IntEnum):
     SKIP = 2
 
 
+class Order(enum.IntEnum):
+    """Which of the two bytes of a unit of UTF-16 comes first."""
+
+    LITTLE = 0
+    BIG = 1
+
+
 def _load():
     named = os.environ.get("WIDESTRING_LIBRARY")
     try:
@@ -52,11 +59,11 @@ _new_bytes.argtypes = [ctypes.c_void_p, ctypes.c_ssize_t]
 _new_bytes.restype = ctypes.py_object
 
 
-def _call(name, *types):
+def _call(name, *types, answer=ctypes.c_size_t):
     """A call of the library on text, a length and what else it takes."""
     call = getattr(_library, f"wide_{name}")
     call.argtypes = [ctypes.c_char_p, ctypes.c_size_t, *types]
-    call.restype = ctypes.c_size_t
+    call.restype = answer
     return call
 
 
@@ -154,6 +161,12 @@ _utf8_to_utf16_lossy = _Conversion("utf8_to_utf16_lossy_with", 1, 2, "utf8_utf16
 _utf8_to_utf32_lossy = _Conversion("utf8_to_utf32_lossy_with", 1, 4, "utf8_utf32_length", ctypes.c_uint32)
 _utf16_repair = _Conversion("utf16_repair", 2, 2)
 _utf32_repair = _Conversion("utf32_repair", 4, 4)
+_bytes_order = _call("bytes_order", answer=ctypes.c_uint32)
+_bytes_certain = _call("bytes_certain", ctypes.c_uint32)
+_bytes_first_fault = _call("bytes_first_fault", ctypes.c_uint32)
+_bytes_ends_in_fault = _call("bytes_ends_in_fault", ctypes.c_uint32, ctypes.c_uint32, answer=ctypes.c_uint32)
+_bytes_to_utf8 = _Conversion("bytes_to_utf8", 1, 1, None, ctypes.c_uint32)
+_bytes_to_utf8_lossy = _Conversion("bytes_to_utf8_lossy_with", 1, 1, None, ctypes.c_uint32, ctypes.c_uint32, ctypes.c_uint32)
 
 
 def utf8_first_fault(text):
@@ -284,3 +297,42 @@ def utf16_repair(units):
 def utf32_repair(units):
     """The same of UTF-32."""
     return _utf32_repair.lossy(units)
+
+
+def byte_order(data):
+    """The order that the byte order mark at the front of UTF-16 tells, or None. The two bytes of the mark are no part of the text."""
+    number = _bytes_order(*_elements(data, 1))
+    return Order(number) if number < 2 else None
+
+
+def certain(data, order):
+    """How many bytes at the front no bytes behind them change: all whole units, but a high surrogate that has no whole unit behind it."""
+    return _bytes_certain(*_elements(data, 1), Order(order))
+
+
+def bytes_first_fault(data, order):
+    """The place, in units, of the first one of UTF-16 in this order that belongs to no character, or None."""
+    data, length = _elements(data, 1)
+    place = _bytes_first_fault(data, length, Order(order))
+    return None if place == length // 2 else place
+
+
+def ends_in_fault(data, order, after_fault=False):
+    """Whether such a unit is the last of the bytes, or where they have none of what stands before them."""
+    return _bytes_ends_in_fault(*_elements(data, 1), Order(order), after_fault) != 0
+
+
+def bytes_to_utf8(data, order):
+    """The text in UTF-8 of UTF-16 in this order. Raises Fault, at the last place where half of a unit is left."""
+    data, length = _elements(data, 1)
+    order = Order(order)
+    needed = _bytes_to_utf8.call(data, length, order, None, 0)
+    if needed == _NONE:
+        raise Fault(_bytes_first_fault(data, length, order))
+    return _bytes_to_utf8.write(data, length, needed, order)
+
+
+def bytes_to_utf8_lossy(data, order, policy=Lossy.EACH, after_fault=False):
+    """The text in UTF-8 of the whole units of UTF-16 in this order, with what the policy gives for each unit that belongs to no character,
+    where the flag tells whether one is the last of what stands before. The header of C tells how a stream is read."""
+    return _bytes_to_utf8_lossy.lossy(data, Order(order), Lossy(policy), after_fault)

@@ -112,4 +112,29 @@ extern "C" {
         repaired: *mut u32,
         room: usize,
     ) -> usize;
+    pub fn wide_bytes_order(bytes: *const u8, length: usize) -> u32;
+    pub fn wide_bytes_certain(bytes: *const u8, length: usize, order: u32) -> usize;
+    pub fn wide_bytes_first_fault(bytes: *const u8, length: usize, order: u32) -> usize;
+    pub fn wide_bytes_ends_in_fault(
+        bytes: *const u8,
+        length: usize,
+        order: u32,
+        after_fault: u32,
+    ) -> u32;
+    pub fn wide_bytes_to_utf8(
+        bytes: *const u8,
+        length: usize,
+        order: u32,
+        text: *mut u8,
+        room: usize,
+    ) -> usize;
+    pub fn wide_bytes_to_utf8_lossy_with(
+        bytes: *const u8,
+        length: usize,
+        order: u32,
+        policy: u32,
+        after_fault: u32,
+        text: *mut u8,
+        room: usize,
+    ) -> usize;
 }

@@ -40,6 +40,16 @@ pub enum Lossy {
     Skip = 2,
 }
 
+/// Which of the two bytes of a unit of UTF-16 comes first.
+#[derive(Clone, Copy, Debug, PartialEq, Eq)]
+#[repr(u32)]
+pub enum Order {
+    /// The low byte.
+    Little = 0,
+    /// The high byte.
+    Big = 1,
+}
+
 /// Text of at most so many elements has the room that its longest form needs, and of longer text so many tell the likely length.
 const SHORT: usize = 128;
 
@@ -388,4 +398,65 @@ pub fn utf8_to_utf16_lossy_into(text: &[u8], policy: Lossy, room: &mut [u16]) ->
 /// The same in UTF-32.
 pub fn utf8_to_utf32_lossy_into(text: &[u8], policy: Lossy, room: &mut [u32]) -> usize {
     put_with(text, policy, room, calls::wide_utf8_to_utf32_lossy_with)
+}
+
+/// The order that the byte order mark at the front of UTF-16 in bytes tells. The two bytes of the mark are no part of the text.
+pub fn byte_order(bytes: &[u8]) -> Option<Order> {
+    // A slice is memory that may be read, of this length.
+    match unsafe { calls::wide_bytes_order(bytes.as_ptr(), bytes.len()) } {
+        0 => Some(Order::Little),
+        1 => Some(Order::Big),
+        _ => None,
+    }
+}
+
+/// How many bytes at the front no bytes behind them change: all whole units, but a high surrogate that has no whole unit behind it.
+pub fn certain(bytes: &[u8], order: Order) -> usize {
+    // As before.
+    unsafe { calls::wide_bytes_certain(bytes.as_ptr(), bytes.len(), order as u32) }
+}
+
+/// The place, in units, of the first one among the bytes that belongs to no character, where there is one.
+pub fn bytes_first_fault(bytes: &[u8], order: Order) -> Option<usize> {
+    // As before.
+    let place =
+        unsafe { calls::wide_bytes_first_fault(bytes.as_ptr(), bytes.len(), order as u32) };
+    unless(bytes.len() / 2, place)
+}
+
+/// Whether such a unit is the last of the bytes, or where they have none of what stands before them.
+pub fn ends_in_fault(bytes: &[u8], order: Order, after_fault: bool) -> bool {
+    let (order, after) = (order as u32, u32::from(after_fault));
+    // As before.
+    unsafe { calls::wide_bytes_ends_in_fault(bytes.as_ptr(), bytes.len(), order, after) != 0 }
+}
+
+/// The text in UTF-8 of bytes that are whole units of well-formed UTF-16. The fault of half a unit is at the last place.
+pub fn bytes_to_utf8(bytes: &[u8], order: Order) -> Result<String, Fault> {
+    // The vector has this room, and is new.
+    let text = written(bytes.len(), |room, size| unsafe {
+        calls::wide_bytes_to_utf8(bytes.as_ptr(), bytes.len(), order as u32, room, size)
+    });
+    text.map(string).ok_or_else(|| Fault {
+        place: bytes_first_fault(bytes, order).unwrap_or(bytes.len() / 2),
+    })
+}
+
+/// The text in UTF-8 of the whole units of any bytes, with what the policy gives for each unit that belongs to no character, where the flag
+/// tells whether one is the last of what stands before the bytes. `widestring.h` tells how a stream is read.
+pub fn bytes_to_utf8_lossy(bytes: &[u8], order: Order, policy: Lossy, after_fault: bool) -> String {
+    let (order, policy, after) = (order as u32, policy as u32, u32::from(after_fault));
+    // The vector has this room, and is new.
+    let text = written(bytes.len(), |room, size| unsafe {
+        calls::wide_bytes_to_utf8_lossy_with(
+            bytes.as_ptr(),
+            bytes.len(),
+            order,
+            policy,
+            after,
+            room,
+            size,
+        )
+    });
+    string(text.expect("each order and policy has a number"))
 }

@@ -218,6 +218,46 @@ fn check_utf16(units: &[u16], numbers: &mut Numbers) {
         });
     }
     check_searches16(units, numbers);
+    check_bytes(units, &items, numbers);
+}
+
+/// Units as bytes, with half of a unit behind them or not, in one piece and in two, the second of which has what the first left.
+fn check_bytes(units: &[u16], items: &Items, numbers: &mut Numbers) {
+    let order = [Order::Little, Order::Big][numbers.below(2) as usize];
+    let put = |unit: &u16| match order {
+        Order::Little => unit.to_le_bytes(),
+        Order::Big => unit.to_be_bytes(),
+    };
+    let mut bytes: Vec<u8> = units.iter().flat_map(put).collect();
+    bytes.resize(bytes.len() + numbers.below(2) as usize, 0x61);
+    let place = utf16_first_fault(units);
+    let is_whole = bytes.len() % 2 == 0;
+    let fault = place.or((!is_whole).then_some(units.len()));
+    assert_eq!(bytes_first_fault(&bytes, order), place);
+    assert_eq!(bytes_to_utf8(&bytes, order), sound(items, fault, str::to_owned));
+    let is_high = units.last().is_some_and(|unit| unit >> 10 == 0x36);
+    assert_eq!(
+        certain(&bytes, order),
+        2 * (units.len() - usize::from(is_high))
+    );
+    let is_last = items.last().is_none_or(Option::is_none);
+    assert_eq!(ends_in_fault(&bytes, order, true), is_last);
+    let marked = [&put(&0xfeff)[..], &bytes].concat();
+    assert_eq!(byte_order(&marked), Some(order));
+    assert_eq!(byte_order(b"ab"), None);
+    let cut = certain(
+        &bytes[..numbers.below(bytes.len() as u32 + 1) as usize],
+        order,
+    );
+    let (front, back) = bytes.split_at(cut);
+    let after = ends_in_fault(front, order, false);
+    for policy in POLICIES {
+        let wanted = lossy_of(items, policy);
+        assert_eq!(bytes_to_utf8_lossy(&bytes, order, policy, false), wanted);
+        let pieces = [(front, false), (back, after)]
+            .map(|(piece, after)| bytes_to_utf8_lossy(piece, order, policy, after));
+        assert_eq!(pieces.concat(), wanted);
+    }
 }
 
 fn check_searches16(units: &[u16], numbers: &mut Numbers) {
