@@ -223,7 +223,7 @@ void check(std::u32string_view text) {
 
 // Texts of several pieces, which begin as they don't go on: with faults alone, and with shorter characters.
 void check_longer() {
-    for (const std::size_t length : {4091u, 4092u, 4093u, 4094u, 4095u, 4096u, 4097u, 5000u, 20000u}) {
+    for (const std::size_t length : {507u, 508u, 509u, 510u, 511u, 512u, 513u, 4091u, 4092u, 4093u, 4094u, 4095u, 4096u, 4097u, 5000u, 20000u}) {
         check(std::string(length, '\x80') + "a");
         check(std::u16string(length, 0xd800) + u"\xdc00");
         check(std::u32string(length, 0xd800) + U"a");

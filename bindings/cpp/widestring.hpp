@@ -59,8 +59,15 @@ inline std::string_view view(std::u8string_view text) noexcept {
 
 namespace detail {
 
-/* So many elements go by an array on the stack: what they are and what is written of them stays in cache, and no string is filled before. */
+/*
+ * So many elements go by an array on the stack, where no string is filled before it is written: what they are and what is written of them
+ * stays in cache. Where std has strings that are filled by what is written, only the first piece goes by it, and tells the likely length.
+ */
+#ifdef __cpp_lib_string_resize_and_overwrite
+constexpr std::size_t piece = 512;
+#else
 constexpr std::size_t piece = 4096;
+#endif
 
 inline const std::uint8_t *elements(std::string_view text) noexcept {
     return reinterpret_cast<const std::uint8_t *>(text.data());
