@@ -15,6 +15,8 @@ import os
 # The version of the library of which the calls below are, and the name under which the loader knows it.
 _VERSION = (0, 1)
 _NAME = "libwidestring.so.0.1"
+# So many bytes at three places tell whether a text is likely ASCII, as units too.
+_SAMPLE = 128
 # What a call answers where it has no number to tell.
 _NONE = ctypes.c_size_t(-1).value
 
@@ -101,6 +103,12 @@ def _place(call, data, width, *more):
     return None if answer == length else answer
 
 
+def _sample(data):
+    """Bytes of three places, or all where they are few."""
+    middle = len(data) // 2
+    return data if len(data) <= 3 * _SAMPLE else data[:_SAMPLE] + data[middle : middle + _SAMPLE] + data[-_SAMPLE:]
+
+
 class _Conversion:
     """A call that writes: the widths of what it reads and writes, and the call that tells the length of sound text."""
 
@@ -109,27 +117,36 @@ class _Conversion:
         self.length = _call(length_name) if length_name else None
         self.width, self.room_width = width, room_width
 
-    def needed(self, data, length):
-        """How long sound text becomes: in bytes that are ASCII, as long as it is."""
-        return length if self.width == 1 and data.isascii() else self.length(data, length)
-
     def write(self, data, length, needed, *more):
         """Bytes that the call writes once they are made: nobody else has them yet."""
         room = _new_bytes(None, needed * self.room_width)
         self.call(data, length, *more, room, needed)
         return room
 
+    def short(self, data, length, *more):
+        """Text of as many elements as there are, as that of ASCII is, or None where it likely isn't ASCII, or needs more."""
+        if not _sample(data).isascii():
+            return None
+        room = _new_bytes(None, length * self.room_width)
+        return room if self.call(data, length, *more, room, length) == length else None
+
     def strict(self, data, first_fault):
         data, length = _elements(data, self.width)
-        needed = self.needed(data, length)
+        text = self.short(data, length)
+        if text is not None:
+            return text
+        needed = self.length(data, length)
         if needed == _NONE:
             raise Fault(first_fault(data, length))
         return self.write(data, length, needed)
 
     def lossy(self, data, *more):
         data, length = _elements(data, self.width)
+        text = self.short(data, length, *more) if self.length else None
+        if text is not None:
+            return text
         # Where nothing has to be changed, the length is that of strict text, which is told sooner.
-        needed = self.needed(data, length) if self.length else _NONE
+        needed = self.length(data, length) if self.length else _NONE
         if needed == _NONE:
             needed = self.call(data, length, *more, None, 0)
         return self.write(data, length, needed, *more)
