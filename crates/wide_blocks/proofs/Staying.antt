@@ -2,7 +2,7 @@
 use Rattle.std.proofs.Common.{◌≡◌, ℕ, zero, suc, ◌+◌, ◌-◌, ◌*◌, ◌^◌, ◌%◌, ◌/◌, ◌<◌, ◌≤◌, Bool, true, false, cond, not, eqb, inl, inr, List, [], ◌∷◌, ◌++◌, append_assoc, length, get_or, map, replicate, take, drop, w16, refl, sym, ap, ◌∙◌, subst, arith, rules, length-take, length-drop, get_or-take}
 use Rattle.std.specs.Prelude.{nat_eq}
 use Rattle.std.proofs.lemmas.Bool.Decides.{eqb_tells}
-use Rattle.std.proofs.lemmas.List.{drop-drop, drop-take, get_or-drop}
+use Rattle.std.proofs.lemmas.List.{append-nil, drop-drop, drop-take, get_or-drop}
 use Rattle.std.proofs.lemmas.Simd.{bitmask_splat, put_chunk_whole}
 use Rattle.std.proofs.lemmas.Slice.{overwrites}
 use borrow.Rule.Slice.PartMut.{put_mid}
@@ -17,10 +17,16 @@ use Rattle.wide_unit.specs.Laws.Policies.{lossy_after-append}
 use Rattle.wide_unit.specs.Laws.Items.{items-chain, units_of-items}
 use Rattle.wide_unit.specs.declared.policy.Policy.{Policy}
 use Rattle.wide_unit.specs.declared.policy.Policy.TheVariants.{Run, Skip}
-use Rattle.wide_blocks.specs.Kept.{stay_bits, staying, stays}
+use Rattle.wide_blocks.specs.Kept.{stay_bits, stays}
 use Rattle.wide_blocks.specs.Mixed.{kept_lanes}
 use Rattle.wide_blocks.specs.Narrow.{bit_of}
 use Rattle.wide_blocks.proofs.Stores.{kept-front}
+
+-- the mended units that stay
+abbrev pub staying : Bool → ℕ → ℕ → List ℕ → List ℕ → List ℕ
+staying marks u m [] ms = []
+staying marks u m (v ∷ us) [] = []
+staying marks u m (v ∷ us) (w ∷ ms) = cond (stays marks u m v w) (w ∷ staying marks v w us ms) (staying marks v w us ms)
 
 -- ---- bits
 
@@ -72,7 +78,7 @@ first-kept false bits x xs =
     let half : (0 + 2 * bits) / 2 ≡ bits = omega arith in
     rw (even, half) refl
 
-pub staying-bits : (n : ℕ) (marks : Bool) (u m : ℕ) (us ms : List ℕ) → length us ≡ n → length ms ≡ n → kept_lanes (stay_bits n marks u m us ms) ms ≡ staying marks u m us ms
+staying-bits : (n : ℕ) (marks : Bool) (u m : ℕ) (us ms : List ℕ) → length us ≡ n → length ms ≡ n → kept_lanes (stay_bits n marks u m us ms) ms ≡ staying marks u m us ms
 staying-bits zero marks u m [] [] long as_long = refl
 staying-bits zero marks u m [] (w ∷ ms) long as_long = absurd (omega arith)
 staying-bits zero marks u m (v ∷ us) ms long as_long = absurd (omega arith)
@@ -88,7 +94,7 @@ add-first : (b : Bool) (x : ℕ) (a c : List ℕ) → cond b (x ∷ (a ++ c)) (a
 add-first true x a c = refl
 add-first false x a c = refl
 
-pub staying-parts : (n : ℕ) (marks : Bool) (us ms : List ℕ) → n < length us → n < length ms
+staying-parts : (n : ℕ) (marks : Bool) (us ms : List ℕ) → n < length us → n < length ms
     → staying marks (get_or us 0 0) (get_or ms 0 0) (drop 1 us) (drop 1 ms) ≡ staying marks (get_or us 0 0) (get_or ms 0 0) (take n (drop 1 us)) (take n (drop 1 ms)) ++ staying marks (get_or us n 0) (get_or ms n 0) (drop (suc n) us) (drop (suc n) ms)
 staying-parts n marks [] ms within as_within = absurd (omega arith)
 staying-parts n marks (u ∷ us) [] within as_within = absurd (omega arith)
@@ -111,7 +117,7 @@ same-before marks u m v w (x ∷ us) (y ∷ ms) e =
     let rest = staying marks x y us ms in
     ap (λ same. cond (cond (nat_eq x y) true (cond marks same false)) (y ∷ rest) rest) e
 
-abbrev behind : Bool → Bool → List ℕ → List ℕ → List ℕ
+abbrev pub behind : Bool → Bool → List ℕ → List ℕ → List ℕ
 behind marks after us ms = staying marks 0 (bit_of after) us ms
 
 own : (x : ℕ) → nat_eq x x ≡ true
@@ -133,9 +139,8 @@ some-stay : (marks : Bool) (u m : ℕ) (a us ms : List ℕ) → 0 < length a →
 some-stay marks u m [] us ms some = absurd (omega arith)
 some-stay marks u m (x ∷ a) us ms some = sound-stays marks u m x a us ms
 
-abbrev pub policy_for : Bool → Policy
-policy_for true = Run
-policy_for false = Skip
+abbrev policy_for : Bool → Policy
+policy_for marks = cond marks Run Skip
 
 no-mark : (v : ℕ) → IsFault Utf16 v → nat_eq v 0xFFFD ≡ false
 no-mark v fault = elim (eqb_tells v 0xFFFD) [
@@ -177,7 +182,7 @@ staying-items marks after (Char c ∷ is) chain =
 staying-items marks after (Fault v ∷ is) chain =
     mark-stays marks after v (units_of Utf16 is) (encode Utf16 (lossy is)) (no-mark v chain.0) ∙ ap (λ us. cond (cond marks (not after) false) (0xFFFD ∷ us) us) (staying-items marks true is chain.2) ∙ text-behind_fault marks after v is
 
-pub staying-text : (marks after : Bool) (us ms : List ℕ) → ms ≡ encode Utf16 (lossy (items Utf16 us)) → behind marks after us ms ≡ encode Utf16 (lossy_after (policy_for marks) after (items Utf16 us))
+staying-text : (marks after : Bool) (us ms : List ℕ) → ms ≡ encode Utf16 (lossy (items Utf16 us)) → behind marks after us ms ≡ encode Utf16 (lossy_after (policy_for marks) after (items Utf16 us))
 staying-text marks after us ms mended =
     ap (λ xs. behind marks after us xs) mended ∙ ap (λ xs. behind marks after xs (encode Utf16 (lossy (items Utf16 us)))) (sym (units_of-items Utf16 us)) ∙ staying-items marks after (items Utf16 us) (items-chain Utf16 us)
 
@@ -215,7 +220,7 @@ module _ (us : List ℕ) (done : ℕ) where
 
 pub staying-eights : (marks : Bool) (p q done : ℕ) (us ms front more : List ℕ) → 0 < done → done + 8 ≤ length us → length ms ≡ length us
     → staying marks p q us ms ≡ front ++ staying marks (get_or us (done - 1) 0) (get_or ms (done - 1) 0) (drop done us) (drop done ms)
-    → more ≡ front ++ staying marks (get_or (take (done + 8 - (done - 1)) (drop (done - 1) us)) 0 0) (get_or (take (done + 8 - (done - 1)) (drop (done - 1) ms)) 0 0) (drop 1 (take (done + 8 - (done - 1)) (drop (done - 1) us))) (drop 1 (take (done + 8 - (done - 1)) (drop (done - 1) ms)))
+    → more ≡ front ++ kept_lanes (stay_bits 8 marks (get_or (take (done + 8 - (done - 1)) (drop (done - 1) us)) 0 0) (get_or (take (done + 8 - (done - 1)) (drop (done - 1) ms)) 0 0) (drop 1 (take (done + 8 - (done - 1)) (drop (done - 1) us))) (drop 1 (take (done + 8 - (done - 1)) (drop (done - 1) ms)))) (drop 1 (take (done + 8 - (done - 1)) (drop (done - 1) ms)))
     → staying marks p q us ms ≡ more ++ staying marks (get_or us (done + 8 - 1) 0) (get_or ms (done + 8 - 1) 0) (drop (done + 8) us) (drop (done + 8) ms)
 staying-eights marks p q done us ms front more some within long so_far put =
     let as_within : done + 8 ≤ length ms = omega arith in
@@ -223,7 +228,24 @@ staying-eights marks p q done us ms front more some within long so_far put =
     let w : ℕ = get_or ms (done - 1) 0 in
     let here = staying marks v w (take 8 (drop done us)) (take 8 (drop done ms)) in
     let rest = staying marks (get_or us (done + 8 - 1) 0) (get_or ms (done + 8 - 1) 0) (drop (done + 8) us) (drop (done + 8) ms) in
-    let written : more ≡ front ++ here = rw (part-first us done some within, part-first ms done some as_within, part-rest us done some within, part-rest ms done some as_within) at put in
+    let lanes : more ≡ front ++ kept_lanes (stay_bits 8 marks v w (take 8 (drop done us)) (take 8 (drop done ms))) (take 8 (drop done ms)) = rw (part-first us done some within, part-first ms done some as_within, part-rest us done some within, part-rest ms done some as_within) at put in
+    let stay = staying-bits 8 marks v w (take 8 (drop done us)) (take 8 (drop done ms)) (omega (arith, length-take 8 (drop done us), length-drop done us)) (omega (arith, length-take 8 (drop done ms), length-drop done ms)) in
+    let written : more ≡ front ++ here = lanes ∙ ap (λ xs. front ++ xs) stay in
     let parts = eight-parts marks v w (drop done us) (drop done ms) (omega (arith, length-drop done us)) (omega (arith, length-drop done us, length-drop done ms)) in
     let both : staying marks v w (drop done us) (drop done ms) ≡ here ++ rest = rw (next-at us done, next-at ms done, drop-drop 8 done us, drop-drop 8 done ms) at parts in
     so_far ∙ ap (λ xs. front ++ xs) both ∙ sym (append_assoc front here rest) ∙ ap (λ xs. xs ++ rest) (sym written)
+
+-- ---- all of them
+
+none-left : (xs : List ℕ) → length xs ≡ 0 → xs ≡ []
+none-left [] none = refl
+none-left (x ∷ xs) none = absurd (omega arith)
+
+pub stayed-all : (marks after : Bool) (us ms out : List ℕ) (u m done : ℕ) → ms ≡ encode Utf16 (lossy (items Utf16 us)) → length us ≤ done → behind marks after us ms ≡ out ++ staying marks u m (drop done us) (drop done ms)
+    → out ≡ encode Utf16 (lossy_after (cond marks Run Skip) after (items Utf16 us))
+stayed-all marks after us ms out u m done mended all so_far =
+    let gone = none-left (drop done us) (omega (arith, all, length-drop done us)) in
+    sym (so_far ∙ ap (λ xs. out ++ staying marks u m xs (drop done ms)) gone ∙ append-nil out) ∙ staying-text marks after us ms mended
+
+pub stayed-none : (marks after : Bool) (us ms : List ℕ) → ms ≡ encode Utf16 (lossy (items Utf16 us)) → length us ≡ 0 → [] ≡ encode Utf16 (lossy_after (cond marks Run Skip) after (items Utf16 us))
+stayed-none marks after us ms mended none = stayed-all marks after us ms [] 0 0 0 mended (omega arith) (ap (λ xs. behind marks after xs ms) (none-left us none) ∙ sym (ap (λ xs. staying marks 0 0 xs ms) (none-left us none)))

@@ -1,4 +1,4 @@
--- Mended units of which marks, the U+FFFD of faults, are left out where a policy has fewer than one for each.
+-- Which mended units stay where a policy has fewer marks, the U+FFFD of faults, than one for each.
 use Rattle.std.specs.Prelude.{ℕ, zero, suc, ◌+◌, ◌*◌, nat_eq, Bool, true, false, if◌then◌else◌, List, [], ◌∷◌}
 use Rattle.wide_blocks.specs.Narrow.{bit_of}
 
@@ -12,9 +12,3 @@ stay_bits zero marks u m us ms = 0
 stay_bits (suc n) marks u m [] ms = 0
 stay_bits (suc n) marks u m (v ∷ us) [] = 0
 stay_bits (suc n) marks u m (v ∷ us) (w ∷ ms) = bit_of (stays marks u m v w) + 2 * stay_bits n marks v w us ms
-
--- the mended units that stay
-abbrev pub staying : Bool → ℕ → ℕ → List ℕ → List ℕ → List ℕ
-staying marks u m [] ms = []
-staying marks u m (v ∷ us) [] = []
-staying marks u m (v ∷ us) (w ∷ ms) = if stays marks u m v w then w ∷ staying marks v w us ms else staying marks v w us ms

@@ -4,7 +4,9 @@ ghost use Rattle.std.specs.Prelude.{◌≡◌, ◌++◌, ◌∷◌, [], ◌+◌,
 ghost use Rattle.wide_unit.specs.EncodingForm.{Utf16, encode};
 ghost use Rattle.wide_unit.specs.Items.{items};
 ghost use Rattle.wide_unit.specs.Lossy.{lossy, lossy_after};
-ghost use Rattle.wide_blocks.specs.Kept.{stay_bits, staying, stays};
+ghost use Rattle.wide_unit.specs.declared.policy.Policy.TheVariants.{Run, Skip};
+ghost use Rattle.wide_blocks.specs.Kept.{stay_bits, stays};
+ghost use Rattle.wide_blocks.specs.Mixed.{kept_lanes};
 ghost use Rattle.wide_blocks.specs.Narrow.{bit_of};
 
 use crate::kept::kept_of;
@@ -53,7 +55,7 @@ fn put_staying(marks: bool, units: &[u16], mended: &[u16], kept: &mut [u16], at:
     requires units { length units.now ≡ 9 }
     requires mended { length mended.now ≡ 9 }
     requires room { at + 8 ≤ length kept.old }
-    ensures units { take result kept.new ≡ take at kept.old ++ staying marks (slice_index units.now 0) (slice_index mended.now 0) (drop 1 units.now) (drop 1 mended.now) }
+    ensures units { take result kept.new ≡ take at kept.old ++ kept_lanes (stay_bits 8 marks (slice_index units.now 0) (slice_index mended.now 0) (drop 1 units.now) (drop 1 mended.now)) (drop 1 mended.now) }
     ensures high { result ≤ at + 8 }
 {
     let bits = stay_bits(marks, units, mended);
@@ -77,7 +79,7 @@ fn put_one(stays: bool, mended: u16, kept: &mut [u16], at: usize) -> usize
     }
 }
 
-// Writes the mended units that stay, behind a mark or not.
+// Writes the mended units that stay, behind a fault or not: with one mark for each row of faults, or with none.
 fn keep_behind(
     marks: bool,
     after_fault: bool,
@@ -85,9 +87,10 @@ fn keep_behind(
     mended: &[u16],
     kept: &mut [u16],
 ) -> usize
-    requires mended { length mended.now ≡ length units.now }
+    requires mended { mended.now ≡ encode Utf16 (lossy (items Utf16 units.now)) }
+    requires long { length mended.now ≡ length units.now }
     requires room { length units.now ≤ length kept.old }
-    ensures units { take result kept.new ≡ staying marks 0 (bit_of after_fault) units.now mended.now }
+    ensures units { take result kept.new ≡ encode Utf16 (lossy_after (if marks then Run else Skip) after_fault (items Utf16 units.now)) }
     ensures within { result ≤ length units.now }
 {
     if units.is_empty() {

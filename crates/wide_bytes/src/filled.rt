@@ -40,7 +40,8 @@ fn swap_bytes(units: &mut [u16], count: usize)
     }
 }
 
-/// Stores the code units of the whole pairs of bytes at the front of `units`.
+/// Stores the code units of the whole pairs of bytes (Unicode Standard, D96 and D97) at the front of `units`. What stands behind them may be
+/// overwritten.
 pub fn fill_units(order: BoM, bytes: &[u8], units: &mut [u16])
     requires { length bytes.now / 2 ≤ length units.old }
     ensures { take (length bytes.now / 2) units.new ≡ units_in order bytes.now }

@@ -1,5 +1,8 @@
--- What stands in C for the order of bytes, for its mark, and for what is so or not.
-use Rattle.std.specs.Prelude.{ℕ, Bool, true, false, Option, Some, None, ◌==◌, if◌then◌else◌}
+-- What stands in C for the order of bytes, for its mark, and for what is so or not; and the text of bytes.
+use Rattle.std.specs.Prelude.{ℕ, Bool, true, false, List, Option, Some, None, ◌==◌, if◌then◌else◌}
+use Rattle.wide_unit.specs.declared.policy.Policy.{Policy}
+use Rattle.wide_bytes.specs.Bytes.{units_in}
+use Rattle.wide_bytes.specs.Lossied.{faulty, lossy_text}
 use Rattle.wide_bytes.specs.declared.order.BoM.{BoM}
 use Rattle.wide_bytes.specs.declared.order.BoM.TheVariants.{Little, Big}
 
@@ -21,3 +24,10 @@ is_set n = if n == 0 then false else true
 abbrev pub number_of_flag : Bool → ℕ
 number_of_flag true = 1
 number_of_flag false = 0
+
+-- the text of the units of bytes, behind a fault or not, and whether a fault is the last of that and them
+abbrev pub bytes_text : BoM → Policy → Bool → List ℕ → List ℕ
+bytes_text order policy after bytes = lossy_text policy after (units_in order bytes)
+
+abbrev pub bytes_faulty : BoM → Bool → List ℕ → Bool
+bytes_faulty order after bytes = faulty after (units_in order bytes)

@@ -6,8 +6,7 @@ ghost use Rattle.wide_unit.specs.Utf8.{utf8};
 ghost use Rattle.wide_unit.specs.Laws.Items.{IsCut};
 ghost use Rattle.wide_bytes.specs.Bytes.{mark_of, unit_in, units_in};
 ghost use Rattle.wide_bytes.specs.Encoded.{IsCutShort};
-ghost use Rattle.wide_bytes.specs.Lossied.{faulty, lossy_text};
-ghost use Rattle.widestring_c.specs.Bytes.{is_set, number_of_flag, number_of_mark, order_named};
+ghost use Rattle.widestring_c.specs.Bytes.{bytes_faulty, bytes_text, is_set, number_of_flag, number_of_mark, order_named};
 ghost use Rattle.widestring_c.specs.Policies.{policy_of};
 
 use crate::policies::policy_of;
@@ -93,8 +92,8 @@ fn put_bytes_by(
 ) -> usize
     requires units { 1024 ≤ length units.old }
     requires piece { 64 ≤ length piece.old }
-    ensures len { result ≡ min (length (lossy_text policy after_fault (units_in order bytes.now))) (2 ^ 64 - 1) }
-    ensures text { result ≤ length text.old → take result text.new ≡ lossy_text policy after_fault (units_in order bytes.now) }
+    ensures len { result ≡ min (length (bytes_text order policy after_fault bytes.now)) (2 ^ 64 - 1) }
+    ensures text { result ≤ length text.old → take result text.new ≡ bytes_text order policy after_fault bytes.now }
     ensures behind { drop result text.new ≡ drop result text.old }
 {
     let mut at = 0;
@@ -113,8 +112,8 @@ fn put_bytes_by(
 
 // The same by arrays of its own.
 fn put_bytes(order: BoM, bytes: &[u8], policy: Policy, after_fault: bool, text: &mut [u8]) -> usize
-    ensures len { result ≡ min (length (lossy_text policy after_fault (units_in order bytes.now))) (2 ^ 64 - 1) }
-    ensures text { result ≤ length text.old → take result text.new ≡ lossy_text policy after_fault (units_in order bytes.now) }
+    ensures len { result ≡ min (length (bytes_text order policy after_fault bytes.now)) (2 ^ 64 - 1) }
+    ensures text { result ≤ length text.old → take result text.new ≡ bytes_text order policy after_fault bytes.now }
     ensures behind { drop result text.new ≡ drop result text.old }
 {
     let mut units = [0; PIECE];
@@ -173,7 +172,7 @@ fn put_sound_bytes(order: BoM, bytes: &[u8], text: &mut [u8]) -> usize
 
 // Whether a fault is the last of the units of bytes, or of what stands before them where they have none. The last item is read alone.
 fn ends_bytes(order: BoM, bytes: &[u8], after_fault: bool) -> bool
-    ensures { result ≡ faulty after_fault (units_in order bytes.now) }
+    ensures { result ≡ bytes_faulty order after_fault bytes.now }
 {
     if bytes.len() < 2 {
         return after_fault;
@@ -227,8 +226,8 @@ pub extern "C" fn wide_bytes_to_utf8_lossy_with(
     after_fault: u32,
     text: &mut [u8],
 ) -> usize
-    ensures len { IfSome (order_named order) (λ o. IfSome (policy_of policy) (λ p. result ≡ min (length (lossy_text p (is_set after_fault) (units_in o bytes.now))) (2 ^ 64 - 1))) }
-    ensures text { IfSome (order_named order) (λ o. IfSome (policy_of policy) (λ p. result ≤ length text.old → take result text.new ≡ lossy_text p (is_set after_fault) (units_in o bytes.now))) }
+    ensures len { IfSome (order_named order) (λ o. IfSome (policy_of policy) (λ p. result ≡ min (length (bytes_text o p (is_set after_fault) bytes.now)) (2 ^ 64 - 1))) }
+    ensures text { IfSome (order_named order) (λ o. IfSome (policy_of policy) (λ p. result ≤ length text.old → take result text.new ≡ bytes_text o p (is_set after_fault) bytes.now)) }
     ensures other_order { IfNone (order_named order) (result ≡ 2 ^ 64 - 1) }
     ensures other_policy { IfNone (policy_of policy) (result ≡ 2 ^ 64 - 1) }
     ensures unchanged_order { IfNone (order_named order) (text.new ≡ text.old) }
@@ -246,7 +245,7 @@ pub extern "C" fn wide_bytes_to_utf8_lossy_with(
 /// where the order is no number of one, too.
 #[unsafe(no_mangle)]
 pub extern "C" fn wide_bytes_ends_in_fault(bytes: &[u8], order: u32, after_fault: u32) -> u32
-    ensures last { IfSome (order_named order) (λ o. result ≡ number_of_flag (faulty (is_set after_fault) (units_in o bytes.now))) }
+    ensures last { IfSome (order_named order) (λ o. result ≡ number_of_flag (bytes_faulty o (is_set after_fault) bytes.now)) }
     ensures other { IfNone (order_named order) (result ≡ 0) }
 {
     match order_named(order) {

@@ -3,7 +3,7 @@ ghost use Rattle.std.specs.Prelude.{◌≡◌, ◌%◌, ◌++◌, length};
 ghost use Rattle.wide_unit.specs.EncodingForm.{Utf16};
 ghost use Rattle.wide_unit.specs.Laws.Items.{IsCut};
 ghost use Rattle.wide_bytes.specs.Bytes.{units_in};
-ghost use Rattle.wide_bytes.specs.Lossied.{faulty, lossy_text};
+ghost use Rattle.widestring_c.specs.Bytes.{bytes_faulty, bytes_text};
 
 use wide_bytes::BoM;
 use wide_unit::Policy;
@@ -13,6 +13,6 @@ use wide_unit::Policy;
 pub fn text_of_a_stream(order: BoM, policy: Policy, after_fault: bool, front: &[u8], back: &[u8])
     requires whole { length front.now % 2 ≡ 0 }
     requires cut { IsCut Utf16 (units_in order front.now) (units_in order back.now) }
-    ensures text { lossy_text policy after_fault (units_in order (front.now ++ back.now)) ≡ lossy_text policy after_fault (units_in order front.now) ++ lossy_text policy (faulty after_fault (units_in order front.now)) (units_in order back.now) }
-    ensures last { faulty after_fault (units_in order (front.now ++ back.now)) ≡ faulty (faulty after_fault (units_in order front.now)) (units_in order back.now) }
+    ensures text { bytes_text order policy after_fault (front.now ++ back.now) ≡ bytes_text order policy after_fault front.now ++ bytes_text order policy (bytes_faulty order after_fault front.now) back.now }
+    ensures last { bytes_faulty order after_fault (front.now ++ back.now) ≡ bytes_faulty order (bytes_faulty order after_fault front.now) back.now }
 {}

@@ -1,5 +1,5 @@
 use Rattle.std.proofs.Common.{◌≡◌, ◌++◌, ◌-◌, ◌<◌, ◌≤◌, get_or, length, take, drop}
-use Rattle.wide_blocks.specs.Kept.{staying}
+use Rattle.wide_blocks.proofs.Staying.{staying}
 use Rattle.wide_blocks.specs.Narrow.{bit_of}
 use Rattle.wide_blocks.proofs.keeping.keep_behind.Given as goal
 

@@ -1,9 +1,8 @@
-use Rattle.std.proofs.Common.{◌∙◌, true, false, sym, ap, arith, length, length-take}
+use Rattle.std.proofs.Common.{◌∙◌, sym, ap, arith, length, length-take}
 use Rattle.wide_unit.specs.EncodingForm.{Utf16, encode}
 use Rattle.wide_unit.specs.Items.{items}
 use Rattle.wide_unit.specs.Lossy.{lossy_after}
 use Rattle.wide_unit.specs.Laws.Lossy.{length-lossy}
-use Rattle.wide_blocks.proofs.Staying.{staying-text}
 use Rattle.wide_blocks.proofs.keeping.lossy_units.Goals as goal
 
 pub slice_bounds-copy_from_slice-end : goal.slice_bounds-copy_from_slice-end
@@ -15,17 +14,17 @@ slice_bounds-copy_from_slice-end-in-Each c = omega (arith, c.requires.room, ap l
 pub copy_from_slice-requires : goal.copy_from_slice-requires
 copy_from_slice-requires c = omega (arith, c.requires.room, ap length c.requires.mended, length-lossy Utf16 c.args.units.now, length-take (length c.args.mended.now) c.args.kept.now)
 
-pub keep_behind-requires-clause-mended : goal.keep_behind-requires-clause-mended
-keep_behind-requires-clause-mended c = ap length c.requires.mended ∙ length-lossy Utf16 c.args.units.now
+pub keep_behind-requires-clause-long : goal.keep_behind-requires-clause-long
+keep_behind-requires-clause-long c = ap length c.requires.mended ∙ length-lossy Utf16 c.args.units.now
 
-pub keep_behind-requires-in-Skip-clause-mended : goal.keep_behind-requires-in-Skip-clause-mended
-keep_behind-requires-in-Skip-clause-mended c = ap length c.requires.mended ∙ length-lossy Utf16 c.args.units.now
+pub keep_behind-requires-in-Skip-clause-long : goal.keep_behind-requires-in-Skip-clause-long
+keep_behind-requires-in-Skip-clause-long c = ap length c.requires.mended ∙ length-lossy Utf16 c.args.units.now
 
 pub returns-in-Each-clause-within : goal.returns-in-Each-clause-within
 returns-in-Each-clause-within c = omega (arith, ap length c.requires.mended, length-lossy Utf16 c.args.units.now)
 
 pub returns-in-Run-clause-units : goal.returns-in-Run-clause-units
-returns-in-Run-clause-units c = c.keep_behind.ensures.units ∙ staying-text true c.args.after_fault c.args.units.now c.args.mended.now c.requires.mended ∙ ap (λ p. encode Utf16 (lossy_after p c.args.after_fault (items Utf16 c.args.units.now))) (sym c.in-Run.is)
+returns-in-Run-clause-units c = c.keep_behind.ensures.units ∙ ap (λ p. encode Utf16 (lossy_after p c.args.after_fault (items Utf16 c.args.units.now))) (sym c.in-Run.is)
 
 pub returns-in-Skip-clause-units : goal.returns-in-Skip-clause-units
-returns-in-Skip-clause-units c = c.keep_behind-in-Skip.ensures.units ∙ staying-text false c.args.after_fault c.args.units.now c.args.mended.now c.requires.mended ∙ ap (λ p. encode Utf16 (lossy_after p c.args.after_fault (items Utf16 c.args.units.now))) (sym c.in-Skip.is)
+returns-in-Skip-clause-units c = c.keep_behind-in-Skip.ensures.units ∙ ap (λ p. encode Utf16 (lossy_after p c.args.after_fault (items Utf16 c.args.units.now))) (sym c.in-Skip.is)
