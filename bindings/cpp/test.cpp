@@ -221,9 +221,13 @@ void check(std::u32string_view text) {
     must(widestring::utf16_length(text) == length_of(text_of<std::u16string>(items)), "utf16_length");
 }
 
+// Where a text is as long as what is converted at once, and about there.
+const std::size_t lengths[] = {507,  508,  509,  510,  511,  512,   513,   4091,  4092,  4093,  4094,  4095,
+                               4096, 4097, 5000, 20000, 65527, 65533, 65534, 65535, 65536, 65537, 70000};
+
 // Texts of several pieces, which begin as they don't go on: with faults alone, and with shorter characters.
 void check_longer() {
-    for (const std::size_t length : {507u, 508u, 509u, 510u, 511u, 512u, 513u, 4091u, 4092u, 4093u, 4094u, 4095u, 4096u, 4097u, 5000u, 20000u}) {
+    for (const std::size_t length : lengths) {
         check(std::string(length, '\x80') + "a");
         check(std::u16string(length, 0xd800) + u"\xdc00");
         check(std::u32string(length, 0xd800) + U"a");

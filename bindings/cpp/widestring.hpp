@@ -60,14 +60,62 @@ inline std::string_view view(std::u8string_view text) noexcept {
 namespace detail {
 
 /*
- * So many elements go by an array on the stack, where no string is filled before it is written: what they are and what is written of them
- * stays in cache. Where std has strings that are filled by what is written, only the first piece goes by it, and tells the likely length.
+ * A string of at most so many elements, of which a call writes the first and tells how many those are. std has strings that are not filled
+ * before they are written since C++23. Before, libc++ has a call of its own, and libstdc++ a private one that sets a length within the memory of a
+ * string, which an explicit instantiation may name. With WIDESTRING_STD_ONLY neither is used.
  */
-#ifdef __cpp_lib_string_resize_and_overwrite
-constexpr std::size_t piece = 512;
+#if defined(__cpp_lib_string_resize_and_overwrite)
+constexpr bool is_filled = false;
+
+template <class String, class Write> void overwrite(String &string, std::size_t length, Write write) {
+    /* Some versions of std tell a greater length than there was asked for. */
+    string.resize_and_overwrite(length, [&](typename String::value_type *to, std::size_t) { return write(to); });
+}
+#elif defined(_LIBCPP_VERSION) && _LIBCPP_VERSION >= 8000 && !defined(WIDESTRING_STD_ONLY)
+constexpr bool is_filled = false;
+
+template <class String, class Write> void overwrite(String &string, std::size_t length, Write write) {
+    string.__resize_default_init(length);
+    string.resize(write(string.data()));
+}
+#elif defined(__GLIBCXX__) && _GLIBCXX_USE_CXX11_ABI && !defined(WIDESTRING_STD_ONLY)
+constexpr bool is_filled = false;
+
+template <class String, void (String::*set)(typename String::size_type)> struct SetLength {
+    friend void set_length(String &string, std::size_t length) {
+        (string.*set)(length);
+    }
+};
+
+void set_length(std::string &string, std::size_t length);
+void set_length(std::u16string &string, std::size_t length);
+void set_length(std::u32string &string, std::size_t length);
+template struct SetLength<std::string, &std::string::_M_set_length>;
+template struct SetLength<std::u16string, &std::u16string::_M_set_length>;
+template struct SetLength<std::u32string, &std::u32string::_M_set_length>;
+
+template <class String, class Write> void overwrite(String &string, std::size_t length, Write write) {
+    string.reserve(length);
+    set_length(string, length);
+    set_length(string, write(string.data()));
+}
 #else
-constexpr std::size_t piece = 4096;
+constexpr bool is_filled = true;
+
+template <class String, class Write> void overwrite(String &string, std::size_t length, Write write) {
+    string.resize(length);
+    string.resize(write(string.data()));
+}
 #endif
+
+/*
+ * So many elements go by an array on the stack where strings are filled before they are written: what they are and what is written of them
+ * stays in cache. Where they are not, only the first piece goes by it, and tells the likely length.
+ */
+constexpr std::size_t piece = is_filled ? 4096 : 512;
+
+/* Up to so many elements, a string is made as long as its text where no element becomes two. */
+constexpr std::size_t middle = 65536;
 
 inline const std::uint8_t *elements(std::string_view text) noexcept {
     return reinterpret_cast<const std::uint8_t *>(text.data());
@@ -120,21 +168,35 @@ inline std::size_t front(std::string_view text) noexcept {
     return piece;
 }
 
-/*
- * What a conversion writes of the rest of a text, behind what it wrote of the first piece in an array, as a string of a likely length. Where
- * std can make one that is not filled before, all goes straight into it, and once more where that is too short; else it goes by the array.
- */
-template <class String, class View, class Put, std::size_t Size>
-std::optional<String> joined(typename String::value_type (&room)[Size], std::size_t length, View rest, std::size_t likely, Put put) {
+/* What a conversion writes of a text of which no element becomes two. Memory is given back where the half would do. */
+template <class String, class View, class Put> std::optional<String> within(View text, Put put) {
     String string;
-#ifdef __cpp_lib_string_resize_and_overwrite
+    bool is_fault = false;
+    overwrite(string, text.size(), [&](typename String::value_type *to) {
+        const std::size_t length = put(elements(text), text.size(), elements(to), text.size());
+        is_fault = length == WIDE_FAULT;
+        return is_fault ? 0 : length;
+    });
+    if (is_fault)
+        return std::nullopt;
+    if (string.size() < text.size() / 2)
+        string.shrink_to_fit();
+    return std::optional<String>(std::move(string));
+}
+
+/*
+ * What a conversion writes of the rest of a text, behind what it wrote of the first piece in an array, as a string of a likely length: straight
+ * into it, and once more where that is too short.
+ */
+template <class String, class View, class Put>
+std::optional<String> joined(const typename String::value_type *front, std::size_t length, View rest, std::size_t likely, Put put) {
+    String string;
     std::size_t whole = 0, needed = likely;
     bool is_fault = false;
     do {
         whole = needed;
-        /* Some versions of std tell a greater length than there was asked for. */
-        string.resize_and_overwrite(whole, [&](typename String::value_type *to, std::size_t) {
-            String::traits_type::copy(to, room, length);
+        overwrite(string, whole, [&](typename String::value_type *to) {
+            String::traits_type::copy(to, front, length);
             const std::size_t more = put(elements(rest), rest.size(), elements(to) + length, whole - length);
             is_fault = more == WIDE_FAULT;
             needed = is_fault ? 0 : length + more;
@@ -143,7 +205,13 @@ std::optional<String> joined(typename String::value_type (&room)[Size], std::siz
     } while (needed > whole);
     if (is_fault)
         return std::nullopt;
-#else
+    return std::optional<String>(std::move(string));
+}
+
+/* The same piece by piece, each by the array. */
+template <class String, class View, class Put, std::size_t Size>
+std::optional<String> appended(typename String::value_type (&room)[Size], std::size_t length, View rest, std::size_t likely, Put put) {
+    String string;
     string.reserve(likely);
     string.append(room, length);
     while (!rest.empty()) {
@@ -154,7 +222,6 @@ std::optional<String> joined(typename String::value_type (&room)[Size], std::siz
         string.append(room, more);
         rest.remove_prefix(next.size());
     }
-#endif
     return std::optional<String>(std::move(string));
 }
 
@@ -162,6 +229,9 @@ std::optional<String> joined(typename String::value_type (&room)[Size], std::siz
 template <class String, class View, class Put> std::optional<String> converted(View text, Put put) {
     /* An element becomes four bytes at most in each form. */
     constexpr std::size_t size = 4 * piece / sizeof(typename String::value_type);
+    constexpr bool is_within = !is_filled && sizeof(typename String::value_type) >= sizeof(typename View::value_type);
+    if (is_within && text.size() > piece && text.size() <= middle)
+        return within<String>(text, put);
     typename String::value_type room[size];
     const View first = text.substr(0, front(text));
     const std::size_t length = put(elements(first), first.size(), elements(room), size);
@@ -169,8 +239,12 @@ template <class String, class View, class Put> std::optional<String> converted(V
         return std::nullopt;
     if (first.size() == text.size())
         return std::optional<String>(std::in_place, room, length);
-    const std::size_t likely = length * (text.size() / first.size() + 1);
-    return joined<String>(room, length, text.substr(first.size()), likely + likely / 16, put);
+    const std::size_t each = length * (text.size() / first.size() + 1), likely = each + each / 16;
+    const View rest = text.substr(first.size());
+    if constexpr (is_filled)
+        return appended<String>(room, length, rest, likely, put);
+    else
+        return joined<String>(room, length, rest, likely, put);
 }
 
 /* Lossy text. A row of faults may go across pieces, so that under the policy of rows a text with faults is converted as a whole. */
@@ -183,8 +257,9 @@ template <class String, class View, class Put, class PutLossy> String lossy(View
         return *converted<String>(text, put_with);
     if (auto string = converted<String>(text, put))
         return *std::move(string);
-    String string(put_lossy(elements(text), text.size(), number, nullptr, 0), 0);
-    put_with(elements(text), text.size(), elements(string.data()), string.size());
+    String string;
+    const std::size_t length = put_lossy(elements(text), text.size(), number, nullptr, 0);
+    overwrite(string, length, [&](auto *to) { return put_with(elements(text), text.size(), elements(to), length); });
     return string;
 }
 
@@ -193,8 +268,8 @@ template <class Put> std::optional<std::string> asked_twice(std::string_view byt
     const std::size_t length = put(elements(bytes), bytes.size(), static_cast<std::uint8_t *>(nullptr), 0);
     if (length == WIDE_FAULT)
         return std::nullopt;
-    std::string text(length, 0);
-    put(elements(bytes), bytes.size(), elements(text.data()), length);
+    std::string text;
+    overwrite(text, length, [&](char *to) { return put(elements(bytes), bytes.size(), elements(to), length); });
     return std::optional<std::string>(std::move(text));
 }
 
