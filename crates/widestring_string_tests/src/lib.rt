@@ -1,4 +1,4 @@
-//! Tests of owned strings of units, and of owned C strings.
+//! Tests of owned strings of units, of C strings and of well-formed text.
 //!
 //! They have worked rows, and call each public function that makes or edits a string with ample memory.
 #![tactic(auto)]
@@ -15,3 +15,11 @@ mod rows;
 mod ucstring_rows;
 #[cfg(test)]
 mod ustring_rows;
+#[cfg(test)]
+mod utfstring_drain_rows;
+#[cfg(test)]
+mod utfstring_edit_rows;
+#[cfg(test)]
+mod utfstring_extend_rows;
+#[cfg(test)]
+mod utfstring_rows;

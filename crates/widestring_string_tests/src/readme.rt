@@ -1,7 +1,7 @@
-//! The code of README.md on owned strings of units and on C strings, word for word.
+//! The code of README.md on owned strings, word for word.
 use std::test::Fail;
 use widestring::error::UCStringError;
-use widestring::{U16CStr, U16CString, U16String};
+use widestring::{U16CStr, U16CString, U16String, Utf16String};
 
 #[test]
 fn editing(rt: HostRuntime) -> Result<(), Fail> {
@@ -22,5 +22,15 @@ fn c_strings(rt: HostRuntime) -> Result<(), Fail> {
     assert_eq!(rt; fault.nul_position(), 1);
     let cut = U16CStr::from_slice_truncate(&[0x61, 0, 0x62])?;
     assert_eq!(rt; cut.as_slice(), [0x61].as_slice());
+    Ok(())
+}
+
+#[test]
+fn well_formed(rt: HostRuntime) -> Result<(), Fail> {
+    let mut string = Utf16String::from_str(rt.alloc(), "a😀bé")?;
+    assert_eq!(rt; string.as_utfstr().unit_offset(2), Some(3));
+    assert_eq!(rt; string.pop(), Some('é'));
+    string.retain(|c| c != 'a');
+    assert_eq!(rt; string.as_slice(), [0xd83d, 0xde00, 0x62].as_slice());
     Ok(())
 }

@@ -2,7 +2,7 @@
 //!
 //! The callers show what the contracts tell at concrete types; each is proved. The tests have worked rows, the tables of
 //! the Unicode Standard and printed texts, and call each public function with ample memory. Views and owned
-//! strings have crates of tests of their own, `widestring_view_tests` and `widestring_string_tests`.
+//! strings have crates of tests of their own, `widestring_text_tests` and `widestring_string_tests`.
 #![tactic(auto)]
 
 #[cfg(test)]
