@@ -1,7 +1,8 @@
 /*
  * The library for C++17 and later: UTF-8, UTF-16 and UTF-32 as views of std in, and strings of std out, by calls of widestring.h, which are
- * proved for all units, well formed or not. What needs no string neither throws nor asks for memory. What makes one asks for its memory once
- * where the text goes on as it begins, and else as a string that grows, and throws what the string throws where memory is refused.
+ * proved for all units, well formed or not. What needs no string neither throws nor asks for memory. What makes one asks for its memory once or
+ * twice, or as a string that grows where it can't be written without being filled, and throws what the string throws where memory is refused.
+ * With WIDESTRING_STD_ONLY it uses nothing but what std says of strings.
  *
  * Places and lengths are counted in elements: units, or bytes of UTF-8. Text that is not well formed is no value where a call is strict.
  */
@@ -62,7 +63,7 @@ namespace detail {
 /*
  * A string of at most so many elements, of which a call writes the first and tells how many those are. std has strings that are not filled
  * before they are written since C++23. Before, libc++ has a call of its own, and libstdc++ a private one that sets a length within the memory of a
- * string, which an explicit instantiation may name. With WIDESTRING_STD_ONLY neither is used.
+ * string, which an explicit instantiation may name.
  */
 #if defined(__cpp_lib_string_resize_and_overwrite)
 constexpr bool is_filled = false;
