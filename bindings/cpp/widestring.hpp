@@ -16,6 +16,7 @@
 #include <optional>
 #include <string>
 #include <string_view>
+#include <type_traits>
 #include <utility>
 
 #if defined(__has_include) && __cplusplus >= 202002L
@@ -72,11 +73,17 @@ template <class String, class Write> void overwrite(String &string, std::size_t 
     /* Some versions of std tell a greater length than there was asked for. */
     string.resize_and_overwrite(length, [&](typename String::value_type *to, std::size_t) { return write(to); });
 }
-#elif defined(_LIBCPP_VERSION) && _LIBCPP_VERSION >= 8000 && !defined(WIDESTRING_STD_ONLY)
-constexpr bool is_filled = false;
+#elif defined(_LIBCPP_VERSION) && !defined(WIDESTRING_STD_ONLY)
+template <class String, class = void> struct IsResizable : std::false_type {};
+template <class String> struct IsResizable<String, std::void_t<decltype(std::declval<String &>().__resize_default_init(0))>> : std::true_type {};
+
+constexpr bool is_filled = !IsResizable<std::string>::value;
 
 template <class String, class Write> void overwrite(String &string, std::size_t length, Write write) {
-    string.__resize_default_init(length);
+    if constexpr (IsResizable<String>::value)
+        string.__resize_default_init(length);
+    else
+        string.resize(length);
     string.resize(write(string.data()));
 }
 #elif defined(__GLIBCXX__) && _GLIBCXX_USE_CXX11_ABI && !defined(WIDESTRING_STD_ONLY)
