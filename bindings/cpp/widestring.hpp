@@ -13,6 +13,7 @@
 
 #include <cstddef>
 #include <cstdint>
+#include <cstring>
 #include <optional>
 #include <string>
 #include <string_view>
@@ -27,10 +28,13 @@
 
 namespace widestring {
 
-/* What lossy text has for what belongs to no character: U+FFFD for each, one for each longest row of neighbours, or nothing. */
+/*
+ * What lossy text has for what belongs to no character: U+FFFD for each, one for each longest row of neighbours, or nothing. Of a number that
+ * is none of these, a call throws std::bad_optional_access.
+ */
 enum class Lossy : std::uint32_t { each = WIDE_EACH, run = WIDE_RUN, skip = WIDE_SKIP };
 
-/* Which of the two bytes of a unit of UTF-16 comes first. */
+/* Which of the two bytes of a unit of UTF-16 comes first. No other number may be given to a call that answers a place or a length. */
 enum class Order : std::uint32_t { little = WIDE_LITTLE_ENDIAN, big = WIDE_BIG_ENDIAN };
 
 /* WIDESTRING_VERSION_NUMBER of the library that the program runs with. */
@@ -38,46 +42,33 @@ inline std::uint32_t version() noexcept {
     return wide_version();
 }
 
-#ifdef __cpp_lib_span
-/* Units and bytes of other types as views, which the calls below take. */
-inline std::u16string_view view(std::span<const std::uint16_t> units) noexcept {
-    return {reinterpret_cast<const char16_t *>(units.data()), units.size()};
-}
-
-inline std::u32string_view view(std::span<const std::uint32_t> units) noexcept {
-    return {reinterpret_cast<const char32_t *>(units.data()), units.size()};
-}
-
-inline std::string_view view(std::span<const std::uint8_t> text) noexcept {
-    return {reinterpret_cast<const char *>(text.data()), text.size()};
-}
-#endif
-
-#ifdef __cpp_char8_t
-inline std::string_view view(std::u8string_view text) noexcept {
-    return {reinterpret_cast<const char *>(text.data()), text.size()};
-}
-#endif
-
-namespace detail {
-
 /*
  * A string of at most so many elements, of which a call writes the first and tells how many those are. std has strings that are not filled
  * before they are written since C++23. Before, libc++ has a call of its own, and libstdc++ a private one that sets a length within the memory of a
- * string, which an explicit instantiation may name.
+ * string, which an explicit instantiation may name; it stands once in each file, which every linker takes for one.
+ *
+ * All that follows stands in a namespace of its own for each way, so that files of one program may be compiled differently.
  */
 #if defined(__cpp_lib_string_resize_and_overwrite)
-constexpr bool is_filled = false;
+#define WIDESTRING_STRINGS by_std
+inline namespace WIDESTRING_STRINGS {
+namespace detail {
+
+inline constexpr bool is_filled = false;
 
 template <class String, class Write> void overwrite(String &string, std::size_t length, Write write) {
     /* Some versions of std tell a greater length than there was asked for. */
     string.resize_and_overwrite(length, [&](typename String::value_type *to, std::size_t) { return write(to); });
 }
 #elif defined(_LIBCPP_VERSION) && !defined(WIDESTRING_STD_ONLY)
+#define WIDESTRING_STRINGS by_libcxx
+inline namespace WIDESTRING_STRINGS {
+namespace detail {
+
 template <class String, class = void> struct IsResizable : std::false_type {};
 template <class String> struct IsResizable<String, std::void_t<decltype(std::declval<String &>().__resize_default_init(0))>> : std::true_type {};
 
-constexpr bool is_filled = !IsResizable<std::string>::value;
+inline constexpr bool is_filled = !IsResizable<std::string>::value;
 
 template <class String, class Write> void overwrite(String &string, std::size_t length, Write write) {
     if constexpr (IsResizable<String>::value)
@@ -87,7 +78,11 @@ template <class String, class Write> void overwrite(String &string, std::size_t 
     string.resize(write(string.data()));
 }
 #elif defined(__GLIBCXX__) && _GLIBCXX_USE_CXX11_ABI && !defined(WIDESTRING_STD_ONLY)
-constexpr bool is_filled = false;
+#define WIDESTRING_STRINGS by_libstdcxx
+inline namespace WIDESTRING_STRINGS {
+namespace detail {
+
+inline constexpr bool is_filled = false;
 
 template <class String, void (String::*set)(typename String::size_type)> struct SetLength {
     friend void set_length(String &string, std::size_t length) {
@@ -108,7 +103,11 @@ template <class String, class Write> void overwrite(String &string, std::size_t 
     set_length(string, write(string.data()));
 }
 #else
-constexpr bool is_filled = true;
+#define WIDESTRING_STRINGS filled
+inline namespace WIDESTRING_STRINGS {
+namespace detail {
+
+inline constexpr bool is_filled = true;
 
 template <class String, class Write> void overwrite(String &string, std::size_t length, Write write) {
     string.resize(length);
@@ -120,10 +119,10 @@ template <class String, class Write> void overwrite(String &string, std::size_t 
  * So many elements go by an array on the stack where strings are filled before they are written: what they are and what is written of them
  * stays in cache. Where they are not, only the first piece goes by it, and tells the likely length.
  */
-constexpr std::size_t piece = is_filled ? 4096 : 512;
+inline constexpr std::size_t piece = is_filled ? 4096 : 512;
 
 /* Up to so many elements, a string is made as long as its text where no element becomes two. */
-constexpr std::size_t middle = 65536;
+inline constexpr std::size_t middle = 65536;
 
 inline const std::uint8_t *elements(std::string_view text) noexcept {
     return reinterpret_cast<const std::uint8_t *>(text.data());
@@ -158,7 +157,10 @@ inline std::optional<std::size_t> unless(std::size_t none, std::size_t answer) n
 inline std::size_t front(std::u16string_view units) noexcept {
     if (units.size() <= piece)
         return units.size();
-    const bool is_pair = (units[piece - 1] & 0xfc00) == 0xd800 && (units[piece] & 0xfc00) == 0xdc00;
+    /* The units may be of another type, behind a view of them. */
+    char16_t pair[2];
+    std::memcpy(pair, units.data() + piece - 1, sizeof pair);
+    const bool is_pair = (pair[0] & 0xfc00) == 0xd800 && (pair[1] & 0xfc00) == 0xdc00;
     return is_pair ? piece - 1 : piece;
 }
 
@@ -194,7 +196,7 @@ template <class String, class View, class Put> std::optional<String> within(View
 
 /*
  * What a conversion writes of the rest of a text, behind what it wrote of the first piece in an array, as a string of a likely length: straight
- * into it, and once more where that is too short.
+ * into it, and once more where that is too short. Memory is given back where the half would do.
  */
 template <class String, class View, class Put>
 std::optional<String> joined(const typename String::value_type *front, std::size_t length, View rest, std::size_t likely, Put put) {
@@ -213,6 +215,8 @@ std::optional<String> joined(const typename String::value_type *front, std::size
     } while (needed > whole);
     if (is_fault)
         return std::nullopt;
+    if (string.size() < whole / 2)
+        string.shrink_to_fit();
     return std::optional<String>(std::move(string));
 }
 
@@ -262,7 +266,7 @@ template <class String, class View, class Put, class PutLossy> String lossy(View
         return put_lossy(from, size, number, room, room_size);
     };
     if (policy != Lossy::run)
-        return *converted<String>(text, put_with);
+        return converted<String>(text, put_with).value();
     if (auto string = converted<String>(text, put))
         return *std::move(string);
     String string;
@@ -283,10 +287,31 @@ template <class Put> std::optional<std::string> asked_twice(std::string_view byt
 
 /* As many units as there are, with U+FFFD in the place of each that belongs to no character. */
 template <class View, class Put> auto repaired(View units, Put put) {
-    return *converted<std::basic_string<typename View::value_type>>(units, put);
+    return converted<std::basic_string<typename View::value_type>>(units, put).value();
 }
 
 } // namespace detail
+
+#ifdef __cpp_lib_span
+/* Units and bytes of other types as views, which the calls below take. */
+inline std::u16string_view view(std::span<const std::uint16_t> units) noexcept {
+    return {reinterpret_cast<const char16_t *>(units.data()), units.size()};
+}
+
+inline std::u32string_view view(std::span<const std::uint32_t> units) noexcept {
+    return {reinterpret_cast<const char32_t *>(units.data()), units.size()};
+}
+
+inline std::string_view view(std::span<const std::uint8_t> text) noexcept {
+    return {reinterpret_cast<const char *>(text.data()), text.size()};
+}
+#endif
+
+#ifdef __cpp_char8_t
+inline std::string_view view(std::u8string_view text) noexcept {
+    return {reinterpret_cast<const char *>(text.data()), text.size()};
+}
+#endif
 
 /* The place of the first element that belongs to no character, or none where all is well formed. */
 inline std::optional<std::size_t> first_fault(std::string_view text) noexcept {
@@ -465,7 +490,7 @@ inline std::string to_utf8_lossy(std::string_view bytes, Order order, Lossy poli
         const auto number = static_cast<std::uint32_t>(order), policy_number = static_cast<std::uint32_t>(policy);
         return wide_bytes_to_utf8_lossy_with(from, size, number, policy_number, after_fault, room, room_size);
     };
-    return *detail::asked_twice(bytes, put);
+    return detail::asked_twice(bytes, put).value();
 }
 
 /* The units with U+FFFD in the place of each that belongs to no character. */
@@ -476,6 +501,10 @@ inline std::u16string repair(std::u16string_view units) {
 inline std::u32string repair(std::u32string_view units) {
     return detail::repaired(units, wide_utf32_repair);
 }
+
+} // inline namespace WIDESTRING_STRINGS
+
+#undef WIDESTRING_STRINGS
 
 } // namespace widestring
 
