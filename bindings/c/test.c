@@ -11,7 +11,7 @@
 #include <unistd.h>
 #include <widestring.h>
 
-#define MOST 512
+#define MOST 2048
 #define ROOM (4 * MOST)
 #define FAULT UINT32_MAX
 #define REPLACEMENT 0xfffdu
@@ -427,7 +427,7 @@ static uint32_t random_element(int width) {
 }
 
 static void make_text(struct text *text, int width) {
-    size_t most = random_below(16) == 0 ? MOST - 4 : random_below(8) == 0 ? 80 : 20;
+    size_t most = random_below(64) == 0 ? MOST - 4 : random_below(16) == 0 ? 508 : random_below(8) == 0 ? 80 : 20;
     size_t length = random_below((uint32_t)most);
     uint32_t kinds = 1 + random_below(7), faults = random_below(2) == 0 ? 0 : 1 + random_below(40);
     text->width = width;

@@ -25,8 +25,11 @@ class Fault(ValueError):
     """The text is not well formed: `place` tells where the first fault stands."""
 
     def __init__(self, place):
-        super().__init__(f"not well formed at place {place}")
+        super().__init__(place)
         self.place = place
+
+    def __str__(self):
+        return f"not well formed at place {self.place}"
 
 
 class Lossy(enum.IntEnum):
@@ -336,7 +339,7 @@ def bytes_first_fault(data, order):
 
 def ends_in_fault(data, order, after_fault=False):
     """Whether such a unit is the last of the bytes, or where they have none of what stands before them."""
-    return _bytes_ends_in_fault(*_elements(data, 1), Order(order), after_fault) != 0
+    return _bytes_ends_in_fault(*_elements(data, 1), Order(order), bool(after_fault)) != 0
 
 
 def bytes_to_utf8(data, order):
@@ -352,4 +355,4 @@ def bytes_to_utf8(data, order):
 def bytes_to_utf8_lossy(data, order, policy=Lossy.EACH, after_fault=False):
     """The text in UTF-8 of the whole units of UTF-16 in this order, with what the policy gives for each unit that belongs to no character,
     where the flag tells whether one is the last of what stands before. The header of C tells how a stream is read."""
-    return _bytes_to_utf8_lossy.lossy(data, Order(order), Lossy(policy), after_fault)
+    return _bytes_to_utf8_lossy.lossy(data, Order(order), Lossy(policy), bool(after_fault))

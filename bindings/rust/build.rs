@@ -22,6 +22,7 @@ fn name_in(folder: &Path) -> Option<&'static str> {
 
 fn main() {
     println!("cargo:rerun-if-env-changed=WIDESTRING_LIB_DIR");
+    println!("cargo:rerun-if-env-changed=PKG_CONFIG_PATH");
     let own = Path::new(&env::var("CARGO_MANIFEST_DIR").expect("cargo's folder"))
         .join("../../crates/widestring_c/out");
     let folders = match env::var_os("WIDESTRING_LIB_DIR") {

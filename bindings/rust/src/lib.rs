@@ -2,7 +2,7 @@
 //!
 //! Places and lengths are counted in elements: units, or bytes of UTF-8. What makes a vector asks for its memory once
 //! where the text goes on as it begins, and else twice; the calls whose names end with `_into` write into a room of the caller's, and leave
-//! what lies behind their answer.
+//! what lies behind their answer. It needs no std, and of `alloc` strings and vectors.
 #![no_std]
 #![warn(missing_docs)]
 
@@ -27,6 +27,8 @@ impl fmt::Display for Fault {
         write!(f, "not well formed at place {}", self.place)
     }
 }
+
+impl core::error::Error for Fault {}
 
 /// What lossy text has for what belongs to no character.
 #[derive(Clone, Copy, Debug, PartialEq, Eq)]
@@ -90,7 +92,7 @@ fn put_with<T, U>(items: &[T], policy: Lossy, room: &mut [U], call: PutWith<T, U
 }
 
 /// A vector with what a call writes, which is told a pointer and a room, and answers the length. A first room that is too short costs a
-/// second call. None where the call answers a fault.
+/// second call, and memory is given back where the half would do. None where the call answers a fault.
 fn written<U: Copy>(likely: usize, call: impl Fn(*mut U, usize) -> usize) -> Option<Vec<U>> {
     let mut vec = Vec::new();
     let mut needed = likely;
@@ -101,6 +103,9 @@ fn written<U: Copy>(likely: usize, call: impl Fn(*mut U, usize) -> usize) -> Opt
         if needed <= room {
             // The call has written what it answers, since there was room for it.
             unsafe { vec.set_len(needed) };
+            if needed < room / 2 {
+                vec.shrink_to_fit();
+            }
             return Some(vec);
         }
     }

@@ -7,7 +7,8 @@
  * the pointer may be NULL. Nothing checks this, and the caller's pointer and length are all that is trusted.
  *
  * Lengths, rooms and places are counted in elements of the array: units, or bytes of UTF-8. No function takes memory, keeps a pointer,
- * stops the program or has a state, so each may be called in any thread.
+ * stops the program or has a state, so each may be called in any thread. The library runs on x86-64 processors of level 2, which have SSE4.2
+ * and POPCNT, under Linux.
  */
 #ifndef WIDESTRING_H
 #define WIDESTRING_H
@@ -102,7 +103,7 @@ size_t wide_utf16_find(const uint16_t *units, size_t length, const uint16_t *par
 size_t wide_utf32_find(const uint32_t *units, size_t length, const uint32_t *part, size_t part_length);
 
 /*
- * The functions below answer the length that is needed, whatever `room` is. Where the room is as large, that many elements at the
+ * The functions below that take a room answer the length that is needed, whatever the room is. Where the room is as large, that many elements at the
  * front of the buffer are the answer's, and those behind them, within the room, are as they were. Where it is smaller, what the
  * buffer holds is not said: call again with more. A room of 0 asks for the length alone.
  */
@@ -129,8 +130,11 @@ size_t wide_utf16_to_utf8_lossy_with(const uint16_t *units, size_t length, uint3
  *     memmove(buffer, buffer + certain, length - certain);
  *
  * At the end of the stream what is left, at most three bytes, is converted too, all of it. The texts, one behind another, are that of the
- * whole stream. An odd length then is half a unit, and a place from wide_bytes_first_fault below length / 2 a fault. Before the first piece
- * wide_bytes_order tells the order, and the two bytes of the mark are dropped.
+ * whole stream. An odd length then is half a unit, and a place from wide_bytes_first_fault below length / 2 a fault. A strict reader calls
+ * wide_bytes_to_utf8 in the place of the lossy call, and keeps no number for a fault.
+ *
+ * Before the first piece, once two bytes are there, wide_bytes_order tells the order, and the two bytes of the mark are dropped. Where it
+ * answers WIDE_NO_MARK, which is no order, the caller chooses one, and drops nothing.
  */
 
 /* The order that the byte order mark at the front tells (Unicode Standard, section 23.8), or WIDE_NO_MARK. */
