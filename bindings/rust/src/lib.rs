@@ -57,6 +57,9 @@ const SHORT: usize = 128;
 
 const PIECE: usize = 1024;
 
+/// A vector of more elements gives memory back where the half would do.
+const MUCH: usize = 4096;
+
 /// The version of the library: 65,536 times its first number, 256 times the second, and the third.
 pub fn version() -> u32 {
     // It takes nothing.
@@ -92,7 +95,7 @@ fn put_with<T, U>(items: &[T], policy: Lossy, room: &mut [U], call: PutWith<T, U
 }
 
 /// A vector with what a call writes, which is told a pointer and a room, and answers the length. A first room that is too short costs a
-/// second call, and memory is given back where the half would do. None where the call answers a fault.
+/// second call. None where the call answers a fault.
 fn written<U: Copy>(likely: usize, call: impl Fn(*mut U, usize) -> usize) -> Option<Vec<U>> {
     let mut vec = Vec::new();
     let mut needed = likely;
@@ -103,7 +106,7 @@ fn written<U: Copy>(likely: usize, call: impl Fn(*mut U, usize) -> usize) -> Opt
         if needed <= room {
             // The call has written what it answers, since there was room for it.
             unsafe { vec.set_len(needed) };
-            if needed < room / 2 {
+            if room > MUCH && needed < room / 2 {
                 vec.shrink_to_fit();
             }
             return Some(vec);
