@@ -6,6 +6,7 @@ use Rattle.std.proofs.lemmas.Simd.{Each1-get_or}
 use lib.Lanes.{Each1, sel_l, top, zip2}
 use Rattle.wide_blocks.specs.Encoded.{IsFront, high_word, low_word}
 use Rattle.wide_blocks.specs.Halves.{IsHalfFront, half_key}
+use Rattle.wide_blocks.specs.Wide.{mark_of}
 
 abbrev below : ℕ → List ℕ → ℕ → List Bool
 below n us x = map (top 15) (zip2 (λ a b. cond (ltb a b) (2 ^ 16 - 1) 0) us (replicate n x))
@@ -27,40 +28,51 @@ overs n us x = zip2 (λ a b. a / b) us (replicate n x)
 
 -- ---- characters
 
-abbrev pub fronts : ℕ → List ℕ → List ℕ
-fronts n us =
-    let last = times n (rests n us 0x40) 0x100 in
-    let above = overs n us 0x40 in
-    let two = sums (sums (replicate n 0x80c0) above) last in
-    let middle = times n (rests n above 0x40) 0x100 in
-    let three = sums (sums (replicate n 0x80e0) (overs n us 0x1000)) middle in
-    sel_l (below n us 0x800) (sel_l (below n us 0x80) us two) three
+abbrev pub narrow-fronts : ℕ → List ℕ → List ℕ
+narrow-fronts n us = sel_l (below n us 0x80) us (sums (sums (replicate n 0x80c0) (overs n us 0x40)) (times n (rests n us 0x40) 0x100))
 
-abbrev front : ℕ → ℕ
-front u =
-    let last : ℕ = u % 0x40 * 0x100 % 2 ^ 16 in
-    let above : ℕ = u / 0x40 in
-    let two : ℕ = ((0x80c0 + above) % 2 ^ 16 + last) % 2 ^ 16 in
-    let three : ℕ = ((0x80e0 + u / 0x1000) % 2 ^ 16 + above % 0x40 * 0x100 % 2 ^ 16) % 2 ^ 16 in
-    cond (top 15 (cond (ltb u 0x800) (2 ^ 16 - 1) 0)) (cond (top 15 (cond (ltb u 0x80) (2 ^ 16 - 1) 0)) u two) three
+abbrev narrow-front : ℕ → ℕ
+narrow-front u = cond (top 15 (cond (ltb u 0x80) (2 ^ 16 - 1) 0)) u (((0x80c0 + u / 0x40) % 2 ^ 16 + u % 0x40 * 0x100 % 2 ^ 16) % 2 ^ 16)
 
-fronts-at : (n : ℕ) (us : List ℕ) (k : ℕ) → length us ≡ n → k < n → get_or (fronts n us) k 0 ≡ front (get_or us k 0)
-fronts-at zero us k long within = absurd (omega arith)
-fronts-at (suc n) [] k long within = absurd (omega arith)
-fronts-at (suc n) (u ∷ us) zero long within = refl
-fronts-at (suc n) (u ∷ us) (suc k) long within = fronts-at n us k (omega arith) (omega arith)
+narrow-fronts-at : (n : ℕ) (us : List ℕ) (k : ℕ) → length us ≡ n → k < n → get_or (narrow-fronts n us) k 0 ≡ narrow-front (get_or us k 0)
+narrow-fronts-at zero us k long within = absurd (omega arith)
+narrow-fronts-at (suc n) [] k long within = absurd (omega arith)
+narrow-fronts-at (suc n) (u ∷ us) zero long within = refl
+narrow-fronts-at (suc n) (u ∷ us) (suc k) long within = narrow-fronts-at n us k (omega arith) (omega arith)
 
-front-is : (u : ℕ) → u < 0x10000 → IsFront u (front u)
-front-is u fits = elim (cases_lt u 0x80) [
-  | inl low ↦ rw (lt-ltb u 0x80 low, lt-ltb u 0x800 (omega arith)) (record { one = λ h. refl; two = λ from h. absurd (omega arith); three = λ from. absurd (omega arith) })
-  | inr from ↦ elim (cases_lt u 0x800) [
-    | inl low ↦ rw (le-ltb u 0x80 from, lt-ltb u 0x800 low) (record { one = λ h. absurd (omega arith); two = λ f h. omega arith; three = λ f. absurd (omega arith) })
-    | inr from_800 ↦ rw (le-ltb u 0x80 from, le-ltb u 0x800 from_800) (record { one = λ h. absurd (omega arith); two = λ f h. absurd (omega arith); three = λ f. omega arith })
-  ]
+narrow-front-is : (u : ℕ) → u < 0x800 → IsFront u (narrow-front u)
+narrow-front-is u below = elim (cases_lt u 0x80) [
+  | inl low ↦ rw (lt-ltb u 0x80 low) (record { one = λ h. refl; two = λ from h. absurd (omega arith); three = λ from. absurd (omega arith) })
+  | inr from ↦ rw (le-ltb u 0x80 from) (record { one = λ h. absurd (omega arith); two = λ f h. omega arith; three = λ f. absurd (omega arith) })
 ]
 
-pub fronts-are : (us : List ℕ) → length us ≡ 8 → Each1 (λ x. x < 65536) us → (k : ℕ) → k < 8 → IsFront (get_or us k 0) (get_or (fronts 8 us) k 0)
-fronts-are us long fits k within = subst (λ f. IsFront (get_or us k 0) f) (sym (fronts-at 8 us k long within)) (front-is (get_or us k 0) (Each1-get_or (λ x. x < 65536) us k 0 (omega arith) fits))
+pub narrow-fronts-are : (us : List ℕ) → length us ≡ 8 → (k : ℕ) → k < 8 → get_or us k 0 < 0x800 → IsFront (get_or us k 0) (get_or (narrow-fronts 8 us) k 0)
+narrow-fronts-are us long k within low = subst (λ f. IsFront (get_or us k 0) f) (sym (narrow-fronts-at 8 us k long within)) (narrow-front-is (get_or us k 0) low)
+
+-- with what the narrow ones have
+abbrev pub fronts : ℕ → List ℕ → List ℕ → List ℕ
+fronts n us narrow = sel_l (below n us 0x800) narrow (sums (sums (replicate n 0x80e0) (overs n us 0x1000)) (times n (rests n (overs n us 0x40) 0x40) 0x100))
+
+abbrev front : ℕ → ℕ → ℕ
+front u narrow = cond (top 15 (cond (ltb u 0x800) (2 ^ 16 - 1) 0)) narrow (((0x80e0 + u / 0x1000) % 2 ^ 16 + u / 0x40 % 0x40 * 0x100 % 2 ^ 16) % 2 ^ 16)
+
+fronts-at : (n : ℕ) (us narrow : List ℕ) (k : ℕ) → length us ≡ n → length narrow ≡ n → k < n → get_or (fronts n us narrow) k 0 ≡ front (get_or us k 0) (get_or narrow k 0)
+fronts-at zero us narrow k long long_narrow within = absurd (omega arith)
+fronts-at (suc n) [] narrow k long long_narrow within = absurd (omega arith)
+fronts-at (suc n) (u ∷ us) [] k long long_narrow within = absurd (omega arith)
+fronts-at (suc n) (u ∷ us) (f ∷ narrow) zero long long_narrow within = refl
+fronts-at (suc n) (u ∷ us) (f ∷ narrow) (suc k) long long_narrow within = fronts-at n us narrow k (omega arith) (omega arith) (omega arith)
+
+front-is : (u narrow : ℕ) → u < 0x10000 → (u < 0x800 → IsFront u narrow) → IsFront u (front u narrow)
+front-is u narrow fits is = elim (cases_lt u 0x800) [
+  | inl low ↦ rw (lt-ltb u 0x800 low) (is low)
+  | inr from ↦ rw (le-ltb u 0x800 from) (record { one = λ h. absurd (omega arith); two = λ f h. absurd (omega arith); three = λ f. omega arith })
+]
+
+pub fronts-are : (us narrow : List ℕ) → length us ≡ 8 → length narrow ≡ 8 → Each1 (λ x. x < 65536) us → ((k : ℕ) → k < 8 → get_or us k 0 < 0x800 → IsFront (get_or us k 0) (get_or narrow k 0))
+    → (k : ℕ) → k < 8 → IsFront (get_or us k 0) (get_or (fronts 8 us narrow) k 0)
+fronts-are us narrow long long_narrow fits is k within =
+    subst (λ f. IsFront (get_or us k 0) f) (sym (fronts-at 8 us narrow k long long_narrow within)) (front-is (get_or us k 0) (get_or narrow k 0) (Each1-get_or (λ x. x < 65536) us k 0 (omega arith) fits) (is k within))
 
 abbrev pub backs : ℕ → List ℕ → List ℕ
 backs n us = sums (replicate n 0x80) (rests n us 0x40)
@@ -146,3 +158,23 @@ half-keys-at (suc n) (u ∷ us) zero long within = key u
     key : (u : ℕ) → cond (top 15 (cond (eqb (u / 0x800) 27) (2 ^ 16 - 1) 0)) 0x80 u ≡ half_key u
     key u = elim (eqb_tells (u / 0x800) 27) [ inl told ↦ rw told.0 refl | inr told ↦ rw told.0 refl ]
 half-keys-at (suc n) (u ∷ us) (suc k) long within = half-keys-at n us k (omega arith) (omega arith)
+
+-- ---- marks
+
+abbrev pub marks : ℕ → List ℕ → List ℕ
+marks n us = sel_l (below n us 0x80) (replicate n 0xffff) (sel_l (below n us 0x800) (replicate n 0xff00) (replicate n 0))
+
+pub marks-at : (n : ℕ) (us : List ℕ) (k : ℕ) → length us ≡ n → k < n → get_or (marks n us) k 0 ≡ mark_of (get_or us k 0)
+marks-at zero us k long within = absurd (omega arith)
+marks-at (suc n) [] k long within = absurd (omega arith)
+marks-at (suc n) (u ∷ us) zero long within = mark u
+  where
+    mark : (u : ℕ) → cond (top 15 (cond (ltb u 0x80) (2 ^ 16 - 1) 0)) 0xffff (cond (top 15 (cond (ltb u 0x800) (2 ^ 16 - 1) 0)) 0xff00 0) ≡ mark_of u
+    mark u = elim (cases_lt u 0x80) [
+      | inl low ↦ rw (lt-ltb u 0x80 low) refl
+      | inr from ↦ elim (cases_lt u 0x800) [
+        | inl low ↦ rw (le-ltb u 0x80 from, lt-ltb u 0x800 low) refl
+        | inr from_800 ↦ rw (le-ltb u 0x80 from, le-ltb u 0x800 from_800) refl
+      ]
+    ]
+marks-at (suc n) (u ∷ us) (suc k) long within = marks-at n us k (omega arith) (omega arith)

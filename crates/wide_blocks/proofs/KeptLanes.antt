@@ -1,32 +1,21 @@
 -- Lanes that are kept by a table of the places of their bytes.
-use Rattle.std.proofs.Common.{◌≡◌, ℕ, zero, suc, ◌+◌, ◌*◌, ◌/◌, ◌%◌, ◌<◌, ◌≤◌, ◌&&◌, Bool, true, false, T, cond, ltb, ltb→lt, inl, inr, List, [], ◌∷◌, length, get_or, map, take, drop, w8, refl, sym, ap, ◌∙◌, subst, arith}
+use Rattle.std.proofs.Common.{◌≡◌, ℕ, zero, suc, ◌+◌, ◌*◌, ◌/◌, ◌%◌, ◌<◌, ◌≤◌, ◌&&◌, Bool, T, cond, ltb, ltb→lt, inl, inr, List, [], ◌∷◌, length, get_or, map, take, drop, w8, refl, sym, ap, ◌∙◌, subst, arith}
 use Rattle.std.specs.Int.RustNames.{count_ones}
 use Rattle.std.specs.List.{range_with_len}
 use Rattle.std.proofs.Math.Facts.{eqb_yes}
 use Rattle.std.proofs.lemmas.Bool.{cases_lt, lt-ltb, le-ltb}
 use Rattle.std.proofs.lemmas.List.{get_or-map, length-map, length-take-le, take-map}
 use Rattle.std.proofs.lemmas.Simd.{Each1-from_get_or, Each1-get_or, SwzOk, SwzOk-from_below, get_or-swz_l_below, get_or_wider, length-swz_l, swz_l}
-use lib.Dec.{eqb, leb, leb→le}
+use lib.Dec.{eqb}
 use lib.Ieee.Fits.{and_l, and_r}
 use lib.Lanes.{Each1, all_below, digits_l, number_l}
 use Rattle.wide_blocks.specs.Mixed.{kept_lanes}
 use Rattle.wide_blocks.specs.declared.kept.TheConstants.{KEPT_PLACES}
 use Rattle.wide_blocks.proofs.Rows.{high-byte, low-byte}
-use Rattle.wide_blocks.proofs.Shuffles.{eight, same-lists}
+use Rattle.wide_blocks.proofs.Shuffles.{eight}
+use Rattle.wide_blocks.proofs.Tables.{every, every-at, is-same, ones-few, same-is, same-lists}
 
 -- ---- the table
-
-abbrev same : List ℕ → List ℕ → Bool
-same [] [] = true
-same [] (y ∷ ys) = false
-same (x ∷ xs) [] = false
-same (x ∷ xs) (y ∷ ys) = eqb x y && same xs ys
-
-same-is : (xs ys : List ℕ) → T (same xs ys) → xs ≡ ys
-same-is [] [] h = refl
-same-is [] (y ∷ ys) h = absurd h
-same-is (x ∷ xs) [] h = absurd h
-same-is (x ∷ xs) (y ∷ ys) h = ap (λ z. z ∷ xs) (eqb_yes (and_l (eqb x y) (same xs ys) h)) ∙ ap (λ zs. y ∷ zs) (same-is xs ys (and_r (eqb x y) (same xs ys) h))
 
 -- the lanes whose bytes two by two places are, and the places of the bytes of lanes
 abbrev halves : List ℕ → List ℕ
@@ -48,7 +37,7 @@ row n = take 16 (get_or KEPT_PLACES n [])
 
 -- the places of a row are those of eight lanes, and first of the lanes whose bits its number has
 abbrev is-paired : ℕ → Bool
-is-paired n = same (row n) (doubles (halves (row n)))
+is-paired n = is-same (row n) (doubles (halves (row n)))
 
 abbrev is-low : ℕ → Bool
 is-low n = all_below 8 (halves (row n))
@@ -57,45 +46,29 @@ abbrev is-long : ℕ → Bool
 is-long n = eqb (length (halves (row n))) 8
 
 abbrev is-first : ℕ → Bool
-is-first n = same (take (count_ones n) (halves (row n))) (positions 8 0 n)
-
-abbrev is-few : ℕ → Bool
-is-few n = leb (count_ones n) 8
+is-first n = is-same (take (count_ones n) (halves (row n))) (positions 8 0 n)
 
 unfoldable is-kept : ℕ → Bool
-is-kept n = is-paired n && (is-low n && (is-long n && (is-first n && is-few n)))
+is-kept n = is-paired n && (is-low n && (is-long n && is-first n))
 
-unfoldable every : ℕ → Bool
-every zero = true
-every (suc n) = is-kept n && every n
-
-every-at : (n k : ℕ) → k < n → T (every n) → T (is-kept k)
-unfolding every
-every-at zero k within h = absurd (omega arith)
-every-at (suc n) k within h = elim (cases_lt k n) [
-  | inl below ↦ every-at n k below (and_r (is-kept n) _ h)
-  | inr from ↦ (let last : n ≡ k = omega arith in subst (λ j. T (is-kept j)) last (and_l (is-kept n) _ h))
-]
-
-all-kept : T (every 256)
+all-kept : T (every is-kept 256)
 unfolding every is-kept count_ones
 all-kept = tt
 
-each-part : (a b c d e : Bool) → T (a && (b && (c && (d && e)))) → T a × T b × T c × T d × T e
-each-part a b c d e h =
-    let behind_a = and_r a (b && (c && (d && e))) h in
-    let behind_b = and_r b (c && (d && e)) behind_a in
-    let behind_c = and_r c (d && e) behind_b in
-    (and_l a (b && (c && (d && e))) h, and_l b (c && (d && e)) behind_a, and_l c (d && e) behind_b, and_l d e behind_c, and_r d e behind_c)
+each-part : (a b c d : Bool) → T (a && (b && (c && d))) → T a × T b × T c × T d
+each-part a b c d h =
+    let behind_a = and_r a (b && (c && d)) h in
+    let behind_b = and_r b (c && d) behind_a in
+    (and_l a (b && (c && d)) h, and_l b (c && d) behind_a, and_l c d behind_b, and_r c d behind_b)
 
 each-low : (js : List ℕ) → T (all_below 8 js) → Each1 (λ j. j < 8) js
 each-low [] h = tt
 each-low (j ∷ js) h = (ltb→lt j 8 (and_l _ _ h), each-low js (and_r (ltb j 8) _ h))
 
 module _ (n : ℕ) (within : n < 256) where
-  sound : T (is-paired n) × T (is-low n) × T (is-long n) × T (is-first n) × T (is-few n)
+  sound : T (is-paired n) × T (is-low n) × T (is-long n) × T (is-first n)
   unfolding is-kept
-  sound = each-part (is-paired n) (is-low n) (is-long n) (is-first n) (is-few n) (every-at 256 n within all-kept)
+  sound = each-part (is-paired n) (is-low n) (is-long n) (is-first n) (every-at is-kept 256 n within all-kept)
 
   places-are : row n ≡ doubles (halves (row n))
   places-are = same-is _ _ sound.0
@@ -108,9 +81,6 @@ module _ (n : ℕ) (within : n < 256) where
 
   first-are : take (count_ones n) (halves (row n)) ≡ positions 8 0 n
   first-are = same-is _ _ sound.3
-
-  pub ones-few : count_ones n ≤ 8
-  ones-few = leb→le (count_ones n) 8 sound.4
 
 -- ---- the places of lanes
 

@@ -1,10 +1,9 @@
 -- Mended units of which some marks are left out, by lanes and by a policy.
-use Rattle.std.proofs.Common.{◌≡◌, ℕ, zero, suc, ◌+◌, ◌-◌, ◌*◌, ◌^◌, ◌%◌, ◌/◌, ◌<◌, ◌≤◌, Bool, true, false, cond, not, eqb, inl, inr, List, [], ◌∷◌, ◌++◌, append_assoc, length, get_or, map, replicate, take, drop, w16, refl, sym, ap, ◌∙◌, subst, arith, rules, length-take, length-drop, get_or-take}
+use Rattle.std.proofs.Common.{◌≡◌, ℕ, zero, suc, ◌+◌, ◌-◌, ◌*◌, ◌^◌, ◌%◌, ◌/◌, ◌<◌, ◌≤◌, Bool, true, false, cond, not, eqb, inl, inr, List, [], ◌∷◌, ◌++◌, append_assoc, length, get_or, map, replicate, take, drop, w16, refl, sym, ap, ◌∙◌, subst, arith, length-take, length-drop, get_or-take}
 use Rattle.std.specs.Prelude.{nat_eq}
 use Rattle.std.proofs.lemmas.Bool.Decides.{eqb_tells}
 use Rattle.std.proofs.lemmas.List.{append-nil, drop-drop, drop-take, get_or-drop}
-use Rattle.std.proofs.lemmas.Simd.{bitmask_splat, put_chunk_whole}
-use Rattle.std.proofs.lemmas.Slice.{overwrites}
+use Rattle.std.proofs.lemmas.Simd.{bitmask_splat}
 use borrow.Rule.Slice.PartMut.{put_mid}
 use lib.Lanes.{mask_l, put_chunk, top, zip2}
 use Rattle.wide_unit.specs.EncodingForm.{Utf16, IsFault, code_units, encode}
@@ -21,6 +20,7 @@ use Rattle.wide_blocks.specs.Kept.{stay_bits, stays}
 use Rattle.wide_blocks.specs.Mixed.{kept_lanes}
 use Rattle.wide_blocks.specs.Narrow.{bit_of}
 use Rattle.wide_blocks.proofs.Stores.{kept-front}
+use Rattle.wide_blocks.proofs.Tables.{stored-block}
 
 -- the mended units that stay
 abbrev pub staying : Bool → ℕ → ℕ → List ℕ → List ℕ → List ℕ
@@ -188,15 +188,9 @@ staying-text marks after us ms mended =
 
 -- ---- eight lanes of which the first are kept
 
-eight-stored : (xs ys : List ℕ) (at : ℕ) → length ys ≡ 8 → at + 8 ≤ length xs → take (at + 8) (put_mid at (at + 8 - at) xs (put_chunk 0 (take (at + 8 - at) (drop at xs)) ys)) ≡ take at xs ++ ys
-eight-stored xs ys at long room =
-    let part = take (at + 8 - at) (drop at xs) in
-    let part_long : length part ≡ length ys = omega (arith, length-take (at + 8 - at) (drop at xs), length-drop at xs) in
-    ap (λ l. take (at + 8) (put_mid at (at + 8 - at) xs l)) (put_chunk_whole part ys part_long) ∙ search (rules, overwrites)
-
 pub lanes-stored : (xs ys : List ℕ) (at len : ℕ) → length ys ≡ 8 → at + 8 ≤ length xs → len ≤ 8 → take (at + len) (put_mid at (at + 8 - at) xs (put_chunk 0 (take (at + 8 - at) (drop at xs)) ys)) ≡ take at xs ++ take len ys
 lanes-stored xs ys at len long room few =
-    kept-front xs (put_mid at (at + 8 - at) xs (put_chunk 0 (take (at + 8 - at) (drop at xs)) ys)) ys at 8 len (omega arith) few (eight-stored xs ys at long room)
+    kept-front xs (put_mid at (at + 8 - at) xs (put_chunk 0 (take (at + 8 - at) (drop at xs)) ys)) ys at 8 len (omega arith) few (stored-block 8 xs ys at long room)
 
 -- ---- one step more
 

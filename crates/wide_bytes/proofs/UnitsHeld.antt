@@ -1,11 +1,13 @@
 -- From units back to bytes: encodings, and what stops them.
-use Rattle.std.proofs.Common.{◌≡◌, ℕ, zero, suc, ◌+◌, ◌*◌, ◌/◌, ◌%◌, ◌<◌, ◌≤◌, ◌⊎◌, inl, inr, List, [], ◌∷◌, Option, Some, None, length, get_or, take, drop, refl, sym, ap, ◌∙◌, subst, arith, length-take-le, w8, Fits}
+use Rattle.std.proofs.Common.{◌≡◌, ℕ, zero, suc, ◌+◌, ◌-◌, ◌*◌, ◌/◌, ◌<◌, ◌≤◌, ◌⊎◌, inl, inr, List, [], ◌∷◌, ◌++◌, Option, Some, None, length, get_or, take, drop, refl, sym, ap, ◌∙◌, subst, arith, length-take-le}
+use Rattle.std.proofs.lemmas.Bool.{cases_lt}
+use Rattle.std.proofs.lemmas.List.{get_or_append_left, get_or-append_right, get_or-drop, get_or-take}
 use Rattle.wide_unit.specs.EncodingForm.{Utf16, IsLowSurrogate}
 use Rattle.wide_bytes.specs.Bytes.{unit_in, units_in}
 use Rattle.wide_blocks.specs.Encoded.{EncodedUnits, BeginsWithFault, AreCutShort, StopsBefore}
 use Rattle.wide_bytes.specs.Encoded.{Encoded, IsCertainFault, IsCutShort, StopsAt}
 use Rattle.wide_bytes.specs.declared.order.BoM.{BoM}
-use Rattle.wide_bytes.specs.declared.order.BoM.TheVariants.{Little, Big}
+use Rattle.wide_bytes.specs.declared.order.BoM.TheVariants.{Big}
 use Rattle.wide_bytes.proofs.Encodings.{certain-low, certain-high}
 
 -- ---- fronts and rests of the units
@@ -119,8 +121,19 @@ filled order (suc n) (a ∷ b ∷ bytes) (u ∷ us) half room same =
 pub units-filled : (order : BoM) (bytes us : List ℕ) (n : ℕ) → length bytes / 2 ≤ n → length bytes / 2 ≤ length us → AreUnitsOf order bytes us n → take (length bytes / 2) us ≡ units_in order bytes
 units-filled order bytes us n over room same = filled order (length bytes / 2) bytes us refl room (λ j within. same j (omega arith))
 
-pub swapped : (bytes us vs : List ℕ) (n : ℕ) → ((i : ℕ) → Fits w8 (get_or bytes i 0)) → AreUnitsOf Little bytes us n → ((k : ℕ) → k < n → get_or vs k 0 ≡ get_or us k 0 % 0x100 * 0x100 + get_or us k 0 / 0x100) → AreUnitsOf Big bytes vs n
-swapped bytes us vs n fits little swap j within =
-    let a = (fits (2 * j)).fits in
-    let b = (fits (2 * j + 1)).fits in
-    omega (arith, little j within, swap j within, a, b)
+-- eight more, of the bytes behind those that are read
+pub eight-more : (bytes us vs ys : List ℕ) (done left : ℕ) → 16 ≤ left → done + 8 ≤ length us → length ys ≡ 8 → take (done + 8) vs ≡ take done us ++ ys → AreUnitsOf Big bytes us done
+    → ((k : ℕ) → k < 8 → get_or ys k 0 ≡ unit_in Big (get_or (take left (drop (2 * done) bytes)) (2 * k) 0) (get_or (take left (drop (2 * done) bytes)) (2 * k + 1) 0)) → AreUnitsOf Big bytes vs (done + 8)
+eight-more bytes us vs ys done left enough room long stored before units j below =
+    let front : length (take done us) ≡ done = length-take-le done us (omega arith) in
+    let told : get_or vs j 0 ≡ get_or (take done us ++ ys) j 0 = sym (get_or-take (done + 8) vs j 0 below) ∙ ap (λ xs. get_or xs j 0) stored in
+    elim (cases_lt j done) [
+      | inl here ↦ told ∙ get_or_append_left (take done us) ys 0 j (omega (arith, here, front)) ∙ get_or-take done us j 0 here ∙ before j here
+      | inr from ↦
+          (let k : ℕ = j - done in
+          let same : 2 * done + 2 * k ≡ 2 * j = omega (arith, from) in
+          let next : 2 * done + (2 * k + 1) ≡ 2 * j + 1 = omega (arith, from) in
+          let first : get_or (take left (drop (2 * done) bytes)) (2 * k) 0 ≡ get_or bytes (2 * j) 0 = get_or-take left (drop (2 * done) bytes) (2 * k) 0 (omega (arith, enough, from, below)) ∙ get_or-drop (2 * done) bytes (2 * k) 0 ∙ ap (λ i. get_or bytes i 0) same in
+          let second : get_or (take left (drop (2 * done) bytes)) (2 * k + 1) 0 ≡ get_or bytes (2 * j + 1) 0 = get_or-take left (drop (2 * done) bytes) (2 * k + 1) 0 (omega (arith, enough, from, below)) ∙ get_or-drop (2 * done) bytes (2 * k + 1) 0 ∙ ap (λ i. get_or bytes i 0) next in
+          omega (arith, told ∙ get_or-append_right (take done us) ys done j 0 front from, units k (omega (arith, from, below)), first, second))
+    ]

@@ -1,10 +1,11 @@
 //! The code unit of two bytes, and those of many, stored.
 
-ghost use Rattle.std.specs.Prelude.{◌≡◌, ◌≤◌, ◌<◌, ◌+◌, ◌*◌, ◌/◌, ◌%◌, ℕ, slice_index, length, take};
+ghost use Rattle.std.specs.Prelude.{◌≡◌, ◌≤◌, ◌<◌, ◌+◌, ◌*◌, ◌/◌, ℕ, slice_index, length, take};
 ghost use Rattle.wide_bytes.specs.Bytes.{unit_in, units_in};
-ghost use Rattle.wide_bytes.specs.declared.order.BoM.TheVariants.{Little};
+ghost use Rattle.wide_bytes.specs.declared.order.BoM.TheVariants.{Big, Little};
 
 use super::order::BoM;
+use std::simd::prelude::*;
 
 /// The code unit of two bytes (Unicode Standard, D96 and D97).
 #[inline(always)]
@@ -18,7 +19,7 @@ pub fn unit_in(order: BoM, first: u8, second: u8) -> u16
     }
 }
 
-// Stores little-endian units.
+// Stores little-endian units, whose bytes are copied as they are.
 fn fill_little(bytes: &[u8], units: &mut [u16])
     requires { length bytes.now / 2 ≤ length units.old }
     ensures long { length units.new ≡ length units.old }
@@ -29,14 +30,32 @@ fn fill_little(bytes: &[u8], units: &mut [u16])
     }
 }
 
-// Changes the order of the bytes of the first `count` units.
-fn swap_bytes(units: &mut [u16], count: usize)
-    requires { count ≤ length units.old }
-    ensures long { length units.new ≡ length units.old }
-    ensures units { (k : ℕ) → k < count → slice_index units.new k ≡ slice_index units.old k % 0x100 * 0x100 + slice_index units.old k / 0x100 }
+// Eight big-endian units.
+#[inline(always)]
+fn big_lanes(bytes: &[u8]) -> u16x8
+    requires { 16 ≤ length bytes.now }
+    ensures { (k : ℕ) → k < 8 → slice_index result k ≡ unit_in Big (slice_index bytes.now (2 * k)) (slice_index bytes.now (2 * k + 1)) }
 {
-    for k in 0..count {
-        units[k] = units[k] % 0x100 * 0x100 + units[k] / 0x100;
+    let pairs = u8x16::from_slice(bytes);
+    let swapped = pairs.swizzle([1, 0, 3, 2, 5, 4, 7, 6, 9, 8, 11, 10, 13, 12, 15, 14]);
+    u16x8::from_le_bytes(swapped)
+}
+
+// Stores big-endian units, eight in one step and the last ones one by one.
+fn fill_big(bytes: &[u8], units: &mut [u16])
+    requires { length bytes.now / 2 ≤ length units.old }
+    ensures long { length units.new ≡ length units.old }
+    ensures units { (k : ℕ) → k < length bytes.now / 2 → slice_index units.new k ≡ unit_in Big (slice_index bytes.now (2 * k)) (slice_index bytes.now (2 * k + 1)) }
+{
+    let count = bytes.len() / 2;
+    let mut done = 0;
+    'eights: while count - done >= 8 {
+        big_lanes(&bytes[2 * done..]).copy_to_slice(&mut units[done..done + 8]);
+        done += 8;
+    }
+    'ones: while done < count {
+        units[done] = unit_in(BoM::Big, bytes[2 * done], bytes[2 * done + 1]);
+        done += 1;
     }
 }
 
@@ -46,10 +65,8 @@ pub fn fill_units(order: BoM, bytes: &[u8], units: &mut [u16])
     requires { length bytes.now / 2 ≤ length units.old }
     ensures { take (length bytes.now / 2) units.new ≡ units_in order bytes.now }
 {
-    // Little-endian bytes are copied as they are, and swapped by vectors.
-    fill_little(bytes, units);
     match order {
-        BoM::Little => {}
-        BoM::Big => swap_bytes(units, bytes.len() / 2),
+        BoM::Little => fill_little(bytes, units),
+        BoM::Big => fill_big(bytes, units),
     }
 }

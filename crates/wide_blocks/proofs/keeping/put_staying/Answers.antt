@@ -2,7 +2,7 @@ use Rattle.std.proofs.Common.{◌∙◌, ◌++◌, ap, arith, drop, length-drop,
 use Rattle.std.proofs.lemmas.List.{take_all}
 use Rattle.std.specs.Int.RustNames.{count_ones}
 use Rattle.wide_blocks.specs.Mixed.{kept_lanes}
-use Rattle.wide_blocks.proofs.KeptLanes.{ones-few}
+use Rattle.wide_blocks.proofs.Tables.{ones-few}
 use Rattle.wide_blocks.proofs.Staying.{lanes-stored}
 use Rattle.wide_blocks.proofs.keeping.put_staying.Goals as goal
 

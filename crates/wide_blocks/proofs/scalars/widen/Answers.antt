@@ -1,6 +1,7 @@
 use Rattle.std.proofs.Common.{◌≡◌, ◌∙◌, ◌++◌, ap, get_or, length, set, take, arith, length-set, ℕ}
 use Rattle.std.proofs.lemmas.List.{take_all}
-use Rattle.wide_blocks.proofs.Shuffles.{same-lists, same-more}
+use Rattle.wide_blocks.proofs.Shuffles.{same-more}
+use Rattle.wide_blocks.proofs.Tables.{same-lists}
 use Rattle.wide_blocks.proofs.Tables.{stored-block}
 use Rattle.wide_blocks.proofs.scalars.widen.Goals as goal
 
@@ -15,4 +16,4 @@ returns c =
     let long = c.loop-k.invariant.long in
     let whole : take 16 c.loop-k.wide ≡ c.loop-k.wide = take_all 16 c.loop-k.wide (omega arith) in
     let same : c.loop-k.wide ≡ c.args.block.now = same-lists c.loop-k.wide c.args.block.now (omega (arith, c.requires.whole)) (λ k within. c.loop-k.invariant.same k (omega arith)) in
-    stored-block c.args.scalars.now (take 16 c.loop-k.wide) c.args.at (ap length whole ∙ long) c.requires.room ∙ ap (λ us. take c.args.at c.args.scalars.now ++ us) (whole ∙ same)
+    stored-block 16 c.args.scalars.now (take 16 c.loop-k.wide) c.args.at (ap length whole ∙ long) c.requires.room ∙ ap (λ us. take c.args.at c.args.scalars.now ++ us) (whole ∙ same)

@@ -1,6 +1,6 @@
 use Rattle.std.proofs.Common.{◌/◌, ◌∙◌, length, sym, ap, arith}
 use Rattle.wide_bytes.specs.Bytes.{units_in}
-use Rattle.wide_bytes.proofs.UnitsHeld.{swapped, units-filled}
+use Rattle.wide_bytes.proofs.UnitsHeld.{units-filled}
 use Rattle.wide_bytes.specs.declared.order.BoM.TheVariants.{Little, Big}
 use Rattle.wide_bytes.proofs.filled.fill_units.Goals as goal
 
@@ -10,5 +10,4 @@ returns-in-Little c =
 
 pub returns-in-Big : goal.returns-in-Big
 returns-in-Big c =
-    let big = swapped c.args.bytes.now c.fill_little.new.units c.swap_bytes.new.units (length c.args.bytes.now / 2) c.type_inv.bytes c.fill_little.ensures.units c.swap_bytes.ensures.units in
-    units-filled Big c.args.bytes.now c.swap_bytes.new.units (length c.args.bytes.now / 2) (omega arith) (omega (arith, c.requires, c.fill_little.ensures.long, c.swap_bytes.ensures.long)) big ∙ ap (λ o. units_in o c.args.bytes.now) (sym c.in-Big.is)
+    units-filled Big c.args.bytes.now c.fill_big.new.units (length c.args.bytes.now / 2) (omega arith) (omega (arith, c.requires, c.fill_big.ensures.long)) c.fill_big.ensures.units ∙ ap (λ o. units_in o c.args.bytes.now) (sym c.in-Big.is)

@@ -1,0 +1,10 @@
+use Rattle.wide_blocks.specs.declared.narrow.TheConstants.{PLACES}
+use Rattle.wide_blocks.proofs.Shuffles.{pairs-stored, places-sound}
+use Rattle.wide_blocks.proofs.Tables.{row-places}
+use Rattle.wide_blocks.proofs.narrow.put_pairs.Goals as goal
+
+pub swizzle : goal.swizzle
+swizzle c = row-places PLACES places-sound c.args.ascii c.requires.below
+
+pub returns-clause-text : goal.returns-clause-text
+returns-clause-text c = λ us long is. pairs-stored c.args.ascii c.requires.below c.args.out.now c.args.pairs us c.args.at long is c.requires.room
