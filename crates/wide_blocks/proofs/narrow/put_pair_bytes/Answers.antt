@@ -1,7 +1,7 @@
 use Rattle.wide_blocks.specs.declared.narrow.TheConstants.{PLACES}
 use Rattle.wide_blocks.proofs.Shuffles.{pairs-stored, places-sound}
 use Rattle.wide_blocks.proofs.Tables.{row-places}
-use Rattle.wide_blocks.proofs.narrow.put_pairs.Goals as goal
+use Rattle.wide_blocks.proofs.narrow.put_pair_bytes.Goals as goal
 
 pub swizzle : goal.swizzle
 swizzle c = row-places PLACES places-sound c.args.ascii c.requires.below
