@@ -4,21 +4,22 @@ use crate::bytes::{
     wide_bytes_certain, wide_bytes_ends_in_fault, wide_bytes_first_fault, wide_bytes_order,
     wide_bytes_to_utf8, wide_bytes_to_utf8_lossy_with,
 };
-use crate::room_rows::{KINDS16, POLICIES, fills, items16, strict, text_of, with_kind};
+use crate::room_rows::{
+    KINDS16, Wanted, all_hold, fills, first_failure, holds_by_policies, items16, none_fails,
+};
 use std::alloc::{AllocError, Global};
-use wide_unit::Policy;
 
-// Lengths of texts in units, and the first and the last place at which something is put: all of short ones, and those about the ends of
-// pieces of 1024 units.
-static LENGTHS: [(usize, usize, usize); 5] = [
-    (0, 0, 0),
-    (1, 0, 1),
-    (5, 0, 5),
-    (1026, 1020, 1026),
-    (2101, 2043, 2050),
+// Lengths of texts in units, each twice, and the first and the last place at which something is put: all of short ones, and those about the
+// ends of pieces of 1024 units.
+static LENGTHS: [(usize, usize, usize, usize); 5] = [
+    (0, 0, 0, 0),
+    (1, 1, 0, 1),
+    (5, 5, 0, 5),
+    (1026, 1026, 1020, 1026),
+    (2101, 2101, 2043, 2050),
 ];
 
-// The bytes of units in the order that a number names.
+// The bytes of units in the order that a number names, and half a unit behind them.
 fn bytes_of(alloc: Global, units: &[u16], order: u32) -> Result<Vec<u8>, AllocError> {
     let mut bytes = Vec::new(alloc);
     for unit in units {
@@ -29,6 +30,7 @@ fn bytes_of(alloc: Global, units: &[u16], order: u32) -> Result<Vec<u8>, AllocEr
         };
         bytes.extend_from_slice(&pair)?;
     }
+    bytes.push(0xd8)?;
     Ok(bytes)
 }
 
@@ -44,116 +46,105 @@ fn first_fault_of(items: &[Option<char>]) -> usize {
     place
 }
 
-// The text of bytes that come in pieces of a size, as a caller reads a stream.
-fn streamed(
-    alloc: Global,
-    bytes: &[u8],
-    order: u32,
-    policy: u32,
-    size: usize,
-) -> Result<Vec<u8>, AllocError> {
-    let mut text = Vec::new(alloc);
-    let mut held: Vec<u8> = Vec::new(alloc);
-    let mut after_fault = 0;
-    for piece in bytes.chunks(size.max(1)) {
-        held.extend_from_slice(piece)?;
-        let certain = wide_bytes_certain(&held, order).min(held.len());
-        put_text(
-            alloc,
-            &mut text,
-            &held[..certain],
-            order,
-            policy,
-            after_fault,
-        )?;
-        after_fault = wide_bytes_ends_in_fault(&held[..certain], order, after_fault);
-        held = held[certain..].to_vec(alloc)?;
-    }
-    put_text(alloc, &mut text, &held, order, policy, after_fault)?;
-    Ok(text)
-}
-
-// Puts the text of bytes behind another.
-fn put_text(
-    alloc: Global,
-    text: &mut Vec<u8>,
-    bytes: &[u8],
+// What stands in a text behind that of a piece of bytes, where it begins with that. No piece is longer than the greatest size of pieces and what
+// is held back.
+fn behind<'a>(
+    text: &'a [u8],
+    piece: &[u8],
     order: u32,
     policy: u32,
     after_fault: u32,
-) -> Result<(), AllocError> {
-    let mut room = Vec::new(alloc);
-    room.resize(bytes.len().saturating_mul(2), 0)?;
-    let len = wide_bytes_to_utf8_lossy_with(bytes, order, policy, after_fault, &mut room);
-    text.extend_from_slice(&room[..len.min(room.len())])
+) -> Option<&'a [u8]> {
+    let mut room = [0; 2048];
+    let size = piece.len().saturating_mul(2).min(room.len());
+    let len = wide_bytes_to_utf8_lossy_with(piece, order, policy, after_fault, &mut room[..size]);
+    text.strip_prefix(&room[..len.min(size)])
+}
+
+// Whether bytes that come in pieces of a size give this text, as a caller reads a stream.
+fn streams(bytes: &[u8], order: u32, policy: u32, size: usize, text: &[u8]) -> bool {
+    let (mut rest, mut held, mut after_fault) = (text, bytes, 0);
+    let mut come: usize = 0;
+    for piece in bytes.chunks(size.max(1)) {
+        come = come.saturating_add(piece.len()).min(held.len());
+        let certain = wide_bytes_certain(&held[..come], order).min(come);
+        let (put, uncertain) = held.split_at(certain);
+        match behind(rest, put, order, policy, after_fault) {
+            Some(text) => rest = text,
+            None => return false,
+        }
+        after_fault = wide_bytes_ends_in_fault(put, order, after_fault);
+        held = uncertain;
+        come -= certain;
+    }
+    match behind(rest, held, order, policy, after_fault) {
+        Some(text) => text.is_empty(),
+        None => false,
+    }
+}
+
+// Whether the call that takes no policy gives this text, where it is to give any.
+fn gives(alloc: Global, bytes: &[u8], order: u32, text: &[u8], is_put: bool) -> bool {
+    let to_text = |room: &mut [u8]| wide_bytes_to_utf8(bytes, order, room);
+    fills(alloc, to_text, text, is_put, 0xaa)
+}
+
+// The same by the policy that a number names, of the whole and of a stream in pieces.
+fn gives_by(alloc: Global, bytes: &[u8], order: u32, number: u32, text: &[u8]) -> bool {
+    let lossy = |room: &mut [u8]| wide_bytes_to_utf8_lossy_with(bytes, order, number, 0, room);
+    let mut well = fills(alloc, lossy, text, true, 0xaa);
+    for size in [1, 2, 3, 7, 1000] {
+        well &= streams(bytes, order, number, size, text);
+    }
+    well
+}
+
+// Whether bytes with half a unit behind them, and those without it, give what is wanted.
+fn both_give(alloc: Global, odd: &[u8], order: u32, wanted: &Wanted) -> bool {
+    let even = &odd[..odd.len().saturating_sub(1)];
+    let mut well = gives_by(alloc, even, order, wanted.number, wanted.bytes);
+    well &= gives_by(alloc, odd, order, wanted.number, wanted.bytes);
+    well &= gives(alloc, odd, order, wanted.bytes, false);
+    well && (wanted.number > 0 || gives(alloc, even, order, wanted.bytes, wanted.is_text))
+}
+
+// Whether the first fault and the last are told of bytes with half a unit behind these characters.
+fn tells_faults(items: &[Option<char>], odd: &[u8], order: u32) -> bool {
+    let ends = items.last() == Some(&None);
+    let is_last = wide_bytes_ends_in_fault(odd, order, 0) == u32::from(ends);
+    is_last & (wide_bytes_first_fault(odd, order) == first_fault_of(items))
 }
 
 // Whether all calls do so with the bytes of these units in an order, and with half a unit behind them.
 fn converts(alloc: Global, units: &[u16], order: u32) -> Result<bool, AllocError> {
     let items = items16(alloc, units)?;
-    let is_text = items.iter().all(|item| item.is_some());
-    let ends = items.last().map_or(false, |item| item.is_none());
-    let mut bytes = bytes_of(alloc, units, order)?;
-    let text = text_of(alloc, items.as_slice(), Policy::Each)?;
-    let text = text.as_bytes();
-    let to_text = |room: &mut [u8]| wide_bytes_to_utf8(&bytes, order, room);
-    let mut well = fills(alloc, to_text, text.len(), strict(is_text, text), 0xaa)?;
-    well &= converts_lossy(alloc, &bytes, items.as_slice(), order)?;
-    bytes.push(0xd8)?;
-    let odd = |room: &mut [u8]| wide_bytes_to_utf8(&bytes, order, room);
-    well &= fills(alloc, odd, text.len(), None, 0xaa)?;
-    well &= converts_lossy(alloc, &bytes, items.as_slice(), order)?;
-    well &= wide_bytes_first_fault(&bytes, order) == first_fault_of(items.as_slice());
-    well &= wide_bytes_ends_in_fault(&bytes, order, 0) == u32::from(ends);
-    Ok(well)
+    let odd = bytes_of(alloc, units, order)?;
+    let given = holds_by_policies(
+        alloc,
+        &items,
+        |wanted| both_give(alloc, &odd, order, wanted),
+    );
+    Ok(given & tells_faults(&items, &odd, order))
 }
 
-// The same of lossy text by each policy, of the whole and of a stream in pieces.
-fn converts_lossy(
-    alloc: Global,
-    bytes: &[u8],
-    items: &[Option<char>],
-    order: u32,
-) -> Result<bool, AllocError> {
-    let mut well = true;
-    for (number, policy) in (0..).zip(POLICIES) {
-        let text = text_of(alloc, items, policy)?;
-        let text = text.as_bytes();
-        let lossy = |room: &mut [u8]| wide_bytes_to_utf8_lossy_with(bytes, order, number, 0, room);
-        well &= fills(alloc, lossy, text.len(), Some(text), 0xaa)?;
-        for size in [1, 2, 3, 7, 1000] {
-            well &= streamed(alloc, bytes, order, number, size)?.as_slice() == text;
-        }
-    }
-    Ok(well)
+fn converts_little(alloc: Global, units: &[u16]) -> Result<bool, AllocError> {
+    converts(alloc, units, 0)
 }
 
-// The first length of texts of which that does not hold in an order.
-fn first_failure(alloc: Global, order: u32) -> Option<usize> {
-    for (len, first, last) in LENGTHS {
-        for place in first..=last {
-            for kind in KINDS16 {
-                let well = match with_kind(alloc, 0x61, len, place, kind) {
-                    Ok(units) => converts(alloc, &units, order),
-                    Err(refused) => Err(refused),
-                };
-                if well != Ok(true) {
-                    return Some(len);
-                }
-            }
-        }
-    }
-    None
+fn converts_big(alloc: Global, units: &[u16]) -> Result<bool, AllocError> {
+    converts(alloc, units, 1)
 }
 
 #[test]
 fn little_endian(rt: HostRuntime) {
-    assert_eq!(rt; first_failure(rt.alloc(), 0), None);
+    let failing = first_failure(rt.alloc(), 0x61, &KINDS16, &LENGTHS, converts_little);
+    none_fails(&rt, 0x61, failing);
 }
 
 #[test]
 fn big_endian(rt: HostRuntime) {
-    assert_eq!(rt; first_failure(rt.alloc(), 1), None);
+    let failing = first_failure(rt.alloc(), 0x61, &KINDS16, &LENGTHS, converts_big);
+    none_fails(&rt, 0x61, failing);
 }
 
 #[test]
@@ -184,7 +175,5 @@ fn marks_and_flags(rt: HostRuntime) {
         wide_bytes_to_utf8_lossy_with(half, 0, 0, 1, &mut room) == 3,
         room == [0xef, 0xbf, 0xbd, 0xaa, 0xaa, 0xaa, 0xaa, 0xaa],
     ];
-    for (place, holds) in rows.iter().enumerate() {
-        assert!(rt; *holds, "row {place} does not hold");
-    }
+    all_hold(&rt, &rows);
 }

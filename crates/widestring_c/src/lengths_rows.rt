@@ -1,9 +1,10 @@
-//! Lengths and counts, of text with characters of each length and of text with a fault behind it.
+//! The version, and lengths and counts, of text with characters of each length and of text with a fault behind it.
 use crate::lengths::{
     wide_utf8_char_count, wide_utf8_utf16_length, wide_utf8_utf32_length, wide_utf16_char_count,
     wide_utf16_utf8_length, wide_utf16_utf32_length, wide_utf32_char_count, wide_utf32_utf8_length,
     wide_utf32_utf16_length,
 };
+use crate::room_rows::all_hold;
 use crate::version::wide_version;
 
 // A text with characters of each length among letters.
@@ -31,25 +32,24 @@ fn counts(rt: HostRuntime) {
     let wide = wide();
     let text = text();
     let rows = [
-        (wide_utf16_utf8_length(&units), 84),
-        (wide_utf32_utf8_length(&wide), 84),
-        (wide_utf8_utf16_length(&text), 80),
-        (wide_utf8_utf32_length(&text), 79),
-        (wide_utf16_utf32_length(&units), 78),
-        (wide_utf32_utf16_length(&wide), 79),
-        (wide_utf16_char_count(&units), 78),
-        (wide_utf32_char_count(&wide), 78),
-        (wide_utf8_char_count(&text), 79),
-        (wide_utf16_utf8_length(&[]), 0),
-        (wide_utf32_utf8_length(&[]), 0),
-        (wide_utf8_utf16_length(&[]), 0),
-        (wide_utf8_utf32_length(&[]), 0),
-        (wide_utf16_utf32_length(&[]), 0),
-        (wide_utf32_utf16_length(&[]), 0),
+        wide_utf16_utf8_length(&units) == 84,
+        wide_utf32_utf8_length(&wide) == 84,
+        wide_utf8_utf16_length(&text) == 80,
+        wide_utf8_utf32_length(&text) == 79,
+        wide_utf16_utf32_length(&units) == 78,
+        wide_utf32_utf16_length(&wide) == 79,
+        wide_utf16_char_count(&units) == 78,
+        wide_utf32_char_count(&wide) == 78,
+        wide_utf8_char_count(&text) == 79,
+        wide_utf16_utf8_length(&[]) == 0,
+        wide_utf32_utf8_length(&[]) == 0,
+        wide_utf8_utf16_length(&[]) == 0,
+        wide_utf8_utf32_length(&[]) == 0,
+        wide_utf16_utf32_length(&[]) == 0,
+        wide_utf32_utf16_length(&[]) == 0,
+        wide_version() == 0x00_0100,
     ];
-    for (place, (length, wanted)) in rows.iter().enumerate() {
-        assert_eq!(rt; *length, *wanted, "row {place}");
-    }
+    all_hold(&rt, &rows);
 }
 
 #[test]
@@ -61,22 +61,15 @@ fn faults(rt: HostRuntime) {
     wide[77] = 0xde00;
     text[84] = 0xf0;
     let rows = [
-        wide_utf16_utf8_length(&units),
-        wide_utf32_utf8_length(&wide),
-        wide_utf8_utf16_length(&text),
-        wide_utf8_utf32_length(&text),
-        wide_utf16_utf32_length(&units),
-        wide_utf32_utf16_length(&wide),
-        wide_utf16_char_count(&units),
-        wide_utf32_char_count(&wide),
-        wide_utf8_char_count(&text),
+        wide_utf16_utf8_length(&units) == usize::MAX,
+        wide_utf32_utf8_length(&wide) == usize::MAX,
+        wide_utf8_utf16_length(&text) == usize::MAX,
+        wide_utf8_utf32_length(&text) == usize::MAX,
+        wide_utf16_utf32_length(&units) == usize::MAX,
+        wide_utf32_utf16_length(&wide) == usize::MAX,
+        wide_utf16_char_count(&units) == usize::MAX,
+        wide_utf32_char_count(&wide) == usize::MAX,
+        wide_utf8_char_count(&text) == usize::MAX,
     ];
-    for (place, length) in rows.iter().enumerate() {
-        assert_eq!(rt; *length, usize::MAX, "row {place}");
-    }
-}
-
-#[test]
-fn version(rt: HostRuntime) {
-    assert_eq!(rt; wide_version(), 0x00_0100);
+    all_hold(&rt, &rows);
 }

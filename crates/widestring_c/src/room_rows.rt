@@ -12,12 +12,17 @@ use crate::to_utf8::{
     wide_utf32_to_utf8, wide_utf32_to_utf8_lossy, wide_utf32_to_utf8_lossy_with,
 };
 use std::alloc::{AllocError, Global};
+use std::process::Abort;
 use std::{char, str};
 use wide_unit::Policy;
 
-// The least and the greatest length of texts, and the first place at which something is put: all that few blocks take, those about the
-// ends of blocks of 64 bytes, and about the end of a piece of 256 units.
-static LENGTHS: [(usize, usize, usize); 3] = [(0, 70, 0), (127, 131, 60), (255, 258, 250)];
+// The least and the greatest length of texts, and the first and the last place at which something is put, where the text is that long: all
+// that few blocks take, those about the ends of blocks of 64 bytes, and about the end of a piece of 256 units.
+static LENGTHS: [(usize, usize, usize, usize); 3] = [
+    (0, 70, 0, 70),
+    (127, 131, 60, 131),
+    (255, 258, 250, 258),
+];
 
 // What is put at a place, as far as it fits: a character of each length in UTF-8, and faults. Half a pair is a fault too.
 pub(crate) static KINDS16: [&[u16]; 8] = [
@@ -58,83 +63,70 @@ static KINDS8: [&[u8]; 12] = [
     &[0xff, 0xef, 0xbf, 0xbd, 0xe8, 0xaa, 0xff],
 ];
 
-// The policies, each at the number that names it.
-pub(crate) static POLICIES: [Policy; 3] = [Policy::Each, Policy::Run, Policy::Skip];
+// The policies, each with the number that names it.
+static POLICIES: [(u32, Policy); 3] = [(0, Policy::Each), (1, Policy::Run), (2, Policy::Skip)];
 
-// Whether a call puts these items in front of a room of this size, where they fit, and answers how many they are. Where there are none to
-// put, it answers the greatest number. All behind them stays.
-fn fills_room<T: Copy + PartialEq, F: Fn(&mut [T]) -> usize>(
-    alloc: Global,
-    call: &F,
-    size: usize,
-    items: Option<&[T]>,
-    filler: T,
-) -> Result<bool, AllocError>
-    requires { F.IsAlwaysCallable call.now }
-{
-    let mut room = Vec::new(alloc);
-    room.resize(size, filler)?;
-    let answer = call(room.as_mut_slice());
-    let Some(items) = items else {
-        return Ok(answer == usize::MAX && room.iter().all(|item| *item == filler));
-    };
-    let mut well = answer == items.len();
-    if items.len() <= size {
-        well &= room.starts_with(items);
-        well &= room.iter().skip(items.len()).all(|item| *item == filler);
-    }
-    Ok(well)
+// How a conversion is called: one that is strict, one that gives U+FFFD for each fault, and one with the number of a policy.
+#[derive(Clone, Copy)]
+enum Way {
+    Strict,
+    Lossy,
+    By(u32),
 }
 
-// The same of a room that is exact, of one that is one shorter and of one that is five longer.
+// Whether a call puts these items in front of a room, where they fit, and answers how many they are. Where it is to put none, it answers the
+// greatest number. All behind them stays.
+fn fills_room<T: Copy + PartialEq, F: Fn(&mut [T]) -> usize>(
+    call: &F,
+    room: &mut [T],
+    items: &[T],
+    is_put: bool,
+    filler: T,
+) -> bool
+    requires { F.IsAlwaysCallable call.now }
+{
+    let answer = call(room);
+    let (put, len) = if is_put {
+        (items, items.len())
+    } else {
+        (&items[..0], usize::MAX)
+    };
+    let stays = room.iter().skip(put.len()).all(|item| *item == filler);
+    let begins = put.len() > room.len() || room.starts_with(put);
+    answer == len && begins && stays
+}
+
+// The same of a room that is exact, of one that is one shorter and of one that is five longer. Where memory is refused it does not hold, so
+// that a caller has no early return.
 pub(crate) fn fills<T: Copy + PartialEq, F: Fn(&mut [T]) -> usize>(
     alloc: Global,
     call: F,
-    len: usize,
-    items: Option<&[T]>,
+    items: &[T],
+    is_put: bool,
     filler: T,
-) -> Result<bool, AllocError>
+) -> bool
     requires { F.IsAlwaysCallable call }
 {
+    let len = items.len();
     let mut well = true;
     for size in [len, len.saturating_sub(1), len.saturating_add(5)] {
-        well &= fills_room(alloc, &call, size, items, filler)?;
+        well &= match vec![in alloc; filler; size] {
+            Ok(mut room) => fills_room(&call, &mut room, items, is_put, filler),
+            Err(_refused) => false,
+        };
     }
-    Ok(well)
-}
-
-// A text in UTF-16, and its scalar values.
-fn units_of(alloc: Global, text: &str) -> Result<Vec<u16>, AllocError> {
-    let mut units = Vec::new(alloc);
-    for unit in text.encode_utf16() {
-        units.push(unit)?;
-    }
-    Ok(units)
-}
-
-fn scalars_of(alloc: Global, text: &str) -> Result<Vec<u32>, AllocError> {
-    let mut scalars = Vec::new(alloc);
-    for c in text.chars() {
-        scalars.push(c as u32)?;
-    }
-    Ok(scalars)
+    well
 }
 
 // The characters of units and of bytes, with none for each fault.
 pub(crate) fn items16(alloc: Global, units: &[u16]) -> Result<Vec<Option<char>>, AllocError> {
-    let mut items = Vec::new(alloc);
-    for decoded in char::decode_utf16(units.iter().copied()) {
-        items.push(decoded.ok())?;
-    }
-    Ok(items)
+    char::decode_utf16(units.iter().copied())
+        .map(Result::ok)
+        .collect(alloc)
 }
 
 fn items32(alloc: Global, units: &[u32]) -> Result<Vec<Option<char>>, AllocError> {
-    let mut items = Vec::new(alloc);
-    for unit in units {
-        items.push(char::from_u32(*unit))?;
-    }
-    Ok(items)
+    units.iter().copied().map(char::from_u32).collect(alloc)
 }
 
 fn items8(alloc: Global, bytes: &[u8]) -> Result<Vec<Option<char>>, AllocError> {
@@ -151,188 +143,251 @@ fn items8(alloc: Global, bytes: &[u8]) -> Result<Vec<Option<char>>, AllocError> 
 }
 
 // Their text, with what a policy gives for faults.
-pub(crate) fn text_of(
-    alloc: Global,
-    items: &[Option<char>],
-    policy: Policy,
-) -> Result<String, AllocError> {
+fn text_of(alloc: Global, items: &[Option<char>], policy: Policy) -> Result<String, AllocError> {
     let mut text = String::new(alloc);
     let mut after = false;
     for item in items {
         let is_marked = policy == Policy::Each || (policy == Policy::Run && !after);
-        match item {
-            Some(c) => text.push(*c)?,
-            None if is_marked => text.push('\u{fffd}')?,
-            None => {}
-        }
         after = item.is_none();
+        let mark = if is_marked { Some('\u{fffd}') } else { None };
+        if let Some(c) = item.or(mark) {
+            text.push(c)?;
+        }
     }
     Ok(text)
 }
 
-// Those items where no fault is among them.
-pub(crate) fn strict<'a, T>(is_text: bool, items: &'a [T]) -> Option<&'a [T]> {
-    if is_text { Some(items) } else { None }
+// What is wanted: a text in each form, the number of the policy that gives it, and whether no fault is in what it is of.
+#[derive(Clone, Copy)]
+pub(crate) struct Wanted<'a> {
+    pub(crate) number: u32,
+    pub(crate) is_text: bool,
+    pub(crate) bytes: &'a [u8],
+    units: &'a [u16],
+    scalars: &'a [u32],
 }
 
-// Whether each function does so with these units.
+// Whether this holds of the text of items by a policy.
+fn holds_by_policy<F: Fn(&Wanted) -> bool>(
+    alloc: Global,
+    items: &[Option<char>],
+    number: u32,
+    policy: Policy,
+    holds: &F,
+) -> Result<bool, AllocError>
+    requires { F.IsAlwaysCallable holds.now }
+{
+    let text = text_of(alloc, items, policy)?;
+    let units: Vec<u16> = text.encode_utf16().collect(alloc)?;
+    let scalars: Vec<u32> = text.chars().map(u32::from).collect(alloc)?;
+    let wanted = Wanted {
+        number,
+        is_text: !items.contains(&None),
+        bytes: text.as_bytes(),
+        units: &units,
+        scalars: &scalars,
+    };
+    Ok(holds(&wanted))
+}
+
+// The same of each policy. Where memory is refused it does not hold.
+pub(crate) fn holds_by_policies<F: Fn(&Wanted) -> bool>(
+    alloc: Global,
+    items: &[Option<char>],
+    holds: F,
+) -> bool
+    requires { F.IsAlwaysCallable holds }
+{
+    let mut well = true;
+    for (number, policy) in POLICIES.iter() {
+        well &= holds_by_policy(alloc, items, *number, *policy, &holds) == Ok(true);
+    }
+    well
+}
+
+// Whether each function does so with these units: by a number that names a policy, by one that names none, and with the first policy those
+// that take no number.
 fn converts16(alloc: Global, units: &[u16]) -> Result<bool, AllocError> {
     let items = items16(alloc, units)?;
-    let is_text = items.iter().all(|item| item.is_some());
-    let text = text_of(alloc, items.as_slice(), Policy::Each)?;
-    let bytes = text.as_bytes();
-    let repaired = units_of(alloc, text.as_str())?;
-    let scalars = scalars_of(alloc, text.as_str())?;
-    let (len, repaired) = (units.len(), Some(repaired.as_slice()));
+    Ok(holds_by_policies(alloc, &items, |wanted| holds16(alloc, units, wanted)))
+}
+
+fn holds16(alloc: Global, units: &[u16], wanted: &Wanted) -> bool {
+    let bytes = wanted.bytes;
+    let mut well = puts_text16(alloc, units, Way::By(wanted.number), bytes, true);
+    well &= puts_text16(alloc, units, Way::By(3), bytes, false);
+    well && (wanted.number > 0 || holds16_of_each(alloc, units, wanted))
+}
+
+// The same of the functions that take no number, with the text that has U+FFFD for each fault.
+fn holds16_of_each(alloc: Global, units: &[u16], wanted: &Wanted) -> bool {
     let to_scalars = |room: &mut [u32]| wide_utf16_to_utf32(units, room);
-    let to_text = |room: &mut [u8]| wide_utf16_to_utf8(units, room);
-    let to_lossy = |room: &mut [u8]| wide_utf16_to_utf8_lossy(units, room);
     let repair = |room: &mut [u16]| wide_utf16_repair(units, room);
-    let other = |room: &mut [u8]| wide_utf16_to_utf8_lossy_with(units, 3, room);
-    let scalar_items = strict(is_text, scalars.as_slice());
-    let mut well = fills(alloc, to_text, bytes.len(), strict(is_text, bytes), 0xaa)?;
-    well &= fills(alloc, to_scalars, scalars.len(), scalar_items, 0xaaaa_aaaa)?;
-    well &= fills(alloc, to_lossy, bytes.len(), Some(bytes), 0xaa)?;
-    well &= fills(alloc, repair, len, repaired, 0xaaaa)?;
-    well &= fills(alloc, other, bytes.len(), None, 0xaa)?;
-    for (number, policy) in (0..).zip(POLICIES) {
-        let text = text_of(alloc, items.as_slice(), policy)?;
-        let bytes = text.as_bytes();
-        let to_lossy = |room: &mut [u8]| wide_utf16_to_utf8_lossy_with(units, number, room);
-        well &= fills(alloc, to_lossy, bytes.len(), Some(bytes), 0xaa)?;
-    }
-    Ok(well)
+    let mut well = wanted.units.len() == units.len();
+    well &= puts_text16(alloc, units, Way::Strict, wanted.bytes, wanted.is_text);
+    well &= puts_text16(alloc, units, Way::Lossy, wanted.bytes, true);
+    well &= fills(
+        alloc,
+        to_scalars,
+        wanted.scalars,
+        wanted.is_text,
+        0xaaaa_aaaa,
+    );
+    well &= fills(alloc, repair, wanted.units, true, 0xaaaa);
+    well
+}
+
+// Whether a way to UTF-8 puts this text into rooms.
+fn puts_text16(alloc: Global, units: &[u16], way: Way, bytes: &[u8], is_put: bool) -> bool {
+    let call = |room: &mut [u8]| {
+        match way {
+            Way::Strict => wide_utf16_to_utf8(units, room),
+            Way::Lossy => wide_utf16_to_utf8_lossy(units, room),
+            Way::By(number) => wide_utf16_to_utf8_lossy_with(units, number, room),
+        }
+    };
+    fills(alloc, call, bytes, is_put, 0xaa)
 }
 
 fn converts32(alloc: Global, units: &[u32]) -> Result<bool, AllocError> {
     let items = items32(alloc, units)?;
-    let is_text = items.iter().all(|item| item.is_some());
-    let text = text_of(alloc, items.as_slice(), Policy::Each)?;
-    let bytes = text.as_bytes();
-    let units16 = units_of(alloc, text.as_str())?;
-    let repaired = scalars_of(alloc, text.as_str())?;
-    let repaired = Some(repaired.as_slice());
-    let repair = |room: &mut [u32]| wide_utf32_repair(units, room);
+    Ok(holds_by_policies(alloc, &items, |wanted| holds32(alloc, units, wanted)))
+}
+
+fn holds32(alloc: Global, units: &[u32], wanted: &Wanted) -> bool {
+    let bytes = wanted.bytes;
+    let mut well = puts_text32(alloc, units, Way::By(wanted.number), bytes, true);
+    well &= puts_text32(alloc, units, Way::By(4), bytes, false);
+    well && (wanted.number > 0 || holds32_of_each(alloc, units, wanted))
+}
+
+fn holds32_of_each(alloc: Global, units: &[u32], wanted: &Wanted) -> bool {
     let to_utf16 = |room: &mut [u16]| wide_utf32_to_utf16(units, room);
-    let to_text = |room: &mut [u8]| wide_utf32_to_utf8(units, room);
-    let to_lossy = |room: &mut [u8]| wide_utf32_to_utf8_lossy(units, room);
-    let other = |room: &mut [u8]| wide_utf32_to_utf8_lossy_with(units, 4, room);
-    let items16 = strict(is_text, units16.as_slice());
-    let mut well = fills(alloc, to_text, bytes.len(), strict(is_text, bytes), 0xaa)?;
-    well &= fills(alloc, to_utf16, units16.len(), items16, 0xaaaa)?;
-    well &= fills(alloc, to_lossy, bytes.len(), Some(bytes), 0xaa)?;
-    well &= fills(alloc, repair, units.len(), repaired, 0xaaaa_aaaa)?;
-    well &= fills(alloc, other, bytes.len(), None, 0xaa)?;
-    for (number, policy) in (0..).zip(POLICIES) {
-        let text = text_of(alloc, items.as_slice(), policy)?;
-        let bytes = text.as_bytes();
-        let to_lossy = |room: &mut [u8]| wide_utf32_to_utf8_lossy_with(units, number, room);
-        well &= fills(alloc, to_lossy, bytes.len(), Some(bytes), 0xaa)?;
-    }
-    Ok(well)
+    let repair = |room: &mut [u32]| wide_utf32_repair(units, room);
+    let mut well = wanted.scalars.len() == units.len();
+    well &= puts_text32(alloc, units, Way::Strict, wanted.bytes, wanted.is_text);
+    well &= puts_text32(alloc, units, Way::Lossy, wanted.bytes, true);
+    well &= fills(alloc, to_utf16, wanted.units, wanted.is_text, 0xaaaa);
+    well &= fills(alloc, repair, wanted.scalars, true, 0xaaaa_aaaa);
+    well
+}
+
+fn puts_text32(alloc: Global, units: &[u32], way: Way, bytes: &[u8], is_put: bool) -> bool {
+    let call = |room: &mut [u8]| {
+        match way {
+            Way::Strict => wide_utf32_to_utf8(units, room),
+            Way::Lossy => wide_utf32_to_utf8_lossy(units, room),
+            Way::By(number) => wide_utf32_to_utf8_lossy_with(units, number, room),
+        }
+    };
+    fills(alloc, call, bytes, is_put, 0xaa)
 }
 
 fn converts8(alloc: Global, bytes: &[u8]) -> Result<bool, AllocError> {
-    let lossy = String::from_utf8_lossy(alloc, bytes)?;
-    let units = units_of(alloc, lossy.as_str())?;
-    let scalars = scalars_of(alloc, lossy.as_str())?;
-    let (units, scalars) = (units.as_slice(), scalars.as_slice());
+    let items = items8(alloc, bytes)?;
+    Ok(holds_by_policies(alloc, &items, |wanted| holds8(alloc, bytes, wanted)))
+}
+
+fn holds8(alloc: Global, bytes: &[u8], wanted: &Wanted) -> bool {
+    let (units, scalars) = (wanted.units, wanted.scalars);
+    let mut well = puts_units(alloc, bytes, Way::By(wanted.number), units, true);
+    well &= puts_scalars(alloc, bytes, Way::By(wanted.number), scalars, true);
+    well &= puts_units(alloc, bytes, Way::By(3), units, false);
+    well &= puts_scalars(alloc, bytes, Way::By(u32::MAX), scalars, false);
+    well && (wanted.number > 0 || holds8_of_each(alloc, bytes, wanted))
+}
+
+fn holds8_of_each(alloc: Global, bytes: &[u8], wanted: &Wanted) -> bool {
+    let (units, scalars, is_text) = (wanted.units, wanted.scalars, wanted.is_text);
+    let mut well = is_read_so(alloc, bytes, wanted);
+    well &= puts_units(alloc, bytes, Way::Strict, units, is_text);
+    well &= puts_units(alloc, bytes, Way::Lossy, units, true);
+    well &= puts_scalars(alloc, bytes, Way::Strict, scalars, is_text);
+    well &= puts_scalars(alloc, bytes, Way::Lossy, scalars, true);
+    well
+}
+
+fn puts_units(alloc: Global, bytes: &[u8], way: Way, units: &[u16], is_put: bool) -> bool {
+    let call = |room: &mut [u16]| {
+        match way {
+            Way::Strict => wide_utf8_to_utf16(bytes, room),
+            Way::Lossy => wide_utf8_to_utf16_lossy(bytes, room),
+            Way::By(number) => wide_utf8_to_utf16_lossy_with(bytes, number, room),
+        }
+    };
+    fills(alloc, call, units, is_put, 0xaaaa)
+}
+
+fn puts_scalars(alloc: Global, bytes: &[u8], way: Way, scalars: &[u32], is_put: bool) -> bool {
+    let call = |room: &mut [u32]| {
+        match way {
+            Way::Strict => wide_utf8_to_utf32(bytes, room),
+            Way::Lossy => wide_utf8_to_utf32_lossy(bytes, room),
+            Way::By(number) => wide_utf8_to_utf32_lossy_with(bytes, number, room),
+        }
+    };
+    fills(alloc, call, scalars, is_put, 0xaaaa_aaaa)
+}
+
+// Whether the standard library itself reads bytes so, and the first fault stands where it says.
+fn is_read_so(alloc: Global, bytes: &[u8], wanted: &Wanted) -> bool {
     let fault = match str::from_utf8(bytes) {
         Ok(_text) => bytes.len(),
         Err(fault) => fault.valid_up_to(),
     };
-    let is_text = fault == bytes.len();
-    let to_utf16 = |room: &mut [u16]| wide_utf8_to_utf16(bytes, room);
-    let to_lossy = |room: &mut [u16]| wide_utf8_to_utf16_lossy(bytes, room);
-    let to_utf32 = |room: &mut [u32]| wide_utf8_to_utf32(bytes, room);
-    let to_lossy32 = |room: &mut [u32]| wide_utf8_to_utf32_lossy(bytes, room);
-    let other = |room: &mut [u16]| wide_utf8_to_utf16_lossy_with(bytes, 3, room);
-    let mut well = wide_utf8_first_fault(bytes) == fault;
-    well &= fills(alloc, to_utf16, units.len(), strict(is_text, units), 0xaaaa)?;
-    well &= fills(alloc, to_lossy, units.len(), Some(units), 0xaaaa)?;
-    well &= fills(
-        alloc,
-        to_utf32,
-        scalars.len(),
-        strict(is_text, scalars),
-        0xaaaa_aaaa,
-    )?;
-    well &= fills(alloc, to_lossy32, scalars.len(), Some(scalars), 0xaaaa_aaaa)?;
-    well &= fills(alloc, other, units.len(), None, 0xaaaa)?;
-    well &= converts8_by_policies(alloc, bytes)?;
-    Ok(well)
+    let is_lossy = match String::from_utf8_lossy(alloc, bytes) {
+        Ok(lossy) => lossy.as_bytes() == wanted.bytes,
+        Err(_refused) => false,
+    };
+    let is_text = wanted.is_text == (fault == bytes.len());
+    is_lossy & is_text & (wide_utf8_first_fault(bytes) == fault)
 }
 
-fn converts8_by_policies(alloc: Global, bytes: &[u8]) -> Result<bool, AllocError> {
-    let items = items8(alloc, bytes)?;
-    let other = |room: &mut [u32]| wide_utf8_to_utf32_lossy_with(bytes, u32::MAX, room);
-    let mut well = fills(alloc, other, bytes.len(), None, 0xaaaa_aaaa)?;
-    for (number, policy) in (0..).zip(POLICIES) {
-        let text = text_of(alloc, items.as_slice(), policy)?;
-        let units = units_of(alloc, text.as_str())?;
-        let scalars = scalars_of(alloc, text.as_str())?;
-        let to_utf16 = |room: &mut [u16]| wide_utf8_to_utf16_lossy_with(bytes, number, room);
-        let to_utf32 = |room: &mut [u32]| wide_utf8_to_utf32_lossy_with(bytes, number, room);
-        well &= fills(alloc, to_utf16, units.len(), Some(units.as_slice()), 0xaaaa)?;
-        well &= fills(
-            alloc,
-            to_utf32,
-            scalars.len(),
-            Some(scalars.as_slice()),
-            0xaaaa_aaaa,
-        )?;
+// Puts this at a place of a text, as far as it fits.
+fn put_kind<T: Copy>(text: &mut [T], place: usize, kind: &[T]) {
+    for (at, item) in kind.iter().enumerate() {
+        if let Some(unit) = text.get_mut(place.saturating_add(at)) {
+            *unit = *item;
+        }
     }
-    Ok(well)
 }
 
-// Letters, as many as told, with this put at a place as far as it fits.
-pub(crate) fn with_kind<T: Copy>(
-    alloc: Global,
-    letter: T,
-    len: usize,
-    place: usize,
-    kind: &[T],
-) -> Result<Vec<T>, AllocError> {
-    let mut units = Vec::new(alloc);
-    units.resize(len, letter)?;
-    for (unit, other) in units.iter_mut().skip(place).zip(kind) {
-        *unit = *other;
-    }
-    Ok(units)
-}
-
-// Whether this holds of each kind at each place from the first on of texts of a length.
-fn holds_of_length<T: Copy, F: Fn(&[T]) -> Result<bool, AllocError>>(
+// Whether this holds of letters with each kind put at each place, from the first to the last, of texts of a length.
+fn holds_of_length<T: Copy, F: Fn(Global, &[T]) -> Result<bool, AllocError>>(
     alloc: Global,
     letter: T,
     kinds: &[&[T]],
     len: usize,
-    first: usize,
+    places: (usize, usize),
     holds: &F,
 ) -> Result<bool, AllocError>
     requires { F.IsAlwaysCallable holds.now }
 {
     let mut well = true;
-    for place in first..=len {
+    for place in places.0..=places.1 {
         for kind in kinds {
-            well &= holds(with_kind(alloc, letter, len, place, kind)?.as_slice())?;
+            let mut text = vec![in alloc; letter; len]?;
+            put_kind(&mut text, place, kind);
+            well &= holds(alloc, &text) == Ok(true);
         }
     }
     Ok(well)
 }
 
 // The first length of texts of which this does not hold.
-fn first_failure<T: Copy, F: Fn(&[T]) -> Result<bool, AllocError>>(
+pub(crate) fn first_failure<T: Copy, F: Fn(Global, &[T]) -> Result<bool, AllocError>>(
     alloc: Global,
     letter: T,
     kinds: &[&[T]],
+    lengths: &[(usize, usize, usize, usize)],
     holds: F,
 ) -> Option<usize>
     requires { F.IsAlwaysCallable holds }
 {
-    for (least, greatest, first) in LENGTHS {
-        for len in least..=greatest {
-            if holds_of_length(alloc, letter, kinds, len, first, &holds) != Ok(true) {
+    for (least, greatest, first, last) in lengths {
+        for len in *least..=*greatest {
+            let places = (*first, len.min(*last));
+            if holds_of_length(alloc, letter, kinds, len, places, &holds) != Ok(true) {
                 return Some(len);
             }
         }
@@ -340,39 +395,36 @@ fn first_failure<T: Copy, F: Fn(&[T]) -> Result<bool, AllocError>>(
     None
 }
 
+// Fails where texts of a length do not do so, and names the length, and the letter that they are of.
+pub(crate) fn none_fails(rt: &impl Abort, letter: u32, failing: Option<usize>) {
+    assert_eq!(rt; failing, None, "among {letter:x}");
+}
+
+// Fails where a row does not hold, and names the first that does not by its place, counted from 0.
+pub(crate) fn all_hold(rt: &impl Abort, rows: &[bool]) {
+    for (place, holds) in rows.iter().enumerate() {
+        assert!(rt; *holds, "row {place} does not hold");
+    }
+}
+
 #[test]
 fn units_of_16_bits(rt: HostRuntime) {
     for letter in [0x61, 0x3042] {
-        let failing = first_failure(
-            rt.alloc(),
-            letter,
-            &KINDS16,
-            |units| converts16(rt.alloc(), units),
-        );
-        assert_eq!(rt; failing, None, "among {letter:x}");
+        let failing = first_failure(rt.alloc(), letter, &KINDS16, &LENGTHS, converts16);
+        none_fails(&rt, u32::from(letter), failing);
     }
 }
 
 #[test]
 fn units_of_32_bits(rt: HostRuntime) {
     for letter in [0x61, 0x3042] {
-        let failing = first_failure(
-            rt.alloc(),
-            letter,
-            &KINDS32,
-            |units| converts32(rt.alloc(), units),
-        );
-        assert_eq!(rt; failing, None, "among {letter:x}");
+        let failing = first_failure(rt.alloc(), letter, &KINDS32, &LENGTHS, converts32);
+        none_fails(&rt, letter, failing);
     }
 }
 
 #[test]
 fn bytes(rt: HostRuntime) {
-    let failing = first_failure(
-        rt.alloc(),
-        0x61,
-        &KINDS8,
-        |bytes| converts8(rt.alloc(), bytes),
-    );
-    assert_eq!(rt; failing, None);
+    let failing = first_failure(rt.alloc(), 0x61, &KINDS8, &LENGTHS, converts8);
+    none_fails(&rt, 0x61, failing);
 }

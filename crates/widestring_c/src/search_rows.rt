@@ -1,4 +1,5 @@
 //! Searches, each called once where something is found and once where nothing is.
+use crate::room_rows::all_hold;
 use crate::search::{
     wide_utf16_find, wide_utf16_find_unit, wide_utf16_first_fault, wide_utf16_first_fault_item,
     wide_utf16_first_nul, wide_utf32_find, wide_utf32_find_unit, wide_utf32_first_fault,
@@ -38,7 +39,5 @@ fn places(rt: HostRuntime) {
         wide_utf32_find(&wide, &[0, 0]) == usize::MAX,
         wide_utf32_find(&wide, &[]) == 0,
     ];
-    for (place, holds) in rows.iter().enumerate() {
-        assert!(rt; *holds, "row {place} does not hold");
-    }
+    all_hold(&rt, &rows);
 }
