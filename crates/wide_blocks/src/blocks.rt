@@ -151,7 +151,7 @@ fn encode_surrogates(units: &[u16], from: usize, out: &mut [u8], at: usize) -> S
 }
 
 /// Writes the text of the characters that the units begin with behind the first `at` bytes of `out`, up to a fault or the end. Units
-/// are counted; up to three bytes behind the text are overwritten.
+/// are counted; up to twelve bytes behind the text are overwritten.
 pub fn encode(units: &[u16], out: &mut [u8], at: usize) -> Step
     requires { at + 3 * length units.now + 4 ≤ length out.old }
     ensures read { result.read ≤ length units.now }

@@ -191,7 +191,7 @@ fn put_units(block: &[u32], bits: u32, out: &mut [u8], at: usize) -> usize
     }
 }
 
-// As `put_scalars`, by 16-bit units where all are below 0x1_0000.
+// As `put_scalars`, by 16-bit units where all are below 0x1_0000; then up to twelve bytes behind the text are overwritten.
 #[inline(always)]
 fn put_block(block: &[u32], out: &mut [u8], at: usize) -> usize
     requires whole { length block.now ≡ 16 }

@@ -1,6 +1,6 @@
 //! The text of units that are characters, of one to three bytes, by shuffles.
 
-ghost use Rattle.std.specs.Prelude.{◌≡◌, ◌+◌, ◌*◌, ◌/◌, ◌%◌, ◌≤◌, ◌<◌, ◌++◌, ℕ, Bool, slice_index, length, take};
+ghost use Rattle.std.specs.Prelude.{◌≡◌, ◌+◌, ◌*◌, ◌≤◌, ◌<◌, ◌++◌, ℕ, slice_index, length, take};
 ghost use Rattle.wide_blocks.specs.Encoded.{EncodedUnits};
 ghost use Rattle.wide_blocks.specs.Wide.{HoldsWord, Size, kept_bytes, laid, mark_of, row_at, row_of};
 
@@ -8,8 +8,8 @@ use crate::fronts::{back_lanes, front_lanes};
 use std::simd::prelude::*;
 
 // By how many bytes each of four units has, two bits each from the lowest on, of which both are set for one byte, the second for two
-// bytes, and none for three: where the bytes of their text stand among four for each unit. What follows those is arbitrary, and so are the
-// rows by which a first bit alone is set, which are not read.
+// bytes, and none for three: where the bytes of their text stand among four for each unit. What follows those is arbitrary. No unit sets its
+// first bit alone, so rows whose number does are arbitrary too, and not read.
 const ROWS: [[u8; 16]; 256] = [
     [0, 1, 2, 4, 5, 6, 8, 9, 10, 12, 13, 14, 0, 0, 0, 0],
     [0, 0, 0, 0, 0, 0, 0, 0, 0, 0, 0, 0, 0, 0, 0, 0],
@@ -269,7 +269,7 @@ const ROWS: [[u8; 16]; 256] = [
     [0, 4, 8, 12, 0, 0, 0, 0, 0, 0, 0, 0, 0, 0, 0, 0],
 ];
 
-// How many bytes that text has.
+// How many bytes that text has; 0 in a row that is not read.
 const ROW_LENS: [usize; 256] = [
     12, 0, 11, 10, 0, 0, 0, 0, 11, 0, 10, 9, 10, 0, 9, 8, 0, 0, 0, 0, 0, 0, 0, 0, 0, 0, 0, 0, 0, 0,
     0, 0, 11, 0, 10, 9, 0, 0, 0, 0, 10, 0, 9, 8, 9, 0, 8, 7, 10, 0, 9, 8, 0, 0, 0, 0, 9, 0, 8, 7,
@@ -283,7 +283,7 @@ const ROW_LENS: [usize; 256] = [
 ];
 
 // Two bits for each of eight units, in the upper bits of the two bytes of its lane: both are set if its text has one byte, and the second if
-// it has two.
+// it has two. So one mask of all sixteen bytes has the rows of both fours.
 #[inline(always)]
 fn marks_of(keys: u16x8) -> u16x8
     ensures { (k : ℕ) → k < 8 → slice_index result k ≡ mark_of (slice_index keys k) }
@@ -305,7 +305,8 @@ fn rows_of(keys: u16x8) -> (usize, usize)
     (bits % 0x100, bits / 0x100)
 }
 
-// Writes the text of four units whose bytes stand in four lanes each, by their row. Up to twelve bytes behind it are overwritten.
+// Writes the text of four units whose bytes stand in four lanes each, by their row, and answers the place behind it. Up to twelve bytes
+// behind it are overwritten.
 #[inline(always)]
 fn put_row(words: u8x16, row: usize, out: &mut [u8], at: usize) -> usize
     requires below { row < 256 }

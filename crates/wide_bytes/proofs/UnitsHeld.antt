@@ -96,7 +96,7 @@ pub stops-bytes : (order : BoM) (bytes : List ℕ) (r n : ℕ) (fault : Option �
 stops-bytes order bytes r n None stop = cut-bytes order _ (subst AreCutShort (ap (drop r) (units_in-half order n bytes) ∙ sym (units_in-drop order r (take n bytes))) stop)
 stops-bytes order bytes r n (Some u) stop = fault-bytes order _ u (subst (λ us. BeginsWithFault us u) (ap (drop r) (units_in-half order n bytes) ∙ sym (units_in-drop order r (take n bytes))) stop)
 
--- ---- units stored one by one
+-- ---- units stored
 
 abbrev pub AreUnitsOf : BoM → List ℕ → List ℕ → ℕ → Type 0
 AreUnitsOf order bytes us n = (j : ℕ) → j < n → get_or us j 0 ≡ unit_in order (get_or bytes (2 * j) 0) (get_or bytes (2 * j + 1) 0)

@@ -9,8 +9,8 @@ use crate::room_rows::{
 };
 use std::alloc::{AllocError, Global};
 
-// Lengths of texts in units, each twice, and the first and the last place at which something is put: all of short ones, and those about the
-// ends of pieces of 1024 units.
+// Lengths of texts in units, each as the least and as the greatest, and the first and the last place at which something is put: all of short
+// ones, and those about the ends of pieces of 1024 units.
 static LENGTHS: [(usize, usize, usize, usize); 5] = [
     (0, 0, 0, 0),
     (1, 1, 0, 1),
@@ -46,8 +46,8 @@ fn first_fault_of(items: &[Option<char>]) -> usize {
     place
 }
 
-// What stands in a text behind that of a piece of bytes, where it begins with that. No piece is longer than the greatest size of pieces and what
-// is held back.
+// What stands in a text behind that of a piece of bytes, where it begins with that. A piece has at most 1003 bytes, the greatest size and what
+// is held back, and its text at most half as many again, so that the room is enough.
 fn behind<'a>(
     text: &'a [u8],
     piece: &[u8],
@@ -58,11 +58,15 @@ fn behind<'a>(
     let mut room = [0; 2048];
     let size = piece.len().saturating_mul(2).min(room.len());
     let len = wide_bytes_to_utf8_lossy_with(piece, order, policy, after_fault, &mut room[..size]);
-    text.strip_prefix(&room[..len.min(size)])
+    if len > size {
+        return None;
+    }
+    text.strip_prefix(&room[..len])
 }
 
 // Whether bytes that come in pieces of a size give this text, as a caller reads a stream.
 fn streams(bytes: &[u8], order: u32, policy: u32, size: usize, text: &[u8]) -> bool {
+    // Of what is held, the bytes that were not put yet, a front has come.
     let (mut rest, mut held, mut after_fault) = (text, bytes, 0);
     let mut come: usize = 0;
     for piece in bytes.chunks(size.max(1)) {

@@ -97,7 +97,7 @@ fn fills_room<T: Copy + PartialEq, F: Fn(&mut [T]) -> usize>(
 }
 
 // The same of a room that is exact, of one that is one shorter and of one that is five longer. Where memory is refused it does not hold, so
-// that a caller has no early return.
+// that a caller has no early return beside what it would have to drop.
 pub(crate) fn fills<T: Copy + PartialEq, F: Fn(&mut [T]) -> usize>(
     alloc: Global,
     call: F,
