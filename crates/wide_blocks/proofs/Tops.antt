@@ -56,7 +56,7 @@ pairs-by-tops (u ∷ us) long e k within =
 
 -- ---- each other one
 
-abbrev double : ℕ → ℕ
+abbrev pub double : ℕ → ℕ
 double zero = 0
 double (suc n) = suc (suc (double n))
 
