@@ -402,7 +402,8 @@ static void check_bytes(const struct text *text, const struct items *items, unsi
             equal("wide_bytes_to_utf8", wide_bytes_to_utf8(from, length, order, NULL, 0), WIDE_FAULT);
         check_stream(from, length, random_below(3), items);
     }
-    equal("wide_bytes_certain", wide_bytes_certain(mark, 2, order), WIDE_FAULT);
+    /* A reader that goes on with WIDE_NO_MARK stays within its buffer. */
+    equal("wide_bytes_certain", wide_bytes_certain(mark, 2, order), 0);
     equal("wide_bytes_first_fault", wide_bytes_first_fault(mark, 2, order), WIDE_FAULT);
     equal("wide_bytes_ends_in_fault", wide_bytes_ends_in_fault(mark, 2, order, 1), 0);
     equal("wide_bytes_to_utf8", wide_bytes_to_utf8(mark, 2, order, NULL, 0), WIDE_FAULT);

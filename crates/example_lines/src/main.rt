@@ -13,7 +13,11 @@ fn main(rt: HostRuntime) -> io::Result<ExitCode> {
         return Ok(ExitCode::from(2));
     };
     let bytes = fs::read(&rt, path)?;
-    let units: Vec<u16> = utf16_of_bytes(&bytes).units.collect(rt.alloc())?;
+    let parts = utf16_of_bytes(&bytes);
+    if parts.half.is_some() {
+        eprintln!(rt; "half of a unit is left at the end")?;
+    }
+    let units: Vec<u16> = parts.units.collect(rt.alloc())?;
     let part = U16String::from_str(rt.alloc(), &word)?;
     for (number, line) in U16Str::from_slice(&units).lines_lossy().enumerate() {
         if line.contains(part.as_ustr()) {

@@ -150,8 +150,8 @@ fn encode_surrogates(units: &[u16], from: usize, out: &mut [u8], at: usize) -> S
     }
 }
 
-/// Writes the text of the characters that the units begin with behind the first `at` bytes of `out`, up to a fault or the end. Units
-/// are counted; up to twelve bytes behind the text are overwritten.
+/// Writes the text of the characters that the units begin with after the first `at` bytes of `out`, up to a fault or the end. The lengths
+/// read are in units, those written in bytes. Any byte of `out` after the text may be overwritten.
 pub fn encode(units: &[u16], out: &mut [u8], at: usize) -> Step
     requires { at + 3 * length units.now + 4 ≤ length out.old }
     ensures read { result.read ≤ length units.now }

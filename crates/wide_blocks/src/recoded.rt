@@ -59,7 +59,8 @@ fn put_ones<C: Unit, D: Unit>(units: &[C], out: &mut [D], at: usize) -> (usize, 
         let Some((item, others)) = split_first(rest) else {
             break 'ones;
         };
-        let Ok(c) = item else { unreachable!() };
+        // Each item is a character. Units that another thread changes meanwhile must not stop the program.
+        let c = item.unwrap_or(char::REPLACEMENT_CHARACTER);
         written = put_char(out, written, c);
         rest = others;
     }

@@ -3,6 +3,7 @@
 ghost use Rattle.std.specs.Prelude.{◌≡◌, ℕ, List, ◌++◌, ◌+◌, ◌<◌, ◌≤◌, [], map, length, IsOk, IfOk, OnErr, OnOk, string_bytes, vec_capacity, vec_len};
 ghost use Rattle.wide_unit.specs.Items.{IsWellFormed, chars};
 ghost use Rattle.wide_unit.specs.Utf8.{utf8};
+ghost use Rattle.wide_blocks.specs.Encoded.{AppendsPrefix};
 
 use crate::lengths::utf8_len;
 use crate::text::encode_front;
@@ -31,7 +32,7 @@ fn push_pieces<C: Unit, A: Allocator>(
     ensures text { OnOk result (text.new.items ≡ text.old.items ++ utf8 (chars C.form (map C.number units.now))) }
     ensures succeeds { units.now ≡ [] → IsOk result }
     ensures full { OnErr result (vec_capacity text.old < vec_len text.old + length (utf8 (chars C.form (map C.number units.now)))) }
-    ensures front { (more : List ℕ) × (text.new.items ≡ text.old.items ++ more) }
+    ensures prefix { AppendsPrefix text.old.items text.new.items (utf8 (chars C.form (map C.number units.now))) }
 {
     let mut rest = units;
     'pieces: while !rest.is_empty() {
@@ -46,7 +47,7 @@ fn push_pieces<C: Unit, A: Allocator>(
 ///
 /// # Errors
 ///
-/// Memory was refused: a front of the text may have been appended. There is none where the room suffices.
+/// Out of memory: what was appended is a prefix of the text. There is no error if the capacity suffices.
 pub fn push_utf8<C: Unit, A: Allocator>(
     text: &mut Vec<u8, A>,
     units: &[C],
@@ -55,7 +56,7 @@ pub fn push_utf8<C: Unit, A: Allocator>(
     ensures text { OnOk result (text.new.items ≡ text.old.items ++ utf8 (chars C.form (map C.number units.now))) }
     ensures succeeds { units.now ≡ [] → IsOk result }
     ensures full { OnErr result (vec_capacity text.old < vec_len text.old + length (utf8 (chars C.form (map C.number units.now)))) }
-    ensures front { (more : List ℕ) × (text.new.items ≡ text.old.items ++ more) }
+    ensures prefix { AppendsPrefix text.old.items text.new.items (utf8 (chars C.form (map C.number units.now))) }
 {
     if units.len() <= FEW {
         push_pieces(text, units, &mut [0; SMALL])

@@ -293,6 +293,9 @@ impl<C: FaultUnit, A: Allocator> UString<C, A> {
     }
 
     /// The units of a view in the place of a range, for which [`wide_unit::range_check`] must answer places.
+    ///
+    /// Each call moves all units after the range, so that replacing each occurrence of a needle by this call in a loop is quadratic: build a
+    /// new string of the pieces of `split` instead.
     pub fn replace_range<R: RangeBounds<usize>>(
         &mut self,
         range: R,

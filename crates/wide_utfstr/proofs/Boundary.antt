@@ -76,7 +76,7 @@ module _ (form : EncodingForm) (us : List ℕ) (n : ℕ) (well : IsWellFormed fo
   pub behind-ceil : n < length us → ¬ (IsCharBoundary form us n) → IsCeilBoundary form us n (n + 1)
   behind-ceil below none = record {
     boundary = boundary_behind below none;
-    within = λ l. omega arith;
+    not_before = λ l. omega arith;
     least = λ other here l. elim (cases_eq other n) [
       | inl same ↦ absurd (none (subst (λ k. IsCharBoundary form us k) same here))
       | inr apart ↦ above-of_other n other l apart

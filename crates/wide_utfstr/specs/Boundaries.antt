@@ -12,6 +12,6 @@ pub record IsFloorBoundary (form : EncodingForm) (units : List ℕ) (place at : 
 -- the first at or behind it, or the end where it lies past that
 pub record IsCeilBoundary (form : EncodingForm) (units : List ℕ) (place at : ℕ) : Type 0 where
   pub boundary : IsCharBoundary form units at
-  pub within : place ≤ length units → place ≤ at
+  pub not_before : place ≤ length units → place ≤ at
   pub least : (other : ℕ) → IsCharBoundary form units other → place ≤ other → at ≤ other
   pub past : length units ≤ place → at ≡ length units

@@ -427,6 +427,9 @@ impl<C: FaultUnit, A: Allocator> UtfString<C, A> {
     /// The text of a view in the place of a range of places, counted in units. The range must be one for which
     /// [`wide_unit::range_check`] answers places, and these must be boundaries. Memory is asked for the growth alone, before a
     /// unit moves.
+    ///
+    /// Each call moves all units after the range, so that replacing each occurrence of a needle by this call in a loop is quadratic: build a
+    /// new string of the pieces of `split` instead.
     pub fn replace_range<R: RangeBounds<usize>>(
         &mut self,
         range: R,

@@ -1,6 +1,7 @@
 mod Buffers
 mod Chunks
 mod Cuts
+mod Fits
 mod Pairs
 mod Pieces
 mod Repaired

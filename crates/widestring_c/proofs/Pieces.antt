@@ -4,17 +4,18 @@ use Rattle.std.proofs.lemmas.List.{map-append, take-append-drop}
 use Rattle.std.proofs.lemmas.List.Concat.{flat_map-append}
 use Rattle.wide_unit.specs.EncodingForm.{Utf16, code_units, encode}
 use Rattle.wide_unit.specs.Segmentation.{Item, Char, Fault}
-use Rattle.wide_unit.specs.Items.{IsFirstFault, IsWellFormed, chars, items}
+use Rattle.wide_unit.specs.Items.{IsFirstFault, IsWellFormed, characters, chars, items}
 use Rattle.wide_unit.specs.Lossy.{ends_in_fault, lossy_after}
 use Rattle.wide_unit.specs.Utf8.{utf8, utf8_bytes}
 use Rattle.wide_unit.specs.Laws.Items.{IsCut, IsWellFormed-of_chars, chars-of_well_formed, encode-of_items, items-append, items-nil, length-items16}
-use Rattle.wide_unit.specs.Laws.Policies.{ends_in_fault-append, lossy_after-append}
+use Rattle.wide_unit.specs.Laws.Policies.{characters-append, ends_in_fault-append, lossy_after-append}
 use Rattle.wide_unit.specs.declared.policy.Policy.{Policy}
 use Rattle.wide_unit.proofs.Faults.{IsFirstFault-of, first_fault-split}
 use Rattle.wide_bytes.specs.Bytes.{units_in}
 use Rattle.wide_bytes.specs.Lossied.{faulty, lossy_text}
 use Rattle.wide_bytes.specs.declared.order.BoM.{BoM}
 use Rattle.wide_bytes.proofs.Pairs.{length-units_in, units_in-append, units_in-short}
+use Rattle.widestring_c.specs.Bytes.{IsWellFormedIn, text_in}
 use Rattle.widestring_c.proofs.Chunks.{no_text}
 
 -- half a unit alone has no units, so that no pair is cut before it
@@ -123,3 +124,37 @@ pub all-passed : (order : BoM) (bytes us : List ℕ) (passed : ℕ) → length b
 all-passed order bytes us passed short p =
     let none : items Utf16 (units_in order bytes) ≡ [] = ap (items Utf16) (units_in-short order bytes short) ∙ items-nil Utf16 in
     IsWellFormed-of_chars Utf16 us p.cs (p.parted ∙ ap (λ is. map Char p.cs ++ is) none ∙ append-nil (map Char p.cs))
+
+-- ---- well-formed bytes, a piece of them after another
+
+char-split : (a b : List Item) (cs : List ℕ) → map Char cs ≡ a ++ b → (ds es : List ℕ) × (a ≡ map Char ds) × (b ≡ map Char es)
+char-split [] b cs e = ([], cs, refl, sym e)
+char-split (i ∷ a) b [] e = absurd cc
+char-split (i ∷ a) b (c ∷ cs) e =
+    let same : i ≡ Char c = cc in
+    let tail : map Char cs ≡ a ++ b = cc in
+    let s = char-split a b cs tail in
+    (c ∷ s.0, s.1, ap (λ j. j ∷ a) same ∙ ap (λ is. Char c ∷ is) s.2.0, s.2.1)
+
+module _ (order : BoM) (front back : List ℕ) (even : length front % 2 ≡ 0) (cut : IsCut Utf16 (units_in order front) (units_in order back)) where
+  pub well_formed-joined : IsWellFormedIn order front → IsWellFormedIn order back → IsWellFormedIn order (front ++ back)
+  well_formed-joined a b =
+      let us = units_in order front in
+      let vs = units_in order back in
+      let items_of : items Utf16 (units_in order (front ++ back)) ≡ map Char (chars Utf16 us ++ chars Utf16 vs) =
+      items-joined order front back even cut ∙ ap (λ is. is ++ items Utf16 vs) (chars-of_well_formed Utf16 us a.1) ∙ ap (λ is. map Char (chars Utf16 us) ++ is) (chars-of_well_formed Utf16 vs b.1)
+      ∙ sym (map-append Char (chars Utf16 us) (chars Utf16 vs))
+      in
+      (omega (arith, even, b.0, length-append front back), IsWellFormed-of_chars Utf16 (units_in order (front ++ back)) (chars Utf16 us ++ chars Utf16 vs) items_of)
+
+  pub well_formed-parted : IsWellFormedIn order (front ++ back) → IsWellFormedIn order front × IsWellFormedIn order back
+  well_formed-parted w =
+      let both = units_in order (front ++ back) in
+      let s = char-split (items Utf16 (units_in order front)) (items Utf16 (units_in order back)) (chars Utf16 both) (sym (chars-of_well_formed Utf16 both w.1) ∙ items-joined order front back even cut) in
+      ((even, IsWellFormed-of_chars Utf16 (units_in order front) s.0 s.2.0), (omega (arith, even, w.0, length-append front back), IsWellFormed-of_chars Utf16 (units_in order back) s.1 s.2.1))
+
+  pub strict-joined : text_in order (front ++ back) ≡ text_in order front ++ text_in order back
+  strict-joined =
+      let a = items Utf16 (units_in order front) in
+      let b = items Utf16 (units_in order back) in
+      ap (λ is. utf8 (characters is)) (items-joined order front back even cut) ∙ ap utf8 (characters-append a b) ∙ flat_map-append utf8_bytes (characters a) (characters b)

@@ -17,7 +17,7 @@ four_bytes : (c : ℕ) → length (utf8_bytes c) ≤ 4
 unfolding utf8_bytes
 four_bytes c = grind (arith, nat_tests)
 
-bytes_of : (form : EncodingForm) (cs : List ℕ) → length (utf8 cs) ≤ 4 * length (encode form cs)
+pub bytes_of : (form : EncodingForm) (cs : List ℕ) → length (utf8 cs) ≤ 4 * length (encode form cs)
 bytes_of form [] = omega arith
 bytes_of form (c ∷ cs) =
     omega (arith, four_bytes c, some_units form c, bytes_of form cs, length-append (utf8_bytes c) (utf8 cs), length-append (code_units form c) (encode form cs))

@@ -1,10 +1,14 @@
 -- What stands in C for the order of bytes, for its mark, and for what is so or not; and the text of bytes.
-use Rattle.std.specs.Prelude.{ℕ, Bool, true, false, List, Option, Some, None, ◌==◌, if◌then◌else◌}
+use Rattle.std.specs.Prelude.{◌≡◌, ◌%◌, ℕ, Bool, true, false, List, Option, Some, None, ◌==◌, if◌then◌else◌, length}
+use Rattle.wide_unit.specs.EncodingForm.{Utf16}
+use Rattle.wide_unit.specs.Items.{IsWellFormed, chars}
+use Rattle.wide_unit.specs.Utf8.{utf8}
 use Rattle.wide_unit.specs.declared.policy.Policy.{Policy}
 use Rattle.wide_bytes.specs.Bytes.{units_in}
 use Rattle.wide_bytes.specs.Lossied.{faulty, lossy_text}
 use Rattle.wide_bytes.specs.declared.order.BoM.{BoM}
 use Rattle.wide_bytes.specs.declared.order.BoM.TheVariants.{Little, Big}
+use Rattle.widestring_c.specs.Policies.{policy_of}
 
 -- the order that a number names
 abbrev pub order_named : ℕ → Option BoM
@@ -15,6 +19,12 @@ abbrev pub number_of_mark : Option BoM → ℕ
 number_of_mark (Some Little) = 0
 number_of_mark (Some Big) = 1
 number_of_mark None = 2
+
+-- both values, if there are two
+abbrev pub both : {A B : Type 0} → Option A → Option B → Option (A × B)
+both (Some a) (Some b) = Some (a, b)
+both (Some a) None = None
+both None b = None
 
 -- what a number tells as a flag
 abbrev pub is_set : ℕ → Bool
@@ -31,3 +41,19 @@ bytes_text order policy after bytes = lossy_text policy after (units_in order by
 
 abbrev pub bytes_faulty : BoM → Bool → List ℕ → Bool
 bytes_faulty order after bytes = faulty after (units_in order bytes)
+
+-- bytes in an order are well-formed UTF-16: whole units, none of them ill formed (the Standard's D91, D96 and D97)
+abbrev pub IsWellFormedIn : BoM → List ℕ → Type 0
+IsWellFormedIn order bytes = (length bytes % 2 ≡ 0) × IsWellFormed Utf16 (units_in order bytes)
+
+-- they are in the order that a number names
+abbrev pub IsWellFormedBy : ℕ → List ℕ → Type 0
+IsWellFormedBy number bytes = (order : BoM) × (order_named number ≡ Some order) × IsWellFormedIn order bytes
+
+-- the text in UTF-8 of bytes that are
+abbrev pub text_in : BoM → List ℕ → List ℕ
+text_in order bytes = utf8 (chars Utf16 (units_in order bytes))
+
+-- the order and the policy that two numbers name
+abbrev pub order_and_policy : ℕ → ℕ → Option (BoM × Policy)
+order_and_policy order policy = both (order_named order) (policy_of policy)

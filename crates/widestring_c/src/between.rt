@@ -52,7 +52,8 @@ fn put_sound<C: Unit, D: Unit>(units: &[C], room: &mut [D], piece: &mut [D]) -> 
 // The same of UTF-16 in UTF-32. Answers the greatest number where the units are not well formed.
 fn put_scalars(units: &[u16], scalars: &mut [u32], piece: &mut [u32]) -> usize
     requires { 16 ≤ length piece.old }
-    ensures len { IsWellFormed Utf16 units.now → result ≡ min (length (chars Utf16 units.now)) (2 ^ 64 - 1) }
+    ensures len { IsWellFormed Utf16 units.now → result ≡ length (chars Utf16 units.now) }
+    ensures no_fault { IsWellFormed Utf16 units.now → result < 2 ^ 64 - 1 }
     ensures scalars { IsWellFormed Utf16 units.now → result ≤ length scalars.old → take result scalars.new ≡ chars Utf16 units.now }
     ensures fault { (IsWellFormed Utf16 units.now → ⊥) → result ≡ 2 ^ 64 - 1 }
     ensures unchanged { (IsWellFormed Utf16 units.now → ⊥) → scalars.new ≡ scalars.old }
@@ -64,13 +65,15 @@ fn put_scalars(units: &[u16], scalars: &mut [u32], piece: &mut [u32]) -> usize
     }
 }
 
-/// The scalar values of well-formed UTF-16 (Unicode Standard, D91), which are its text in UTF-32 (D90), in front of `scalars` where there
-/// is room for them. Answers how many they are, or the greatest number where the units are not well formed.
+/// Writes the scalar values of well-formed UTF-16 (Unicode Standard, D91), which are its text in UTF-32 (D90), to the start of `scalars` if
+/// its length suffices, and returns how many they are. If the units are not well formed, it returns the greatest number, and leaves `scalars`
+/// unchanged.
 #[unsafe(no_mangle)]
 pub extern "C" fn wide_utf16_to_utf32(units: &[u16], scalars: &mut [u32]) -> usize
-    ensures len { IsWellFormed Utf16 units.now → result ≡ min (length (chars Utf16 units.now)) (2 ^ 64 - 1) }
+    ensures len { IsWellFormed Utf16 units.now → result ≡ length (chars Utf16 units.now) }
     ensures scalars { IsWellFormed Utf16 units.now → result ≤ length scalars.old → take result scalars.new ≡ chars Utf16 units.now }
     ensures fault { (IsWellFormed Utf16 units.now → ⊥) → result ≡ 2 ^ 64 - 1 }
+    ensures no_fault { IsWellFormed Utf16 units.now → result < 2 ^ 64 - 1 }
     ensures unchanged { (IsWellFormed Utf16 units.now → ⊥) → scalars.new ≡ scalars.old }
     ensures behind { drop result scalars.new ≡ drop result scalars.old }
 {
@@ -81,13 +84,14 @@ pub extern "C" fn wide_utf16_to_utf32(units: &[u16], scalars: &mut [u32]) -> usi
     }
 }
 
-/// The text of well-formed UTF-32 (Unicode Standard, D90) in UTF-16 (D91), in front of `units` where there is room for it. Answers how
-/// many units it has, or the greatest number where they are more, or where the scalar values are not well formed.
+/// Writes the text of well-formed UTF-32 (Unicode Standard, D90) in UTF-16 (D91) to the start of `units` if its length suffices, and returns
+/// how many units it has. If the scalar values are not well formed, it returns the greatest number, and leaves `units` unchanged.
 #[unsafe(no_mangle)]
 pub extern "C" fn wide_utf32_to_utf16(scalars: &[u32], units: &mut [u16]) -> usize
-    ensures len { IsWellFormed Utf32 scalars.now → result ≡ min (length (encode Utf16 (chars Utf32 scalars.now))) (2 ^ 64 - 1) }
+    ensures len { IsWellFormed Utf32 scalars.now → result ≡ length (encode Utf16 (chars Utf32 scalars.now)) }
     ensures units { IsWellFormed Utf32 scalars.now → result ≤ length units.old → take result units.new ≡ encode Utf16 (chars Utf32 scalars.now) }
     ensures fault { (IsWellFormed Utf32 scalars.now → ⊥) → result ≡ 2 ^ 64 - 1 }
+    ensures no_fault { IsWellFormed Utf32 scalars.now → result < 2 ^ 64 - 1 }
     ensures unchanged { (IsWellFormed Utf32 scalars.now → ⊥) → units.new ≡ units.old }
     ensures behind { drop result units.new ≡ drop result units.old }
 {

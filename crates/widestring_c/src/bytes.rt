@@ -6,7 +6,7 @@ ghost use Rattle.wide_unit.specs.Utf8.{utf8};
 ghost use Rattle.wide_unit.specs.Laws.Items.{IsCut};
 ghost use Rattle.wide_bytes.specs.Bytes.{mark_of, unit_in, units_in};
 ghost use Rattle.wide_bytes.specs.Encoded.{IsCutShort};
-ghost use Rattle.widestring_c.specs.Bytes.{bytes_faulty, bytes_text, is_set, number_of_flag, number_of_mark, order_named};
+ghost use Rattle.widestring_c.specs.Bytes.{IsWellFormedBy, IsWellFormedIn, bytes_faulty, bytes_text, is_set, number_of_flag, number_of_mark, order_and_policy, order_named, text_in};
 ghost use Rattle.widestring_c.specs.Policies.{policy_of};
 
 use crate::policies::policy_of;
@@ -110,9 +110,10 @@ fn put_bytes_by(
     at
 }
 
-// The same by arrays of its own.
+// Puts the text of bytes as `put_bytes_by`, by arrays of its own.
 fn put_bytes(order: BoM, bytes: &[u8], policy: Policy, after_fault: bool, text: &mut [u8]) -> usize
-    ensures len { result ≡ min (length (bytes_text order policy after_fault bytes.now)) (2 ^ 64 - 1) }
+    ensures len { result ≡ length (bytes_text order policy after_fault bytes.now) }
+    ensures fits { result < 2 ^ 64 - 1 }
     ensures text { result ≤ length text.old → take result text.new ≡ bytes_text order policy after_fault bytes.now }
     ensures behind { drop result text.new ≡ drop result text.old }
 {
@@ -152,21 +153,21 @@ fn sound_units(order: BoM, bytes: &[u8], units: &mut [u16]) -> usize
     passed
 }
 
-// Puts the text of bytes that are whole units and well formed at the front, or answers the greatest number.
-fn put_sound_bytes(order: BoM, bytes: &[u8], text: &mut [u8]) -> usize
-    ensures len { length bytes.now % 2 ≡ 0 → IsWellFormed Utf16 (units_in order bytes.now) → result ≡ min (length (utf8 (chars Utf16 (units_in order bytes.now)))) (2 ^ 64 - 1) }
-    ensures text { length bytes.now % 2 ≡ 0 → IsWellFormed Utf16 (units_in order bytes.now) → result ≤ length text.old → take result text.new ≡ utf8 (chars Utf16 (units_in order bytes.now)) }
-    ensures odd { length bytes.now % 2 ≡ 1 → result ≡ 2 ^ 64 - 1 }
-    ensures odd_unchanged { length bytes.now % 2 ≡ 1 → text.new ≡ text.old }
-    ensures fault { (IsWellFormed Utf16 (units_in order bytes.now) → ⊥) → result ≡ 2 ^ 64 - 1 }
-    ensures unchanged { (IsWellFormed Utf16 (units_in order bytes.now) → ⊥) → text.new ≡ text.old }
-    ensures behind { drop result text.new ≡ drop result text.old }
+// Writes the text of well-formed bytes to the start of the buffer, and returns its length, if they are that.
+fn put_sound_bytes(order: BoM, bytes: &[u8], text: &mut [u8]) -> Option<usize>
+    ensures sound { IfSome result (λ len. IsWellFormedIn order bytes.now) }
+    ensures fault { IfNone result (IsWellFormedIn order bytes.now → ⊥) }
+    ensures len { IfSome result (λ len. len ≡ length (text_in order bytes.now)) }
+    ensures text { IfSome result (λ len. len ≤ length text.old → take len text.new ≡ text_in order bytes.now) }
+    ensures fits { IfSome result (λ len. len < 2 ^ 64 - 1) }
+    ensures unchanged { IfNone result (text.new ≡ text.old) }
+    ensures behind { IfSome result (λ len. drop len text.new ≡ drop len text.old) }
 {
     if bytes.len() % 2 == 0 && sound_units(order, bytes, &mut [0; PIECE]) == bytes.len() / 2 {
-        // No fault is there for a policy to mark.
-        put_bytes(order, bytes, Policy::Each, false, text)
+        // Well-formed units have nothing that a policy replaces.
+        Some(put_bytes(order, bytes, Policy::Each, false, text))
     } else {
-        usize::MAX
+        None
     }
 }
 
@@ -196,28 +197,28 @@ pub extern "C" fn wide_bytes_order(bytes: &[u8]) -> u32
     }
 }
 
-/// How many bytes at the front are whole units of UTF-16 (Unicode Standard, D96 and D97) whose meaning no bytes behind them change: all
-/// whole units, but a high surrogate that has no whole unit behind it. The order of the bytes is 0 for little endian and 1 for big endian;
-/// where it is another number, the answer is the greatest number.
+/// Returns how many bytes at the start are whole units of UTF-16 (Unicode Standard, D96 and D97) whose meaning no later bytes can change:
+/// all whole units, except a last high surrogate. The order of the bytes is 0 for little endian and 1 for big endian; for any other number
+/// the result is 0, so that a caller who goes on from there stays within the bytes.
 #[unsafe(no_mangle)]
 pub extern "C" fn wide_bytes_certain(bytes: &[u8], order: u32) -> usize
-    ensures within { IfSome (order_named order) (λ o. result ≤ length bytes.now) }
-    ensures even { IfSome (order_named order) (λ o. result % 2 ≡ 0) }
+    ensures within { result ≤ length bytes.now }
+    ensures even { result % 2 ≡ 0 }
     ensures rest { IfSome (order_named order) (λ o. IsCutShort o (drop result bytes.now)) }
     ensures cut { IfSome (order_named order) (λ o. (more : List ℕ) → IsCut Utf16 (units_in o (take result bytes.now)) (units_in o (drop result bytes.now ++ more))) }
-    ensures other { IfNone (order_named order) (result ≡ 2 ^ 64 - 1) }
+    ensures other { IfNone (order_named order) (result ≡ 0) }
 {
     match order_named(order) {
         Some(order) => certain_len(order, bytes),
-        None => usize::MAX,
+        None => 0,
     }
 }
 
 /// The text in UTF-8 of the whole units of UTF-16 in bytes (Unicode Standard, D96 and D97), in front of `text` where there is room for it,
 /// with what a policy gives for units that belong to no character; half a unit at the end is not read. `after_fault` is 0, or another
 /// number where such a unit is the last of what stands before the bytes. Order and policy are numbers, as for `wide_bytes_certain` and
-/// `wide_utf16_to_utf8_lossy_with`. Answers how many bytes the text has, or the greatest number where they are more; and where the order
-/// or the policy is another number, the greatest number, with `text` as it was.
+/// `wide_utf16_to_utf8_lossy_with`. Returns how many bytes the text has. For another order or policy it returns the greatest number, and
+/// leaves `text` unchanged.
 #[unsafe(no_mangle)]
 pub extern "C" fn wide_bytes_to_utf8_lossy_with(
     bytes: &[u8],
@@ -226,12 +227,11 @@ pub extern "C" fn wide_bytes_to_utf8_lossy_with(
     after_fault: u32,
     text: &mut [u8],
 ) -> usize
-    ensures len { IfSome (order_named order) (λ o. IfSome (policy_of policy) (λ p. result ≡ min (length (bytes_text o p (is_set after_fault) bytes.now)) (2 ^ 64 - 1))) }
-    ensures text { IfSome (order_named order) (λ o. IfSome (policy_of policy) (λ p. result ≤ length text.old → take result text.new ≡ bytes_text o p (is_set after_fault) bytes.now)) }
-    ensures other_order { IfNone (order_named order) (result ≡ 2 ^ 64 - 1) }
-    ensures other_policy { IfNone (policy_of policy) (result ≡ 2 ^ 64 - 1) }
-    ensures unchanged_order { IfNone (order_named order) (text.new ≡ text.old) }
-    ensures unchanged_policy { IfNone (policy_of policy) (text.new ≡ text.old) }
+    ensures len { IfSome (order_and_policy order policy) (λ by. result ≡ length (bytes_text by.0 by.1 (is_set after_fault) bytes.now)) }
+    ensures text { IfSome (order_and_policy order policy) (λ by. result ≤ length text.old → take result text.new ≡ bytes_text by.0 by.1 (is_set after_fault) bytes.now) }
+    ensures no_fault { IfSome (order_and_policy order policy) (λ by. result < 2 ^ 64 - 1) }
+    ensures other { IfNone (order_and_policy order policy) (result ≡ 2 ^ 64 - 1) }
+    ensures unchanged { IfNone (order_and_policy order policy) (text.new ≡ text.old) }
     ensures behind { drop result text.new ≡ drop result text.old }
 {
     match (order_named(order), policy_of(policy)) {
@@ -254,23 +254,20 @@ pub extern "C" fn wide_bytes_ends_in_fault(bytes: &[u8], order: u32, after_fault
     }
 }
 
-/// The text in UTF-8 of bytes that are well-formed UTF-16 (Unicode Standard, D91, D96 and D97), in front of `text` where there is room for
-/// it. Answers how many bytes it has, or the greatest number where they are more. Where half a unit is left, the units are not well formed
-/// or the order is no number of one, the answer is the greatest number, and `text` is as it was.
+/// Writes the text in UTF-8 of bytes that are well-formed UTF-16 (Unicode Standard, D91, D96 and D97) to the start of `text` if its length
+/// suffices, and returns how many bytes it has. If half a unit is left, the units are not well formed or the order is no number of one, it
+/// returns the greatest number, and leaves `text` unchanged.
 #[unsafe(no_mangle)]
 pub extern "C" fn wide_bytes_to_utf8(bytes: &[u8], order: u32, text: &mut [u8]) -> usize
-    ensures len { IfSome (order_named order) (λ o. length bytes.now % 2 ≡ 0 → IsWellFormed Utf16 (units_in o bytes.now) → result ≡ min (length (utf8 (chars Utf16 (units_in o bytes.now)))) (2 ^ 64 - 1)) }
-    ensures text { IfSome (order_named order) (λ o. length bytes.now % 2 ≡ 0 → IsWellFormed Utf16 (units_in o bytes.now) → result ≤ length text.old → take result text.new ≡ utf8 (chars Utf16 (units_in o bytes.now))) }
-    ensures odd { length bytes.now % 2 ≡ 1 → result ≡ 2 ^ 64 - 1 }
-    ensures odd_unchanged { length bytes.now % 2 ≡ 1 → text.new ≡ text.old }
-    ensures fault { IfSome (order_named order) (λ o. (IsWellFormed Utf16 (units_in o bytes.now) → ⊥) → result ≡ 2 ^ 64 - 1) }
-    ensures unchanged { IfSome (order_named order) (λ o. (IsWellFormed Utf16 (units_in o bytes.now) → ⊥) → text.new ≡ text.old) }
-    ensures other { IfNone (order_named order) (result ≡ 2 ^ 64 - 1) }
-    ensures other_unchanged { IfNone (order_named order) (text.new ≡ text.old) }
+    ensures len { IfSome (order_named order) (λ o. IsWellFormedIn o bytes.now → result ≡ length (text_in o bytes.now)) }
+    ensures text { IfSome (order_named order) (λ o. IsWellFormedIn o bytes.now → result ≤ length text.old → take result text.new ≡ text_in o bytes.now) }
+    ensures no_fault { IsWellFormedBy order bytes.now → result < 2 ^ 64 - 1 }
+    ensures fault { (IsWellFormedBy order bytes.now → ⊥) → result ≡ 2 ^ 64 - 1 }
+    ensures unchanged { (IsWellFormedBy order bytes.now → ⊥) → text.new ≡ text.old }
     ensures behind { drop result text.new ≡ drop result text.old }
 {
     match order_named(order) {
-        Some(order) => put_sound_bytes(order, bytes, text),
+        Some(order) => put_sound_bytes(order, bytes, text).unwrap_or(usize::MAX),
         None => usize::MAX,
     }
 }

@@ -85,7 +85,8 @@ fn put_lossy<C: Unit>(text: &[u8], policy: Policy, units: &mut [C], piece: &mut 
 
 // The same in UTF-16, and in UTF-32, by an array of the size that fits.
 fn put_lossy_16(text: &[u8], policy: Policy, units: &mut [u16]) -> usize
-    ensures len { result ≡ min (length (encode Utf16 (lossy_by policy (utf8_items text.now)))) (2 ^ 64 - 1) }
+    ensures len { result ≡ length (encode Utf16 (lossy_by policy (utf8_items text.now))) }
+    ensures fits { result < 2 ^ 64 - 1 }
     ensures units { result ≤ length units.old → take result units.new ≡ encode Utf16 (lossy_by policy (utf8_items text.now)) }
     ensures behind { drop result units.new ≡ drop result units.old }
 {
@@ -97,7 +98,8 @@ fn put_lossy_16(text: &[u8], policy: Policy, units: &mut [u16]) -> usize
 }
 
 fn put_lossy_32(text: &[u8], policy: Policy, units: &mut [u32]) -> usize
-    ensures len { result ≡ min (length (lossy_by policy (utf8_items text.now))) (2 ^ 64 - 1) }
+    ensures len { result ≡ length (lossy_by policy (utf8_items text.now)) }
+    ensures fits { result < 2 ^ 64 - 1 }
     ensures units { result ≤ length units.old → take result units.new ≡ lossy_by policy (utf8_items text.now) }
     ensures behind { drop result units.new ≡ drop result units.old }
 {
@@ -119,13 +121,14 @@ pub extern "C" fn wide_utf8_first_fault(text: &[u8]) -> usize
     first_chunk(text).0
 }
 
-/// The text of well-formed UTF-8 in UTF-16, in front of `units` where there is room for it. Answers how many units it has, or the
-/// greatest number where they are more, or where the bytes are not well formed.
+/// Writes the text of well-formed UTF-8 in UTF-16 to the start of `units` if its length suffices, and returns how many units it has. If the
+/// bytes are not well formed, it returns the greatest number, and leaves `units` unchanged.
 #[unsafe(no_mangle)]
 pub extern "C" fn wide_utf8_to_utf16(text: &[u8], units: &mut [u16]) -> usize
-    ensures len { IsUtf8 text.now → result ≡ min (length (encode Utf16 (str_chars text.now))) (2 ^ 64 - 1) }
+    ensures len { IsUtf8 text.now → result ≡ length (encode Utf16 (str_chars text.now)) }
     ensures units { IsUtf8 text.now → result ≤ length units.old → take result units.new ≡ encode Utf16 (str_chars text.now) }
     ensures fault { (IsUtf8 text.now → ⊥) → result ≡ 2 ^ 64 - 1 }
+    ensures no_fault { IsUtf8 text.now → result < 2 ^ 64 - 1 }
     ensures unchanged { (IsUtf8 text.now → ⊥) → units.new ≡ units.old }
     ensures behind { drop result units.new ≡ drop result units.old }
 {
@@ -142,9 +145,10 @@ pub extern "C" fn wide_utf8_to_utf16(text: &[u8], units: &mut [u16]) -> usize
 /// The text of well-formed UTF-8 in UTF-32, as `wide_utf8_to_utf16`.
 #[unsafe(no_mangle)]
 pub extern "C" fn wide_utf8_to_utf32(text: &[u8], units: &mut [u32]) -> usize
-    ensures len { IsUtf8 text.now → result ≡ min (length (str_chars text.now)) (2 ^ 64 - 1) }
+    ensures len { IsUtf8 text.now → result ≡ length (str_chars text.now) }
     ensures units { IsUtf8 text.now → result ≤ length units.old → take result units.new ≡ str_chars text.now }
     ensures fault { (IsUtf8 text.now → ⊥) → result ≡ 2 ^ 64 - 1 }
+    ensures no_fault { IsUtf8 text.now → result < 2 ^ 64 - 1 }
     ensures unchanged { (IsUtf8 text.now → ⊥) → units.new ≡ units.old }
     ensures behind { drop result units.new ≡ drop result units.old }
 {
@@ -162,7 +166,8 @@ pub extern "C" fn wide_utf8_to_utf32(text: &[u8], units: &mut [u32]) -> usize
 /// byte that begins none (Unicode Standard, section 3.9, "U+FFFD Substitution of Maximal Subparts"), as std's `from_utf8_lossy`.
 #[unsafe(no_mangle)]
 pub extern "C" fn wide_utf8_to_utf16_lossy(text: &[u8], units: &mut [u16]) -> usize
-    ensures len { result ≡ min (length (encode Utf16 (str_chars (utf8_lossy text.now)))) (2 ^ 64 - 1) }
+    ensures len { result ≡ length (encode Utf16 (str_chars (utf8_lossy text.now))) }
+    ensures no_fault { result < 2 ^ 64 - 1 }
     ensures units { result ≤ length units.old → take result units.new ≡ encode Utf16 (str_chars (utf8_lossy text.now)) }
     ensures behind { drop result units.new ≡ drop result units.old }
 {
@@ -172,7 +177,8 @@ pub extern "C" fn wide_utf8_to_utf16_lossy(text: &[u8], units: &mut [u16]) -> us
 /// The text of any bytes in UTF-32, as `wide_utf8_to_utf16_lossy`.
 #[unsafe(no_mangle)]
 pub extern "C" fn wide_utf8_to_utf32_lossy(text: &[u8], units: &mut [u32]) -> usize
-    ensures len { result ≡ min (length (str_chars (utf8_lossy text.now))) (2 ^ 64 - 1) }
+    ensures len { result ≡ length (str_chars (utf8_lossy text.now)) }
+    ensures no_fault { result < 2 ^ 64 - 1 }
     ensures units { result ≤ length units.old → take result units.new ≡ str_chars (utf8_lossy text.now) }
     ensures behind { drop result units.new ≡ drop result units.old }
 {
@@ -180,15 +186,16 @@ pub extern "C" fn wide_utf8_to_utf32_lossy(text: &[u8], units: &mut [u32]) -> us
 }
 
 /// The text of any bytes in UTF-16, with what a policy gives for the parts that `wide_utf8_to_utf16_lossy` gives U+FFFD for: 0 is U+FFFD
-/// for each, 1 is one for each longest row of them, 2 is nothing. Answers the greatest number, and leaves `units`, where the policy is
-/// none of these.
+/// for each, 1 is one for each longest run of them, 2 is nothing. For any other policy it returns the greatest number, and leaves `units`
+/// unchanged.
 #[unsafe(no_mangle)]
 pub extern "C" fn wide_utf8_to_utf16_lossy_with(
     text: &[u8],
     policy: u32,
     units: &mut [u16],
 ) -> usize
-    ensures len { IfSome (policy_of policy) (λ p. result ≡ min (length (encode Utf16 (lossy_by p (utf8_items text.now)))) (2 ^ 64 - 1)) }
+    ensures len { IfSome (policy_of policy) (λ p. result ≡ length (encode Utf16 (lossy_by p (utf8_items text.now)))) }
+    ensures no_fault { IfSome (policy_of policy) (λ p. result < 2 ^ 64 - 1) }
     ensures units { IfSome (policy_of policy) (λ p. result ≤ length units.old → take result units.new ≡ encode Utf16 (lossy_by p (utf8_items text.now))) }
     ensures other { IfNone (policy_of policy) (result ≡ 2 ^ 64 - 1) }
     ensures unchanged { IfNone (policy_of policy) (units.new ≡ units.old) }
@@ -207,7 +214,8 @@ pub extern "C" fn wide_utf8_to_utf32_lossy_with(
     policy: u32,
     units: &mut [u32],
 ) -> usize
-    ensures len { IfSome (policy_of policy) (λ p. result ≡ min (length (lossy_by p (utf8_items text.now))) (2 ^ 64 - 1)) }
+    ensures len { IfSome (policy_of policy) (λ p. result ≡ length (lossy_by p (utf8_items text.now))) }
+    ensures no_fault { IfSome (policy_of policy) (λ p. result < 2 ^ 64 - 1) }
     ensures units { IfSome (policy_of policy) (λ p. result ≤ length units.old → take result units.new ≡ lossy_by p (utf8_items text.now)) }
     ensures other { IfNone (policy_of policy) (result ≡ 2 ^ 64 - 1) }
     ensures unchanged { IfNone (policy_of policy) (units.new ≡ units.old) }

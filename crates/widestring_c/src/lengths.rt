@@ -10,12 +10,13 @@ use std::str;
 use wide_blocks::{first_chunk, utf8_len};
 use wide_unit::{Unit, check, length_as_utf16, length_as_utf32};
 
-/// How many bytes the text of well-formed UTF-16 (Unicode Standard, D91) has in UTF-8 (D92), or the greatest number where they are more, or
-/// where the units are not well formed. The units are read by blocks.
+/// Returns how many bytes the text of well-formed UTF-16 (Unicode Standard, D91) has in UTF-8 (D92), or the greatest number if the units are
+/// not well formed. The units are read by SIMD.
 #[unsafe(no_mangle)]
 pub extern "C" fn wide_utf16_utf8_length(units: &[u16]) -> usize
-    ensures len { IsWellFormed Utf16 units.now → result ≡ min (length (utf8 (chars Utf16 units.now))) (2 ^ 64 - 1) }
+    ensures len { IsWellFormed Utf16 units.now → result ≡ length (utf8 (chars Utf16 units.now)) }
     ensures fault { (IsWellFormed Utf16 units.now → ⊥) → result ≡ 2 ^ 64 - 1 }
+    ensures no_fault { IsWellFormed Utf16 units.now → result < 2 ^ 64 - 1 }
 {
     match check(units) {
         Ok(()) => utf8_len(units),
@@ -26,8 +27,9 @@ pub extern "C" fn wide_utf16_utf8_length(units: &[u16]) -> usize
 /// The same of UTF-32 (Unicode Standard, D90).
 #[unsafe(no_mangle)]
 pub extern "C" fn wide_utf32_utf8_length(units: &[u32]) -> usize
-    ensures len { IsWellFormed Utf32 units.now → result ≡ min (length (utf8 (chars Utf32 units.now))) (2 ^ 64 - 1) }
+    ensures len { IsWellFormed Utf32 units.now → result ≡ length (utf8 (chars Utf32 units.now)) }
     ensures fault { (IsWellFormed Utf32 units.now → ⊥) → result ≡ 2 ^ 64 - 1 }
+    ensures no_fault { IsWellFormed Utf32 units.now → result < 2 ^ 64 - 1 }
 {
     match check(units) {
         Ok(()) => utf8_len(units),
@@ -41,6 +43,7 @@ pub extern "C" fn wide_utf32_utf8_length(units: &[u32]) -> usize
 pub extern "C" fn wide_utf8_utf16_length(text: &[u8]) -> usize
     ensures len { IsUtf8 text.now → result ≡ length (encode Utf16 (str_chars text.now)) }
     ensures fault { (IsUtf8 text.now → ⊥) → result ≡ 2 ^ 64 - 1 }
+    ensures no_fault { IsUtf8 text.now → result < 2 ^ 64 - 1 }
 {
     let (_, broken) = first_chunk(text);
     if broken > 0 {
@@ -55,6 +58,7 @@ pub extern "C" fn wide_utf8_utf16_length(text: &[u8]) -> usize
 pub extern "C" fn wide_utf8_char_count(text: &[u8]) -> usize
     ensures len { IsUtf8 text.now → result ≡ length (str_chars text.now) }
     ensures fault { (IsUtf8 text.now → ⊥) → result ≡ 2 ^ 64 - 1 }
+    ensures no_fault { IsUtf8 text.now → result < 2 ^ 64 - 1 }
 {
     let (_, broken) = first_chunk(text);
     if broken > 0 {
@@ -69,6 +73,7 @@ pub extern "C" fn wide_utf8_char_count(text: &[u8]) -> usize
 pub extern "C" fn wide_utf8_utf32_length(text: &[u8]) -> usize
     ensures len { IsUtf8 text.now → result ≡ length (str_chars text.now) }
     ensures fault { (IsUtf8 text.now → ⊥) → result ≡ 2 ^ 64 - 1 }
+    ensures no_fault { IsUtf8 text.now → result < 2 ^ 64 - 1 }
 {
     wide_utf8_char_count(text)
 }
@@ -78,6 +83,7 @@ pub extern "C" fn wide_utf8_utf32_length(text: &[u8]) -> usize
 pub extern "C" fn wide_utf16_char_count(units: &[u16]) -> usize
     ensures len { IsWellFormed Utf16 units.now → result ≡ length (chars Utf16 units.now) }
     ensures fault { (IsWellFormed Utf16 units.now → ⊥) → result ≡ 2 ^ 64 - 1 }
+    ensures no_fault { IsWellFormed Utf16 units.now → result < 2 ^ 64 - 1 }
 {
     match check(units) {
         Ok(()) => u16::char_count(units),
@@ -90,6 +96,7 @@ pub extern "C" fn wide_utf16_char_count(units: &[u16]) -> usize
 pub extern "C" fn wide_utf32_char_count(units: &[u32]) -> usize
     ensures len { IsWellFormed Utf32 units.now → result ≡ length (chars Utf32 units.now) }
     ensures fault { (IsWellFormed Utf32 units.now → ⊥) → result ≡ 2 ^ 64 - 1 }
+    ensures no_fault { IsWellFormed Utf32 units.now → result < 2 ^ 64 - 1 }
 {
     match check(units) {
         Ok(()) => u32::char_count(units),
@@ -102,6 +109,7 @@ pub extern "C" fn wide_utf32_char_count(units: &[u32]) -> usize
 pub extern "C" fn wide_utf16_utf32_length(units: &[u16]) -> usize
     ensures len { IsWellFormed Utf16 units.now → result ≡ length (chars Utf16 units.now) }
     ensures fault { (IsWellFormed Utf16 units.now → ⊥) → result ≡ 2 ^ 64 - 1 }
+    ensures no_fault { IsWellFormed Utf16 units.now → result < 2 ^ 64 - 1 }
 {
     wide_utf16_char_count(units)
 }
@@ -117,12 +125,13 @@ fn count_pairs(scalars: &[u32]) -> usize
     count
 }
 
-/// How many units the text of well-formed UTF-32 has in UTF-16, or the greatest number where they are more, or where the units are not
-/// well formed.
+/// Returns how many units the text of well-formed UTF-32 (Unicode Standard, D90) has in UTF-16 (D91), or the greatest number if the units are
+/// not well formed.
 #[unsafe(no_mangle)]
 pub extern "C" fn wide_utf32_utf16_length(units: &[u32]) -> usize
-    ensures len { IsWellFormed Utf32 units.now → result ≡ min (length (encode Utf16 (chars Utf32 units.now))) (2 ^ 64 - 1) }
+    ensures len { IsWellFormed Utf32 units.now → result ≡ length (encode Utf16 (chars Utf32 units.now)) }
     ensures fault { (IsWellFormed Utf32 units.now → ⊥) → result ≡ 2 ^ 64 - 1 }
+    ensures no_fault { IsWellFormed Utf32 units.now → result < 2 ^ 64 - 1 }
 {
     match check(units) {
         Ok(()) => units.len() + count_pairs(units),

@@ -1,16 +1,16 @@
 //! Units with U+FFFD for faults, in a buffer of the caller's.
-ghost use Rattle.std.specs.Prelude.{◌≡◌, ◌≤◌, ◌-◌, ◌^◌, length, min, take, drop};
+ghost use Rattle.std.specs.Prelude.{◌≡◌, ◌≤◌, length, take, drop};
 ghost use Rattle.wide_unit.specs.EncodingForm.{Utf16, Utf32, encode};
 ghost use Rattle.wide_unit.specs.Items.{items};
 ghost use Rattle.wide_unit.specs.Lossy.{lossy};
 
 use wide_unit::Unit;
 
-/// The units with U+FFFD in the place of each that belongs to no character, in front of `repaired` where there is room for them.
-/// Answers how many they are.
+/// Writes the units, with U+FFFD in place of each that belongs to no character, to the start of `repaired` if its length suffices, and
+/// returns how many they are.
 #[unsafe(no_mangle)]
 pub extern "C" fn wide_utf16_repair(units: &[u16], repaired: &mut [u16]) -> usize
-    ensures len { result ≡ min (length (encode Utf16 (lossy (items Utf16 units.now)))) (2 ^ 64 - 1) }
+    ensures len { result ≡ length units.now }
     ensures units { result ≤ length repaired.old → take result repaired.new ≡ encode Utf16 (lossy (items Utf16 units.now)) }
     ensures behind { drop result repaired.new ≡ drop result repaired.old }
 {
@@ -23,7 +23,7 @@ pub extern "C" fn wide_utf16_repair(units: &[u16], repaired: &mut [u16]) -> usiz
 /// The same of units of UTF-32 (Unicode Standard, D90).
 #[unsafe(no_mangle)]
 pub extern "C" fn wide_utf32_repair(units: &[u32], repaired: &mut [u32]) -> usize
-    ensures len { result ≡ min (length (lossy (items Utf32 units.now))) (2 ^ 64 - 1) }
+    ensures len { result ≡ length units.now }
     ensures units { result ≤ length repaired.old → take result repaired.new ≡ lossy (items Utf32 units.now) }
     ensures behind { drop result repaired.new ≡ drop result repaired.old }
 {

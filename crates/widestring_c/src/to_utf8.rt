@@ -1,5 +1,5 @@
 //! Text of units in UTF-8, in a buffer of the caller's.
-ghost use Rattle.std.specs.Prelude.{◌≡◌, ◌≤◌, ◌+◌, ◌-◌, ◌^◌, ◌++◌, ◌*◌, IfNone, IfSome, length, map, min, take, drop};
+ghost use Rattle.std.specs.Prelude.{◌≡◌, ◌<◌, ◌≤◌, ◌+◌, ◌-◌, ◌^◌, ◌++◌, ◌*◌, IfNone, IfSome, length, map, min, take, drop};
 ghost use Rattle.wide_unit.specs.EncodingForm.{Utf16, Utf32};
 ghost use Rattle.wide_unit.specs.Items.{IsWellFormed, chars, items};
 ghost use Rattle.wide_unit.specs.Lossy.{lossy, lossy_after, lossy_by};
@@ -86,7 +86,8 @@ fn put_whole(units: &[u16], text: &mut [u8], piece: &mut [u8]) -> Option<usize>
 fn put_sound(units: &[u16], text: &mut [u8]) -> Option<usize>
     ensures sound { IfSome result (λ len. IsWellFormed Utf16 units.now) }
     ensures fault { IfNone result (IsWellFormed Utf16 units.now → ⊥) }
-    ensures len { IfSome result (λ len. len ≡ min (length (utf8 (chars Utf16 units.now))) (2 ^ 64 - 1)) }
+    ensures len { IfSome result (λ len. len ≡ length (utf8 (chars Utf16 units.now))) }
+    ensures fits { IfSome result (λ len. len < 2 ^ 64 - 1) }
     ensures text { IfSome result (λ len. len ≤ length text.old → take len text.new ≡ utf8 (chars Utf16 units.now)) }
     ensures unchanged { IfNone result (text.new ≡ text.old) }
     ensures behind { IfSome result (λ len. drop len text.new ≡ drop len text.old) }
@@ -132,7 +133,8 @@ fn put_mended(units: &[u16], text: &mut [u8]) -> usize
 
 // The same of any units, by arrays of the size that fits.
 fn put_lossy(units: &[u16], text: &mut [u8]) -> usize
-    ensures len { result ≡ min (length (utf8 (lossy (items Utf16 units.now)))) (2 ^ 64 - 1) }
+    ensures len { result ≡ length (utf8 (lossy (items Utf16 units.now))) }
+    ensures fits { result < 2 ^ 64 - 1 }
     ensures text { result ≤ length text.old → take result text.new ≡ utf8 (lossy (items Utf16 units.now)) }
     ensures behind { drop result text.new ≡ drop result text.old }
 {
@@ -187,23 +189,26 @@ fn put_lossy_by<C: Unit>(units: &[C], policy: Policy, text: &mut [u8]) -> usize
     put_lossy_behind(units, policy, false, text, 0, &mut [0; LARGE])
 }
 
-/// The text of well-formed UTF-16 (Unicode Standard, D91) in UTF-8 (D92), in front of `text` where there is room for it. Answers how many
-/// bytes it has, or the greatest number where they are more, or where the units are not well formed.
+/// Writes the text of well-formed UTF-16 (Unicode Standard, D91) in UTF-8 (D92) to the start of `text` if its length suffices, and returns
+/// how many bytes it has. If the units are not well formed, it returns the greatest number, and leaves `text` unchanged.
 #[unsafe(no_mangle)]
 pub extern "C" fn wide_utf16_to_utf8(units: &[u16], text: &mut [u8]) -> usize
-    ensures len { IsWellFormed Utf16 units.now → result ≡ min (length (utf8 (chars Utf16 units.now))) (2 ^ 64 - 1) }
+    ensures len { IsWellFormed Utf16 units.now → result ≡ length (utf8 (chars Utf16 units.now)) }
     ensures text { IsWellFormed Utf16 units.now → result ≤ length text.old → take result text.new ≡ utf8 (chars Utf16 units.now) }
     ensures fault { (IsWellFormed Utf16 units.now → ⊥) → result ≡ 2 ^ 64 - 1 }
+    ensures no_fault { IsWellFormed Utf16 units.now → result < 2 ^ 64 - 1 }
     ensures unchanged { (IsWellFormed Utf16 units.now → ⊥) → text.new ≡ text.old }
     ensures behind { drop result text.new ≡ drop result text.old }
 {
     put_sound(units, text).unwrap_or(usize::MAX)
 }
 
-/// The same of any units, with U+FFFD for each unit that belongs to no character.
+/// Writes the text of any units of UTF-16 in UTF-8 to the start of `text` if its length suffices, with U+FFFD for each unit that belongs to
+/// no character, and returns how many bytes it has.
 #[unsafe(no_mangle)]
 pub extern "C" fn wide_utf16_to_utf8_lossy(units: &[u16], text: &mut [u8]) -> usize
-    ensures len { result ≡ min (length (utf8 (lossy (items Utf16 units.now)))) (2 ^ 64 - 1) }
+    ensures len { result ≡ length (utf8 (lossy (items Utf16 units.now))) }
+    ensures no_fault { result < 2 ^ 64 - 1 }
     ensures text { result ≤ length text.old → take result text.new ≡ utf8 (lossy (items Utf16 units.now)) }
     ensures behind { drop result text.new ≡ drop result text.old }
 {
@@ -213,15 +218,17 @@ pub extern "C" fn wide_utf16_to_utf8_lossy(units: &[u16], text: &mut [u8]) -> us
     }
 }
 
-/// The same with what a policy gives for those units: 0 is U+FFFD for each, 1 is one for each longest row of them, 2 is nothing. Answers
-/// the greatest number, and leaves `text`, where the policy is none of these.
+/// Writes the text of any units of UTF-16 in UTF-8 to the start of `text` if its length suffices, with what a policy writes for units that
+/// belong to no character: 0 is U+FFFD for each, 1 is one for each longest run of them, 2 is nothing. Returns how many bytes the text has.
+/// For any other policy it returns the greatest number, and leaves `text` unchanged.
 #[unsafe(no_mangle)]
 pub extern "C" fn wide_utf16_to_utf8_lossy_with(
     units: &[u16],
     policy: u32,
     text: &mut [u8],
 ) -> usize
-    ensures len { IfSome (policy_of policy) (λ p. result ≡ min (length (utf8 (lossy_by p (items Utf16 units.now)))) (2 ^ 64 - 1)) }
+    ensures len { IfSome (policy_of policy) (λ p. result ≡ length (utf8 (lossy_by p (items Utf16 units.now)))) }
+    ensures no_fault { IfSome (policy_of policy) (λ p. result < 2 ^ 64 - 1) }
     ensures text { IfSome (policy_of policy) (λ p. result ≤ length text.old → take result text.new ≡ utf8 (lossy_by p (items Utf16 units.now))) }
     ensures other { IfNone (policy_of policy) (result ≡ 2 ^ 64 - 1) }
     ensures unchanged { IfNone (policy_of policy) (text.new ≡ text.old) }
@@ -237,9 +244,10 @@ pub extern "C" fn wide_utf16_to_utf8_lossy_with(
 /// The text of well-formed UTF-32 (Unicode Standard, D90) in UTF-8, as `wide_utf16_to_utf8`.
 #[unsafe(no_mangle)]
 pub extern "C" fn wide_utf32_to_utf8(units: &[u32], text: &mut [u8]) -> usize
-    ensures len { IsWellFormed Utf32 units.now → result ≡ min (length (utf8 (chars Utf32 units.now))) (2 ^ 64 - 1) }
+    ensures len { IsWellFormed Utf32 units.now → result ≡ length (utf8 (chars Utf32 units.now)) }
     ensures text { IsWellFormed Utf32 units.now → result ≤ length text.old → take result text.new ≡ utf8 (chars Utf32 units.now) }
     ensures fault { (IsWellFormed Utf32 units.now → ⊥) → result ≡ 2 ^ 64 - 1 }
+    ensures no_fault { IsWellFormed Utf32 units.now → result < 2 ^ 64 - 1 }
     ensures unchanged { (IsWellFormed Utf32 units.now → ⊥) → text.new ≡ text.old }
     ensures behind { drop result text.new ≡ drop result text.old }
 {
@@ -249,7 +257,8 @@ pub extern "C" fn wide_utf32_to_utf8(units: &[u32], text: &mut [u8]) -> usize
 /// The text of any UTF-32 in UTF-8, with U+FFFD for each unit that is no scalar value.
 #[unsafe(no_mangle)]
 pub extern "C" fn wide_utf32_to_utf8_lossy(units: &[u32], text: &mut [u8]) -> usize
-    ensures len { result ≡ min (length (utf8 (lossy (items Utf32 units.now)))) (2 ^ 64 - 1) }
+    ensures len { result ≡ length (utf8 (lossy (items Utf32 units.now))) }
+    ensures no_fault { result < 2 ^ 64 - 1 }
     ensures text { result ≤ length text.old → take result text.new ≡ utf8 (lossy (items Utf32 units.now)) }
     ensures behind { drop result text.new ≡ drop result text.old }
 {
@@ -263,7 +272,8 @@ pub extern "C" fn wide_utf32_to_utf8_lossy_with(
     policy: u32,
     text: &mut [u8],
 ) -> usize
-    ensures len { IfSome (policy_of policy) (λ p. result ≡ min (length (utf8 (lossy_by p (items Utf32 units.now)))) (2 ^ 64 - 1)) }
+    ensures len { IfSome (policy_of policy) (λ p. result ≡ length (utf8 (lossy_by p (items Utf32 units.now)))) }
+    ensures no_fault { IfSome (policy_of policy) (λ p. result < 2 ^ 64 - 1) }
     ensures text { IfSome (policy_of policy) (λ p. result ≤ length text.old → take result text.new ≡ utf8 (lossy_by p (items Utf32 units.now))) }
     ensures other { IfNone (policy_of policy) (result ≡ 2 ^ 64 - 1) }
     ensures unchanged { IfNone (policy_of policy) (text.new ≡ text.old) }

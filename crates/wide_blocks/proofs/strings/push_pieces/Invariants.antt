@@ -7,7 +7,7 @@ abbrev pub invariant-pieces : goal.invariant-pieces
 invariant-pieces g l = record {
   capacity : vec_capacity l.fn.text ≤ vec_capacity l.text;
   len : vec_len l.text + length (utf8 (chars g.C.Unit.form (map g.C.Unit.number l.rest))) ≡ vec_len l.fn.text + length (utf8 (chars g.C.Unit.form (map g.C.Unit.number l.units)));
-  front : (more : List ℕ) × (l.text.items ≡ l.fn.text.items ++ more);
+  front : (more : List ℕ) × (l.text.items ≡ l.fn.text.items ++ more) × (utf8 (chars g.C.Unit.form (map g.C.Unit.number l.units)) ≡ more ++ utf8 (chars g.C.Unit.form (map g.C.Unit.number l.rest)));
   within : length l.rest ≤ length l.units;
   well_formed : IsWellFormed g.C.Unit.form (map g.C.Unit.number l.rest);
   so_far : l.text.items ++ utf8 (chars g.C.Unit.form (map g.C.Unit.number l.rest)) ≡ l.fn.text.items ++ utf8 (chars g.C.Unit.form (map g.C.Unit.number l.units));

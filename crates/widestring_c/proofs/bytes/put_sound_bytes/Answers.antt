@@ -8,20 +8,23 @@ use Rattle.wide_bytes.specs.Bytes.{units_in}
 use Rattle.widestring_c.proofs.bytes.put_sound_bytes.Goals.{else-bytes-eq0-via-then-bytes-eq0+else-sound_units-bytes, else-bytes-eq0-via-else-bytes-eq0}
 use Rattle.widestring_c.proofs.bytes.put_sound_bytes.Goals as goal
 
+pub returns-then-sound_units-bytes-clause-sound : goal.returns-then-sound_units-bytes-clause-sound
+returns-then-sound_units-bytes-clause-sound c = (omega arith, c.sound_units.ensures.well_formed.0 (omega arith))
+
 pub returns-then-sound_units-bytes-clause-len : goal.returns-then-sound_units-bytes-clause-len
-returns-then-sound_units-bytes-clause-len c = λ even well.
+returns-then-sound_units-bytes-clause-len c =
     let us = units_in c.args.order c.args.bytes.now in
-    let same : lossy (items Utf16 us) ≡ chars Utf16 us = lossy-well_formed Utf16 us well in
-    omega (arith, c.put_bytes.ensures.len, ap (λ cs. length (utf8 cs)) same)
+    let same : lossy (items Utf16 us) ≡ chars Utf16 us = lossy-well_formed Utf16 us (c.sound_units.ensures.well_formed.0 (omega arith)) in
+    c.put_bytes.ensures.len ∙ ap (λ cs. length (utf8 cs)) same
 
 pub returns-then-sound_units-bytes-clause-text : goal.returns-then-sound_units-bytes-clause-text
-returns-then-sound_units-bytes-clause-text c = λ even well fits.
+returns-then-sound_units-bytes-clause-text c = λ fits.
     let us = units_in c.args.order c.args.bytes.now in
-    let same : lossy (items Utf16 us) ≡ chars Utf16 us = lossy-well_formed Utf16 us well in
+    let same : lossy (items Utf16 us) ≡ chars Utf16 us = lossy-well_formed Utf16 us (c.sound_units.ensures.well_formed.0 (omega arith)) in
     c.put_bytes.ensures.text fits ∙ ap utf8 same
 
-pub returns-else-bytes-eq0-clause-text : goal.returns-else-bytes-eq0-clause-text
-returns-else-bytes-eq0-clause-text c = λ even well fits. elim c.else-bytes-eq0.branch [
-  | else-bytes-eq0-via-then-bytes-eq0+else-sound_units-bytes w ↦ absurd (w.if-sound_units-bytes.false (w.sound_units.ensures.well_formed.1 well))
-  | else-bytes-eq0-via-else-bytes-eq0 w ↦ absurd (w.if-bytes-eq0.false even)
+pub returns-else-bytes-eq0-clause-fault : goal.returns-else-bytes-eq0-clause-fault
+returns-else-bytes-eq0-clause-fault c = λ sound. elim c.else-bytes-eq0.branch [
+  | else-bytes-eq0-via-then-bytes-eq0+else-sound_units-bytes w ↦ w.if-sound_units-bytes.false (w.sound_units.ensures.well_formed.1 sound.1)
+  | else-bytes-eq0-via-else-bytes-eq0 w ↦ w.if-bytes-eq0.false sound.0
 ]

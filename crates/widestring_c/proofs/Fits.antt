@@ -1,0 +1,94 @@
+-- A slice has fewer than 2 ^ 63 bytes, so that no text is as long as the number that stands for a fault.
+use Rattle.std.proofs.Common.{◌≡◌, ℕ, ◌+◌, ◌*◌, ◌-◌, ◌^◌, ◌≤◌, ◌<◌, inl, inr, List, [], ◌∷◌, ◌++◌, length, length-append, min, Bool, true, false, sym, ap, ◌∙◌, arith}
+use Rattle.std.specs.Str.{IsUtf8, chars as str_chars}
+use Rattle.std.proofs.lemmas.Bool.{cases_lt}
+use Rattle.std.proofs.lemmas.Bool.Decides.{nat_tests}
+use Rattle.std.proofs.lemmas.Str.{encodes-chars}
+use Rattle.wide_unit.specs.EncodingForm.{EncodingForm, Utf16, Utf32, code_units, encode}
+use Rattle.wide_unit.specs.Segmentation.{Item, Char, Fault}
+use Rattle.wide_unit.specs.Items.{IsWellFormed, characters, chars, items}
+use Rattle.wide_unit.specs.Lossy.{lossy, lossy_after, lossy_by, lossy_runs, past_faults}
+use Rattle.wide_unit.specs.Utf8.{utf8, utf8_bytes}
+use Rattle.wide_unit.specs.declared.policy.Policy.{Policy}
+use Rattle.wide_unit.specs.declared.policy.Policy.TheVariants.{Each, Run, Skip}
+use Rattle.wide_unit.specs.Laws.Forms.{one_unit, two_units}
+use Rattle.wide_unit.specs.Laws.Lossy.{length-lossy}
+use Rattle.wide_unit.specs.Laws.Places.{encode-chars}
+use Rattle.wide_unit.specs.Laws.Utf8.{utf8-encode_utf8_all}
+use Rattle.wide_unit.specs.Laws.Utf32.{encode32}
+use Rattle.wide_blocks.specs.Laws.Parts.{shorter-part}
+use Rattle.wide_blocks.specs.Parts.{AreUtf8Items, none, character, part, utf8_items, utf8_items-divide}
+use Rattle.widestring_c.proofs.Windows.{bytes_of}
+
+-- a character has at least as many bytes in UTF-8 as units in the other forms
+units_of : (form : EncodingForm) (c : ℕ) → length (code_units form c) ≤ length (utf8_bytes c)
+unfolding utf8_bytes
+units_of Utf32 c = grind (arith, nat_tests)
+units_of Utf16 c = elim (cases_lt c 0x1_0000) [
+  | inl below ↦ rw (one_unit c below) (grind (arith, nat_tests))
+  | inr from ↦ rw (two_units c from) (grind (arith, nat_tests))
+]
+
+module _ (form : EncodingForm) where
+  -- no policy writes more than a replacement character for each fault
+  runs-short : (is : List Item) → length (encode form (lossy_runs is)) ≤ length (encode form (lossy is))
+  runs-short [] = omega arith
+  runs-short (Char c ∷ is) = omega (arith, runs-short is, length-append (code_units form c) (encode form (lossy_runs is)), length-append (code_units form c) (encode form (lossy is)))
+  runs-short (Fault u ∷ []) = omega arith
+  runs-short (Fault u ∷ Char c ∷ is) = omega (arith, runs-short (Char c ∷ is), length-append (code_units form 0xFFFD) (encode form (lossy_runs (Char c ∷ is))), length-append (code_units form 0xFFFD) (encode form (lossy (Char c ∷ is))))
+  runs-short (Fault u ∷ Fault v ∷ is) = omega (arith, runs-short (Fault v ∷ is), length-append (code_units form 0xFFFD) (encode form (lossy (Fault v ∷ is))))
+
+  past-short : (is : List Item) → length (encode form (lossy_runs (past_faults is))) ≤ length (encode form (lossy is))
+  past-short [] = omega arith
+  past-short (Char c ∷ is) = runs-short (Char c ∷ is)
+  past-short (Fault u ∷ is) = omega (arith, past-short is, length-append (code_units form 0xFFFD) (encode form (lossy is)))
+
+  characters-short : (is : List Item) → length (encode form (characters is)) ≤ length (encode form (lossy is))
+  characters-short [] = omega arith
+  characters-short (Char c ∷ is) = omega (arith, characters-short is, length-append (code_units form c) (encode form (characters is)), length-append (code_units form c) (encode form (lossy is)))
+  characters-short (Fault u ∷ is) = omega (arith, characters-short is, length-append (code_units form 0xFFFD) (encode form (lossy is)))
+
+  after-short : (policy : Policy) (after : Bool) (is : List Item) → length (encode form (lossy_after policy after is)) ≤ length (encode form (lossy is))
+  after-short Each after is = omega arith
+  after-short Run true is = past-short is
+  after-short Run false is = runs-short is
+  after-short Skip after is = characters-short is
+
+  by-short : (policy : Policy) (is : List Item) → length (encode form (lossy_by policy is)) ≤ length (encode form (lossy is))
+  by-short Each is = omega arith
+  by-short Run is = runs-short is
+  by-short Skip is = characters-short is
+
+  -- text of units in UTF-8 has at most four bytes for each unit
+  pub bytes-well_formed : (us : List ℕ) → IsWellFormed form us → length (utf8 (chars form us)) ≤ 4 * length us
+  bytes-well_formed us well = omega (arith, bytes_of form (chars form us), ap length (encode-chars form us well))
+
+  pub bytes-lossy : (us : List ℕ) → length (utf8 (lossy (items form us))) ≤ 4 * length us
+  bytes-lossy us = omega (arith, bytes_of form (lossy (items form us)), length-lossy form us)
+
+  pub bytes-lossy_by : (policy : Policy) (us : List ℕ) → length (utf8 (lossy_by policy (items form us))) ≤ 4 * length us
+  bytes-lossy_by policy us = omega (arith, bytes_of form (lossy_by policy (items form us)), by-short policy (items form us), length-lossy form us)
+
+  pub bytes-lossy_after : (policy : Policy) (after : Bool) (us : List ℕ) → length (utf8 (lossy_after policy after (items form us))) ≤ 4 * length us
+  bytes-lossy_after policy after us = omega (arith, bytes_of form (lossy_after policy after (items form us)), after-short policy after (items form us), length-lossy form us)
+
+  -- text of bytes has at most a unit for each byte
+  units-of_text : (cs : List ℕ) → length (encode form cs) ≤ length (utf8 cs)
+  units-of_text [] = omega arith
+  units-of_text (c ∷ cs) = omega (arith, units_of form c, units-of_text cs, length-append (utf8_bytes c) (utf8 cs), length-append (code_units form c) (encode form cs))
+
+  pub units-text : (bs : List ℕ) → IsUtf8 bs → length (encode form (str_chars bs)) ≤ length bs
+  units-text bs text = omega (arith, units-of_text (str_chars bs), ap length (utf8-encode_utf8_all (str_chars bs) ∙ encodes-chars bs text))
+
+  one_replacement : length (code_units form 0xFFFD) ≤ 1
+  one_replacement = elim form [ Utf16 ↦ omega arith | Utf32 ↦ omega arith ]
+
+  units-of_parts : (bs : List ℕ) (is : List Item) → AreUtf8Items bs is → length (encode form (lossy is)) ≤ length bs
+  units-of_parts _ _ none = omega arith
+  units-of_parts _ _ (character c bs is scalar more) =
+      omega (arith, units_of form c, units-of_parts bs is more, length-append (utf8_bytes c) bs, length-append (code_units form c) (encode form (lossy is)))
+  units-of_parts _ _ (part bs is some unread more) =
+      omega (arith, one_replacement, shorter-part bs some, units-of_parts _ is more, length-append (code_units form 0xFFFD) (encode form (lossy is)))
+
+  pub units-lossy_by : (policy : Policy) (bs : List ℕ) → length (encode form (lossy_by policy (utf8_items bs))) ≤ length bs
+  units-lossy_by policy bs = omega (arith, by-short policy (utf8_items bs), units-of_parts bs (utf8_items bs) (utf8_items-divide bs))
