@@ -29,6 +29,15 @@ units_of Utf16 c = elim (cases_lt c 0x1_0000) [
   | inr from ↦ rw (two_units c from) (grind (arith, nat_tests))
 ]
 
+units-of_text_in : (form : EncodingForm) (cs : List ℕ) → length (encode form cs) ≤ length (utf8 cs)
+units-of_text_in form [] = omega arith
+units-of_text_in form (c ∷ cs) = omega (arith, units_of form c, units-of_text_in form cs, length-append (utf8_bytes c) (utf8 cs), length-append (code_units form c) (encode form cs))
+
+-- a replacement character is one unit
+one_replacement : (form : EncodingForm) → length (code_units form 0xFFFD) ≤ 1
+one_replacement Utf16 = omega arith
+one_replacement Utf32 = omega arith
+
 module _ (form : EncodingForm) where
   -- no policy writes more than a replacement character for each fault
   runs-short : (is : List Item) → length (encode form (lossy_runs is)) ≤ length (encode form (lossy is))
@@ -73,22 +82,19 @@ module _ (form : EncodingForm) where
   bytes-lossy_after policy after us = omega (arith, bytes_of form (lossy_after policy after (items form us)), after-short policy after (items form us), length-lossy form us)
 
   -- text of bytes has at most a unit for each byte
-  units-of_text : (cs : List ℕ) → length (encode form cs) ≤ length (utf8 cs)
-  units-of_text [] = omega arith
-  units-of_text (c ∷ cs) = omega (arith, units_of form c, units-of_text cs, length-append (utf8_bytes c) (utf8 cs), length-append (code_units form c) (encode form cs))
-
   pub units-text : (bs : List ℕ) → IsUtf8 bs → length (encode form (str_chars bs)) ≤ length bs
-  units-text bs text = omega (arith, units-of_text (str_chars bs), ap length (utf8-encode_utf8_all (str_chars bs) ∙ encodes-chars bs text))
-
-  one_replacement : length (code_units form 0xFFFD) ≤ 1
-  one_replacement = elim form [ Utf16 ↦ omega arith | Utf32 ↦ omega arith ]
+  units-text bs text = omega (arith, units-of_text_in form (str_chars bs), ap length (utf8-encode_utf8_all (str_chars bs) ∙ encodes-chars bs text))
 
   units-of_parts : (bs : List ℕ) (is : List Item) → AreUtf8Items bs is → length (encode form (lossy is)) ≤ length bs
   units-of_parts _ _ none = omega arith
   units-of_parts _ _ (character c bs is scalar more) =
       omega (arith, units_of form c, units-of_parts bs is more, length-append (utf8_bytes c) bs, length-append (code_units form c) (encode form (lossy is)))
   units-of_parts _ _ (part bs is some unread more) =
-      omega (arith, one_replacement, shorter-part bs some, units-of_parts _ is more, length-append (code_units form 0xFFFD) (encode form (lossy is)))
+      omega (arith, one_replacement form, shorter-part bs some, units-of_parts _ is more, length-append (code_units form 0xFFFD) (encode form (lossy is)))
 
   pub units-lossy_by : (policy : Policy) (bs : List ℕ) → length (encode form (lossy_by policy (utf8_items bs))) ≤ length bs
   units-lossy_by policy bs = omega (arith, by-short policy (utf8_items bs), units-of_parts bs (utf8_items bs) (utf8_items-divide bs))
+
+  -- text of units in another width is no longer than four times theirs
+  pub units-between : (other : EncodingForm) (us : List ℕ) → IsWellFormed form us → length (encode other (chars form us)) ≤ 4 * length us
+  units-between other us well = omega (arith, units-of_text_in other (chars form us), bytes-well_formed us well)

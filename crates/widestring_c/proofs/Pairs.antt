@@ -1,5 +1,5 @@
 -- How many units scalar values have in UTF-16: two beyond U+FFFF.
-use Rattle.std.proofs.Common.{◌≡◌, ℕ, ◌+◌, ◌-◌, ◌^◌, ◌<◌, cond, inl, inr, List, [], ◌∷◌, length, min, nat_le, refl, sym, ap, ◌∙◌, arith}
+use Rattle.std.proofs.Common.{◌≡◌, ℕ, ◌+◌, ◌<◌, cond, inl, inr, List, [], ◌∷◌, length, nat_le, refl, sym, ap, ◌∙◌, arith}
 use Rattle.std.specs.List.{count_by}
 use Rattle.std.proofs.lemmas.List.Recursion.{is_count_by}
 use Rattle.std.proofs.lemmas.Bool.{cases_lt, le-leb, lt-leb}
@@ -22,7 +22,5 @@ with-pairs (c ∷ cs) = elim (cases_lt c 0x1_0000) [
 pairs-counted : (cs : List ℕ) → length (encode Utf16 cs) ≡ length cs + count_by (nat_le 0x1_0000) cs
 pairs-counted cs = with-pairs cs ∙ ap (λ n. length cs + n) (is_count_by pairs (nat_le 0x1_0000) refl (λ x xs. refl) cs)
 
-pub units-counted : (us : List ℕ) (pairs : ℕ) → IsWellFormed Utf32 us → pairs ≡ count_by (nat_le 0x1_0000) us → length us + pairs < 2 ^ 64 → length us + pairs ≡ min (length (encode Utf16 (chars Utf32 us))) (2 ^ 64 - 1)
-units-counted us pairs well is within =
-    let all : length (encode Utf16 (chars Utf32 us)) ≡ length us + pairs = ap (λ cs. length (encode Utf16 cs)) (chars32-well_formed us well) ∙ pairs-counted us ∙ ap (λ n. length us + n) (sym is) in
-    omega (arith, all, within)
+pub units-counted : (us : List ℕ) (pairs : ℕ) → IsWellFormed Utf32 us → pairs ≡ count_by (nat_le 0x1_0000) us → length us + pairs ≡ length (encode Utf16 (chars Utf32 us))
+units-counted us pairs well is = sym (ap (λ cs. length (encode Utf16 cs)) (chars32-well_formed us well) ∙ pairs-counted us ∙ ap (λ n. length us + n) (sym is))

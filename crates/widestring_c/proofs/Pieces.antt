@@ -134,7 +134,7 @@ char-split (i ∷ a) b (c ∷ cs) e =
     let same : i ≡ Char c = cc in
     let tail : map Char cs ≡ a ++ b = cc in
     let s = char-split a b cs tail in
-    (c ∷ s.0, s.1, ap (λ j. j ∷ a) same ∙ ap (λ is. Char c ∷ is) s.2.0, s.2.1)
+    (c ∷ s.0, s.1, ap (λ j. j ∷ a) same ∙ ap (λ is. Char c ∷ is) s.2, s.3)
 
 module _ (order : BoM) (front back : List ℕ) (even : length front % 2 ≡ 0) (cut : IsCut Utf16 (units_in order front) (units_in order back)) where
   pub well_formed-joined : IsWellFormedIn order front → IsWellFormedIn order back → IsWellFormedIn order (front ++ back)
@@ -151,7 +151,7 @@ module _ (order : BoM) (front back : List ℕ) (even : length front % 2 ≡ 0) (
   well_formed-parted w =
       let both = units_in order (front ++ back) in
       let s = char-split (items Utf16 (units_in order front)) (items Utf16 (units_in order back)) (chars Utf16 both) (sym (chars-of_well_formed Utf16 both w.1) ∙ items-joined order front back even cut) in
-      ((even, IsWellFormed-of_chars Utf16 (units_in order front) s.0 s.2.0), (omega (arith, even, w.0, length-append front back), IsWellFormed-of_chars Utf16 (units_in order back) s.1 s.2.1))
+      ((even, IsWellFormed-of_chars Utf16 (units_in order front) s.0 s.2), (omega (arith, even, w.0, length-append front back), IsWellFormed-of_chars Utf16 (units_in order back) s.1 s.3))
 
   pub strict-joined : text_in order (front ++ back) ≡ text_in order front ++ text_in order back
   strict-joined =

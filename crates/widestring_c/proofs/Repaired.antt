@@ -1,4 +1,4 @@
--- Repaired units are as many as there are, and are those that `mend` writes.
+-- Repaired units are those that `mend` writes.
 use Rattle.std.proofs.Common.{◌≡◌, ◌<◌, ◌-◌, ◌^◌, ◌∙◌, ℕ, List, sym, ap, map, length, min, take, arith}
 use Rattle.std.proofs.lemmas.List.{map-id}
 use Rattle.wide_unit.specs.EncodingForm.{EncodingForm, Utf32, encode}
@@ -6,12 +6,6 @@ use Rattle.wide_unit.specs.Items.{items}
 use Rattle.wide_unit.specs.Lossy.{lossy}
 use Rattle.wide_unit.specs.Laws.Lossy.{length-lossy}
 use Rattle.wide_unit.specs.Laws.Utf32.{encode32}
-
-pub repaired_len : (form : EncodingForm) (us : List ℕ) → length us < 2 ^ 64 → length us ≡ min (length (encode form (lossy (items form us)))) (2 ^ 64 - 1)
-repaired_len form us fits = omega (arith, length-lossy form us)
-
-pub repaired_len32 : (us : List ℕ) → length us < 2 ^ 64 → length us ≡ min (length (lossy (items Utf32 us))) (2 ^ 64 - 1)
-repaired_len32 us fits = omega (arith, length-lossy Utf32 us, ap length (encode32 (lossy (items Utf32 us))))
 
 pub repaired : (form : EncodingForm) (us out : List ℕ) (n : ℕ) → map (λ (u : ℕ). u) (take n out) ≡ encode form (lossy (items form (map (λ (u : ℕ). u) us))) → take n out ≡ encode form (lossy (items form us))
 repaired form us out n e = sym (map-id (take n out)) ∙ e ∙ ap (λ vs. encode form (lossy (items form vs))) (map-id us)

@@ -1,5 +1,5 @@
 //! Units of one width in units of the other, in a buffer of the caller's.
-ghost use Rattle.std.specs.Prelude.{◌≡◌, ◌<◌, ◌≤◌, ◌-◌, ◌^◌, IfNone, IfSome, length, map, min, take, drop};
+ghost use Rattle.std.specs.Prelude.{◌≡◌, ◌*◌, ◌<◌, ◌≤◌, ◌-◌, ◌^◌, IfNone, IfSome, length, map, min, take, drop};
 ghost use Rattle.wide_unit.specs.EncodingForm.{Utf16, Utf32, encode};
 ghost use Rattle.wide_unit.specs.Items.{IsWellFormed, chars};
 
@@ -34,11 +34,13 @@ fn put_recoded<C: Unit, D: Unit>(units: &[C], room: &mut [D], piece: &mut [D]) -
 
 // The same of any units, if they are well formed.
 fn put_sound<C: Unit, D: Unit>(units: &[C], room: &mut [D], piece: &mut [D]) -> Option<usize>
+    requires units { 4 * length units.now < 2 ^ 64 - 1 }
     requires room { length room.old < 2 ^ 64 - 1 }
     requires piece { 16 ≤ length piece.old }
     ensures sound { IfSome result (λ len. IsWellFormed C.form (map C.number units.now)) }
     ensures fault { IfNone result (IsWellFormed C.form (map C.number units.now) → ⊥) }
-    ensures len { IfSome result (λ len. len ≡ min (length (encode D.form (chars C.form (map C.number units.now)))) (2 ^ 64 - 1)) }
+    ensures len { IfSome result (λ len. len ≡ length (encode D.form (chars C.form (map C.number units.now)))) }
+    ensures fits { IfSome result (λ len. len < 2 ^ 64 - 1) }
     ensures units { IfSome result (λ len. len ≤ length room.old → map D.number (take len room.new) ≡ encode D.form (chars C.form (map C.number units.now))) }
     ensures unchanged { IfNone result (room.new ≡ room.old) }
     ensures behind { IfSome result (λ len. drop len room.new ≡ drop len room.old) }

@@ -1,5 +1,5 @@
 //! UTF-16 that comes as bytes of either order, also in pieces, whose state is the caller's.
-ghost use Rattle.std.specs.Prelude.{◌≡◌, ◌<◌, ◌≤◌, ◌+◌, ◌-◌, ◌/◌, ◌%◌, ◌^◌, ◌++◌, ◌↔◌, ℕ, List, IfNone, IfSome, slice_index, length, min, take, drop};
+ghost use Rattle.std.specs.Prelude.{◌≡◌, ◌*◌, ◌<◌, ◌≤◌, ◌+◌, ◌-◌, ◌/◌, ◌%◌, ◌^◌, ◌++◌, ◌↔◌, ℕ, List, IfNone, IfSome, slice_index, length, min, take, drop};
 ghost use Rattle.wide_unit.specs.EncodingForm.{Utf16, IsHighSurrogate};
 ghost use Rattle.wide_unit.specs.Items.{IsFirstFault, IsWellFormed, chars};
 ghost use Rattle.wide_unit.specs.Utf8.{utf8};

@@ -58,12 +58,12 @@ fn text_len(text: &[u8]) -> usize
     first_chunk(text).0
 }
 
-// Puts the lossy text of any bytes at the front, by what a policy gives for ill-formed parts. Answers how many units it has, or the
-// greatest number where they are more.
+// Puts the lossy text of any bytes at the front, by what a policy gives for ill-formed parts. Answers how many units it has.
 fn put_lossy<C: Unit>(text: &[u8], policy: Policy, units: &mut [C], piece: &mut [C]) -> usize
     requires room { length units.old < 2 ^ 64 - 1 }
     requires piece { 16 ≤ length piece.old }
-    ensures len { result ≡ min (length (encode C.form (lossy_by policy (utf8_items text.now)))) (2 ^ 64 - 1) }
+    ensures len { result ≡ length (encode C.form (lossy_by policy (utf8_items text.now))) }
+    ensures fits { result < 2 ^ 64 - 1 }
     ensures units { result ≤ length units.old → map C.number (take result units.new) ≡ encode C.form (lossy_by policy (utf8_items text.now)) }
     ensures behind { drop result units.new ≡ drop result units.old }
 {

@@ -1,5 +1,5 @@
 //! How long a text is in other units, and how many characters it has, with no buffer.
-ghost use Rattle.std.specs.Prelude.{◌≡◌, ◌-◌, ◌^◌, length, min, nat_le};
+ghost use Rattle.std.specs.Prelude.{◌≡◌, ◌<◌, ◌-◌, ◌^◌, length, min, nat_le};
 ghost use Rattle.std.specs.List.{count_by};
 ghost use Rattle.std.specs.Str.{IsUtf8, chars as str_chars};
 ghost use Rattle.wide_unit.specs.EncodingForm.{Utf16, Utf32, encode};

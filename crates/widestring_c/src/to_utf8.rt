@@ -44,12 +44,14 @@ fn put_pieces<C: Unit>(units: &[C], text: &mut [u8], at: usize, piece: &mut [u8]
     at
 }
 
-// Puts the text of units at the front, if they are well formed, and answers how many bytes it has, or the greatest number where they are
-// more.
+// Puts the text of units at the front, if they are well formed, and answers how many bytes it has. A slice of units is not so long that these
+// are more than a number holds.
 fn put_checked<C: Unit>(units: &[C], text: &mut [u8]) -> Option<usize>
+    requires { 4 * length units.now < 2 ^ 64 - 1 }
     ensures sound { IfSome result (λ len. IsWellFormed C.form (map C.number units.now)) }
     ensures fault { IfNone result (IsWellFormed C.form (map C.number units.now) → ⊥) }
-    ensures len { IfSome result (λ len. len ≡ min (length (utf8 (chars C.form (map C.number units.now)))) (2 ^ 64 - 1)) }
+    ensures len { IfSome result (λ len. len ≡ length (utf8 (chars C.form (map C.number units.now)))) }
+    ensures fits { IfSome result (λ len. len < 2 ^ 64 - 1) }
     ensures text { IfSome result (λ len. len ≤ length text.old → take len text.new ≡ utf8 (chars C.form (map C.number units.now))) }
     ensures unchanged { IfNone result (text.new ≡ text.old) }
     ensures behind { IfSome result (λ len. drop len text.new ≡ drop len text.old) }
@@ -71,7 +73,8 @@ fn put_whole(units: &[u16], text: &mut [u8], piece: &mut [u8]) -> Option<usize>
     requires { 3 * length units.now + 4 ≤ length piece.old }
     ensures sound { IfSome result (λ len. IsWellFormed Utf16 units.now) }
     ensures fault { IfNone result (IsWellFormed Utf16 units.now → ⊥) }
-    ensures len { IfSome result (λ len. len ≡ min (length (utf8 (chars Utf16 units.now))) (2 ^ 64 - 1)) }
+    ensures len { IfSome result (λ len. len ≡ length (utf8 (chars Utf16 units.now))) }
+    ensures fits { IfSome result (λ len. len < 2 ^ 64 - 1) }
     ensures text { IfSome result (λ len. len ≤ length text.old → take len text.new ≡ utf8 (chars Utf16 units.now)) }
     ensures unchanged { IfNone result (text.new ≡ text.old) }
     ensures behind { IfSome result (λ len. drop len text.new ≡ drop len text.old) }
@@ -182,7 +185,9 @@ pub(crate) fn put_lossy_behind<C: Unit>(
 
 // The same at the front.
 fn put_lossy_by<C: Unit>(units: &[C], policy: Policy, text: &mut [u8]) -> usize
-    ensures len { result ≡ min (length (utf8 (lossy_by policy (items C.form (map C.number units.now))))) (2 ^ 64 - 1) }
+    requires { 4 * length units.now < 2 ^ 64 - 1 }
+    ensures len { result ≡ length (utf8 (lossy_by policy (items C.form (map C.number units.now)))) }
+    ensures fits { result < 2 ^ 64 - 1 }
     ensures text { result ≤ length text.old → take result text.new ≡ utf8 (lossy_by policy (items C.form (map C.number units.now))) }
     ensures behind { drop result text.new ≡ drop result text.old }
 {

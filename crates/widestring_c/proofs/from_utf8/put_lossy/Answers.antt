@@ -5,6 +5,7 @@ use Rattle.wide_unit.specs.Lossy.{lossy_after, lossy_by}
 use Rattle.wide_blocks.specs.Parts.{IsLossyFront, utf8_items}
 use Rattle.widestring_c.proofs.Buffers.{Puts, one_more_by, one_more_of, behind_more, counted_all, written_all_of}
 use Rattle.widestring_c.proofs.Chunks.{lossy_end, lossy_front}
+use Rattle.widestring_c.proofs.Fits.{units-lossy_by}
 use Rattle.widestring_c.proofs.from_utf8.put_lossy.Goals as goal
 
 pub fronts-preserved : goal.fronts-preserved
@@ -44,7 +45,17 @@ returns-clause-len g c =
     let first = map number c.args.units.now in
     let all = encode g.C.Unit.form (lossy_by c.args.policy (utf8_items c.args.text.now)) in
     let none : length c.fronts.rest.now ≡ 0 = grind (arith, c.is_empty.ensures, c.fronts-test.false) in
-    omega (arith, counted_all first 0 all (map number c.fronts.units) c.fronts.at (subst (λ us. Puts first 0 all c.fronts.at (map number c.fronts.units) us) (lossy_end g.C.Unit.form c.args.policy c.fronts.after c.fronts.rest.now none) c.fronts.invariant.so_far))
+    let counted = counted_all first 0 all (map number c.fronts.units) c.fronts.at (subst (λ us. Puts first 0 all c.fronts.at (map number c.fronts.units) us) (lossy_end g.C.Unit.form c.args.policy c.fronts.after c.fronts.rest.now none) c.fronts.invariant.so_far) in
+    omega (arith, counted, units-lossy_by g.C.Unit.form c.args.policy c.args.text.now)
+
+pub returns-clause-fits : goal.returns-clause-fits
+returns-clause-fits g c =
+    let number = g.C.Unit.number in
+    let first = map number c.args.units.now in
+    let all = encode g.C.Unit.form (lossy_by c.args.policy (utf8_items c.args.text.now)) in
+    let none : length c.fronts.rest.now ≡ 0 = grind (arith, c.is_empty.ensures, c.fronts-test.false) in
+    let counted = counted_all first 0 all (map number c.fronts.units) c.fronts.at (subst (λ us. Puts first 0 all c.fronts.at (map number c.fronts.units) us) (lossy_end g.C.Unit.form c.args.policy c.fronts.after c.fronts.rest.now none) c.fronts.invariant.so_far) in
+    omega (arith, counted, units-lossy_by g.C.Unit.form c.args.policy c.args.text.now)
 
 pub returns-clause-units : goal.returns-clause-units
 returns-clause-units g c = λ fits.

@@ -1,5 +1,7 @@
 use Rattle.std.proofs.Common.{arith}
+use Rattle.wide_unit.specs.EncodingForm.{Utf16}
 use Rattle.widestring_c.proofs.Chunks.{not_text}
+use Rattle.widestring_c.proofs.Fits.{units-text}
 use Rattle.widestring_c.proofs.from_utf8.wide_utf8_to_utf16.Goals as goal
 
 pub returns-then-broken-gt0-clause-len : goal.returns-then-broken-gt0-clause-len
@@ -7,3 +9,18 @@ returns-then-broken-gt0-clause-len c = λ text. absurd (not_text c.args.text.now
 
 pub returns-then-broken-gt0-clause-units : goal.returns-then-broken-gt0-clause-units
 returns-then-broken-gt0-clause-units c = λ text. absurd (not_text c.args.text.now _ (c.first_chunk-broken.ensures.fault (omega arith)) text)
+
+pub returns-then-broken-gt0-clause-no_fault : goal.returns-then-broken-gt0-clause-no_fault
+returns-then-broken-gt0-clause-no_fault c = λ text. absurd (not_text c.args.text.now _ (c.first_chunk-broken.ensures.fault (omega arith)) text)
+
+pub returns-then-text-le-FEW-clause-len : goal.returns-then-text-le-FEW-clause-len
+returns-then-text-le-FEW-clause-len c = λ text. omega (arith, c.put_text.ensures.place, units-text Utf16 c.args.text.now text)
+
+pub returns-then-text-le-FEW-clause-no_fault : goal.returns-then-text-le-FEW-clause-no_fault
+returns-then-text-le-FEW-clause-no_fault c = λ text. omega (arith, c.put_text.ensures.place, units-text Utf16 c.args.text.now text)
+
+pub returns-else-text-le-FEW-clause-len : goal.returns-else-text-le-FEW-clause-len
+returns-else-text-le-FEW-clause-len c = λ text. omega (arith, c.put_text-else-text-le-FEW.ensures.place, units-text Utf16 c.args.text.now text)
+
+pub returns-else-text-le-FEW-clause-no_fault : goal.returns-else-text-le-FEW-clause-no_fault
+returns-else-text-le-FEW-clause-no_fault c = λ text. omega (arith, c.put_text-else-text-le-FEW.ensures.place, units-text Utf16 c.args.text.now text)

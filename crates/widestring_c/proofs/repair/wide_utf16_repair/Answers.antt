@@ -1,13 +1,7 @@
-use Rattle.std.proofs.Common.{length, arith}
+use Rattle.std.proofs.Common.{length}
 use Rattle.wide_unit.specs.EncodingForm.{Utf16}
-use Rattle.widestring_c.proofs.Repaired.{repaired_len, repaired}
+use Rattle.widestring_c.proofs.Repaired.{repaired}
 use Rattle.widestring_c.proofs.repair.wide_utf16_repair.Goals as goal
-
-pub returns-then-units-repaired-clause-len : goal.returns-then-units-repaired-clause-len
-returns-then-units-repaired-clause-len c = repaired_len Utf16 c.args.units.now (omega arith)
 
 pub returns-then-units-repaired-clause-units : goal.returns-then-units-repaired-clause-units
 returns-then-units-repaired-clause-units c = λ _. repaired Utf16 c.args.units.now c.mend.new.mended (length c.args.units.now) c.mend.ensures.units
-
-pub returns-else-units-repaired-clause-len : goal.returns-else-units-repaired-clause-len
-returns-else-units-repaired-clause-len c = repaired_len Utf16 c.args.units.now (omega arith)

@@ -1,14 +1,8 @@
-use Rattle.std.proofs.Common.{◌∙◌, length, arith}
+use Rattle.std.proofs.Common.{◌∙◌, length}
 use Rattle.wide_unit.specs.EncodingForm.{Utf32}
 use Rattle.wide_unit.specs.Laws.Utf32.{encode32}
-use Rattle.widestring_c.proofs.Repaired.{repaired_len32, repaired}
+use Rattle.widestring_c.proofs.Repaired.{repaired}
 use Rattle.widestring_c.proofs.repair.wide_utf32_repair.Goals as goal
-
-pub returns-then-units-repaired-clause-len : goal.returns-then-units-repaired-clause-len
-returns-then-units-repaired-clause-len c = repaired_len32 c.args.units.now (omega arith)
 
 pub returns-then-units-repaired-clause-units : goal.returns-then-units-repaired-clause-units
 returns-then-units-repaired-clause-units c = λ _. repaired Utf32 c.args.units.now c.mend.new.mended (length c.args.units.now) c.mend.ensures.units ∙ encode32 _
-
-pub returns-else-units-repaired-clause-len : goal.returns-else-units-repaired-clause-len
-returns-else-units-repaired-clause-len c = repaired_len32 c.args.units.now (omega arith)
