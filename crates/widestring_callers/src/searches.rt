@@ -1,10 +1,14 @@
 //! Texts cut and edited where something was found in them.
-ghost use Rattle.std.specs.Prelude.{◌≤◌, length};
+ghost use Rattle.std.specs.Prelude.{◌≡◌, ◌≤◌, length};
+ghost use Rattle.widestring.specs.EncodingForm.{Utf16, code_units};
+ghost use Rattle.widestring.specs.SearchCut.{pieces};
+ghost use Rattle.widestring.specs.SearchPieces.{ArePieces};
+ghost use Rattle.widestring.specs.TextSplit.{char_pieces_left, text_pieces_left};
 ghost use Rattle.widestring.specs.View.{units_seen};
 
 use widestring::error::{FaultUnit, OutOfMemory};
 use widestring::unit::Unit;
-use widestring::utfstr::UtfStr;
+use widestring::utfstr::{Split, UtfStr};
 use widestring::utfstring::UtfString;
 use widestring::{U16CStr, U16Str, Utf16Str, Utf16String};
 
@@ -252,4 +256,18 @@ pub fn count_lines(text: Utf16Str<'_>) -> usize {
         count = count.saturating_add(1);
     }
     count
+}
+
+/// The fields of a line between commas, which are the pieces of its units.
+pub fn fields<'a>(line: Utf16Str<'a>, comma: Utf16Str<'a>) -> Split<Utf16Str<'a>, Utf16Str<'a>>
+    ensures { text_pieces_left (λ u. u) result ≡ pieces (units_seen comma.entry) (units_seen line.entry) }
+{
+    line.split(comma)
+}
+
+/// The fields of a line between characters, which are the pieces of its units.
+pub fn fields_between(line: Utf16Str<'_>, c: char) -> Split<Utf16Str<'_>, char>
+    ensures { ArePieces (code_units Utf16 c) (units_seen line.entry) (char_pieces_left Utf16 (λ u. u) result) }
+{
+    line.split_char(c)
 }
