@@ -1,15 +1,15 @@
 -- Bytes that begin with two known ones, by what stands behind the mark.
-use Rattle.std.proofs.Common.{◌≡◌, ℕ, ◌-◌, ◌%◌, ◌≤◌, Bool, true, false, eqb, cond, inl, inr, List, [], ◌∷◌, ◌++◌, Option, Some, None, length, drop, refl, sym, ap, ◌∙◌, subst, arith, length-append, length-drop, append_assoc}
+use Rattle.std.proofs.Common.{◌≡◌, ℕ, ◌-◌, ◌%◌, ◌<◌, ◌≤◌, ◌⊎◌, Bool, true, false, eqb, cond, inl, inr, List, [], ◌∷◌, ◌++◌, Option, Some, None, length, drop, refl, sym, ap, ◌∙◌, subst, arith, length-append, length-drop, append_assoc}
 use Rattle.std.specs.Prelude.{Result, Ok, Err, is_some, unwrap_or}
 use Rattle.wide_unit.specs.EncodingForm.{Utf16}
 use Rattle.wide_unit.specs.Items.{items, leading_characters, first_fault}
 use Rattle.wide_unit.specs.Lossy.{lossy_by}
 use Rattle.wide_unit.specs.Utf8.{utf8}
 use Rattle.wide_unit.specs.Laws.Items.{items-nil}
-use Rattle.wide_bytes.specs.Bytes.{mark_of, order_of, without_mark, without_last_zero, units_in, units_of_bytes, is_odd}
+use Rattle.wide_bytes.specs.Bytes.{mark_of, order_of, without_mark, without_last_zero, units_in, units_of_bytes, whole_units, is_odd}
 use Rattle.wide_bytes.specs.Transcoded.{Transcoded, Clean, HalfUnit, transcoded_under, ending_of}
-use Rattle.wide_bytes.specs.Run.{Ends}
-use Rattle.wide_bytes.specs.Pieces.{units_behind, transcoded_behind, WantsRoom, Starts}
+use Rattle.wide_bytes.specs.Run.{Ends, IsAllButReplacement, MayBePaired, ReportsAtOnce, ReportsFault}
+use Rattle.wide_bytes.specs.Pieces.{units_behind, transcoded_behind, ReportsBehind, WantsRoom, Starts}
 use Rattle.wide_bytes.specs.declared.order.BoM.{BoM}
 use Rattle.wide_bytes.specs.declared.order.BoM.TheVariants.{Little}
 use Rattle.wide_unit.specs.declared.policy.Policy.{Policy}
@@ -80,11 +80,21 @@ module _ (first : List ℕ) (long : 2 ≤ length first) (order : BoM) (in_order 
   ends-by-rest (Err (Utf16Fault index item unit)) ended policy bytes written (e, inr same) =
       (sym (by-rest policy bytes) ∙ e, inr (λ more. ap (λ bs. transcoded_under policy bs) (append_assoc first bytes more) ∙ sym (by-rest policy (bytes ++ more)) ∙ same more ∙ by-rest policy bytes))
   ends-by-rest (Err OutOfMemory) ended policy bytes written e = (e.0, ap (λ t. t.text) (sym (by-rest policy bytes)) ∙ e.1)
-  ends-by-rest (Err Read) ended policy bytes written e = (e.0, ap (λ t. t.text) (sym (by-rest policy bytes)) ∙ e.1)
+  ends-by-rest (Err Read) ended policy bytes written e = (
+    λ more. (let b = e.0 more in (b.0, ap (λ bs. (transcoded_under policy bs).text) (append_assoc first bytes more) ∙ ap (λ t. t.text) (sym (by-rest policy (bytes ++ more))) ∙ b.1)),
+    subst (λ t. IsAllButReplacement written t.text) (by-rest policy bytes) e.1,
+  )
   ends-by-rest (Err Write) ended policy bytes written e = (e.0, ap (λ t. t.text) (sym (by-rest policy bytes)) ∙ e.1)
 
   pub room-by-rest : {T : Type 0} (r : Result T TranscodeError) (bytes : List ℕ) → WantsRoom r (units_behind order (rest ++ bytes)) → WantsRoom r (units_of_bytes (first ++ bytes))
   room-by-rest r bytes h = subst (λ us. WantsRoom r us) (units-by-rest bytes) h
+
+  whole-by-rest : (more : List ℕ) → units_in order (rest ++ more) ≡ whole_units (first ++ more)
+  whole-by-rest more = sym (ap (λ o. units_in o (without_mark (first ++ more))) (order-of more) ∙ ap (λ bs. units_in order bs) (rest-of more))
+
+  pub reports-by-rest : {T : Type 0} (r : Result T TranscodeError) (ended : Bool) (policy : Option Policy) (bytes : List ℕ) → ReportsBehind r ended order policy (rest ++ bytes)
+      → ReportsAtOnce r ended (transcoded_under policy) (first ++ bytes)
+  reports-by-rest r ended policy bytes h = subst (λ t. ReportsFault r ended t.ending (whole_units (first ++ bytes))) (by-rest policy bytes) (subst (λ us. ReportsFault r ended (transcoded_behind order policy (rest ++ bytes)).ending us) (whole-by-rest bytes) h)
 
 -- ---- fewer than two bytes
 
@@ -123,15 +133,31 @@ one-byte (Some policy) (a ∷ b ∷ bytes) one = absurd (omega arith)
 
 -- ---- the first takes
 
-pub start-error : (e : TranscodeError) (bytes piece : List ℕ) (left : Option (List ℕ)) (failed ended : Bool) → Starts (Err e) bytes piece left failed ended → e ≡ Read
-start-error Read bytes piece left failed ended h = refl
+pub start-error : (e : TranscodeError) (bytes piece : List ℕ) (left : Option (List ℕ)) (failed ended : Bool) → Starts (Err e) bytes piece left failed ended → (e ≡ Read) × (length bytes < 2)
+start-error Read bytes piece left failed ended h = (refl, h.0)
 start-error OutOfMemory bytes piece left failed ended h = absurd h
 start-error (Utf16Fault index item unit) bytes piece left failed ended h = absurd h
 start-error OddLength bytes piece left failed ended h = absurd h
 start-error Write bytes piece left failed ended h = absurd h
 
-pub read-ends : {T : Type 0} (r : Result T TranscodeError) (y : TranscodeError) (ended : Bool) (policy : Option Policy) (bytes : List ℕ) → r ≡ Err y → y ≡ Read → Ends r ended (transcoded_under policy) bytes [] × WantsRoom r (units_of_bytes bytes)
-read-ends r y ended policy bytes is e = rw (is, e) (((transcoded_under policy bytes).text, refl), tt)
+short-text : (policy : Option Policy) (bytes : List ℕ) → length bytes < 2 → (transcoded_under policy bytes ≡ record { text = []; ending = Clean }) ⊎ (transcoded_under policy bytes ≡ record { text = []; ending = HalfUnit })
+short-text policy [] short = inl (nothing policy [] refl)
+short-text policy (a ∷ []) short = inr (one-byte policy (a ∷ []) refl)
+short-text policy (a ∷ b ∷ bytes) short = absurd (omega arith)
+
+no-text-yet : (t : Transcoded) → (t ≡ record { text = []; ending = Clean }) ⊎ (t ≡ record { text = []; ending = HalfUnit }) → t.text ≡ []
+no-text-yet t (inl clean) = ap (λ x. x.text) clean
+no-text-yet t (inr half) = ap (λ x. x.text) half
+
+no-fault-yet : (t : Transcoded) (units : List ℕ) → (t ≡ record { text = []; ending = Clean }) ⊎ (t ≡ record { text = []; ending = HalfUnit }) → MayBePaired t.ending units
+no-fault-yet t units (inl clean) = subst (λ x. MayBePaired x.ending units) (sym clean) tt
+no-fault-yet t units (inr half) = subst (λ x. MayBePaired x.ending units) (sym half) tt
+
+pub read-ends : {T : Type 0} (r : Result T TranscodeError) (y : TranscodeError) (ended : Bool) (policy : Option Policy) (bytes : List ℕ) → r ≡ Err y → y ≡ Read → length bytes < 2
+    → Ends r ended (transcoded_under policy) bytes [] × WantsRoom r (units_of_bytes bytes) × ReportsAtOnce r ended (transcoded_under policy) bytes
+read-ends r y ended policy bytes is e short =
+    let t = short-text policy bytes short in
+    rw (is, e) ((λ more. ((transcoded_under policy (bytes ++ more)).text, refl), inl (no-text-yet (transcoded_under policy bytes) t)), tt, no-fault-yet (transcoded_under policy bytes) (whole_units bytes) t)
 
 pub mark-dropped : (bytes : List ℕ) → 2 ≤ length bytes → drop (length bytes - length (without_mark bytes)) bytes ≡ without_mark bytes
 mark-dropped [] long = absurd (omega arith)

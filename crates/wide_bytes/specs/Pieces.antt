@@ -7,6 +7,7 @@ use Rattle.wide_unit.specs.Lossy.{lossy_by}
 use Rattle.wide_unit.specs.Utf8.{utf8}
 use Rattle.wide_unit.specs.declared.policy.Policy.{Policy}
 use Rattle.wide_bytes.specs.Bytes.{units_in, is_odd, without_last_zero}
+use Rattle.wide_bytes.specs.Run.{ReportsFault}
 use Rattle.wide_bytes.specs.Transcoded.{Transcoded, ending_of}
 use Rattle.wide_bytes.specs.declared.order.BoM.{BoM}
 use Rattle.wide_error.specs.declared.error.TranscodeError.{TranscodeError}
@@ -27,6 +28,10 @@ transcoded_behind order (Some policy) bytes =
     let is = items Utf16 (units_behind order bytes) in
     record { text = utf8 (lossy_by policy is); ending = ending_of None (is_odd bytes) }
 
+-- a fault behind the mark is the answer before another read
+abbrev pub ReportsBehind : {T : Type 0} → Result T TranscodeError → Bool → BoM → Option Policy → List ℕ → Type 0
+ReportsBehind r ended order policy bytes = ReportsFault r ended (transcoded_behind order policy bytes).ending (units_in order bytes)
+
 -- want of room is answered only where the index of a unit would not fit 64 bits
 abbrev pub WantsRoom : {T : Type 0} → Result T TranscodeError → List ℕ → Type 0
 WantsRoom (Ok u) units = Unit {0}
@@ -40,7 +45,7 @@ WantsRoom (Err Write) units = Unit {0}
 abbrev pub Starts : Result ℕ TranscodeError → List ℕ → List ℕ → Option (List ℕ) → Bool → Bool → Type 0
 Starts (Ok n) bytes piece left failed ended =
     (n ≤ length piece) × (bytes ≡ take n piece) × (failed ≡ false) × (((2 ≤ n) × (ended ≡ false)) ⊎ ((n < 2) × (ended ≡ true) × IsAtEnd left))
-Starts (Err Read) bytes piece left failed ended = (failed ≡ true) × (ended ≡ false)
+Starts (Err Read) bytes piece left failed ended = (length bytes < 2) × (failed ≡ true) × (ended ≡ false)
 Starts (Err OutOfMemory) bytes piece left failed ended = ⊥
 Starts (Err (Utf16Fault index item unit)) bytes piece left failed ended = ⊥
 Starts (Err OddLength) bytes piece left failed ended = ⊥

@@ -15,7 +15,9 @@ pub(crate) fn take_behind<S: ByteSource>(
     bytes: &mut [u8],
     filled: usize,
 ) -> io::Result<usize>
-    requires { filled < length bytes.old }
+    requires sound { S.has_failed source.old ≡ false }
+    requires open { S.has_ended source.old ≡ false }
+    requires within { filled < length bytes.old }
     ensures front { take filled bytes.new ≡ take filled bytes.old }
     ensures fits { IfOk result (λ n. filled + n ≤ length bytes.new) }
     ensures given { IfOk result (λ n. Consumes (S.left source.old) (S.left source.new) (take n (drop filled bytes.new))) }

@@ -3,7 +3,7 @@
 ghost use Rattle.std.specs.Prelude.{◌≡◌, ℕ, List, false};
 ghost use Rattle.wide_bytes.specs.Bytes.{units_of_bytes};
 ghost use Rattle.wide_bytes.specs.Pieces.{WantsRoom};
-ghost use Rattle.wide_bytes.specs.Run.{AtEnd, Ends, Moves, fails_to_read, fails_to_write};
+ghost use Rattle.wide_bytes.specs.Run.{AtEnd, Ends, Moves, ReportsAtOnce, fails_to_read, fails_to_write};
 ghost use Rattle.wide_bytes.specs.Transcoded.{transcoded, transcoded_by, transcoded_under};
 
 use crate::devices::{ByteSink, ByteSource};
@@ -26,7 +26,8 @@ fn transcode_under<S: ByteSource, K: ByteSink>(
     ensures run { (bytes written : List ℕ)
         × Moves (S.left source.old) (S.left source.new) (K.held sink.old) (K.held sink.new) bytes written
         × Ends result (S.has_ended source.new) (transcoded_under policy) bytes written
-        × WantsRoom result (units_of_bytes bytes) }
+        × WantsRoom result (units_of_bytes bytes)
+        × ReportsAtOnce result (S.has_ended source.new) (transcoded_under policy) bytes }
     ensures at_end { AtEnd result (S.left source.new) }
     ensures source_failed { S.has_failed source.new ≡ fails_to_read result }
     ensures sink_failed { K.has_failed sink.new ≡ fails_to_write result }
@@ -67,8 +68,9 @@ fn transcode_under<S: ByteSource, K: ByteSink>(
 /// - [`TranscodeError::Utf16`]: in [`Mode::Strict`] the first fault, its index counted in units and its item number in
 ///   characters, both after the mark. The text before it is written. It comes before `OddLength`.
 /// - [`TranscodeError::OddLength`]: the number of bytes is odd. The text of the whole units is written.
-/// - [`TranscodeError::Read`] and [`TranscodeError::Write`]: the source, or the sink, failed in this call. What was
-///   written is a beginning of the text of the bytes that were read.
+/// - [`TranscodeError::Read`]: the source failed in this call. The text of the bytes that were read is written, as if they were all,
+///   but in [`Mode::Lossy`] no U+FFFD for a high surrogate at their end, behind which a low one might have come.
+/// - [`TranscodeError::Write`]: the sink failed in this call. What was written is a beginning of the text of the bytes that were read.
 /// - [`TranscodeError::OutOfMemory`]: there are more units than have an index; what was written is a beginning of the text.
 pub fn transcode<S: ByteSource, K: ByteSink>(
     source: &mut S,
@@ -79,11 +81,12 @@ pub fn transcode<S: ByteSource, K: ByteSink>(
     requires source_open { S.has_ended source.old ≡ false }
     requires sink_sound { K.has_failed sink.old ≡ false }
 
-    // The bytes that went in, those that came out, and how it ended.
+    // The bytes that went in, those that came out, how it ended, and that a fault was reported before another read.
     ensures run { (bytes written : List ℕ)
         × Moves (S.left source.old) (S.left source.new) (K.held sink.old) (K.held sink.new) bytes written
         × Ends result (S.has_ended source.new) (transcoded mode) bytes written
-        × WantsRoom result (units_of_bytes bytes) }
+        × WantsRoom result (units_of_bytes bytes)
+        × ReportsAtOnce result (S.has_ended source.new) (transcoded mode) bytes }
     ensures at_end { AtEnd result (S.left source.new) }
 
     // A device has failed exactly where its fault is the answer.
@@ -104,8 +107,9 @@ pub fn transcode<S: ByteSource, K: ByteSink>(
 /// # Errors
 ///
 /// - [`TranscodeError::OddLength`]: the number of bytes is odd. The text of the whole units is written.
-/// - [`TranscodeError::Read`] and [`TranscodeError::Write`]: the source, or the sink, failed in this call. What was
-///   written is a beginning of the text of the bytes that were read.
+/// - [`TranscodeError::Read`]: the source failed in this call. The text of the bytes that were read is written, as if they were all,
+///   but no U+FFFD for a high surrogate at their end, behind which a low one might have come.
+/// - [`TranscodeError::Write`]: the sink failed in this call. What was written is a beginning of the text of the bytes that were read.
 /// - [`TranscodeError::OutOfMemory`]: there are more units than have an index; what was written is a beginning of the text.
 pub fn transcode_with<S: ByteSource, K: ByteSink>(
     source: &mut S,
@@ -116,11 +120,12 @@ pub fn transcode_with<S: ByteSource, K: ByteSink>(
     requires source_open { S.has_ended source.old ≡ false }
     requires sink_sound { K.has_failed sink.old ≡ false }
 
-    // The bytes that went in, those that came out, and how it ended.
+    // The bytes that went in, those that came out, how it ended, and that a fault was reported before another read.
     ensures run { (bytes written : List ℕ)
         × Moves (S.left source.old) (S.left source.new) (K.held sink.old) (K.held sink.new) bytes written
         × Ends result (S.has_ended source.new) (transcoded_by policy) bytes written
-        × WantsRoom result (units_of_bytes bytes) }
+        × WantsRoom result (units_of_bytes bytes)
+        × ReportsAtOnce result (S.has_ended source.new) (transcoded_by policy) bytes }
     ensures at_end { AtEnd result (S.left source.new) }
 
     // A device has failed exactly where its fault is the answer.

@@ -135,8 +135,7 @@ fn reader(rt: HostRuntime) {
     let mut room = [0; 2];
     let rows = [
         is_moved(source.take(&mut []), 0),
-        !source.ended(),
-        is_moved(source.take(&mut room), 2),
+        !source.failed() && !source.ended() && is_moved(source.take(&mut room), 2),
         is_moved(source.into_inner().read(&mut room), 1),
     ];
     all_hold(&rt, &rows);

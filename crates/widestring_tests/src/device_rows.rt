@@ -77,24 +77,43 @@ fn sinks_that_fail(rt: HostRuntime) {
     }
 }
 
-// Whether a source that fails behind so many bytes is told, and no more was written than the beginning of their text.
-fn ends_at_source(alloc: Global, count: usize, step: usize) -> bool {
-    let mut source = Cut::failing_behind(&FILE[..count.min(FILE.len())], step);
+// Bytes, and the text that is written of them, strict or lossy, where the read behind them fails. Half a unit, a high surrogate and a
+// zero unit at the end are held back, and nothing else is.
+static READ: [(&[u8], &[u8]); 14] = [
+    (b"", b""),
+    (b"\x41", b""),
+    (b"\xff\xfe", b""),
+    (b"\xff\xfe\x3d", b""),
+    (b"\xff\xfe\x3d\xd8", b""),
+    (b"\xff\xfe\x3d\xd8\x00", b""),
+    (b"\xff\xfe\x3d\xd8\x00\xde", b"\xf0\x9f\x98\x80"),
+    (b"\xff\xfe\x3d\xd8\x00\xde\x41", b"\xf0\x9f\x98\x80"),
+    (FILE, TEXT),
+    (b"\x41\x00\x42\x00\x43\x00", b"ABC"),
+    (b"\x41\x00\x3d\xd8", b"A"),
+    (b"\x41\x00\x00\x00", b"A"),
+    (b"\x41\x00\x00\x00\x42", b"A\x00"),
+    (b"\x41\x00\xfd\xff", b"A\xef\xbf\xbd"),
+];
+
+// Whether a source that fails behind these bytes makes the answer, and just this text is written.
+fn ends_at_source(alloc: Global, read: (&[u8], &[u8]), step: usize, mode: Mode) -> bool {
+    let (bytes, text) = read;
+    let mut source = Cut::failing_behind(bytes, step);
     let mut sink = Slow::new(alloc, step, None, false);
-    let answer = transcode(&mut source, &mut sink, Mode::Strict);
-    let text = if count < 6 { b"".as_slice() } else { TEXT };
-    answer == Err(TranscodeError::Read) && text.starts_with(sink.bytes.as_slice())
+    let answer = transcode(&mut source, &mut sink, mode);
+    answer == Err(TranscodeError::Read) && sink.bytes.as_slice() == text
 }
 
 #[test]
 fn sources_that_fail(rt: HostRuntime) {
-    for count in 0..=FILE.len() {
-        let rows = [
-            ends_at_source(rt.alloc(), count, 1),
-            ends_at_source(rt.alloc(), count, 2),
-            ends_at_source(rt.alloc(), count, 4096),
-            ends_at_source(rt.alloc(), count, 0),
-        ];
-        all_hold(&rt, &rows);
+    for read in &READ {
+        for step in [1, 2, 4096, 0] {
+            let cases = [
+                ends_at_source(rt.alloc(), *read, step, Mode::Strict),
+                ends_at_source(rt.alloc(), *read, step, Mode::Lossy),
+            ];
+            all_hold(&rt, &cases);
+        }
     }
 }

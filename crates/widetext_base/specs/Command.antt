@@ -3,7 +3,7 @@ use Rattle.std.specs.Prelude.{◌≡◌, ◌⊎◌, ℕ, Bool, List, [], ◌∷�
 use Rattle.std.specs.declared.string.String.{String}
 use Rattle.wide_bytes.specs.Bytes.{units_of_bytes}
 use Rattle.wide_bytes.specs.Pieces.{WantsRoom}
-use Rattle.wide_bytes.specs.Run.{AtEnd, Ends, Moves, fails_to_read, fails_to_write}
+use Rattle.wide_bytes.specs.Run.{AtEnd, Ends, Moves, ReportsAtOnce, fails_to_read, fails_to_write}
 use Rattle.wide_bytes.specs.Transcoded.{transcoded_under}
 use Rattle.wide_error.specs.declared.error.TranscodeError.{TranscodeError}
 use Rattle.wide_unit.specs.declared.policy.Policy.{Policy}
@@ -44,6 +44,7 @@ pub record Utf8Run (policy : Option Policy) (left left' held held' : Option (Lis
   pub moves : Moves left left' held held' bytes written
   pub ends : Ends answer ended (transcoded_under policy) bytes written
   pub room : WantsRoom answer (units_of_bytes bytes)
+  pub reports : ReportsAtOnce answer ended (transcoded_under policy) bytes
   pub at_end : AtEnd answer left'
   pub source_failed : read_failed ≡ fails_to_read answer
   pub sink_failed : write_failed ≡ fails_to_write answer
