@@ -54,6 +54,10 @@ void put(std::u32string &text, std::uint32_t c) {
     text.push_back(c);
 }
 
+void put(std::wstring &text, std::uint32_t c) {
+    text.push_back(static_cast<wchar_t>(c));
+}
+
 // The length of the item that the rest begins with, which is told: the character whose shortest form stands there, or a fault.
 std::size_t first_item(std::string_view rest, std::uint32_t &item) {
     const auto byte = [&](std::size_t at) { return at < rest.size() ? static_cast<unsigned char>(rest[at]) : 0u; };
@@ -82,6 +86,12 @@ std::size_t first_item(std::u16string_view rest, std::uint32_t &item) {
 
 std::size_t first_item(std::u32string_view rest, std::uint32_t &item) {
     item = is_scalar(rest[0]) ? rest[0] : fault;
+    return 1;
+}
+
+std::size_t first_item(std::wstring_view rest, std::uint32_t &item) {
+    const auto unit = static_cast<std::uint32_t>(rest[0]);
+    item = is_scalar(unit) ? unit : fault;
     return 1;
 }
 
@@ -131,18 +141,90 @@ template <class String> std::optional<std::size_t> length_of(const std::optional
     return text ? std::optional(text->size()) : std::nullopt;
 }
 
+// Every call answers of numbers what it answers of the view whose elements they are.
+template <class Numbers> void compare(std::string_view text, const Numbers &numbers) {
+    must(widestring::first_fault(numbers) == widestring::first_fault(text), "first_fault of numbers");
+    must(widestring::valid(numbers) == widestring::valid(text), "valid of numbers");
+    must(widestring::char_count(numbers) == widestring::char_count(text), "char_count of numbers");
+    must(widestring::utf16_length(numbers) == widestring::utf16_length(text), "utf16_length of numbers");
+    must(widestring::utf32_length(numbers) == widestring::utf32_length(text), "utf32_length of numbers");
+    must(widestring::to_utf16(numbers) == widestring::to_utf16(text), "to_utf16 of numbers");
+    must(widestring::to_utf32(numbers) == widestring::to_utf32(text), "to_utf32 of numbers");
+    must(widestring::to_wstring(numbers) == widestring::to_wstring(text), "to_wstring of numbers");
+    must(widestring::byte_order(numbers) == widestring::byte_order(text), "byte_order of numbers");
+    for (const auto policy : policies) {
+        must(widestring::to_utf16_lossy(numbers, policy) == widestring::to_utf16_lossy(text, policy), "to_utf16_lossy of numbers");
+        must(widestring::to_utf32_lossy(numbers, policy) == widestring::to_utf32_lossy(text, policy), "to_utf32_lossy of numbers");
+        must(widestring::to_wstring_lossy(numbers, policy) == widestring::to_wstring_lossy(text, policy), "to_wstring_lossy of numbers");
+    }
+    for (const auto order : {widestring::Order::little, widestring::Order::big}) {
+        must(widestring::certain(numbers, order) == widestring::certain(text, order), "certain of numbers");
+        must(widestring::first_fault(numbers, order) == widestring::first_fault(text, order), "first_fault of numbers in bytes");
+        must(widestring::ends_in_fault(numbers, order) == widestring::ends_in_fault(text, order), "ends_in_fault of numbers");
+        must(widestring::to_utf8(numbers, order) == widestring::to_utf8(text, order), "to_utf8 of numbers in bytes");
+        must(widestring::to_utf8_lossy(numbers, order) == widestring::to_utf8_lossy(text, order), "to_utf8_lossy of numbers in bytes");
+    }
+}
+
+template <class View, class Numbers> void compare_units(View text, const Numbers &numbers) {
+    must(widestring::first_fault(numbers) == widestring::first_fault(text), "first_fault of numbers");
+    must(widestring::first_fault_item(numbers) == widestring::first_fault_item(text), "first_fault_item of numbers");
+    must(widestring::valid(numbers) == widestring::valid(text), "valid of numbers");
+    must(widestring::char_count(numbers) == widestring::char_count(text), "char_count of numbers");
+    must(widestring::utf8_length(numbers) == widestring::utf8_length(text), "utf8_length of numbers");
+    must(widestring::first_nul(numbers) == widestring::first_nul(text), "first_nul of numbers");
+    must(widestring::find(numbers, 0x7a) == widestring::find(text, 0x7a), "find of a unit in numbers");
+    must(widestring::find(numbers, numbers) == std::optional<std::size_t>(0), "find of numbers");
+    must(widestring::find(text, numbers) == std::optional<std::size_t>(0), "find of numbers in a view");
+    must(widestring::to_utf8(numbers) == widestring::to_utf8(text), "to_utf8 of numbers");
+    must(widestring::repair(numbers) == widestring::repair(text), "repair of numbers");
+    for (const auto policy : policies)
+        must(widestring::to_utf8_lossy(numbers, policy) == widestring::to_utf8_lossy(text, policy), "to_utf8_lossy of numbers");
+}
+
+template <class Numbers> void compare(std::u16string_view text, const Numbers &numbers) {
+    compare_units(text, numbers);
+    must(widestring::utf32_length(numbers) == widestring::utf32_length(text), "utf32_length of numbers");
+    must(widestring::to_utf32(numbers) == widestring::to_utf32(text), "to_utf32 of numbers");
+    must(widestring::to_wstring(numbers) == widestring::to_wstring(text), "to_wstring of numbers");
+    for (const auto policy : policies)
+        must(widestring::to_wstring_lossy(numbers, policy) == widestring::to_wstring_lossy(text, policy), "to_wstring_lossy of numbers");
+}
+
+template <class Numbers> void compare(std::u32string_view text, const Numbers &numbers) {
+    compare_units(text, numbers);
+    must(widestring::utf16_length(numbers) == widestring::utf16_length(text), "utf16_length of numbers");
+    must(widestring::to_utf16(numbers) == widestring::to_utf16(text), "to_utf16 of numbers");
+}
+
+// A pointer with a length, and since C++20 spans, and what converts to one, of each eighth text.
+template <class Number, class View> void check_numbers(View text) {
+    if (below(8) != 0)
+        return;
+    const std::vector<Number> numbers(text.begin(), text.end());
+    using Char = typename View::value_type;
+    compare(text, widestring::CodeUnits<Number, Char>(numbers.data(), numbers.size()));
+#ifdef __cpp_lib_span
+    compare(text, std::span<const Number>(numbers));
+    compare(text, numbers);
+#endif
+}
+
 void check(std::string_view text) {
     const Items items = items_of(text);
     check_faults(text, items);
+    check_numbers<std::uint8_t>(text);
     const auto units = text_of<std::u16string>(items);
     const auto wide = text_of<std::u32string>(items);
     must(widestring::to_utf16(text) == units, "to_utf16");
     must(widestring::to_utf32(text) == wide, "to_utf32");
+    must(widestring::to_wstring(text) == text_of<std::wstring>(items), "to_wstring");
     must(widestring::utf16_length(text) == length_of(units), "utf16_length");
     must(widestring::utf32_length(text) == length_of(wide), "utf32_length");
     for (const auto policy : policies) {
         must(widestring::to_utf16_lossy(text, policy) == lossy_of<std::u16string>(items, policy), "to_utf16_lossy");
         must(widestring::to_utf32_lossy(text, policy) == lossy_of<std::u32string>(items, policy), "to_utf32_lossy");
+        must(widestring::to_wstring_lossy(text, policy) == lossy_of<std::wstring>(items, policy), "to_wstring_lossy");
     }
 }
 
@@ -174,8 +256,12 @@ void check_bytes(std::u16string_view text);
 void check(std::u16string_view text) {
     const Items items = items_of(text);
     check_units(text, items);
+    check_numbers<std::uint16_t>(text);
     must(widestring::to_utf32(text) == text_of<std::u32string>(items), "to_utf32");
+    must(widestring::to_wstring(text) == text_of<std::wstring>(items), "to_wstring");
     must(widestring::utf32_length(text) == length_of(text_of<std::u32string>(items)), "utf32_length");
+    for (const auto policy : policies)
+        must(widestring::to_wstring_lossy(text, policy) == lossy_of<std::wstring>(items, policy), "to_wstring_lossy");
     check_bytes(text);
 }
 
@@ -217,8 +303,17 @@ void check_bytes(std::u16string_view text) {
 void check(std::u32string_view text) {
     const Items items = items_of(text);
     check_units(text, items);
+    check_numbers<std::uint32_t>(text);
     must(widestring::to_utf16(text) == text_of<std::u16string>(items), "to_utf16");
     must(widestring::utf16_length(text) == length_of(text_of<std::u16string>(items)), "utf16_length");
+}
+
+// A string of wchar_t is UTF-32.
+void check(std::wstring_view text) {
+    const Items items = items_of(text);
+    check_units(text, items);
+    must(widestring::to_utf16(text) == text_of<std::u16string>(items), "to_utf16 of wchar_t");
+    must(widestring::utf16_length(text) == length_of(text_of<std::u16string>(items)), "utf16_length of wchar_t");
 }
 
 // Where a text is as long as what is converted at once, and about there.
@@ -237,6 +332,8 @@ void check_longer() {
         check(std::string(length, 'a') + std::string(length, '\xf0'));
         check(std::u16string(length, u'a') + std::u16string(length, 0x8a9e) + u"\xd83d\xde00");
         check(std::u32string(length, U'a') + std::u32string(length, 0x1f600));
+        check(std::wstring(length, L'a') + std::wstring(length, 0x1f600));
+        check(std::wstring(length, 0xd800) + L"a");
     }
 }
 
@@ -263,18 +360,74 @@ template <class String> String random_text() {
     return text;
 }
 
-#ifdef __cpp_lib_span
-void check_views() {
+// Texts of each type that a call takes, with no conversion of the caller's.
+void check_types() {
     const std::uint16_t units[] = {0x61, 0xd83d, 0xde00};
     const std::uint32_t wide[] = {0x61, 0x1f600};
     const std::uint8_t bytes[] = {0x61, 0xf0, 0x9f, 0x98, 0x80};
     const std::string text(reinterpret_cast<const char *>(bytes), 5);
-    must(widestring::to_utf8(widestring::view(units)) == text, "view of units");
-    must(widestring::to_utf8(widestring::view(wide)) == text, "view of wide units");
-    must(widestring::to_utf16(widestring::view(bytes)) == std::u16string({0x61, 0xd83d, 0xde00}), "view of bytes");
-    must(widestring::to_utf16(widestring::view(u8"a")) == u"a", "view of char8_t");
-}
+    must(widestring::to_utf8({units, 3}) == text, "to_utf8 of a pointer to units");
+    must(widestring::to_utf8({wide, 2}) == text, "to_utf8 of a pointer to wide units");
+    must(widestring::to_utf16({bytes, 5}) == u"a\xd83d\xde00", "to_utf16 of a pointer to bytes");
+    must(widestring::to_utf8({u"a\0b", 3}) == std::string("a\0b", 3), "to_utf8 of a literal and a length");
+    must(widestring::to_utf8(u"a") == "a" && widestring::to_utf8(U"a") == "a" && widestring::to_utf8(L"a") == "a", "to_utf8 of literals");
+    must(widestring::to_wstring("a") == L"a" && widestring::to_wstring(u"a") == L"a", "to_wstring of literals");
+    must(widestring::repair(L"\xd800") == L"\xfffd", "repair of a literal");
+    must(widestring::find(std::wstring(L"abc"), L'c') == std::optional<std::size_t>(2), "find in a string of wchar_t");
+    must(widestring::find(std::u16string(u"abc"), u"c") == std::optional<std::size_t>(2), "find of a literal");
+#ifdef __cpp_char8_t
+    must(widestring::to_utf16(u8"a") == u"a" && widestring::to_utf16(widestring::view(u8"a")) == u"a", "to_utf16 of char8_t");
 #endif
+#ifdef __cpp_lib_span
+    must(widestring::to_utf8(units) == text && widestring::to_utf8(wide) == text, "to_utf8 of arrays");
+    must(widestring::to_utf16(bytes) == u"a\xd83d\xde00" && widestring::to_utf16(widestring::view(bytes)) == u"a\xd83d\xde00", "to_utf16 of arrays");
+    std::vector<std::uint16_t> grown(units, units + 3);
+    must(widestring::to_utf8(std::span(grown)) == text && widestring::repair(grown) == u"a\xd83d\xde00", "spans that may be written through");
+#endif
+}
+
+#ifdef __cpp_lib_span
+// No view of characters refers to numbers of 16 or of 32 bits, which its reader would read by another type.
+template <class Numbers, class = void> struct HasView : std::false_type {};
+template <class Numbers> struct HasView<Numbers, std::void_t<decltype(widestring::view(std::declval<Numbers>()))>> : std::true_type {};
+static_assert(!HasView<const std::vector<std::uint16_t> &>::value && !HasView<const std::vector<std::uint32_t> &>::value);
+#endif
+template <class Text> constexpr bool is_text = std::is_constructible_v<widestring::Utf16Units, Text> || std::is_constructible_v<widestring::Utf32Units, Text>;
+static_assert(!is_text<const std::vector<std::int16_t> &> && !is_text<const std::vector<float> &> && !is_text<std::string> && !is_text<int>);
+
+// What is written through a pointer to numbers between two calls is read by the second, within the first piece of a text and where pieces meet.
+template <class Text> std::uint32_t seen_twice(std::uint16_t *to, const Text &text) {
+    to[0] = 7;
+    const std::uint32_t first = widestring::to_utf32(text).value().front();
+    to[0] = 9;
+    return 100 * widestring::to_utf32(text).value().front() + first;
+}
+
+template <class Text> bool is_read_anew(std::uint16_t *to, std::size_t length, const Text &text) {
+    bool is_so = true;
+    for (const std::size_t at : {0, 1, 510, 511, 512, 4094, 4095, 4096, 4198}) {
+        to[at] = 0xd83d;
+        to[at + 1] = 0xde00;
+        is_so = is_so && widestring::to_utf8(text).value().size() == length + 2 && widestring::find(text, 0xd83d) == at;
+        to[at] = to[at + 1] = 0x61;
+        is_so = is_so && widestring::to_utf8(text).value().size() == length && !widestring::find(text, 0xd83d);
+    }
+    return is_so;
+}
+
+void check_writes() {
+    std::vector<std::uint16_t> numbers(4200, 0x61);
+    const widestring::Utf16Units units(numbers.data(), numbers.size());
+    must(seen_twice(numbers.data(), units) == 907, "writes between two calls");
+    numbers[0] = 0x61;
+    must(is_read_anew(numbers.data(), numbers.size(), units), "writes where pieces meet");
+#ifdef __cpp_lib_span
+    const std::span<const std::uint16_t> span = numbers;
+    must(seen_twice(numbers.data(), span) == 907, "writes between two calls on a span");
+    numbers[0] = 0x61;
+    must(is_read_anew(numbers.data(), numbers.size(), span), "writes where pieces of a span meet");
+#endif
+}
 
 } // namespace
 
@@ -282,18 +435,19 @@ int main(int count, char **words) {
     const long texts = count > 1 ? std::atol(words[1]) : 100000, seed = count > 2 ? std::atol(words[2]) : 1;
     numbers.seed(static_cast<std::uint64_t>(seed));
     must(widestring::version() == WIDESTRING_VERSION_NUMBER, "version");
-#ifdef __cpp_lib_span
-    check_views();
-#endif
+    check_types();
+    check_writes();
     // Views of nothing have no memory behind them.
     check(std::string_view());
     check(std::u16string_view());
     check(std::u32string_view());
+    check(std::wstring_view());
     check_longer();
     for (long at = 0; at < texts; at++) {
         check(random_text<std::string>());
         check(random_text<std::u16string>());
         check(random_text<std::u32string>());
+        check(random_text<std::wstring>());
     }
     std::cout << "seed " << seed << ": every call agrees on " << texts << " texts of each kind\n";
 }

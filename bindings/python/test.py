@@ -1,9 +1,14 @@
-"""Judges widestring.py by Python's own codecs: `test.py COUNT SEED`, with COUNT texts of each kind made at random."""
+"""Judges widestring.py by Python's own codecs: `test.py COUNT SEED [LIBRARY..]`, with COUNT texts of each kind made at random. The module must
+refuse each LIBRARY."""
 
 import array
 import codecs
+import ctypes
+import mmap
+import os
 import random
 import re
+import subprocess
 import sys
 
 import widestring
@@ -166,16 +171,201 @@ def random_data(name, width):
     return bytes(data)
 
 
+def must_raise(errors, call, *words):
+    """The error that the call raises, which is one of these and no Fault."""
+    try:
+        answer = call(*words)
+    except errors as error:
+        equal("a refusal", isinstance(error, widestring.Fault), False)
+        return error
+    sys.exit(f"{call.__name__}{words}: {answer!r} in place of {errors}")
+
+
 def check_refusals():
-    """What is no text, no policy, or no part of the units."""
-    for call in (lambda: widestring.utf16_to_utf8(b"abc"), lambda: widestring.utf16_to_utf8_lossy(b"", 3)):
-        try:
-            call()
-        except ValueError as error:
-            equal("a refusal", isinstance(error, widestring.Fault), False)
-        else:
-            sys.exit("no refusal")
+    """What is no text, no policy, no number, or no part of the units."""
+    must_raise(ValueError, widestring.utf16_to_utf8, b"abc")
+    must_raise(ValueError, widestring.utf32_first_fault, array.array("B", b"abcde"))
+    must_raise(ValueError, widestring.utf16_to_utf8_lossy, b"", 3)
+    for text in ("str", None, 7, ["a"]):
+        must_raise(TypeError, widestring.utf8_first_fault, text)
+        must_raise(TypeError, widestring.utf16_find_unit, text, -1)
+        must_raise(TypeError, widestring.utf32_find, b"abcd", text)
+    for unit in (105.0, "i", b"i", None):
+        must_raise(TypeError, widestring.utf16_find_unit, b"i\0", unit)
+        must_raise(TypeError, widestring.utf32_find_unit, b"i\0\0\0", unit)
     equal("find_unit", widestring.utf16_find_unit(b"ab", 0x16261), None)
+    equal("find_unit", widestring.utf32_find_unit(b"\xff\xff\xff\xff", -1), None)
+    equal("find_unit", widestring.utf16_find_unit(b"\xff\xff", -1), None)
+    equal("find_unit", widestring.utf32_find_unit(b"abcd", 1 << 64 | 0x64636261), None)
+    equal("find_unit", widestring.utf16_find_unit(b"aabb", 0x6262), 1)
+
+
+class LongBytes(bytes):
+    """Bytes that claim to be more than they are."""
+
+    length = 4096
+
+    def __len__(self):
+        return self.length
+
+    def __getitem__(self, key):
+        return bytes(self.length)
+
+    def isascii(self):
+        return True
+
+
+class LongArray(bytearray):
+    """A buffer that claims to be longer than it is."""
+
+    def __len__(self):
+        return 1 << 32
+
+
+class Zero:
+    """A number that is an integer by its own word."""
+
+    def __index__(self):
+        return 0x62
+
+
+def check_lying_lengths():
+    """A buffer is as long as its memory is, whatever its object claims."""
+    for length in (4096, 1 << 32, 0, 1):
+        LongBytes.length = length
+        for data in (LongBytes(b"ab"), LongArray(b"ab"), memoryview(LongBytes(b"ab"))):
+            equal("utf8_first_fault", widestring.utf8_first_fault(data), None)
+            equal("utf8_char_count", widestring.utf8_char_count(data), 2)
+            equal("utf8_to_utf16", widestring.utf8_to_utf16(data), b"a\0b\0")
+            equal("utf8_to_utf16_lossy", widestring.utf8_to_utf16_lossy(data), b"a\0b\0")
+            equal("utf16_find", widestring.utf16_find(data, data), 0)
+            equal("bytes_to_utf8", widestring.bytes_to_utf8(data, Order.BIG), "\u6162".encode())
+            equal("certain", widestring.certain(data, Order.LITTLE), 2)
+            equal("repair", (widestring.utf16_repair(data), type(widestring.utf16_repair(data))), (b"ab", bytes))
+    equal("find_unit", widestring.utf16_find_unit(b"a\0b\0", Zero()), 1)
+
+
+def check_own_buffers():
+    """Objects that hand out a buffer by a method, as they may since Python 3.12."""
+
+    class Given(bytes):
+        released = 0
+
+        def __buffer__(self, flags):
+            return memoryview(array.array("H", [0x61, 0xD800]))
+
+        def __release_buffer__(self, view):
+            self.released += 1
+            view.release()
+
+    class Refuses:
+        def __buffer__(self, flags):
+            raise BufferError("no buffer")
+
+    class Wrong:
+        def __buffer__(self, flags):
+            return b"no view"
+
+    given = Given(b"abcdefgh")
+    equal("a buffer of a method", widestring.utf16_first_fault(given), 1 if sys.version_info >= (3, 12) else None)
+    if sys.version_info >= (3, 12):
+        equal("the release of a buffer", given.released, 1)
+        must_raise(BufferError, widestring.utf8_first_fault, Refuses())
+        must_raise(TypeError, widestring.utf8_first_fault, Wrong())
+
+
+def views_of(units):
+    """Buffers that are these units of UTF-16: of bytes, of units, with gaps, backwards and of two dimensions."""
+    count, raw = len(units) // 2 * 2, units.tobytes()
+    spread = array.array("H", [0xD800] * (2 * len(units)))
+    spread[::2] = units
+    yield from (units, bytearray(raw), array.array("B", raw), array.array("b", raw), memoryview(raw).cast("c"), memoryview(raw).cast("H"))
+    yield from (memoryview(spread)[::2], memoryview(units[::-1])[::-1], (ctypes.c_uint16 * len(units))(*units))
+    yield from ((ctypes.c_char * len(raw)).from_buffer_copy(raw), (ctypes.c_uint8 * len(raw))(*raw))
+    if len(units) == count > 0:
+        yield memoryview(raw).cast("B").cast("H", (2, count // 2))
+        yield memoryview(raw).cast("B", (2, count))
+
+
+def check_buffers():
+    """Buffers that are text, with no unit too."""
+    for text in ("", "Hi\U0001f600!", "ab" * 300, "\ufffd" * 77):
+        data = text.encode("utf-16-le")
+        for view in views_of(array.array("H", data)):
+            equal(f"utf16_to_utf8 of {type(view)}", widestring.utf16_to_utf8(view), text.encode())
+            equal("utf16_find", widestring.utf16_find(data, view), 0)
+        raw = text.encode("utf-32-le")
+        wide = array.array("I", raw)
+        views = [wide, (ctypes.c_uint32 * len(wide))(*wide), (ctypes.c_wchar * len(wide))(*text), memoryview(raw).cast("I"), bytearray(raw)]
+        views += [array.array("w" if sys.version_info >= (3, 13) else "u", text), memoryview(wide[::-1])[::-1]]
+        for view in views:
+            equal(f"utf32_to_utf8 of {type(view)}", widestring.utf32_to_utf8(view), text.encode())
+    with mmap.mmap(-1, 4) as memory:
+        memory[:] = b"a\0b\0"
+        equal("utf16_to_utf8 of a map", widestring.utf16_to_utf8(memory), b"ab")
+    released = memoryview(b"ab")
+    released.release()
+    must_raise(ValueError, widestring.utf8_first_fault, released)
+
+
+def check_other_elements():
+    """Buffers whose elements are no units of the width that is asked for, which are not read as such."""
+    others = [array.array(code, [1, 2, 3, 4]) for code in "hilqQLfd"] + [(ctypes.c_uint16.__ctype_be__ * 2)(1, 2), (ctypes.c_bool * 4)()]
+    others += [(ctypes.py_object * 2)("a", "b"), (ctypes.c_void_p * 2)(), memoryview(bytes(8)).cast("?"), (ctypes.c_int16 * 2)(1, 2)]
+    for data in others:
+        for call in (widestring.utf16_first_fault, widestring.utf32_first_fault, widestring.utf8_first_fault):
+            must_raise(TypeError, call, data)
+        must_raise(TypeError, widestring.bytes_to_utf8_lossy, data, Order.LITTLE)
+    for call, code in ((widestring.utf16_repair, "I"), (widestring.utf32_repair, "H"), (widestring.utf8_to_utf16, "H"), (widestring.utf8_to_utf32, "I")):
+        must_raise(TypeError, call, array.array(code, [0x61]))
+    must_raise(TypeError, widestring.certain, array.array("H", [0x61]), Order.LITTLE)
+    must_raise(TypeError, widestring.utf16_find, b"ab", array.array("d", [1.0]))
+    must_raise(TypeError, widestring.utf16_first_fault, array.array("w" if sys.version_info >= (3, 13) else "u", "ab"))
+
+
+def check_numpy():
+    try:
+        import numpy
+    except ImportError:
+        print("no numpy, so its arrays are left out")
+        return
+    for kind in ("<u2", "u1"):
+        equal(f"numpy {kind}", widestring.utf16_to_utf8(numpy.frombuffer(b"a\0b\0", kind)), b"ab")
+    equal("numpy <u4", widestring.utf32_to_utf8(numpy.array([0x61, 0x1F600], "<u4")), "a\U0001f600".encode())
+    for data in (numpy.zeros(4, ">u2"), numpy.zeros(4, "i2"), numpy.zeros(4, "f8"), numpy.array(["a", None], object), numpy.zeros(4, "U1")):
+        must_raise((TypeError, ValueError), widestring.utf16_first_fault, data)
+    grid = numpy.array([[0x61, 0x62], [0x63, 0x64]], "<u2")
+    equal("numpy, turned", widestring.utf16_to_utf8(grid.T), b"acbd")
+
+
+def check_memory():
+    """Results are objects of their own: nothing is written into one that CPython shares, and no length is cut to its lower bits."""
+    for answer in (widestring.utf8_to_utf16(b""), widestring.utf16_to_utf8_lossy(b"\0\xd8", Lossy.SKIP), widestring.bytes_to_utf8(b"", Order.BIG)):
+        equal("an empty text", answer, b"")
+    equal("the empty object", (b"", len(bytes())), (b"".join([]), 0))
+    for byte in range(0x80):
+        shared = bytes([byte])
+        answer = widestring.utf16_to_utf8(bytes([byte, 0]))
+        equal("a text of one byte", (answer, shared, bytes([byte])), (bytes([byte]), byte.to_bytes(1, "little"), shared))
+        equal("an object of its own", answer is shared, False)
+    new = [widestring._buffer(1, 1) for _ in range(2)]
+    equal("two objects", new[0] is new[1] or any(one is bytes([one[0]]) for one in new), False)
+    for count, width in ((1 << 64, 1), (1 << 62, 4), (1 << 63, 2), (sys.maxsize, 1), (sys.maxsize, 4), ((1 << 64) + 1, 1), (1 << 63, 1)):
+        must_raise((MemoryError, OverflowError), widestring._buffer, count, width)
+
+
+def import_error(**environment):
+    """What a new process says that imports the module: the kind of the error, and its text."""
+    script = "try:\n import widestring\nexcept Exception as error:\n print(type(error).__name__, error)"
+    return subprocess.run([sys.executable, "-c", script], env={**os.environ, **environment}, check=True, capture_output=True, text=True).stdout
+
+
+def check_imports(libraries):
+    """A missing library, a file that is none, and libraries of another version or with no version, which the words name."""
+    here = os.path.dirname(os.path.abspath(widestring.__file__))
+    for library in ("/nonexistent/libwidestring.so", os.devnull, os.path.abspath(__file__), "libno_such_library.so", *libraries):
+        said = import_error(WIDESTRING_LIBRARY=library, PYTHONPATH=here)
+        equal(f"the import of {library}", (said.split()[:1], "WIDESTRING_LIBRARY" in said), (["ImportError"], True))
 
 
 def main(words):
@@ -183,7 +373,10 @@ def main(words):
     seed = int(words[1]) if words[1:] else 1
     random.seed(seed)
     equal("version", widestring.version(), (0, 1, 0))
-    check_refusals()
+    checks = (check_refusals, check_lying_lengths, check_own_buffers, check_buffers, check_other_elements, check_numpy, check_memory)
+    for check in checks:
+        check()
+    check_imports(words[2:])
     for check in (check_utf8, check_utf16, check_utf32):
         check(b"")
     for _ in range(count):

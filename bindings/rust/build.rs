@@ -1,16 +1,70 @@
-//! Links the static library: that in the folder WIDESTRING_LIB_DIR, or else one that pkg-config knows, or that of this repository.
+//! Links the static library: that in the folder WIDESTRING_LIB_DIR, or else one that pkg-config knows and that has this crate's version, or that of
+//! this repository. PKG_CONFIG names the program that is asked.
 use std::env;
-use std::path::{Path, PathBuf};
-use std::process::Command;
+use std::path::{absolute, Path, PathBuf};
+use std::process::{exit, Command};
 
-/// The folder that pkg-config tells.
-fn known_folder() -> Option<PathBuf> {
-    let told = Command::new("pkg-config")
-        .args(["--variable=libdir", "widestring"])
-        .output()
-        .ok()?;
+const WATCHED: [&str; 5] = [
+    "WIDESTRING_LIB_DIR",
+    "PKG_CONFIG",
+    "PKG_CONFIG_PATH",
+    "PKG_CONFIG_LIBDIR",
+    "PKG_CONFIG_SYSROOT_DIR",
+];
+
+fn fail(why: &str) -> ! {
+    eprintln!("widestring-proved: {why}");
+    exit(1)
+}
+
+/// The library is machine code for these targets alone.
+fn check_target() {
+    for (what, wanted) in [("ARCH", "x86_64"), ("OS", "linux"), ("POINTER_WIDTH", "64")] {
+        let told = env::var(format!("CARGO_CFG_TARGET_{what}")).unwrap_or_default();
+        if told != wanted {
+            fail(&format!(
+                "the library of widestring is for x86-64 Linux alone: {what} is {told}, and not {wanted}"
+            ));
+        }
+    }
+}
+
+/// What pkg-config prints, if it is there and ends well.
+fn pkg_config(words: &[&str]) -> Option<String> {
+    let program = env::var_os("PKG_CONFIG").unwrap_or_else(|| "pkg-config".into());
+    let told = Command::new(program).args(words).output().ok()?;
     let text = String::from_utf8(told.stdout).ok()?;
-    (told.status.success() && !text.trim().is_empty()).then(|| PathBuf::from(text.trim()))
+    told.status.success().then(|| text.trim().to_owned())
+}
+
+/// The first version whose calls may be others: of the next first number, or of the next second one while the first is 0.
+fn next_version() -> String {
+    let number = |name: &str| {
+        let text = env::var(format!("CARGO_PKG_VERSION_{name}")).expect("cargo's version");
+        text.parse::<u32>().expect("a number")
+    };
+    match number("MAJOR") {
+        0 => format!("0.{}", number("MINOR") + 1),
+        major => format!("{}", major + 1),
+    }
+}
+
+/// The folder that pkg-config tells of a library whose calls are those of this crate.
+fn known_folder() -> Option<PathBuf> {
+    let found = pkg_config(&["--modversion", "widestring"])?;
+    let own = env::var("CARGO_PKG_VERSION").expect("cargo's version");
+    let next = next_version();
+    let is_own = pkg_config(&[
+        "--exists",
+        &format!("widestring >= {own}"),
+        &format!("widestring < {next}"),
+    ]);
+    if is_own.is_none() {
+        println!("cargo:warning=pkg-config knows widestring {found}, which is passed over: this crate is for {own} and later, below {next}");
+        return None;
+    }
+    let folder = pkg_config(&["--variable=libdir", "widestring"])?;
+    (!folder.is_empty()).then(|| PathBuf::from(folder))
 }
 
 /// The library's name in a folder, installed or as it is built.
@@ -21,19 +75,21 @@ fn name_in(folder: &Path) -> Option<&'static str> {
 }
 
 fn main() {
-    println!("cargo:rerun-if-env-changed=WIDESTRING_LIB_DIR");
-    println!("cargo:rerun-if-env-changed=PKG_CONFIG_PATH");
+    for name in WATCHED {
+        println!("cargo:rerun-if-env-changed={name}");
+    }
+    check_target();
     let own = Path::new(&env::var("CARGO_MANIFEST_DIR").expect("cargo's folder"))
         .join("../../crates/widestring_c/out");
     let folders = match env::var_os("WIDESTRING_LIB_DIR") {
-        Some(folder) => vec![PathBuf::from(folder)],
+        Some(folder) => vec![absolute(&folder).unwrap_or_else(|_| folder.into())],
         None => known_folder().into_iter().chain([own]).collect(),
     };
     let Some((folder, name)) = folders
         .iter()
         .find_map(|folder| Some((folder, name_in(folder)?)))
     else {
-        panic!("no library of widestring in {folders:?}: set WIDESTRING_LIB_DIR, or run ./prove widestring_c in the repository");
+        fail(&format!("no library of widestring in {folders:?}: set WIDESTRING_LIB_DIR, or run ./prove widestring_c in the repository"));
     };
     println!(
         "cargo:rerun-if-changed={}",

@@ -1,140 +1,409 @@
-//! The calls of `widestring.h` that the crate stands on.
+//! The library's calls as safe ones. All code that is unsafe stands here: a call of the library is made by nothing but the types and functions of this
+//! module, each of which hands in slices, or the memory of a vector that is its own.
+#![allow(unsafe_code)]
 
-pub type Ask<T> = unsafe extern "C" fn(*const T, usize) -> usize;
-pub type Put<T, U> = unsafe extern "C" fn(*const T, usize, *mut U, usize) -> usize;
-pub type PutWith<T, U> = unsafe extern "C" fn(*const T, usize, u32, *mut U, usize) -> usize;
+use crate::{raw, Fault, IntoError, Lossy, Order, Short};
+use alloc::string::String;
+use alloc::vec::Vec;
+use core::sync::atomic::{AtomicBool, Ordering};
 
-extern "C" {
-    pub fn wide_version() -> u32;
-    pub fn wide_utf8_first_fault(text: *const u8, length: usize) -> usize;
-    pub fn wide_utf16_first_fault(units: *const u16, length: usize) -> usize;
-    pub fn wide_utf32_first_fault(units: *const u32, length: usize) -> usize;
-    pub fn wide_utf16_first_fault_item(units: *const u16, length: usize) -> usize;
-    pub fn wide_utf32_first_fault_item(units: *const u32, length: usize) -> usize;
-    pub fn wide_utf8_char_count(text: *const u8, length: usize) -> usize;
-    pub fn wide_utf16_char_count(units: *const u16, length: usize) -> usize;
-    pub fn wide_utf32_char_count(units: *const u32, length: usize) -> usize;
-    pub fn wide_utf16_utf8_length(units: *const u16, length: usize) -> usize;
-    pub fn wide_utf32_utf8_length(units: *const u32, length: usize) -> usize;
-    pub fn wide_utf8_utf16_length(text: *const u8, length: usize) -> usize;
-    pub fn wide_utf8_utf32_length(text: *const u8, length: usize) -> usize;
-    pub fn wide_utf16_utf32_length(units: *const u16, length: usize) -> usize;
-    pub fn wide_utf32_utf16_length(units: *const u32, length: usize) -> usize;
-    pub fn wide_utf16_first_nul(units: *const u16, length: usize) -> usize;
-    pub fn wide_utf32_first_nul(units: *const u32, length: usize) -> usize;
-    pub fn wide_utf16_find_unit(units: *const u16, length: usize, unit: u16) -> usize;
-    pub fn wide_utf32_find_unit(units: *const u32, length: usize, unit: u32) -> usize;
-    pub fn wide_utf16_find(
-        units: *const u16,
-        length: usize,
-        part: *const u16,
-        part_length: usize,
-    ) -> usize;
-    pub fn wide_utf32_find(
-        units: *const u32,
-        length: usize,
-        part: *const u32,
-        part_length: usize,
-    ) -> usize;
-    pub fn wide_utf16_to_utf8(
-        units: *const u16,
-        length: usize,
-        text: *mut u8,
-        room: usize,
-    ) -> usize;
-    pub fn wide_utf32_to_utf8(
-        units: *const u32,
-        length: usize,
-        text: *mut u8,
-        room: usize,
-    ) -> usize;
-    pub fn wide_utf8_to_utf16(
-        text: *const u8,
-        length: usize,
-        units: *mut u16,
-        room: usize,
-    ) -> usize;
-    pub fn wide_utf8_to_utf32(
-        text: *const u8,
-        length: usize,
-        units: *mut u32,
-        room: usize,
-    ) -> usize;
-    pub fn wide_utf16_to_utf32(
-        units: *const u16,
-        length: usize,
-        scalars: *mut u32,
-        room: usize,
-    ) -> usize;
-    pub fn wide_utf32_to_utf16(
-        scalars: *const u32,
-        length: usize,
-        units: *mut u16,
-        room: usize,
-    ) -> usize;
-    pub fn wide_utf16_to_utf8_lossy_with(
-        units: *const u16,
-        length: usize,
-        policy: u32,
-        text: *mut u8,
-        room: usize,
-    ) -> usize;
-    pub fn wide_utf32_to_utf8_lossy_with(
-        units: *const u32,
-        length: usize,
-        policy: u32,
-        text: *mut u8,
-        room: usize,
-    ) -> usize;
-    pub fn wide_utf8_to_utf16_lossy_with(
-        text: *const u8,
-        length: usize,
-        policy: u32,
-        units: *mut u16,
-        room: usize,
-    ) -> usize;
-    pub fn wide_utf8_to_utf32_lossy_with(
-        text: *const u8,
-        length: usize,
-        policy: u32,
-        units: *mut u32,
-        room: usize,
-    ) -> usize;
-    pub fn wide_utf16_repair(
-        units: *const u16,
-        length: usize,
-        repaired: *mut u16,
-        room: usize,
-    ) -> usize;
-    pub fn wide_utf32_repair(
-        units: *const u32,
-        length: usize,
-        repaired: *mut u32,
-        room: usize,
-    ) -> usize;
-    pub fn wide_bytes_order(bytes: *const u8, length: usize) -> u32;
-    pub fn wide_bytes_certain(bytes: *const u8, length: usize, order: u32) -> usize;
-    pub fn wide_bytes_first_fault(bytes: *const u8, length: usize, order: u32) -> usize;
-    pub fn wide_bytes_ends_in_fault(
-        bytes: *const u8,
-        length: usize,
-        order: u32,
-        after_fault: u32,
-    ) -> u32;
-    pub fn wide_bytes_to_utf8(
-        bytes: *const u8,
-        length: usize,
-        order: u32,
-        text: *mut u8,
-        room: usize,
-    ) -> usize;
-    pub fn wide_bytes_to_utf8_lossy_with(
-        bytes: *const u8,
-        length: usize,
-        order: u32,
-        policy: u32,
-        after_fault: u32,
-        text: *mut u8,
-        room: usize,
-    ) -> usize;
+/// Text of at most so many elements has the capacity that its longest form needs, and of longer text so many tell the likely length.
+const SHORT: usize = 128;
+
+const PIECE: usize = 1024;
+
+/// A vector of more elements gives memory back where the half would do.
+const MUCH: usize = 4096;
+
+/// What the library answers where it has no number to tell.
+const NONE: usize = usize::MAX;
+
+/// Whether the linked library has been seen to have this crate's version.
+static IS_OWN: AtomicBool = AtomicBool::new(false);
+
+/// A number of decimal digits.
+const fn number(text: &str) -> u32 {
+    let (mut at, mut sum) = (0, 0);
+    while at < text.len() {
+        sum = 10 * sum + (text.as_bytes()[at] - b'0') as u32;
+        at += 1;
+    }
+    sum
+}
+
+const MAJOR: u32 = number(env!("CARGO_PKG_VERSION_MAJOR"));
+const MINOR: u32 = number(env!("CARGO_PKG_VERSION_MINOR"));
+
+pub fn version() -> u32 {
+    // SAFETY: it takes nothing.
+    unsafe { raw::wide_version() }
+}
+
+/// Sees once that the linked library has this crate's version, since a library of another one may have other calls of these names.
+fn check_version() {
+    if !IS_OWN.load(Ordering::Relaxed) {
+        compare_version();
+    }
+}
+
+#[cold]
+fn compare_version() {
+    let number = version();
+    let (major, minor, patch) = (number >> 16, number >> 8 & 0xff, number & 0xff);
+    let is_own = major == MAJOR && (minor == MINOR || major > 0 && minor > MINOR);
+    assert!(
+        is_own,
+        "the linked library of widestring has version {major}.{minor}.{patch}, and this crate is for {MAJOR}.{MINOR}"
+    );
+    IS_OWN.store(true, Ordering::Relaxed);
+}
+
+/// An answer that is at most what every text of this length has. A greater one is a broken library's, and nothing is read by it.
+fn within(most: usize, answer: usize) -> usize {
+    assert!(
+        answer <= most,
+        "the linked library of widestring answers {answer} where no text has more than {most}"
+    );
+    answer
+}
+
+/// What a call answers, or none for the number that stands for it.
+fn unless(none: usize, most: usize, answer: usize) -> Option<usize> {
+    (answer != none).then(|| within(most, answer))
+}
+
+/// A call that reads a slice and answers a number.
+pub struct Ask<T>(unsafe extern "C" fn(*const T, usize) -> usize);
+
+impl<T> Ask<T> {
+    fn answer(&self, items: &[T]) -> usize {
+        check_version();
+        // SAFETY: a slice is memory that may be read, of this length.
+        unsafe { (self.0)(items.as_ptr(), items.len()) }
+    }
+
+    /// An offset, or none where the call answers the length.
+    pub fn offset(&self, items: &[T]) -> Option<usize> {
+        unless(items.len(), items.len(), self.answer(items))
+    }
+
+    /// A number of characters, or none where the call has no number to tell.
+    pub fn count(&self, items: &[T]) -> Option<usize> {
+        unless(NONE, items.len(), self.answer(items))
+    }
+}
+
+pub const UTF8_FIRST_FAULT: Ask<u8> = Ask(raw::wide_utf8_first_fault);
+pub const UTF16_FIRST_FAULT: Ask<u16> = Ask(raw::wide_utf16_first_fault);
+pub const UTF32_FIRST_FAULT: Ask<u32> = Ask(raw::wide_utf32_first_fault);
+pub const UTF16_FIRST_FAULT_ITEM: Ask<u16> = Ask(raw::wide_utf16_first_fault_item);
+pub const UTF32_FIRST_FAULT_ITEM: Ask<u32> = Ask(raw::wide_utf32_first_fault_item);
+pub const UTF8_CHAR_COUNT: Ask<u8> = Ask(raw::wide_utf8_char_count);
+pub const UTF16_CHAR_COUNT: Ask<u16> = Ask(raw::wide_utf16_char_count);
+pub const UTF32_CHAR_COUNT: Ask<u32> = Ask(raw::wide_utf32_char_count);
+pub const UTF16_FIRST_NUL: Ask<u16> = Ask(raw::wide_utf16_first_nul);
+pub const UTF32_FIRST_NUL: Ask<u32> = Ask(raw::wide_utf32_first_nul);
+
+/// The calls that search units: for one, and for a part.
+pub struct Search<T> {
+    unit: unsafe extern "C" fn(*const T, usize, T) -> usize,
+    part: unsafe extern "C" fn(*const T, usize, *const T, usize) -> usize,
+}
+
+impl<T> Search<T> {
+    pub fn unit(&self, units: &[T], unit: T) -> Option<usize> {
+        check_version();
+        // SAFETY: a slice is memory that may be read, of this length.
+        let answer = unsafe { (self.unit)(units.as_ptr(), units.len(), unit) };
+        unless(units.len(), units.len(), answer)
+    }
+
+    pub fn part(&self, units: &[T], part: &[T]) -> Option<usize> {
+        check_version();
+        // SAFETY: both slices are memory that may be read, of these lengths.
+        let answer = unsafe { (self.part)(units.as_ptr(), units.len(), part.as_ptr(), part.len()) };
+        unless(NONE, units.len(), answer)
+    }
+}
+
+pub const UTF16_SEARCH: Search<u16> = Search {
+    unit: raw::wide_utf16_find_unit,
+    part: raw::wide_utf16_find,
+};
+
+pub const UTF32_SEARCH: Search<u32> = Search {
+    unit: raw::wide_utf32_find_unit,
+    part: raw::wide_utf32_find,
+};
+
+/// A vector with what a call writes, which is told a pointer and a capacity, and answers the length, at most `most`. A first capacity that is too
+/// small costs a second call. None where the call answers a fault.
+///
+/// # Safety
+///
+/// The call may write into so many elements at the pointer, and must have written as many as it answers where they are no more.
+unsafe fn written<U: Copy>(
+    likely: usize,
+    most: usize,
+    call: impl Fn(*mut U, usize) -> usize,
+) -> Option<Vec<U>> {
+    check_version();
+    let mut vec = Vec::new();
+    let mut needed = likely;
+    loop {
+        vec.reserve_exact(needed);
+        let capacity = vec.capacity();
+        needed = unless(NONE, most, call(vec.as_mut_ptr(), capacity))?;
+        if needed <= capacity {
+            // SAFETY: the vector has this capacity, and the call has written what it answers.
+            unsafe { vec.set_len(needed) };
+            if capacity > MUCH && needed < capacity / 2 {
+                vec.shrink_to_fit();
+            }
+            return Some(vec);
+        }
+    }
+}
+
+/// The calls that belong to one conversion, and how many elements one of what it reads becomes at most.
+pub struct Conversion<T, U> {
+    most: usize,
+    length: unsafe extern "C" fn(*const T, usize) -> usize,
+    first_fault: Ask<T>,
+    put: unsafe extern "C" fn(*const T, usize, *mut U, usize) -> usize,
+}
+
+/// The call of a conversion under a policy.
+pub struct Lossily<T, U>(unsafe extern "C" fn(*const T, usize, u32, *mut U, usize) -> usize);
+
+impl<T, U: Copy> Conversion<T, U> {
+    /// How long the text is at most.
+    fn most(&self, items: &[T]) -> usize {
+        items.len() * self.most
+    }
+
+    /// How long the text likely is, by that of its first piece: of a short text, what it has at most.
+    fn likely_length(&self, items: &[T]) -> usize {
+        if items.len() <= SHORT {
+            return self.most(items);
+        }
+        let piece = &items[..items.len().min(PIECE)];
+        // A character that the end cuts is not counted.
+        let sound = &piece[..self.first_fault.offset(piece).unwrap_or(piece.len())];
+        if sound.is_empty() {
+            return items.len();
+        }
+        // SAFETY: a slice is memory that may be read, of this length.
+        let answer = unsafe { (self.length)(sound.as_ptr(), sound.len()) };
+        let likely = within(self.most(sound), answer) * (items.len() / sound.len() + 1);
+        likely + likely / 16
+    }
+
+    fn fault(&self, items: &[T]) -> Fault {
+        Fault {
+            place: self.first_fault.offset(items).unwrap_or(items.len()),
+        }
+    }
+
+    pub fn strict(&self, items: &[T]) -> Result<Vec<U>, Fault> {
+        // SAFETY: the slice may be read, the vector's memory is no other's, and the library writes what it answers where there is capacity for it.
+        let text = unsafe {
+            written(
+                self.likely_length(items),
+                self.most(items),
+                |to, capacity| (self.put)(items.as_ptr(), items.len(), to, capacity),
+            )
+        };
+        text.ok_or_else(|| self.fault(items))
+    }
+
+    pub fn lossy(&self, items: &[T], policy: Lossy, call: Lossily<T, U>) -> Vec<U> {
+        // SAFETY: the slice may be read, the vector's memory is no other's, and the library writes what it answers where there is capacity for it.
+        let text = unsafe {
+            written(
+                self.likely_length(items),
+                self.most(items),
+                |to, capacity| (call.0)(items.as_ptr(), items.len(), policy as u32, to, capacity),
+            )
+        };
+        text.expect("each policy has a number")
+    }
+
+    pub fn strict_into(&self, items: &[T], buffer: &mut [U]) -> Result<usize, IntoError> {
+        check_version();
+        let (to, capacity) = (buffer.as_mut_ptr(), buffer.len());
+        // SAFETY: both slices are memory of these lengths, and one that may be written overlaps no other.
+        let answer = unsafe { (self.put)(items.as_ptr(), items.len(), to, capacity) };
+        let needed = unless(NONE, self.most(items), answer).ok_or_else(|| self.fault(items))?;
+        Ok(fitting(needed, buffer.len())?)
+    }
+
+    pub fn lossy_into(
+        &self,
+        items: &[T],
+        policy: Lossy,
+        buffer: &mut [U],
+        call: Lossily<T, U>,
+    ) -> Result<usize, Short> {
+        check_version();
+        let (to, capacity) = (buffer.as_mut_ptr(), buffer.len());
+        // SAFETY: both slices are memory of these lengths, and one that may be written overlaps no other.
+        let answer = unsafe { (call.0)(items.as_ptr(), items.len(), policy as u32, to, capacity) };
+        fitting(within(self.most(items), answer), buffer.len())
+    }
+}
+
+/// A length for which a buffer has capacity.
+fn fitting(needed: usize, capacity: usize) -> Result<usize, Short> {
+    if needed <= capacity {
+        Ok(needed)
+    } else {
+        Err(Short { needed })
+    }
+}
+
+impl<T> Conversion<T, u8> {
+    pub fn strict_text(&self, items: &[T]) -> Result<String, Fault> {
+        // SAFETY: that what a conversion to bytes writes is UTF-8 is proved of the library.
+        self.strict(items)
+            .map(|text| unsafe { String::from_utf8_unchecked(text) })
+    }
+
+    pub fn lossy_text(&self, items: &[T], policy: Lossy, call: Lossily<T, u8>) -> String {
+        // SAFETY: that what a conversion to bytes writes is UTF-8 is proved of the library.
+        unsafe { String::from_utf8_unchecked(self.lossy(items, policy, call)) }
+    }
+}
+
+pub const UTF16_TO_UTF8: Conversion<u16, u8> = Conversion {
+    most: 3,
+    length: raw::wide_utf16_utf8_length,
+    first_fault: UTF16_FIRST_FAULT,
+    put: raw::wide_utf16_to_utf8,
+};
+
+pub const UTF32_TO_UTF8: Conversion<u32, u8> = Conversion {
+    most: 4,
+    length: raw::wide_utf32_utf8_length,
+    first_fault: UTF32_FIRST_FAULT,
+    put: raw::wide_utf32_to_utf8,
+};
+
+pub const UTF8_TO_UTF16: Conversion<u8, u16> = Conversion {
+    most: 1,
+    length: raw::wide_utf8_utf16_length,
+    first_fault: UTF8_FIRST_FAULT,
+    put: raw::wide_utf8_to_utf16,
+};
+
+pub const UTF8_TO_UTF32: Conversion<u8, u32> = Conversion {
+    most: 1,
+    length: raw::wide_utf8_utf32_length,
+    first_fault: UTF8_FIRST_FAULT,
+    put: raw::wide_utf8_to_utf32,
+};
+
+pub const UTF16_TO_UTF32: Conversion<u16, u32> = Conversion {
+    most: 1,
+    length: raw::wide_utf16_utf32_length,
+    first_fault: UTF16_FIRST_FAULT,
+    put: raw::wide_utf16_to_utf32,
+};
+
+pub const UTF32_TO_UTF16: Conversion<u32, u16> = Conversion {
+    most: 2,
+    length: raw::wide_utf32_utf16_length,
+    first_fault: UTF32_FIRST_FAULT,
+    put: raw::wide_utf32_to_utf16,
+};
+
+pub const UTF16_TO_UTF8_LOSSILY: Lossily<u16, u8> = Lossily(raw::wide_utf16_to_utf8_lossy_with);
+pub const UTF32_TO_UTF8_LOSSILY: Lossily<u32, u8> = Lossily(raw::wide_utf32_to_utf8_lossy_with);
+pub const UTF8_TO_UTF16_LOSSILY: Lossily<u8, u16> = Lossily(raw::wide_utf8_to_utf16_lossy_with);
+pub const UTF8_TO_UTF32_LOSSILY: Lossily<u8, u32> = Lossily(raw::wide_utf8_to_utf32_lossy_with);
+
+/// A call that repairs units, which are as many as before.
+pub struct Repair<T>(unsafe extern "C" fn(*const T, usize, *mut T, usize) -> usize);
+
+impl<T: Copy> Repair<T> {
+    pub fn of(&self, units: &[T]) -> Vec<T> {
+        // SAFETY: the slice may be read, the vector's memory is no other's, and the library writes what it answers where there is capacity for it.
+        let repaired = unsafe {
+            written(units.len(), units.len(), |to, capacity| {
+                (self.0)(units.as_ptr(), units.len(), to, capacity)
+            })
+        };
+        repaired.expect("repair has no fault")
+    }
+}
+
+pub const UTF16_REPAIR: Repair<u16> = Repair(raw::wide_utf16_repair);
+pub const UTF32_REPAIR: Repair<u32> = Repair(raw::wide_utf32_repair);
+
+pub fn byte_order(bytes: &[u8]) -> Option<Order> {
+    check_version();
+    // SAFETY: a slice is memory that may be read, of this length.
+    match unsafe { raw::wide_bytes_order(bytes.as_ptr(), bytes.len()) } {
+        0 => Some(Order::Little),
+        1 => Some(Order::Big),
+        _ => None,
+    }
+}
+
+pub fn certain(bytes: &[u8], order: Order) -> usize {
+    check_version();
+    // SAFETY: a slice is memory that may be read, of this length.
+    let answer = unsafe { raw::wide_bytes_certain(bytes.as_ptr(), bytes.len(), order as u32) };
+    within(bytes.len(), answer)
+}
+
+pub fn bytes_first_fault(bytes: &[u8], order: Order) -> Option<usize> {
+    check_version();
+    // SAFETY: a slice is memory that may be read, of this length.
+    let answer = unsafe { raw::wide_bytes_first_fault(bytes.as_ptr(), bytes.len(), order as u32) };
+    unless(bytes.len() / 2, bytes.len() / 2, answer)
+}
+
+pub fn ends_in_fault(bytes: &[u8], order: Order, after_fault: bool) -> bool {
+    check_version();
+    let (order, after) = (order as u32, u32::from(after_fault));
+    // SAFETY: a slice is memory that may be read, of this length.
+    unsafe { raw::wide_bytes_ends_in_fault(bytes.as_ptr(), bytes.len(), order, after) != 0 }
+}
+
+/// How long the text in UTF-8 of UTF-16 in bytes is at most.
+fn most_of_bytes(bytes: &[u8]) -> usize {
+    bytes.len() / 2 * 3
+}
+
+pub fn bytes_to_utf8(bytes: &[u8], order: Order) -> Option<String> {
+    // SAFETY: the slice may be read, the vector's memory is no other's, and the library writes what it answers where there is capacity for it.
+    let text = unsafe {
+        written(bytes.len(), most_of_bytes(bytes), |to, capacity| {
+            raw::wide_bytes_to_utf8(bytes.as_ptr(), bytes.len(), order as u32, to, capacity)
+        })
+    };
+    // SAFETY: that what this call writes is UTF-8 is proved of the library.
+    text.map(|text| unsafe { String::from_utf8_unchecked(text) })
+}
+
+pub fn bytes_to_utf8_lossy(bytes: &[u8], order: Order, policy: Lossy, after_fault: bool) -> String {
+    let (order, policy, after) = (order as u32, policy as u32, u32::from(after_fault));
+    // SAFETY: the slice may be read, the vector's memory is no other's, and the library writes what it answers where there is capacity for it.
+    let text = unsafe {
+        written(bytes.len(), most_of_bytes(bytes), |to, capacity| {
+            raw::wide_bytes_to_utf8_lossy_with(
+                bytes.as_ptr(),
+                bytes.len(),
+                order,
+                policy,
+                after,
+                to,
+                capacity,
+            )
+        })
+    };
+    let text = text.expect("each order and policy has a number");
+    // SAFETY: that what this call writes is UTF-8 is proved of the library.
+    unsafe { String::from_utf8_unchecked(text) }
 }

@@ -1,24 +1,33 @@
 //! UTF-16, UTF-32 and UTF-8 by a library whose functions are proved for all units, well formed or not.
 //!
-//! Places and lengths are counted in elements: units, or bytes of UTF-8. What makes a vector asks for its memory once
-//! where the text goes on as it begins, and else twice; the calls whose names end with `_into` write into a room of the caller's, and leave
-//! what lies behind their answer. It needs no std, and of `alloc` strings and vectors.
+//! Offsets and lengths are counted in elements: units, or bytes of UTF-8. What makes a vector asks for its memory once where the text goes on as it
+//! begins, and else twice. The calls whose names end with `_into` write into a buffer of the caller's and answer how many elements the text has; a
+//! buffer that is too short is an error, which tells the length that is needed. The crate needs no std, and of `alloc` strings and vectors.
+//!
+//! Each call but [`version`] panics where the linked library has another version than this crate, and where it answers a length that no text has.
 #![no_std]
 #![warn(missing_docs)]
+#![deny(
+    unsafe_code,
+    unsafe_op_in_unsafe_fn,
+    clippy::undocumented_unsafe_blocks,
+    clippy::missing_safety_doc
+)]
 
 extern crate alloc;
 
 mod calls;
+mod raw;
 
 use alloc::string::String;
 use alloc::vec::Vec;
-use calls::{Ask, Put, PutWith};
+use core::error::Error;
 use core::fmt;
 
-/// The text is not well formed: the place of the first element that belongs to no character.
+/// The text is not well formed: the offset of the first element that belongs to no character.
 #[derive(Clone, Copy, Debug, PartialEq, Eq)]
 pub struct Fault {
-    /// The place, in elements.
+    /// The offset, in elements.
     pub place: usize,
 }
 
@@ -28,7 +37,54 @@ impl fmt::Display for Fault {
     }
 }
 
-impl core::error::Error for Fault {}
+impl Error for Fault {}
+
+/// A buffer has fewer elements than the text. What it holds then is not said.
+#[derive(Clone, Copy, Debug, PartialEq, Eq)]
+pub struct Short {
+    /// How many elements the text has.
+    pub needed: usize,
+}
+
+impl fmt::Display for Short {
+    fn fmt(&self, f: &mut fmt::Formatter<'_>) -> fmt::Result {
+        write!(f, "the text needs a buffer of {} elements", self.needed)
+    }
+}
+
+impl Error for Short {}
+
+/// Why a buffer does not hold the text.
+#[derive(Clone, Copy, Debug, PartialEq, Eq)]
+pub enum IntoError {
+    /// The text is not well formed, and the buffer is as it was.
+    Fault(Fault),
+    /// The buffer is too short, and what it holds is not said.
+    Short(Short),
+}
+
+impl fmt::Display for IntoError {
+    fn fmt(&self, f: &mut fmt::Formatter<'_>) -> fmt::Result {
+        match self {
+            Self::Fault(fault) => fault.fmt(f),
+            Self::Short(short) => short.fmt(f),
+        }
+    }
+}
+
+impl Error for IntoError {}
+
+impl From<Fault> for IntoError {
+    fn from(fault: Fault) -> Self {
+        Self::Fault(fault)
+    }
+}
+
+impl From<Short> for IntoError {
+    fn from(short: Short) -> Self {
+        Self::Short(short)
+    }
+}
 
 /// What lossy text has for what belongs to no character.
 #[derive(Clone, Copy, Debug, PartialEq, Eq)]
@@ -36,7 +92,7 @@ impl core::error::Error for Fault {}
 pub enum Lossy {
     /// U+FFFD for each.
     Each = 0,
-    /// One U+FFFD for each longest row of neighbours.
+    /// One U+FFFD for each longest run of neighbours.
     Run = 1,
     /// Nothing.
     Skip = 2,
@@ -52,419 +108,263 @@ pub enum Order {
     Big = 1,
 }
 
-/// Text of at most so many elements has the room that its longest form needs, and of longer text so many tell the likely length.
-const SHORT: usize = 128;
-
-const PIECE: usize = 1024;
-
-/// A vector of more elements gives memory back where the half would do.
-const MUCH: usize = 4096;
-
-/// The version of the library: 65,536 times its first number, 256 times the second, and the third.
+/// The version of the linked library: 65,536 times its first number, 256 times the second, and the third. It never panics.
 pub fn version() -> u32 {
-    // It takes nothing.
-    unsafe { calls::wide_version() }
+    calls::version()
 }
 
-fn ask<T>(items: &[T], call: Ask<T>) -> usize {
-    // A slice is memory that may be read, of this length.
-    unsafe { call(items.as_ptr(), items.len()) }
-}
-
-/// What a call answers, or none for the number that stands for it.
-fn unless(none: usize, answer: usize) -> Option<usize> {
-    (answer != none).then_some(answer)
-}
-
-fn put<T, U>(items: &[T], room: &mut [U], call: Put<T, U>) -> usize {
-    // Both slices are memory of these lengths, and one that may be written overlaps no other.
-    unsafe { call(items.as_ptr(), items.len(), room.as_mut_ptr(), room.len()) }
-}
-
-fn put_with<T, U>(items: &[T], policy: Lossy, room: &mut [U], call: PutWith<T, U>) -> usize {
-    // As before.
-    unsafe {
-        call(
-            items.as_ptr(),
-            items.len(),
-            policy as u32,
-            room.as_mut_ptr(),
-            room.len(),
-        )
-    }
-}
-
-/// A vector with what a call writes, which is told a pointer and a room, and answers the length. A first room that is too short costs a
-/// second call. None where the call answers a fault.
-fn written<U: Copy>(likely: usize, call: impl Fn(*mut U, usize) -> usize) -> Option<Vec<U>> {
-    let mut vec = Vec::new();
-    let mut needed = likely;
-    loop {
-        vec.reserve_exact(needed);
-        let room = vec.capacity();
-        needed = unless(usize::MAX, call(vec.as_mut_ptr(), room))?;
-        if needed <= room {
-            // The call has written what it answers, since there was room for it.
-            unsafe { vec.set_len(needed) };
-            if room > MUCH && needed < room / 2 {
-                vec.shrink_to_fit();
-            }
-            return Some(vec);
-        }
-    }
-}
-
-/// How long the text likely is, by that of its first piece: of a short text, what it has at most.
-fn likely_length<T>(items: &[T], most: usize, length: Ask<T>, first_fault: Ask<T>) -> usize {
-    if items.len() <= SHORT {
-        return items.len() * most;
-    }
-    let piece = &items[..items.len().min(PIECE)];
-    // A character that the end cuts is not counted.
-    let sound = &piece[..ask(piece, first_fault)];
-    if sound.is_empty() {
-        return items.len();
-    }
-    let likely = ask(sound, length) * (items.len() / sound.len() + 1);
-    likely + likely / 16
-}
-
-/// The calls that belong to one conversion, and how many elements one of what it reads becomes at most.
-struct Conversion<T, U> {
-    most: usize,
-    length: Ask<T>,
-    first_fault: Ask<T>,
-    put: Put<T, U>,
-}
-
-impl<T, U: Copy> Conversion<T, U> {
-    fn likely_length(&self, items: &[T]) -> usize {
-        likely_length(items, self.most, self.length, self.first_fault)
-    }
-
-    fn strict(&self, items: &[T]) -> Result<Vec<U>, Fault> {
-        // The vector has this room, and is new.
-        let text = written(self.likely_length(items), |room, size| unsafe {
-            (self.put)(items.as_ptr(), items.len(), room, size)
-        });
-        text.ok_or_else(|| Fault {
-            place: ask(items, self.first_fault),
-        })
-    }
-
-    fn lossy(&self, items: &[T], policy: Lossy, call: PutWith<T, U>) -> Vec<U> {
-        // The vector has this room, and is new.
-        let text = written(self.likely_length(items), |room, size| unsafe {
-            call(items.as_ptr(), items.len(), policy as u32, room, size)
-        });
-        text.expect("each policy has a number")
-    }
-
-    fn strict_into(&self, items: &[T], room: &mut [U]) -> Result<usize, Fault> {
-        let needed = put(items, room, self.put);
-        unless(usize::MAX, needed).ok_or_else(|| Fault {
-            place: ask(items, self.first_fault),
-        })
-    }
-}
-
-const UTF16_TO_UTF8: Conversion<u16, u8> = Conversion {
-    most: 3,
-    length: calls::wide_utf16_utf8_length,
-    first_fault: calls::wide_utf16_first_fault,
-    put: calls::wide_utf16_to_utf8,
-};
-
-const UTF32_TO_UTF8: Conversion<u32, u8> = Conversion {
-    most: 4,
-    length: calls::wide_utf32_utf8_length,
-    first_fault: calls::wide_utf32_first_fault,
-    put: calls::wide_utf32_to_utf8,
-};
-
-const UTF8_TO_UTF16: Conversion<u8, u16> = Conversion {
-    most: 1,
-    length: calls::wide_utf8_utf16_length,
-    first_fault: calls::wide_utf8_first_fault,
-    put: calls::wide_utf8_to_utf16,
-};
-
-const UTF8_TO_UTF32: Conversion<u8, u32> = Conversion {
-    most: 1,
-    length: calls::wide_utf8_utf32_length,
-    first_fault: calls::wide_utf8_first_fault,
-    put: calls::wide_utf8_to_utf32,
-};
-
-const UTF16_TO_UTF32: Conversion<u16, u32> = Conversion {
-    most: 1,
-    length: calls::wide_utf16_utf32_length,
-    first_fault: calls::wide_utf16_first_fault,
-    put: calls::wide_utf16_to_utf32,
-};
-
-const UTF32_TO_UTF16: Conversion<u32, u16> = Conversion {
-    most: 2,
-    length: calls::wide_utf32_utf16_length,
-    first_fault: calls::wide_utf32_first_fault,
-    put: calls::wide_utf32_to_utf16,
-};
-
-/// A string of bytes that the library wrote as UTF-8.
-fn string(text: Vec<u8>) -> String {
-    // That it writes UTF-8 alone is proved.
-    unsafe { String::from_utf8_unchecked(text) }
-}
-
-/// The place of the first byte that belongs to no character of UTF-8, where there is one.
+/// The offset of the first byte that belongs to no character of UTF-8, where there is one.
 pub fn utf8_first_fault(text: &[u8]) -> Option<usize> {
-    unless(text.len(), ask(text, calls::wide_utf8_first_fault))
+    calls::UTF8_FIRST_FAULT.offset(text)
 }
 
-/// The place of the first unit of UTF-16 that belongs to no character, where there is one.
+/// The offset of the first unit of UTF-16 that belongs to no character, where there is one.
 pub fn utf16_first_fault(units: &[u16]) -> Option<usize> {
-    unless(units.len(), ask(units, calls::wide_utf16_first_fault))
+    calls::UTF16_FIRST_FAULT.offset(units)
 }
 
-/// The place of the first unit that is no scalar value, where there is one.
+/// The offset of the first unit that is no scalar value, where there is one.
 pub fn utf32_first_fault(units: &[u32]) -> Option<usize> {
-    unless(units.len(), ask(units, calls::wide_utf32_first_fault))
+    calls::UTF32_FIRST_FAULT.offset(units)
 }
 
 /// How many characters stand before the first fault of UTF-16, where there is one.
 pub fn utf16_first_fault_item(units: &[u16]) -> Option<usize> {
-    unless(usize::MAX, ask(units, calls::wide_utf16_first_fault_item))
+    calls::UTF16_FIRST_FAULT_ITEM.count(units)
 }
 
-/// The same of UTF-32.
+/// How many characters stand before the first fault of UTF-32, where there is one.
 pub fn utf32_first_fault_item(units: &[u32]) -> Option<usize> {
-    unless(usize::MAX, ask(units, calls::wide_utf32_first_fault_item))
+    calls::UTF32_FIRST_FAULT_ITEM.count(units)
 }
 
 /// How many characters well-formed UTF-8 has.
 pub fn utf8_char_count(text: &[u8]) -> Option<usize> {
-    unless(usize::MAX, ask(text, calls::wide_utf8_char_count))
+    calls::UTF8_CHAR_COUNT.count(text)
 }
 
 /// How many characters well-formed UTF-16 has.
 pub fn utf16_char_count(units: &[u16]) -> Option<usize> {
-    unless(usize::MAX, ask(units, calls::wide_utf16_char_count))
+    calls::UTF16_CHAR_COUNT.count(units)
 }
 
 /// How many characters well-formed UTF-32 has.
 pub fn utf32_char_count(units: &[u32]) -> Option<usize> {
-    unless(usize::MAX, ask(units, calls::wide_utf32_char_count))
+    calls::UTF32_CHAR_COUNT.count(units)
 }
 
-/// The place of the first unit that is 0, where there is one.
+/// The offset of the first unit that is 0, where there is one.
 pub fn utf16_first_nul(units: &[u16]) -> Option<usize> {
-    unless(units.len(), ask(units, calls::wide_utf16_first_nul))
+    calls::UTF16_FIRST_NUL.offset(units)
 }
 
-/// The same of UTF-32.
+/// The offset of the first unit of UTF-32 that is 0, where there is one.
 pub fn utf32_first_nul(units: &[u32]) -> Option<usize> {
-    unless(units.len(), ask(units, calls::wide_utf32_first_nul))
+    calls::UTF32_FIRST_NUL.offset(units)
 }
 
-/// The place of the first unit that is `unit`, where there is one.
+/// The offset of the first unit that is this one, where there is one.
 pub fn utf16_find_unit(units: &[u16], unit: u16) -> Option<usize> {
-    // A slice is memory that may be read, of this length.
-    unless(units.len(), unsafe {
-        calls::wide_utf16_find_unit(units.as_ptr(), units.len(), unit)
-    })
+    calls::UTF16_SEARCH.unit(units, unit)
 }
 
-/// The same of UTF-32.
+/// The offset of the first unit of UTF-32 that is this one, where there is one.
 pub fn utf32_find_unit(units: &[u32], unit: u32) -> Option<usize> {
-    // As before.
-    unless(units.len(), unsafe {
-        calls::wide_utf32_find_unit(units.as_ptr(), units.len(), unit)
-    })
+    calls::UTF32_SEARCH.unit(units, unit)
 }
 
-/// The first place at which the part stands, where it does. An empty part stands at 0.
+/// The first offset at which the part stands, where it does. An empty part stands at 0.
 pub fn utf16_find(units: &[u16], part: &[u16]) -> Option<usize> {
-    // As before, of both.
-    unless(usize::MAX, unsafe {
-        calls::wide_utf16_find(units.as_ptr(), units.len(), part.as_ptr(), part.len())
-    })
+    calls::UTF16_SEARCH.part(units, part)
 }
 
-/// The same of UTF-32.
+/// The first offset at which the part stands in UTF-32, where it does. An empty part stands at 0.
 pub fn utf32_find(units: &[u32], part: &[u32]) -> Option<usize> {
-    // As before, of both.
-    unless(usize::MAX, unsafe {
-        calls::wide_utf32_find(units.as_ptr(), units.len(), part.as_ptr(), part.len())
-    })
+    calls::UTF32_SEARCH.part(units, part)
 }
 
 /// The text of well-formed UTF-16 in UTF-8.
 pub fn utf16_to_utf8(units: &[u16]) -> Result<String, Fault> {
-    UTF16_TO_UTF8.strict(units).map(string)
+    calls::UTF16_TO_UTF8.strict_text(units)
 }
 
 /// The text of well-formed UTF-32 in UTF-8.
 pub fn utf32_to_utf8(units: &[u32]) -> Result<String, Fault> {
-    UTF32_TO_UTF8.strict(units).map(string)
+    calls::UTF32_TO_UTF8.strict_text(units)
 }
 
 /// The text of well-formed UTF-8 in UTF-16.
 pub fn utf8_to_utf16(text: &[u8]) -> Result<Vec<u16>, Fault> {
-    UTF8_TO_UTF16.strict(text)
+    calls::UTF8_TO_UTF16.strict(text)
 }
 
 /// The text of well-formed UTF-8 in UTF-32.
 pub fn utf8_to_utf32(text: &[u8]) -> Result<Vec<u32>, Fault> {
-    UTF8_TO_UTF32.strict(text)
+    calls::UTF8_TO_UTF32.strict(text)
 }
 
 /// The text of well-formed UTF-16 in UTF-32.
 pub fn utf16_to_utf32(units: &[u16]) -> Result<Vec<u32>, Fault> {
-    UTF16_TO_UTF32.strict(units)
+    calls::UTF16_TO_UTF32.strict(units)
 }
 
 /// The text of well-formed UTF-32 in UTF-16.
 pub fn utf32_to_utf16(units: &[u32]) -> Result<Vec<u16>, Fault> {
-    UTF32_TO_UTF16.strict(units)
+    calls::UTF32_TO_UTF16.strict(units)
 }
 
 /// The text of any UTF-16 in UTF-8, with what the policy gives for each unit that belongs to no character.
 pub fn utf16_to_utf8_lossy(units: &[u16], policy: Lossy) -> String {
-    string(UTF16_TO_UTF8.lossy(units, policy, calls::wide_utf16_to_utf8_lossy_with))
+    calls::UTF16_TO_UTF8.lossy_text(units, policy, calls::UTF16_TO_UTF8_LOSSILY)
 }
 
-/// The same of UTF-32.
+/// The text of any UTF-32 in UTF-8, with what the policy gives for each unit that is no scalar value.
 pub fn utf32_to_utf8_lossy(units: &[u32], policy: Lossy) -> String {
-    string(UTF32_TO_UTF8.lossy(units, policy, calls::wide_utf32_to_utf8_lossy_with))
+    calls::UTF32_TO_UTF8.lossy_text(units, policy, calls::UTF32_TO_UTF8_LOSSILY)
 }
 
 /// The text of any bytes in UTF-16, with what the policy gives for each longest part that begins a character of UTF-8 and does not go on as
 /// one, and for each byte that begins none.
 pub fn utf8_to_utf16_lossy(text: &[u8], policy: Lossy) -> Vec<u16> {
-    UTF8_TO_UTF16.lossy(text, policy, calls::wide_utf8_to_utf16_lossy_with)
+    calls::UTF8_TO_UTF16.lossy(text, policy, calls::UTF8_TO_UTF16_LOSSILY)
 }
 
-/// The same in UTF-32.
+/// The text of any bytes in UTF-32, with what the policy gives for each longest part that begins a character of UTF-8 and does not go on as
+/// one, and for each byte that begins none.
 pub fn utf8_to_utf32_lossy(text: &[u8], policy: Lossy) -> Vec<u32> {
-    UTF8_TO_UTF32.lossy(text, policy, calls::wide_utf8_to_utf32_lossy_with)
+    calls::UTF8_TO_UTF32.lossy(text, policy, calls::UTF8_TO_UTF32_LOSSILY)
 }
 
-/// The units with U+FFFD in the place of each that belongs to no character.
+/// The units with U+FFFD instead of each that belongs to no character.
 pub fn utf16_repair(units: &[u16]) -> Vec<u16> {
-    // The vector has this room, and is new.
-    written(units.len(), |room, size| unsafe {
-        calls::wide_utf16_repair(units.as_ptr(), units.len(), room, size)
-    })
-    .expect("repair has no fault")
+    calls::UTF16_REPAIR.of(units)
 }
 
-/// The same of UTF-32.
+/// The units with U+FFFD instead of each that is no scalar value.
 pub fn utf32_repair(units: &[u32]) -> Vec<u32> {
-    // The vector has this room, and is new.
-    written(units.len(), |room, size| unsafe {
-        calls::wide_utf32_repair(units.as_ptr(), units.len(), room, size)
-    })
-    .expect("repair has no fault")
+    calls::UTF32_REPAIR.of(units)
 }
 
-/// Puts the text of well-formed UTF-16 in UTF-8 in front of the room, if it is as large, and answers how many bytes it has. Where the room is
-/// smaller, what it holds is not said; a fault leaves it as it was. So do the calls below.
-pub fn utf16_to_utf8_into(units: &[u16], room: &mut [u8]) -> Result<usize, Fault> {
-    UTF16_TO_UTF8.strict_into(units, room)
+/// Puts the text of well-formed UTF-16 in UTF-8 into a prefix of the buffer, and answers how many bytes that is. Those behind it are as they were.
+/// A fault leaves the buffer as it was.
+///
+/// # Errors
+///
+/// [`IntoError::Fault`] where the units are not well formed, and [`IntoError::Short`], with the length that is needed, where the buffer is shorter.
+/// An empty buffer asks for the length alone.
+pub fn utf16_to_utf8_into(units: &[u16], buffer: &mut [u8]) -> Result<usize, IntoError> {
+    calls::UTF16_TO_UTF8.strict_into(units, buffer)
 }
 
-/// The same of UTF-32.
-pub fn utf32_to_utf8_into(units: &[u32], room: &mut [u8]) -> Result<usize, Fault> {
-    UTF32_TO_UTF8.strict_into(units, room)
+/// Puts the text of well-formed UTF-32 in UTF-8 into a prefix of the buffer, and answers how many bytes that is.
+///
+/// # Errors
+///
+/// Those of [`utf16_to_utf8_into`].
+pub fn utf32_to_utf8_into(units: &[u32], buffer: &mut [u8]) -> Result<usize, IntoError> {
+    calls::UTF32_TO_UTF8.strict_into(units, buffer)
 }
 
-/// The text of well-formed UTF-8 in UTF-16.
-pub fn utf8_to_utf16_into(text: &[u8], room: &mut [u16]) -> Result<usize, Fault> {
-    UTF8_TO_UTF16.strict_into(text, room)
+/// Puts the text of well-formed UTF-8 in UTF-16 into a prefix of the buffer, and answers how many units that is.
+///
+/// # Errors
+///
+/// Those of [`utf16_to_utf8_into`].
+pub fn utf8_to_utf16_into(text: &[u8], buffer: &mut [u16]) -> Result<usize, IntoError> {
+    calls::UTF8_TO_UTF16.strict_into(text, buffer)
 }
 
-/// The text of well-formed UTF-8 in UTF-32.
-pub fn utf8_to_utf32_into(text: &[u8], room: &mut [u32]) -> Result<usize, Fault> {
-    UTF8_TO_UTF32.strict_into(text, room)
+/// Puts the text of well-formed UTF-8 in UTF-32 into a prefix of the buffer, and answers how many units that is.
+///
+/// # Errors
+///
+/// Those of [`utf16_to_utf8_into`].
+pub fn utf8_to_utf32_into(text: &[u8], buffer: &mut [u32]) -> Result<usize, IntoError> {
+    calls::UTF8_TO_UTF32.strict_into(text, buffer)
 }
 
-/// The text of any UTF-16 in UTF-8, under a policy.
-pub fn utf16_to_utf8_lossy_into(units: &[u16], policy: Lossy, room: &mut [u8]) -> usize {
-    put_with(units, policy, room, calls::wide_utf16_to_utf8_lossy_with)
+/// Puts the text of any UTF-16 in UTF-8 under a policy into a prefix of the buffer, and answers how many bytes that is. Those behind it are as they
+/// were.
+///
+/// # Errors
+///
+/// [`Short`], with the length that is needed, where the buffer is shorter. An empty buffer asks for the length alone.
+pub fn utf16_to_utf8_lossy_into(
+    units: &[u16],
+    policy: Lossy,
+    buffer: &mut [u8],
+) -> Result<usize, Short> {
+    calls::UTF16_TO_UTF8.lossy_into(units, policy, buffer, calls::UTF16_TO_UTF8_LOSSILY)
 }
 
-/// The same of UTF-32.
-pub fn utf32_to_utf8_lossy_into(units: &[u32], policy: Lossy, room: &mut [u8]) -> usize {
-    put_with(units, policy, room, calls::wide_utf32_to_utf8_lossy_with)
+/// Puts the text of any UTF-32 in UTF-8 under a policy into a prefix of the buffer, and answers how many bytes that is.
+///
+/// # Errors
+///
+/// That of [`utf16_to_utf8_lossy_into`].
+pub fn utf32_to_utf8_lossy_into(
+    units: &[u32],
+    policy: Lossy,
+    buffer: &mut [u8],
+) -> Result<usize, Short> {
+    calls::UTF32_TO_UTF8.lossy_into(units, policy, buffer, calls::UTF32_TO_UTF8_LOSSILY)
 }
 
-/// The text of any bytes in UTF-16, under a policy.
-pub fn utf8_to_utf16_lossy_into(text: &[u8], policy: Lossy, room: &mut [u16]) -> usize {
-    put_with(text, policy, room, calls::wide_utf8_to_utf16_lossy_with)
+/// Puts the text of any bytes in UTF-16 under a policy into a prefix of the buffer, and answers how many units that is.
+///
+/// # Errors
+///
+/// That of [`utf16_to_utf8_lossy_into`].
+pub fn utf8_to_utf16_lossy_into(
+    text: &[u8],
+    policy: Lossy,
+    buffer: &mut [u16],
+) -> Result<usize, Short> {
+    calls::UTF8_TO_UTF16.lossy_into(text, policy, buffer, calls::UTF8_TO_UTF16_LOSSILY)
 }
 
-/// The same in UTF-32.
-pub fn utf8_to_utf32_lossy_into(text: &[u8], policy: Lossy, room: &mut [u32]) -> usize {
-    put_with(text, policy, room, calls::wide_utf8_to_utf32_lossy_with)
+/// Puts the text of any bytes in UTF-32 under a policy into a prefix of the buffer, and answers how many units that is.
+///
+/// # Errors
+///
+/// That of [`utf16_to_utf8_lossy_into`].
+pub fn utf8_to_utf32_lossy_into(
+    text: &[u8],
+    policy: Lossy,
+    buffer: &mut [u32],
+) -> Result<usize, Short> {
+    calls::UTF8_TO_UTF32.lossy_into(text, policy, buffer, calls::UTF8_TO_UTF32_LOSSILY)
 }
 
-/// The order that the byte order mark at the front of UTF-16 in bytes tells. The two bytes of the mark are no part of the text.
+/// The order that the byte order mark at the beginning of UTF-16 in bytes tells. The two bytes of the mark are no part of the text.
 pub fn byte_order(bytes: &[u8]) -> Option<Order> {
-    // A slice is memory that may be read, of this length.
-    match unsafe { calls::wide_bytes_order(bytes.as_ptr(), bytes.len()) } {
-        0 => Some(Order::Little),
-        1 => Some(Order::Big),
-        _ => None,
-    }
+    calls::byte_order(bytes)
 }
 
-/// How many bytes at the front no bytes behind them change: all whole units, but a high surrogate that has no whole unit behind it.
+/// The length of the prefix, in bytes, that no bytes behind it change: all whole units, but a high surrogate that has no whole unit behind it.
 pub fn certain(bytes: &[u8], order: Order) -> usize {
-    // As before.
-    unsafe { calls::wide_bytes_certain(bytes.as_ptr(), bytes.len(), order as u32) }
+    calls::certain(bytes, order)
 }
 
-/// The place, in units, of the first one among the bytes that belongs to no character, where there is one.
+/// The offset, in units, of the first unit among the bytes that belongs to no character, where there is one.
 pub fn bytes_first_fault(bytes: &[u8], order: Order) -> Option<usize> {
-    // As before.
-    let place =
-        unsafe { calls::wide_bytes_first_fault(bytes.as_ptr(), bytes.len(), order as u32) };
-    unless(bytes.len() / 2, place)
+    calls::bytes_first_fault(bytes, order)
 }
 
-/// Whether such a unit is the last of the bytes, or where they have none of what stands before them.
+/// Whether the last unit belongs to no character; where there is no unit, what the flag tells of the text before the bytes.
 pub fn ends_in_fault(bytes: &[u8], order: Order, after_fault: bool) -> bool {
-    let (order, after) = (order as u32, u32::from(after_fault));
-    // As before.
-    unsafe { calls::wide_bytes_ends_in_fault(bytes.as_ptr(), bytes.len(), order, after) != 0 }
+    calls::ends_in_fault(bytes, order, after_fault)
 }
 
-/// The text in UTF-8 of bytes that are whole units of well-formed UTF-16. The fault of half a unit is at the last place.
+/// The text in UTF-8 of bytes that are whole units of well-formed UTF-16. The fault of half a unit at the end is at the number of whole units.
 pub fn bytes_to_utf8(bytes: &[u8], order: Order) -> Result<String, Fault> {
-    // The vector has this room, and is new.
-    let text = written(bytes.len(), |room, size| unsafe {
-        calls::wide_bytes_to_utf8(bytes.as_ptr(), bytes.len(), order as u32, room, size)
-    });
-    text.map(string).ok_or_else(|| Fault {
+    calls::bytes_to_utf8(bytes, order).ok_or_else(|| Fault {
         place: bytes_first_fault(bytes, order).unwrap_or(bytes.len() / 2),
     })
 }
 
-/// The text in UTF-8 of the whole units of any bytes, with what the policy gives for each unit that belongs to no character, where the flag
-/// tells whether one is the last of what stands before the bytes. `widestring.h` tells how a stream is read.
+/// The text in UTF-8 of the whole units of any bytes, with what the policy gives for each unit that belongs to no character. The flag tells
+/// whether the last unit of the text before the bytes is such a unit. `widestring.h` tells how a stream is read.
 pub fn bytes_to_utf8_lossy(bytes: &[u8], order: Order, policy: Lossy, after_fault: bool) -> String {
-    let (order, policy, after) = (order as u32, policy as u32, u32::from(after_fault));
-    // The vector has this room, and is new.
-    let text = written(bytes.len(), |room, size| unsafe {
-        calls::wide_bytes_to_utf8_lossy_with(
-            bytes.as_ptr(),
-            bytes.len(),
-            order,
-            policy,
-            after,
-            room,
-            size,
-        )
-    });
-    string(text.expect("each order and policy has a number"))
+    calls::bytes_to_utf8_lossy(bytes, order, policy, after_fault)
 }

@@ -89,25 +89,30 @@ fn sound<T>(items: &Items, place: Option<usize>, make: impl Fn(&str) -> T) -> Re
     }
 }
 
-/// A call into rooms that are exact, longer, shorter and of no element, with marked elements behind each.
+/// A call into buffers that are exact, longer, shorter and of no element, with marked elements behind each: a length is answered where the text
+/// fits, an error that tells it where it doesn't, and a fault in each of them.
 fn fills<T: Copy + PartialEq + Debug>(
     wanted: Result<&[T], Fault>,
     mark: T,
-    call: impl Fn(&mut [T]) -> Result<usize, Fault>,
+    call: impl Fn(&mut [T]) -> Result<usize, IntoError>,
 ) {
     let needed = wanted.map_or(7, <[T]>::len);
     for size in [needed, needed + 9, needed / 2, needed.saturating_sub(1), 0] {
         let mut all = vec![mark; size + 70];
-        let (room, behind) = all.split_at_mut(size);
-        assert_eq!(call(room), wanted.map(<[T]>::len));
+        let (buffer, behind) = all.split_at_mut(size);
+        let answer = call(buffer);
         assert!(behind.iter().all(|item| *item == mark));
         match wanted {
             Ok(items) if items.len() <= size => {
-                assert_eq!(&room[..needed], items);
-                assert!(room[needed..].iter().all(|item| *item == mark));
+                assert_eq!(answer, Ok(needed));
+                assert_eq!(&buffer[..needed], items);
+                assert!(buffer[needed..].iter().all(|item| *item == mark));
             }
-            Ok(_) => {}
-            Err(_) => assert!(room.iter().all(|item| *item == mark)),
+            Ok(_) => assert_eq!(answer, Err(IntoError::Short(Short { needed }))),
+            Err(fault) => {
+                assert_eq!(answer, Err(IntoError::Fault(fault)));
+                assert!(buffer.iter().all(|item| *item == mark));
+            }
         }
     }
 }
@@ -150,13 +155,13 @@ fn check_utf8(text: &[u8]) {
         utf8_to_utf16_lossy(text, Lossy::Each),
         utf16_of(&String::from_utf8_lossy(text))
     );
-    fills(units.as_deref().map_err(|fault| *fault), 0xa5a5, |room| {
-        utf8_to_utf16_into(text, room)
+    fills(units.as_deref().map_err(|fault| *fault), 0xa5a5, |buffer| {
+        utf8_to_utf16_into(text, buffer)
     });
     fills(
         wide.as_deref().map_err(|fault| *fault),
         0xa5a5_a5a5,
-        |room| utf8_to_utf32_into(text, room),
+        |buffer| utf8_to_utf32_into(text, buffer),
     );
     for policy in POLICIES {
         check_utf8_lossy(text, policy, &lossy_of(&items, policy));
@@ -167,11 +172,11 @@ fn check_utf8_lossy(text: &[u8], policy: Lossy, lossy: &str) {
     let (units, wide) = (utf16_of(lossy), utf32_of(lossy));
     assert_eq!(utf8_to_utf16_lossy(text, policy), units);
     assert_eq!(utf8_to_utf32_lossy(text, policy), wide);
-    fills(Ok(&units), 0xa5a5, |room| {
-        Ok(utf8_to_utf16_lossy_into(text, policy, room))
+    fills(Ok(&units), 0xa5a5, |buffer| {
+        Ok(utf8_to_utf16_lossy_into(text, policy, buffer)?)
     });
-    fills(Ok(&wide), 0xa5a5_a5a5, |room| {
-        Ok(utf8_to_utf32_lossy_into(text, policy, room))
+    fills(Ok(&wide), 0xa5a5_a5a5, |buffer| {
+        Ok(utf8_to_utf32_lossy_into(text, policy, buffer)?)
     });
 }
 
@@ -208,13 +213,13 @@ fn check_utf16(units: &[u16], numbers: &mut Numbers) {
             .map(|text| text.as_bytes())
             .map_err(|fault| *fault),
         0xa5,
-        |room| utf16_to_utf8_into(units, room),
+        |buffer| utf16_to_utf8_into(units, buffer),
     );
     for policy in POLICIES {
         let lossy = lossy_of(&items, policy);
         assert_eq!(utf16_to_utf8_lossy(units, policy), lossy);
-        fills(Ok(lossy.as_bytes()), 0xa5, |room| {
-            Ok(utf16_to_utf8_lossy_into(units, policy, room))
+        fills(Ok(lossy.as_bytes()), 0xa5, |buffer| {
+            Ok(utf16_to_utf8_lossy_into(units, policy, buffer)?)
         });
     }
     check_searches16(units, numbers);
@@ -234,7 +239,10 @@ fn check_bytes(units: &[u16], items: &Items, numbers: &mut Numbers) {
     let is_whole = bytes.len() % 2 == 0;
     let fault = place.or((!is_whole).then_some(units.len()));
     assert_eq!(bytes_first_fault(&bytes, order), place);
-    assert_eq!(bytes_to_utf8(&bytes, order), sound(items, fault, str::to_owned));
+    assert_eq!(
+        bytes_to_utf8(&bytes, order),
+        sound(items, fault, str::to_owned)
+    );
     let is_high = units.last().is_some_and(|unit| unit >> 10 == 0x36);
     assert_eq!(
         certain(&bytes, order),
@@ -289,13 +297,13 @@ fn check_utf32(units: &[u32], numbers: &mut Numbers) {
             .map(|text| text.as_bytes())
             .map_err(|fault| *fault),
         0xa5,
-        |room| utf32_to_utf8_into(units, room),
+        |buffer| utf32_to_utf8_into(units, buffer),
     );
     for policy in POLICIES {
         let lossy = lossy_of(&items, policy);
         assert_eq!(utf32_to_utf8_lossy(units, policy), lossy);
-        fills(Ok(lossy.as_bytes()), 0xa5, |room| {
-            Ok(utf32_to_utf8_lossy_into(units, policy, room))
+        fills(Ok(lossy.as_bytes()), 0xa5, |buffer| {
+            Ok(utf32_to_utf8_lossy_into(units, policy, buffer)?)
         });
     }
     check_searches32(units, numbers);
@@ -317,6 +325,51 @@ fn version_is_the_crates() {
             256 * number + part.parse::<u32>().expect("a number")
         });
     assert_eq!(version(), number);
+}
+
+/// An answer of each call that writes into a buffer can be sliced by: where the text is longer, it is an error that tells the length.
+#[test]
+fn short_buffers() {
+    let short = Short { needed: 6 };
+    let error = IntoError::Short(short);
+    assert_eq!(
+        utf16_to_utf8_into(&[0x3042, 0x3042], &mut [0; 2]),
+        Err(error)
+    );
+    assert_eq!(
+        utf32_to_utf8_into(&[0x3042, 0x3042], &mut [0; 5]),
+        Err(error)
+    );
+    assert_eq!(utf8_to_utf16_into(b"abcdef", &mut [0; 5]), Err(error));
+    assert_eq!(utf8_to_utf32_into(b"abcdef", &mut []), Err(error));
+    assert_eq!(
+        utf16_to_utf8_lossy_into(&[0x3042, 0xd800], Lossy::Each, &mut [0; 5]),
+        Err(short)
+    );
+    assert_eq!(
+        utf32_to_utf8_lossy_into(&[0x3042, 0xd800], Lossy::Run, &mut [0; 2]),
+        Err(short)
+    );
+    assert_eq!(
+        utf8_to_utf16_lossy_into(b"abcde\xff", Lossy::Each, &mut [0; 5]),
+        Err(short)
+    );
+    assert_eq!(
+        utf8_to_utf32_lossy_into(b"abcde\xff", Lossy::Each, &mut []),
+        Err(short)
+    );
+    assert_eq!(utf16_to_utf8_into(&[], &mut []), Ok(0));
+    assert_eq!(
+        utf16_to_utf8_lossy_into(&[0xd800], Lossy::Skip, &mut []),
+        Ok(0)
+    );
+    let fault = Fault { place: 1 };
+    assert_eq!(
+        utf16_to_utf8_into(&[0x61, 0xd800], &mut []),
+        Err(IntoError::Fault(fault))
+    );
+    assert_eq!(error.to_string(), "the text needs a buffer of 6 elements");
+    assert_eq!(IntoError::from(fault).to_string(), fault.to_string());
 }
 
 #[test]

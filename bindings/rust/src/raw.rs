@@ -1,0 +1,137 @@
+//! The calls of `widestring.h` that the crate stands on. A pointer and the length or capacity behind it must be those of memory that may be read,
+//! or written where the pointer is `*mut`, and no memory that is written may overlap other memory that is handed in.
+
+extern "C" {
+    pub fn wide_version() -> u32;
+    pub fn wide_utf8_first_fault(text: *const u8, length: usize) -> usize;
+    pub fn wide_utf16_first_fault(units: *const u16, length: usize) -> usize;
+    pub fn wide_utf32_first_fault(units: *const u32, length: usize) -> usize;
+    pub fn wide_utf16_first_fault_item(units: *const u16, length: usize) -> usize;
+    pub fn wide_utf32_first_fault_item(units: *const u32, length: usize) -> usize;
+    pub fn wide_utf8_char_count(text: *const u8, length: usize) -> usize;
+    pub fn wide_utf16_char_count(units: *const u16, length: usize) -> usize;
+    pub fn wide_utf32_char_count(units: *const u32, length: usize) -> usize;
+    pub fn wide_utf16_utf8_length(units: *const u16, length: usize) -> usize;
+    pub fn wide_utf32_utf8_length(units: *const u32, length: usize) -> usize;
+    pub fn wide_utf8_utf16_length(text: *const u8, length: usize) -> usize;
+    pub fn wide_utf8_utf32_length(text: *const u8, length: usize) -> usize;
+    pub fn wide_utf16_utf32_length(units: *const u16, length: usize) -> usize;
+    pub fn wide_utf32_utf16_length(units: *const u32, length: usize) -> usize;
+    pub fn wide_utf16_first_nul(units: *const u16, length: usize) -> usize;
+    pub fn wide_utf32_first_nul(units: *const u32, length: usize) -> usize;
+    pub fn wide_utf16_find_unit(units: *const u16, length: usize, unit: u16) -> usize;
+    pub fn wide_utf32_find_unit(units: *const u32, length: usize, unit: u32) -> usize;
+    pub fn wide_utf16_find(
+        units: *const u16,
+        length: usize,
+        part: *const u16,
+        part_length: usize,
+    ) -> usize;
+    pub fn wide_utf32_find(
+        units: *const u32,
+        length: usize,
+        part: *const u32,
+        part_length: usize,
+    ) -> usize;
+    pub fn wide_utf16_to_utf8(
+        units: *const u16,
+        length: usize,
+        text: *mut u8,
+        capacity: usize,
+    ) -> usize;
+    pub fn wide_utf32_to_utf8(
+        units: *const u32,
+        length: usize,
+        text: *mut u8,
+        capacity: usize,
+    ) -> usize;
+    pub fn wide_utf8_to_utf16(
+        text: *const u8,
+        length: usize,
+        units: *mut u16,
+        capacity: usize,
+    ) -> usize;
+    pub fn wide_utf8_to_utf32(
+        text: *const u8,
+        length: usize,
+        units: *mut u32,
+        capacity: usize,
+    ) -> usize;
+    pub fn wide_utf16_to_utf32(
+        units: *const u16,
+        length: usize,
+        scalars: *mut u32,
+        capacity: usize,
+    ) -> usize;
+    pub fn wide_utf32_to_utf16(
+        scalars: *const u32,
+        length: usize,
+        units: *mut u16,
+        capacity: usize,
+    ) -> usize;
+    pub fn wide_utf16_to_utf8_lossy_with(
+        units: *const u16,
+        length: usize,
+        policy: u32,
+        text: *mut u8,
+        capacity: usize,
+    ) -> usize;
+    pub fn wide_utf32_to_utf8_lossy_with(
+        units: *const u32,
+        length: usize,
+        policy: u32,
+        text: *mut u8,
+        capacity: usize,
+    ) -> usize;
+    pub fn wide_utf8_to_utf16_lossy_with(
+        text: *const u8,
+        length: usize,
+        policy: u32,
+        units: *mut u16,
+        capacity: usize,
+    ) -> usize;
+    pub fn wide_utf8_to_utf32_lossy_with(
+        text: *const u8,
+        length: usize,
+        policy: u32,
+        units: *mut u32,
+        capacity: usize,
+    ) -> usize;
+    pub fn wide_utf16_repair(
+        units: *const u16,
+        length: usize,
+        repaired: *mut u16,
+        capacity: usize,
+    ) -> usize;
+    pub fn wide_utf32_repair(
+        units: *const u32,
+        length: usize,
+        repaired: *mut u32,
+        capacity: usize,
+    ) -> usize;
+    pub fn wide_bytes_order(bytes: *const u8, length: usize) -> u32;
+    pub fn wide_bytes_certain(bytes: *const u8, length: usize, order: u32) -> usize;
+    pub fn wide_bytes_first_fault(bytes: *const u8, length: usize, order: u32) -> usize;
+    pub fn wide_bytes_ends_in_fault(
+        bytes: *const u8,
+        length: usize,
+        order: u32,
+        after_fault: u32,
+    ) -> u32;
+    pub fn wide_bytes_to_utf8(
+        bytes: *const u8,
+        length: usize,
+        order: u32,
+        text: *mut u8,
+        capacity: usize,
+    ) -> usize;
+    pub fn wide_bytes_to_utf8_lossy_with(
+        bytes: *const u8,
+        length: usize,
+        order: u32,
+        policy: u32,
+        after_fault: u32,
+        text: *mut u8,
+        capacity: usize,
+    ) -> usize;
+}
