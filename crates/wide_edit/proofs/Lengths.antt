@@ -21,7 +21,7 @@ module _ (form : EncodingForm) where
   pub size-append : (l m : List ℕ) → size (l ++ m) ≡ size l + size m
   size-append l m = ap length (flat_map-append (code_units form) l m) ∙ length-append (encode form l) (encode form m)
 
-  size-cut : (l : List ℕ) (i : ℕ) → size l ≡ place l i + size (drop i l)
+  pub size-cut : (l : List ℕ) (i : ℕ) → size l ≡ place l i + size (drop i l)
   size-cut l i = ap size (sym (take-append-drop i l)) ∙ size-append (take i l) (drop i l)
 
   pub size-one : (c : ℕ) → size (c ∷ []) ≡ length (code_units form c)

@@ -1,5 +1,5 @@
 -- Kept marks: the unit offsets, in UTF-16, of every sixty-fourth character of a text.
-use Rattle.std.specs.Prelude.{ℕ, ◌+◌, ◌-◌, ◌*◌, ◌/◌, ◌≤◌, List, map, take, length, min, refl}
+use Rattle.std.specs.Prelude.{ℕ, ◌+◌, ◌-◌, ◌*◌, ◌/◌, ◌≤◌, List, map, take, drop, length, min, refl}
 use Rattle.std.specs.Coded.{Coded, code_by, coded×, coded_ℕ}
 use Rattle.std.specs.List.{range_with_len}
 use Rattle.wide_unit.specs.EncodingForm.{Utf16, encode}
@@ -42,6 +42,21 @@ abbrev pub units_behind : List ℕ → List ℕ → Edit → ℕ
 units_behind old new edit =
     (length (encode Utf16 old) - mark old (marks_kept old edit)) + (length (encode Utf16 new) - mark new (marks_kept old edit))
 
+-- the units from which the characters of a reply are counted: those of the characters that a `SplitOff` takes
+abbrev pub units_split_off : List ℕ → Edit → ℕ
+units_split_off cs (Push c) = 0
+units_split_off cs (PushStr t) = 0
+units_split_off cs Pop = 0
+units_split_off cs (Truncate m) = 0
+units_split_off cs (Insert i c) = 0
+units_split_off cs (InsertStr i t) = 0
+units_split_off cs (Remove i) = 0
+units_split_off cs (Retain keep) = 0
+units_split_off cs (Drain a b) = 0
+units_split_off cs (Replace a b t) = 0
+units_split_off cs (SplitOff i) = length (encode Utf16 (drop i cs))
+units_split_off cs Clear = 0
+
 -- what a contract sees of a string with kept marks: the string, and how many marks fit with no allocation
 pub record Marked : Type 0 where
   pub string : Units ℕ
@@ -55,6 +70,10 @@ marked_code =
 -- its units
 abbrev pub marked_units : Marked → List ℕ
 marked_units m = m.string.units
+
+-- how many units fit with no allocation
+abbrev pub marked_capacity : Marked → ℕ
+marked_capacity m = m.string.capacity
 
 -- its characters
 abbrev pub marked_text : Marked → List ℕ

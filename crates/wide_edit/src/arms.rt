@@ -31,7 +31,8 @@ fn copy<C: FaultUnit>(text: UtfStr<'_, C>, mut room: Vec<char>) -> Vec<char>
 
 fn push<C: FaultUnit>(s: &mut UtfString<C>, c: char) -> Reply
     requires { CanHold C.form s.old (changed (text_of C.form C.number s.old.units) (edit_of.Push c)) }
-    ensures { IsMade (text_of C.form C.number s.old.units) (edit_of.Push c) (text_of C.form C.number s.new.units) result }
+    ensures made { IsMade (text_of C.form C.number s.old.units) (edit_of.Push c) (text_of C.form C.number s.new.units) result }
+    ensures capacity { s.old.capacity ≤ s.new.capacity }
 {
     recall(s);
     let _room_was_found = s.push(c);
@@ -40,7 +41,8 @@ fn push<C: FaultUnit>(s: &mut UtfString<C>, c: char) -> Reply
 
 fn push_str<C: FaultUnit>(s: &mut UtfString<C>, text: &str) -> Reply
     requires { CanHold C.form s.old (changed (text_of C.form C.number s.old.units) (edit_of.PushStr text)) }
-    ensures { IsMade (text_of C.form C.number s.old.units) (edit_of.PushStr text.entry) (text_of C.form C.number s.new.units) result }
+    ensures made { IsMade (text_of C.form C.number s.old.units) (edit_of.PushStr text.entry) (text_of C.form C.number s.new.units) result }
+    ensures capacity { s.old.capacity ≤ s.new.capacity }
 {
     recall(s);
     let _room_was_found = s.push_str(text);
@@ -48,7 +50,8 @@ fn push_str<C: FaultUnit>(s: &mut UtfString<C>, text: &str) -> Reply
 }
 
 fn pop<C: FaultUnit>(s: &mut UtfString<C>) -> Reply
-    ensures { IsMade (text_of C.form C.number s.old.units) edit_of.Pop (text_of C.form C.number s.new.units) result }
+    ensures made { IsMade (text_of C.form C.number s.old.units) edit_of.Pop (text_of C.form C.number s.new.units) result }
+    ensures capacity { s.old.capacity ≤ s.new.capacity }
 {
     match s.pop() {
         Some(c) => Reply::Char(c),
@@ -58,7 +61,8 @@ fn pop<C: FaultUnit>(s: &mut UtfString<C>) -> Reply
 
 fn truncate<C: FaultUnit>(s: &mut UtfString<C>, len: usize, found: Option<usize>) -> Reply
     requires { IsFoundAt C.form (map C.number s.old.units) len found }
-    ensures { IsMade (text_of C.form C.number s.old.units) (edit_of.Truncate len) (text_of C.form C.number s.new.units) result }
+    ensures made { IsMade (text_of C.form C.number s.old.units) (edit_of.Truncate len) (text_of C.form C.number s.new.units) result }
+    ensures capacity { s.old.capacity ≤ s.new.capacity }
 {
     recall(s);
     match found {
@@ -73,7 +77,8 @@ fn truncate<C: FaultUnit>(s: &mut UtfString<C>, len: usize, found: Option<usize>
 fn insert<C: FaultUnit>(s: &mut UtfString<C>, index: usize, found: Option<usize>, c: char) -> Reply
     requires found { IsFoundAt C.form (map C.number s.old.units) index found }
     requires ready { CanHold C.form s.old (changed (text_of C.form C.number s.old.units) (edit_of.Insert index c)) }
-    ensures { IsMade (text_of C.form C.number s.old.units) (edit_of.Insert index c) (text_of C.form C.number s.new.units) result }
+    ensures made { IsMade (text_of C.form C.number s.old.units) (edit_of.Insert index c) (text_of C.form C.number s.new.units) result }
+    ensures capacity { s.old.capacity ≤ s.new.capacity }
 {
     recall(s);
     match found {
@@ -93,7 +98,8 @@ fn insert_str<C: FaultUnit>(
 ) -> Reply
     requires found { IsFoundAt C.form (map C.number s.old.units) index found }
     requires ready { CanHold C.form s.old (changed (text_of C.form C.number s.old.units) (edit_of.InsertStr index text)) }
-    ensures { IsMade (text_of C.form C.number s.old.units) (edit_of.InsertStr index text.entry) (text_of C.form C.number s.new.units) result }
+    ensures made { IsMade (text_of C.form C.number s.old.units) (edit_of.InsertStr index text.entry) (text_of C.form C.number s.new.units) result }
+    ensures capacity { s.old.capacity ≤ s.new.capacity }
 {
     recall(s);
     match found {
@@ -107,7 +113,8 @@ fn insert_str<C: FaultUnit>(
 
 fn remove<C: FaultUnit>(s: &mut UtfString<C>, index: usize, found: Option<usize>) -> Reply
     requires { IsFoundAt C.form (map C.number s.old.units) index found }
-    ensures { IsMade (text_of C.form C.number s.old.units) (edit_of.Remove index) (text_of C.form C.number s.new.units) result }
+    ensures made { IsMade (text_of C.form C.number s.old.units) (edit_of.Remove index) (text_of C.form C.number s.new.units) result }
+    ensures capacity { s.old.capacity ≤ s.new.capacity }
 {
     recall(s);
     match found {
@@ -122,7 +129,8 @@ fn remove<C: FaultUnit>(s: &mut UtfString<C>, index: usize, found: Option<usize>
 }
 
 fn retain<C: FaultUnit>(s: &mut UtfString<C>, keep: &[char]) -> Reply
-    ensures { IsMade (text_of C.form C.number s.old.units) (edit_of.Retain keep.entry) (text_of C.form C.number s.new.units) result }
+    ensures made { IsMade (text_of C.form C.number s.old.units) (edit_of.Retain keep.entry) (text_of C.form C.number s.new.units) result }
+    ensures capacity { s.old.capacity ≤ s.new.capacity }
 {
     s.retain(|c| keep.contains(&c));
     Reply::Done
@@ -139,7 +147,8 @@ fn drain<C: FaultUnit>(
     requires start { IsFoundAt C.form (map C.number s.old.units) from start }
     requires end { IsFoundAt C.form (map C.number s.old.units) to end }
     requires room { HasReplyRoom (text_of C.form C.number s.old.units) (edit_of.Drain from to) room }
-    ensures { IsMade (text_of C.form C.number s.old.units) (edit_of.Drain from to) (text_of C.form C.number s.new.units) result }
+    ensures made { IsMade (text_of C.form C.number s.old.units) (edit_of.Drain from to) (text_of C.form C.number s.new.units) result }
+    ensures capacity { s.old.capacity ≤ s.new.capacity }
 {
     recall(s);
     match range_at(s, from, to, start, end) {
@@ -163,7 +172,8 @@ fn replace<C: FaultUnit>(
     requires start { IsFoundAt C.form (map C.number s.old.units) from start }
     requires end { IsFoundAt C.form (map C.number s.old.units) to end }
     requires ready { CanHold C.form s.old (changed (text_of C.form C.number s.old.units) (edit_of.Replace from to text)) }
-    ensures { IsMade (text_of C.form C.number s.old.units) (edit_of.Replace from to text.entry) (text_of C.form C.number s.new.units) result }
+    ensures made { IsMade (text_of C.form C.number s.old.units) (edit_of.Replace from to text.entry) (text_of C.form C.number s.new.units) result }
+    ensures capacity { s.old.capacity ≤ s.new.capacity }
 {
     recall(s);
     match range_at(s, from, to, start, end) {
@@ -183,7 +193,8 @@ fn split_off<C: FaultUnit>(
 ) -> Reply
     requires found { IsFoundAt C.form (map C.number s.old.units) index found }
     requires room { HasReplyRoom (text_of C.form C.number s.old.units) (edit_of.SplitOff index) room }
-    ensures { IsMade (text_of C.form C.number s.old.units) (edit_of.SplitOff index) (text_of C.form C.number s.new.units) result }
+    ensures made { IsMade (text_of C.form C.number s.old.units) (edit_of.SplitOff index) (text_of C.form C.number s.new.units) result }
+    ensures capacity { s.old.capacity ≤ s.new.capacity }
 {
     match found {
         Some(at) => {
@@ -197,7 +208,8 @@ fn split_off<C: FaultUnit>(
 }
 
 fn clear<C: FaultUnit>(s: &mut UtfString<C>) -> Reply
-    ensures { IsMade (text_of C.form C.number s.old.units) edit_of.Clear (text_of C.form C.number s.new.units) result }
+    ensures made { IsMade (text_of C.form C.number s.old.units) edit_of.Clear (text_of C.form C.number s.new.units) result }
+    ensures capacity { s.old.capacity ≤ s.new.capacity }
 {
     s.clear();
     Reply::Done
@@ -215,7 +227,8 @@ pub(crate) fn apply_at<C: FaultUnit>(
     requires end { IsFoundAt C.form (map C.number s.old.units) (second_number edit) end }
     requires ready { CanHold C.form s.old (changed (text_of C.form C.number s.old.units) edit) }
     requires room { HasReplyRoom (text_of C.form C.number s.old.units) edit room }
-    ensures { IsMade (text_of C.form C.number s.old.units) edit.entry (text_of C.form C.number s.new.units) result }
+    ensures made { IsMade (text_of C.form C.number s.old.units) edit.entry (text_of C.form C.number s.new.units) result }
+    ensures capacity { s.old.capacity ≤ s.new.capacity }
 {
     match edit {
         Edit::Push(c) => push(s, c),

@@ -1,5 +1,5 @@
 //! Edits, their replies, and what can be edited.
-ghost use Rattle.std.specs.Prelude.{◌≡◌, ℕ, List, length, IfOk, OnOk};
+ghost use Rattle.std.specs.Prelude.{◌≡◌, ◌≤◌, ℕ, List, length, IfOk, OnOk};
 ghost use Rattle.wide_unit.specs.EncodingForm.{EncodingForm, encode};
 ghost use Rattle.wide_edit.specs.Step.{step, answer_of};
 ghost use Rattle.wide_edit.specs.Edited.{HasReplyRoom};
@@ -93,6 +93,9 @@ pub trait TextEdit {
     // The encoding form that the units are of.
     ghost form: { EncodingForm };
 
+    // How many units fit with no allocation.
+    ghost capacity: { Self → ℕ };
+
     // All memory that the edit takes of the text is there.
     ghost is_ready: { Self → Edit → Type 0 };
 
@@ -106,21 +109,23 @@ pub trait TextEdit {
         ensures encoded { units self.now ≡ encode form (text self.now) };
 
     /// Finds all memory of an edit: in the text, and room for the characters of its reply, which is the answer. Nothing else
-    /// changes: the text has the units that it had.
+    /// changes: the text has the units that it had, and no capacity is given back.
     ///
     /// # Errors
     ///
-    /// An allocation was refused. The text has the units that it had.
+    /// An allocation was refused. The text has the units that it had, and no less capacity.
     fn prepare(&mut self, alloc: Global, edit: Edit<'_>) -> Result<Vec<char>, OutOfMemory>
         ensures ready { OnOk result (is_ready self.new edit.entry) }
         ensures room { IfOk result (λ room. HasReplyRoom (text self.new) edit.entry room) }
         ensures text { text self.new ≡ text self.old }
-        ensures units { units self.new ≡ units self.old };
+        ensures units { units self.new ≡ units self.old }
+        ensures capacity { capacity self.old ≤ capacity self.new };
 
-    /// Makes an edit, in memory that was found for it. It takes none, and no allocation is refused.
+    /// Makes an edit, in memory that was found for it. It takes none, no allocation is refused, and no capacity is given back.
     fn apply(&mut self, edit: Edit<'_>, room: Vec<char>) -> Reply
         requires ready { is_ready self.old edit }
         requires room { HasReplyRoom (text self.old) edit room }
         ensures text { text self.new ≡ (step (text self.old) edit.entry).0 }
-        ensures reply { answer_of result ≡ (step (text self.old) edit.entry).1 };
+        ensures reply { answer_of result ≡ (step (text self.old) edit.entry).1 }
+        ensures capacity { capacity self.old ≤ capacity self.new };
 }

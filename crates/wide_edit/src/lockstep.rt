@@ -1,5 +1,5 @@
 //! Lists of edits, of one text and of two.
-ghost use Rattle.std.specs.Prelude.{◌≡◌, ◌<◌, length, take, IfErr, OnOk, OnErr};
+ghost use Rattle.std.specs.Prelude.{◌≡◌, ◌<◌, ◌≤◌, length, take, IfErr, OnOk, OnErr};
 ghost use Rattle.wide_unit.specs.EncodingForm.{encode};
 ghost use Rattle.wide_edit.specs.Edited.{HasStepped, HasRun};
 
@@ -17,6 +17,7 @@ fn make<T: TextEdit>(
     ensures ok { OnOk result (HasStepped (T.text text.old) edit.entry (T.text text.new) replies.old.items replies.new.items) }
     ensures err_text { OnErr result (T.text text.new ≡ T.text text.old) }
     ensures err_replies { OnErr result (replies.new.items ≡ replies.old.items) }
+    ensures capacity { T.capacity text.old ≤ T.capacity text.new }
 {
     replies.reserve(1)?;
     let room = text.prepare(alloc, edit)?;
@@ -34,6 +35,7 @@ fn make_all<T: TextEdit>(
     ensures ok { OnOk result (HasRun (T.text text.old) edits.now (T.text text.new) replies.old.items replies.new.items) }
     ensures fewer { IfErr result (λ stopped. stopped.done < length edits.now) }
     ensures err { IfErr result (λ stopped. HasRun (T.text text.old) (take stopped.done edits.now) (T.text text.new) replies.old.items replies.new.items) }
+    ensures capacity { T.capacity text.old ≤ T.capacity text.new }
 {
     let mut done = 0;
     for edit in edits {
@@ -47,6 +49,7 @@ fn make_all<T: TextEdit>(
 }
 
 /// Makes the edits of a text in order, and appends a reply for each. An edit that is refused changes nothing, and the run goes on.
+/// No capacity of the text is given back.
 ///
 /// # Errors
 ///
@@ -61,6 +64,7 @@ pub fn run<T: TextEdit>(
     ensures fewer { IfErr result (λ stopped. stopped.done < length edits.now) }
     ensures err { IfErr result (λ stopped. HasRun (T.text text.old) (take stopped.done edits.now) (T.text text.new) replies.old.items replies.new.items) }
     ensures encoded { T.units text.new ≡ encode T.form (T.text text.new) }
+    ensures capacity { T.capacity text.old ≤ T.capacity text.new }
 {
     let ran = make_all(alloc, text, edits, replies);
     let _units = text.unit_count();
@@ -82,6 +86,8 @@ fn make_both<T: TextEdit, U: TextEdit>(
     ensures err_second { OnErr result (U.text second.new ≡ U.text second.old) }
     ensures err_first_replies { OnErr result (first_replies.new.items ≡ first_replies.old.items) }
     ensures err_second_replies { OnErr result (second_replies.new.items ≡ second_replies.old.items) }
+    ensures capacity_first { T.capacity first.old ≤ T.capacity first.new }
+    ensures capacity_second { U.capacity second.old ≤ U.capacity second.new }
 {
     first_replies.reserve(1)?;
     second_replies.reserve(1)?;
@@ -106,6 +112,8 @@ fn make_all_both<T: TextEdit, U: TextEdit>(
     ensures fewer { IfErr result (λ stopped. stopped.done < length edits.now) }
     ensures err_first { IfErr result (λ stopped. HasRun (T.text first.old) (take stopped.done edits.now) (T.text first.new) first_replies.old.items first_replies.new.items) }
     ensures err_second { IfErr result (λ stopped. HasRun (U.text second.old) (take stopped.done edits.now) (U.text second.new) second_replies.old.items second_replies.new.items) }
+    ensures capacity_first { T.capacity first.old ≤ T.capacity first.new }
+    ensures capacity_second { U.capacity second.old ≤ U.capacity second.new }
 {
     let mut done = 0;
     for edit in edits {
@@ -120,7 +128,7 @@ fn make_all_both<T: TextEdit, U: TextEdit>(
 
 /// Makes the edits of two texts in order, and appends a reply for each to either list. Texts that begin with the same characters
 /// end with the same and give the same answers, whatever their encoding forms are. The memory that an edit takes of both texts and
-/// for both replies is found before either text changes.
+/// for both replies is found before either text changes. No capacity of a text is given back.
 ///
 /// # Errors
 ///
@@ -141,6 +149,8 @@ pub fn run_both<T: TextEdit, U: TextEdit>(
     ensures err_second { IfErr result (λ stopped. HasRun (U.text second.old) (take stopped.done edits.now) (U.text second.new) second_replies.old.items second_replies.new.items) }
     ensures encoded_first { T.units first.new ≡ encode T.form (T.text first.new) }
     ensures encoded_second { U.units second.new ≡ encode U.form (U.text second.new) }
+    ensures capacity_first { T.capacity first.old ≤ T.capacity first.new }
+    ensures capacity_second { U.capacity second.old ≤ U.capacity second.new }
 {
     let ran = make_all_both(alloc, first, second, edits, first_replies, second_replies);
     let _first_units = first.unit_count();

@@ -8,12 +8,12 @@ ghost use Rattle.wide_edit.specs.Step.{step, answer_of};
 ghost use Rattle.wide_edit.specs.Edited.{CanHold, IsMade, HasReplyRoom};
 ghost use Rattle.wide_edit.specs.Found.{first_number, second_number, IsFoundAt};
 ghost use Rattle.wide_edit.specs.Counted.{AddsAtMost};
-ghost use Rattle.wide_edit.specs.Marks.{marks_of, edit_place, units_behind, marked_units, marked_text, IsMarkedReady};
+ghost use Rattle.wide_edit.specs.Marks.{marks_of, edit_place, units_behind, units_split_off, marked_capacity, marked_units, marked_text, IsMarkedReady};
 
 use crate::arms::apply_at;
 use crate::counting::Steps;
 use crate::edits::{Edit, Reply, TextEdit};
-use crate::found::numbers_of;
+use crate::found::{numbers_of, recall};
 use crate::marks::{count_from, find_from, mend, units_from};
 use crate::memory::prepare_at;
 use std::alloc::Global;
@@ -81,8 +81,35 @@ fn prepare16(
     ensures ready { OnOk result (CanHold Utf16 string.new (step (chars Utf16 string.new.units) edit.entry).0) }
     ensures room { IfOk result (λ room. HasReplyRoom (chars Utf16 string.new.units) edit.entry room) }
     ensures units { string.new.units ≡ string.old.units }
+    ensures capacity { string.old.capacity ≤ string.new.capacity }
 {
     prepare_at(string, alloc, edit, start, end)
+}
+
+// How many units are read to count the characters of an edit's reply: those from the place of a `SplitOff` on.
+fn units_counted(string: &Utf16String, edit: Edit<'_>, start: Option<usize>) -> usize
+    requires { IsFoundAt Utf16 string.now.units (first_number edit) start }
+    ensures { result ≡ units_split_off (chars Utf16 string.now.units) edit.entry }
+{
+    recall(string);
+    let len = string.unit_count();
+    match edit {
+        Edit::SplitOff(_) => match start {
+            Some(at) => len - at,
+            None => 0,
+        },
+        Edit::Push(_) => 0,
+        Edit::PushStr(_) => 0,
+        Edit::Pop => 0,
+        Edit::Truncate(_) => 0,
+        Edit::Insert(_, _) => 0,
+        Edit::InsertStr(_, _) => 0,
+        Edit::Remove(_) => 0,
+        Edit::Retain(_) => 0,
+        Edit::Drain(_, _) => 0,
+        Edit::Replace(_, _, _) => 0,
+        Edit::Clear => 0,
+    }
 }
 
 // Makes the edit of a string in UTF-16, whose places were found.
@@ -97,7 +124,8 @@ fn apply16(
     requires end { IsFoundAt Utf16 string.old.units (second_number edit) end }
     requires ready { CanHold Utf16 string.old (step (chars Utf16 string.old.units) edit).0 }
     requires room { HasReplyRoom (chars Utf16 string.old.units) edit room }
-    ensures { IsMade (chars Utf16 string.old.units) edit.entry (chars Utf16 string.new.units) result }
+    ensures made { IsMade (chars Utf16 string.old.units) edit.entry (chars Utf16 string.new.units) result }
+    ensures capacity { string.old.capacity ≤ string.new.capacity }
 {
     apply_at(string, edit, start, end, room)
 }
@@ -116,6 +144,8 @@ fn apply_to(
     requires room { HasReplyRoom (chars Utf16 string.old.units) edit room }
     ensures made { IsMade (chars Utf16 string.old.units) edit.entry (chars Utf16 string.new.units) result }
     ensures marks { marks.new.items ≡ marks_of (chars Utf16 string.new.units) }
+    ensures capacity { string.old.capacity ≤ string.new.capacity }
+    ensures marks_capacity { vec_capacity marks.new ≡ vec_capacity marks.old }
     ensures steps { AddsAtMost steps.old steps.new (512 + units_behind (chars Utf16 string.old.units) (chars Utf16 string.new.units) edit.entry) }
 {
     let (first, second) = numbers_of(edit);
@@ -191,6 +221,41 @@ impl Marked16 {
         find_from(self.string.as_utfstr(), self.marks.as_slice(), index, steps)
     }
 
+    /// As [`TextEdit::prepare`], and counts steps, one for each unit that may be read: no more than 252, and for a `SplitOff` those
+    /// from its place on.
+    ///
+    /// # Errors
+    ///
+    /// An allocation was refused. The text has the units that it had, and no less capacity.
+    pub fn prepare_counted(
+        &mut self,
+        alloc: Global,
+        edit: Edit<'_>,
+        steps: &mut Steps,
+    ) -> Result<Vec<char>, OutOfMemory>
+        ensures ready { OnOk result (IsMarkedReady self.new edit.entry) }
+        ensures room { IfOk result (λ room. HasReplyRoom (marked_text self.new) edit.entry room) }
+        ensures units { marked_units self.new ≡ marked_units self.old }
+        ensures capacity { marked_capacity self.old ≤ marked_capacity self.new }
+        ensures marks_capacity { self.old.marks_room ≤ self.new.marks_room }
+        ensures steps { AddsAtMost steps.old steps.new (252 + units_split_off (marked_text self.old) edit.entry) }
+    {
+        let (first, second) = numbers_of(edit);
+        let start = find_from(self.string.as_utfstr(), self.marks.as_slice(), first, steps);
+        let end = find_from(
+            self.string.as_utfstr(),
+            self.marks.as_slice(),
+            second,
+            steps,
+        );
+        steps.tick(units_counted(&self.string, edit, start));
+        let room = prepare16(&mut self.string, alloc, edit, start, end)?;
+        // No text has more characters than units.
+        let most = self.string.capacity() / 64;
+        self.marks.reserve(most.saturating_sub(self.marks.len()))?;
+        Ok(room)
+    }
+
     /// As [`TextEdit::apply`], and counts steps, one for each unit that may be read: no more than 512, and all units of the old and of the
     /// new text behind the last mark that is not past the edit's place, read or not.
     pub fn apply_counted(&mut self, edit: Edit<'_>, room: Vec<char>, steps: &mut Steps) -> Reply
@@ -198,6 +263,8 @@ impl Marked16 {
         requires room { HasReplyRoom (marked_text self.old) edit room }
         ensures text { marked_text self.new ≡ (step (marked_text self.old) edit.entry).0 }
         ensures reply { answer_of result ≡ (step (marked_text self.old) edit.entry).1 }
+        ensures capacity { marked_capacity self.old ≤ marked_capacity self.new }
+        ensures marks_capacity { self.new.marks_room ≡ self.old.marks_room }
         ensures steps { AddsAtMost steps.old steps.new (512 + units_behind (marked_text self.old) (marked_text self.new) edit.entry) }
     {
         apply_to(&mut self.string, &mut self.marks, edit, room, steps)
@@ -206,13 +273,15 @@ impl Marked16 {
 
 impl TextEdit for Marked16 {
     ghost use Rattle.wide_unit.specs.EncodingForm.{Utf16};
-    ghost use Rattle.wide_edit.specs.Marks.{marked_units, marked_text, IsMarkedReady};
+    ghost use Rattle.wide_edit.specs.Marks.{marked_capacity, marked_units, marked_text, IsMarkedReady};
 
     ghost text = { marked_text };
 
     ghost units = { marked_units };
 
     ghost form = { Utf16 };
+
+    ghost capacity = { marked_capacity };
 
     ghost is_ready = { IsMarkedReady };
 
@@ -229,20 +298,7 @@ impl TextEdit for Marked16 {
     }
 
     fn prepare(&mut self, alloc: Global, edit: Edit<'_>) -> Result<Vec<char>, OutOfMemory> {
-        let (first, second) = numbers_of(edit);
-        let steps = &mut Steps::new();
-        let start = find_from(self.string.as_utfstr(), self.marks.as_slice(), first, steps);
-        let end = find_from(
-            self.string.as_utfstr(),
-            self.marks.as_slice(),
-            second,
-            steps,
-        );
-        let room = prepare16(&mut self.string, alloc, edit, start, end)?;
-        // No text has more characters than units.
-        let most = self.string.capacity() / 64;
-        self.marks.reserve(most.saturating_sub(self.marks.len()))?;
-        Ok(room)
+        self.prepare_counted(alloc, edit, &mut Steps::new())
     }
 
     fn apply(&mut self, edit: Edit<'_>, room: Vec<char>) -> Reply {

@@ -1,5 +1,5 @@
 //! The memory that an edit takes: of a well-formed string, and for the characters of its reply.
-ghost use Rattle.std.specs.Prelude.{◌≡◌, ◌-◌, length, map, IsOk, OnOk, IfOk};
+ghost use Rattle.std.specs.Prelude.{◌≡◌, ◌≤◌, ◌-◌, length, map, IsOk, OnOk, IfOk};
 ghost use Rattle.wide_unit.specs.EncodingForm.{encode};
 ghost use Rattle.wide_unit.specs.Places.{text_of};
 ghost use Rattle.wide_ustring.specs.Units.{ustring_len};
@@ -97,6 +97,7 @@ pub(crate) fn prepare_at<C: FaultUnit>(
     ensures ready { OnOk result (CanHold C.form s.new (step (text_of C.form C.number s.new.units) edit.entry).0) }
     ensures room { IfOk result (λ room. HasReplyRoom (text_of C.form C.number s.new.units) edit.entry room) }
     ensures units { s.new.units ≡ s.old.units }
+    ensures capacity { s.old.capacity ≤ s.new.capacity }
     ensures succeeds { CanHold C.form s.old (step (text_of C.form C.number s.old.units) edit.entry).0 → chars_in (step (text_of C.form C.number s.old.units) edit.entry).1 ≡ 0 → IsOk result }
 {
     recall(s);

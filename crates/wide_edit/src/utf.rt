@@ -1,5 +1,5 @@
 //! Well-formed strings as texts that edits change.
-ghost use Rattle.std.specs.Prelude.{◌≡◌, map, IsOk, OnOk, IfOk};
+ghost use Rattle.std.specs.Prelude.{◌≡◌, ◌≤◌, map, IsOk, OnOk, IfOk};
 ghost use Rattle.wide_unit.specs.Places.{text_of};
 ghost use Rattle.wide_edit.specs.Step.{step, chars_in};
 ghost use Rattle.wide_edit.specs.Edited.{CanHold, HasReplyRoom};
@@ -24,6 +24,8 @@ impl<C: FaultUnit> TextEdit for UtfString<C> {
 
     ghost form = { C.form };
 
+    ghost capacity = { λ s. s.capacity };
+
     ghost is_ready = { λ s edit. CanHold C.form s (step (text_of C.form C.number s.units) edit).0 };
 
     fn char_count(&self) -> usize {
@@ -40,6 +42,7 @@ impl<C: FaultUnit> TextEdit for UtfString<C> {
         ensures room { IfOk result (λ room. HasReplyRoom (text_of C.form C.number self.new.units) edit.entry room) }
         ensures text { text_of C.form C.number self.new.units ≡ text_of C.form C.number self.old.units }
         ensures units { map C.number self.new.units ≡ map C.number self.old.units }
+        ensures capacity { self.old.capacity ≤ self.new.capacity }
         ensures succeeds { CanHold C.form self.old (step (text_of C.form C.number self.old.units) edit.entry).0 → chars_in (step (text_of C.form C.number self.old.units) edit.entry).1 ≡ 0 → IsOk result }
     {
         let (first, second) = numbers_of(edit);

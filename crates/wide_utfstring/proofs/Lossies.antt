@@ -128,11 +128,12 @@ module _ {C A F : Type 0} {g : Ghosts C} (policy : Policy) (form : EncodingForm)
         once = encode-lossy_by policy form (map number (units_seen view)) seen;
         borrowed = (λ _. well, λ _. tt);
         same = λ _. same;
+        capacity = tt;
       }
 
-  pub lossy_owned : (string : Units C) (index item u : ℕ) → IsFirstFault form (map number units) index item u → map number string.units ≡ encode form (lossy_by policy (items form (map number units)))
+  pub lossy_owned : (string : Units C) (index item u : ℕ) → IsFirstFault form (map number units) index item u → map number string.units ≡ encode form (lossy_by policy (items form (map number units))) → length units ≤ string.capacity
       → IsLossyBy {C = C} {A = A} {F = F} {g = g} policy form number units (Owned string)
-  lossy_owned string index item u fault encoded =
+  lossy_owned string index item u fault encoded capacity =
       let made : IsWellFormed form (map number string.units) = subst (IsWellFormed form) (sym encoded) (well_formed-lossy_by policy form (map number units)) in
       record {
         encoded = encoded;
@@ -140,4 +141,5 @@ module _ {C A F : Type 0} {g : Ghosts C} (policy : Policy) (form : EncodingForm)
         once = encode-lossy_by policy form (map number string.units) made;
         borrowed = (λ none. absurd none, λ well. absurd (first_fault-not_well_formed form (map number units) index item u fault well));
         same = λ none. absurd none;
+        capacity = capacity;
       }

@@ -1,5 +1,5 @@
 -- What a contract sees of text that is borrowed where it can be.
-use Rattle.std.specs.Prelude.{◌≡◌, ◌↔◌, ℕ, List, map}
+use Rattle.std.specs.Prelude.{◌≡◌, ◌≤◌, ◌↔◌, ℕ, List, length, map}
 use Rattle.wide_unit.specs.declared.unit.Unit.{Ghosts}
 use Rattle.wide_unit.specs.EncodingForm.{EncodingForm, encode}
 use Rattle.wide_unit.specs.Items.{items, IsWellFormed}
@@ -28,13 +28,14 @@ module _ {C A F : Type 0} {g : Ghosts C} where
   IfOwned (Owned string) P = P string
 
   -- the text of the units with what the policy says for each fault, which is its own lossy text; borrowed exactly where the
-  -- units are well formed, and then these units
+  -- units are well formed, and then these units; else a string with capacity for as many units as there are
   pub record IsLossyBy (policy : Policy) (form : EncodingForm) (number : C → ℕ) (units : List C) (text : CowUtfStr C A F g) : Type 0 where
     pub encoded : map number (cow_units text) ≡ encode form (lossy_by policy (items form (map number units)))
     pub well_formed : IsWellFormed form (map number (cow_units text))
     pub once : encode form (lossy_by policy (items form (map number (cow_units text)))) ≡ map number (cow_units text)
     pub borrowed : IsBorrowed text ↔ IsWellFormed form (map number units)
     pub same : IsBorrowed text → cow_units text ≡ units
+    pub capacity : IfOwned text (λ string. length units ≤ string.capacity)
 
   -- the same with U+FFFD for each fault
   abbrev pub IsLossyOf : EncodingForm → (C → ℕ) → List C → CowUtfStr C A F g → Type 0

@@ -66,7 +66,8 @@ impl<C: FaultUnit, A: Allocator> UtfString<C, A> {
     ) -> Result<Self, OutOfMemory>
         requires fault { IsFirstFault C.form (map C.number units.now) fault.index fault.item (C.number fault.unit) }
         requires within { fault.index < length units.now }
-        ensures { IfOk result (λ s. map C.number s.units ≡ encode C.form (lossy_by policy (items C.form (map C.number units.now)))) }
+        ensures made { IfOk result (λ s. map C.number s.units ≡ encode C.form (lossy_by policy (items C.form (map C.number units.now)))) }
+        ensures capacity { IfOk result (λ s. length units.now ≤ s.capacity) }
     {
         match policy {
             Policy::Each => UtfString::mended_copy(alloc, units, fault.index),
@@ -78,7 +79,8 @@ impl<C: FaultUnit, A: Allocator> UtfString<C, A> {
     fn mended_copy(alloc: A, units: &[C], index: usize) -> Result<Self, OutOfMemory>
         requires within { index ≤ length units.now }
         requires front { IsWellFormed C.form (map C.number (take index units.now)) }
-        ensures { IfOk result (λ s. map C.number s.units ≡ encode C.form (lossy (items C.form (map C.number units.now)))) }
+        ensures made { IfOk result (λ s. map C.number s.units ≡ encode C.form (lossy (items C.form (map C.number units.now)))) }
+        ensures capacity { IfOk result (λ s. length units.now ≤ s.capacity) }
     {
         let (front, rest) = units.split_at(index);
         let mut text = Vec::new(alloc);
@@ -102,7 +104,8 @@ impl<C: FaultUnit, A: Allocator> UtfString<C, A> {
         requires rows { policy ≢ Each }
         requires fault { IsFirstFault C.form (map C.number units.now) fault.index fault.item (C.number fault.unit) }
         requires within { fault.index < length units.now }
-        ensures { IfOk result (λ s. map C.number s.units ≡ encode C.form (lossy_by policy (items C.form (map C.number units.now)))) }
+        ensures made { IfOk result (λ s. map C.number s.units ≡ encode C.form (lossy_by policy (items C.form (map C.number units.now)))) }
+        ensures capacity { IfOk result (λ s. length units.now ≤ s.capacity) }
     {
         let mut text = UtfString::with_capacity(alloc, units.len())?;
         let mut rest = units;

@@ -1,10 +1,12 @@
 -- What the words of the program ask for, how a run of the word `utf8` ends, and the statuses.
-use Rattle.std.specs.Prelude.{◌≡◌, ◌⊎◌, ℕ, Bool, List, [], ◌∷◌, Option, Some, None, Result, Ok, Err, codes, string_bytes}
+use Rattle.std.specs.Prelude.{◌≡◌, ◌⊎◌, ℕ, Bool, List, [], ◌∷◌, ◌++◌, Option, Some, None, Result, Ok, Err, IfErr, codes, string_bytes}
+use Rattle.std.specs.Io.KnownBytes.{Appends}
 use Rattle.std.specs.declared.string.String.{String}
 use Rattle.wide_bytes.specs.Bytes.{units_of_bytes}
 use Rattle.wide_bytes.specs.Pieces.{WantsRoom}
-use Rattle.wide_bytes.specs.Run.{AtEnd, Ends, Moves, ReportsAtOnce, fails_to_read, fails_to_write}
+use Rattle.wide_bytes.specs.Run.{AtEnd, Ends, IsBeginningOf, Moves, ReportsAtOnce, fails_to_read, fails_to_write}
 use Rattle.wide_bytes.specs.Transcoded.{transcoded_under}
+use Rattle.wide_error.specs.Texts.{transcode_error_text}
 use Rattle.wide_error.specs.declared.error.TranscodeError.{TranscodeError}
 use Rattle.wide_unit.specs.declared.policy.Policy.{Policy}
 use Rattle.wide_unit.specs.declared.policy.Policy.TheVariants.{Each, Run, Skip}
@@ -35,9 +37,17 @@ abbrev pub status_of : {T E : Type 0} → Result T E → ℕ
 status_of (Ok u) = 0
 status_of (Err e) = 1
 
+-- a prefix of these bytes was written
+abbrev pub AppendsPrefix : Option (List ℕ) → Option (List ℕ) → List ℕ → Type 0
+AppendsPrefix held held' bytes = (written : List ℕ) × Appends held held' written × IsBeginningOf written bytes
+
+-- a line of this text was written, or a prefix of the line
+abbrev pub Says : Option (List ℕ) → Option (List ℕ) → List ℕ → Type 0
+Says held held' text = AppendsPrefix held held' (text ++ codes "\n")
+
 -- one run of `transcode` or, under a policy, of `transcode_with`: what its devices had and have left or held and hold, whether they
--- have ended or failed, and the status that its answer gives
-pub record Utf8Run (policy : Option Policy) (left left' held held' : Option (List ℕ)) (ended read_failed write_failed : Bool) (status : ℕ) : Type 0 where
+-- have ended or failed, what the fault stream held and holds, and the status that its answer gives
+pub record Utf8Run (policy : Option Policy) (left left' held held' : Option (List ℕ)) (ended read_failed write_failed : Bool) (said said' : Option (List ℕ)) (status : ℕ) : Type 0 where
   pub answer : Result (Unit {0}) TranscodeError
   pub bytes : List ℕ
   pub written : List ℕ
@@ -48,4 +58,5 @@ pub record Utf8Run (policy : Option Policy) (left left' held held' : Option (Lis
   pub at_end : AtEnd answer left'
   pub source_failed : read_failed ≡ fails_to_read answer
   pub sink_failed : write_failed ≡ fails_to_write answer
+  pub says : IfErr answer (λ error. Says said said' (transcode_error_text error))
   pub gives : status ≡ status_of answer

@@ -1,7 +1,8 @@
 //! What a run says on its fault stream, and the status that it ends with.
 
-ghost use Rattle.std.specs.Prelude.{◌≡◌};
-ghost use Rattle.widetext_base.specs.Command.{status_of};
+ghost use Rattle.std.specs.Prelude.{◌≡◌, IfErr, IfSome};
+ghost use Rattle.wide_error.specs.Texts.{transcode_error_text};
+ghost use Rattle.widetext_base.specs.Command.{Says, status_of};
 
 use std::fmt;
 use std::fmt::{InlineText, Write};
@@ -24,8 +25,11 @@ pub const WRONG_USAGE: u8 = 2;
 // Room for each line that is said, in bytes: the longest tells of a fault, with two numbers of 20 digits, in 89.
 const LINE_LEN: usize = 128;
 
-/// Writes a line on `faults`, in one call where that takes all of it. One that can't be written changes nothing.
-pub fn report<F: ByteSink>(faults: &mut F, text: &impl fmt::Display) {
+/// Writes the text and a line feed on `faults`, in one call if that takes all of them. If `faults` fails, it has got a prefix of them,
+/// and nothing else changes.
+pub fn report<F: ByteSink, T: fmt::Display>(faults: &mut F, text: &T)
+    ensures { IfSome (T.output text.now) (Says (F.held faults.old) (F.held faults.new)) }
+{
     let mut line = InlineText::<LINE_LEN>::new();
     let is_made = writeln!(line, "{text}").is_ok();
     if is_made && !faults.failed() {
@@ -37,6 +41,7 @@ pub fn report<F: ByteSink>(faults: &mut F, text: &impl fmt::Display) {
 pub fn end<F: ByteSink>(faults: &mut F, answer: Result<(), TranscodeError>) -> u8
     ensures status { result ≡ status_of answer }
     ensures quiet { result ≡ 0 → faults.new ≡ faults.old }
+    ensures said { IfErr answer (λ error. Says (F.held faults.old) (F.held faults.new) (transcode_error_text error)) }
 {
     match answer {
         Ok(()) => SUCCESS,
@@ -49,7 +54,8 @@ pub fn end<F: ByteSink>(faults: &mut F, answer: Result<(), TranscodeError>) -> u
 
 /// Says the usage on `faults`, and answers the status.
 pub fn refuse_words<F: ByteSink>(faults: &mut F) -> u8
-    ensures { result ≡ 2 }
+    ensures status { result ≡ 2 }
+    ensures said { Says (F.held faults.old) (F.held faults.new) USAGE.now }
 {
     report(faults, &USAGE);
     WRONG_USAGE

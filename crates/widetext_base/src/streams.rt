@@ -1,8 +1,10 @@
 //! The words of a call, and the end of its output.
 
-ghost use Rattle.std.specs.Prelude.{◌≡◌, ◌≢◌, ◌≤◌, IfErr, OnOk};
+ghost use Rattle.std.specs.Prelude.{◌≡◌, ◌≢◌, ◌≤◌, codes, IfErr, OnOk};
+ghost use Rattle.wide_error.specs.Texts.{out_of_memory_text};
+ghost use Rattle.widetext_base.specs.Command.{Says};
 
-use crate::refusal::{REFUSED, SUCCESS, refuse_words, report};
+use crate::refusal::{REFUSED, SUCCESS, USAGE, refuse_words, report};
 use std::io::{ErrorKind, Write};
 use std::rt::Env;
 use std::{env, io};
@@ -26,6 +28,8 @@ fn words_of<R: Env + AllocGlobal>(rt: &R) -> io::Result<Vec<String>> {
 pub fn gather<R: Env + AllocGlobal, F: ByteSink>(rt: &R, faults: &mut F) -> Result<Vec<String>, u8>
     ensures quiet { OnOk result (faults.new ≡ faults.old) }
     ensures refused { IfErr result (λ status. (1 ≤ status) × (status ≤ 2)) }
+    ensures no_memory { IfErr result (λ status. status ≡ 1 → Says (F.held faults.old) (F.held faults.new) out_of_memory_text) }
+    ensures usage { IfErr result (λ status. status ≡ 2 → Says (F.held faults.old) (F.held faults.new) USAGE.now) }
 {
     match words_of(rt) {
         Ok(words) => Ok(words),
@@ -42,6 +46,8 @@ pub fn gather<R: Env + AllocGlobal, F: ByteSink>(rt: &R, faults: &mut F) -> Resu
 pub fn finish<W: Write, F: ByteSink>(output: &mut W, faults: &mut F, status: u8) -> u8
     ensures first_refusal { status ≢ 0 → result ≡ status }
     ensures statuses { status ≡ 0 → result ≢ 0 → result ≡ 1 }
+    ensures quiet { result ≡ status → faults.new ≡ faults.old }
+    ensures said { Says (F.held faults.old) (F.held faults.new) (codes "write fault") }
 {
     if output.flush().is_err() && status == SUCCESS {
         report(faults, &TranscodeError::Write);

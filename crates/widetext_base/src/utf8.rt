@@ -2,9 +2,9 @@
 
 ghost use Rattle.std.specs.Prelude.{◌≡◌, ◌≤◌, Option, Some, false};
 ghost use Rattle.wide_unit.specs.declared.policy.Policy.{Policy};
-ghost use Rattle.widetext_base.specs.Command.{AsksForUtf8, AsksForNoUtf8, IsOption, Utf8Run};
+ghost use Rattle.widetext_base.specs.Command.{AsksForUtf8, AsksForNoUtf8, IsOption, Says, Utf8Run};
 
-use crate::refusal::{end, refuse_words};
+use crate::refusal::{USAGE, end, refuse_words};
 use wide_bytes::{ByteSink, ByteSource, Mode, transcode, transcode_with};
 use wide_unit::Policy;
 
@@ -47,7 +47,7 @@ pub fn write_utf8<S: ByteSource, K: ByteSink, F: ByteSink>(
     requires source_sound { S.has_failed source.old ≡ false }
     requires source_open { S.has_ended source.old ≡ false }
     requires sink_sound { K.has_failed sink.old ≡ false }
-    ensures run { Utf8Run policy (S.left source.old) (S.left source.new) (K.held sink.old) (K.held sink.new) (S.has_ended source.new) (S.has_failed source.new) (K.has_failed sink.new) result }
+    ensures run { Utf8Run policy (S.left source.old) (S.left source.new) (K.held sink.old) (K.held sink.new) (S.has_ended source.new) (S.has_failed source.new) (K.has_failed sink.new) (F.held faults.old) (F.held faults.new) result }
     ensures quiet { result ≡ 0 → faults.new ≡ faults.old }
     ensures statuses { result ≤ 1 }
 {
@@ -75,7 +75,7 @@ pub fn command<S: ByteSource, K: ByteSink, F: ByteSink>(
     requires faults_sound { F.has_failed faults.old ≡ false }
 
     // The word `utf8`, with an option or none: the status is that of one run of `transcode`, or of `transcode_with` by the policy.
-    ensures utf8 { (policy : Option Policy) → AsksForUtf8 policy words.now → Utf8Run policy (S.left source.old) (S.left source.new) (K.held sink.old) (K.held sink.new) (S.has_ended source.new) (S.has_failed source.new) (K.has_failed sink.new) result }
+    ensures utf8 { (policy : Option Policy) → AsksForUtf8 policy words.now → Utf8Run policy (S.left source.old) (S.left source.new) (K.held sink.old) (K.held sink.new) (S.has_ended source.new) (S.has_failed source.new) (K.has_failed sink.new) (F.held faults.old) (F.held faults.new) result }
 
     // Nothing is said on the fault stream where all went well.
     ensures quiet { result ≡ 0 → faults.new ≡ faults.old }
@@ -84,6 +84,7 @@ pub fn command<S: ByteSource, K: ByteSink, F: ByteSink>(
     ensures reads { AsksForNoUtf8 words.now → source.new ≡ source.old }
     ensures unknown { AsksForNoUtf8 words.now → result ≡ 2 }
     ensures wrong { result ≡ 2 → sink.new ≡ sink.old }
+    ensures usage { result ≡ 2 → Says (F.held faults.old) (F.held faults.new) USAGE.now }
     ensures statuses { result ≤ 2 }
 {
     match parse_utf8(words) {

@@ -1,12 +1,12 @@
 -- Words ask for one thing.
-use Rattle.std.proofs.Common.{◌≡◌, ℕ, ◌<◌, ◌≤◌, ◌-◌, length, take, drop, subst, Option, Result, Ok, Err, IfOk, IfSome, List, [], ◌∷◌, Some, None, sym, ◌∙◌, ap, get_or, arith}
+use Rattle.std.proofs.Common.{◌≡◌, ℕ, ◌<◌, ◌≤◌, ◌-◌, length, take, drop, subst, Option, Result, Ok, Err, IfOk, IfSome, IsSome, List, [], ◌∷◌, Some, None, sym, ◌∙◌, ap, get_or, arith}
 use Rattle.std.specs.declared.string.String.{String}
 use Rattle.std.specs.Prelude.{codes, string_bytes}
 use Rattle.std.proofs.lemmas.List.{take_all}
 use Rattle.widetext_command.specs.declared.words.Request.{Request}
 use Rattle.widetext_command.specs.declared.words.Request.TheVariants.{Ends, Edit}
 use Rattle.widetext_base.specs.Command.{AsksForNoUtf8}
-use Rattle.widetext_command.specs.Command.{AsksForEnds, AsksForEdits, IsEditOf, IsAskedBy, AreRead}
+use Rattle.widetext_command.specs.Command.{AsksForEnds, AsksForEdits, IsEditOf, IsEndsOf, IsAskedBy, AreRead, NamesUnits}
 
 no_utf8_of_three : {A : Type 0} (word units calls : String A) → AsksForNoUtf8 (word ∷ units ∷ calls ∷ [])
 no_utf8_of_three word units calls None = λ asks. asks
@@ -51,3 +51,20 @@ asked_edit (w ∷ f ∷ rest) word first text (Ok (Some (Edit t read))) long wor
     let all : take (length (w ∷ f ∷ rest) - 2) rest ≡ rest = take_all _ rest (omega arith) in
     let read_of : AreRead (take (length (w ∷ f ∷ rest) - 2) rest) read.items = is.1 in
     (ap string_bytes (sym word_is) ∙ edit, ap string_bytes (sym first_is) ∙ sym same ∙ is.0, subst (λ words. AreRead words read.items) all read_of)
+
+letters_apart : (a b : ℕ) → a ≡ b → a < b → ⊥
+letters_apart a b same less = absurd (omega arith)
+
+-- a request of words that begin so is one of `ends`
+pub asked_ends : {A E : Type 0} (words : List (String A)) (word units calls : String A) (u c : List ℕ) (r : Result (Option Request) E) → 3 ≤ length words → length words < 4
+    → word ≡ get_or words 0 word → units ≡ get_or words 1 units → calls ≡ get_or words 2 calls → string_bytes word ≡ codes "ends" → u ≡ string_bytes units → c ≡ string_bytes calls
+    → ((request : Request) → IsEndsOf u c request → IfOk r (λ o. IsSome o)) → (request : Request) → IsAskedBy words request → IfOk r (λ o. IsSome o)
+asked_ends [] word units calls u c r long short word_is units_is calls_is ends u_is c_is complete request asked = absurd (omega arith)
+asked_ends (w ∷ []) word units calls u c r long short word_is units_is calls_is ends u_is c_is complete request asked = absurd (omega arith)
+asked_ends (w ∷ x ∷ []) word units calls u c r long short word_is units_is calls_is ends u_is c_is complete request asked = absurd (omega arith)
+asked_ends (w ∷ x ∷ y ∷ z ∷ rest) word units calls u c r long short word_is units_is calls_is ends u_is c_is complete request asked = absurd (omega arith)
+asked_ends (w ∷ x ∷ y ∷ []) word units calls u c r long short word_is units_is calls_is ends u_is c_is complete (Edit t read) asked =
+    absurd (letters_apart 100 110 (ap (λ (bs : List ℕ). get_or bs 1 0) (sym asked.0 ∙ ap string_bytes (sym word_is) ∙ ends)) (omega arith))
+asked_ends (w ∷ x ∷ y ∷ []) word units calls u c r long short word_is units_is calls_is ends u_is c_is complete (Ends us fs) asked =
+    let named = subst (λ bs. NamesUnits bs us.items) (ap string_bytes (sym units_is) ∙ sym u_is) asked.1 in
+    complete (Ends us fs) (named, c_is ∙ ap string_bytes calls_is ∙ asked.2)

@@ -3,3 +3,4 @@ mod Edits
 mod Units
 mod Hex
 mod Asking
+mod Complete

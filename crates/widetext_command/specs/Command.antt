@@ -1,15 +1,18 @@
 -- What the words of the program ask for.
-use Rattle.std.specs.Prelude.{◌≡◌, ℕ, ◌≤◌, ◌⊎◌, Option, List, [], ◌∷◌, ◌++◌, map, length, codes, string_bytes}
+use Rattle.std.specs.Prelude.{◌≡◌, ℕ, ◌≤◌, ◌⊎◌, Bool, true, false, Option, List, [], ◌∷◌, ◌++◌, map, length, codes, string_bytes}
 use Rattle.std.specs.Io.KnownBytes.{Appends}
+use Rattle.std.specs.List.{All}
 use Rattle.std.specs.Str.Parse.{IsNumeral, digits_value}
 use Rattle.std.specs.declared.string.String.{String}
 use Rattle.wide_iter.specs.declared.ends.End.{End}
 use Rattle.wide_iter.specs.declared.ends.End.TheVariants.{Front, Back}
-use Rattle.widetext_base.specs.Command.{AsksForNoUtf8}
+use Rattle.wide_error.specs.declared.error.TranscodeError.{TranscodeError}
+use Rattle.wide_error.specs.declared.error.TranscodeError.TheVariants.{OutOfMemory, Write}
+use Rattle.widetext_base.specs.Command.{AppendsPrefix, AsksForNoUtf8}
 use Rattle.std.specs.Str.{chars}
 use Rattle.wide_edit.specs.declared.edits.Edit as edit
 use Rattle.widetext_command.specs.Lines.{ends_lines, edit_lines}
-use Rattle.widetext_command.specs.EditWords.{AreEach, AreEdits, NamesWord}
+use Rattle.widetext_command.specs.EditWords.{AreEach, AreEdits, NamesWord, WordHasTypes}
 use Rattle.widetext_command.specs.declared.edit_words.EditWord.{EditWord}
 use Rattle.widetext_command.specs.declared.words.Request.{Request}
 use Rattle.widetext_command.specs.declared.words.Request.TheVariants.{Ends, Edit}
@@ -39,10 +42,31 @@ pub record IsEdited (text : List ℕ) (words : List EditWord) (held held' : Opti
   pub named : AreEdits words edits
   pub put : Appends held held' (edit_lines (chars text) edits)
 
+-- a prefix of the lines of the edits of a text was written
+pub record IsEditedInPart (text : List ℕ) (words : List EditWord) (held held' : Option (List ℕ)) : Type 0 where
+  pub edits : List edit.Edit
+  pub named : AreEdits words edits
+  pub put : AppendsPrefix held held' (edit_lines (chars text) edits)
+
+-- why the lines were refused: the output failed, or memory was refused before any was written
+abbrev pub refusal_of : Bool → TranscodeError
+refusal_of true = Write
+refusal_of false = OutOfMemory
+
 -- the lines of a request were written
 abbrev pub IsWritten : Option (List ℕ) → Option (List ℕ) → Request → Type 0
 IsWritten held held' (Ends units ends) = Appends held held' (ends_lines units.items ends.items)
 IsWritten held held' (Edit text words) = IsEdited text.now words.items held held'
+
+-- a prefix of the lines of a request was written
+abbrev pub IsWrittenInPart : Option (List ℕ) → Option (List ℕ) → Request → Type 0
+IsWrittenInPart held held' (Ends units ends) = AppendsPrefix held held' (ends_lines units.items ends.items)
+IsWrittenInPart held held' (Edit text words) = IsEditedInPart text.now words.items held held'
+
+-- the values of a request are of their types
+abbrev pub IsOfTypes : Request → Type 0
+IsOfTypes (Ends units ends) = Unit {0}
+IsOfTypes (Edit text words) = All WordHasTypes words.items
 
 -- the request is of `ends`, and has the units and the ends that these two words name
 abbrev pub IsEndsOf : List ℕ → List ℕ → Request → Type 0
@@ -99,12 +123,26 @@ module _ {A : Type 0} where
     pub asked : AsksForEndsOf units ends words
     pub put : Appends held held' (ends_lines units ends)
 
+  -- `ends` wrote a prefix of these lines
+  pub record WritesEndsInPart (words : List (String A)) (held held' : Option (List ℕ)) : Type 0 where
+    pub units : List ℕ
+    pub ends : List End
+    pub asked : AsksForEndsOf units ends words
+    pub put : AppendsPrefix held held' (ends_lines units ends)
+
   -- `edit` wrote the lines of the edits of its text
   pub record WritesEdits (words : List (String A)) (held held' : Option (List ℕ)) : Type 0 where
     pub text : List ℕ
     pub read : List EditWord
     pub asked : AsksForEditOf text read words
     pub edited : IsEdited text read held held'
+
+  -- `edit` wrote a prefix of these lines
+  pub record WritesEditsInPart (words : List (String A)) (held held' : Option (List ℕ)) : Type 0 where
+    pub text : List ℕ
+    pub read : List EditWord
+    pub asked : AsksForEditOf text read words
+    pub edited : IsEditedInPart text read held held'
 
   -- no request begins so
   pub record IsUnknown (words : List (String A)) : Type 0 where

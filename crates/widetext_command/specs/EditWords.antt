@@ -1,5 +1,6 @@
 -- The edits that words name.
-use Rattle.std.specs.Prelude.{◌≡◌, ℕ, List, [], ◌∷◌, ◌++◌, codes, encode_utf8, encode_utf8_all}
+use Rattle.std.specs.Prelude.{◌≡◌, ℕ, ◌<◌, ◌^◌, List, [], ◌∷◌, ◌++◌, codes, encode_utf8, encode_utf8_all}
+use Rattle.std.specs.Char.{IsScalar}
 use Rattle.std.specs.Str.Parse.{IsNumeral, digits_value}
 use Rattle.wide_edit.specs.declared.edits.Edit as edit
 use Rattle.wide_edit.specs.declared.edits.Edit.TheVariants.{Push, PushStr, Pop, Truncate, Insert, InsertStr, Remove, Retain, Drain, Replace, SplitOff, Clear}
@@ -63,13 +64,48 @@ AreValues values Clear = ⊥
 abbrev pub IsNamed : List ℕ → List ℕ → edit.Edit → Type 0
 IsNamed name values found = (name ≡ edit_name found) × AreValues values found
 
+-- the edit is one whose name and first number have more values behind them
+abbrev pub IsNamedAt : List ℕ → List ℕ → edit.Edit → Type 0
+IsNamedAt name values (Push c) = ⊥
+IsNamedAt name values (PushStr t) = ⊥
+IsNamedAt name values Pop = ⊥
+IsNamedAt name values (Truncate m) = ⊥
+IsNamedAt name values (Insert i c) = IsNamed name values (Insert i c)
+IsNamedAt name values (InsertStr i t) = IsNamed name values (InsertStr i t)
+IsNamedAt name values (Remove i) = ⊥
+IsNamedAt name values (Retain keep) = ⊥
+IsNamedAt name values (Drain a b) = IsNamed name values (Drain a b)
+IsNamedAt name values (Replace a b t) = IsNamed name values (Replace a b t)
+IsNamedAt name values (SplitOff i) = ⊥
+IsNamedAt name values Clear = ⊥
+
 -- a word names an edit: `pop` and `clear` by themselves, and others by their name, an equals sign and their values
 abbrev pub NamesEdit : List ℕ → edit.Edit → Type 0
 NamesEdit bytes Pop = bytes ≡ codes "pop"
 NamesEdit bytes Clear = bytes ≡ codes "clear"
 NamesEdit bytes found = (name : List ℕ) × (values : List ℕ) × (bytes ≡ name ++ 61 ∷ values) × IsNamed name values found
 
--- the same of what was read of a word
+-- a word names what was read of it
 abbrev pub NamesWord : List ℕ → EditWord → Type 0
 NamesWord bytes (word.Whole found) = NamesEdit bytes found
 NamesWord bytes (word.Retain keep) = bytes ≡ codes "retain=" ++ encode_utf8_all keep.items
+
+-- the values of an edit are of their types: numbers of 64 bits, and Unicode scalar values
+abbrev pub HasTypes : edit.Edit → Type 0
+HasTypes (Push c) = IsScalar c
+HasTypes (PushStr t) = Unit {0}
+HasTypes Pop = Unit {0}
+HasTypes (Truncate m) = m < 2 ^ 64
+HasTypes (Insert i c) = (i < 2 ^ 64) × IsScalar c
+HasTypes (InsertStr i t) = i < 2 ^ 64
+HasTypes (Remove i) = i < 2 ^ 64
+HasTypes (Retain keep) = Unit {0}
+HasTypes (Drain a b) = (a < 2 ^ 64) × (b < 2 ^ 64)
+HasTypes (Replace a b t) = (a < 2 ^ 64) × (b < 2 ^ 64)
+HasTypes (SplitOff i) = i < 2 ^ 64
+HasTypes Clear = Unit {0}
+
+-- the values of what was read of a word are of their types
+abbrev pub WordHasTypes : EditWord → Type 0
+WordHasTypes (word.Whole found) = HasTypes found
+WordHasTypes (word.Retain keep) = Unit {0}

@@ -1,6 +1,10 @@
 //! The words of the program that name edits.
-ghost use Rattle.std.specs.Prelude.{◌≡◌, IfOk, IfSome, encode_utf8, string_bytes};
-ghost use Rattle.widetext_command.specs.EditWords.{IsEdit, AreEdits, AreEach, IsNumber, IsNumberThen, IsNamed, NamesWord};
+ghost use Rattle.std.specs.Prelude.{◌≡◌, ◌≢◌, ℕ, ◌^◌, ◌<◌, List, codes, IfOk, IfSome, IsSome, encode_utf8, string_bytes};
+ghost use Rattle.std.specs.Char.{IsScalar};
+ghost use Rattle.std.specs.List.{All};
+ghost use Rattle.widetext_command.specs.EditWords.{IsEdit, AreEdits, AreEach, HasTypes, IsNumber, IsNumberThen, IsNamed, IsNamedAt, NamesWord, WordHasTypes};
+ghost use Rattle.widetext_command.specs.declared.edit_words.EditWord.{EditWord};
+ghost use Rattle.wide_edit.specs.declared.edits.Edit.{Edit};
 
 use std::alloc::{AllocError, Global};
 use wide_edit::Edit;
@@ -28,7 +32,8 @@ impl EditWord<'_> {
 
 // The number of decimal digits, without a sign.
 fn parse_number(digits: &str) -> Option<usize>
-    ensures { IfSome result (IsNumber digits.now) }
+    ensures reads { IfSome result (IsNumber digits.now) }
+    ensures complete { (n : ℕ) → n < 2 ^ 64 → IsNumber digits.now n → IsSome result }
 {
     if digits.starts_with('+') {
         return None;
@@ -38,7 +43,8 @@ fn parse_number(digits: &str) -> Option<usize>
 
 // The only character of a text.
 fn only_char(text: &str) -> Option<char>
-    ensures { IfSome result (λ c. text.now ≡ encode_utf8 c) }
+    ensures reads { IfSome result (λ c. text.now ≡ encode_utf8 c) }
+    ensures complete { (c : ℕ) → IsScalar c → text.now ≡ encode_utf8 c → IsSome result }
 {
     let mut chars = text.chars();
     let only = chars.next()?;
@@ -50,7 +56,9 @@ fn only_char(text: &str) -> Option<char>
 
 // A number, and what stands behind the comma that follows it.
 fn number_and_rest(values: &str) -> Option<(usize, &str)>
-    ensures { IfSome result (λ r. IsNumberThen values.now r.0 r.1.now) }
+    ensures reads { IfSome result (λ r. IsNumberThen values.now r.0 r.1.now) }
+    ensures complete { (n : ℕ) (rest : List ℕ) → n < 2 ^ 64 → IsNumberThen values.now n rest → IsSome result }
+    ensures rest { (n : ℕ) (rest : List ℕ) → IsNumberThen values.now n rest → IfSome result (λ r. r.1.now ≡ rest) }
 {
     let (digits, rest) = values.split_once(',')?;
     Some((parse_number(digits)?, rest))
@@ -58,7 +66,8 @@ fn number_and_rest(values: &str) -> Option<(usize, &str)>
 
 // The edit of this name at a place, with what stands behind the place.
 fn parse_edit_at<'a>(name: &str, values: &'a str) -> Option<Edit<'a>>
-    ensures { IfSome result (IsNamed name.now values.now) }
+    ensures reads { IfSome result (IsNamed name.now values.now) }
+    ensures complete { (found : Edit) → HasTypes found → IsNamedAt name.now values.now found → IsSome result }
 {
     let (first, rest) = number_and_rest(values)?;
     match name {
@@ -75,7 +84,8 @@ fn parse_edit_at<'a>(name: &str, values: &'a str) -> Option<Edit<'a>>
 
 // The edit of this name with these values, but `retain`.
 fn parse_edit<'a>(name: &str, values: &'a str) -> Option<Edit<'a>>
-    ensures { IfSome result (IsNamed name.now values.now) }
+    ensures reads { IfSome result (IsNamed name.now values.now) }
+    ensures complete { (found : Edit) → HasTypes found → name.now ≢ codes "retain" → IsNamed name.now values.now found → IsSome result }
 {
     match name {
         "push" => Some(Edit::Push(only_char(values)?)),
@@ -89,7 +99,8 @@ fn parse_edit<'a>(name: &str, values: &'a str) -> Option<Edit<'a>>
 
 // What a word names.
 fn parse_edit_word(alloc: Global, word: &str) -> Result<Option<EditWord<'_>>, AllocError>
-    ensures { IfOk result (λ o. IfSome o (NamesWord word.now)) }
+    ensures reads { IfOk result (λ o. IfSome o (NamesWord word.now)) }
+    ensures complete { (read : EditWord) → WordHasTypes read → NamesWord word.now read → IfOk result (λ o. IsSome o) }
 {
     let Some((name, values)) = word.split_once('=') else {
         return Ok(match word {
@@ -116,7 +127,8 @@ pub fn parse_edit_words(
     alloc: Global,
     words: &[String],
 ) -> Result<Option<Vec<EditWord<'_>>>, AllocError>
-    ensures { IfOk result (λ o. IfSome o (λ read. AreEach (λ bytes. NamesWord (string_bytes bytes)) words.now read.items)) }
+    ensures reads { IfOk result (λ o. IfSome o (λ read. AreEach (λ bytes. NamesWord (string_bytes bytes)) words.now read.items)) }
+    ensures complete { (read : List EditWord) → All WordHasTypes read → AreEach (λ bytes. NamesWord (string_bytes bytes)) words.now read → IfOk result (λ o. IsSome o) }
 {
     let mut edits = Vec::with_capacity(alloc, words.len())?;
     for word in words {

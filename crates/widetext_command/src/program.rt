@@ -1,12 +1,14 @@
 //! The program, over any devices.
 
-ghost use Rattle.std.specs.Prelude.{◌≡◌, ◌≤◌, ◌++◌, Option, OnOk, OnErr, false, string_bytes};
+ghost use Rattle.std.specs.Prelude.{◌≡◌, ◌≢◌, ◌≤◌, ◌++◌, Option, IfErr, OnOk, OnErr, false, true, string_bytes};
 ghost use Rattle.std.specs.Io.KnownBytes.{Appends};
 ghost use Rattle.std.specs.Option.{option_map};
 ghost use Rattle.wide_unit.specs.Unit.{told_item};
 ghost use Rattle.wide_unit.specs.declared.policy.Policy.{Policy};
-ghost use Rattle.widetext_base.specs.Command.{AsksForUtf8, AsksForNoUtf8, Utf8Run};
-ghost use Rattle.widetext_command.specs.Command.{AsksForEnds, AsksForEdits, IsEdited, IsWritten, WritesEnds, WritesEdits, IsUnknown};
+ghost use Rattle.wide_error.specs.Texts.{transcode_error_text};
+ghost use Rattle.widetext_base.specs.Command.{AppendsPrefix, AsksForUtf8, AsksForNoUtf8, Says, Utf8Run};
+ghost use Rattle.widetext_command.specs.Command.{AsksForEnds, AsksForEdits, IsAskedBy, IsEdited, IsEditedInPart, IsOfTypes, IsWritten, IsWrittenInPart, WritesEnds, WritesEndsInPart, WritesEdits, WritesEditsInPart, IsUnknown, refusal_of};
+ghost use Rattle.widetext_command.specs.declared.words.Request.{Request};
 ghost use Rattle.widetext_command.specs.Lines.{answer_line, ends_lines};
 
 use crate::edit_lines::edit_lines;
@@ -17,7 +19,7 @@ use std::fmt::Write;
 use wide_bytes::{ByteSink, ByteSource, put_all};
 use wide_error::{DecodeUtf16Error, TranscodeError};
 use wide_iter::{End, read_ends16};
-use widetext_base::{end, parse_utf8, refuse_words, write_utf8};
+use widetext_base::{USAGE, end, parse_utf8, refuse_words, write_utf8};
 
 // A line for one answer of a decoder.
 fn push_answer(
@@ -42,7 +44,10 @@ fn write_answers<K: ByteSink>(
 ) -> Result<(), TranscodeError>
     requires { K.has_failed sink.old ≡ false }
     ensures written { OnOk result (Appends (K.held sink.old) (K.held sink.new) (ends_lines units.now ends.now)) }
+    ensures sound { OnOk result (K.has_failed sink.new ≡ false) }
     ensures refused { OnErr result (K.has_failed sink.new ≡ false → sink.new ≡ sink.old) }
+    ensures begun { OnErr result (K.has_failed sink.new ≡ true → AppendsPrefix (K.held sink.old) (K.held sink.new) (ends_lines units.now ends.now)) }
+    ensures refusal { IfErr result (λ error. error ≡ refusal_of (K.has_failed sink.new)) }
 {
     let answers = read_ends16(alloc, units, ends)?;
     let mut lines = String::new(alloc);
@@ -61,7 +66,10 @@ fn write_edits<K: ByteSink>(
 ) -> Result<(), TranscodeError>
     requires { K.has_failed sink.old ≡ false }
     ensures written { OnOk result (IsEdited text.now words.now (K.held sink.old) (K.held sink.new)) }
+    ensures sound { OnOk result (K.has_failed sink.new ≡ false) }
     ensures refused { OnErr result (K.has_failed sink.new ≡ false → sink.new ≡ sink.old) }
+    ensures begun { OnErr result (K.has_failed sink.new ≡ true → IsEditedInPart text.now words.now (K.held sink.old) (K.held sink.new)) }
+    ensures refusal { IfErr result (λ error. error ≡ refusal_of (K.has_failed sink.new)) }
 {
     let edits = edits_of(alloc, words)?;
     put_all(sink, edit_lines(alloc, text, &edits)?.as_bytes())
@@ -75,7 +83,10 @@ fn write_lines<K: ByteSink>(
 ) -> Result<(), TranscodeError>
     requires { K.has_failed sink.old ≡ false }
     ensures written { OnOk result (IsWritten (K.held sink.old) (K.held sink.new) request.now) }
+    ensures sound { OnOk result (K.has_failed sink.new ≡ false) }
     ensures refused { OnErr result (K.has_failed sink.new ≡ false → sink.new ≡ sink.old) }
+    ensures begun { OnErr result (K.has_failed sink.new ≡ true → IsWrittenInPart (K.held sink.old) (K.held sink.new) request.now) }
+    ensures refusal { IfErr result (λ error. error ≡ refusal_of (K.has_failed sink.new)) }
 {
     match request {
         Request::Ends { units, ends } => write_answers(alloc, sink, units, ends),
@@ -101,7 +112,7 @@ pub fn command<S: ByteSource, K: ByteSink, F: ByteSink>(
     requires faults_sound { F.has_failed faults.old ≡ false }
 
     // The word `utf8`, with an option or none: the status is that of one run of `transcode`, or of `transcode_with` by the policy.
-    ensures utf8 { (policy : Option Policy) → AsksForUtf8 policy words.now → Utf8Run policy (S.left source.old) (S.left source.new) (K.held sink.old) (K.held sink.new) (S.has_ended source.new) (S.has_failed source.new) (K.has_failed sink.new) result }
+    ensures utf8 { (policy : Option Policy) → AsksForUtf8 policy words.now → Utf8Run policy (S.left source.old) (S.left source.new) (K.held sink.old) (K.held sink.new) (S.has_ended source.new) (S.has_failed source.new) (K.has_failed sink.new) (F.held faults.old) (F.held faults.new) result }
 
     // Nothing is said on the fault stream where all went well.
     ensures quiet { result ≡ 0 → faults.new ≡ faults.old }
@@ -112,13 +123,25 @@ pub fn command<S: ByteSource, K: ByteSink, F: ByteSink>(
     // The word `edit`: at status 0 the sink has got the lines of the edits that its words name, of its text, and nothing else.
     ensures edit { AsksForEdits words.now → result ≡ 0 → WritesEdits words.now (K.held sink.old) (K.held sink.new) }
 
+    // If the sink fails, it has got a prefix of these lines, and the status is 1.
+    ensures ends_begun { AsksForEnds words.now → K.has_failed sink.new ≡ true → WritesEndsInPart words.now (K.held sink.old) (K.held sink.new) }
+    ensures edit_begun { AsksForEdits words.now → K.has_failed sink.new ≡ true → WritesEditsInPart words.now (K.held sink.old) (K.held sink.new) }
+    ensures sink_failed { K.has_failed sink.new ≡ true → result ≡ 1 }
+
     // All other words read nothing, and wrong ones write nothing but the usage.
     ensures reads { AsksForNoUtf8 words.now → source.new ≡ source.old }
     ensures unknown { IsUnknown words.now → result ≡ 2 }
     ensures wrong { result ≡ 2 → sink.new ≡ sink.old }
 
+    // Words that ask for something are not wrong.
+    ensures asked { (request : Request) → IsOfTypes request → IsAskedBy words.now request → result ≢ 2 }
+
     // Of other words all output is made before any is written: a refusal writes nothing, unless the output itself failed.
     ensures whole { AsksForNoUtf8 words.now → result ≡ 1 → K.has_failed sink.new ≡ false → sink.new ≡ sink.old }
+
+    // What is said of a refusal: that the output failed, or else that memory was refused; at wrong words the usage.
+    ensures refusal { AsksForNoUtf8 words.now → result ≡ 1 → Says (F.held faults.old) (F.held faults.new) (transcode_error_text (refusal_of (K.has_failed sink.new))) }
+    ensures usage { result ≡ 2 → Says (F.held faults.old) (F.held faults.new) USAGE.now }
     ensures statuses { result ≤ 2 }
 {
     if let Some(policy) = parse_utf8(words) {

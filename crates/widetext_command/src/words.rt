@@ -1,6 +1,8 @@
 //! What the words of the program ask for, but `utf8`.
-ghost use Rattle.std.specs.Prelude.{◌≡◌, map, IfOk, IfSome, string_bytes};
-ghost use Rattle.widetext_command.specs.Command.{IsUnit, NamesUnits, end_letter, IsEndsOf, IsEditOf, IsAskedBy, IsUnknown};
+ghost use Rattle.std.specs.Prelude.{◌≡◌, ℕ, List, map, IfOk, IfSome, IsSome, string_bytes};
+ghost use Rattle.wide_iter.specs.declared.ends.End.{End};
+ghost use Rattle.widetext_command.specs.Command.{IsUnit, NamesUnits, end_letter, IsEndsOf, IsEditOf, IsAskedBy, IsOfTypes, IsUnknown};
+ghost use Rattle.widetext_command.specs.declared.words.Request.{Request};
 
 use crate::edit_words::{EditWord, parse_edit_words};
 use std::alloc::{AllocError, Global};
@@ -27,7 +29,8 @@ pub enum Request<'a> {
 
 // The unit of one to four hexadecimal digits.
 fn parse_unit(digits: &str) -> Option<u16>
-    ensures { IfSome result (IsUnit digits.now) }
+    ensures reads { IfSome result (IsUnit digits.now) }
+    ensures complete { (u : ℕ) → IsUnit digits.now u → IsSome result }
 {
     if digits.len() > 4 || digits.starts_with('+') {
         return None;
@@ -37,7 +40,8 @@ fn parse_unit(digits: &str) -> Option<u16>
 
 // The units of a word: `-` for none, or units with commas between them.
 fn parse_units(alloc: Global, word: &str) -> Result<Option<Vec<u16>>, AllocError>
-    ensures { IfOk result (λ r. IfSome r (λ units. NamesUnits word.now units.items)) }
+    ensures reads { IfOk result (λ r. IfSome r (λ units. NamesUnits word.now units.items)) }
+    ensures complete { (us : List ℕ) → NamesUnits word.now us → IfOk result (λ r. IsSome r) }
 {
     let mut units = Vec::new(alloc);
     if word == "-" {
@@ -54,7 +58,8 @@ fn parse_units(alloc: Global, word: &str) -> Result<Option<Vec<u16>>, AllocError
 
 // The ends that the letters `F` and `B` of a word name.
 fn parse_ends(alloc: Global, word: &str) -> Result<Option<Vec<End>>, AllocError>
-    ensures { IfOk result (λ r. IfSome r (λ ends. word.now ≡ map end_letter ends.items)) }
+    ensures reads { IfOk result (λ r. IfSome r (λ ends. word.now ≡ map end_letter ends.items)) }
+    ensures complete { (ends : List End) → word.now ≡ map end_letter ends → IfOk result (λ r. IsSome r) }
 {
     let mut ends = Vec::with_capacity(alloc, word.len())?;
     for letter in word.bytes() {
@@ -74,7 +79,8 @@ fn parse_ends_request<'a>(
     units: &str,
     calls: &str,
 ) -> Result<Option<Request<'a>>, AllocError>
-    ensures { IfOk result (λ r. IfSome r (IsEndsOf units.now calls.now)) }
+    ensures reads { IfOk result (λ r. IfSome r (IsEndsOf units.now calls.now)) }
+    ensures complete { (request : Request) → IsEndsOf units.now calls.now request → IfOk result (λ r. IsSome r) }
 {
     let Some(units) = parse_units(alloc, units)? else {
         return Ok(None);
@@ -91,7 +97,8 @@ fn parse_edit_request<'a>(
     text: &'a str,
     words: &'a [String],
 ) -> Result<Option<Request<'a>>, AllocError>
-    ensures { IfOk result (λ r. IfSome r (IsEditOf text.now words.now)) }
+    ensures reads { IfOk result (λ r. IfSome r (IsEditOf text.now words.now)) }
+    ensures complete { (request : Request) → IsOfTypes request → IsEditOf text.now words.now request → IfOk result (λ r. IsSome r) }
 {
     match parse_edit_words(alloc, words)? {
         Some(edits) => Ok(Some(Request::Edit { text, edits })),
@@ -103,6 +110,7 @@ fn parse_edit_request<'a>(
 pub fn parse_words(alloc: Global, words: &[String]) -> Result<Option<Request<'_>>, AllocError>
     ensures unknown { IsUnknown words.now → result ≡ Ok None }
     ensures asked { IfOk result (λ r. IfSome r (IsAskedBy words.now)) }
+    ensures complete { (request : Request) → IsOfTypes request → IsAskedBy words.now request → IfOk result (λ r. IsSome r) }
 {
     match words {
         [word, units, calls] if word.as_str() == "ends" => {

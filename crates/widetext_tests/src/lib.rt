@@ -2,6 +2,8 @@
 #![tactic(auto)]
 
 #[cfg(test)]
+mod argument_rows;
+#[cfg(test)]
 mod driver;
 #[cfg(test)]
 mod fault_rows;

@@ -15,7 +15,7 @@ fn writes(alloc: Global, words: &[&str], lines: &str) -> Result<bool, AllocError
 /// Units, calls, lines.
 type EndsRow = (&'static str, &'static str, &'static str);
 
-static ENDS_ROWS: [EndsRow; 8] = [
+static ENDS_ROWS: [EndsRow; 10] = [
     (
         "D800,0041,DC00",
         "BFFFB",
@@ -28,6 +28,14 @@ static ENDS_ROWS: [EndsRow; 8] = [
     ("41", "", ""),
     ("DC00,D800", "BFF", "fault d800\nfault dc00\nnone\n"),
     ("0041,DC00", "BF", "fault dc00\nU+0041\n"),
+    // Units that end in a small letter, with zeros before them.
+    (
+        "a,1a,00a,fffa",
+        "FFFFF",
+        "U+000A\nU+001A\nU+000A\nU+FFFA\nnone\n",
+    ),
+    // No units, and no calls.
+    ("-", "", ""),
 ];
 
 // The number of the first row that does not hold.
@@ -73,7 +81,7 @@ fn ends_into_a_failing_sink(rt: HostRuntime) {
 /// The words behind `edit`, and the lines.
 type EditRow = (&'static [&'static str], &'static str);
 
-static EDIT_ROWS: [EditRow; 10] = [
+static EDIT_ROWS: [EditRow; 11] = [
     (
         &[
             "a\u{1f600}b",
@@ -131,6 +139,11 @@ static EDIT_ROWS: [EditRow; 10] = [
     (
         &["abc", "retain=", "pushstr=xyz", "truncate=1"],
         "done\ndone\ndone\ntext x\nutf16 0078\nutf32 00000078\n",
+    ),
+    // Numbers with zeros before them, and no character to keep.
+    (
+        &["abcd", "drain=00,01", "truncate=0002", "retain=", "push=e"],
+        "chars a\ndone\ndone\ndone\ntext e\nutf16 0065\nutf32 00000065\n",
     ),
     // A text with a mark, at the offset 65 of character number 64.
     (

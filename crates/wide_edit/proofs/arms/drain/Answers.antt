@@ -28,8 +28,8 @@ copy-taken-requires-clause-fits g c =
 pub replace_range-takes_no_room-requires-clause-at_boundaries : goal.replace_range-takes_no_room-requires-clause-at_boundaries
 replace_range-takes_no_room-requires-clause-at_boundaries g c = c.in-Some.ensures.some.range
 
-pub returns-in-Some : goal.returns-in-Some
-returns-in-Some g c =
+pub returns-in-Some-clause-made : goal.returns-in-Some-clause-made
+returns-in-Some-clause-made g c =
     let form = g.C.Unit.form in
     let number = g.C.Unit.number in
     let xs = c.args.s.now.units in
@@ -49,5 +49,5 @@ returns-in-Some g c =
     (made ∙ ap (λ k. splice l k (chars_before form us b) (chars form (map number (units_seen c.default.result)))) first ∙ ap (λ k. splice l c.args.from k (chars form (map number (units_seen c.default.result)))) last ∙ ap (splice l c.args.from c.args.to) empty) (c.copy-taken.ensures ∙ part) in
     record { text = both.0; answer = both.1 }
 
-pub returns-in-None : goal.returns-in-None
-returns-in-None g c = refused-drain (text_of g.C.Unit.form g.C.Unit.number c.args.s.now.units) c.args.from c.args.to c.in-None.ensures.none
+pub returns-in-None-clause-made : goal.returns-in-None-clause-made
+returns-in-None-clause-made g c = refused-drain (text_of g.C.Unit.form g.C.Unit.number c.args.s.now.units) c.args.from c.args.to c.in-None.ensures.none

@@ -10,8 +10,8 @@ use Rattle.wide_edit.proofs.arms.insert.Goals as goal
 pub insert-room_was_found-requires : goal.insert-room_was_found-requires
 insert-room_was_found-requires g c = (found_some g.C.Unit.form (map g.C.Unit.number c.args.s.now.units) c.args.index c.args.found c.in-Some.at c.requires.found c.in-Some.is).boundary
 
-pub returns-in-Some : goal.returns-in-Some
-returns-in-Some g c =
+pub returns-in-Some-clause-made : goal.returns-in-Some-clause-made
+returns-in-Some-clause-made g c =
     let form = g.C.Unit.form in
     let number = g.C.Unit.number in
     let s = c.args.s.now in
@@ -25,5 +25,5 @@ returns-in-Some g c =
     let made = got done.result (done.ensures.succeeds (omega (arith, holds, size-splice form l (c.args.c ∷ []) i i, size-one form c.args.c, c.recall.ensures.count))) done.ensures.text in
     made-insert l (text_of form number done.new.self.units) i c.args.c found.within (made ∙ ap (λ k. splice l k k (c.args.c ∷ [])) before)
 
-pub returns-in-None : goal.returns-in-None
-returns-in-None g c = refused-insert (text_of g.C.Unit.form g.C.Unit.number c.args.s.now.units) c.args.index c.args.c (found_none g.C.Unit.form (map g.C.Unit.number c.args.s.now.units) c.args.index c.args.found c.requires.found c.in-None.is)
+pub returns-in-None-clause-made : goal.returns-in-None-clause-made
+returns-in-None-clause-made g c = refused-insert (text_of g.C.Unit.form g.C.Unit.number c.args.s.now.units) c.args.index c.args.c (found_none g.C.Unit.form (map g.C.Unit.number c.args.s.now.units) c.args.index c.args.found c.requires.found c.in-None.is)

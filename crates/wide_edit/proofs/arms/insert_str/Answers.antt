@@ -13,8 +13,8 @@ splice_str-room_was_found-requires g c =
     let us = map g.C.Unit.number c.args.s.now.units in
     no_units g.C.Unit.form us c.in-Some.at (found_some g.C.Unit.form us c.args.index c.args.found c.in-Some.at c.requires.found c.in-Some.is).boundary
 
-pub returns-in-Some : goal.returns-in-Some
-returns-in-Some g c =
+pub returns-in-Some-clause-made : goal.returns-in-Some-clause-made
+returns-in-Some-clause-made g c =
     let form = g.C.Unit.form in
     let number = g.C.Unit.number in
     let s = c.args.s.now in
@@ -29,7 +29,7 @@ returns-in-Some g c =
     let made = got done.result (done.ensures.succeeds (omega (arith, holds, size-splice form l t i i, c.recall.ensures.count))) done.ensures.text in
     made-insert_str l (text_of form number done.new.self.units) c.args.text i found.within (made ∙ ap (λ k. splice l k k t) before)
 
-pub returns-in-None : goal.returns-in-None
-returns-in-None g c =
+pub returns-in-None-clause-made : goal.returns-in-None-clause-made
+returns-in-None-clause-made g c =
     let l = text_of g.C.Unit.form g.C.Unit.number c.args.s.now.units in
     refused-insert_str l l c.args.text c.args.index (found_none g.C.Unit.form (map g.C.Unit.number c.args.s.now.units) c.args.index c.args.found c.requires.found c.in-None.is)

@@ -6,11 +6,11 @@ use Rattle.wide_unit.specs.Places.{text_of}
 use Rattle.wide_edit.proofs.Made.{made-pop, made-pop_none}
 use Rattle.wide_edit.proofs.arms.pop.Goals as goal
 
-pub returns-in-Some : goal.returns-in-Some
-returns-in-Some g c = made-pop (text_of g.C.Unit.form g.C.Unit.number c.args.s.now.units) (text_of g.C.Unit.form g.C.Unit.number c.pop.new.self.units) c.in-Some.c c.in-Some.ensures.taken
+pub returns-in-Some-clause-made : goal.returns-in-Some-clause-made
+returns-in-Some-clause-made g c = made-pop (text_of g.C.Unit.form g.C.Unit.number c.args.s.now.units) (text_of g.C.Unit.form g.C.Unit.number c.pop.new.self.units) c.in-Some.c c.in-Some.ensures.taken
 
-pub returns-in-None : goal.returns-in-None
-returns-in-None g c =
+pub returns-in-None-clause-made : goal.returns-in-None-clause-made
+returns-in-None-clause-made g c =
     let form = g.C.Unit.form in
     let number = g.C.Unit.number in
     let none = c.in-None.ensures.none.0 refl in

@@ -6,8 +6,8 @@ use Rattle.wide_edit.proofs.Lengths.{size-splice}
 use Rattle.wide_edit.proofs.Places.{got}
 use Rattle.wide_edit.proofs.arms.push_str.Goals as goal
 
-pub returns : goal.returns
-returns g c =
+pub returns-clause-made : goal.returns-clause-made
+returns-clause-made g c =
     let form = g.C.Unit.form in
     let number = g.C.Unit.number in
     let l = text_of form number c.args.s.now.units in

@@ -17,16 +17,16 @@ remove-requires-clause-below g c =
     let found = found_some form us c.args.index c.args.found c.in-Some.at c.requires c.in-Some.is in
     omega (arith, found.boundary.0, length-map c.args.s.now.units number, c.len.ensures, c.if-at-len.false)
 
-pub returns-then-at-len : goal.returns-then-at-len
-returns-then-at-len g c =
+pub returns-then-at-len-clause-made : goal.returns-then-at-len-clause-made
+returns-then-at-len-clause-made g c =
     let form = g.C.Unit.form in
     let number = g.C.Unit.number in
     let xs = c.args.s.now.units in
     let found = found_some form (map number xs) c.args.index c.args.found c.in-Some.at c.requires c.in-Some.is in
     refused-remove (text_of form number c.args.s.now.units) c.args.index (end-all form number xs c.recall.ensures.well_formed c.args.index c.in-Some.at found.place (c.if-at-len.true ∙ c.len.ensures))
 
-pub returns-else-at-len : goal.returns-else-at-len
-returns-else-at-len g c =
+pub returns-else-at-len-clause-made : goal.returns-else-at-len-clause-made
+returns-else-at-len-clause-made g c =
     let form = g.C.Unit.form in
     let number = g.C.Unit.number in
     let us = map number c.args.s.now.units in
@@ -37,8 +37,8 @@ returns-else-at-len g c =
     (ap (λ k. drop k l) (sym before) ∙ c.remove.ensures.taken ∙ ap (λ k. c.remove.result ∷ drop (k + 1) l) before)
     (c.remove.ensures.text ∙ ap (λ k. splice l k (k + 1) []) before)
 
-pub returns-in-None : goal.returns-in-None
-returns-in-None g c =
+pub returns-in-None-clause-made : goal.returns-in-None-clause-made
+returns-in-None-clause-made g c =
     let l = text_of g.C.Unit.form g.C.Unit.number c.args.s.now.units in
     let never = found_none g.C.Unit.form (map g.C.Unit.number c.args.s.now.units) c.args.index c.args.found c.requires c.in-None.is in
     refused-remove l c.args.index (omega (arith, never))

@@ -10,8 +10,8 @@ use Rattle.wide_edit.proofs.Lengths.{size-splice}
 use Rattle.wide_edit.proofs.Places.{got, before-place, range-forward}
 use Rattle.wide_edit.proofs.arms.replace.Goals as goal
 
-pub returns-in-Some : goal.returns-in-Some
-returns-in-Some g c =
+pub returns-in-Some-clause-made : goal.returns-in-Some-clause-made
+returns-in-Some-clause-made g c =
     let form = g.C.Unit.form in
     let number = g.C.Unit.number in
     let s = c.args.s.now in
@@ -34,7 +34,7 @@ returns-in-Some g c =
     made-replace l (text_of form number done.new.self.units) c.args.text i j r.forward r.within
     (made ∙ ap (λ k. splice l k (chars_before form us b) t) first ∙ ap (λ k. splice l i k t) last)
 
-pub returns-in-None : goal.returns-in-None
-returns-in-None g c =
+pub returns-in-None-clause-made : goal.returns-in-None-clause-made
+returns-in-None-clause-made g c =
     let l = text_of g.C.Unit.form g.C.Unit.number c.args.s.now.units in
     refused-replace l l c.args.text c.args.from c.args.to c.in-None.ensures.none

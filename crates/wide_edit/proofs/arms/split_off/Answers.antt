@@ -23,8 +23,8 @@ copy-taken-requires-clause-fits g c =
 pub truncate-requires : goal.truncate-requires
 truncate-requires g c = inr (found_some g.C.Unit.form (map g.C.Unit.number c.args.s.now.units) c.args.index c.args.found c.in-Some.at c.requires.found c.in-Some.is).boundary
 
-pub returns-in-Some : goal.returns-in-Some
-returns-in-Some g c =
+pub returns-in-Some-clause-made : goal.returns-in-Some-clause-made
+returns-in-Some-clause-made g c =
     let form = g.C.Unit.form in
     let number = g.C.Unit.number in
     let xs = c.args.s.now.units in
@@ -35,5 +35,5 @@ returns-in-Some g c =
     (c.truncate.ensures.text ∙ ap (λ k. take k l) (before-place form (map number xs) c.args.index c.in-Some.at found.within found.place)) (c.copy-taken.ensures ∙ part) in
     record { text = both.0; answer = both.1 }
 
-pub returns-in-None : goal.returns-in-None
-returns-in-None g c = refused-split (text_of g.C.Unit.form g.C.Unit.number c.args.s.now.units) c.args.index (found_none g.C.Unit.form (map g.C.Unit.number c.args.s.now.units) c.args.index c.args.found c.requires.found c.in-None.is)
+pub returns-in-None-clause-made : goal.returns-in-None-clause-made
+returns-in-None-clause-made g c = refused-split (text_of g.C.Unit.form g.C.Unit.number c.args.s.now.units) c.args.index (found_none g.C.Unit.form (map g.C.Unit.number c.args.s.now.units) c.args.index c.args.found c.requires.found c.in-None.is)

@@ -8,8 +8,8 @@ use Rattle.wide_edit.proofs.arms.truncate.Goals as goal
 pub truncate-requires : goal.truncate-requires
 truncate-requires g c = inr (found_some g.C.Unit.form (map g.C.Unit.number c.args.s.now.units) c.args.len c.args.found c.in-Some.at c.requires c.in-Some.is).boundary
 
-pub returns-in-Some : goal.returns-in-Some
-returns-in-Some g c =
+pub returns-in-Some-clause-made : goal.returns-in-Some-clause-made
+returns-in-Some-clause-made g c =
     let form = g.C.Unit.form in
     let number = g.C.Unit.number in
     let us = map number c.args.s.now.units in
@@ -17,8 +17,8 @@ returns-in-Some g c =
     let found = found_some form us c.args.len c.args.found c.in-Some.at c.requires c.in-Some.is in
     made-truncate l (text_of form number c.truncate.new.self.units) c.args.len (c.truncate.ensures.text ∙ ap (λ k. take k l) (before-place form us c.args.len c.in-Some.at found.within found.place))
 
-pub returns-in-None : goal.returns-in-None
-returns-in-None g c =
+pub returns-in-None-clause-made : goal.returns-in-None-clause-made
+returns-in-None-clause-made g c =
     let form = g.C.Unit.form in
     let number = g.C.Unit.number in
     let l = text_of form number c.args.s.now.units in

@@ -1,4 +1,4 @@
-use Rattle.std.proofs.Common.{◌≡◌, take}
+use Rattle.std.proofs.Common.{◌≡◌, ◌≤◌, take}
 use Rattle.wide_edit.specs.Edited.{HasRun}
 use Rattle.wide_edit.proofs.lockstep.make_all.Given as goal
 
@@ -9,4 +9,5 @@ invariant-loop-edit g l =
     record {
       count : l.done ≡ l.edit-index;
       made : HasRun (text l.fn.text) (take l.edit-index l.edits) (text l.text) l.fn.replies.items l.replies.items;
+      capacity : g.T.TextEdit.capacity l.fn.text ≤ g.T.TextEdit.capacity l.text;
     }

@@ -21,7 +21,7 @@ mend-requires-clause-some c =
     let count = c.count_from-count.ensures.count ∙ ap (λ us. length (chars Utf16 us)) c.as_utfstr-3.ensures in
     let p = edit_place (length cs) c.args.edit in
     let place : c.place_in-kept.result ≡ p = c.place_in-kept.ensures ∙ ap (λ n. edit_place n c.args.edit) count in
-    let same = ap (take p) c.apply16-reply.ensures.text ∙ step-keeps cs c.args.edit in
+    let same = ap (take p) c.apply16-reply.ensures.made.text ∙ step-keeps cs c.args.edit in
     kept-marks cs new p (place-within (length cs) c.args.edit) same _ _ _ (omega (arith, place)) c.requires.marks c.truncate.ensures.items
     ∙ ap (λ us. take (length c.truncate.new.self.items) (marks_of (chars Utf16 us))) (sym c.as_utfstr-5.ensures)
 
@@ -32,7 +32,7 @@ returns-clause-steps c =
     let count = c.count_from-count.ensures.count ∙ ap (λ us. length (chars Utf16 us)) c.as_utfstr-3.ensures in
     let p = edit_place (length cs) c.args.edit in
     let place : c.place_in-kept.result ≡ p = c.place_in-kept.ensures ∙ ap (λ n. edit_place n c.args.edit) count in
-    let same = ap (take p) c.apply16-reply.ensures.text ∙ step-keeps cs c.args.edit in
+    let same = ap (take p) c.apply16-reply.ensures.made.text ∙ step-keeps cs c.args.edit in
     let long = kept-count cs new p (place-within (length cs) c.args.edit) same _ _ _ (omega (arith, place)) c.requires.marks c.truncate.ensures.items in
     let kept : length c.truncate.new.self.items ≡ p / 64 = omega (arith, long, place) in
     let behind = c.units_from.ensures ∙ ap (λ us. size Utf16 (chars Utf16 us) - mark (chars Utf16 us) (c.place_in-kept.result / 64)) c.as_utfstr-4.ensures ∙ ap (λ k. size Utf16 cs - mark cs (k / 64)) place in

@@ -1,4 +1,4 @@
-use Rattle.std.proofs.Common.{◌≡◌, ◌++◌, take, map, ap, sym, ◌∙◌}
+use Rattle.std.proofs.Common.{◌≡◌, ◌++◌, take, map, ap, sym, ◌∙◌, arith}
 use Rattle.wide_unit.specs.EncodingForm.{code_units}
 use Rattle.wide_unit.specs.Items.{IsWellFormed}
 use Rattle.wide_unit.specs.Laws.Policies.{encode-lossy_by}
@@ -36,14 +36,18 @@ loop-found-preserved g c = record {
       ]));
   ok = c.check-found.ensures.ok;
   err = c.check-found.ensures.err;
+  capacity = elim c.match-policy.branch [
+    | in-Run+in_ok-push w ↦ rw w.text-is (omega (arith, c.loop-found.invariant.capacity, c.push_utfstr.ensures.capacity, w.in_ok-push.ensures.capacity))
+    | in_default-policy w ↦ rw w.text-is (omega (arith, c.loop-found.invariant.capacity, c.push_utfstr.ensures.capacity))
+  ];
   within = c.check-found.ensures.within;
 }
 
 pub from_slice_unchecked-requires-2 : goal.from_slice_unchecked-requires-2
 from_slice_unchecked-requires-2 g c = rw c.in_default.is at c.loop-found.invariant.ok
 
-pub returns : goal.returns
-returns g c =
+pub returns-clause-made : goal.returns-clause-made
+returns-clause-made g c =
     let form = g.C.Unit.form in
     let number = g.C.Unit.number in
     let well : IsWellFormed form (map number c.loop-found.rest.now) = rw c.in_default.is at c.loop-found.invariant.ok in

@@ -1,4 +1,4 @@
-use Rattle.std.proofs.Common.{◌≡◌, ◌<◌, ◌++◌, map, length}
+use Rattle.std.proofs.Common.{◌≡◌, ◌<◌, ◌≤◌, ◌++◌, map, length}
 use Rattle.std.specs.Prelude.{OnOk, IfErr}
 use Rattle.wide_unit.specs.EncodingForm.{encode}
 use Rattle.wide_unit.specs.Items.{items, IsWellFormed, IsFirstFault}
@@ -14,6 +14,7 @@ invariant-loop-found g l =
       joined : map number l.text.units ++ encode form (lossy_by l.fn.policy (items form (map number l.rest))) ≡ encode form (lossy_by l.fn.policy (items form (map number l.units)));
       ok : OnOk l.found (IsWellFormed form (map number l.rest));
       err : IfErr l.found (λ fault. IsFirstFault form (map number l.rest) fault.index fault.item (number fault.unit));
+      capacity : length l.units ≤ l.text.capacity;
       within : IfErr l.found (λ fault. fault.index < length l.rest);
     }
 

@@ -9,4 +9,4 @@ pub returns-in-Ok-clause-text : goal.returns-in-Ok-clause-text
 returns-in-Ok-clause-text g c = lossy_borrowed c.args.policy g.C.Unit.form g.C.Unit.number c.args.units.now c.from_slice_unchecked.result c.in-Ok.ensures.ok c.from_slice_unchecked.ensures
 
 pub returns-in_ok-lossy_copy-in-Err-clause-text : goal.returns-in_ok-lossy_copy-in-Err-clause-text
-returns-in_ok-lossy_copy-in-Err-clause-text g c = lossy_owned c.args.policy g.C.Unit.form g.C.Unit.number c.args.units.now c.in_ok-lossy_copy-in-Err.field-0 _ _ _ c.in-Err.ensures.err c.in_ok-lossy_copy-in-Err.ensures
+returns-in_ok-lossy_copy-in-Err-clause-text g c = lossy_owned c.args.policy g.C.Unit.form g.C.Unit.number c.args.units.now c.in_ok-lossy_copy-in-Err.field-0 _ _ _ c.in-Err.ensures.err c.in_ok-lossy_copy-in-Err.ensures.made c.in_ok-lossy_copy-in-Err.ensures.capacity

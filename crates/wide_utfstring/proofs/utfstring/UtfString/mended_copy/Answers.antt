@@ -29,5 +29,5 @@ text g c =
 pub invariant_of-result : goal.invariant_of-result
 invariant_of-result g c = subst (IsWellFormed g.C.Unit.form) (sym (text g c)) (well_formed-lossy g.C.Unit.form (map g.C.Unit.number c.args.units.now))
 
-pub returns : goal.returns
-returns g c = text g c
+pub returns-clause-made : goal.returns-clause-made
+returns-clause-made g c = text g c
