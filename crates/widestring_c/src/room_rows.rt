@@ -74,14 +74,14 @@ enum Way {
     By(u32),
 }
 
-// Whether a call puts these items in front of a room, where they fit, and answers how many they are. Where it is to put none, it answers the
-// greatest number. All behind them stays.
+// Whether a call puts these items at the start of a room that holds the fillers, where they fit, and answers how many they are. Where it is to
+// put none, it answers the greatest number. All behind them stays.
 fn fills_room<T: Copy + PartialEq, F: Fn(&mut [T]) -> usize>(
     call: &F,
     room: &mut [T],
     items: &[T],
     is_put: bool,
-    filler: T,
+    fillers: &[T],
 ) -> bool
     requires { F.IsAlwaysCallable call.now }
 {
@@ -91,13 +91,38 @@ fn fills_room<T: Copy + PartialEq, F: Fn(&mut [T]) -> usize>(
     } else {
         (&items[..0], usize::MAX)
     };
-    let stays = room.iter().skip(put.len()).all(|item| *item == filler);
+    // Items that do not fit have nothing behind them.
+    let stays = room.get(put.len()..) == fillers.get(put.len()..);
     let begins = put.len() > room.len() || room.starts_with(put);
     answer == len && begins && stays
 }
 
-// The same of a room that is exact, of one that is one shorter and of one that is five longer. Where memory is refused it does not hold, so
-// that a caller has no early return beside what it would have to drop.
+// Whether it fills a room that is exact, one that is one shorter and one that is five longer, of as many fillers.
+fn fills_each<T: Copy + PartialEq, F: Fn(&mut [T]) -> usize>(
+    alloc: Global,
+    call: &F,
+    items: &[T],
+    is_put: bool,
+    fillers: &[T],
+) -> bool
+    requires { F.IsAlwaysCallable call.now }
+{
+    let len = items.len();
+    let mut well = true;
+    for size in [len, len.saturating_sub(1), len.saturating_add(5)] {
+        well &= match fillers.get(..size) {
+            Some(part) => match part.to_vec(alloc) {
+                Ok(mut room) => fills_room(call, &mut room, items, is_put, part),
+                Err(_refused) => false,
+            },
+            None => false,
+        };
+    }
+    well
+}
+
+// Whether it fills each of these rooms. Where memory is refused it does not hold, so that a caller has no early return beside what it would
+// have to drop.
 pub(crate) fn fills<T: Copy + PartialEq, F: Fn(&mut [T]) -> usize>(
     alloc: Global,
     call: F,
@@ -107,15 +132,10 @@ pub(crate) fn fills<T: Copy + PartialEq, F: Fn(&mut [T]) -> usize>(
 ) -> bool
     requires { F.IsAlwaysCallable call }
 {
-    let len = items.len();
-    let mut well = true;
-    for size in [len, len.saturating_sub(1), len.saturating_add(5)] {
-        well &= match vec![in alloc; filler; size] {
-            Ok(mut room) => fills_room(&call, &mut room, items, is_put, filler),
-            Err(_refused) => false,
-        };
+    match vec![in alloc; filler; items.len().saturating_add(5)] {
+        Ok(fillers) => fills_each(alloc, &call, items, is_put, &fillers),
+        Err(_refused) => false,
     }
-    well
 }
 
 // The characters of units and of bytes, with none for each fault.
@@ -167,11 +187,11 @@ pub(crate) struct Wanted<'a> {
     scalars: &'a [u32],
 }
 
-// Whether this holds of the text of items by a policy.
+// Whether this holds of the text of items by a policy, with each of the numbers.
 fn holds_by_policy<F: Fn(&Wanted) -> bool>(
     alloc: Global,
     items: &[Option<char>],
-    number: u32,
+    numbers: &[u32],
     policy: Policy,
     holds: &F,
 ) -> Result<bool, AllocError>
@@ -180,17 +200,22 @@ fn holds_by_policy<F: Fn(&Wanted) -> bool>(
     let text = text_of(alloc, items, policy)?;
     let units: Vec<u16> = text.encode_utf16().collect(alloc)?;
     let scalars: Vec<u32> = text.chars().map(u32::from).collect(alloc)?;
-    let wanted = Wanted {
-        number,
-        is_text: !items.contains(&None),
-        bytes: text.as_bytes(),
-        units: &units,
-        scalars: &scalars,
-    };
-    Ok(holds(&wanted))
+    let is_text = !items.contains(&None);
+    let mut well = true;
+    for number in numbers {
+        let wanted = Wanted {
+            number: *number,
+            is_text,
+            bytes: text.as_bytes(),
+            units: &units,
+            scalars: &scalars,
+        };
+        well &= holds(&wanted);
+    }
+    Ok(well)
 }
 
-// The same of each policy. Where memory is refused it does not hold.
+// Whether it holds by each policy. Where memory is refused it does not hold.
 pub(crate) fn holds_by_policies<F: Fn(&Wanted) -> bool>(
     alloc: Global,
     items: &[Option<char>],
@@ -198,14 +223,18 @@ pub(crate) fn holds_by_policies<F: Fn(&Wanted) -> bool>(
 ) -> bool
     requires { F.IsAlwaysCallable holds }
 {
+    // Without faults the text is the same by each policy, and is made once.
+    if !items.contains(&None) {
+        return holds_by_policy(alloc, items, &[0, 1, 2], Policy::Each, &holds) == Ok(true);
+    }
     let mut well = true;
     for (number, policy) in POLICIES.iter() {
-        well &= holds_by_policy(alloc, items, *number, *policy, &holds) == Ok(true);
+        well &= holds_by_policy(alloc, items, &[*number], *policy, &holds) == Ok(true);
     }
     well
 }
 
-// Whether each function does so with these units: by a number that names a policy, by one that names none, and with the first policy those
+// Whether each function does so with these units: by a number that names a policy, and with the first policy by one that names none and those
 // that take no number.
 fn converts16(alloc: Global, units: &[u16]) -> Result<bool, AllocError> {
     let items = items16(alloc, units)?;
@@ -214,8 +243,7 @@ fn converts16(alloc: Global, units: &[u16]) -> Result<bool, AllocError> {
 
 fn holds16(alloc: Global, units: &[u16], wanted: &Wanted) -> bool {
     let bytes = wanted.bytes;
-    let mut well = puts_text16(alloc, units, Way::By(wanted.number), bytes, true);
-    well &= puts_text16(alloc, units, Way::By(3), bytes, false);
+    let well = puts_text16(alloc, units, Way::By(wanted.number), bytes, true);
     well && (wanted.number > 0 || holds16_of_each(alloc, units, wanted))
 }
 
@@ -224,6 +252,7 @@ fn holds16_of_each(alloc: Global, units: &[u16], wanted: &Wanted) -> bool {
     let to_scalars = |room: &mut [u32]| wide_utf16_to_utf32(units, room);
     let repair = |room: &mut [u16]| wide_utf16_repair(units, room);
     let mut well = wanted.units.len() == units.len();
+    well &= puts_text16(alloc, units, Way::By(3), wanted.bytes, false);
     well &= puts_text16(alloc, units, Way::Strict, wanted.bytes, wanted.is_text);
     well &= puts_text16(alloc, units, Way::Lossy, wanted.bytes, true);
     well &= fills(
@@ -256,8 +285,7 @@ fn converts32(alloc: Global, units: &[u32]) -> Result<bool, AllocError> {
 
 fn holds32(alloc: Global, units: &[u32], wanted: &Wanted) -> bool {
     let bytes = wanted.bytes;
-    let mut well = puts_text32(alloc, units, Way::By(wanted.number), bytes, true);
-    well &= puts_text32(alloc, units, Way::By(4), bytes, false);
+    let well = puts_text32(alloc, units, Way::By(wanted.number), bytes, true);
     well && (wanted.number > 0 || holds32_of_each(alloc, units, wanted))
 }
 
@@ -265,6 +293,7 @@ fn holds32_of_each(alloc: Global, units: &[u32], wanted: &Wanted) -> bool {
     let to_utf16 = |room: &mut [u16]| wide_utf32_to_utf16(units, room);
     let repair = |room: &mut [u32]| wide_utf32_repair(units, room);
     let mut well = wanted.scalars.len() == units.len();
+    well &= puts_text32(alloc, units, Way::By(4), wanted.bytes, false);
     well &= puts_text32(alloc, units, Way::Strict, wanted.bytes, wanted.is_text);
     well &= puts_text32(alloc, units, Way::Lossy, wanted.bytes, true);
     well &= fills(alloc, to_utf16, wanted.units, wanted.is_text, 0xaaaa);
@@ -292,14 +321,14 @@ fn holds8(alloc: Global, bytes: &[u8], wanted: &Wanted) -> bool {
     let (units, scalars) = (wanted.units, wanted.scalars);
     let mut well = puts_units(alloc, bytes, Way::By(wanted.number), units, true);
     well &= puts_scalars(alloc, bytes, Way::By(wanted.number), scalars, true);
-    well &= puts_units(alloc, bytes, Way::By(3), units, false);
-    well &= puts_scalars(alloc, bytes, Way::By(u32::MAX), scalars, false);
     well && (wanted.number > 0 || holds8_of_each(alloc, bytes, wanted))
 }
 
 fn holds8_of_each(alloc: Global, bytes: &[u8], wanted: &Wanted) -> bool {
     let (units, scalars, is_text) = (wanted.units, wanted.scalars, wanted.is_text);
     let mut well = is_read_so(alloc, bytes, wanted);
+    well &= puts_units(alloc, bytes, Way::By(3), units, false);
+    well &= puts_scalars(alloc, bytes, Way::By(u32::MAX), scalars, false);
     well &= puts_units(alloc, bytes, Way::Strict, units, is_text);
     well &= puts_units(alloc, bytes, Way::Lossy, units, true);
     well &= puts_scalars(alloc, bytes, Way::Strict, scalars, is_text);

@@ -1,5 +1,6 @@
-use Rattle.std.proofs.Common.{ap, ◌∙◌}
-use Rattle.widetext_base.specs.Command.{status_of}
+use Rattle.std.proofs.Common.{ap, subst, ◌∙◌, IfErr}
+use Rattle.wide_error.specs.Texts.{transcode_error_text}
+use Rattle.widetext_base.specs.Command.{Says, status_of}
 use Rattle.widetext_base.proofs.utf8.write_utf8.Goals as goal
 use Rattle.widetext_base.proofs.utf8.write_utf8.Goals.{in-None, in-Some}
 
@@ -18,6 +19,7 @@ returns-clause-run g c = elim c.match-policy.branch [
         at_end = w.transcode-answer.ensures.at_end;
         source_failed = w.transcode-answer.ensures.source_failed;
         sink_failed = w.transcode-answer.ensures.sink_failed;
+        says = subst (λ a. IfErr a (λ error. Says (g.F.ByteSink.held c.args.faults.now) (g.F.ByteSink.held c.end.new.faults) (transcode_error_text error))) w.answer-is c.end.ensures.said;
         gives = c.end.ensures.status ∙ ap (λ a. status_of a) w.answer-is;
       })
       )
@@ -34,6 +36,7 @@ returns-clause-run g c = elim c.match-policy.branch [
         at_end = w.transcode_with-answer.ensures.at_end;
         source_failed = w.transcode_with-answer.ensures.source_failed;
         sink_failed = w.transcode_with-answer.ensures.sink_failed;
+        says = subst (λ a. IfErr a (λ error. Says (g.F.ByteSink.held c.args.faults.now) (g.F.ByteSink.held c.end.new.faults) (transcode_error_text error))) w.answer-is c.end.ensures.said;
         gives = c.end.ensures.status ∙ ap (λ a. status_of a) w.answer-is;
       })
       )
