@@ -9,6 +9,7 @@ mod between;
 mod bytes;
 #[cfg(test)]
 mod bytes_rows;
+pub mod examples;
 mod from_utf8;
 pub mod laws;
 mod lengths;

@@ -3,6 +3,7 @@
 
 mod edit_lines;
 mod edit_words;
+pub mod examples;
 mod program;
 mod words;
 

@@ -1,0 +1,12 @@
+//! Concrete bytes of UTF-16 as units.
+ghost use Rattle.std.specs.Prelude.{◌≡◌, Some, None};
+
+use widestring::bytes::utf16_of_bytes;
+
+/// Reads a zero unit at the end of bytes, of which nothing is lost.
+pub fn units_with_a_last_zero() -> (Option<u16>, Option<u16>, Option<u16>)
+    ensures { result ≡ (Some 0x61, Some 0, None) }
+{
+    let mut units = utf16_of_bytes(&[0xFF, 0xFE, 0x61, 0, 0, 0]).units;
+    (units.next(), units.next(), units.next())
+}

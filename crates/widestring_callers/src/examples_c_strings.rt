@@ -1,0 +1,33 @@
+//! C strings made of concrete units: where a NUL may stand, and the index of one that may not.
+ghost use Rattle.std.specs.Prelude.{◌≡◌, ◌∷◌, [], Some, true, false};
+ghost use Rattle.std.specs.Str.{chars};
+
+use std::alloc::Global;
+use widestring::error::NulError;
+use widestring::{U16CStr, U16CString};
+
+/// Refuses units with a NUL before the last of them, and gives its index.
+pub fn inner_nul_of_a_view() -> Option<usize>
+    ensures { result ≡ Some 1 }
+{
+    match U16CStr::from_slice(&[0x61, 0, 0x62, 0]) {
+        Err(NulError::ContainsNul(found)) => Some(found.nul_position()),
+        _ => None,
+    }
+}
+
+/// Takes the last NUL of a vector as the terminator.
+pub fn terminated_vector(units: Vec<u16>) -> bool
+    requires { units.items ≡ 0x61 ∷ 0 ∷ [] }
+    ensures { result ≡ true }
+{
+    U16CString::from_vec(units).is_ok()
+}
+
+/// Refuses a literal that ends in a NUL.
+pub fn literal_with_a_nul(alloc: Global, text: &str) -> bool
+    requires { chars text.now ≡ 0x61 ∷ 0 ∷ [] }
+    ensures { result ≡ false }
+{
+    U16CString::from_str_literal(alloc, text).is_ok()
+}

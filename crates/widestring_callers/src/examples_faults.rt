@@ -1,0 +1,44 @@
+//! Units that are not well formed, at concrete lists: where the first fault stands, and what stands in its place.
+ghost use Rattle.std.specs.Prelude.{◌≡◌, ◌∷◌, [], Some, IfOk, string_bytes};
+ghost use Rattle.widestring.specs.Utf8.{utf8};
+
+use std::alloc::Global;
+use widestring::error::{OutOfMemory, Utf16ConvertError};
+use widestring::unit::laws;
+use widestring::{U16Str, Utf16Str};
+
+/// Finds the high surrogate behind a pair: two units and one character stand before it.
+pub fn fault_behind_a_pair() -> Option<(usize, usize, u16)>
+    ensures { result ≡ Some (2, 1, 0xD800) }
+{
+    laws::worked_fault();
+    laws::first_faults();
+    let fault = Utf16Str::from_slice(&[0xD83D, 0xDE00, 0xD800]).err()?;
+    Some((
+        fault.index(),
+        fault.item(),
+        fault.cause().unpaired_surrogate(),
+    ))
+}
+
+/// Refuses the text of a pair and a high surrogate for its fault, and never for want of memory.
+pub fn no_text_of_a_fault(alloc: Global) -> Option<(usize, usize)>
+    ensures { result ≡ Some (2, 1) }
+{
+    laws::worked_fault();
+    laws::first_faults();
+    let units = U16Str::from_slice(&[0xD83D, 0xDE00, 0xD800]);
+    match units.to_string(alloc) {
+        Ok(_) => None,
+        Err(Utf16ConvertError::OutOfMemory) => None,
+        Err(Utf16ConvertError::Utf16(fault)) => Some((fault.index(), fault.item())),
+    }
+}
+
+/// Writes U+FFFD in UTF-8 for each of two high surrogates behind a pair.
+pub fn lossy_text_of_two_faults(alloc: Global) -> Result<String, OutOfMemory>
+    ensures { IfOk result (λ text. string_bytes text ≡ utf8 (0x1_F600 ∷ 0xFFFD ∷ 0xFFFD ∷ [])) }
+{
+    laws::worked_lossy();
+    U16Str::from_slice(&[0xD83D, 0xDE00, 0xD800, 0xD801]).to_string_lossy(alloc)
+}

@@ -1,0 +1,44 @@
+//! Parts of units, and their offsets.
+ghost use Rattle.std.specs.Prelude.{◌≡◌, ◌≤◌, Some, None, false};
+ghost use Rattle.widestring.specs.Parts.{StandsAt};
+ghost use Rattle.widestring.specs.UnitView.{units_seen};
+
+use widestring::unit::laws;
+use widestring::{U16Str, Utf16Str};
+
+/// Finds a part no later than at an offset where the caller knows that it stands.
+pub fn found_by(units: U16Str<'_>, part: U16Str<'_>, offset: usize) -> usize
+    requires { StandsAt (units_seen part) (units_seen units) offset }
+    ensures here { StandsAt (units_seen part.entry) (units_seen units.entry) result }
+    ensures first { result ≤ offset }
+{
+    match units.find(part) {
+        Some(at) => at,
+        None => unreachable!(),
+    }
+}
+
+/// Refuses a range past the end.
+pub fn part_past_the_end() -> bool
+    ensures { result ≡ false }
+{
+    U16Str::from_slice(&[0x61, 0x62]).get(1..3).is_some()
+}
+
+/// Finds the second character behind a pair, whose units are two.
+pub fn offset_behind_a_pair() -> Option<usize>
+    ensures { result ≡ Some 2 }
+{
+    laws::worked_items();
+    match Utf16Str::from_slice(&[0xD83D, 0xDE00]) {
+        Ok(text) => text.unit_offset(1),
+        Err(_) => None,
+    }
+}
+
+/// Gives no bounds of lines that are not read yet.
+pub fn bounds_of_lines() -> (usize, Option<usize>)
+    ensures { result ≡ (0, None) }
+{
+    U16Str::from_slice(&[0xA, 0xA]).lines_lossy().size_hint()
+}

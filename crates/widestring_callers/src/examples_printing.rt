@@ -1,0 +1,37 @@
+//! What is printed of concrete units and texts.
+ghost use Rattle.std.specs.Prelude.{◌≡◌, ◌∷◌, [], true, IfOk, string_bytes};
+ghost use Rattle.std.specs.Char.{is_ascii};
+ghost use Rattle.std.specs.List.{flat_map, list_all};
+ghost use Rattle.widestring.specs.EncodingForm.{Utf16};
+ghost use Rattle.widestring.specs.Texts.{escape_debug, skipping_text};
+ghost use Rattle.widestring.specs.UnitView.{units_seen};
+ghost use Rattle.widestring.specs.Utf8.{utf8};
+ghost use Rattle.widestring.specs.View.{text_seen};
+
+use std::alloc::{AllocError, Global};
+use widestring::unit::laws;
+use widestring::{U16Str, Utf16Str};
+
+/// Prints a pair, and leaves out what would stand for the two high surrogates behind it.
+pub fn printed_without_faults(alloc: Global) -> Result<String, AllocError>
+    ensures { IfOk result (λ text. string_bytes text ≡ utf8 (0x1_F600 ∷ [])) }
+{
+    laws::worked_lossy();
+    let units = U16Str::from_slice(&[0xD83D, 0xDE00, 0xD800, 0xD801]);
+    format!(in alloc; "{}", units.display_skipping())
+}
+
+/// Prints the lossy text of any units without U+FFFD, those of the units among them.
+pub fn printed_without_replacements(alloc: Global, units: U16Str<'_>) -> Result<String, AllocError>
+    ensures { IfOk result (λ text. string_bytes text ≡ skipping_text Utf16 (units_seen units.entry)) }
+{
+    format!(in alloc; "{}", units.display_skipping())
+}
+
+/// Prints the escapes of a text, whatever width is asked for.
+pub fn printed_escapes(alloc: Global, text: Utf16Str<'_>) -> Result<String, AllocError>
+    requires { list_all is_ascii (text_seen text) ≡ true }
+    ensures { IfOk result (λ line. string_bytes line ≡ utf8 (flat_map escape_debug (text_seen text.entry))) }
+{
+    format!(in alloc; "{:8}", text.escape_debug())
+}

@@ -1,0 +1,69 @@
+//! Strings made of few items, or of none, and strings with capacity for what is put into them.
+ghost use Rattle.std.specs.Prelude.{◌≡◌, ◌≤◌, ◌∷◌, [], true, IfSome};
+ghost use Rattle.std.specs.Iterator.{IsFiniteIterable};
+ghost use Rattle.std.specs.Str.{chars};
+ghost use Rattle.widestring.specs.EncodingForm.{Utf16, code_units};
+ghost use Rattle.widestring.specs.Extended.{Adds, Collects, numbered};
+ghost use Rattle.widestring.specs.View.{units_seen};
+
+use std::alloc::Global;
+use widestring::error::OutOfMemory;
+use widestring::ustring::UStrInUstring;
+use widestring::ustring::extend::Piece;
+use widestring::utfstring::UStringOverUtfstrs;
+use widestring::{U16Str, U16String, Utf16Str, Utf16String};
+
+/// Makes a string of an empty text, for which no memory is asked.
+pub fn string_of_nothing(alloc: Global, text: &str) -> bool
+    requires { chars text.now ≡ [] }
+    ensures { result ≡ true }
+{
+    U16String::from_str(alloc, text).is_ok()
+}
+
+/// Repeats units no times, for which no memory is asked.
+pub fn repeated_no_times(alloc: Global) -> bool
+    ensures { result ≡ true }
+{
+    U16Str::from_slice(&[0x61, 0x62]).repeat(alloc, 0).is_ok()
+}
+
+/// Puts a character of two units into an empty string that has capacity for them.
+pub fn put_within_the_capacity(string: &mut U16String) -> bool
+    requires empty { string.old.units ≡ [] }
+    requires capacity { 2 ≤ string.old.capacity }
+    ensures done { result ≡ true }
+    ensures units { string.new.units ≡ 0xD83D ∷ 0xDE00 ∷ [] }
+{
+    '😀'.push_to(string).is_ok()
+}
+
+/// Collects characters: a string that is no error holds all of them, and another those before the one that found no memory.
+pub fn collected<U: IntoIterator<Item = char>>(
+    alloc: Global,
+    items: U,
+) -> Result<U16String, U16String>
+    requires { IsFiniteIterable U.into_iter_gives U.IntoIter.can_next U.IntoIter.remaining items }
+    ensures { Collects result U.into_iter_gives U.IntoIter.next_gives (code_units Utf16) items (numbered (λ u. u)) }
+{
+    U16String::from_iter_chars(alloc, items)
+}
+
+/// Puts texts behind what a string of units holds, which stays.
+pub fn extended_by_texts<'a, U: IntoIterator<Item = Utf16Str<'a>>>(
+    string: &mut U16String,
+    texts: U,
+) -> Result<(), OutOfMemory>
+    requires { IsFiniteIterable U.into_iter_gives U.IntoIter.can_next U.IntoIter.remaining texts }
+    ensures { Adds result U.into_iter_gives U.IntoIter.next_gives units_seen texts (numbered (λ u. u)) string.old string.new }
+{
+    string.extend_utfstrs(texts)
+}
+
+/// Takes well-formed units of a string over with their capacity.
+pub fn capacity_of_text(string: U16String) -> Option<usize>
+    ensures { IfSome result (λ capacity. capacity ≡ string.capacity) }
+{
+    let text = Utf16String::from_ustring(string).ok()?;
+    Some(text.capacity())
+}
