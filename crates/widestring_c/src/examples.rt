@@ -30,7 +30,7 @@ pub fn one_replacement_of_a_run(bytes: &[u8], text: &mut [u8]) -> usize
     wide_bytes_to_utf8_lossy_with(bytes, 0, 1, 0, text)
 }
 
-/// Writes nothing for them where the unit before them belongs to no character.
+/// Writes nothing for two surrogates in the wrong order, where a unit before them belongs to no character: the run goes on.
 pub fn run_that_goes_on(bytes: &[u8], text: &mut [u8]) -> usize
     requires { units_in Little bytes.now ≡ 0xDE00 ∷ 0xD83D ∷ [] }
     ensures { result ≡ 0 }

@@ -1,9 +1,9 @@
 //! C strings made of concrete units: where a NUL may stand, and the index of one that may not.
-ghost use Rattle.std.specs.Prelude.{◌≡◌, ◌∷◌, [], Some, true, false};
+ghost use Rattle.std.specs.Prelude.{◌≡◌, ◌∷◌, [], Some, true, false, IfSome, IsSome};
 ghost use Rattle.std.specs.Str.{chars};
 
 use std::alloc::Global;
-use widestring::error::NulError;
+use widestring::error::{NulError, UCStringError};
 use widestring::{U16CStr, U16CString};
 
 /// Refuses units with a NUL before the last of them, and gives its index.
@@ -30,4 +30,16 @@ pub fn literal_with_a_nul(alloc: Global, text: &str) -> bool
     ensures { result ≡ false }
 {
     U16CString::from_str_literal(alloc, text).is_ok()
+}
+
+/// Refuses a vector with a NUL before the last unit, gives its index, and hands the units back.
+pub fn inner_nul_of_a_vector(units: Vec<u16>) -> Option<(usize, Option<Vec<u16>>)>
+    requires { units.items ≡ 0x61 ∷ 0 ∷ 0x62 ∷ [] }
+    ensures handed_back { IfSome result (λ told. (told.0 ≡ 1) × IfSome told.1 (λ vec. vec.items ≡ 0x61 ∷ 0 ∷ 0x62 ∷ [])) }
+    ensures some { IsSome result }
+{
+    match U16CString::from_vec(units) {
+        Err(UCStringError::ContainsNul(found)) => Some((found.nul_position(), found.into_vec())),
+        _ => None,
+    }
 }

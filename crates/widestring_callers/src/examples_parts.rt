@@ -1,5 +1,5 @@
 //! Parts of units, and their offsets.
-ghost use Rattle.std.specs.Prelude.{◌≡◌, ◌≤◌, Some, None, false};
+ghost use Rattle.std.specs.Prelude.{◌≡◌, ◌≤◌, Some, None, true, false};
 ghost use Rattle.widestring.specs.Parts.{StandsAt};
 ghost use Rattle.widestring.specs.UnitView.{units_seen};
 
@@ -33,6 +33,17 @@ pub fn offset_behind_a_pair() -> Option<usize>
     match Utf16Str::from_slice(&[0xD83D, 0xDE00]) {
         Ok(text) => text.unit_offset(1),
         Err(_) => None,
+    }
+}
+
+/// Takes the text of a pair, and no part of it that ends within the pair.
+pub fn parts_of_a_pair() -> (bool, bool)
+    ensures { result ≡ (true, false) }
+{
+    laws::worked_items();
+    match Utf16Str::from_slice(&[0xD83D, 0xDE00]) {
+        Ok(text) => (text.get(0..2).is_some(), text.get(0..1).is_some()),
+        Err(_) => (false, false),
     }
 }
 
