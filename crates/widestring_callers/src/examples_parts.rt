@@ -4,7 +4,7 @@ ghost use Rattle.widestring.specs.Parts.{StandsAt};
 ghost use Rattle.widestring.specs.UnitView.{units_seen};
 
 use widestring::unit::laws;
-use widestring::{U16Str, Utf16Str};
+use widestring::{U16Str, U32Str, Utf16Str};
 
 /// Finds a part no later than at an offset where the caller knows that it stands.
 pub fn found_by(units: U16Str<'_>, part: U16Str<'_>, offset: usize) -> usize
@@ -52,4 +52,15 @@ pub fn bounds_of_lines() -> (usize, Option<usize>)
     ensures { result ≡ (0, None) }
 {
     U16Str::from_slice(&[0xA, 0xA]).lines_lossy().size_hint()
+}
+
+/// Reads a line that ends in two carriage returns and a line feed, of which it loses one, and no line behind it.
+pub fn line_of_two_returns() -> (Option<usize>, bool)
+    ensures { result ≡ (Some 2, false) }
+{
+    laws::units_of_utf32();
+    laws::lines_of_units();
+    let mut lines = U32Str::from_slice(&[0x61, 0xD, 0xD, 0xA]).lines_lossy();
+    let first = lines.next().map(|line| line.len());
+    (first, lines.next().is_some())
 }

@@ -1,5 +1,5 @@
 //! Strings made of few items, or of none, and strings with capacity for what is put into them.
-ghost use Rattle.std.specs.Prelude.{◌≡◌, ◌≤◌, ◌∷◌, [], true, IfSome};
+ghost use Rattle.std.specs.Prelude.{◌≡◌, ◌≤◌, ◌∷◌, [], true, false, IfSome};
 ghost use Rattle.std.specs.Iterator.{IsFiniteIterable};
 ghost use Rattle.std.specs.Str.{chars};
 ghost use Rattle.widestring.specs.EncodingForm.{Utf16, code_units};
@@ -66,4 +66,22 @@ pub fn capacity_of_text(string: U16String) -> Option<usize>
 {
     let text = Utf16String::from_ustring(string).ok()?;
     Some(text.capacity())
+}
+
+/// Leaves a string as it was where there is no memory for a character: no half of a pair is put in.
+pub fn put_whole_or_not(string: &mut U16String) -> bool
+    requires { string.old.units ≡ 0x61 ∷ [] }
+    ensures put { result ≡ true → string.new.units ≡ 0x61 ∷ 0xD83D ∷ 0xDE00 ∷ [] }
+    ensures refused { result ≡ false → string.new.units ≡ 0x61 ∷ [] }
+{
+    '😀'.push_to(string).is_ok()
+}
+
+/// Finds capacity for ten more units, and then a capacity of at least eleven.
+pub fn capacity_behind_a_unit(string: &mut U16String) -> Option<usize>
+    requires { string.old.units ≡ 0x61 ∷ [] }
+    ensures { IfSome result (λ capacity. 11 ≤ capacity) }
+{
+    string.reserve(10).ok()?;
+    Some(string.capacity())
 }

@@ -15,6 +15,7 @@ pub mod examples_faults;
 pub mod examples_parts;
 pub mod examples_printing;
 pub mod examples_strings;
+pub mod examples_texts;
 pub mod faults;
 pub mod lockstep;
 pub mod places32;

@@ -1,0 +1,44 @@
+//! Well-formed texts of few units: what is made of units with faults, and edits at offsets in units.
+ghost use Rattle.std.specs.Prelude.{◌≡◌, ◌∷◌, [], Some, true, IfOk, OnOk};
+
+use std::alloc::Global;
+use widestring::Utf16String;
+use widestring::error::OutOfMemory;
+use widestring::unit::laws;
+use widestring::utfstring::CowUtfStr;
+
+/// Replaces each of two high surrogates behind a pair by U+FFFD, and keeps the pair.
+pub fn mended_units(alloc: Global) -> Result<Utf16String, OutOfMemory>
+    ensures { IfOk result (λ text. text.units ≡ 0xD83D ∷ 0xDE00 ∷ 0xFFFD ∷ 0xFFFD ∷ []) }
+{
+    laws::worked_lossy();
+    Utf16String::from_slice_lossy(alloc, &[0xD83D, 0xDE00, 0xD800, 0xD801])?.into_owned(alloc)
+}
+
+/// Borrows units that are well formed, for which no memory is asked.
+pub fn borrowed_units(alloc: Global) -> bool
+    ensures { result ≡ true }
+{
+    laws::worked_items();
+    match Utf16String::from_slice_lossy(alloc, &[0xD83D, 0xDE00]) {
+        Ok(CowUtfStr::Borrowed(_)) => true,
+        _ => false,
+    }
+}
+
+/// Takes the last character, of two units, from a text that is one pair.
+pub fn last_of_a_pair(text: &mut Utf16String) -> Option<char>
+    requires { text.old.units ≡ 0xD83D ∷ 0xDE00 ∷ [] }
+    ensures { result ≡ Some 0x1_F600 }
+{
+    laws::worked_items();
+    text.pop()
+}
+
+/// Puts a letter behind a pair, at an offset of two units.
+pub fn letter_behind_a_pair(text: &mut Utf16String) -> Result<(), OutOfMemory>
+    requires { text.old.units ≡ 0xD83D ∷ 0xDE00 ∷ [] }
+    ensures { OnOk result (text.new.units ≡ 0xD83D ∷ 0xDE00 ∷ 0x61 ∷ []) }
+{
+    text.insert(text.len(), 'a')
+}
