@@ -50,7 +50,7 @@ inline std::uint32_t version() noexcept {
 
 /*
  * How a string gets so many elements of which a call writes the first, and tells how many those are. std has strings that are not filled before
- * they are written since C++23. Before, libraries have calls of their own. libstdc++ has one since release 14. Until release 13 it has a private
+ * they are written since C++23. Before, libraries have calls of their own. Until release 13 libstdc++ has a private
  * one that sets a length within the memory of a string, which an explicit instantiation may name. Those of libc++ come and go, so that they are
  * used where they are found. Where there is none, or with WIDESTRING_STD_ONLY, strings are filled first.
  *
