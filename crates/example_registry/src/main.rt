@@ -24,9 +24,6 @@ use widestring::bytes::{BoM, utf16_of_bytes};
 use widestring::error::OutOfMemory;
 use widestring::ustr::LineIndices;
 
-#[cfg(test)]
-mod rows;
-
 const HEADER: &str = "Windows Registry Editor Version 5.00";
 
 const OLD_HEADER: &str = "REGEDIT4";

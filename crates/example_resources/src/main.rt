@@ -34,9 +34,6 @@ use std::{env, fmt, fs, io};
 use widestring::error::OutOfMemory;
 use widestring::{U16Str, Utf16Str, Utf16String};
 
-#[cfg(test)]
-mod rows;
-
 const USAGE: &str = "usage: resources [--lossy] FILE..\n";
 
 // Why no resource can be read.

@@ -20,9 +20,6 @@ use widestring::error::OutOfMemory;
 use widestring::unit::{length_as_utf16, split_first};
 use widestring::{U16Str, U16String, Utf16Str, Utf16String, Utf32String};
 
-#[cfg(test)]
-mod rows;
-
 // The code point that begins at a unit, which is the unit itself where no character does.
 fn code_point_at(units: &[u16], index: usize) -> Option<u32>
     ensures none { IsNone result ↔ (length units.now ≤ index) }

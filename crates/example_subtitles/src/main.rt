@@ -22,9 +22,6 @@ use widestring::edit::{Edit, run as run_edits};
 use widestring::error::OutOfMemory;
 use widestring::{U16Str, Utf16String};
 
-#[cfg(test)]
-mod rows;
-
 // What the words ask for.
 #[derive(Clone, Copy)]
 struct Request<'a> {

@@ -185,28 +185,28 @@ def answer(words, files):
     return printed, told, 1 if told else 0
 
 
-# The inputs: words, and the bytes of each file that they name.
+# The inputs: words, of which {} is the name of a file, and its bytes.
 
-UNREADABLE = "it can't be read"
+UNREADABLE = "No such file or directory (os error 2)"
 OPEN = table(2, "", "Open")
 LONE = table(2, "a\ud83d", "\udc00", "\udc00\ud83d\ude00\ud83d", "fine")
 
 
 def one(data):
-    return ["a.res"], [data]
+    return ["{}"], data
 
 
 def lossy(data):
-    return ["--lossy", "a.res"], [data]
+    return ["--lossy", "{}"], data
 
 
 INPUTS = [
     # Words.
-    ([], []),
-    (["--lossy"], []),
-    (["a.res", "--lossy"], [file(OPEN)]),
-    (["--lossy", "--lossy", "a.res"], [file(OPEN)]),
-    (["--all", "a.res"], [file(OPEN)]),
+    ([], b""),
+    (["--lossy"], b""),
+    (["{}", "--lossy"], file(OPEN)),
+    (["--lossy", "--lossy", "{}"], file(OPEN)),
+    (["--all", "{}"], file(OPEN)),
     # Files without faults.
     one(EMPTY),
     one(file(table(1, *"abcdefghijklmnop"))),
@@ -248,7 +248,8 @@ INPUTS = [
     one(file(LONE)),
     lossy(file(LONE)),
     # Several files.
-    (["a.res", "no.res", "", "b.res"], [file(OPEN), UNREADABLE, b"", file(OPEN)]),
+    (["{}", "no.res", "", "{}"], file(OPEN)),
+    (["{}", "no.res", "", "{}"], b""),
 ]
 
 
@@ -312,7 +313,7 @@ def one_question(source, folder):
         with open(f"{folder}/{name}", "wb") as written:
             written.write(files[number])
     if source.random() < 0.05:
-        files[-1], names[-1] = "No such file or directory (os error 2)", "no.res"
+        files[-1], names[-1] = UNREADABLE, "no.res"
     words = [*words, *names]
     if source.random() < 0.02:
         words.insert(source.randint(0, len(words)), source.choice(["--lossy", "--", "--no"]))
@@ -320,113 +321,9 @@ def one_question(source, folder):
     return words, printed.encode(), told.encode(), status
 
 
-# The text of the rows.
-
-HEAD = """\
-//! Inputs, and what is printed and told of them; `bench/example_rows resources` writes this file.
-
-use super::{Tables, USAGE, parse, read_file};
-use std::alloc::{AllocError, Global};
-use widestring::error::OutOfMemory;
-
-// Words, and the bytes of each file that they name, or none where it can't be read; what is printed and told, and the status.
-struct Row {
-    words: &'static [&'static str],
-    files: &'static [Option<&'static [u8]>],
-    printed: &'static str,
-    told: &'static str,
-    status: u8,
-}
-
-"""
-
-DRIVER = """\
-
-// What is printed and told of a row, and the status.
-fn answer(alloc: Global, row: &Row) -> Result<(String, String, u8), OutOfMemory> {
-    let (mut printed, mut told, mut status) = (String::new(alloc), String::new(alloc), 0);
-    let mut words = Vec::new(alloc);
-    for word in row.words {
-        words.push(String::from_str(alloc, word)?)?;
-    }
-    let Some((is_lossy, names)) = parse(&words) else {
-        told.push_str(USAGE)?;
-        return Ok((printed, told, 2));
-    };
-    for (name, file) in names.iter().zip(row.files) {
-        let bytes = match file {
-            Some(bytes) => Ok(Vec::from_slice(alloc, bytes)?),
-            None => Err("it can't be read"),
-        };
-        let tables = read_file(alloc, name, bytes, is_lossy)?;
-        printed.push_str(&tables.text)?;
-        told.push_str(&tables.told)?;
-        status = tables.status().max(status);
-    }
-    Ok((printed, told, status))
-}
-
-// Whether a row is answered as it says.
-fn is_right(alloc: Global, row: &Row) -> bool {
-    match answer(alloc, row) {
-        Ok((printed, told, status)) => {
-            printed.as_str() == row.printed && told.as_str() == row.told && status == row.status
-        }
-        Err(OutOfMemory) => false,
-    }
-}
-
-#[test]
-fn rows(rt: HostRuntime) {
-    for (number, row) in ROWS.iter().enumerate() {
-        assert!(rt; is_right(rt.alloc(), row), "row {number}");
-    }
-}
-"""
-
-
-def byte_literal(data):
-    shown = {0: "\\0", 10: "\\n", 34: '\\"', 92: "\\\\"}
-    return 'b"' + "".join(shown.get(b) or (chr(b) if 32 <= b < 127 else f"\\x{b:02x}") for b in data) + '"'
-
-
-def text_literal(text):
-    shown = {"\n": "\\n", '"': '\\"', "\\": "\\\\"}
-    return '"' + "".join(shown.get(c) or (c if c.isprintable() else f"\\u{{{ord(c):x}}}") for c in text) + '"'
-
-
-def item_of(data, indent, room):
-    """A file in the layout of `rt fmt`, on one line where it has room."""
-    if isinstance(data, str):
-        return "None"
-    literal = byte_literal(data)
-    if len(literal) <= room:
-        return f"Some({literal})"
-    return f"Some(\n{indent}    {literal},\n{indent})"
-
-
-def files_of(files):
-    indent = " " * 8
-    if len(files) < 2:
-        items = "".join(item_of(data, indent, 75) for data in files)
-        return f"&[{items}]"
-    items = "".join(f"{indent}    {item_of(data, indent + '    ', 80)},\n" for data in files)
-    return f"&[\n{items}{indent}]"
-
-
-def row_of(words, files):
-    printed, told, status = answer(words, files)
-    words = ", ".join(text_literal(word) for word in words)
-    fields = [
-        f"words: &[{words}]",
-        f"files: {files_of(files)}",
-        f"printed: {text_literal(printed)}",
-        f"told: {text_literal(told)}",
-        f"status: {status}",
-    ]
-    return "    Row {\n" + "".join(f"        {field},\n" for field in fields) + "    },\n"
-
-
-def rows():
-    made = "".join(row_of(words, files) for words, files in INPUTS)
-    return f"{HEAD}static ROWS: [Row; {len(INPUTS)}] = [\n{made}];\n{DRIVER}"
+def cases():
+    for words, file in INPUTS:
+        # A copy of the file has this name.
+        names = ["case" if word == "{}" else word for word in words]
+        printed, told, status = answer(names, [file if word == "{}" else UNREADABLE for word in words if not word.startswith("--")])
+        yield "", words, file, printed.encode(), told.encode(), status

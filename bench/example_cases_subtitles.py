@@ -147,8 +147,8 @@ def little(text):
 
 
 ONE = "1\r\n00:00:01,000 --> 00:00:02,500\r\nA😀\r\n\r\n2\r\n00:00:03,000 --> 00:00:04,000\r\nb"
-# What a row shows, its words behind the file, and its file as a text or as bytes.
-ROWS = [
+# What a case shows, its words behind the file, and its file as a text or as bytes.
+CASES = [
     ("later", ["+1500"], ONE),
     ("earlier, and no sign is later", ["-1000"], ONE),
     ("no sign is later, and line feeds alone stay", ["61500"], ONE.replace("\r\n", "\n") + "\n"),
@@ -243,97 +243,8 @@ def question(random, folder):
     return words, *read(words, data)
 
 
-def text_literal(text):
-    plain = {'"': '\\"', "\\": "\\\\", "\n": "\\n", "\r": "\\r", "\t": "\\t"}
-    return '"' + "".join(plain.get(c) or (c if " " <= c <= "~" else f"\\u{{{ord(c):x}}}") for c in text) + '"'
-
-
-def bytes_literal(data):
-    plain = {34: '\\"', 92: "\\\\", 10: "\\n", 13: "\\r", 9: "\\t"}
-    return 'b"' + "".join(plain.get(b) or (chr(b) if 32 <= b <= 126 else f"\\x{b:02x}") for b in data) + '"'
-
-
-def call(indent, head, inner, end):
-    """A call with one argument, as `rt fmt` lays it out."""
-    line = f"{indent}{head}({inner}){end}"
-    return line if len(line) <= 100 else f"{indent}{head}(\n{indent}    {inner},\n{indent}){end}"
-
-
-def file_of(file):
-    indent, end = "        ", ","
-    if isinstance(file, bytes):
-        return call(indent, "file: File::Bytes", bytes_literal(file), end)
-    try:
-        file.encode()
-    except UnicodeEncodeError:
-        return call(indent, "file: File::Bytes", bytes_literal(little(file)), end)
-    return call(indent, "file: File::Text", text_literal(file), end)
-
-
-def row(name, behind, file):
-    words = ["dive.srt", *behind]
-    output, told, status = read(words, file if isinstance(file, bytes) else little(file))
-    text = "        output: None,"
-    if output:
-        text = call("        ", "output: Some", text_literal(output[2:].decode("utf-16-le")), ",")
-    listed = ", ".join(text_literal(word) for word in words)
-    return (
-        f"    // {name.capitalize()}.\n    Row {{\n        words: &[{listed}],\n{file_of(file)}\n{text}\n"
-        f"        told: {text_literal(told.decode())},\n        status: {status},\n    }},\n"
-    )
-
-
-def rows():
-    return HEAD + f"static ROWS: [Row; {len(ROWS)}] = [\n" + "".join(row(*each) for each in ROWS) + "];\n"
-
-
-HEAD = """//! What is written for words and files, as `bench/example_rows subtitles` works it out from the format alone.
-
-use crate::{request_of, run};
-use std::alloc::Global;
-use widestring::Utf16String;
-use widestring::error::OutOfMemory;
-
-// A file: a text, in UTF-16, little endian behind a mark, or any bytes.
-enum File {
-    Text(&'static str),
-    Bytes(&'static [u8]),
-}
-
-// Words and a file; the text that is written to standard output as such a file, or none, what is written to standard error, and the status.
-struct Row {
-    words: &'static [&'static str],
-    file: File,
-    output: Option<&'static str>,
-    told: &'static str,
-    status: u8,
-}
-
-fn bytes_of(alloc: Global, text: &str) -> Result<Vec<u8>, OutOfMemory> {
-    let text = Utf16String::from_str(alloc, text)?;
-    text.as_utfstr().as_ustr().to_le_bytes_with_mark(alloc)
-}
-
-fn is_as_wanted(alloc: Global, row: &Row) -> Result<bool, OutOfMemory> {
-    let request = request_of(row.words);
-    let ended = match &row.file {
-        File::Text(text) => run(alloc, request, &bytes_of(alloc, text)?)?,
-        File::Bytes(bytes) => run(alloc, request, bytes)?,
-    };
-    let output = match row.output {
-        Some(text) => bytes_of(alloc, text)?,
-        None => Vec::new(alloc),
-    };
-    let is_written = ended.output.as_slice() == output.as_slice();
-    Ok(is_written && ended.told.as_str() == row.told && ended.status == row.status)
-}
-
-#[test]
-fn rows(rt: HostRuntime) {
-    for (number, row) in ROWS.iter().enumerate() {
-        let is_right = is_as_wanted(rt.alloc(), row).unwrap_or(false);
-        assert!(rt; is_right, "row {number}");
-    }
-}
-
-"""
+def cases():
+    for name, behind, file in CASES:
+        data = file if isinstance(file, bytes) else little(file)
+        words = ["{}", *behind]
+        yield name, words, data, *read(words, data)

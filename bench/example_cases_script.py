@@ -171,7 +171,7 @@ def read(data):
     return output.encode(), told.encode(), 1 if told else 0
 
 
-# Files, each of which shows what is in its name; the names stand before the rows.
+# Files, each of which shows what is in its name; each is what a case shows.
 FILES = [
     ("no calls", b""),
     ("an edit of a string that is not well formed leaves it", b"string \\uD800\nremove 99\nisWellFormed\ntoWellFormed\n"),
@@ -238,59 +238,7 @@ def question(random, folder):
     return ["calls"], *read(data)
 
 
-def text_literal(text):
-    plain = {'"': '\\"', "\\": "\\\\", "\n": "\\n", "\r": "\\r", "\t": "\\t"}
-    return '"' + "".join(plain.get(c) or (c if " " <= c <= "~" else f"\\u{{{ord(c):x}}}") for c in text) + '"'
-
-
-def bytes_literal(data):
-    plain = {34: '\\"', 92: "\\\\", 10: "\\n", 13: "\\r", 9: "\\t"}
-    return 'b"' + "".join(plain.get(b) or (chr(b) if 32 <= b <= 126 else f"\\x{b:02x}") for b in data) + '"'
-
-
-def row(name, data, wanted):
-    output, told, status = wanted
-    file = "None" if data is None else f"Some({bytes_literal(data)})"
-    # As `rt fmt` lays it out.
-    if len(file) > 100 - len("        file: ,"):
-        file = f"Some(\n            {bytes_literal(data)},\n        )"
-    return (
-        f"    // {name.capitalize()}.\n    Row {{\n        file: {file},\n        output: {text_literal(output.decode())},\n"
-        f"        told: {text_literal(told.decode())},\n        status: {status},\n    }},\n"
-    )
-
-
-def rows():
-    all_rows = [row("wrong words", None, (b"", USAGE, 2))] + [row(name, data, read(data)) for name, data in FILES]
-    return HEAD + f"static ROWS: [Row; {len(all_rows)}] = [\n" + "".join(all_rows) + "];\n"
-
-
-HEAD = """//! What is answered to files, as `bench/example_rows script` works it out from the calls alone.
-
-use crate::run;
-use std::alloc::Global;
-use widestring::error::OutOfMemory;
-
-// A file, or none where the words are wrong; what is written to standard output, what to standard error, and the status.
-struct Row {
-    file: Option<&'static [u8]>,
-    output: &'static str,
-    told: &'static str,
-    status: u8,
-}
-
-fn is_as_wanted(alloc: Global, row: &Row) -> Result<bool, OutOfMemory> {
-    let ended = run(alloc, row.file)?;
-    let is_told = ended.told.as_str() == row.told;
-    Ok(ended.output.as_str() == row.output && is_told && ended.status == row.status)
-}
-
-#[test]
-fn rows(rt: HostRuntime) {
-    for (number, row) in ROWS.iter().enumerate() {
-        let is_right = is_as_wanted(rt.alloc(), row).unwrap_or(false);
-        assert!(rt; is_right, "row {number}");
-    }
-}
-
-"""
+def cases():
+    yield "wrong words", [], b"", b"", USAGE, 2
+    for name, data in FILES:
+        yield name, ["{}"], data, *read(data)
