@@ -12,10 +12,11 @@ use Rattle.std.proofs.Math.Nat.{div-div-eq-div-mul, mod-le}
 use Rattle.wide_unit.specs.EncodingForm.{EncodingForm, code_units}
 use Rattle.wide_unit.specs.Laws.Forms.{scalar_from}
 use Rattle.wide_blocks.specs.Decoded.{code_of_three, code_of_two}
-use Rattle.wide_blocks.specs.Mixed.{begins, code_of, codes_at, kept_lanes, lead_bits, trailing_len}
+use Rattle.wide_from_utf16.specs.Kept.{kept_lanes}
+use Rattle.wide_blocks.specs.Mixed.{begins, code_of, codes_at, lead_bits, trailing_len}
 use Rattle.wide_blocks.proofs.FirstCharacters.{Trails, in_one, in_two, in_three, parts, wide}
 use Rattle.wide_blocks.proofs.FrontUnits.{IsFrontUnits, behind-is, front_units-char, front_units-none, front_units-then}
-use Rattle.wide_blocks.proofs.Shuffles.{bit-small}
+use Rattle.wide_from_utf16.proofs.Shuffles.{bit-small}
 use Rattle.wide_blocks.proofs.StoredUnits.{one_unit-plain}
 
 -- ---- which bytes begin a character

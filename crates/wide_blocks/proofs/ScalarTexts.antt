@@ -13,12 +13,12 @@ use Rattle.wide_unit.specs.Laws.Forms.{ranges}
 use Rattle.wide_unit.specs.Laws.Places.{IsWellFormed-take, chars-encode, scalars-chars}
 use Rattle.wide_unit.specs.Laws.Utf32.{chars32-well_formed}
 use Rattle.wide_unit.specs.Laws.Utf8.{four_bytes}
-use Rattle.wide_blocks.specs.Encoded.{EncodedUnits, IsWordOf}
+use Rattle.wide_from_utf16.specs.Encoded.{EncodedUnits, IsWordOf}
 use Rattle.wide_blocks.specs.Scalars.{IsScalarLen, IsScalarWord}
-use Rattle.wide_blocks.proofs.EncodedFronts.{IsFrontText, front_text-boundary}
-use Rattle.wide_blocks.proofs.Lanes.{encoded-ascii}
+use Rattle.wide_from_utf16.proofs.EncodedFronts.{IsFrontText, front_text-boundary}
+use Rattle.wide_from_utf16.proofs.Lanes.{encoded-ascii}
 use Rattle.wide_blocks.proofs.StoredUnits.{one_unit-plain}
-use Rattle.wide_blocks.proofs.Stores.{list4, word-stored}
+use Rattle.wide_from_utf16.proofs.Stores.{list4, word-stored}
 
 -- ---- one by one
 

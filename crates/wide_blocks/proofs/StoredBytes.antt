@@ -4,7 +4,7 @@ use Rattle.std.proofs.Math.Seq.{take-suc}
 use Rattle.std.proofs.lemmas.List.{append-nil, drop-set-lt, drop-drop, take_all}
 use Rattle.std.proofs.lemmas.List.Concat.{flat_map-append}
 use Rattle.std.specs.List.{flat_map}
-use Rattle.wide_blocks.proofs.Stores.{stored_two, stored_four}
+use Rattle.wide_from_utf16.proofs.Stores.{stored_two, stored_four}
 
 -- the bytes of the first units are stored, and what is behind them is as it was
 pub record AreStored (f : ℕ → List ℕ) (width : ℕ) (us old new : List ℕ) (k : ℕ) : Type 0 where

@@ -5,8 +5,8 @@ use Rattle.wide_unit.specs.EncodingForm.{EncodingForm, Utf16, Utf32, code_units}
 use Rattle.wide_unit.specs.Unit.{numbers_of}
 use Rattle.wide_unit.specs.Laws.Forms.{one_unit}
 use Rattle.wide_blocks.specs.Decoded.{code_of_three, codes_of_three}
-use Rattle.wide_blocks.proofs.Stores.{kept-front}
-use Rattle.wide_blocks.proofs.UnitEncodings.{take-one}
+use Rattle.wide_from_utf16.proofs.Stores.{kept-front}
+use Rattle.wide_from_utf16.proofs.UnitEncodings.{take-one}
 
 -- a character below 0x1_0000 is its own unit
 pub one_unit-plain : (form : EncodingForm) (c : ℕ) → c < 0x1_0000 → code_units form c ≡ c ∷ []

@@ -1,13 +1,7 @@
-pub mod Encoded
-pub mod Halves
-pub mod Kept
 pub mod Mixed
-pub mod Narrow
 pub mod Scalars
-pub mod Wide
 pub mod Lengths
 pub mod Decoded
 pub mod Following
 pub mod Laws
-pub mod UnitBytes
 pub mod Parts

@@ -1,7 +1,7 @@
 -- The characters of one to three bytes that begin at each place of text, and lanes of which some are kept.
 use Rattle.std.specs.Prelude.{ℕ, zero, suc, ◌+◌, ◌*◌, ◌/◌, ◌%◌, nat_lt, Bool, true, if◌then◌else◌, List, [], ◌∷◌, slice_index}
 use Rattle.wide_blocks.specs.Decoded.{code_of_three, code_of_two}
-use Rattle.wide_blocks.specs.Narrow.{bit_of}
+use Rattle.wide_from_utf16.specs.Narrow.{bit_of}
 
 -- the scalar value that such a character has by its first byte and the two behind that
 abbrev pub code_of : ℕ → ℕ → ℕ → ℕ
@@ -26,8 +26,3 @@ lead_bits (suc n) (b ∷ bs) = bit_of (begins b) + 2 * lead_bits n bs
 -- how many continuation bytes the text begins with, of the first two
 abbrev pub trailing_len : List ℕ → ℕ
 trailing_len bs = if begins (slice_index bs 0) then 0 else if begins (slice_index bs 1) then 1 else 2
-
--- the lanes whose bits are set
-abbrev pub kept_lanes : ℕ → List ℕ → List ℕ
-kept_lanes bits [] = []
-kept_lanes bits (x ∷ xs) = if nat_lt 0 (bits % 2) then x ∷ kept_lanes (bits / 2) xs else kept_lanes (bits / 2) xs

@@ -6,8 +6,8 @@ ghost use Rattle.std.specs.Str.Lossy.{second_byte_max, second_byte_min};
 ghost use Rattle.wide_unit.specs.Segmentation.{Char, Fault};
 ghost use Rattle.wide_blocks.specs.Parts.{BeginsWith, IsLossyFront};
 
-use crate::lossy::is_marked;
 use crate::units::{char_of, low_len, put_bytes, put_char};
+use wide_from_utf16::is_marked;
 use wide_unit::{Policy, Unit};
 
 // Behind so many bytes without a fault they are read by blocks again.

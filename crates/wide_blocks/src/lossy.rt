@@ -1,12 +1,11 @@
 //! Lossy text of units, a front of it after another, as well-formed units.
 
-ghost use Rattle.std.specs.Prelude.{◌≡◌, ℕ, ◌++◌, ◌∷◌, [], ◌<◌, ◌≤◌, false, if◌then◌else◌, length, map, take, drop};
+ghost use Rattle.std.specs.Prelude.{◌≡◌, ℕ, ◌++◌, ◌<◌, ◌≤◌, false, length, map, take, drop};
 ghost use Rattle.wide_unit.specs.Items.{IsFirstFault, IsWellFormed, chars, items};
-ghost use Rattle.wide_unit.specs.Lossy.{lossy, lossy_after};
-ghost use Rattle.wide_unit.specs.Segmentation.{Fault};
+ghost use Rattle.wide_unit.specs.Lossy.{lossy};
 ghost use Rattle.wide_unit.specs.Laws.Items.{IsCut};
 
-use wide_unit::{Policy, Unit, check};
+use wide_unit::{Unit, check};
 
 // Fewer sound units than these are mended along with what follows them.
 const FEW: usize = 64;
@@ -59,18 +58,6 @@ pub fn lossy_front<'u: 'm, 'm, C: Unit>(units: &'u [C], spare: &'m mut [C]) -> (
     let (front, rest) = units.split_at(len);
     C::mend(front, spare);
     (&spare[..len], rest)
-}
-
-/// Whether lossy text has a U+FFFD for a fault, by its policy and by whether another fault stands right before.
-#[inline(always)]
-pub fn is_marked(policy: Policy, after_fault: bool) -> bool
-    ensures { (unit : ℕ) → lossy_after policy after_fault (Fault unit ∷ []) ≡ (if result then 0xFFFD ∷ [] else []) }
-{
-    match policy {
-        Policy::Each => true,
-        Policy::Run => !after_fault,
-        Policy::Skip => false,
-    }
 }
 
 /// Whether a fault is the last of what was read, behind so many units or bytes of characters: where there are none, as before.

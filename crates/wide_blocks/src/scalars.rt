@@ -4,8 +4,8 @@ ghost use Rattle.std.specs.Prelude.{◌≡◌, ◌++◌, ◌+◌, ◌<◌, ◌�
 ghost use Rattle.wide_unit.specs.EncodingForm.{Utf16};
 ghost use Rattle.wide_unit.specs.Items.{IsWellFormed, chars};
 
-use crate::blocks::has_surrogate;
 use std::simd::prelude::*;
+use wide_from_utf16::has_surrogate;
 use wide_unit::split_first;
 
 // Writes sixteen units, in 32 bits each.

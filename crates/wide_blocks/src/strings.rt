@@ -3,7 +3,7 @@
 ghost use Rattle.std.specs.Prelude.{◌≡◌, ℕ, List, ◌++◌, ◌+◌, ◌<◌, ◌≤◌, [], map, length, IsOk, IfOk, OnErr, OnOk, string_bytes, vec_capacity, vec_len};
 ghost use Rattle.wide_unit.specs.Items.{IsWellFormed, chars};
 ghost use Rattle.wide_unit.specs.Utf8.{utf8};
-ghost use Rattle.wide_blocks.specs.Encoded.{AppendsPrefix};
+ghost use Rattle.wide_from_utf16.specs.Encoded.{AppendsPrefix};
 
 use crate::lengths::utf8_len;
 use crate::text::encode_front;

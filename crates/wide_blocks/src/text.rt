@@ -1,6 +1,6 @@
 //! The text of fronts of well-formed units, of either width.
 
-ghost use Rattle.std.specs.Prelude.{◌≡◌, ◌++◌, ◌+◌, ◌*◌, ◌<◌, ◌≤◌, ℕ, IfNone, IfSome, drop, length, map, slice_index, take};
+ghost use Rattle.std.specs.Prelude.{◌≡◌, ◌++◌, ◌+◌, ◌*◌, ◌<◌, ◌≤◌, ℕ, drop, length, map, slice_index, take};
 ghost use Rattle.std.specs.Char.{IsScalar};
 ghost use Rattle.std.specs.List.{All};
 ghost use Rattle.wide_unit.specs.EncodingForm.{Utf16, Utf32};
@@ -8,10 +8,7 @@ ghost use Rattle.wide_unit.specs.Items.{IsWellFormed, chars};
 ghost use Rattle.wide_unit.specs.Utf8.{utf8, utf8_bytes};
 ghost use Rattle.wide_blocks.specs.Scalars.{IsScalarLen, IsScalarWord};
 
-use crate::blocks::{encode, put_ascii};
-use crate::narrow::put_narrow;
-use crate::steps::put_word;
-use crate::wide::put_wide;
+use wide_from_utf16::{encode, put_ascii, put_narrow, put_wide, put_word};
 use wide_unit::{AnyUnits, Unit};
 
 // As `encode_front`, of 16-bit units: as many as surely have room.
@@ -32,23 +29,6 @@ fn encode_front_16(units: &[u16], text: &mut [u8]) -> (usize, usize)
     };
     let step = encode(&units[..count], text, 0);
     (step.read, step.written)
-}
-
-/// Writes the text of 16-bit units in UTF-8 (Unicode Standard, D92) to the front of `text`, if they are well formed (D85), and answers how
-/// many bytes it has. The units are read once. Bytes behind the text may be overwritten, and any where the units are not well formed.
-pub fn encode_whole(units: &[u16], text: &mut [u8]) -> Option<usize>
-    requires room { 3 * length units.now + 4 ≤ length text.old }
-    ensures sound { IfSome result (λ len. IsWellFormed Utf16 units.now) }
-    ensures fault { IfNone result (IsWellFormed Utf16 units.now → ⊥) }
-    ensures written { IfSome result (λ len. len ≤ length text.new) }
-    ensures text { IfSome result (λ len. take len text.new ≡ utf8 (chars Utf16 units.now)) }
-{
-    let step = encode(units, text, 0);
-    if step.read == units.len() {
-        Some(step.written)
-    } else {
-        None
-    }
 }
 
 // The bits of sixteen units, joined: no unit is above them.

@@ -2,7 +2,7 @@
 
 ghost use Rattle.std.specs.Prelude.{◌≡◌, ◌*◌, ◌^◌, ◌<◌, ◌≤◌, length, map, take, drop};
 ghost use Rattle.wide_unit.specs.EncodingForm.{Utf16, Utf32};
-ghost use Rattle.wide_blocks.specs.UnitBytes.{unit_width, little_bytes, little_bytes_of, big_bytes, big_bytes_of, byte_order_mark};
+ghost use Rattle.wide_unit.specs.UnitBytes.{unit_width, little_bytes, little_bytes_of, big_bytes, big_bytes_of, byte_order_mark};
 
 use wide_unit::{AnyUnits, Unit};
 

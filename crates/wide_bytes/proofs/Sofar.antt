@@ -14,7 +14,7 @@ use Rattle.wide_unit.specs.Laws.Places.{chars-encode}
 use Rattle.wide_unit.specs.Laws.Ends.{items-append_left, items-front_low, items-front_high}
 use Rattle.wide_unit.proofs.Counts.{low-encode}
 use Rattle.wide_bytes.specs.Bytes.{unit_in, units_in, is_odd, without_last_zero}
-use Rattle.wide_blocks.specs.Encoded.{IsUnpaired}
+use Rattle.wide_from_utf16.specs.Encoded.{IsUnpaired}
 use Rattle.wide_bytes.specs.Encoded.{Encoded}
 use Rattle.wide_bytes.specs.Transcoded.{Transcoded, Ending, Clean, HalfUnit, Unpaired, ending_of}
 use Rattle.wide_bytes.specs.Run.{IsBeginningOf}

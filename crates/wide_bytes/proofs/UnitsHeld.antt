@@ -4,7 +4,7 @@ use Rattle.std.proofs.lemmas.Bool.{cases_lt}
 use Rattle.std.proofs.lemmas.List.{get_or_append_left, get_or-append_right, get_or-drop, get_or-take}
 use Rattle.wide_unit.specs.EncodingForm.{Utf16, IsLowSurrogate}
 use Rattle.wide_bytes.specs.Bytes.{unit_in, units_in}
-use Rattle.wide_blocks.specs.Encoded.{EncodedUnits, BeginsWithFault, AreCutShort, StopsBefore}
+use Rattle.wide_from_utf16.specs.Encoded.{EncodedUnits, BeginsWithFault, AreCutShort, StopsBefore}
 use Rattle.wide_bytes.specs.Encoded.{Encoded, IsCertainFault, IsCutShort, StopsAt}
 use Rattle.wide_bytes.specs.declared.order.BoM.{BoM}
 use Rattle.wide_bytes.specs.declared.order.BoM.TheVariants.{Big}

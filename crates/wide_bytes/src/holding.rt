@@ -7,7 +7,7 @@ ghost use Rattle.wide_bytes.specs.Encoded.{Encoded, HoldsAt, IsHeldOr};
 
 use crate::filled::unit_in;
 use crate::order::BoM;
-use wide_blocks::{Step, encode};
+use wide_from_utf16::{Step, encode};
 
 // The fault that what is left of a piece begins with: a high surrogate before a zero unit.
 fn fault_before_zero(order: BoM, rest: &[u8]) -> Option<u16>

@@ -9,6 +9,7 @@ pub mod Lossy
 pub mod Lines
 pub mod Texts
 pub mod Unit
+pub mod UnitBytes
 pub mod AnyUnits
 pub mod Range
 pub mod Nul

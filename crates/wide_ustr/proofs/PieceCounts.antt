@@ -3,7 +3,7 @@ use Rattle.std.proofs.Common.{◌≡◌, ℕ, ◌+◌, ◌*◌, ◌^◌, ◌<◌
 use Rattle.std.specs.Prelude.{map}
 use Rattle.std.proofs.lemmas.List.{length-map}
 use Rattle.wide_unit.specs.EncodingForm.{EncodingForm, Utf16, Utf32}
-use Rattle.wide_blocks.specs.UnitBytes.{unit_width}
+use Rattle.wide_unit.specs.UnitBytes.{unit_width}
 use Rattle.wide_search.specs.Cut.{pieces}
 use Rattle.wide_search.specs.Laws.Cuts.{pieces-at_most}
 

@@ -18,7 +18,7 @@ pub use Rattle.wide_search.specs.Parts
 pub use Rattle.wide_search.specs.Pieces as SearchPieces
 pub use Rattle.wide_search.specs.Cut as SearchCut
 pub use Rattle.wide_search.specs.Statements as SearchStatements
-pub use Rattle.wide_blocks.specs.UnitBytes
+pub use Rattle.wide_unit.specs.UnitBytes
 pub use Rattle.wide_error.specs.Nul as NulPlaces
 pub use Rattle.wide_error.specs.NulError
 pub use Rattle.wide_error.specs.UCStringError

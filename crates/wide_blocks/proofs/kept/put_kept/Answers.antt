@@ -1,8 +1,8 @@
 use Rattle.std.proofs.Common.{◌∙◌, ◌+◌, ◌++◌, ap, arith, map, subst, sym, take, w16}
 use Rattle.std.specs.Char.{IsScalar}
 use Rattle.std.proofs.lemmas.Simd.{below_from_Fits}
-use Rattle.wide_blocks.proofs.KeptLanes.{kept-count}
-use Rattle.wide_blocks.proofs.Tables.{ones-few}
+use Rattle.wide_from_utf16.proofs.KeptLanes.{kept-count}
+use Rattle.wide_from_utf16.proofs.Tables.{ones-few}
 use Rattle.wide_blocks.proofs.StoredUnits.{stored-front}
 use Rattle.wide_blocks.proofs.kept.put_kept.Goals as goal
 

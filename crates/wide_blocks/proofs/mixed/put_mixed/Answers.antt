@@ -1,6 +1,7 @@
 use Rattle.std.proofs.Common.{◌≡◌, ◌+◌, ◌-◌, ◌%◌, ◌/◌, ◌*◌, ◌^◌, ◌∙◌, ◌++◌, ℕ, ap, append_assoc, arith, get_or, length, length-append, map, subst, sym, take}
 use Rattle.std.specs.Char.{IsScalar}
-use Rattle.wide_blocks.specs.Mixed.{codes_at, kept_lanes, trailing_len}
+use Rattle.wide_from_utf16.specs.Kept.{kept_lanes}
+use Rattle.wide_blocks.specs.Mixed.{codes_at, trailing_len}
 use Rattle.wide_blocks.proofs.FrontUnits.{IsFrontUnits, behind-is, joined}
 use Rattle.wide_blocks.proofs.MixedFronts.{begun, codes-scalar, front_units-begun, kept-both, leads-low, length-begun}
 use Rattle.wide_blocks.proofs.mixed.put_mixed.Goals as goal

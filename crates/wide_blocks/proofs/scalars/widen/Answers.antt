@@ -1,8 +1,8 @@
 use Rattle.std.proofs.Common.{◌≡◌, ◌∙◌, ◌++◌, ap, get_or, length, set, take, arith, length-set, ℕ}
 use Rattle.std.proofs.lemmas.List.{take_all}
-use Rattle.wide_blocks.proofs.Shuffles.{same-more}
-use Rattle.wide_blocks.proofs.Tables.{same-lists}
-use Rattle.wide_blocks.proofs.Tables.{stored-block}
+use Rattle.wide_from_utf16.proofs.Shuffles.{same-more}
+use Rattle.wide_from_utf16.proofs.Tables.{same-lists}
+use Rattle.wide_from_utf16.proofs.Tables.{stored-block}
 use Rattle.wide_blocks.proofs.scalars.widen.Goals as goal
 
 pub loop-k-preserved : goal.loop-k-preserved

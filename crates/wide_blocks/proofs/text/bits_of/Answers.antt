@@ -1,4 +1,4 @@
-use Rattle.wide_blocks.proofs.Lanes.{more-bits}
+use Rattle.wide_from_utf16.proofs.Lanes.{more-bits}
 use Rattle.wide_blocks.proofs.text.bits_of.Goals as goal
 
 pub loop-k-preserved : goal.loop-k-preserved

@@ -1,4 +1,4 @@
-use Rattle.wide_blocks.proofs.EncodedFronts.{rest-numbers, text-numbers}
+use Rattle.wide_from_utf16.proofs.EncodedFronts.{rest-numbers, text-numbers}
 use Rattle.wide_blocks.proofs.text.encode_front.Goals as goal
 
 pub returns-in-U16-clause-text : goal.returns-in-U16-clause-text

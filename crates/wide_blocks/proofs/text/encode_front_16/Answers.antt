@@ -1,6 +1,6 @@
 use Rattle.std.proofs.Common.{◌≡◌, ◌<◌, ◌≤◌, ◌+◌, ◌*◌, length, take, arith, length-take}
 use Rattle.wide_unit.specs.EncodingForm.{Utf16}
-use Rattle.wide_blocks.proofs.EncodedFronts.{IsFrontText, front_text-units, some-encoded}
+use Rattle.wide_from_utf16.proofs.EncodedFronts.{IsFrontText, front_text-units, some-encoded}
 use Rattle.wide_blocks.proofs.text.encode_front_16.Goals.{then-units-fitting, else-units-fitting}
 use Rattle.wide_blocks.proofs.text.encode_front_16.Goals as goal
 

@@ -1,6 +1,6 @@
 use Rattle.std.proofs.Common.{arith, length-set, ℕ}
-use Rattle.wide_blocks.proofs.Shuffles.{same-more}
-use Rattle.wide_blocks.proofs.Tables.{same-lists}
+use Rattle.wide_from_utf16.proofs.Shuffles.{same-more}
+use Rattle.wide_from_utf16.proofs.Tables.{same-lists}
 use Rattle.wide_blocks.proofs.text.narrow.Goals as goal
 
 pub loop-k-preserved : goal.loop-k-preserved

@@ -1,5 +1,5 @@
 use Rattle.wide_unit.specs.EncodingForm.{Utf32}
-use Rattle.wide_blocks.specs.UnitBytes.{big_bytes}
+use Rattle.wide_unit.specs.UnitBytes.{big_bytes}
 use Rattle.wide_blocks.proofs.StoredBytes.{AreStored}
 use Rattle.wide_blocks.proofs.unit_bytes.put_big_32.Given as goal
 

@@ -1,5 +1,5 @@
 use Rattle.std.proofs.Common.{◌+◌, ◌-◌, ◌*◌, ◌≤◌, arith, length}
-use Rattle.wide_blocks.proofs.Tables.{stored-block}
+use Rattle.wide_from_utf16.proofs.Tables.{stored-block}
 use Rattle.wide_bytes.proofs.UnitsHeld.{eight-more}
 use Rattle.wide_bytes.proofs.filled.fill_big.Goals as goal
 

@@ -1,6 +1,6 @@
 use Rattle.std.proofs.Common.{[], ◌≡◌, ◌≤◌, ◌/◌, ◌-◌, ◌*◌, Some, None, length, take, drop, refl, sym, ap, subst, arith, length-take-le, length-take, length-drop}
 use Rattle.std.proofs.lemmas.List.{take_all}
-use Rattle.wide_blocks.specs.Encoded.{EncodedUnits, StopsBefore}
+use Rattle.wide_from_utf16.specs.Encoded.{EncodedUnits, StopsBefore}
 use Rattle.wide_bytes.specs.Encoded.{IsHeldOr}
 use Rattle.wide_bytes.proofs.Held.{held-fault, held-or_of}
 use Rattle.wide_bytes.proofs.Pairs.{length-units_in}

@@ -3,7 +3,7 @@ use Rattle.std.specs.Prelude.{map}
 use Rattle.std.proofs.lemmas.List.{nil_from_length}
 use Rattle.wide_search.specs.Pieces.{ArePieces}
 use Rattle.wide_search.specs.Laws.Cuts.{pieces-cut, pieces-empty}
-use Rattle.wide_blocks.specs.UnitBytes.{unit_width}
+use Rattle.wide_unit.specs.UnitBytes.{unit_width}
 use Rattle.wide_ustr.proofs.PieceCounts.{pieces-most, pieces-fit}
 use Rattle.wide_utfstr.specs.View.{units_seen}
 use Rattle.wide_utfstr.proofs.view.UtfStr.split.Goals as goal

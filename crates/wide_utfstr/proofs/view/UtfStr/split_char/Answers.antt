@@ -3,7 +3,7 @@ use Rattle.wide_unit.specs.EncodingForm.{code_units}
 use Rattle.wide_unit.specs.Laws.Forms.{some_units}
 use Rattle.wide_search.specs.Cut.{pieces-are}
 use Rattle.wide_search.specs.Pieces.{ArePieces}
-use Rattle.wide_blocks.specs.UnitBytes.{unit_width}
+use Rattle.wide_unit.specs.UnitBytes.{unit_width}
 use Rattle.wide_ustr.proofs.PieceCounts.{pieces-most, pieces-fit}
 use Rattle.wide_utfstr.specs.View.{units_seen}
 use Rattle.wide_utfstr.proofs.view.UtfStr.split_char.Goals as goal

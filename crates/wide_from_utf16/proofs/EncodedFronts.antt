@@ -1,0 +1,103 @@
+-- Well-formed units cut behind a front of them: the text of the front, and that of the rest.
+use Rattle.std.proofs.Common.{◌≡◌, ℕ, ◌<◌, ◌≤◌, inl, inr, Option, None, Some, List, [], ◌∷◌, ◌++◌, length, take, drop, refl, sym, ap, ◌∙◌, subst, arith, length-drop, length-take, take-append-drop}
+use Rattle.std.specs.Prelude.{map}
+use Rattle.std.specs.Char.{IsScalar}
+use Rattle.std.specs.List.{All}
+use Rattle.std.proofs.lemmas.Bool.{cases_lt}
+use Rattle.std.proofs.lemmas.List.{drop-map, length-take-le, take-take, take_all}
+use Rattle.std.proofs.lemmas.List.Concat.{flat_map-append}
+use Rattle.wide_unit.specs.EncodingForm.{EncodingForm, Utf16, encode}
+use Rattle.wide_unit.specs.Items.{items, IsBoundary, IsWellFormed, chars}
+use Rattle.wide_unit.specs.Places.{chars_before}
+use Rattle.wide_unit.specs.Utf8.{utf8, utf8_bytes}
+use Rattle.wide_unit.specs.Laws.Boundaries.{IsBoundary-of_cut}
+use Rattle.wide_unit.specs.Laws.Ends.{IsCut-after, items-front_high, items-front_low}
+use Rattle.wide_unit.specs.Laws.Places.{IsPlaceOf-boundary, IsWellFormed-drop, IsWellFormed-encode, chars-encode}
+use Rattle.wide_unit.specs.Laws.WellFormed.{no_first_fault}
+use Rattle.wide_from_utf16.specs.Encoded.{AreCutShort, BeginsWithFault, EncodedUnits, StopsBefore}
+use Rattle.wide_from_utf16.proofs.Lanes.{cut-length, fault-append}
+
+-- the text of the units is that of a front of them and of the rest
+pub record IsFrontText (form : EncodingForm) (us : List ℕ) (place : ℕ) (bytes : List ℕ) : Type 0 where
+  pub text : utf8 (chars form us) ≡ bytes ++ utf8 (chars form (drop place us))
+  pub rest : IsWellFormed form (drop place us)
+
+module _ (form : EncodingForm) (us : List ℕ) (well : IsWellFormed form us) where
+  -- at each boundary
+  pub front_text-boundary : (place : ℕ) → IsBoundary form us place → IsFrontText form us place (utf8 (chars form (take place us)))
+  front_text-boundary place at =
+      let cs = chars form us in
+      let i = chars_before form us place in
+      let p = IsPlaceOf-boundary form us well place at in
+      record {
+        text = ap utf8 (sym (take-append-drop i cs)) ∙ flat_map-append utf8_bytes (take i cs) (drop i cs) ∙ ap (λ ds. utf8 ds ++ utf8 (drop i cs)) (sym p.front) ∙ ap (λ ds. utf8 (chars form (take place us)) ++ utf8 ds) (sym p.rest);
+        rest = IsWellFormed-drop form us well place at;
+      }
+
+  -- behind the units of characters
+  pub front_text-encode : (n : ℕ) (cs bytes : List ℕ) → n ≤ length us → All IsScalar cs → take n us ≡ encode form cs → bytes ≡ utf8 cs → IsFrontText form us n bytes
+  front_text-encode n cs bytes within scalars front text =
+      let front_well : IsWellFormed form (take n us) = subst (λ vs. IsWellFormed form vs) (sym front) (IsWellFormed-encode form cs scalars) in
+      let cut = IsBoundary-of_cut form (take n us) (drop n us) (IsCut-after form (take n us) (drop n us) front_well) in
+      let at : IsBoundary form us n = subst (λ vs. IsBoundary form vs n) (take-append-drop n us) (subst (λ m. IsBoundary form (take n us ++ drop n us) m) (length-take-le n us within) cut) in
+      let same : utf8 (chars form (take n us)) ≡ bytes = ap (λ vs. utf8 (chars form vs)) front ∙ ap utf8 (chars-encode form cs scalars) ∙ sym text in
+      subst (λ bs. IsFrontText form us n bs) same (front_text-boundary n at)
+
+-- the same of units of any type, whose numbers these are
+front_text-numbers : {X : Type 0} {kind form : EncodingForm} (number : X → ℕ) (xs : List X) {us bytes : List ℕ} (n : ℕ) → kind ≡ form → us ≡ map number xs → utf8 (chars kind us) ≡ bytes ++ utf8 (chars kind (drop n us)) → IsWellFormed kind (drop n us)
+    → IsFrontText form (map number xs) n bytes
+front_text-numbers {kind} number xs {bytes} n same_form same text rest =
+    subst (λ form. IsFrontText form (map number xs) n bytes) same_form (subst (λ vs. IsFrontText kind vs n bytes) same (record { text = text; rest = rest }))
+
+module _ {X : Type 0} {kind form : EncodingForm} (number : X → ℕ) (xs : List X) {us : List ℕ} (bytes : List ℕ) (n : ℕ) (same_form : kind ≡ form) (same : us ≡ map number xs) (text : utf8 (chars kind us) ≡ bytes ++ utf8 (chars kind (drop n us)))
+    (rest : IsWellFormed kind (drop n us)) where
+  pub text-numbers : utf8 (chars form (map number xs)) ≡ bytes ++ utf8 (chars form (map number (drop n xs)))
+  text-numbers = (front_text-numbers number xs n same_form same text rest).text ∙ ap (λ vs. bytes ++ utf8 (chars form vs)) (drop-map number n xs)
+
+  pub rest-numbers : IsWellFormed form (map number (drop n xs))
+  rest-numbers = subst (λ vs. IsWellFormed form vs) (drop-map number n xs) (front_text-numbers number xs n same_form same text rest).rest
+
+-- what was encoded of well-formed 16-bit units
+pub front_text-units : (us : List ℕ) (n count : ℕ) (bytes : List ℕ) → IsWellFormed Utf16 us → n ≤ count → count ≤ length us → EncodedUnits (take n (take count us)) [] bytes → IsFrontText Utf16 us n bytes
+front_text-units us n count bytes well short within e = front_text-encode Utf16 us well n e.cs bytes (omega arith) e.scalars (sym (take-take n count us short) ∙ e.units) e.text
+
+-- well-formed units begin with no fault
+no_fault-first : (us : List ℕ) (u : ℕ) → IsWellFormed Utf16 us → BeginsWithFault us u → ⊥
+no_fault-first us u well (tail, same, inl low) = no_first_fault Utf16 us tail well u (ap (λ vs. items Utf16 vs) same ∙ items-front_low Utf16 u tail low)
+no_fault-first us u well (tail, same, inr (high, l, back, is_tail, apart)) =
+    no_first_fault Utf16 us tail well u (ap (λ vs. items Utf16 vs) same ∙ items-front_high Utf16 u tail high (λ m rest e low. let f : l ≡ m = cc in apart (rw f low)))
+
+no_half-alone : (us : List ℕ) → IsWellFormed Utf16 us → 0 < length us → AreCutShort us → ⊥
+no_half-alone [] well some cut = omega arith
+no_half-alone (u ∷ []) well some cut = no_first_fault Utf16 (u ∷ []) [] well u (items-front_high Utf16 u [] cut (λ l back e low. cc))
+no_half-alone (u ∷ v ∷ us) well some cut = cut
+
+-- so something of them is encoded, where not all but one unit was cut off
+pub some-encoded : (us : List ℕ) (n count : ℕ) (fault : Option ℕ) → IsWellFormed Utf16 us → count ≤ length us → (count < 2 → count ≡ length us) → StopsBefore (drop n (take count us)) fault → 0 < length us → 0 < n
+some-encoded us n count fault well within all stop some = elim (cases_lt 0 n) [ inl more ↦ more | inr none ↦ absurd (nothing fault (subst (λ m. StopsBefore (drop m (take count us)) fault) {x = n} {y = 0} (omega arith) stop)) ]
+  where
+    nothing : (fault : Option ℕ) → StopsBefore (take count us) fault → ⊥
+    nothing (Some u) begins = no_fault-first us u well (subst (λ vs. BeginsWithFault vs u) (take-append-drop count us) (fault-append (drop count us) begins))
+    nothing None cut =
+        let whole : take count us ≡ us = take_all count us (omega (arith, all (omega (arith, cut-length (take count us) cut, length-take count us)))) in
+        no_half-alone us well some (subst (λ vs. AreCutShort vs) whole cut)
+
+-- units that are encoded to their end
+module _ (us : List ℕ) (n : ℕ) (bytes : List ℕ) (e : EncodedUnits (take n us) [] bytes) where
+  module _ (all : n ≡ length us) where
+    the_units : encode Utf16 e.cs ≡ us
+    the_units = sym e.units ∙ take_all n us (omega (arith, all))
+
+    pub whole-sound : IsWellFormed Utf16 us
+    whole-sound = subst (λ vs. IsWellFormed Utf16 vs) the_units (IsWellFormed-encode Utf16 e.cs e.scalars)
+
+    pub whole-text : bytes ≡ utf8 (chars Utf16 us)
+    whole-text = e.text ∙ ap utf8 (sym (chars-encode Utf16 e.cs e.scalars)) ∙ ap (λ vs. utf8 (chars Utf16 vs)) the_units
+
+  -- well-formed ones are, wherever it stopped
+  pub stop-end : (fault : Option ℕ) → IsWellFormed Utf16 us → n ≤ length us → StopsBefore (drop n us) fault → n ≡ length us
+  stop-end fault well within stop =
+      let rest = drop n us in
+      let rest_well = (front_text-encode Utf16 us well n e.cs bytes within e.scalars e.units e.text).rest in
+      let stop_all : StopsBefore (take (length rest) rest) fault = subst (λ vs. StopsBefore vs fault) (sym (take_all (length rest) rest (omega arith))) stop in
+      elim (cases_lt 0 (length rest)) [ inl more ↦ absurd (omega (arith, some-encoded rest 0 (length rest) fault rest_well (omega arith) (λ few. refl) stop_all more)) | inr none ↦ omega (arith, none, length-drop n us, within) ]

@@ -1,0 +1,180 @@
+-- The first bytes of units, computed in lanes.
+use Rattle.std.proofs.Common.{◌≡◌, ℕ, zero, suc, ◌+◌, ◌-◌, ◌*◌, ◌/◌, ◌%◌, ◌^◌, ◌<◌, ◌≤◌, Bool, cond, ltb, eqb, inl, inr, List, [], ◌∷◌, length, get_or, map, replicate, refl, sym, ◌∙◌, subst, arith}
+use Rattle.std.proofs.lemmas.Bool.{cases_lt, lt-ltb, le-ltb}
+use Rattle.std.proofs.lemmas.Bool.Decides.{eqb_tells}
+use Rattle.std.proofs.lemmas.Simd.{Each1-get_or}
+use lib.Lanes.{Each1, sel_l, top, zip2}
+use Rattle.wide_from_utf16.specs.Encoded.{IsFront, high_word, low_word}
+use Rattle.wide_from_utf16.specs.Halves.{IsHalfFront, half_key}
+use Rattle.wide_from_utf16.specs.Wide.{mark_of}
+
+abbrev below : ℕ → List ℕ → ℕ → List Bool
+below n us x = map (top 15) (zip2 (λ a b. cond (ltb a b) (2 ^ 16 - 1) 0) us (replicate n x))
+
+abbrev equal : ℕ → List ℕ → ℕ → List Bool
+equal n us x = map (top 15) (zip2 (λ a b. cond (eqb a b) (2 ^ 16 - 1) 0) us (replicate n x))
+
+abbrev sums : List ℕ → List ℕ → List ℕ
+sums = zip2 (λ a b. (a + b) % 2 ^ 16)
+
+abbrev times : ℕ → List ℕ → ℕ → List ℕ
+times n us x = zip2 (λ a b. (a * b) % 2 ^ 16) us (replicate n x)
+
+abbrev rests : ℕ → List ℕ → ℕ → List ℕ
+rests n us x = zip2 (λ a b. a % b) us (replicate n x)
+
+abbrev overs : ℕ → List ℕ → ℕ → List ℕ
+overs n us x = zip2 (λ a b. a / b) us (replicate n x)
+
+-- ---- characters
+
+abbrev pub narrow-fronts : ℕ → List ℕ → List ℕ
+narrow-fronts n us = sel_l (below n us 0x80) us (sums (sums (replicate n 0x80c0) (overs n us 0x40)) (times n (rests n us 0x40) 0x100))
+
+abbrev narrow-front : ℕ → ℕ
+narrow-front u = cond (top 15 (cond (ltb u 0x80) (2 ^ 16 - 1) 0)) u (((0x80c0 + u / 0x40) % 2 ^ 16 + u % 0x40 * 0x100 % 2 ^ 16) % 2 ^ 16)
+
+narrow-fronts-at : (n : ℕ) (us : List ℕ) (k : ℕ) → length us ≡ n → k < n → get_or (narrow-fronts n us) k 0 ≡ narrow-front (get_or us k 0)
+narrow-fronts-at zero us k long within = absurd (omega arith)
+narrow-fronts-at (suc n) [] k long within = absurd (omega arith)
+narrow-fronts-at (suc n) (u ∷ us) zero long within = refl
+narrow-fronts-at (suc n) (u ∷ us) (suc k) long within = narrow-fronts-at n us k (omega arith) (omega arith)
+
+narrow-front-is : (u : ℕ) → u < 0x800 → IsFront u (narrow-front u)
+narrow-front-is u below = elim (cases_lt u 0x80) [
+  | inl low ↦ rw (lt-ltb u 0x80 low) (record { one = λ h. refl; two = λ from h. absurd (omega arith); three = λ from. absurd (omega arith) })
+  | inr from ↦ rw (le-ltb u 0x80 from) (record { one = λ h. absurd (omega arith); two = λ f h. omega arith; three = λ f. absurd (omega arith) })
+]
+
+pub narrow-fronts-are : (us : List ℕ) → length us ≡ 8 → (k : ℕ) → k < 8 → get_or us k 0 < 0x800 → IsFront (get_or us k 0) (get_or (narrow-fronts 8 us) k 0)
+narrow-fronts-are us long k within low = subst (λ f. IsFront (get_or us k 0) f) (sym (narrow-fronts-at 8 us k long within)) (narrow-front-is (get_or us k 0) low)
+
+-- with what the narrow ones have
+abbrev pub fronts : ℕ → List ℕ → List ℕ → List ℕ
+fronts n us narrow = sel_l (below n us 0x800) narrow (sums (sums (replicate n 0x80e0) (overs n us 0x1000)) (times n (rests n (overs n us 0x40) 0x40) 0x100))
+
+abbrev front : ℕ → ℕ → ℕ
+front u narrow = cond (top 15 (cond (ltb u 0x800) (2 ^ 16 - 1) 0)) narrow (((0x80e0 + u / 0x1000) % 2 ^ 16 + u / 0x40 % 0x40 * 0x100 % 2 ^ 16) % 2 ^ 16)
+
+fronts-at : (n : ℕ) (us narrow : List ℕ) (k : ℕ) → length us ≡ n → length narrow ≡ n → k < n → get_or (fronts n us narrow) k 0 ≡ front (get_or us k 0) (get_or narrow k 0)
+fronts-at zero us narrow k long long_narrow within = absurd (omega arith)
+fronts-at (suc n) [] narrow k long long_narrow within = absurd (omega arith)
+fronts-at (suc n) (u ∷ us) [] k long long_narrow within = absurd (omega arith)
+fronts-at (suc n) (u ∷ us) (f ∷ narrow) zero long long_narrow within = refl
+fronts-at (suc n) (u ∷ us) (f ∷ narrow) (suc k) long long_narrow within = fronts-at n us narrow k (omega arith) (omega arith) (omega arith)
+
+front-is : (u narrow : ℕ) → u < 0x10000 → (u < 0x800 → IsFront u narrow) → IsFront u (front u narrow)
+front-is u narrow fits is = elim (cases_lt u 0x800) [
+  | inl low ↦ rw (lt-ltb u 0x800 low) (is low)
+  | inr from ↦ rw (le-ltb u 0x800 from) (record { one = λ h. absurd (omega arith); two = λ f h. absurd (omega arith); three = λ f. omega arith })
+]
+
+pub fronts-are : (us narrow : List ℕ) → length us ≡ 8 → length narrow ≡ 8 → Each1 (λ x. x < 65536) us → ((k : ℕ) → k < 8 → get_or us k 0 < 0x800 → IsFront (get_or us k 0) (get_or narrow k 0))
+    → (k : ℕ) → k < 8 → IsFront (get_or us k 0) (get_or (fronts 8 us narrow) k 0)
+fronts-are us narrow long long_narrow fits is k within =
+    subst (λ f. IsFront (get_or us k 0) f) (sym (fronts-at 8 us narrow k long long_narrow within)) (front-is (get_or us k 0) (get_or narrow k 0) (Each1-get_or (λ x. x < 65536) us k 0 (omega arith) fits) (is k within))
+
+abbrev pub backs : ℕ → List ℕ → List ℕ
+backs n us = sums (replicate n 0x80) (rests n us 0x40)
+
+backs-at : (n : ℕ) (us : List ℕ) (k : ℕ) → length us ≡ n → k < n → get_or (backs n us) k 0 ≡ (0x80 + get_or us k 0 % 0x40) % 2 ^ 16
+backs-at zero us k long within = absurd (omega arith)
+backs-at (suc n) [] k long within = absurd (omega arith)
+backs-at (suc n) (u ∷ us) zero long within = refl
+backs-at (suc n) (u ∷ us) (suc k) long within = backs-at n us k (omega arith) (omega arith)
+
+pub backs-are : (us : List ℕ) → length us ≡ 8 → (k : ℕ) → k < 8 → get_or (backs 8 us) k 0 ≡ 0x80 + get_or us k 0 % 0x40
+backs-are us long k within = omega (arith, backs-at 8 us k long within)
+
+-- ---- halves of pairs
+
+abbrev pub half-fronts : ℕ → List ℕ → List ℕ → List ℕ → List ℕ
+half-fronts n bs us ws =
+    let highs = sums (rests n us 0x400) (replicate n 0x40) in
+    let second = times n (rests n (overs n highs 4) 0x40) 0x100 in
+    let high = sums (sums (replicate n 0x80f0) (overs n highs 0x100)) second in
+    let third = times n (rests n bs 4) 0x10 in
+    let middle = rests n (overs n us 0x40) 0x10 in
+    let last = times n (rests n us 0x40) 0x100 in
+    let low = sums (sums (sums (replicate n 0x8080) third) middle) last in
+    sel_l (equal n (overs n us 0x800) 27) (sel_l (equal n (overs n us 0x400) 55) low high) ws
+
+abbrev half-front : ℕ → ℕ → ℕ → ℕ
+half-front b u w =
+    let highs : ℕ = (u % 0x400 + 0x40) % 2 ^ 16 in
+    let second : ℕ = highs / 4 % 0x40 * 0x100 % 2 ^ 16 in
+    let high : ℕ = ((0x80f0 + highs / 0x100) % 2 ^ 16 + second) % 2 ^ 16 in
+    let third : ℕ = b % 4 * 0x10 % 2 ^ 16 in
+    let last : ℕ = u % 0x40 * 0x100 % 2 ^ 16 in
+    let low : ℕ = (((0x8080 + third) % 2 ^ 16 + u / 0x40 % 0x10) % 2 ^ 16 + last) % 2 ^ 16 in
+    cond (top 15 (cond (eqb (u / 0x800) 27) (2 ^ 16 - 1) 0)) (cond (top 15 (cond (eqb (u / 0x400) 55) (2 ^ 16 - 1) 0)) low high) w
+
+half-fronts-at : (n : ℕ) (bs us ws : List ℕ) (k : ℕ) → length bs ≡ n → length us ≡ n → length ws ≡ n → k < n → get_or (half-fronts n bs us ws) k 0 ≡ half-front (get_or bs k 0) (get_or us k 0) (get_or ws k 0)
+half-fronts-at zero bs us ws k b u w within = absurd (omega arith)
+half-fronts-at (suc n) [] us ws k b u w within = absurd (omega arith)
+half-fronts-at (suc n) (x ∷ bs) [] ws k b u w within = absurd (omega arith)
+half-fronts-at (suc n) (x ∷ bs) (y ∷ us) [] k b u w within = absurd (omega arith)
+half-fronts-at (suc n) (x ∷ bs) (y ∷ us) (z ∷ ws) zero b u w within = refl
+half-fronts-at (suc n) (x ∷ bs) (y ∷ us) (z ∷ ws) (suc k) b u w within = half-fronts-at n bs us ws k (omega arith) (omega arith) (omega arith) (omega arith)
+
+half-front-plain : (b u w : ℕ) → (0xd800 ≤ u → 0xe000 ≤ u) → half-front b u w ≡ w
+half-front-plain b u w plain = elim (eqb_tells (u / 0x800) 27) [
+  | inl told ↦ (let same = told.1 in absurd (omega (arith, same, plain (omega (arith, same)))))
+  | inr told ↦ (let apart = told.0 in rw apart refl)
+]
+
+half-front-high : (b u w : ℕ) → 0xd800 ≤ u → u < 0xdc00 → half-front b u w ≡ high_word u
+half-front-high b u w from to =
+    let half : u / 0x800 ≡ 27 = omega arith in
+    let not_low : u / 0x400 ≡ 54 = omega arith in
+    rw (half, not_low) (omega arith)
+
+half-front-low : (b u w : ℕ) → 0xdc00 ≤ u → u < 0xe000 → half-front b u w ≡ low_word b u
+half-front-low b u w from to =
+    let half : u / 0x800 ≡ 27 = omega arith in
+    let is_low : u / 0x400 ≡ 55 = omega arith in
+    rw (half, is_low) (omega arith)
+
+half-front-is : (b u w : ℕ) → IsFront u w → IsHalfFront b u (half-front b u w)
+half-front-is b u w f = record {
+  one = λ h. half-front-plain b u w (λ from. absurd (omega arith)) ∙ f.one h;
+  two = λ g h. half-front-plain b u w (λ from. absurd (omega arith)) ∙ f.two g h;
+  three = λ g plain. half-front-plain b u w plain ∙ f.three g;
+  high = λ g h. half-front-high b u w g h;
+  low = λ g h. half-front-low b u w g h;
+}
+
+pub half-fronts-are : (bs us ws : List ℕ) → length bs ≡ 8 → length us ≡ 8 → length ws ≡ 8 → ((k : ℕ) → k < 8 → IsFront (get_or us k 0) (get_or ws k 0)) → (k : ℕ) → k < 8 → IsHalfFront (get_or bs k 0) (get_or us k 0) (get_or (half-fronts 8 bs us ws) k 0)
+half-fronts-are bs us ws b u w all k within = subst (λ f. IsHalfFront (get_or bs k 0) (get_or us k 0) f) (sym (half-fronts-at 8 bs us ws k b u w within)) (half-front-is (get_or bs k 0) (get_or us k 0) (get_or ws k 0) (all k within))
+
+abbrev pub half-keys : ℕ → List ℕ → List ℕ
+half-keys n us = sel_l (equal n (overs n us 0x800) 27) (replicate n 0x80) us
+
+pub half-keys-at : (n : ℕ) (us : List ℕ) (k : ℕ) → length us ≡ n → k < n → get_or (half-keys n us) k 0 ≡ half_key (get_or us k 0)
+half-keys-at zero us k long within = absurd (omega arith)
+half-keys-at (suc n) [] k long within = absurd (omega arith)
+half-keys-at (suc n) (u ∷ us) zero long within = key u
+  where
+    key : (u : ℕ) → cond (top 15 (cond (eqb (u / 0x800) 27) (2 ^ 16 - 1) 0)) 0x80 u ≡ half_key u
+    key u = elim (eqb_tells (u / 0x800) 27) [ inl told ↦ rw told.0 refl | inr told ↦ rw told.0 refl ]
+half-keys-at (suc n) (u ∷ us) (suc k) long within = half-keys-at n us k (omega arith) (omega arith)
+
+-- ---- marks
+
+abbrev pub marks : ℕ → List ℕ → List ℕ
+marks n us = sel_l (below n us 0x80) (replicate n 0xffff) (sel_l (below n us 0x800) (replicate n 0xff00) (replicate n 0))
+
+pub marks-at : (n : ℕ) (us : List ℕ) (k : ℕ) → length us ≡ n → k < n → get_or (marks n us) k 0 ≡ mark_of (get_or us k 0)
+marks-at zero us k long within = absurd (omega arith)
+marks-at (suc n) [] k long within = absurd (omega arith)
+marks-at (suc n) (u ∷ us) zero long within = mark u
+  where
+    mark : (u : ℕ) → cond (top 15 (cond (ltb u 0x80) (2 ^ 16 - 1) 0)) 0xffff (cond (top 15 (cond (ltb u 0x800) (2 ^ 16 - 1) 0)) 0xff00 0) ≡ mark_of u
+    mark u = elim (cases_lt u 0x80) [
+      | inl low ↦ rw (lt-ltb u 0x80 low) refl
+      | inr from ↦ elim (cases_lt u 0x800) [
+        | inl low ↦ rw (le-ltb u 0x80 from, lt-ltb u 0x800 low) refl
+        | inr from_800 ↦ rw (le-ltb u 0x80 from, le-ltb u 0x800 from_800) refl
+      ]
+    ]
+marks-at (suc n) (u ∷ us) (suc k) long within = marks-at n us k (omega arith) (omega arith)

@@ -1,0 +1,12 @@
+pub mod EncodedFronts
+pub mod KeptLanes
+pub mod FrontLanes
+pub mod HalfTexts
+pub mod Lanes
+pub mod Rows
+pub mod Shuffles
+pub mod Staying
+pub mod Stores
+pub mod Tables
+pub mod UnitEncodings
+pub mod Tops

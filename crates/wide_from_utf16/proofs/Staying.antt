@@ -1,0 +1,245 @@
+-- Mended units of which some marks are left out, by lanes and by a policy.
+use Rattle.std.proofs.Common.{◌≡◌, ℕ, zero, suc, ◌+◌, ◌-◌, ◌*◌, ◌^◌, ◌%◌, ◌/◌, ◌<◌, ◌≤◌, Bool, true, false, cond, not, eqb, inl, inr, List, [], ◌∷◌, ◌++◌, append_assoc, length, get_or, map, replicate, take, drop, w16, refl, sym, ap, ◌∙◌, subst, arith, length-take, length-drop, get_or-take}
+use Rattle.std.specs.Prelude.{nat_eq}
+use Rattle.std.proofs.lemmas.Bool.Decides.{eqb_tells}
+use Rattle.std.proofs.lemmas.List.{append-nil, drop-drop, drop-take, get_or-drop}
+use Rattle.std.proofs.lemmas.Simd.{bitmask_splat}
+use borrow.Rule.Slice.PartMut.{put_mid}
+use lib.Lanes.{mask_l, put_chunk, top, zip2}
+use Rattle.wide_unit.specs.EncodingForm.{Utf16, IsFault, code_units, encode}
+use Rattle.wide_unit.specs.Segmentation.{Item, Char, Fault, units_of}
+use Rattle.wide_unit.specs.Items.{items}
+use Rattle.wide_unit.specs.Lossy.{lossy, lossy_after}
+use Rattle.wide_unit.specs.Laws.Chains.{Chain}
+use Rattle.wide_unit.specs.Laws.Forms.{some_units}
+use Rattle.wide_unit.specs.Laws.Policies.{lossy_after-append}
+use Rattle.wide_unit.specs.Laws.Items.{items-chain, units_of-items}
+use Rattle.wide_unit.specs.declared.policy.Policy.{Policy}
+use Rattle.wide_unit.specs.declared.policy.Policy.TheVariants.{Run, Skip}
+use Rattle.wide_from_utf16.specs.Kept.{stay_bits, stays}
+use Rattle.wide_from_utf16.specs.Kept.{kept_lanes}
+use Rattle.wide_from_utf16.specs.Narrow.{bit_of}
+use Rattle.wide_from_utf16.proofs.Stores.{kept-front}
+use Rattle.wide_from_utf16.proofs.Tables.{stored-block}
+
+-- the mended units that stay
+abbrev pub staying : Bool → ℕ → ℕ → List ℕ → List ℕ → List ℕ
+staying marks u m [] ms = []
+staying marks u m (v ∷ us) [] = []
+staying marks u m (v ∷ us) (w ∷ ms) = cond (stays marks u m v w) (w ∷ staying marks v w us ms) (staying marks v w us ms)
+
+-- ---- bits
+
+bit-set : (b : Bool) → not (eqb (bit_of b) 0) ≡ b
+bit-set true = refl
+bit-set false = refl
+
+bits-lanes : (n : ℕ) (marks : Bool) (lanes us ms : List ℕ) → length lanes ≡ n → length us ≡ suc n → length ms ≡ suc n
+    → ((k : ℕ) → k < n → get_or lanes k 0 ≡ bit_of (stays marks (get_or us k 0) (get_or ms k 0) (get_or us (k + 1) 0) (get_or ms (k + 1) 0)))
+    → mask_l (map (λ x. not (eqb x 0)) lanes) ≡ stay_bits n marks (get_or us 0 0) (get_or ms 0 0) (drop 1 us) (drop 1 ms)
+bits-lanes zero marks [] us ms long as_long as_many each = refl
+bits-lanes zero marks (x ∷ lanes) us ms long as_long as_many each = absurd (omega arith)
+bits-lanes (suc n) marks [] us ms long as_long as_many each = absurd (omega arith)
+bits-lanes (suc n) marks (x ∷ lanes) [] ms long as_long as_many each = absurd (omega arith)
+bits-lanes (suc n) marks (x ∷ lanes) (u ∷ []) ms long as_long as_many each = absurd (omega arith)
+bits-lanes (suc n) marks (x ∷ lanes) (u ∷ v ∷ us) [] long as_long as_many each = absurd (omega arith)
+bits-lanes (suc n) marks (x ∷ lanes) (u ∷ v ∷ us) (m ∷ []) long as_long as_many each = absurd (omega arith)
+bits-lanes (suc n) marks (x ∷ lanes) (u ∷ v ∷ us) (m ∷ w ∷ ms) long as_long as_many each =
+    let bit = stays marks u m v w in
+    let first : not (eqb x 0) ≡ bit = ap (λ y. not (eqb y 0)) (each 0 (omega arith)) ∙ bit-set bit in
+    let rest = bits-lanes n marks lanes (v ∷ us) (w ∷ ms) (omega arith) (omega arith) (omega arith) (λ k within. (let next : suc k + 1 ≡ suc (k + 1) = omega arith in subst (λ i. get_or lanes k 0 ≡ bit_of (stays marks (get_or (v ∷ us) k 0) (get_or (w ∷ ms) k 0) (get_or (u ∷ v ∷ us) i 0) (get_or (m ∷ w ∷ ms) i 0))) next (each (suc k) (omega arith)))) in
+    ap (λ b. cond {A = ℕ} b 1 0 + 2 * mask_l (map (λ y. not (eqb y 0)) lanes)) first ∙ ap (λ n. bit_of bit + 2 * n) rest
+
+pub bits-are : (marks : Bool) (lanes us ms : List ℕ) → length lanes ≡ 8 → length us ≡ 9 → length ms ≡ 9
+    → ((k : ℕ) → k < 8 → get_or lanes k 0 ≡ bit_of (stays marks (get_or us k 0) (get_or ms k 0) (get_or us (k + 1) 0) (get_or ms (k + 1) 0)))
+    → mask_l (map (top 15) (zip2 (λ a b. cond (not (eqb a b)) (2 ^ 16 - 1) 0) lanes (replicate 8 0))) % 2 ^ 64 ≡ stay_bits 8 marks (get_or us 0 0) (get_or ms 0 0) (drop 1 us) (drop 1 ms)
+bits-are marks lanes us ms long as_long as_many each =
+    bitmask_splat w16 (λ a b. not (eqb a b)) lanes 8 0 long (omega arith) ∙ bits-lanes 8 marks lanes us ms long as_long as_many each
+
+one-bit : (b : Bool) → bit_of b ≤ 1
+one-bit true = omega arith
+one-bit false = omega arith
+
+pub bits-few : (n : ℕ) (marks : Bool) (u m : ℕ) (us ms : List ℕ) → stay_bits n marks u m us ms < 2 ^ n
+bits-few zero marks u m us ms = omega arith
+bits-few (suc n) marks u m [] ms = (let some = bits-few n marks u m [] ms in omega (arith, some))
+bits-few (suc n) marks u m (v ∷ us) [] = (let some = bits-few n marks u m us [] in omega (arith, some))
+bits-few (suc n) marks u m (v ∷ us) (w ∷ ms) = omega (arith, bits-few n marks v w us ms, one-bit (stays marks u m v w))
+
+-- ---- the units of such bits
+
+first-kept : (b : Bool) (bits x : ℕ) (xs : List ℕ) → kept_lanes (bit_of b + 2 * bits) (x ∷ xs) ≡ cond b (x ∷ kept_lanes bits xs) (kept_lanes bits xs)
+first-kept true bits x xs =
+    let odd : (1 + 2 * bits) % 2 ≡ 1 = omega arith in
+    let half : (1 + 2 * bits) / 2 ≡ bits = omega arith in
+    rw (odd, half) refl
+first-kept false bits x xs =
+    let even : (0 + 2 * bits) % 2 ≡ 0 = omega arith in
+    let half : (0 + 2 * bits) / 2 ≡ bits = omega arith in
+    rw (even, half) refl
+
+staying-bits : (n : ℕ) (marks : Bool) (u m : ℕ) (us ms : List ℕ) → length us ≡ n → length ms ≡ n → kept_lanes (stay_bits n marks u m us ms) ms ≡ staying marks u m us ms
+staying-bits zero marks u m [] [] long as_long = refl
+staying-bits zero marks u m [] (w ∷ ms) long as_long = absurd (omega arith)
+staying-bits zero marks u m (v ∷ us) ms long as_long = absurd (omega arith)
+staying-bits (suc n) marks u m [] ms long as_long = absurd (omega arith)
+staying-bits (suc n) marks u m (v ∷ us) [] long as_long = absurd (omega arith)
+staying-bits (suc n) marks u m (v ∷ us) (w ∷ ms) long as_long =
+    let bit = stays marks u m v w in
+    first-kept bit (stay_bits n marks v w us ms) w ms ∙ ap (λ xs. cond bit (w ∷ xs) xs) (staying-bits n marks v w us ms (omega arith) (omega arith))
+
+-- ---- a part after another
+
+add-first : (b : Bool) (x : ℕ) (a c : List ℕ) → cond b (x ∷ (a ++ c)) (a ++ c) ≡ cond b (x ∷ a) a ++ c
+add-first true x a c = refl
+add-first false x a c = refl
+
+staying-parts : (n : ℕ) (marks : Bool) (us ms : List ℕ) → n < length us → n < length ms
+    → staying marks (get_or us 0 0) (get_or ms 0 0) (drop 1 us) (drop 1 ms) ≡ staying marks (get_or us 0 0) (get_or ms 0 0) (take n (drop 1 us)) (take n (drop 1 ms)) ++ staying marks (get_or us n 0) (get_or ms n 0) (drop (suc n) us) (drop (suc n) ms)
+staying-parts n marks [] ms within as_within = absurd (omega arith)
+staying-parts n marks (u ∷ us) [] within as_within = absurd (omega arith)
+staying-parts zero marks (u ∷ us) (m ∷ ms) within as_within = refl
+staying-parts (suc n) marks (u ∷ []) (m ∷ ms) within as_within = absurd (omega arith)
+staying-parts (suc n) marks (u ∷ v ∷ us) (m ∷ []) within as_within = absurd (omega arith)
+staying-parts (suc n) marks (u ∷ v ∷ us) (m ∷ w ∷ ms) within as_within =
+    let bit = stays marks u m v w in
+    let front = staying marks v w (take n us) (take n ms) in
+    let back = staying marks (get_or (v ∷ us) n 0) (get_or (w ∷ ms) n 0) (drop (suc n) (v ∷ us)) (drop (suc n) (w ∷ ms)) in
+    ap (λ xs. cond bit (w ∷ xs) xs) (staying-parts n marks (v ∷ us) (w ∷ ms) (omega arith) (omega arith)) ∙ add-first bit w front back
+
+-- ---- by items
+
+-- of what stands before only this counts: whether it is its own mended unit
+same-before : (marks : Bool) (u m v w : ℕ) (us ms : List ℕ) → nat_eq u m ≡ nat_eq v w → staying marks u m us ms ≡ staying marks v w us ms
+same-before marks u m v w [] ms e = refl
+same-before marks u m v w (x ∷ us) [] e = refl
+same-before marks u m v w (x ∷ us) (y ∷ ms) e =
+    let rest = staying marks x y us ms in
+    ap (λ same. cond (cond (nat_eq x y) true (cond marks same false)) (y ∷ rest) rest) e
+
+abbrev pub behind : Bool → Bool → List ℕ → List ℕ → List ℕ
+behind marks after us ms = staying marks 0 (bit_of after) us ms
+
+own : (x : ℕ) → nat_eq x x ≡ true
+own x = elim (eqb_tells x x) [
+  | inl same ↦ same.0
+  | inr other ↦ absurd (other.1 refl)
+]
+
+-- units that are their own mended ones stay
+sound-stays : (marks : Bool) (u m x : ℕ) (a us ms : List ℕ) → staying marks u m ((x ∷ a) ++ us) ((x ∷ a) ++ ms) ≡ (x ∷ a) ++ behind marks false us ms
+sound-stays marks u m x [] us ms =
+    let rest = staying marks x x us ms in
+    ap (λ same. cond (cond same true (cond marks (nat_eq u m) false)) (x ∷ rest) rest) (own x) ∙ ap (λ xs. x ∷ xs) (same-before marks x x 0 0 us ms (own x))
+sound-stays marks u m x (y ∷ a) us ms =
+    let rest = staying marks x x ((y ∷ a) ++ us) ((y ∷ a) ++ ms) in
+    ap (λ same. cond (cond same true (cond marks (nat_eq u m) false)) (x ∷ rest) rest) (own x) ∙ ap (λ xs. x ∷ xs) (sound-stays marks x x y a us ms)
+
+some-stay : (marks : Bool) (u m : ℕ) (a us ms : List ℕ) → 0 < length a → staying marks u m (a ++ us) (a ++ ms) ≡ a ++ behind marks false us ms
+some-stay marks u m [] us ms some = absurd (omega arith)
+some-stay marks u m (x ∷ a) us ms some = sound-stays marks u m x a us ms
+
+abbrev policy_for : Bool → Policy
+policy_for marks = cond marks Run Skip
+
+no-mark : (v : ℕ) → IsFault Utf16 v → nat_eq v 0xFFFD ≡ false
+no-mark v fault = elim (eqb_tells v 0xFFFD) [
+  | inl same ↦ absurd (fault 0xFFFD refl (ap (λ u. u ∷ []) (sym same.1)))
+  | inr other ↦ other.0
+]
+
+-- the mark of a fault stays by what stands before
+mark-stays : (marks after : Bool) (v : ℕ) (us ms : List ℕ) → nat_eq v 0xFFFD ≡ false → behind marks after (v ∷ us) (0xFFFD ∷ ms) ≡ cond (cond marks (not after) false) (0xFFFD ∷ behind marks true us ms) (behind marks true us ms)
+mark-stays marks after v us ms other =
+    let rest = staying marks v 0xFFFD us ms in
+    ap (λ same. cond (cond same true (cond marks (nat_eq 0 (bit_of after)) false)) (0xFFFD ∷ rest) rest) other
+    ∙ ap (λ same. cond (cond marks same false) (0xFFFD ∷ rest) rest) (zero-bit after)
+    ∙ ap (λ xs. cond (cond marks (not after) false) (0xFFFD ∷ xs) xs) (same-before marks v 0xFFFD 0 1 us ms other)
+  where
+    zero-bit : (b : Bool) → nat_eq 0 (bit_of b) ≡ not b
+    zero-bit true = refl
+    zero-bit false = refl
+
+text-behind_fault : (marks after : Bool) (v : ℕ) (is : List Item) → cond (cond marks (not after) false) (0xFFFD ∷ encode Utf16 (lossy_after (policy_for marks) true is)) (encode Utf16 (lossy_after (policy_for marks) true is)) ≡ encode Utf16 (lossy_after (policy_for marks) after (Fault v ∷ is))
+text-behind_fault true true v is = refl
+text-behind_fault true false v is = ap (encode Utf16) (sym (lossy_after-append Run false (Fault v ∷ []) is))
+text-behind_fault false after v is = refl
+
+text-behind_char : (marks after : Bool) (c : ℕ) (is : List Item) → code_units Utf16 c ++ encode Utf16 (lossy_after (policy_for marks) false is) ≡ encode Utf16 (lossy_after (policy_for marks) after (Char c ∷ is))
+text-behind_char true true c is = refl
+text-behind_char true false c is = refl
+text-behind_char false after c is = refl
+
+no-items : (marks after : Bool) → [] ≡ encode Utf16 (lossy_after (policy_for marks) after [])
+no-items true true = refl
+no-items true false = refl
+no-items false after = refl
+
+staying-items : (marks after : Bool) (is : List Item) → Chain Utf16 is → behind marks after (units_of Utf16 is) (encode Utf16 (lossy is)) ≡ encode Utf16 (lossy_after (policy_for marks) after is)
+staying-items marks after [] chain = no-items marks after
+staying-items marks after (Char c ∷ is) chain =
+    some-stay marks 0 (bit_of after) (code_units Utf16 c) (units_of Utf16 is) (encode Utf16 (lossy is)) (omega (arith, some_units Utf16 c)) ∙ ap (λ us. code_units Utf16 c ++ us) (staying-items marks false is chain.2) ∙ text-behind_char marks after c is
+staying-items marks after (Fault v ∷ is) chain =
+    mark-stays marks after v (units_of Utf16 is) (encode Utf16 (lossy is)) (no-mark v chain.0) ∙ ap (λ us. cond (cond marks (not after) false) (0xFFFD ∷ us) us) (staying-items marks true is chain.2) ∙ text-behind_fault marks after v is
+
+staying-text : (marks after : Bool) (us ms : List ℕ) → ms ≡ encode Utf16 (lossy (items Utf16 us)) → behind marks after us ms ≡ encode Utf16 (lossy_after (policy_for marks) after (items Utf16 us))
+staying-text marks after us ms mended =
+    ap (λ xs. behind marks after us xs) mended ∙ ap (λ xs. behind marks after xs (encode Utf16 (lossy (items Utf16 us)))) (sym (units_of-items Utf16 us)) ∙ staying-items marks after (items Utf16 us) (items-chain Utf16 us)
+
+-- ---- eight lanes of which the first are kept
+
+pub lanes-stored : (xs ys : List ℕ) (at len : ℕ) → length ys ≡ 8 → at + 8 ≤ length xs → len ≤ 8 → take (at + len) (put_mid at (at + 8 - at) xs (put_chunk 0 (take (at + 8 - at) (drop at xs)) ys)) ≡ take at xs ++ take len ys
+lanes-stored xs ys at len long room few =
+    kept-front xs (put_mid at (at + 8 - at) xs (put_chunk 0 (take (at + 8 - at) (drop at xs)) ys)) ys at 8 len (omega arith) few (stored-block 8 xs ys at long room)
+
+-- ---- one step more
+
+eight-parts : (marks : Bool) (v w : ℕ) (vs ws : List ℕ) → 8 ≤ length vs → length ws ≡ length vs
+    → staying marks v w vs ws ≡ staying marks v w (take 8 vs) (take 8 ws) ++ staying marks (get_or vs 7 0) (get_or ws 7 0) (drop 8 vs) (drop 8 ws)
+eight-parts marks v w vs ws long as_long = staying-parts 8 marks (v ∷ vs) (w ∷ ws) (omega arith) (omega arith)
+
+module _ (us : List ℕ) (done : ℕ) where
+  next-at : get_or (drop done us) 7 0 ≡ get_or us (done + 8 - 1) 0
+  next-at = (let last : done + 7 ≡ done + 8 - 1 = omega arith in get_or-drop done us 7 0 ∙ ap (λ i. get_or us i 0) last)
+
+  module _ (some : 0 < done) (within : done + 8 ≤ length us) where
+    part-first : get_or (take (done + 8 - (done - 1)) (drop (done - 1) us)) 0 0 ≡ get_or us (done - 1) 0
+    part-first = (let none : done - 1 + 0 ≡ done - 1 = omega arith in get_or-take (done + 8 - (done - 1)) (drop (done - 1) us) 0 0 (omega arith) ∙ get_or-drop (done - 1) us 0 0 ∙ ap (λ i. get_or us i 0) none)
+
+    part-rest : drop 1 (take (done + 8 - (done - 1)) (drop (done - 1) us)) ≡ take 8 (drop done us)
+    part-rest =
+        let nine : done + 8 - (done - 1) ≡ 1 + 8 = omega arith in
+        let all : done - 1 + 1 ≡ done = omega arith in
+        ap (λ n. drop 1 (take n (drop (done - 1) us))) nine ∙ drop-take 1 8 (drop (done - 1) us) ∙ ap (take 8) (drop-drop 1 (done - 1) us ∙ ap (λ n. drop n us) all)
+
+pub staying-eights : (marks : Bool) (p q done : ℕ) (us ms front more : List ℕ) → 0 < done → done + 8 ≤ length us → length ms ≡ length us
+    → staying marks p q us ms ≡ front ++ staying marks (get_or us (done - 1) 0) (get_or ms (done - 1) 0) (drop done us) (drop done ms)
+    → more ≡ front ++ kept_lanes (stay_bits 8 marks (get_or (take (done + 8 - (done - 1)) (drop (done - 1) us)) 0 0) (get_or (take (done + 8 - (done - 1)) (drop (done - 1) ms)) 0 0) (drop 1 (take (done + 8 - (done - 1)) (drop (done - 1) us))) (drop 1 (take (done + 8 - (done - 1)) (drop (done - 1) ms)))) (drop 1 (take (done + 8 - (done - 1)) (drop (done - 1) ms)))
+    → staying marks p q us ms ≡ more ++ staying marks (get_or us (done + 8 - 1) 0) (get_or ms (done + 8 - 1) 0) (drop (done + 8) us) (drop (done + 8) ms)
+staying-eights marks p q done us ms front more some within long so_far put =
+    let as_within : done + 8 ≤ length ms = omega arith in
+    let v : ℕ = get_or us (done - 1) 0 in
+    let w : ℕ = get_or ms (done - 1) 0 in
+    let here = staying marks v w (take 8 (drop done us)) (take 8 (drop done ms)) in
+    let rest = staying marks (get_or us (done + 8 - 1) 0) (get_or ms (done + 8 - 1) 0) (drop (done + 8) us) (drop (done + 8) ms) in
+    let lanes : more ≡ front ++ kept_lanes (stay_bits 8 marks v w (take 8 (drop done us)) (take 8 (drop done ms))) (take 8 (drop done ms)) = rw (part-first us done some within, part-first ms done some as_within, part-rest us done some within, part-rest ms done some as_within) at put in
+    let stay = staying-bits 8 marks v w (take 8 (drop done us)) (take 8 (drop done ms)) (omega (arith, length-take 8 (drop done us), length-drop done us)) (omega (arith, length-take 8 (drop done ms), length-drop done ms)) in
+    let written : more ≡ front ++ here = lanes ∙ ap (λ xs. front ++ xs) stay in
+    let parts = eight-parts marks v w (drop done us) (drop done ms) (omega (arith, length-drop done us)) (omega (arith, length-drop done us, length-drop done ms)) in
+    let both : staying marks v w (drop done us) (drop done ms) ≡ here ++ rest = rw (next-at us done, next-at ms done, drop-drop 8 done us, drop-drop 8 done ms) at parts in
+    so_far ∙ ap (λ xs. front ++ xs) both ∙ sym (append_assoc front here rest) ∙ ap (λ xs. xs ++ rest) (sym written)
+
+-- ---- all of them
+
+none-left : (xs : List ℕ) → length xs ≡ 0 → xs ≡ []
+none-left [] none = refl
+none-left (x ∷ xs) none = absurd (omega arith)
+
+pub stayed-all : (marks after : Bool) (us ms out : List ℕ) (u m done : ℕ) → ms ≡ encode Utf16 (lossy (items Utf16 us)) → length us ≤ done → behind marks after us ms ≡ out ++ staying marks u m (drop done us) (drop done ms)
+    → out ≡ encode Utf16 (lossy_after (cond marks Run Skip) after (items Utf16 us))
+stayed-all marks after us ms out u m done mended all so_far =
+    let gone = none-left (drop done us) (omega (arith, all, length-drop done us)) in
+    sym (so_far ∙ ap (λ xs. out ++ staying marks u m xs (drop done ms)) gone ∙ append-nil out) ∙ staying-text marks after us ms mended
+
+pub stayed-none : (marks after : Bool) (us ms : List ℕ) → ms ≡ encode Utf16 (lossy (items Utf16 us)) → length us ≡ 0 → [] ≡ encode Utf16 (lossy_after (cond marks Run Skip) after (items Utf16 us))
+stayed-none marks after us ms mended none = stayed-all marks after us ms [] 0 0 0 mended (omega arith) (ap (λ xs. behind marks after xs ms) (none-left us none) ∙ sym (ap (λ xs. staying marks 0 0 xs ms) (none-left us none)))

@@ -1,0 +1,19 @@
+use Rattle.std.proofs.Common.{arith, rules}
+use Rattle.wide_from_utf16.specs.declared.wide.TheConstants.{ROWS}
+use Rattle.wide_from_utf16.proofs.Tables.{row-places}
+use Rattle.wide_from_utf16.proofs.Rows.{row-len, rows-sound, words-stored}
+use Rattle.wide_from_utf16.proofs.wide.put_row.Goals as goal
+
+pub swizzle : goal.swizzle
+swizzle c = row-places ROWS rows-sound c.args.row c.requires.below
+
+pub overflow_add-result : goal.overflow_add-result
+overflow_add-result c =
+    let small = row-len c.args.row in
+    search rules
+
+pub returns-clause-text : goal.returns-clause-text
+returns-clause-text c = λ a b d e is. words-stored c.args.out.now c.args.words c.args.at c.args.row a b d e c.requires.below is c.requires.room
+
+pub returns-clause-high : goal.returns-clause-high
+returns-clause-high c = omega (arith, row-len c.args.row)

@@ -1,0 +1,30 @@
+-- The text of paired units, half of a pair by itself: the high surrogate has the first two bytes of the four, and the low one the others.
+use Rattle.std.specs.Prelude.{◌≡◌, ℕ, ◌<◌, ◌≤◌, ◌+◌, ◌*◌, ◌/◌, ◌%◌, nat_eq, nat_lt, if◌then◌else◌, List, [], ◌∷◌, ◌++◌}
+use Rattle.wide_unit.specs.Utf8.{utf8_bytes}
+use Rattle.wide_from_utf16.specs.Encoded.{high_word, low_word}
+
+-- the bytes of a unit, with the one before it
+abbrev pub half_bytes : ℕ → ℕ → List ℕ
+half_bytes before u =
+    if nat_lt u 0xD800 then utf8_bytes u
+    else if nat_lt u 0xDC00 then high_word u % 0x100 ∷ high_word u / 0x100 ∷ []
+    else if nat_lt u 0xE000 then low_word before u % 0x100 ∷ low_word before u / 0x100 ∷ []
+    else utf8_bytes u
+
+-- those of all units but the first
+abbrev pub halves : List ℕ → List ℕ
+halves [] = []
+halves (before ∷ []) = []
+halves (before ∷ u ∷ us) = half_bytes before u ++ halves (u ∷ us)
+
+-- the first two of them as a number, low byte first
+pub record IsHalfFront (before u front : ℕ) : Type 0 where
+  pub one : u < 0x80 → front ≡ u
+  pub two : 0x80 ≤ u → u < 0x800 → front ≡ 0x80c0 + u / 0x40 + u % 0x40 * 0x100
+  pub three : 0x800 ≤ u → (0xD800 ≤ u → 0xE000 ≤ u) → front ≡ 0x80e0 + u / 0x1000 + u / 0x40 % 0x40 * 0x100
+  pub high : 0xD800 ≤ u → u < 0xDC00 → front ≡ high_word u
+  pub low : 0xDC00 ≤ u → u < 0xE000 → front ≡ low_word before u
+
+-- a unit with as many bytes: at half of a pair one with two
+abbrev pub half_key : ℕ → ℕ
+half_key u = if nat_eq (u / 0x800) 27 then 0x80 else u

@@ -1,0 +1,5 @@
+pub mod Encoded
+pub mod Halves
+pub mod Kept
+pub mod Narrow
+pub mod Wide

@@ -1,0 +1,216 @@
+//! The text of units, sixteen in one step.
+
+ghost use Rattle.std.specs.Prelude.{◌≡◌, ◌+◌, ◌*◌, ◌/◌, ◌%◌, ◌-◌, ◌≤◌, ◌<◌, ◌++◌, ◌∷◌, [], false, ℕ, slice_index, IsTrue, length, take, drop, is_some, true, IfNone, IfSome};
+ghost use Rattle.wide_unit.specs.EncodingForm.{Utf16};
+ghost use Rattle.wide_unit.specs.Items.{IsWellFormed, chars};
+ghost use Rattle.wide_unit.specs.Utf8.{utf8};
+ghost use Rattle.wide_from_utf16.specs.Encoded.{ArePaired, EncodedUnits, StopsBefore, top_bits};
+
+use crate::halves::put_halves;
+use crate::narrow::put_narrow;
+use crate::steps::{Step, encode_plain, put_pair};
+use crate::wide::put_wide;
+use std::simd::prelude::*;
+
+// The bits of sixteen units, joined: no unit is above them.
+#[inline(always)]
+fn bits_of(block: &[u16]) -> u16
+    requires { length block.now ≡ 16 }
+    ensures { (k : ℕ) → k < 16 → slice_index block.now k ≤ result }
+{
+    let mut bits = 0;
+    for k in 0..16 {
+        bits |= block[k];
+    }
+    bits
+}
+
+/// Stores sixteen ASCII characters.
+#[inline(always)]
+pub fn put_ascii(block: &[u16], out: &mut [u8], at: usize)
+    requires whole { length block.now ≡ 16 }
+    requires room { at + 16 ≤ length out.old }
+    requires ascii { (k : ℕ) → k < 16 → slice_index block.now k < 0x80 }
+    ensures { take (at + 16) out.new ≡ take at out.old ++ block.now }
+{
+    // An own array can't overlap the block, so that this is compiled to vectors.
+    let mut bytes = [0u8; 16];
+    for k in 0..16 {
+        bytes[k] = block[k] as u8;
+    }
+    u8x16::from_slice(&bytes).copy_to_slice(&mut out[at..at + 16]);
+}
+
+/// Whether one of sixteen units is a surrogate.
+#[inline(always)]
+pub fn has_surrogate(block: &[u16]) -> bool
+    requires { length block.now ≡ 16 }
+    ensures { result ≡ false → (k : ℕ) → k < 16 → 0xd800 ≤ slice_index block.now k → 0xe000 ≤ slice_index block.now k }
+{
+    let mut found = false;
+    for k in 0..16 {
+        found |= block[k] / 0x800 == 27;
+    }
+    found
+}
+
+// One bit for each of the first sixteen units whose upper six bits are these, from the lowest on.
+#[inline(always)]
+fn bits_of_tops(units: &[u16], top: u16) -> u64
+    requires { 16 ≤ length units.now }
+    ensures { result ≡ top_bits top 16 units.now }
+{
+    (u16x16::from_slice(units) / u16x16::splat(0x400))
+        .simd_eq(u16x16::splat(top))
+        .to_bitmask()
+}
+
+// Whether sixteen units and one more are paired.
+#[inline(always)]
+fn is_paired(units: &[u16]) -> bool
+    requires { length units.now ≡ 17 }
+    ensures first { IsTrue result → 0xdc00 ≤ slice_index units.now 0 → 0xe000 ≤ slice_index units.now 0 }
+    ensures pairs { IsTrue result → (k : ℕ) → k < 16 → ArePaired (slice_index units.now k) (slice_index units.now (k + 1)) }
+{
+    let highs = bits_of_tops(units, 54);
+    let lows = bits_of_tops(&units[1..], 55);
+    units[0] / 0x400 != 55 && highs == lows
+}
+
+// Whether each other one of sixteen units is a high surrogate, from the first on.
+#[inline(always)]
+fn are_pairs(block: &[u16]) -> bool
+    requires { length block.now ≡ 16 }
+    ensures { IsTrue result → (k : ℕ) → k < 8 → slice_index block.now (2 * k) / 0x400 ≡ 54 }
+{
+    bits_of_tops(block, 54) == 0x5555
+}
+
+// Writes the text of eight pairs, and answers the place behind it.
+#[inline(always)]
+fn put_pairs(block: &[u16], out: &mut [u8], at: usize) -> usize
+    requires whole { length block.now ≡ 16 }
+    requires room { at + 32 ≤ length out.old }
+    requires high { (k : ℕ) → k < 8 → slice_index block.now (2 * k) / 0x400 ≡ 54 }
+    requires low { (k : ℕ) → k < 8 → slice_index block.now (2 * k + 1) / 0x400 ≡ 55 }
+    ensures text { EncodedUnits block.now (take at out.old) (take result out.new) }
+    ensures high { result ≡ at + 32 }
+{
+    for k in 0..8 {
+        put_pair(out, at + 4 * k, block[2 * k], block[2 * k + 1]);
+    }
+    at + 32
+}
+
+// Writes the text of some of sixteen units that are paired, from a place on, by the unit before them. Answers how many units it read and the
+// place behind the text; up to fourteen bytes behind it are overwritten.
+#[inline(always)]
+fn put_paired(units: &[u16], from: usize, out: &mut [u8], at: usize) -> (usize, usize)
+    requires whole { from + 17 ≤ length units.now }
+    requires room { at + 52 ≤ length out.old }
+    requires first { 0xdc00 ≤ slice_index units.now from → 0xe000 ≤ slice_index units.now from }
+    requires pairs { (k : ℕ) → k < 16 → ArePaired (slice_index units.now (from + k)) (slice_index units.now (from + k + 1)) }
+    ensures some { 15 ≤ result.0 }
+    ensures all { result.0 ≤ 16 }
+    ensures text { EncodedUnits (take result.0 (drop from units.now)) (take at out.old) (take result.1 out.new) }
+    ensures high { result.1 ≤ at + 3 * result.0 }
+{
+    if from > 0 {
+        return put_halves(&units[from - 1..from + 16], out, at);
+    }
+    let mut window = [0u16; 17];
+    window[1..].copy_from_slice(&units[..16]);
+    put_halves(&window, out, at)
+}
+
+// Writes the text of a front of the units from a place on, of which the first sixteen have surrogates: at most seventeen, up to a fault.
+#[inline(always)]
+fn encode_surrogates(units: &[u16], from: usize, out: &mut [u8], at: usize) -> Step
+    requires long { from + 17 ≤ length units.now }
+    requires room { at + 55 ≤ length out.old }
+    ensures read { result.read ≤ 17 }
+    ensures some { is_some result.fault ≡ false → 0 < result.read }
+    ensures written { result.written ≤ at + 3 * result.read }
+    ensures text { EncodedUnits (take result.read (drop from units.now)) (take at out.old) (take result.written out.new) }
+    ensures stop { is_some result.fault ≡ true → StopsBefore (drop result.read (drop from units.now)) result.fault }
+{
+    let block = &units[from..from + 17];
+    if !is_paired(block) {
+        return encode_plain(block, out, at);
+    }
+    if are_pairs(&block[..16]) {
+        return Step {
+            read: 16,
+            written: put_pairs(&block[..16], out, at),
+            fault: None,
+        };
+    }
+    let (read, written) = put_paired(units, from, out, at);
+    Step {
+        read,
+        written,
+        fault: None,
+    }
+}
+
+/// Writes the text of the characters that the units begin with after the first `at` bytes of `out`, up to a fault or the end. The lengths
+/// read are in units, those written in bytes. Any byte of `out` after the text may be overwritten.
+pub fn encode(units: &[u16], out: &mut [u8], at: usize) -> Step
+    requires { at + 3 * length units.now + 4 ≤ length out.old }
+    ensures read { result.read ≤ length units.now }
+    ensures written { result.written ≤ at + 3 * result.read }
+    ensures text { EncodedUnits (take result.read units.now) (take at out.old) (take result.written out.new) }
+    ensures stop { StopsBefore (drop result.read units.now) result.fault }
+{
+    let mut read = 0;
+    let mut written = at;
+    'sixteens: while units.len() - read >= 17 {
+        let block = &units[read..read + 16];
+        let bits = bits_of(block);
+        if bits < 0x80 {
+            put_ascii(block, out, written);
+            read += 16;
+            written += 16;
+        } else if bits < 0x800 {
+            written = put_narrow(block, out, written);
+            read += 16;
+        } else if !has_surrogate(block) {
+            written = put_wide(block, out, written);
+            read += 16;
+        } else {
+            let step = encode_surrogates(units, read, out, written);
+            read += step.read;
+            written = step.written;
+            if step.fault.is_some() {
+                return Step {
+                    read,
+                    written,
+                    fault: step.fault,
+                };
+            }
+        }
+    }
+    let step = encode_plain(&units[read..], out, written);
+    Step {
+        read: read + step.read,
+        written: step.written,
+        fault: step.fault,
+    }
+}
+
+/// Writes the text of 16-bit units in UTF-8 (Unicode Standard, D92) to the front of `text`, if they are well formed (D85), and answers how
+/// many bytes it has. The units are read once. Bytes behind the text may be overwritten, and any where the units are not well formed.
+pub fn encode_whole(units: &[u16], text: &mut [u8]) -> Option<usize>
+    requires room { 3 * length units.now + 4 ≤ length text.old }
+    ensures sound { IfSome result (λ len. IsWellFormed Utf16 units.now) }
+    ensures fault { IfNone result (IsWellFormed Utf16 units.now → ⊥) }
+    ensures written { IfSome result (λ len. len ≤ length text.new) }
+    ensures text { IfSome result (λ len. take len text.new ≡ utf8 (chars Utf16 units.now)) }
+{
+    let step = encode(units, text, 0);
+    if step.read == units.len() {
+        Some(step.written)
+    } else {
+        None
+    }
+}

@@ -1,0 +1,75 @@
+//! The text of units with surrogate pairs, by shuffles: half of a pair has two bytes of the four.
+
+ghost use Rattle.std.specs.Prelude.{◌≡◌, ◌+◌, ◌*◌, ◌/◌, ◌%◌, ◌≤◌, ◌<◌, ◌++◌, ℕ, slice_index, length, take, drop};
+ghost use Rattle.wide_from_utf16.specs.Encoded.{ArePaired, EncodedUnits};
+ghost use Rattle.wide_from_utf16.specs.Halves.{IsHalfFront, half_key, halves};
+
+use crate::fronts::{back_lanes, front_lanes};
+use crate::wide::put_laid;
+use std::simd::prelude::*;
+
+// As `front_lanes`, of eight units of a paired text, with the unit before each: at half of a pair its two bytes.
+#[inline(always)]
+fn half_fronts_of(befores: u16x8, units: u16x8) -> u16x8
+    ensures { (k : ℕ) → k < 8 → IsHalfFront (slice_index befores k) (slice_index units k) (slice_index result k) }
+{
+    // The sixteenth of the scalar value over 0x40.
+    let top = units % u16x8::splat(0x400) + u16x8::splat(0x40);
+    let second = top / u16x8::splat(4) % u16x8::splat(0x40) * u16x8::splat(0x100);
+    let high = u16x8::splat(0x80f0) + top / u16x8::splat(0x100) + second;
+    let third = befores % u16x8::splat(4) * u16x8::splat(0x10);
+    let middle = units / u16x8::splat(0x40) % u16x8::splat(0x10);
+    let last = units % u16x8::splat(0x40) * u16x8::splat(0x100);
+    let low = u16x8::splat(0x8080) + third + middle + last;
+    let is_low = (units / u16x8::splat(0x400)).simd_eq(u16x8::splat(55));
+    let is_half = (units / u16x8::splat(0x800)).simd_eq(u16x8::splat(27));
+    is_half.select(is_low.select(low, high), front_lanes(units))
+}
+
+// Units with as many bytes in a paired text, half of a pair two.
+#[inline(always)]
+fn half_keys_of(units: u16x8) -> u16x8
+    ensures { (k : ℕ) → k < 8 → slice_index result k ≡ half_key (slice_index units k) }
+{
+    let is_half = (units / u16x8::splat(0x800)).simd_eq(u16x8::splat(27));
+    is_half.select(u16x8::splat(0x80), units)
+}
+
+// Writes the bytes of eight units behind another, and answers the place behind them. Up to twelve bytes behind it are overwritten.
+#[inline(always)]
+fn put_eight_halves(window: &[u16], out: &mut [u8], at: usize) -> usize
+    requires whole { length window.now ≡ 9 }
+    requires room { at + 28 ≤ length out.old }
+    ensures text { take result out.new ≡ take at out.old ++ halves window.now }
+    ensures high { result ≤ at + 24 }
+{
+    let befores = u16x8::from_slice(window);
+    let units = u16x8::from_slice(&window[1..]);
+    put_laid(
+        half_keys_of(units),
+        half_fronts_of(befores, units),
+        back_lanes(units),
+        out,
+        at,
+    )
+}
+
+/// Writes the text of sixteen paired units, which stand behind the first of the window, or of fifteen where the last is a high
+/// surrogate. Answers how many units it read and the place behind the text; up to fourteen bytes behind it are overwritten.
+#[inline(never)]
+pub(crate) fn put_halves(window: &[u16], out: &mut [u8], at: usize) -> (usize, usize)
+    requires whole { length window.now ≡ 17 }
+    requires room { at + 52 ≤ length out.old }
+    requires first { 0xdc00 ≤ slice_index window.now 1 → 0xe000 ≤ slice_index window.now 1 }
+    requires pairs { (k : ℕ) → k < 15 → ArePaired (slice_index window.now (k + 1)) (slice_index window.now (k + 2)) }
+    ensures some { 15 ≤ result.0 }
+    ensures all { result.0 ≤ 16 }
+    ensures text { EncodedUnits (take result.0 (drop 1 window.now)) (take at out.old) (take result.1 out.new) }
+    ensures high { result.1 ≤ at + 3 * result.0 }
+{
+    let half = put_eight_halves(&window[..9], out, at);
+    let end = put_eight_halves(&window[8..17], out, half);
+    // The first half of a pair at the end waits for the other.
+    let cut = usize::from(window[16] / 0x400 == 54);
+    (16 - cut, end - 2 * cut)
+}

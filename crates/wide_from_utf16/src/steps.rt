@@ -1,0 +1,144 @@
+//! The text of units, one by one.
+
+ghost use Rattle.std.specs.Prelude.{◌≡◌, ◌+◌, ◌*◌, ◌-◌, ◌/◌, ◌%◌, ◌≤◌, ◌<◌, ◌++◌, ◌∷◌, [], length, take, drop};
+ghost use Rattle.wide_unit.specs.Utf8.{utf8_bytes};
+ghost use Rattle.wide_from_utf16.specs.Encoded.{EncodedUnits, StopsBefore, high_word, low_word};
+
+/// How far encoding came: what it read, in units or in bytes as the function tells, the place behind the text in bytes, and
+/// the fault at which it stopped.
+#[derive(Clone, Copy, Debug)]
+pub struct Step {
+    /// How much was read.
+    pub read: usize,
+    /// The place behind the text, in bytes.
+    pub written: usize,
+    /// The fault at which it stopped.
+    pub fault: Option<u16>,
+}
+
+/// Writes the bytes of a unit that is a character, and answers the place behind them.
+#[inline(always)]
+pub fn put_unit(out: &mut [u8], at: usize, unit: u16) -> usize
+    requires { at + 3 ≤ length out.old }
+    ensures text { take result out.new ≡ take at out.old ++ utf8_bytes unit }
+    ensures low { at < result }
+    ensures high { result ≤ at + 3 }
+{
+    if unit < 0x80 {
+        out[at] = unit as u8;
+        at + 1
+    } else if unit < 0x800 {
+        out[at] = (0b1100_0000 + unit / 0x40) as u8;
+        out[at + 1] = (0b1000_0000 + unit % 0x40) as u8;
+        at + 2
+    } else {
+        out[at] = (0b1110_0000 + unit / 0x1000) as u8;
+        out[at + 1] = (0b1000_0000 + unit / 0x40 % 0x40) as u8;
+        out[at + 2] = (0b1000_0000 + unit % 0x40) as u8;
+        at + 3
+    }
+}
+
+/// Stores the four bytes of a number, low byte first.
+#[inline(always)]
+pub fn put_word(out: &mut [u8], at: usize, word: u32)
+    requires { at + 4 ≤ length out.old }
+    ensures { take (at + 4) out.new ≡ take at out.old ++ (word % 0x100) ∷ (word / 0x100 % 0x100) ∷ (word / 0x10000 % 0x100) ∷ (word / 0x1000000) ∷ [] }
+{
+    // `copy_from_slice` would ask whether the two overlap.
+    out[at] = (word % 0x100) as u8;
+    out[at + 1] = (word / 0x100 % 0x100) as u8;
+    out[at + 2] = (word / 0x10000 % 0x100) as u8;
+    out[at + 3] = (word / 0x1000000) as u8;
+}
+
+/// Two halves as one number.
+#[inline(always)]
+pub(crate) fn join(front: u16, back: u16) -> u32
+    ensures { result ≡ front + back * 0x10000 }
+{
+    u32::from(front) + u32::from(back) * 0x10000
+}
+
+/// The first two bytes of a pair, by its high surrogate, low byte first.
+#[inline(always)]
+pub(crate) fn high_word_of(high: u16) -> u16
+    ensures { result ≡ high_word high }
+{
+    // The sixteenth of the scalar value over 0x40.
+    let top = high % 0x400 + 0x40;
+    0x80f0 + top / 0x100 + top / 4 % 0x40 * 0x100
+}
+
+/// The last two bytes of a pair, low byte first.
+#[inline(always)]
+pub(crate) fn low_word_of(high: u16, low: u16) -> u16
+    ensures { result ≡ low_word high low }
+{
+    0x8080 + high % 4 * 0x10 + low / 0x40 % 0x10 + low % 0x40 * 0x100
+}
+
+/// Writes the bytes of the character of a pair, and answers the place behind them.
+#[inline(always)]
+pub(crate) fn put_pair(out: &mut [u8], at: usize, high: u16, low: u16) -> usize
+    requires room { at + 4 ≤ length out.old }
+    requires from_high { 0xd800 ≤ high }
+    requires to_high { high < 0xdc00 }
+    requires from_low { 0xdc00 ≤ low }
+    requires to_low { low < 0xe000 }
+    ensures text { take result out.new ≡ take at out.old ++ utf8_bytes (0x10000 + ((high - 0xd800) * 0x400 + (low - 0xdc00))) }
+    ensures high { result ≡ at + 4 }
+{
+    put_word(out, at, join(high_word_of(high), low_word_of(high, low)));
+    at + 4
+}
+
+/// Writes the text of the characters that the units begin with behind the first `at` bytes of `out`, up to a fault or the end. Units
+/// are counted.
+pub(crate) fn encode_plain(units: &[u16], out: &mut [u8], at: usize) -> Step
+    requires { at + 3 * length units.now + 4 ≤ length out.old }
+    ensures read { result.read ≤ length units.now }
+    ensures written { result.written ≤ at + 3 * result.read }
+    ensures text { EncodedUnits (take result.read units.now) (take at out.old) (take result.written out.new) }
+    ensures stop { StopsBefore (drop result.read units.now) result.fault }
+{
+    let mut read = 0;
+    let mut written = at;
+    'units: while read < units.len() {
+        let unit = units[read];
+        if unit < 0xd800 || 0xe000 <= unit {
+            written = put_unit(out, written, unit);
+            read += 1;
+        } else {
+            if 0xdc00 <= unit {
+                return Step {
+                    read,
+                    written,
+                    fault: Some(unit),
+                };
+            }
+            if units.len() - read == 1 {
+                return Step {
+                    read,
+                    written,
+                    fault: None,
+                };
+            }
+            let low = units[read + 1];
+            if low < 0xdc00 || 0xe000 <= low {
+                return Step {
+                    read,
+                    written,
+                    fault: Some(unit),
+                };
+            }
+            written = put_pair(out, written, unit, low);
+            read += 2;
+        }
+    }
+    Step {
+        read,
+        written,
+        fault: None,
+    }
+}
