@@ -1,23 +1,27 @@
-//! UTF-16 in bytes of either order: each kind of character and of fault, at each place of short texts and about the ends of the pieces that
+//! UTF-16 in bytes of either order: each kind of character and of fault, at each offset of short texts and about the ends of the pieces that
 //! are read at a time; whole, and as a caller reads a stream. What is wanted is made by the standard library.
 use crate::bytes::{
     wide_bytes_certain, wide_bytes_ends_in_fault, wide_bytes_first_fault, wide_bytes_order,
     wide_bytes_to_utf8, wide_bytes_to_utf8_lossy_with,
 };
-use crate::room_rows::{
-    KINDS16, Wanted, all_hold, fills, first_failure, holds_by_policies, items16, none_fails,
-};
+use crate::room_rows::{Case, KINDS16, Target, Targets, Way, all_hold, first_failure, none_fails};
 use std::alloc::{AllocError, Global};
 
-// Lengths of texts in units, each as the least and as the greatest, and the first and the last place at which something is put: all of short
-// ones, and those about the ends of pieces of 1024 units.
-static LENGTHS: [(usize, usize, usize, usize); 5] = [
+// Lengths of texts in units, each as the least and as the greatest, and the first and the last offset at which something is put: all of short
+// ones, and those about the ends of pieces of 1024 units. Those of 18 and 64 units end as those of 1026 and 2101 do.
+static LENGTHS: [(usize, usize, usize, usize); 7] = [
     (0, 0, 0, 0),
     (1, 1, 0, 1),
     (5, 5, 0, 5),
+    (18, 18, 12, 18),
+    (64, 64, 6, 13),
     (1026, 1026, 1020, 1026),
     (2101, 2101, 2043, 2050),
 ];
+
+// The sizes of a stream's pieces, and how long a text is at most that comes in them, in bytes. A stream of letters in pieces of 1, 2, 3 or 7
+// bytes is at each 42 bytes as it was at its start, so that 1008 units fewer of letters before a fault, or 2037, leave no call unasked.
+static SIZES: [(usize, usize); 5] = [(1, 129), (2, 129), (3, 129), (7, 129), (1000, usize::MAX)];
 
 // The bytes of units in the order that a number names, and half a unit behind them.
 fn bytes_of(alloc: Global, units: &[u16], order: u32) -> Result<Vec<u8>, AllocError> {
@@ -34,16 +38,16 @@ fn bytes_of(alloc: Global, units: &[u16], order: u32) -> Result<Vec<u8>, AllocEr
     Ok(bytes)
 }
 
-// The place of the first fault, or how many units there are.
-fn first_fault_of(items: &[Option<char>]) -> usize {
-    let mut place: usize = 0;
-    for item in items {
+// The offset of the first fault, or how many units there are.
+fn first_fault_of(case: &Case) -> usize {
+    let mut offset = case.before;
+    for item in case.items {
         match item {
-            Some(c) => place = place.saturating_add(c.len_utf16()),
-            None => return place,
+            Some(c) => offset = offset.saturating_add(c.len_utf16()),
+            None => return offset,
         }
     }
-    place
+    offset.saturating_add(case.after)
 }
 
 // What stands in a text behind that of a piece of bytes, where it begins with that. A piece has at most 1003 bytes, the greatest size and what
@@ -87,68 +91,82 @@ fn streams(bytes: &[u8], order: u32, policy: u32, size: usize, text: &[u8]) -> b
     }
 }
 
-// Whether the call that takes no policy gives this text, where it is to give any.
-fn gives(alloc: Global, bytes: &[u8], order: u32, text: &[u8], is_put: bool) -> bool {
-    let to_text = |room: &mut [u8]| wide_bytes_to_utf8(bytes, order, room);
-    fills(alloc, to_text, text, is_put, 0xaa)
+// Whether the call of a way gives what is wanted of bytes, where it is to give any.
+fn gives(target: &mut Target<u8>, bytes: &[u8], order: u32, way: Way, is_put: bool) -> bool {
+    let call = |text: &mut [u8]| {
+        match way {
+            Way::Strict | Way::Lossy => wide_bytes_to_utf8(bytes, order, text),
+            Way::By(number) => wide_bytes_to_utf8_lossy_with(bytes, order, number, 0, text),
+            Way::ByNone => wide_bytes_to_utf8_lossy_with(bytes, order, 3, 0, text),
+        }
+    };
+    target.is_filled(call, is_put)
 }
 
-// The same by the policy that a number names, of the whole and of a stream in pieces.
-fn gives_by(alloc: Global, bytes: &[u8], order: u32, number: u32, text: &[u8]) -> bool {
-    let lossy = |room: &mut [u8]| wide_bytes_to_utf8_lossy_with(bytes, order, number, 0, room);
-    let mut well = fills(alloc, lossy, text, true, 0xaa);
-    for size in [1, 2, 3, 7, 1000] {
-        well &= streams(bytes, order, number, size, text);
+// Whether streams of bytes give a text, in pieces of each size.
+fn streams_each(bytes: &[u8], order: u32, policy: u32, text: &[u8]) -> bool {
+    let mut well = true;
+    for (size, most) in SIZES.iter() {
+        well &= bytes.len() > *most || streams(bytes, order, policy, *size, text);
     }
     well
 }
 
-// Whether bytes with half a unit behind them, and those without it, give what is wanted.
-fn both_give(alloc: Global, odd: &[u8], order: u32, wanted: &Wanted) -> bool {
+// Whether each way gives what is wanted of bytes with half a unit behind them, and of those without it.
+fn both_give(targets: &mut Targets, odd: &[u8], order: u32, case: &Case) -> bool {
     let even = &odd[..odd.len().saturating_sub(1)];
-    let mut well = gives_by(alloc, even, order, wanted.number, wanted.bytes);
-    well &= gives_by(alloc, odd, order, wanted.number, wanted.bytes);
-    well &= gives(alloc, odd, order, wanted.bytes, false);
-    well && (wanted.number > 0 || gives(alloc, even, order, wanted.bytes, wanted.is_text))
+    let mut well = true;
+    for way in case.ways {
+        // Bytes have no call that is lossy and takes no policy.
+        if let Way::Lossy = way {
+            continue;
+        }
+        let is_put = way.is_put(case.is_text());
+        // No unit is whole that half of one is left of.
+        let is_odd_put = is_put && !matches!(way, Way::Strict);
+        well &= gives(&mut targets.bytes, even, order, *way, is_put);
+        well &= gives(&mut targets.bytes, odd, order, *way, is_odd_put);
+        if let Way::By(number) = *way {
+            well &= streams_each(even, order, number, targets.bytes.wanted());
+            well &= streams_each(odd, order, number, targets.bytes.wanted());
+        }
+    }
+    well
 }
 
 // Whether the first fault and the last are told of bytes with half a unit behind these characters.
-fn tells_faults(items: &[Option<char>], odd: &[u8], order: u32) -> bool {
-    let ends = items.last() == Some(&None);
+fn tells_faults(odd: &[u8], order: u32, case: &Case) -> bool {
+    let ends = case.after == 0 && case.items.last() == Some(&None);
     let is_last = wide_bytes_ends_in_fault(odd, order, 0) == u32::from(ends);
-    is_last & (wide_bytes_first_fault(odd, order) == first_fault_of(items))
+    is_last & (wide_bytes_first_fault(odd, order) == first_fault_of(case))
 }
 
 // Whether all calls do so with the bytes of these units in an order, and with half a unit behind them.
-fn converts(alloc: Global, units: &[u16], order: u32) -> Result<bool, AllocError> {
-    let items = items16(alloc, units)?;
-    let odd = bytes_of(alloc, units, order)?;
-    let given = holds_by_policies(
-        alloc,
-        &items,
-        |wanted| both_give(alloc, &odd, order, wanted),
-    );
-    Ok(given & tells_faults(&items, &odd, order))
+fn holds(alloc: Global, targets: &mut Targets, units: &[u16], order: u32, case: &Case) -> bool {
+    match bytes_of(alloc, units, order) {
+        Ok(odd) => both_give(targets, &odd, order, case) && tells_faults(&odd, order, case),
+        Err(_refused) => false,
+    }
 }
 
-fn converts_little(alloc: Global, units: &[u16]) -> Result<bool, AllocError> {
-    converts(alloc, units, 0)
+fn holds_little(alloc: Global, targets: &mut Targets, units: &[u16], case: &Case) -> bool {
+    holds(alloc, targets, units, 0, case)
 }
 
-fn converts_big(alloc: Global, units: &[u16]) -> Result<bool, AllocError> {
-    converts(alloc, units, 1)
+fn holds_big(alloc: Global, targets: &mut Targets, units: &[u16], case: &Case) -> bool {
+    holds(alloc, targets, units, 1, case)
 }
 
 #[test]
 fn little_endian(rt: HostRuntime) {
-    let failing = first_failure(rt.alloc(), 0x61, &KINDS16, &LENGTHS, converts_little);
-    none_fails(&rt, 0x61, failing);
+    let failing = first_failure(rt.alloc(), 'a', &KINDS16, &LENGTHS, holds_little);
+    none_fails(&rt, 'a', failing);
 }
 
 #[test]
 fn big_endian(rt: HostRuntime) {
-    let failing = first_failure(rt.alloc(), 0x61, &KINDS16, &LENGTHS, converts_big);
-    none_fails(&rt, 0x61, failing);
+    let failing = first_failure(rt.alloc(), 'a', &KINDS16, &LENGTHS, holds_big);
+    none_fails(&rt, 'a', failing);
 }
 
 #[test]

@@ -27,7 +27,7 @@ fn text() -> [u8; 85] {
 }
 
 #[test]
-fn counts(rt: HostRuntime) {
+fn counts_units_of_a_text(rt: HostRuntime) {
     let units = units();
     let wide = wide();
     let text = text();
@@ -53,7 +53,7 @@ fn counts(rt: HostRuntime) {
 }
 
 #[test]
-fn faults(rt: HostRuntime) {
+fn counts_no_units_of_a_fault(rt: HostRuntime) {
     let mut units = units();
     let mut wide = wide();
     let mut text = text();

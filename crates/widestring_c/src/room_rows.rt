@@ -1,5 +1,5 @@
-//! Conversions into rooms that are exact, too short and too long: each kind of character and of fault, at each place of texts of each
-//! length. What is wanted is made by the standard library.
+//! Conversions into buffers that are exact, too short and too long: each kind of character and of fault, at each offset of texts of each
+//! length. The standard library makes what is wanted of a kind; before and behind it stand letters, whose text is their own.
 use crate::between::{wide_utf16_to_utf32, wide_utf32_to_utf16};
 use crate::from_utf8::{
     wide_utf8_first_fault, wide_utf8_to_utf16, wide_utf8_to_utf16_lossy,
@@ -13,10 +13,16 @@ use crate::to_utf8::{
 };
 use std::alloc::{AllocError, Global};
 use std::process::Abort;
+use std::simd::prelude::*;
 use std::{char, str};
 use wide_unit::Policy;
 
-// The least and the greatest length of texts, and the first and the last place at which something is put, where the text is that long: all
+// How many letters there are to take from, and how many units a buffer has, a multiple of 64.
+const LETTERS: usize = 2101;
+
+const SIZE: usize = 2432;
+
+// The least and the greatest length of texts, and the first and the last offset at which something is put, where the text is that long: all
 // that few blocks take, those about the ends of blocks of 64 bytes, and about the end of a piece of 256 units.
 static LENGTHS: [(usize, usize, usize, usize); 3] = [
     (0, 70, 0, 70),
@@ -24,7 +30,7 @@ static LENGTHS: [(usize, usize, usize, usize); 3] = [
     (255, 258, 250, 258),
 ];
 
-// What is put at a place, as far as it fits: a character of each length in UTF-8, and faults. Half a pair is a fault too.
+// What is put at an offset, as far as it fits: a character of each length in UTF-8, and faults. Half a pair is a fault too.
 pub(crate) static KINDS16: [&[u16]; 8] = [
     &[0x7a],
     &[0xdf],
@@ -63,107 +69,46 @@ static KINDS8: [&[u8]; 12] = [
     &[0xff, 0xef, 0xbf, 0xbd, 0xe8, 0xaa, 0xff],
 ];
 
-// The policies, each with the number that names it.
-static POLICIES: [(u32, Policy); 3] = [(0, Policy::Each), (1, Policy::Run), (2, Policy::Skip)];
-
-// How a conversion is called: one that is strict, one that gives U+FFFD for each fault, and one with the number of a policy.
+// How a conversion is called: one that is strict, one that gives U+FFFD for each fault, one with the number of a policy, and with one of none.
 #[derive(Clone, Copy)]
-enum Way {
+pub(crate) enum Way {
     Strict,
     Lossy,
     By(u32),
+    ByNone,
 }
 
-// Whether a call puts these items at the start of a room that holds the fillers, where they fit, and answers how many they are. Where it is to
-// put none, it answers the greatest number. All behind them stays.
-fn fills_room<T: Copy + PartialEq, F: Fn(&mut [T]) -> usize>(
-    call: &F,
-    room: &mut [T],
-    items: &[T],
-    is_put: bool,
-    fillers: &[T],
-) -> bool
-    requires { F.IsAlwaysCallable call.now }
-{
-    let answer = call(room);
-    let (put, len) = if is_put {
-        (items, items.len())
-    } else {
-        (&items[..0], usize::MAX)
-    };
-    // Items that do not fit have nothing behind them.
-    let stays = room.get(put.len()..) == fillers.get(put.len()..);
-    let begins = put.len() > room.len() || room.starts_with(put);
-    answer == len && begins && stays
-}
-
-// Whether it fills a room that is exact, one that is one shorter and one that is five longer, of as many fillers.
-fn fills_each<T: Copy + PartialEq, F: Fn(&mut [T]) -> usize>(
-    alloc: Global,
-    call: &F,
-    items: &[T],
-    is_put: bool,
-    fillers: &[T],
-) -> bool
-    requires { F.IsAlwaysCallable call.now }
-{
-    let len = items.len();
-    let mut well = true;
-    for size in [len, len.saturating_sub(1), len.saturating_add(5)] {
-        well &= match fillers.get(..size) {
-            Some(part) => match part.to_vec(alloc) {
-                Ok(mut room) => fills_room(call, &mut room, items, is_put, part),
-                Err(_refused) => false,
-            },
-            None => false,
-        };
-    }
-    well
-}
-
-// Whether it fills each of these rooms. Where memory is refused it does not hold, so that a caller has no early return beside what it would
-// have to drop.
-pub(crate) fn fills<T: Copy + PartialEq, F: Fn(&mut [T]) -> usize>(
-    alloc: Global,
-    call: F,
-    items: &[T],
-    is_put: bool,
-    filler: T,
-) -> bool
-    requires { F.IsAlwaysCallable call }
-{
-    match vec![in alloc; filler; items.len().saturating_add(5)] {
-        Ok(fillers) => fills_each(alloc, &call, items, is_put, &fillers),
-        Err(_refused) => false,
-    }
-}
-
-// The characters of units and of bytes, with none for each fault.
-pub(crate) fn items16(alloc: Global, units: &[u16]) -> Result<Vec<Option<char>>, AllocError> {
-    char::decode_utf16(units.iter().copied())
-        .map(Result::ok)
-        .collect(alloc)
-}
-
-fn items32(alloc: Global, units: &[u32]) -> Result<Vec<Option<char>>, AllocError> {
-    units.iter().copied().map(char::from_u32).collect(alloc)
-}
-
-fn items8(alloc: Global, bytes: &[u8]) -> Result<Vec<Option<char>>, AllocError> {
-    let mut items = Vec::new(alloc);
-    for chunk in bytes.utf8_chunks() {
-        for c in chunk.valid().chars() {
-            items.push(Some(c))?;
-        }
-        if !chunk.invalid().is_empty() {
-            items.push(None)?;
+impl Way {
+    // Whether it gives any text of units, which a fault is among or not.
+    pub(crate) fn is_put(self, is_text: bool) -> bool {
+        match self {
+            Way::Strict => is_text,
+            Way::Lossy | Way::By(_) => true,
+            Way::ByNone => false,
         }
     }
-    Ok(items)
 }
 
-// Their text, with what a policy gives for faults.
-fn text_of(alloc: Global, items: &[Option<char>], policy: Policy) -> Result<String, AllocError> {
+// Each policy with the ways that follow it.
+static POLICIES: [(Policy, &[Way]); 3] = [
+    (
+        Policy::Each,
+        &[Way::By(0), Way::Strict, Way::Lossy, Way::ByNone],
+    ),
+    (Policy::Run, &[Way::By(1)]),
+    (Policy::Skip, &[Way::By(2)]),
+];
+
+// A text in each form.
+#[derive(Drop)]
+pub(crate) struct Forms {
+    text: String,
+    units: Vec<u16>,
+    scalars: Vec<u32>,
+}
+
+// The forms of characters, with what a policy gives for faults.
+fn forms_of(alloc: Global, items: &[Option<char>], policy: Policy) -> Result<Forms, AllocError> {
     let mut text = String::new(alloc);
     let mut after = false;
     for item in items {
@@ -174,259 +119,449 @@ fn text_of(alloc: Global, items: &[Option<char>], policy: Policy) -> Result<Stri
             text.push(c)?;
         }
     }
-    Ok(text)
+    let units = text.encode_utf16().collect(alloc)?;
+    let scalars = text.chars().map(u32::from).collect(alloc)?;
+    Ok(Forms {
+        text,
+        units,
+        scalars,
+    })
 }
 
-// What is wanted: a text in each form, the number of the policy that gives it, and whether no fault is in what it is of.
-#[derive(Clone, Copy)]
-pub(crate) struct Wanted<'a> {
-    pub(crate) number: u32,
-    pub(crate) is_text: bool,
-    pub(crate) bytes: &'a [u8],
-    units: &'a [u16],
-    scalars: &'a [u32],
+// Units of a width: those of letters, the characters that some are, with none for each fault, and whether two blocks of 64 are the same.
+pub(crate) trait Form: Copy {
+    fn letters(forms: &Forms) -> &[Self];
+
+    fn items(alloc: Global, units: &[Self]) -> Result<Vec<Option<char>>, AllocError>;
+
+    fn are_same(left: &[Self], right: &[Self]) -> bool;
 }
 
-// Whether this holds of the text of items by a policy, with each of the numbers.
-fn holds_by_policy<F: Fn(&Wanted) -> bool>(
-    alloc: Global,
-    items: &[Option<char>],
-    numbers: &[u32],
-    policy: Policy,
-    holds: &F,
-) -> Result<bool, AllocError>
-    requires { F.IsAlwaysCallable holds.now }
-{
-    let text = text_of(alloc, items, policy)?;
-    let units: Vec<u16> = text.encode_utf16().collect(alloc)?;
-    let scalars: Vec<u32> = text.chars().map(u32::from).collect(alloc)?;
-    let is_text = !items.contains(&None);
-    let mut well = true;
-    for number in numbers {
-        let wanted = Wanted {
-            number: *number,
-            is_text,
-            bytes: text.as_bytes(),
-            units: &units,
-            scalars: &scalars,
+impl Form for u8 {
+    fn letters(forms: &Forms) -> &[u8] {
+        forms.text.as_bytes()
+    }
+
+    fn items(alloc: Global, units: &[u8]) -> Result<Vec<Option<char>>, AllocError> {
+        let mut items = Vec::new(alloc);
+        for chunk in units.utf8_chunks() {
+            for c in chunk.valid().chars() {
+                items.push(Some(c))?;
+            }
+            if !chunk.invalid().is_empty() {
+                items.push(None)?;
+            }
+        }
+        Ok(items)
+    }
+
+    fn are_same(left: &[u8], right: &[u8]) -> bool {
+        left.len() >= 64
+            && right.len() >= 64
+            && u8x64::from_slice(left)
+                .simd_eq(u8x64::from_slice(right))
+                .all()
+    }
+}
+
+impl Form for u16 {
+    fn letters(forms: &Forms) -> &[u16] {
+        &forms.units
+    }
+
+    fn items(alloc: Global, units: &[u16]) -> Result<Vec<Option<char>>, AllocError> {
+        char::decode_utf16(units.iter().copied())
+            .map(Result::ok)
+            .collect(alloc)
+    }
+
+    fn are_same(left: &[u16], right: &[u16]) -> bool {
+        left.len() >= 64
+            && right.len() >= 64
+            && u16x64::from_slice(left)
+                .simd_eq(u16x64::from_slice(right))
+                .all()
+    }
+}
+
+impl Form for u32 {
+    fn letters(forms: &Forms) -> &[u32] {
+        &forms.scalars
+    }
+
+    fn items(alloc: Global, units: &[u32]) -> Result<Vec<Option<char>>, AllocError> {
+        units.iter().copied().map(char::from_u32).collect(alloc)
+    }
+
+    fn are_same(left: &[u32], right: &[u32]) -> bool {
+        left.len() >= 64
+            && right.len() >= 64
+            && u32x64::from_slice(left)
+                .simd_eq(u32x64::from_slice(right))
+                .all()
+    }
+}
+
+// Whether two slices of whole blocks have the same units. A comparison by `==` takes a call for each unit.
+fn are_all_same<T: Form>(left: &[T], right: &[T]) -> bool {
+    let mut are_same = left.len() == right.len() && left.len() >= 64;
+    for block in 0..left.len() / 64 {
+        let start = block.saturating_mul(64);
+        let left = left.get(start..).unwrap_or_default();
+        are_same &= T::are_same(left, right.get(start..).unwrap_or_default());
+    }
+    are_same
+}
+
+// Puts units at an offset, where they fit, and returns the offset behind them.
+fn put<T: Copy>(buffer: &mut [T], at: usize, units: &[T]) -> usize {
+    if let Some(rest) = buffer.get_mut(at..) {
+        if let Some(part) = rest.get_mut(..units.len()) {
+            part.copy_from_slice(units);
+        }
+    }
+    at.saturating_add(units.len())
+}
+
+// A buffer to convert into, what is wanted at its start and how many units that is, and what it holds before the call.
+#[derive(Drop)]
+pub(crate) struct Target<T> {
+    buffer: Vec<T>,
+    wanted: Vec<T>,
+    len: usize,
+    fillers: Vec<T>,
+}
+
+impl<T: Form> Target<T> {
+    fn new(alloc: Global, filler: T) -> Result<Target<T>, AllocError> {
+        Ok(Target {
+            buffer: vec![in alloc; filler; SIZE]?,
+            wanted: vec![in alloc; filler; SIZE]?,
+            len: 0,
+            fillers: vec![in alloc; filler; SIZE]?,
+        })
+    }
+
+    // Wants so many units of letters, a middle, and units of letters again.
+    fn want(&mut self, letters: &[T], before: usize, middle: &[T], after: usize) {
+        let at = put(
+            &mut self.wanted,
+            0,
+            letters.get(..before).unwrap_or_default(),
+        );
+        let at = put(&mut self.wanted, at, middle);
+        self.len = put(
+            &mut self.wanted,
+            at,
+            letters.get(..after).unwrap_or_default(),
+        );
+        let fillers = self.fillers.as_slice().get(..192);
+        put(&mut self.wanted, self.len, fillers.unwrap_or_default());
+    }
+
+    pub(crate) fn wanted(&self) -> &[T] {
+        self.wanted.as_slice().get(..self.len).unwrap_or_default()
+    }
+
+    // Whether a call with a buffer of a capacity returns how long the text is and puts it at the start, where it fits, or returns the greatest
+    // number and puts nothing. All behind stays.
+    fn is_filled_at<F: Fn(&mut [T]) -> usize>(
+        &mut self,
+        call: &F,
+        is_put: bool,
+        capacity: usize,
+    ) -> bool
+        requires { F.IsAlwaysCallable call.now }
+    {
+        // Blocks of 64 units, of which the last is behind the capacity.
+        let end = self.len.saturating_add(133) / 64 * 64;
+        put(
+            &mut self.buffer,
+            0,
+            self.fillers.as_slice().get(..end).unwrap_or_default(),
+        );
+        let Some(given) = self.buffer.as_mut_slice().get_mut(..capacity) else {
+            return false;
         };
-        well &= holds(&wanted);
+        let len = if is_put { self.len } else { usize::MAX };
+        let is_len = call(given) == len;
+        let is_put_so = if !is_put {
+            self.has(&self.fillers, 0, end)
+        } else if capacity < self.len {
+            // Of text that does not fit, as much is put as does.
+            self.has(&self.fillers, capacity, capacity.saturating_add(64))
+        } else {
+            self.has(&self.wanted, 0, end)
+        };
+        is_len && is_put_so
     }
-    Ok(well)
+
+    // Whether the buffer has these units from an offset to another.
+    fn has(&self, units: &[T], first: usize, end: usize) -> bool {
+        let buffer = self.buffer.as_slice().get(first..end);
+        are_all_same(
+            buffer.unwrap_or_default(),
+            units.get(first..end).unwrap_or_default(),
+        )
+    }
+
+    // Whether it does so with a buffer that is exact, one that is one shorter and one that is five longer.
+    pub(crate) fn is_filled<F: Fn(&mut [T]) -> usize>(&mut self, call: F, is_put: bool) -> bool
+        requires { F.IsAlwaysCallable call }
+    {
+        let len = self.len;
+        let is_exact = self.is_filled_at(&call, is_put, len);
+        let is_short = self.is_filled_at(&call, is_put, len.saturating_sub(1));
+        is_exact && is_short && self.is_filled_at(&call, is_put, len.saturating_add(5))
+    }
 }
 
-// Whether it holds by each policy. Where memory is refused it does not hold.
-pub(crate) fn holds_by_policies<F: Fn(&Wanted) -> bool>(
-    alloc: Global,
-    items: &[Option<char>],
-    holds: F,
-) -> bool
-    requires { F.IsAlwaysCallable holds }
-{
-    // Without faults the text is the same by each policy, and is made once.
-    if !items.contains(&None) {
-        return holds_by_policy(alloc, items, &[0, 1, 2], Policy::Each, &holds) == Ok(true);
+// The letters that texts are of, how many bytes one has, and a buffer for each form.
+#[derive(Drop)]
+pub(crate) struct Targets {
+    letters: Forms,
+    width: usize,
+    pub(crate) bytes: Target<u8>,
+    units: Target<u16>,
+    scalars: Target<u32>,
+}
+
+impl Targets {
+    fn new(alloc: Global, letter: char) -> Result<Targets, AllocError> {
+        Ok(Targets {
+            letters: forms_of(alloc, &[Some(letter); LETTERS], Policy::Each)?,
+            width: letter.len_utf8(),
+            bytes: Target::new(alloc, 0xaa)?,
+            units: Target::new(alloc, 0xaaaa)?,
+            scalars: Target::new(alloc, 0xaaaa_aaaa)?,
+        })
     }
+
+    // Wants the text of a case by a policy.
+    fn want(&mut self, alloc: Global, case: &Case, policy: Policy) -> Result<(), AllocError> {
+        let middle = forms_of(alloc, case.items, policy)?;
+        let (before, after) = (case.before, case.after);
+        let letters = &self.letters;
+        let first = before.saturating_mul(self.width);
+        let last = after.saturating_mul(self.width);
+        self.bytes.want(letters.text.as_bytes(), first, middle.text.as_bytes(), last);
+        self.units
+            .want(&letters.units, before, &middle.units, after);
+        self.scalars
+            .want(&letters.scalars, before, &middle.scalars, after);
+        Ok(())
+    }
+}
+
+// A text's characters between so many letters before and behind them, with none for each fault, and the ways that give what is wanted.
+#[derive(Clone, Copy)]
+pub(crate) struct Case<'a> {
+    pub(crate) before: usize,
+    pub(crate) items: &'a [Option<char>],
+    pub(crate) after: usize,
+    pub(crate) ways: &'a [Way],
+}
+
+impl<'a> Case<'a> {
+    pub(crate) fn is_text(&self) -> bool {
+        !self.items.contains(&None)
+    }
+
+    // Whether these ways are those of the policy that gives U+FFFD for each fault.
+    fn is_each(&self) -> bool {
+        self.ways.len() > 1
+    }
+}
+
+// Whether each function does so with these units.
+fn holds16(_alloc: Global, targets: &mut Targets, units: &[u16], case: &Case) -> bool {
+    let is_text = case.is_text();
     let mut well = true;
-    for (number, policy) in POLICIES.iter() {
-        well &= holds_by_policy(alloc, items, &[*number], *policy, &holds) == Ok(true);
+    for way in case.ways {
+        well &= puts_text16(&mut targets.bytes, units, *way, way.is_put(is_text));
+    }
+    if case.is_each() {
+        well &= targets.units.len == units.len();
+        let to_scalars = |buffer: &mut [u32]| wide_utf16_to_utf32(units, buffer);
+        well &= targets.scalars.is_filled(to_scalars, is_text);
+        let repair = |buffer: &mut [u16]| wide_utf16_repair(units, buffer);
+        well &= targets.units.is_filled(repair, true);
     }
     well
 }
 
-// Whether each function does so with these units: by a number that names a policy, and with the first policy by one that names none and those
-// that take no number.
-fn converts16(alloc: Global, units: &[u16]) -> Result<bool, AllocError> {
-    let items = items16(alloc, units)?;
-    Ok(holds_by_policies(alloc, &items, |wanted| holds16(alloc, units, wanted)))
+fn puts_text16(target: &mut Target<u8>, units: &[u16], way: Way, is_put: bool) -> bool {
+    let call = |buffer: &mut [u8]| {
+        match way {
+            Way::Strict => wide_utf16_to_utf8(units, buffer),
+            Way::Lossy => wide_utf16_to_utf8_lossy(units, buffer),
+            Way::By(number) => wide_utf16_to_utf8_lossy_with(units, number, buffer),
+            Way::ByNone => wide_utf16_to_utf8_lossy_with(units, 3, buffer),
+        }
+    };
+    target.is_filled(call, is_put)
 }
 
-fn holds16(alloc: Global, units: &[u16], wanted: &Wanted) -> bool {
-    let bytes = wanted.bytes;
-    let well = puts_text16(alloc, units, Way::By(wanted.number), bytes, true);
-    well && (wanted.number > 0 || holds16_of_each(alloc, units, wanted))
-}
-
-// The same of the functions that take no number, with the text that has U+FFFD for each fault.
-fn holds16_of_each(alloc: Global, units: &[u16], wanted: &Wanted) -> bool {
-    let to_scalars = |room: &mut [u32]| wide_utf16_to_utf32(units, room);
-    let repair = |room: &mut [u16]| wide_utf16_repair(units, room);
-    let mut well = wanted.units.len() == units.len();
-    well &= puts_text16(alloc, units, Way::By(3), wanted.bytes, false);
-    well &= puts_text16(alloc, units, Way::Strict, wanted.bytes, wanted.is_text);
-    well &= puts_text16(alloc, units, Way::Lossy, wanted.bytes, true);
-    well &= fills(
-        alloc,
-        to_scalars,
-        wanted.scalars,
-        wanted.is_text,
-        0xaaaa_aaaa,
-    );
-    well &= fills(alloc, repair, wanted.units, true, 0xaaaa);
+fn holds32(_alloc: Global, targets: &mut Targets, units: &[u32], case: &Case) -> bool {
+    let is_text = case.is_text();
+    let mut well = true;
+    for way in case.ways {
+        well &= puts_text32(&mut targets.bytes, units, *way, way.is_put(is_text));
+    }
+    if case.is_each() {
+        well &= targets.scalars.len == units.len();
+        let to_units = |buffer: &mut [u16]| wide_utf32_to_utf16(units, buffer);
+        well &= targets.units.is_filled(to_units, is_text);
+        let repair = |buffer: &mut [u32]| wide_utf32_repair(units, buffer);
+        well &= targets.scalars.is_filled(repair, true);
+    }
     well
 }
 
-// Whether a way to UTF-8 puts this text into rooms.
-fn puts_text16(alloc: Global, units: &[u16], way: Way, bytes: &[u8], is_put: bool) -> bool {
-    let call = |room: &mut [u8]| {
+fn puts_text32(target: &mut Target<u8>, units: &[u32], way: Way, is_put: bool) -> bool {
+    let call = |buffer: &mut [u8]| {
         match way {
-            Way::Strict => wide_utf16_to_utf8(units, room),
-            Way::Lossy => wide_utf16_to_utf8_lossy(units, room),
-            Way::By(number) => wide_utf16_to_utf8_lossy_with(units, number, room),
+            Way::Strict => wide_utf32_to_utf8(units, buffer),
+            Way::Lossy => wide_utf32_to_utf8_lossy(units, buffer),
+            Way::By(number) => wide_utf32_to_utf8_lossy_with(units, number, buffer),
+            Way::ByNone => wide_utf32_to_utf8_lossy_with(units, 4, buffer),
         }
     };
-    fills(alloc, call, bytes, is_put, 0xaa)
+    target.is_filled(call, is_put)
 }
 
-fn converts32(alloc: Global, units: &[u32]) -> Result<bool, AllocError> {
-    let items = items32(alloc, units)?;
-    Ok(holds_by_policies(alloc, &items, |wanted| holds32(alloc, units, wanted)))
+fn holds8(alloc: Global, targets: &mut Targets, bytes: &[u8], case: &Case) -> bool {
+    let is_text = case.is_text();
+    let mut well = true;
+    for way in case.ways {
+        well &= puts_units(&mut targets.units, bytes, *way, way.is_put(is_text));
+        well &= puts_scalars(&mut targets.scalars, bytes, *way, way.is_put(is_text));
+    }
+    well && (!case.is_each() || is_read_so(alloc, bytes, targets.bytes.wanted(), is_text))
 }
 
-fn holds32(alloc: Global, units: &[u32], wanted: &Wanted) -> bool {
-    let bytes = wanted.bytes;
-    let well = puts_text32(alloc, units, Way::By(wanted.number), bytes, true);
-    well && (wanted.number > 0 || holds32_of_each(alloc, units, wanted))
-}
-
-fn holds32_of_each(alloc: Global, units: &[u32], wanted: &Wanted) -> bool {
-    let to_utf16 = |room: &mut [u16]| wide_utf32_to_utf16(units, room);
-    let repair = |room: &mut [u32]| wide_utf32_repair(units, room);
-    let mut well = wanted.scalars.len() == units.len();
-    well &= puts_text32(alloc, units, Way::By(4), wanted.bytes, false);
-    well &= puts_text32(alloc, units, Way::Strict, wanted.bytes, wanted.is_text);
-    well &= puts_text32(alloc, units, Way::Lossy, wanted.bytes, true);
-    well &= fills(alloc, to_utf16, wanted.units, wanted.is_text, 0xaaaa);
-    well &= fills(alloc, repair, wanted.scalars, true, 0xaaaa_aaaa);
-    well
-}
-
-fn puts_text32(alloc: Global, units: &[u32], way: Way, bytes: &[u8], is_put: bool) -> bool {
-    let call = |room: &mut [u8]| {
+fn puts_units(target: &mut Target<u16>, bytes: &[u8], way: Way, is_put: bool) -> bool {
+    let call = |buffer: &mut [u16]| {
         match way {
-            Way::Strict => wide_utf32_to_utf8(units, room),
-            Way::Lossy => wide_utf32_to_utf8_lossy(units, room),
-            Way::By(number) => wide_utf32_to_utf8_lossy_with(units, number, room),
+            Way::Strict => wide_utf8_to_utf16(bytes, buffer),
+            Way::Lossy => wide_utf8_to_utf16_lossy(bytes, buffer),
+            Way::By(number) => wide_utf8_to_utf16_lossy_with(bytes, number, buffer),
+            Way::ByNone => wide_utf8_to_utf16_lossy_with(bytes, 3, buffer),
         }
     };
-    fills(alloc, call, bytes, is_put, 0xaa)
+    target.is_filled(call, is_put)
 }
 
-fn converts8(alloc: Global, bytes: &[u8]) -> Result<bool, AllocError> {
-    let items = items8(alloc, bytes)?;
-    Ok(holds_by_policies(alloc, &items, |wanted| holds8(alloc, bytes, wanted)))
-}
-
-fn holds8(alloc: Global, bytes: &[u8], wanted: &Wanted) -> bool {
-    let (units, scalars) = (wanted.units, wanted.scalars);
-    let mut well = puts_units(alloc, bytes, Way::By(wanted.number), units, true);
-    well &= puts_scalars(alloc, bytes, Way::By(wanted.number), scalars, true);
-    well && (wanted.number > 0 || holds8_of_each(alloc, bytes, wanted))
-}
-
-fn holds8_of_each(alloc: Global, bytes: &[u8], wanted: &Wanted) -> bool {
-    let (units, scalars, is_text) = (wanted.units, wanted.scalars, wanted.is_text);
-    let mut well = is_read_so(alloc, bytes, wanted);
-    well &= puts_units(alloc, bytes, Way::By(3), units, false);
-    well &= puts_scalars(alloc, bytes, Way::By(u32::MAX), scalars, false);
-    well &= puts_units(alloc, bytes, Way::Strict, units, is_text);
-    well &= puts_units(alloc, bytes, Way::Lossy, units, true);
-    well &= puts_scalars(alloc, bytes, Way::Strict, scalars, is_text);
-    well &= puts_scalars(alloc, bytes, Way::Lossy, scalars, true);
-    well
-}
-
-fn puts_units(alloc: Global, bytes: &[u8], way: Way, units: &[u16], is_put: bool) -> bool {
-    let call = |room: &mut [u16]| {
+fn puts_scalars(target: &mut Target<u32>, bytes: &[u8], way: Way, is_put: bool) -> bool {
+    let call = |buffer: &mut [u32]| {
         match way {
-            Way::Strict => wide_utf8_to_utf16(bytes, room),
-            Way::Lossy => wide_utf8_to_utf16_lossy(bytes, room),
-            Way::By(number) => wide_utf8_to_utf16_lossy_with(bytes, number, room),
+            Way::Strict => wide_utf8_to_utf32(bytes, buffer),
+            Way::Lossy => wide_utf8_to_utf32_lossy(bytes, buffer),
+            Way::By(number) => wide_utf8_to_utf32_lossy_with(bytes, number, buffer),
+            Way::ByNone => wide_utf8_to_utf32_lossy_with(bytes, u32::MAX, buffer),
         }
     };
-    fills(alloc, call, units, is_put, 0xaaaa)
-}
-
-fn puts_scalars(alloc: Global, bytes: &[u8], way: Way, scalars: &[u32], is_put: bool) -> bool {
-    let call = |room: &mut [u32]| {
-        match way {
-            Way::Strict => wide_utf8_to_utf32(bytes, room),
-            Way::Lossy => wide_utf8_to_utf32_lossy(bytes, room),
-            Way::By(number) => wide_utf8_to_utf32_lossy_with(bytes, number, room),
-        }
-    };
-    fills(alloc, call, scalars, is_put, 0xaaaa_aaaa)
+    target.is_filled(call, is_put)
 }
 
 // Whether the standard library itself reads bytes so, and the first fault stands where it says.
-fn is_read_so(alloc: Global, bytes: &[u8], wanted: &Wanted) -> bool {
+fn is_read_so(alloc: Global, bytes: &[u8], wanted: &[u8], is_text: bool) -> bool {
     let fault = match str::from_utf8(bytes) {
         Ok(_text) => bytes.len(),
         Err(fault) => fault.valid_up_to(),
     };
     let is_lossy = match String::from_utf8_lossy(alloc, bytes) {
-        Ok(lossy) => lossy.as_bytes() == wanted.bytes,
+        Ok(lossy) => lossy.as_bytes() == wanted,
         Err(_refused) => false,
     };
-    let is_text = wanted.is_text == (fault == bytes.len());
-    is_lossy & is_text & (wide_utf8_first_fault(bytes) == fault)
+    let is_whole = is_text == (fault == bytes.len());
+    is_lossy & is_whole & (wide_utf8_first_fault(bytes) == fault)
 }
 
-// Puts this at a place of a text, as far as it fits.
-fn put_kind<T: Copy>(text: &mut [T], place: usize, kind: &[T]) {
-    for (at, item) in kind.iter().enumerate() {
-        if let Some(unit) = text.get_mut(place.saturating_add(at)) {
-            *unit = *item;
-        }
-    }
-}
-
-// Whether this holds of letters with each kind put at each place, from the first to the last, of texts of a length.
-fn holds_of_length<T: Copy, F: Fn(Global, &[T]) -> Result<bool, AllocError>>(
+// Whether this holds by each policy of letters with a middle at an offset.
+fn holds_with<T: Form, F: Fn(Global, &mut Targets, &[T], &Case) -> bool>(
     alloc: Global,
-    letter: T,
-    kinds: &[&[T]],
+    targets: &mut Targets,
     len: usize,
-    places: (usize, usize),
+    before: usize,
+    middle: &[T],
     holds: &F,
 ) -> Result<bool, AllocError>
     requires { F.IsAlwaysCallable holds.now }
 {
+    let letters = T::letters(&targets.letters).get(..len).unwrap_or_default();
+    let mut text = letters.to_vec(alloc)?;
+    let after = len.saturating_sub(put(&mut text, before, middle));
+    let items = T::items(alloc, middle)?;
     let mut well = true;
-    for place in places.0..=places.1 {
-        for kind in kinds {
-            let mut text = vec![in alloc; letter; len]?;
-            put_kind(&mut text, place, kind);
-            well &= holds(alloc, &text) == Ok(true);
+    for (policy, ways) in POLICIES.iter() {
+        let case = Case {
+            before,
+            items: &items,
+            after,
+            ways: *ways,
+        };
+        // Without faults the text is the same by each policy, and is made once.
+        if case.is_each() || !case.is_text() {
+            well &= targets.want(alloc, &case, *policy) == Ok(());
         }
+        well &= holds(alloc, targets, &text, &case);
     }
     Ok(well)
 }
 
-// The first length of texts of which this does not hold.
-pub(crate) fn first_failure<T: Copy, F: Fn(Global, &[T]) -> Result<bool, AllocError>>(
+// Whether it holds with each kind at an offset, as far as it fits.
+fn holds_at<T: Form, F: Fn(Global, &mut Targets, &[T], &Case) -> bool>(
     alloc: Global,
-    letter: T,
+    targets: &mut Targets,
+    kinds: &[&[T]],
+    len: usize,
+    offset: usize,
+    holds: &F,
+) -> bool
+    requires { F.IsAlwaysCallable holds.now }
+{
+    let space = len.saturating_sub(offset);
+    let mut well = true;
+    // Where nothing fits, all kinds give the same text.
+    let count = if space == 0 { 1 } else { kinds.len() };
+    for kind in kinds.iter().take(count) {
+        let middle = kind.get(..space).unwrap_or(*kind);
+        well &= holds_with(alloc, targets, len, offset, middle, holds) == Ok(true);
+    }
+    well
+}
+
+// The first length of texts of letters of which this does not hold.
+pub(crate) fn first_failure<T: Form, F: Fn(Global, &mut Targets, &[T], &Case) -> bool>(
+    alloc: Global,
+    letter: char,
     kinds: &[&[T]],
     lengths: &[(usize, usize, usize, usize)],
     holds: F,
-) -> Option<usize>
+) -> Result<Option<usize>, AllocError>
     requires { F.IsAlwaysCallable holds }
 {
+    let mut targets = Targets::new(alloc, letter)?;
     for (least, greatest, first, last) in lengths {
         for len in *least..=*greatest {
-            let places = (*first, len.min(*last));
-            if holds_of_length(alloc, letter, kinds, len, places, &holds) != Ok(true) {
-                return Some(len);
+            for offset in *first..=len.min(*last) {
+                if !holds_at(alloc, &mut targets, kinds, len, offset, &holds) {
+                    return Ok(Some(len));
+                }
             }
         }
     }
-    None
+    Ok(None)
 }
 
 // Fails where texts of a length do not do so, and names the length, and the letter that they are of.
-pub(crate) fn none_fails(rt: &impl Abort, letter: u32, failing: Option<usize>) {
-    assert_eq!(rt; failing, None, "among {letter:x}");
+pub(crate) fn none_fails(
+    rt: &impl Abort,
+    letter: char,
+    failing: Result<Option<usize>, AllocError>,
+) {
+    assert_eq!(rt; failing, Ok(None), "among {letter}");
 }
 
 // Fails where a row does not hold, and names the first that does not by its place, counted from 0.
@@ -438,22 +573,22 @@ pub(crate) fn all_hold(rt: &impl Abort, rows: &[bool]) {
 
 #[test]
 fn units_of_16_bits(rt: HostRuntime) {
-    for letter in [0x61, 0x3042] {
-        let failing = first_failure(rt.alloc(), letter, &KINDS16, &LENGTHS, converts16);
-        none_fails(&rt, u32::from(letter), failing);
+    for letter in ['a', '\u{3042}'] {
+        let failing = first_failure(rt.alloc(), letter, &KINDS16, &LENGTHS, holds16);
+        none_fails(&rt, letter, failing);
     }
 }
 
 #[test]
 fn units_of_32_bits(rt: HostRuntime) {
-    for letter in [0x61, 0x3042] {
-        let failing = first_failure(rt.alloc(), letter, &KINDS32, &LENGTHS, converts32);
+    for letter in ['a', '\u{3042}'] {
+        let failing = first_failure(rt.alloc(), letter, &KINDS32, &LENGTHS, holds32);
         none_fails(&rt, letter, failing);
     }
 }
 
 #[test]
 fn bytes(rt: HostRuntime) {
-    let failing = first_failure(rt.alloc(), 0x61, &KINDS8, &LENGTHS, converts8);
-    none_fails(&rt, 0x61, failing);
+    let failing = first_failure(rt.alloc(), 'a', &KINDS8, &LENGTHS, holds8);
+    none_fails(&rt, 'a', failing);
 }

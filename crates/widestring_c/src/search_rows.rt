@@ -7,7 +7,7 @@ use crate::search::{
 };
 
 #[test]
-fn places(rt: HostRuntime) {
+fn finds_units_of_a_text(rt: HostRuntime) {
     let mut units = [0x61u16; 72];
     units[69] = 0;
     units[70] = 0xd83d;

@@ -8,7 +8,8 @@ ghost use Rattle.widestring_c.specs.Policies.{policy_of};
 
 use crate::policies::policy_of;
 use crate::rooms::put_items;
-use wide_blocks::{encode_front, encode_whole, is_after_fault, is_marked, lossy_front, sound_len};
+use wide_blocks::{encode_front, is_after_fault, lossy_front, sound_len};
+use wide_from_utf16::{encode_whole, is_marked};
 use wide_unit::{Policy, Unit, check};
 
 // The text of a few units is put into a small array before it is copied, that of others into a larger one.

@@ -1,31 +1,41 @@
-//! Callers of the library, and its tests, but for those of views and of owned strings.
+//! Callers of the library, and the tests that data can't say, which `widestring_vectors` has.
 //!
-//! The callers show what the contracts tell at concrete types; each is proved. The tests have worked rows, the tables of
-//! the Unicode Standard and printed texts, and call each public function with ample memory. Views and owned
-//! strings have crates of tests of their own, `widestring_text_tests` and `widestring_string_tests`.
+//! The callers show what the contracts tell at concrete types; each is proved. The tests are of hostile sources, of sources that go on after their
+//! end, of devices, of errors and laws, of edits made at random and of edits that an allocation failure stops, of the code of README.md, and loops
+//! over texts that are compared with the standard library.
 #![tactic(auto)]
 
 #[cfg(test)]
-mod bytes_rows;
+mod all_hold;
+#[cfg(test)]
+mod caller_tests;
 pub mod callers;
 #[cfg(test)]
-mod decode32_rows;
+mod device_tests;
 #[cfg(test)]
-mod device_rows;
+mod edit_failure_tests;
 #[cfg(test)]
-mod encode_rows;
+mod edit_script_tests;
 pub mod encoders;
 #[cfg(test)]
-mod error_rows;
+mod error_tests;
 #[cfg(test)]
-mod iter_rows;
+mod law_tests;
+#[cfg(test)]
+mod offset_tests;
 #[cfg(test)]
 mod paths;
 #[cfg(test)]
-mod piece_rows;
+mod piece_tests;
 #[cfg(test)]
-mod readme;
+mod plain;
 #[cfg(test)]
-mod rows;
+mod random;
 #[cfg(test)]
-mod unit_rows;
+mod readme_string_tests;
+#[cfg(test)]
+mod readme_tests;
+#[cfg(test)]
+mod resumed_source_tests;
+#[cfg(test)]
+mod source_tests;

@@ -10,25 +10,37 @@ macro_rules! asked {
     };
 }
 
+mod bytes;
+mod chars32;
+mod compare;
 mod conversions;
 mod devices;
 mod drain;
 mod edits;
 mod encode;
+mod files;
 mod from_slice;
 mod hints;
 mod items;
 mod lossy;
 mod offsets;
+mod pieces;
 mod policies;
+mod prints;
 mod searches;
+mod text_calls;
 mod texts;
 mod ucstring;
+mod ucstring_calls;
+mod units;
 mod ustring;
+mod ustring_calls;
 mod utfstring;
+mod views;
+mod walks;
+mod width;
 
-use crate::parse::NoAnswer;
-use std::alloc::Global;
+use crate::parse::{Memory, NoAnswer};
 use widestring::Policy;
 
 /// A family of cases, with a file of its own.
@@ -108,6 +120,32 @@ pub enum Family {
     Texts16,
     /// The same of 32-bit units.
     Texts32,
+    /// Views of 16-bit units, of their text and of C strings, and what they are cut into.
+    Views16,
+    /// The same of 32-bit units.
+    Views32,
+    /// What the iterators of a view of 16-bit units answer.
+    Walks16,
+    /// The same of 32-bit units.
+    Walks32,
+    /// What views, strings and iterators of 16-bit units print.
+    Prints16,
+    /// The same of 32-bit units.
+    Prints32,
+    /// Comparisons of two lists of 16-bit units, as views and as strings.
+    Compare16,
+    /// The same of 32-bit units.
+    Compare32,
+    /// 16-bit units one by one, and lists of them.
+    Units16,
+    /// 32-bit units one by one, and lists of them.
+    Units32,
+    /// The bytes of 16-bit units.
+    Bytes16,
+    /// The bytes of 32-bit units.
+    Bytes32,
+    /// Bytes as UTF-16 and as UTF-8.
+    Files,
     /// Lossy text of 16-bit units.
     LossyText16,
     /// Lossy text of 32-bit units.
@@ -136,11 +174,17 @@ pub enum Family {
     Searches16,
     /// Searches in 32-bit units, and in text of them.
     Searches32,
+    /// Scripts of calls of strings of any 16-bit units.
+    UstringCalls16,
+    /// Scripts of calls of strings of any 32-bit units.
+    UstringCalls32,
+    /// Calls by characters, of strings of 32-bit units.
+    Chars32,
 }
 
 impl Family {
     /// All families, in the order in which they are printed.
-    pub const ALL: [Family; 51] = [
+    pub const ALL: [Family; 67] = [
         Family::Items16,
         Family::Items32,
         Family::Lossy16,
@@ -178,6 +222,19 @@ impl Family {
         Family::Utfstring32,
         Family::Texts16,
         Family::Texts32,
+        Family::Views16,
+        Family::Views32,
+        Family::Walks16,
+        Family::Walks32,
+        Family::Prints16,
+        Family::Prints32,
+        Family::Compare16,
+        Family::Compare32,
+        Family::Units16,
+        Family::Units32,
+        Family::Bytes16,
+        Family::Bytes32,
+        Family::Files,
         Family::LossyText16,
         Family::LossyText32,
         Family::ToString16,
@@ -192,6 +249,9 @@ impl Family {
         Family::Transcode,
         Family::Searches16,
         Family::Searches32,
+        Family::UstringCalls16,
+        Family::UstringCalls32,
+        Family::Chars32,
     ];
 
     /// The family's name, which is its file's without `.txt`.
@@ -234,6 +294,19 @@ impl Family {
             Family::Utfstring32 => "utfstring32",
             Family::Texts16 => "texts16",
             Family::Texts32 => "texts32",
+            Family::Views16 => "views16",
+            Family::Views32 => "views32",
+            Family::Walks16 => "walks16",
+            Family::Walks32 => "walks32",
+            Family::Prints16 => "prints16",
+            Family::Prints32 => "prints32",
+            Family::Compare16 => "compare16",
+            Family::Compare32 => "compare32",
+            Family::Units16 => "units16",
+            Family::Units32 => "units32",
+            Family::Bytes16 => "bytes16",
+            Family::Bytes32 => "bytes32",
+            Family::Files => "files",
             Family::LossyText16 => "lossy_text16",
             Family::LossyText32 => "lossy_text32",
             Family::ToString16 => "to_string16",
@@ -248,6 +321,9 @@ impl Family {
             Family::Transcode => "transcode",
             Family::Searches16 => "searches16",
             Family::Searches32 => "searches32",
+            Family::UstringCalls16 => "ustring_calls16",
+            Family::UstringCalls32 => "ustring_calls32",
+            Family::Chars32 => "chars32",
         }
     }
 
@@ -267,10 +343,16 @@ impl Family {
     }
 
     /// What the library answers to a question about a list, as the data writes it.
-    pub fn answer(self, alloc: Global, list: &str, question: &str) -> Result<String, NoAnswer> {
+    pub fn answer(
+        self,
+        memory: Memory<'_>,
+        list: &str,
+        question: &str,
+    ) -> Result<String, NoAnswer> {
+        let alloc = memory.alloc;
         match self {
-            Family::Items16 => items::utf16(alloc, list, question),
-            Family::Items32 => items::utf32(alloc, list, question),
+            Family::Items16 => items::utf16(memory, list, question),
+            Family::Items32 => items::utf32(memory, list, question),
             Family::Lossy16 => lossy::utf16(alloc, list, question),
             Family::Lossy32 => lossy::utf32(alloc, list, question),
             Family::Offsets16 => offsets::places::<u16>(alloc, list, question),
@@ -286,6 +368,19 @@ impl Family {
             Family::HintsLossy32 => hints::lossy_utf32(alloc, list, question),
             Family::HintsEncode8 => hints::of_utf8_encoder(alloc, list, question),
             Family::HintsEncode16 => hints::of_utf16_encoder(alloc, list, question),
+            _ => self.answer_of_strings(memory, list, question),
+        }
+    }
+
+    // What owned strings answer, or else what views do.
+    fn answer_of_strings(
+        self,
+        memory: Memory<'_>,
+        list: &str,
+        question: &str,
+    ) -> Result<String, NoAnswer> {
+        let alloc = memory.alloc;
+        match self {
             Family::Pop16 => ustring::pop::<u16>(alloc, list, question),
             Family::Pop32 => ustring::pop::<u32>(alloc, list, question),
             Family::Remove16 => ustring::remove::<u16>(alloc, list, question),
@@ -300,26 +395,69 @@ impl Family {
             Family::Retain32 => ustring::retain::<u32>(alloc, list, question),
             Family::SplitOff16 => ustring::split_off::<u16>(alloc, list, question),
             Family::SplitOff32 => ustring::split_off::<u32>(alloc, list, question),
-            Family::Ucstring16 => ucstring::made::<u16>(alloc, list, question),
-            Family::Ucstring32 => ucstring::made::<u32>(alloc, list, question),
-            Family::Utfstring16 => utfstring::script::<u16>(alloc, list, question),
-            Family::Utfstring32 => utfstring::script::<u32>(alloc, list, question),
-            Family::Texts16 => texts::utf16(alloc, list, question),
-            Family::Texts32 => texts::utf32(alloc, list, question),
-            Family::LossyText16 => conversions::lossy::<u16>(alloc, list, question),
-            Family::LossyText32 => conversions::lossy::<u32>(alloc, list, question),
-            Family::ToString16 => conversions::text16(alloc, list, question),
-            Family::ToString32 => conversions::text32(alloc, list, question),
-            Family::Each16 => policies::utf16(alloc, list, question, Policy::Each),
-            Family::Run16 => policies::utf16(alloc, list, question, Policy::Run),
-            Family::Skip16 => policies::utf16(alloc, list, question, Policy::Skip),
-            Family::Each32 => policies::utf32(alloc, list, question, Policy::Each),
-            Family::Run32 => policies::utf32(alloc, list, question, Policy::Run),
-            Family::Skip32 => policies::utf32(alloc, list, question, Policy::Skip),
+            Family::Ucstring16 => ucstring::made::<u16>(memory, list, question),
+            Family::Ucstring32 => ucstring::made::<u32>(memory, list, question),
+            Family::Utfstring16 => utfstring::script::<u16>(memory, list, question),
+            Family::Utfstring32 => utfstring::script::<u32>(memory, list, question),
+            Family::UstringCalls16 => ustring_calls::script::<u16>(memory, list, question),
+            Family::UstringCalls32 => ustring_calls::script::<u32>(memory, list, question),
+            Family::Chars32 => chars32::made(memory, list, question),
+            _ => self.answer_of_views(memory, list, question),
+        }
+    }
+
+    // What views answer, or else what conversions, edits and searches do.
+    fn answer_of_views(
+        self,
+        memory: Memory<'_>,
+        list: &str,
+        question: &str,
+    ) -> Result<String, NoAnswer> {
+        let alloc = memory.alloc;
+        match self {
+            Family::Texts16 => texts::text::<u16>(alloc, list, question),
+            Family::Texts32 => texts::text::<u32>(alloc, list, question),
+            Family::Views16 => views::view::<u16>(memory, list, question),
+            Family::Views32 => views::view::<u32>(memory, list, question),
+            Family::Walks16 => walks::walk::<u16>(memory, list, question),
+            Family::Walks32 => walks::walk::<u32>(memory, list, question),
+            Family::Prints16 => prints::printed::<u16>(memory, list, question),
+            Family::Prints32 => prints::printed::<u32>(memory, list, question),
+            Family::Compare16 => compare::compared::<u16>(memory, list, question),
+            Family::Compare32 => compare::compared::<u32>(memory, list, question),
+            Family::Units16 => units::asked::<u16>(memory, list, question),
+            Family::Units32 => units::asked::<u32>(memory, list, question),
+            Family::Bytes16 => bytes::of_units16(memory, list, question),
+            Family::Bytes32 => bytes::of_units32(memory, list, question),
+            Family::Files => files::of_bytes(memory, list, question),
+            _ => self.answer_of_texts(memory, list, question),
+        }
+    }
+
+    // What conversions, edits and searches answer.
+    fn answer_of_texts(
+        self,
+        memory: Memory<'_>,
+        list: &str,
+        question: &str,
+    ) -> Result<String, NoAnswer> {
+        let alloc = memory.alloc;
+        match self {
+            Family::LossyText16 => conversions::lossy::<u16>(memory, list, question),
+            Family::LossyText32 => conversions::lossy::<u32>(memory, list, question),
+            Family::ToString16 => conversions::text16(memory, list, question),
+            Family::ToString32 => conversions::text32(memory, list, question),
+            Family::Each16 => policies::utf16(memory, list, question, Policy::Each),
+            Family::Run16 => policies::utf16(memory, list, question, Policy::Run),
+            Family::Skip16 => policies::utf16(memory, list, question, Policy::Skip),
+            Family::Each32 => policies::utf32(memory, list, question, Policy::Each),
+            Family::Run32 => policies::utf32(memory, list, question, Policy::Run),
+            Family::Skip32 => policies::utf32(memory, list, question, Policy::Skip),
             Family::Edits => edits::replies(alloc, list, question),
             Family::Transcode => devices::run(alloc, list, question),
             Family::Searches16 => searches::found::<u16>(alloc, list, question),
             Family::Searches32 => searches::found::<u32>(alloc, list, question),
+            _ => Err(NoAnswer::Unparsed),
         }
     }
 }

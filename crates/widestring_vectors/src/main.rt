@@ -1,4 +1,5 @@
-//! Replays the answers of Rust's crate of this name, as `data/` records them, with this library.
+//! Replays the answers of Rust's crate of this name, and answers worked out from the definitions, as `data/` records them, with this library. README.md
+//! explains a line of each family.
 //!
 //! A file of `data/` is a family, and a line of it a list of units or characters in hexadecimal, and then cases, each
 //! after a `|`: a question, a `=` and the answer. Where the crate's own answer is wrong, the answer is the mended one, and
@@ -15,9 +16,11 @@ mod replay;
 mod show;
 
 use families::Family;
+use parse::Memory;
 use replay::Replay;
 use std::process::ExitCode;
 use std::{fs, io};
+use widestring_testing::Limited;
 
 // Replays a family, prints its line, and answers its first difference, where it has one.
 fn run_family(rt: &HostRuntime, family: Family) -> io::Result<Option<String>> {
@@ -27,9 +30,14 @@ fn run_family(rt: &HostRuntime, family: Family) -> io::Result<Option<String>> {
         println!(rt; "{name}: not read")?;
         return Ok(Some(format!(in rt.alloc(); "{path} can't be read")?));
     };
+    let heap = Limited::new(rt.alloc());
+    let memory = Memory {
+        heap: &heap,
+        alloc: rt.alloc(),
+    };
     let mut replay = Replay::new(family);
     for line in text.lines() {
-        replay.line(rt.alloc(), line)?;
+        replay.line(memory, line)?;
     }
     println!(rt; "{replay}")?;
     Ok(replay.into_first())

@@ -3,6 +3,7 @@ use std::alloc::{AllocError, AllocFailed, Global};
 use std::ops::Bound;
 use widestring::error::OutOfMemory;
 use widestring::iter::End;
+use widestring_testing::Heap;
 
 /// Why a question has no answer.
 #[derive(Clone, Copy, Debug, PartialEq, Eq)]
@@ -28,6 +29,23 @@ impl<T: Drop> From<AllocFailed<T>> for NoAnswer {
 impl From<OutOfMemory> for NoAnswer {
     fn from(_: OutOfMemory) -> NoAnswer {
         NoAnswer::OutOfMemory
+    }
+}
+
+/// Where memory comes from: the heap that calls of the library get, whose requests are counted and fail when the replay says so, and the
+/// memory of all else.
+#[derive(Clone, Copy)]
+pub struct Memory<'a> {
+    /// What a call of the library gets.
+    pub heap: &'a Heap,
+    /// What the question and the answer are made of.
+    pub alloc: Global,
+}
+
+impl Memory<'_> {
+    /// How many requests the library's calls made since so many were left to be granted.
+    pub fn requests_since(self, left: u64) -> u64 {
+        left.saturating_sub(self.heap.left())
     }
 }
 
@@ -75,14 +93,28 @@ pub fn value<T: FromHex>(word: &str) -> Result<T, NoAnswer> {
     }
 }
 
-/// The values of a list, with a space between two.
+// Adds the values of a word: one, or some with a comma between two, a `*` and how many times they stand there.
+fn push_word<T: FromHex + Drop>(values: &mut Vec<T>, word: &str) -> Result<(), NoAnswer> {
+    let (group, count) = match word.split_once('*') {
+        Some((group, count)) => (group, value::<usize>(count)?),
+        None => (word, 1),
+    };
+    for _ in 0..count {
+        for word in group.split(',') {
+            values.push(value(word)?)?;
+        }
+    }
+    Ok(())
+}
+
+/// The values of a list, with a space between two words. A word with a `*` stands for repeated values: `61,62*10` for `61 62`, sixteen times.
 pub fn list<T: FromHex + Drop>(alloc: Global, text: &str) -> Result<Vec<T>, NoAnswer> {
     let mut values = Vec::new(alloc);
     if text.is_empty() {
         return Ok(values);
     }
     for word in text.split(' ') {
-        values.push(value(word)?)?;
+        push_word(&mut values, word)?;
     }
     Ok(values)
 }
@@ -99,6 +131,26 @@ pub fn calls(alloc: Global, word: &str) -> Result<Vec<End>, NoAnswer> {
         ends.push(end)?;
     }
     Ok(ends)
+}
+
+/// The steps of a word of the letters `F`, `B` and `C`: a call from an end or, at a `C`, a copy to go on with.
+pub fn steps(alloc: Global, word: &str) -> Result<Vec<Option<End>>, NoAnswer> {
+    let mut steps = Vec::new(alloc);
+    for letter in word.bytes() {
+        let step = match letter {
+            b'F' => Some(End::Front),
+            b'B' => Some(End::Back),
+            b'C' => None,
+            _ => return Err(NoAnswer::Unparsed),
+        };
+        steps.push(step)?;
+    }
+    Ok(steps)
+}
+
+/// The word that a question begins with, and what stands after the space behind it.
+pub fn word(question: &str) -> (&str, &str) {
+    question.split_once(' ').unwrap_or((question, ""))
 }
 
 /// The letter that a question begins with, and the rest.

@@ -1,6 +1,6 @@
 //! The replay of a family, and its tally.
 use crate::families::Family;
-use crate::parse::NoAnswer;
+use crate::parse::{Memory, NoAnswer};
 use std::alloc::{AllocError, Global};
 use std::fmt;
 
@@ -63,14 +63,14 @@ impl Replay {
     }
 
     /// Replays each case of a line. A line without one is a difference.
-    pub fn line(&mut self, alloc: Global, line: &str) -> Result<(), AllocError> {
+    pub fn line(&mut self, memory: Memory<'_>, line: &str) -> Result<(), AllocError> {
         let Some((list, cases)) = line.split_once('|') else {
-            return self.unparsed(alloc, line, "");
+            return self.unparsed(memory.alloc, line, "");
         };
         for text in cases.split('|') {
             match parse_case(list, text) {
-                Some(case) => self.case(alloc, &case)?,
-                None => self.unparsed(alloc, list, text)?,
+                Some(case) => self.case(memory, &case)?,
+                None => self.unparsed(memory.alloc, list, text)?,
             }
         }
         Ok(())
@@ -81,13 +81,35 @@ impl Replay {
         self.first
     }
 
-    // Replays a case.
-    fn case(&mut self, alloc: Global, case: &Case) -> Result<(), AllocError> {
-        match self.family.answer(alloc, case.list, case.question) {
-            Ok(got) => self.compare(alloc, case, got.as_str()),
+    // Replays a case with ample memory, and then with each request of the library's calls failing in turn.
+    fn case(&mut self, memory: Memory<'_>, case: &Case) -> Result<(), AllocError> {
+        let alloc = memory.alloc;
+        memory.heap.set(u64::MAX);
+        match self.family.answer(memory, case.list, case.question) {
+            Ok(got) => {
+                let requests = u64::MAX - memory.heap.left();
+                if self.reports_failures(memory, case, requests) {
+                    self.compare(alloc, case, got.as_str())
+                } else {
+                    self.different(alloc, case, "no allocation failure")
+                }
+            }
             Err(NoAnswer::Unparsed) => self.unparsed(alloc, case.list, case.question),
             Err(NoAnswer::OutOfMemory) => Err(AllocError),
         }
+    }
+
+    // Whether a case ends in an allocation failure, at the request that fails, if only so many requests are granted: none, one and so on.
+    fn reports_failures(&self, memory: Memory<'_>, case: &Case, requests: u64) -> bool {
+        let heap = memory.heap;
+        for granted in 0..requests {
+            heap.set(granted);
+            match self.family.answer(memory, case.list, case.question) {
+                Err(NoAnswer::OutOfMemory) if heap.refused_one() => {}
+                _ => return false,
+            }
+        }
+        true
     }
 
     // Compares an answer with the right one.

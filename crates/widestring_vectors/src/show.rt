@@ -1,12 +1,13 @@
 //! Writing answers as the data does, with a space between two.
 use crate::parse::{FromHex, NoAnswer};
-use std::alloc::{AllocError, Global};
+use std::alloc::{AllocError, Allocator, Global};
+use std::cmp::Ordering;
 use std::fmt::Write;
 use widestring::error::{ContainsNul, DecodeUtf16Error, DecodeUtf32Error, FaultUnit, UtfError};
 use widestring::unit::Unit;
 
 /// A unit, with the way to read it from its fault.
-pub trait ToldUnit: FaultUnit + FromHex {
+pub trait ToldUnit: FaultUnit + FromHex + PartialEq + 'static {
     /// The number of the unit that a fault tells.
     fn told(fault: Self::Fault) -> u32;
 }
@@ -108,7 +109,7 @@ impl Answer {
     }
 
     /// Adds the index, the item number and the unit of a first fault.
-    pub fn first_fault<C: ToldUnit>(&mut self, fault: &UtfError<C>) {
+    pub fn first_fault<C: ToldUnit, A: Allocator>(&mut self, fault: &UtfError<C, A>) {
         self.told_fault(fault.index(), fault.item(), C::told(fault.cause()));
     }
 
@@ -120,7 +121,7 @@ impl Answer {
     }
 
     /// Adds the index and the item number of a first fault.
-    pub fn fault_at<C: ToldUnit>(&mut self, fault: &UtfError<C>) {
+    pub fn fault_at<C: ToldUnit, A: Allocator>(&mut self, fault: &UtfError<C, A>) {
         self.fault_place(fault.index(), fault.item());
     }
 
@@ -162,6 +163,30 @@ impl Answer {
         self.number(c.map(u32::from));
     }
 
+    /// Adds the characters of a text in hexadecimal.
+    pub fn text(&mut self, text: &str) {
+        for c in text.chars() {
+            self.character(Some(c));
+        }
+    }
+
+    /// Adds bytes in hexadecimal.
+    pub fn bytes(&mut self, bytes: &[u8]) {
+        for byte in bytes {
+            self.number(Some(u32::from(*byte)));
+        }
+    }
+
+    /// Adds an order: `<`, `=` or `>`.
+    pub fn order(&mut self, order: Ordering) {
+        self.gap();
+        self.word(match order {
+            Ordering::Less => "<",
+            Ordering::Equal => "=",
+            Ordering::Greater => ">",
+        });
+    }
+
     /// Adds a unit in hexadecimal, or a `-` for none.
     pub fn unit<C: Unit>(&mut self, unit: Option<C>) {
         match unit {
@@ -174,6 +199,14 @@ impl Answer {
     pub fn units<C: Unit>(&mut self, units: &[C]) {
         for unit in units {
             self.number(Some(unit.code()));
+        }
+    }
+
+    /// Adds the units of a part in hexadecimal, or a `-` for none.
+    pub fn units_or_none<C: Unit>(&mut self, units: Option<&[C]>) {
+        match units {
+            None => self.number(None),
+            Some(units) => self.units(units),
         }
     }
 
@@ -190,7 +223,7 @@ impl Answer {
 
     /// Adds the place of an inner NUL after a `!`, and as a second part the units of the vector that is handed back, or a
     /// `-` for none.
-    pub fn inner_nul<C: Unit>(&mut self, error: ContainsNul<C>) {
+    pub fn inner_nul<C: Unit, A: Allocator>(&mut self, error: ContainsNul<C, A>) {
         self.gap();
         self.word("!");
         self.hex(error.nul_position() as u64);
@@ -199,11 +232,17 @@ impl Answer {
     }
 
     /// Adds the units of a vector that is handed back, or a `-` for none.
-    pub fn handed_back<C: Unit>(&mut self, vec: Option<Vec<C>>) {
+    pub fn handed_back<C: Unit, A: Allocator>(&mut self, vec: Option<Vec<C, A>>) {
         match vec {
             None => self.number(None),
             Some(units) => self.units(&units),
         }
+    }
+
+    /// Adds a number of requests after a `#`.
+    pub fn requests(&mut self, requests: u64) {
+        self.word("#");
+        self.hex(requests);
     }
 
     /// The whole answer.

@@ -4,7 +4,7 @@ use crate::driver::whole;
 use std::alloc::{AllocError, Global};
 use std::env::FillError;
 use std::rt::Env;
-use widestring_test_devices::Slow;
+use widestring_testing::SlowSink;
 use widetext_base::{USAGE, WRONG_USAGE, gather};
 
 // The arguments of a call, with the program's name first, as the system gives them: in bytes.
@@ -77,7 +77,7 @@ fn gathered_arguments(rt: HostRuntime) {
 
 // Whether arguments are refused as a usage error, which is said once and in one line.
 fn is_usage_error(alloc: Global, all: &[&[u8]]) -> Result<bool, AllocError> {
-    let mut faults: Slow = whole(alloc, 4096);
+    let mut faults: SlowSink = whole(alloc, 4096);
     let gathered = gather(&(Arguments { all }, alloc), &mut faults);
     let mut line = String::from_str(alloc, USAGE)?;
     line.push('\n')?;

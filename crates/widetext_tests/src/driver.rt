@@ -3,7 +3,7 @@ ghost use Rattle.std.specs.Prelude.{◌≡◌, false};
 
 use std::alloc::{AllocError, Global};
 use wide_bytes::{ByteSink, ByteSource};
-use widestring_test_devices::{Cut, Slow};
+use widestring_testing::{SlowSink, SlowSource};
 
 /// The programs of the repository that have the word `utf8`.
 #[derive(Clone, Copy, Drop)]
@@ -38,9 +38,9 @@ pub fn command<S: ByteSource, K: ByteSink, F: ByteSink>(
 #[derive(Drop)]
 pub struct Ended<'a> {
     pub status: u8,
-    pub source: Cut<'a>,
-    pub sink: Slow,
-    pub said: Slow,
+    pub source: SlowSource<'a>,
+    pub sink: SlowSink,
+    pub said: SlowSink,
 }
 
 impl Ended<'_> {
@@ -71,10 +71,10 @@ pub fn strings(alloc: Global, words: &[&str]) -> Result<Vec<String>, AllocError>
 }
 
 /// A sink without a limit that takes at most so many bytes a call.
-pub fn whole(alloc: Global, step: usize) -> Slow
+pub fn whole(alloc: Global, step: usize) -> SlowSink
     ensures failed { result.failed ≡ false }
 {
-    Slow::new(alloc, step, None, false)
+    SlowSink::new(alloc, step, None, false)
 }
 
 /// Runs a program's command.
@@ -82,9 +82,9 @@ pub fn run<'a>(
     alloc: Global,
     program: Program,
     words: &[&str],
-    mut source: Cut<'a>,
-    mut sink: Slow,
-    mut said: Slow,
+    mut source: SlowSource<'a>,
+    mut sink: SlowSink,
+    mut said: SlowSink,
 ) -> Result<Ended<'a>, AllocError>
     requires source_sound { source.failed ≡ false }
     requires source_open { source.ended ≡ false }

@@ -5,7 +5,7 @@ use std::alloc::{AllocError, Global};
 use std::io;
 use std::io::Write;
 use std::test::Fail;
-use widestring_test_devices::{Cut, Slow};
+use widestring_testing::{SlowSink, SlowSource};
 use widetext_base::{REFUSED, SUCCESS, WRONG_USAGE, finish};
 
 // A run that is refused: its words, its input, how much of its output is taken, its status and what it says.
@@ -58,15 +58,15 @@ static REFUSED_RUNS: [Refused; 5] = [
 // Whether the line is put in one call where that takes all of it, and where the first call fails there is no other, and the rest is the
 // same.
 fn is_said_once(alloc: Global, program: Program, row: &Refused) -> Result<bool, AllocError> {
-    let sink = Slow::new(alloc, 4096, row.room, false);
-    let source = Cut::new(row.input, 4096);
+    let sink = SlowSink::new(alloc, 4096, row.room, false);
+    let source = SlowSource::new(row.input, 4096);
     let told = run(alloc, program, row.words, source, sink, whole(alloc, 4096))?;
     let mut well = told.status == row.status;
     well &= told.said.calls == 1;
     well &= told.said.bytes.as_slice() == row.said;
-    let sink = Slow::new(alloc, 4096, row.room, false);
-    let source = Cut::new(row.input, 4096);
-    let deaf = Slow::new(alloc, 4096, Some(0), false);
+    let sink = SlowSink::new(alloc, 4096, row.room, false);
+    let source = SlowSource::new(row.input, 4096);
+    let deaf = SlowSink::new(alloc, 4096, Some(0), false);
     let lost = run(alloc, program, row.words, source, sink, deaf)?;
     well &= lost.status == row.status;
     well &= lost.said.calls == 1;

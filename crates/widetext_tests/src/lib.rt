@@ -1,4 +1,4 @@
-//! The rows of the programs, over devices in memory: whole ones, slow ones, and ones that fail at a call.
+//! What cases of the programs can't ask: runs over devices in memory, whole ones, slow ones, and ones that fail at a call.
 #![tactic(auto)]
 
 #[cfg(test)]
@@ -15,5 +15,3 @@ mod long_rows;
 mod memory_rows;
 #[cfg(test)]
 mod utf8_rows;
-#[cfg(test)]
-mod word_rows;

@@ -3,7 +3,7 @@
 use crate::driver::{Program, run, whole};
 use std::alloc::{AllocError, Global};
 use std::fmt::Write;
-use widestring_test_devices::Cut;
+use widestring_testing::SlowSource;
 
 /// How many items or edits there are, and how many bytes the sink takes at most.
 type LongRow = (usize, usize);
@@ -20,7 +20,7 @@ static LONG_ROWS: [LongRow; 6] = [
 
 // Whether a run of these words writes these lines into a sink that takes at most so many bytes a call, and says nothing.
 fn writes(alloc: Global, words: &[&str], lines: &str, step: usize) -> Result<bool, AllocError> {
-    let source = Cut::new(b"a\x00", 4096);
+    let source = SlowSource::new(b"a\x00", 4096);
     let sink = whole(alloc, step);
     let ran = run(alloc, Program::Whole, words, source, sink, whole(alloc, 5))?;
     Ok(ran.is(0, lines.as_bytes(), b"") & (ran.source.calls == 0))

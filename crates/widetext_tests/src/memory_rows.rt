@@ -4,7 +4,7 @@
 use crate::driver::{Program, run};
 use std::alloc::{AllocError, Global};
 use std::test::Fail;
-use widestring_test_devices::{Cut, Slow};
+use widestring_testing::{SlowSink, SlowSource};
 
 // Whether all of the text is written, or memory was refused, and nothing else said or written.
 fn is_whole_or_refused(
@@ -14,11 +14,11 @@ fn is_whole_or_refused(
     input: &[u8],
     text: &[u8],
 ) -> Result<bool, AllocError> {
-    let mut sink = Slow::new(alloc, 4096, None, false);
+    let mut sink = SlowSink::new(alloc, 4096, None, false);
     sink.bytes = Vec::with_capacity(alloc, 64)?;
-    let mut said = Slow::new(alloc, 4096, None, false);
+    let mut said = SlowSink::new(alloc, 4096, None, false);
     said.bytes = Vec::with_capacity(alloc, 64)?;
-    let ran = run(alloc, program, words, Cut::new(input, 3), sink, said)?;
+    let ran = run(alloc, program, words, SlowSource::new(input, 3), sink, said)?;
     Ok(ran.is(0, text, b"") | ran.is(1, b"", b"out of memory\n"))
 }
 

@@ -3,7 +3,7 @@
 use crate::driver::{Program, command, run, strings, whole};
 use std::alloc::{AllocError, Global};
 use wide_bytes::{FromRead, FromWrite};
-use widestring_test_devices::{Cut, Slow};
+use widestring_testing::{SlowSink, SlowSource};
 
 const UTF8: &[&str] = &["utf8"];
 
@@ -166,7 +166,14 @@ fn holds_by_steps(
     let (words, input, text, fault, status) = row;
     let sink = whole(alloc, step);
     let said = whole(alloc, step);
-    let ran = run(alloc, program, words, Cut::new(input, step), sink, said)?;
+    let ran = run(
+        alloc,
+        program,
+        words,
+        SlowSource::new(input, step),
+        sink,
+        said,
+    )?;
     Ok(ran.is(status, text, fault.as_bytes()))
 }
 
@@ -186,7 +193,7 @@ fn takes_of(alloc: Global, program: Program, row: Row) -> Result<usize, AllocErr
         alloc,
         program,
         words,
-        Cut::new(input, 1),
+        SlowSource::new(input, 1),
         whole(alloc, 1),
         whole(alloc, 9),
     )?;
@@ -201,7 +208,7 @@ fn ends_at_source(
     fails_at: usize,
 ) -> Result<bool, AllocError> {
     let (words, input, text, _, _) = row;
-    let source = Cut::failing_at(input, 1, fails_at);
+    let source = SlowSource::failing_at(input, 1, fails_at);
     let ran = run(
         alloc,
         program,
@@ -233,8 +240,8 @@ fn ends_at_sink(
     takes_none: bool,
 ) -> Result<bool, AllocError> {
     let (words, input, text, _, _) = row;
-    let sink = Slow::new(alloc, 1, Some(written), takes_none);
-    let source = Cut::new(input, 4096);
+    let sink = SlowSink::new(alloc, 1, Some(written), takes_none);
+    let source = SlowSource::new(input, 4096);
     let ran = run(alloc, program, words, source, sink, whole(alloc, 9))?;
     let mut well = ran.is_refused(b"write fault\n", text);
     well &= ran.sink.bytes.len() == written;
@@ -260,8 +267,8 @@ fn holds_without_fault_stream(
     row: Row,
 ) -> Result<bool, AllocError> {
     let (words, input, text, _, status) = row;
-    let said = Slow::new(alloc, 1, Some(2), false);
-    let source = Cut::new(input, 4096);
+    let said = SlowSink::new(alloc, 1, Some(2), false);
+    let source = SlowSource::new(input, 4096);
     let ran = run(alloc, program, words, source, whole(alloc, 4096), said)?;
     Ok((ran.status == status) & (ran.sink.bytes.as_slice() == text))
 }
@@ -270,7 +277,7 @@ fn holds_without_fault_stream(
 #[derive(Clone, Copy, Drop)]
 enum Way {
     Whole,
-    Slow,
+    SlowSink,
     FailingSource,
     FailingSink,
     FailingFaultStream,
@@ -279,7 +286,7 @@ enum Way {
 fn holds(alloc: Global, way: Way, program: Program, row: Row) -> Result<bool, AllocError> {
     match way {
         Way::Whole => holds_whole(alloc, program, row),
-        Way::Slow => holds_by_each_step(alloc, program, row),
+        Way::SlowSink => holds_by_each_step(alloc, program, row),
         Way::FailingSource => ends_at_each_take(alloc, program, row),
         Way::FailingSink => ends_at_each_put(alloc, program, row),
         Way::FailingFaultStream => holds_without_fault_stream(alloc, program, row),
@@ -309,7 +316,7 @@ fn rows(rt: HostRuntime) {
 
 #[test]
 fn slow_devices(rt: HostRuntime) {
-    assert_eq!(rt; first_wrong_of_both(rt.alloc(), Way::Slow), None);
+    assert_eq!(rt; first_wrong_of_both(rt.alloc(), Way::SlowSink), None);
 }
 
 #[test]

@@ -1,106 +1,326 @@
-//! Conversions of units of either width. `l` asks for their lossy text, whose answer begins with a `b` where it is borrowed and
-//! with an `o` where it is owned, and `y` for the bytes of that text in UTF-8; after either an `e`, `r` or `s` asks for that under
-//! a policy, `Each`, `Run` or `Skip`. `s` asks for the bytes of their text, or the index and the item number of the fault after a `!`.
-use crate::parse::{self, NoAnswer};
+//! Conversions of units of either width.
+//!
+//! - Of lossy text, `l` asks for the text, whose answer begins with a `b` where it is borrowed and with an `o` where it is owned, and
+//!   `y` for the bytes of that text in UTF-8; after either an `e`, `r` or `s` asks for that under a policy, `Each`, `Run` or `Skip`. A `v` before
+//!   either asks a view of the units, and a `c` a C string of them.
+//! - Of text, `s` asks for its bytes in UTF-8, or the index and the item number of the fault after a `!`; `c` asks a C string for that, and
+//!   `u` a view of well-formed units. `f` asks for the string of a view, or its fault and as a second part the units that are handed
+//!   back; `g` asks the same of a C string. `i` asks for the string of a file, of which the list is the bytes, or an `odd`.
+//! - Of bytes, `L` and `B` ask for the bytes of a view in little and in big endian, and `LM` and `BM` for those behind a byte order mark.
+//!
+//! A conversion makes one request, and none where there is nothing to be stored or text is borrowed; an answer has a `?` where it does not. Lossy
+//! text of which a policy leaves nothing may make one too.
+use crate::families::pieces;
+use crate::parse::{self, Memory, NoAnswer};
 use crate::show::{Answer, ToldUnit};
-use std::alloc::Global;
-use widestring::error::{FaultUnit, Utf16ConvertError, Utf32ConvertError, UtfError};
+use std::alloc::Allocator;
+use widestring::bytes::include_utf16str;
+use widestring::error::{
+    FaultUnit, Utf16BytesError, Utf16ConvertError, Utf32ConvertError, UtfError,
+};
+use widestring::ucstr::UCStr;
 use widestring::ustr::UStr;
+use widestring::utfstr::UtfStr;
 use widestring::utfstring::{CowUtfStr, UtfString};
-use widestring::{Policy, U16Str, U32Str};
+use widestring::{Policy, U16Str, U32Str, Utf16String, Utf32String};
+use widestring_testing::Heap;
 
-fn bytes_of(alloc: Global, text: &str) -> Result<String, NoAnswer> {
-    let mut answer = Answer::new(alloc);
-    for byte in text.bytes() {
-        answer.number(Some(u32::from(byte)));
+// Adds a `?` where the library's calls did not make this number of requests, of all that were to be granted.
+fn check(memory: Memory<'_>, answer: &mut Answer, left: u64, makes_one: bool) {
+    if memory.requests_since(left) != u64::from(makes_one) {
+        answer.word("?");
+    }
+}
+
+fn bytes_of(memory: Memory<'_>, left: u64, bytes: &[u8]) -> Result<String, NoAnswer> {
+    let mut answer = Answer::new(memory.alloc);
+    check(memory, &mut answer, left, !bytes.is_empty());
+    for byte in bytes {
+        answer.number(Some(u32::from(*byte)));
     }
     answer.finish()
 }
 
-fn made<C: FaultUnit>(alloc: Global, made: &CowUtfStr<'_, C>) -> Result<String, NoAnswer> {
-    let mut answer = Answer::new(alloc);
+// What is answered about lossy text.
+fn made<C: FaultUnit>(
+    memory: Memory<'_>,
+    left: u64,
+    made: &CowUtfStr<'_, C, &Heap>,
+) -> Result<String, NoAnswer> {
+    let mut answer = Answer::new(memory.alloc);
     match made {
-        CowUtfStr::Borrowed(_) => answer.word("b"),
-        CowUtfStr::Owned(_) => answer.word("o"),
+        CowUtfStr::Borrowed(_) => {
+            answer.word("b");
+            check(memory, &mut answer, left, false);
+        }
+        CowUtfStr::Owned(text) => {
+            answer.word("o");
+            // A policy may leave nothing of units for which memory was asked.
+            let makes_one = !text.is_empty() || memory.requests_since(left) == 1;
+            check(memory, &mut answer, left, makes_one);
+        }
     }
     answer.units(made.as_utfstr().as_slice());
     answer.finish()
 }
 
-fn policy(letter: u8) -> Result<Policy, NoAnswer> {
-    match letter {
-        b'e' => Ok(Policy::Each),
-        b'r' => Ok(Policy::Run),
-        b's' => Ok(Policy::Skip),
+// The letter and the policy of a question about lossy text.
+fn asked(question: &str) -> Result<(u8, Option<Policy>), NoAnswer> {
+    match question.as_bytes() {
+        [kind] => Ok((*kind, None)),
+        [kind, b'e'] => Ok((*kind, Some(Policy::Each))),
+        [kind, b'r'] => Ok((*kind, Some(Policy::Run))),
+        [kind, b's'] => Ok((*kind, Some(Policy::Skip))),
         _ => Err(NoAnswer::Unparsed),
     }
 }
 
-fn lossy_by<C: FaultUnit>(
-    alloc: Global,
-    kind: u8,
+fn lossy_slice<C: FaultUnit>(
+    memory: Memory<'_>,
     units: &[C],
-    policy: Policy,
+    policy: Option<Policy>,
 ) -> Result<String, NoAnswer> {
-    match kind {
-        b'l' => made(
-            alloc,
-            &UtfString::from_slice_lossy_with(alloc, units, policy)?,
+    let (heap, left) = (memory.heap, memory.heap.left());
+    match policy {
+        None => made(memory, left, &UtfString::from_slice_lossy(heap, units)?),
+        Some(policy) => made(
+            memory,
+            left,
+            &UtfString::from_slice_lossy_with(heap, units, policy)?,
         ),
-        b'y' => {
-            let text = UStr::from_slice(units).to_string_lossy_with(alloc, policy)?;
-            bytes_of(alloc, &text)
-        }
+    }
+}
+
+fn lossy_view<C: FaultUnit>(
+    memory: Memory<'_>,
+    view: UStr<'_, C>,
+    asked: (u8, Option<Policy>),
+) -> Result<String, NoAnswer> {
+    let (heap, left) = (memory.heap, memory.heap.left());
+    match asked {
+        (b'l', None) => made(memory, left, &UtfString::from_ustr_lossy(heap, view)?),
+        (b'l', Some(policy)) => made(
+            memory,
+            left,
+            &UtfString::from_ustr_lossy_with(heap, view, policy)?,
+        ),
+        (b'y', None) => bytes_of(memory, left, view.to_string_lossy(heap)?.as_bytes()),
+        (b'y', Some(policy)) => bytes_of(
+            memory,
+            left,
+            view.to_string_lossy_with(heap, policy)?.as_bytes(),
+        ),
+        _ => Err(NoAnswer::Unparsed),
+    }
+}
+
+fn lossy_c_string<C: FaultUnit>(
+    memory: Memory<'_>,
+    view: UCStr<'_, C>,
+    asked: (u8, Option<Policy>),
+) -> Result<String, NoAnswer> {
+    let (heap, left) = (memory.heap, memory.heap.left());
+    match asked {
+        (b'l', None) => made(memory, left, &UtfString::from_ucstr_lossy(heap, view)?),
+        (b'l', Some(policy)) => made(
+            memory,
+            left,
+            &UtfString::from_ucstr_lossy_with(heap, view, policy)?,
+        ),
+        (b'y', None) => bytes_of(memory, left, view.to_string_lossy(heap)?.as_bytes()),
+        (b'y', Some(policy)) => bytes_of(
+            memory,
+            left,
+            view.to_string_lossy_with(heap, policy)?.as_bytes(),
+        ),
         _ => Err(NoAnswer::Unparsed),
     }
 }
 
 /// What is answered about the lossy text of units.
-pub fn lossy<C: FaultUnit + parse::FromHex>(
-    alloc: Global,
+pub fn lossy<C: ToldUnit>(
+    memory: Memory<'_>,
     list: &str,
     question: &str,
 ) -> Result<String, NoAnswer> {
-    let units = parse::list::<C>(alloc, list)?;
-    match question.as_bytes() {
-        [b'l'] => made(alloc, &UtfString::from_slice_lossy(alloc, &units)?),
-        [b'y'] => {
-            let text = UStr::from_slice(&units).to_string_lossy(alloc)?;
-            bytes_of(alloc, &text)
-        }
-        [kind, letter] => lossy_by(alloc, *kind, &units, policy(*letter)?),
-        _ => Err(NoAnswer::Unparsed),
+    let units = parse::list::<C>(memory.alloc, list)?;
+    if let Some(question) = question.strip_prefix('c') {
+        let string = pieces::c_string(units)?;
+        return lossy_c_string(memory, string.as_ucstr(), asked(question)?);
+    }
+    if let Some(question) = question.strip_prefix('v') {
+        return lossy_view(memory, UStr::from_slice(&units), asked(question)?);
+    }
+    match asked(question)? {
+        (b'l', policy) => lossy_slice(memory, &units, policy),
+        asked => lossy_view(memory, UStr::from_slice(&units), asked),
     }
 }
 
-fn fault_at<C: ToldUnit>(alloc: Global, fault: &UtfError<C>) -> Result<String, NoAnswer> {
-    let mut answer = Answer::new(alloc);
-    answer.fault_at(fault);
+// What is answered about a text in UTF-8, or the fault that it has none for.
+fn told<C: ToldUnit>(
+    memory: Memory<'_>,
+    left: u64,
+    made: Result<String<&Heap>, UtfError<C>>,
+) -> Result<String, NoAnswer> {
+    match made {
+        Ok(text) => bytes_of(memory, left, text.as_bytes()),
+        Err(fault) => {
+            let mut answer = Answer::new(memory.alloc);
+            check(memory, &mut answer, left, false);
+            answer.fault_at(&fault);
+            answer.finish()
+        }
+    }
+}
+
+// What is answered about the string of a copy, or the fault that has the copy.
+fn copied<'a, C: ToldUnit>(
+    memory: Memory<'a>,
+    left: u64,
+    made: Result<UtfString<C, &'a Heap>, UtfError<C, &'a Heap>>,
+) -> Result<String, NoAnswer> {
+    let mut answer = Answer::new(memory.alloc);
+    match made {
+        Ok(string) => {
+            check(memory, &mut answer, left, !string.is_empty());
+            answer.units(string.as_slice());
+        }
+        Err(fault) => {
+            check(memory, &mut answer, left, true);
+            answer.fault_at(&fault);
+            answer.part();
+            answer.handed_back(fault.into_vec());
+        }
+    }
     answer.finish()
 }
 
-/// What is answered about the text of 16-bit units.
-pub fn text16(alloc: Global, list: &str, question: &str) -> Result<String, NoAnswer> {
-    let units = parse::list::<u16>(alloc, list)?;
-    if question != "s" {
+// What is answered about the string of a file.
+fn file(memory: Memory<'_>, bytes: &[u8]) -> Result<String, NoAnswer> {
+    let left = memory.heap.left();
+    match include_utf16str(memory.heap, bytes) {
+        Ok(string) => copied(memory, left, Ok(string)),
+        Err(Utf16BytesError::Utf16(fault)) => copied(memory, left, Err(fault)),
+        Err(Utf16BytesError::OutOfMemory) => Err(NoAnswer::OutOfMemory),
+        Err(Utf16BytesError::OddLength) => {
+            let mut answer = Answer::new(memory.alloc);
+            check(memory, &mut answer, left, false);
+            answer.word("odd");
+            answer.finish()
+        }
+    }
+}
+
+// The bytes that are asked for, in a block of their size.
+fn stored<C: ToldUnit>(
+    memory: Memory<'_>,
+    view: UStr<'_, C>,
+    question: &str,
+) -> Result<String, NoAnswer> {
+    let (heap, left) = (memory.heap, memory.heap.left());
+    let bytes = match question {
+        "L" => view.to_le_bytes(heap)?,
+        "B" => view.to_be_bytes(heap)?,
+        "LM" => view.to_le_bytes_with_mark(heap)?,
+        "BM" => view.to_be_bytes_with_mark(heap)?,
+        _ => return Err(NoAnswer::Unparsed),
+    };
+    if bytes.capacity() != bytes.len() {
         return Err(NoAnswer::Unparsed);
     }
-    match U16Str::from_slice(&units).to_string(alloc) {
-        Ok(text) => bytes_of(alloc, &text),
-        Err(Utf16ConvertError::Utf16(fault)) => fault_at(alloc, &fault),
+    bytes_of(memory, left, &bytes)
+}
+
+// What is asked of either width.
+fn of_either_width<C: ToldUnit>(
+    memory: Memory<'_>,
+    units: &[C],
+    question: &str,
+) -> Result<String, NoAnswer> {
+    if question != "u" {
+        return stored(memory, UStr::from_slice(units), question);
+    }
+    let left = memory.heap.left();
+    match UtfStr::from_slice(units) {
+        Ok(text) => bytes_of(memory, left, text.to_string(memory.heap)?.as_bytes()),
+        Err(_) => Err(NoAnswer::Unparsed),
+    }
+}
+
+// What a conversion of 16-bit units makes, or the fault that it finds.
+fn found16<T, A: Allocator>(
+    made: Result<T, Utf16ConvertError<A>>,
+) -> Result<Result<T, UtfError<u16, A>>, NoAnswer> {
+    match made {
+        Ok(value) => Ok(Ok(value)),
+        Err(Utf16ConvertError::Utf16(fault)) => Ok(Err(fault)),
         Err(Utf16ConvertError::OutOfMemory) => Err(NoAnswer::OutOfMemory),
     }
 }
 
-/// What is answered about the text of 32-bit units.
-pub fn text32(alloc: Global, list: &str, question: &str) -> Result<String, NoAnswer> {
-    let units = parse::list::<u32>(alloc, list)?;
-    if question != "s" {
-        return Err(NoAnswer::Unparsed);
-    }
-    match U32Str::from_slice(&units).to_string(alloc) {
-        Ok(text) => bytes_of(alloc, &text),
-        Err(Utf32ConvertError::Utf32(fault)) => fault_at(alloc, &fault),
+// The same of 32-bit units.
+fn found32<T, A: Allocator>(
+    made: Result<T, Utf32ConvertError<A>>,
+) -> Result<Result<T, UtfError<u32, A>>, NoAnswer> {
+    match made {
+        Ok(value) => Ok(Ok(value)),
+        Err(Utf32ConvertError::Utf32(fault)) => Ok(Err(fault)),
         Err(Utf32ConvertError::OutOfMemory) => Err(NoAnswer::OutOfMemory),
+    }
+}
+
+/// What is answered about the text of 16-bit units.
+pub fn text16(memory: Memory<'_>, list: &str, question: &str) -> Result<String, NoAnswer> {
+    let (heap, left) = (memory.heap, memory.heap.left());
+    if question == "i" {
+        return file(memory, &parse::list::<u8>(memory.alloc, list)?);
+    }
+    let units = parse::list::<u16>(memory.alloc, list)?;
+    match question {
+        "s" => {
+            let made = U16Str::from_slice(&units).to_string(heap);
+            told(memory, left, found16(made)?)
+        }
+        "f" => {
+            let made = Utf16String::from_ustr(heap, U16Str::from_slice(&units));
+            copied(memory, left, found16(made)?)
+        }
+        "c" => {
+            let string = pieces::c_string(units)?;
+            told(memory, left, found16(string.as_ucstr().to_string(heap))?)
+        }
+        "g" => {
+            let string = pieces::c_string(units)?;
+            let made = Utf16String::from_ucstr(heap, string.as_ucstr());
+            copied(memory, left, found16(made)?)
+        }
+        _ => of_either_width(memory, &units, question),
+    }
+}
+
+/// What is answered about the text of 32-bit units.
+pub fn text32(memory: Memory<'_>, list: &str, question: &str) -> Result<String, NoAnswer> {
+    let (heap, left) = (memory.heap, memory.heap.left());
+    let units = parse::list::<u32>(memory.alloc, list)?;
+    match question {
+        "s" => {
+            let made = U32Str::from_slice(&units).to_string(heap);
+            told(memory, left, found32(made)?)
+        }
+        "f" => {
+            let made = Utf32String::from_ustr(heap, U32Str::from_slice(&units));
+            copied(memory, left, found32(made)?)
+        }
+        "c" => {
+            let string = pieces::c_string(units)?;
+            told(memory, left, found32(string.as_ucstr().to_string(heap))?)
+        }
+        "g" => {
+            let string = pieces::c_string(units)?;
+            let made = Utf32String::from_ucstr(heap, string.as_ucstr());
+            copied(memory, left, found32(made)?)
+        }
+        _ => of_either_width(memory, &units, question),
     }
 }

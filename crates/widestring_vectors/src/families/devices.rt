@@ -15,7 +15,7 @@ use std::alloc::Global;
 use widestring::Policy;
 use widestring::bytes::{ByteSink, ByteSource, Mode, transcode, transcode_with};
 use widestring::error::TranscodeError;
-use widestring_test_devices::{Cut, Slow};
+use widestring_testing::{SlowSink, SlowSource};
 
 // A step, and a number of bytes where there is one.
 fn pace(word: &str) -> Result<(usize, Option<usize>), NoAnswer> {
@@ -31,21 +31,21 @@ fn pace(word: &str) -> Result<(usize, Option<usize>), NoAnswer> {
 }
 
 // The source of a word.
-fn source<'a>(word: &str, bytes: &'a [u8]) -> Result<Cut<'a>, NoAnswer>
+fn source<'a>(word: &str, bytes: &'a [u8]) -> Result<SlowSource<'a>, NoAnswer>
     ensures failed { IfOk result (λ s. s.failed ≡ false) }
     ensures ended { IfOk result (λ s. s.ended ≡ false) }
 {
     match pace(word)? {
-        (step, None) => Ok(Cut::new(bytes, step)),
+        (step, None) => Ok(SlowSource::new(bytes, step)),
         (step, Some(given)) => match bytes.get(..given) {
-            Some(front) => Ok(Cut::failing_behind(front, step)),
+            Some(front) => Ok(SlowSource::failing_behind(front, step)),
             None => Err(NoAnswer::Unparsed),
         },
     }
 }
 
 // The sink of a word.
-fn sink(alloc: Global, word: &str) -> Result<Slow, NoAnswer>
+fn sink(alloc: Global, word: &str) -> Result<SlowSink, NoAnswer>
     ensures { IfOk result (λ s. s.failed ≡ false) }
 {
     let Some((word, how)) = word.split_at_checked(word.len().saturating_sub(1)) else {
@@ -53,8 +53,8 @@ fn sink(alloc: Global, word: &str) -> Result<Slow, NoAnswer>
     };
     let (step, room) = pace(word)?;
     match how {
-        "x" => Ok(Slow::new(alloc, step, room, false)),
-        "z" => Ok(Slow::new(alloc, step, room, true)),
+        "x" => Ok(SlowSink::new(alloc, step, room, false)),
+        "z" => Ok(SlowSink::new(alloc, step, room, true)),
         _ => Err(NoAnswer::Unparsed),
     }
 }
@@ -74,7 +74,11 @@ fn show(answer: &mut Answer, ending: Result<(), TranscodeError>) -> Result<(), N
 }
 
 // Whether each device has failed exactly where its fault is the answer, and the source has ended where all was read.
-fn is_flagged(ending: Result<(), TranscodeError>, source: &Cut<'_>, sink: &Slow) -> bool {
+fn is_flagged(
+    ending: Result<(), TranscodeError>,
+    source: &SlowSource<'_>,
+    sink: &SlowSink,
+) -> bool {
     let mut well = source.failed() == (ending == Err(TranscodeError::Read));
     well &= sink.failed() == (ending == Err(TranscodeError::Write));
     match ending {

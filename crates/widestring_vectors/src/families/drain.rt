@@ -1,5 +1,5 @@
 //! What a drain of a string answers to each call, what it still shows then, and the units that are left of the string once it
-//! is dropped, in three parts. A question is a range, a colon and a word of calls; a `-` is the answer where the range is none
+//! is dropped, in three parts; a `?` where its length is another than what it shows. A question is a range, a colon and a word of calls; a `-` is the answer where the range is none
 //! of the string's.
 use crate::families::ustring::{outside, string};
 use crate::parse::{self, FromHex, NoAnswer};
@@ -26,6 +26,10 @@ fn drained<C: FaultUnit>(
         let mut drain = string.drain(range);
         for end in calls {
             answer.unit(asked!(drain, end));
+        }
+        let len = drain.as_slice().len();
+        if drain.len() != len || drain.size_hint() != (len, Some(len)) {
+            answer.word("?");
         }
         answer.part();
         answer.units(drain.as_slice());

@@ -10,11 +10,12 @@
 //!
 //! The answer has a part for each reply: `d` for done, the character that was taken or a `-`, an `s` and the characters that were taken, or
 //! `p` and `r` for a bad place and a bad range. Then come the units of UTF-16 and of UTF-32, and the marks. Each kind of string makes the edits
-//! in one call, and a string with marks one by one beside a string in UTF-32; it is a `?` where two of them differ.
+//! in one call, both in one, and a string with marks one by one beside a string in UTF-32; it is a `?` where two of them differ. A question
+//! may also be empty.
 use crate::parse::{self, NoAnswer};
 use crate::show::Answer;
 use std::alloc::{AllocError, Global};
-use widestring::edit::{Edit, Marked16, Reply, TextEdit, run, run_both};
+use widestring::edit::{Edit, Marked16, Reply, Steps, TextEdit, run, run_both};
 use widestring::{Utf16String, Utf32String};
 
 // An edit, by its letter and all that a letter takes: places, and characters, also as a text.
@@ -103,30 +104,35 @@ impl Written {
     }
 }
 
-// Makes all edits in one call.
+// Makes all edits in one call. Their replies stand after one that was there, which is taken away.
 fn ran<T: TextEdit>(
     alloc: Global,
     text: &mut T,
     edits: &[Edit<'_>],
 ) -> Result<Vec<Reply>, NoAnswer> {
     let mut replies = Vec::new(alloc);
-    match run(alloc, text, edits, &mut replies) {
-        Ok(()) => Ok(replies),
-        Err(_) => Err(NoAnswer::OutOfMemory),
+    replies.push(Reply::NoChar)?;
+    if run(alloc, text, edits, &mut replies).is_err() {
+        return Err(NoAnswer::OutOfMemory);
     }
+    if replies.first() != Some(&Reply::NoChar) {
+        return Err(NoAnswer::Unparsed);
+    }
+    replies.remove(0);
+    Ok(replies)
 }
 
-// Makes them one by one of two texts. None where their replies differ.
+// Makes runs of edits of two texts, each in one call. None where their replies differ.
 fn ran_both<T: TextEdit, U: TextEdit>(
     alloc: Global,
     first: &mut T,
     second: &mut U,
-    edits: &[Edit<'_>],
+    runs: &[&[Edit<'_>]],
 ) -> Result<Option<Vec<Reply>>, NoAnswer> {
     let mut replies = Vec::new(alloc);
     let mut same = Vec::new(alloc);
-    for edit in edits {
-        let Ok(()) = run_both(alloc, first, second, &[*edit], &mut replies, &mut same) else {
+    for edits in runs {
+        let Ok(()) = run_both(alloc, first, second, edits, &mut replies, &mut same) else {
             return Err(NoAnswer::OutOfMemory);
         };
     }
@@ -156,53 +162,135 @@ fn show(answer: &mut Answer, reply: &Reply) {
     }
 }
 
+// Whether the marks of a string find each character, the end and no character past it, as std's lengths say.
+fn has_offsets(marked: &Marked16, wide: &Utf32String) -> bool {
+    let mut steps = Steps::new();
+    let mut index = 0usize;
+    let mut units = 0usize;
+    let mut well = true;
+    for c in wide.as_utfstr().chars() {
+        well &= marked.unit_offset(index, &mut steps) == Some(units);
+        index = index.saturating_add(1);
+        units = units.saturating_add(c.len_utf16());
+    }
+    well &= marked.unit_offset(index, &mut steps) == Some(units);
+    well & marked
+        .unit_offset(index.saturating_add(1), &mut steps)
+        .is_none()
+}
+
 // The answer where all strings hold and answer the same.
 fn agreed(
     alloc: Global,
     replies: &[Reply],
-    marked: &Marked16,
+    marked: Marked16,
     wide: &Utf32String,
 ) -> Result<String, NoAnswer> {
     let mut answer = Answer::new(alloc);
+    let marks = Vec::from_slice(alloc, marked.marks())?;
     for reply in replies {
         show(&mut answer, reply);
         answer.part();
     }
-    answer.units(marked.as_utfstr().as_slice());
+    answer.units(marked.into_utfstring().as_slice());
     answer.part();
     answer.units(wide.as_slice());
     answer.part();
-    for mark in marked.marks() {
+    for mark in &marks {
         answer.number(u32::try_from(*mark).ok());
     }
     answer.finish()
+}
+
+// The answer where two strings differ.
+fn disagreed(alloc: Global) -> Result<String, NoAnswer> {
+    let mut answer = Answer::new(alloc);
+    answer.word("?");
+    answer.finish()
+}
+
+// Whether two strings answered alike, and so.
+fn is_same(both: Option<Vec<Reply>>, replies: &[Reply]) -> bool {
+    match both {
+        Some(same) => same.as_slice() == replies,
+        None => false,
+    }
+}
+
+// Whether strings of both widths answer so to the edits in one call, and then hold these units.
+fn agree_in_one_call(
+    alloc: Global,
+    text: &str,
+    edits: &[Edit<'_>],
+    replies: &[Reply],
+    narrow: &[u16],
+    wide: &[u32],
+) -> Result<bool, NoAnswer> {
+    let mut first = Utf16String::from_str(alloc, text)?;
+    let mut second = Utf32String::from_str(alloc, text)?;
+    let both = ran_both(alloc, &mut first, &mut second, &[edits])?;
+    let holds = first.as_slice() == narrow && second.as_slice() == wide;
+    Ok(is_same(both, replies) && holds)
+}
+
+// The lists of one edit each.
+fn one_by_one<'e, 't>(
+    alloc: Global,
+    edits: &'e [Edit<'t>],
+) -> Result<Vec<&'e [Edit<'t>]>, NoAnswer> {
+    let mut lists = Vec::new(alloc);
+    for edit in edits.chunks(1) {
+        lists.push(edit)?;
+    }
+    Ok(lists)
+}
+
+// The answer of a string with marks beside one in UTF-32, edited one by one, where they answer so and then hold these units.
+fn with_marks(
+    alloc: Global,
+    text: &str,
+    lists: &[&[Edit<'_>]],
+    replies: &[Reply],
+    narrow: &[u16],
+    wide: &[u32],
+) -> Result<String, NoAnswer> {
+    let mut first = marked(alloc, text)?;
+    let mut second = Utf32String::from_str(alloc, text)?;
+    let both = ran_both(alloc, &mut first, &mut second, lists)?;
+    let mut same = is_same(both, replies);
+    same &= first.as_utfstr().as_slice() == narrow;
+    same &= second.as_slice() == wide;
+    same &= has_offsets(&first, &second);
+    if same {
+        agreed(alloc, replies, first, &second)
+    } else {
+        disagreed(alloc)
+    }
 }
 
 // What the edits make of a text.
 fn made(alloc: Global, text: &str, edits: &[Edit<'_>]) -> Result<String, NoAnswer> {
     let mut narrow = Utf16String::from_str(alloc, text)?;
     let mut wide = Utf32String::from_str(alloc, text)?;
-    let mut first = marked(alloc, text)?;
-    let mut second = Utf32String::from_str(alloc, text)?;
     let replies = ran(alloc, &mut narrow, edits)?;
-    let mut same = ran(alloc, &mut wide, edits)? == replies;
-    same &= ran_both(alloc, &mut first, &mut second, edits)?.as_ref() == Some(&replies);
-    same &= first.as_utfstr().as_slice() == narrow.as_slice();
-    same &= second.as_slice() == wide.as_slice();
-    if !same {
-        let mut answer = Answer::new(alloc);
-        answer.word("?");
-        return answer.finish();
+    let others = ran(alloc, &mut wide, edits)?;
+    let (narrow, wide) = (narrow.as_slice(), wide.as_slice());
+    let same = agree_in_one_call(alloc, text, edits, &replies, narrow, wide)?;
+    if !same || others != replies {
+        return disagreed(alloc);
     }
-    agreed(alloc, &replies, &first, &wide)
+    let lists = one_by_one(alloc, edits)?;
+    with_marks(alloc, text, &lists, &replies, narrow, wide)
 }
 
 /// What edits answer, and what they leave.
 pub fn replies(alloc: Global, list: &str, question: &str) -> Result<String, NoAnswer> {
     let text = text_of(alloc, &parse::list::<char>(alloc, list)?)?;
     let mut words = Vec::new(alloc);
-    for word in question.split('/') {
-        words.push(parse_edit(alloc, word)?)?;
+    if !question.is_empty() {
+        for word in question.split('/') {
+            words.push(parse_edit(alloc, word)?)?;
+        }
     }
     let mut edits = Vec::new(alloc);
     for word in &words {

@@ -1,15 +1,19 @@
-//! The items of a decoder, from both ends. A question is a word of calls.
-use crate::parse::{self, NoAnswer};
+//! The items of a decoder, from both ends. A question is a word of calls. They take one request, and none where there are no calls;
+//! an answer has a `?` where they do not.
+use crate::parse::{self, Memory, NoAnswer};
 use crate::show::Answer;
-use std::alloc::Global;
 use widestring::iter::{read_ends16, read_ends32};
 
 /// What a decoder of UTF-16 answers to each call.
-pub fn utf16(alloc: Global, list: &str, word: &str) -> Result<String, NoAnswer> {
-    let units = parse::list::<u16>(alloc, list)?;
-    let calls = parse::calls(alloc, word)?;
-    let given = read_ends16(alloc, &units, &calls)?;
-    let mut answer = Answer::new(alloc);
+pub fn utf16(memory: Memory<'_>, list: &str, word: &str) -> Result<String, NoAnswer> {
+    let units = parse::list::<u16>(memory.alloc, list)?;
+    let calls = parse::calls(memory.alloc, word)?;
+    let left = memory.heap.left();
+    let given = read_ends16(memory.heap, &units, &calls)?;
+    let mut answer = Answer::new(memory.alloc);
+    if memory.requests_since(left) != u64::from(!calls.is_empty()) {
+        answer.word("?");
+    }
     for item in &given {
         answer.item::<u16>(*item);
     }
@@ -17,11 +21,15 @@ pub fn utf16(alloc: Global, list: &str, word: &str) -> Result<String, NoAnswer> 
 }
 
 /// What a decoder of UTF-32 answers to each call.
-pub fn utf32(alloc: Global, list: &str, word: &str) -> Result<String, NoAnswer> {
-    let units = parse::list::<u32>(alloc, list)?;
-    let calls = parse::calls(alloc, word)?;
-    let given = read_ends32(alloc, &units, &calls)?;
-    let mut answer = Answer::new(alloc);
+pub fn utf32(memory: Memory<'_>, list: &str, word: &str) -> Result<String, NoAnswer> {
+    let units = parse::list::<u32>(memory.alloc, list)?;
+    let calls = parse::calls(memory.alloc, word)?;
+    let left = memory.heap.left();
+    let given = read_ends32(memory.heap, &units, &calls)?;
+    let mut answer = Answer::new(memory.alloc);
+    if memory.requests_since(left) != u64::from(!calls.is_empty()) {
+        answer.word("?");
+    }
     for item in &given {
         answer.item::<u32>(*item);
     }

@@ -1,30 +1,61 @@
-//! The characters of a lossy decoder under a policy, from both ends. A question is a word of calls.
-use crate::parse::{self, NoAnswer};
+//! The characters of a lossy decoder under a policy, from both ends, and of the call that reads them at once. A question is a word of calls. The
+//! call takes one request, and none where there are no calls; an answer has a `?` where it does not, the two differ, or
+//! the decoder reports bounds.
+use crate::parse::{self, Memory, NoAnswer};
 use crate::show::Answer;
-use std::alloc::Global;
-use widestring::iter::End;
+use widestring::iter::{End, read_lossy_ends16, read_lossy_ends32};
 use widestring::{Policy, decode_utf16_lossy_with, decode_utf32_lossy_with};
 
 /// What a lossy decoder of UTF-16 answers to each call.
-pub fn utf16(alloc: Global, list: &str, word: &str, policy: Policy) -> Result<String, NoAnswer> {
-    let calls = parse::calls(alloc, word)?;
-    let units = parse::list::<u16>(alloc, list)?;
+pub fn utf16(
+    memory: Memory<'_>,
+    list: &str,
+    word: &str,
+    policy: Policy,
+) -> Result<String, NoAnswer> {
+    let calls = parse::calls(memory.alloc, word)?;
+    let units = parse::list::<u16>(memory.alloc, list)?;
+    let left = memory.heap.left();
+    let given = read_lossy_ends16(memory.heap, &units, policy, &calls)?;
     let mut decoder = decode_utf16_lossy_with(units.iter().copied(), policy);
-    let mut answer = Answer::new(alloc);
-    for end in &calls {
-        answer.character(asked!(decoder, end));
+    let mut answer = Answer::new(memory.alloc);
+    let mut is_right = memory.requests_since(left) == u64::from(!calls.is_empty());
+    is_right &= decoder.size_hint() == (0, None);
+    is_right &= given.len() == calls.len();
+    for (end, read) in calls.iter().zip(&given) {
+        let c = asked!(decoder, end);
+        is_right &= *read == c;
+        answer.character(c);
+    }
+    if !is_right {
+        answer.word("?");
     }
     answer.finish()
 }
 
 /// What a lossy decoder of UTF-32 answers to each call.
-pub fn utf32(alloc: Global, list: &str, word: &str, policy: Policy) -> Result<String, NoAnswer> {
-    let calls = parse::calls(alloc, word)?;
-    let units = parse::list::<u32>(alloc, list)?;
+pub fn utf32(
+    memory: Memory<'_>,
+    list: &str,
+    word: &str,
+    policy: Policy,
+) -> Result<String, NoAnswer> {
+    let calls = parse::calls(memory.alloc, word)?;
+    let units = parse::list::<u32>(memory.alloc, list)?;
+    let left = memory.heap.left();
+    let given = read_lossy_ends32(memory.heap, &units, policy, &calls)?;
     let mut decoder = decode_utf32_lossy_with(units.iter().copied(), policy);
-    let mut answer = Answer::new(alloc);
-    for end in &calls {
-        answer.character(asked!(decoder, end));
+    let mut answer = Answer::new(memory.alloc);
+    let mut is_right = memory.requests_since(left) == u64::from(!calls.is_empty());
+    is_right &= decoder.size_hint() == (0, None);
+    is_right &= given.len() == calls.len();
+    for (end, read) in calls.iter().zip(&given) {
+        let c = asked!(decoder, end);
+        is_right &= *read == c;
+        answer.character(c);
+    }
+    if !is_right {
+        answer.word("?");
     }
     answer.finish()
 }

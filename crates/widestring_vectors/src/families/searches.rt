@@ -3,13 +3,18 @@
 //! The answer is of several parts. The first is what units of any values answer: whether they contain the part, begin and end with it,
 //! each `1` or `0`; the first and the last place of the part, and of the character; how many units are left without the part at the start
 //! and at the end; how many stand before it and behind it, at its first place and at its last; a `-` where there is none. Then come the
-//! lengths of the pieces that the part cuts, and the first and the last place of its first unit, where it has one. Where both units and
+//! lengths of the pieces that the part cuts, and the first and the last place of its first unit, where it has one; the calls for slices and, without a NUL
+//! among the units, those of C strings have to answer the same, else there is no answer. Where both units and
 //! part are well formed, there follow the same first two parts of the text, the lengths of the pieces that the character cuts, and the
 //! boundaries around the place.
+use crate::families::texts::c_string;
 use crate::parse::{self, FromHex, NoAnswer};
 use crate::show::Answer;
 use std::alloc::Global;
 use widestring::error::FaultUnit;
+use widestring::search;
+use widestring::ucstr::UCStr;
+use widestring::unit::first_nul;
 use widestring::ustr::UStr;
 use widestring::utfstr::UtfStr;
 
@@ -46,6 +51,50 @@ fn in_units<C: FaultUnit>(answer: &mut Answer, view: UStr<'_, C>, part: UStr<'_,
     }
 }
 
+// The same in the contents of C strings.
+fn in_contents<C: FaultUnit>(answer: &mut Answer, view: UCStr<'_, C>, part: UCStr<'_, C>, c: char) {
+    searched!(answer, view, part, c);
+    if let [unit, ..] = part.as_slice() {
+        answer.count(view.find_unit(*unit));
+        answer.count(view.rfind_unit(*unit));
+    }
+}
+
+// Whether the calls for slices answer as those of a view do.
+fn agrees<C: FaultUnit>(view: UStr<'_, C>, part: UStr<'_, C>) -> bool {
+    let (units, sought) = (view.as_slice(), part.as_slice());
+    (search::find(units, sought) == view.find(part))
+        & (search::rfind(units, sought) == view.rfind(part))
+        & (search::starts_with(units, sought) == view.starts_with(part))
+        & (search::ends_with(units, sought) == view.ends_with(part))
+}
+
+// What is found in units, where C strings of them and slices have the same.
+fn in_all<C: FaultUnit>(
+    alloc: Global,
+    units: &[C],
+    part: &[C],
+    c: char,
+) -> Result<String, NoAnswer> {
+    let (view, sought) = (UStr::from_slice(units), UStr::from_slice(part));
+    let mut answer = Answer::new(alloc);
+    in_units(&mut answer, view, sought, c);
+    let found = answer.finish()?;
+    if first_nul(units).is_none() && first_nul(part).is_none() {
+        let text = c_string(alloc, units)?;
+        let part = c_string(alloc, part)?;
+        let mut answer = Answer::new(alloc);
+        in_contents(&mut answer, text.as_ucstr(), part.as_ucstr(), c);
+        if answer.finish()? != found || text.as_ucstr().find_unit(C::NUL).is_some() {
+            return Err(NoAnswer::Unparsed);
+        }
+    }
+    if !agrees(view, sought) {
+        return Err(NoAnswer::Unparsed);
+    }
+    Ok(found)
+}
+
 // What is found in text, and the boundaries around a place.
 fn in_text<C: FaultUnit>(
     answer: &mut Answer,
@@ -76,12 +125,7 @@ pub fn found<C: FaultUnit + FromHex>(
     let units = parse::list::<C>(alloc, list)?;
     let part = parse::list::<C>(alloc, part)?;
     let mut answer = Answer::new(alloc);
-    in_units(
-        &mut answer,
-        UStr::from_slice(&units),
-        UStr::from_slice(&part),
-        c,
-    );
+    answer.word(&in_all(alloc, &units, &part, c)?);
     if let (Ok(text), Ok(part)) = (UtfStr::from_slice(&units), UtfStr::from_slice(&part)) {
         answer.part();
         in_text(&mut answer, text, part, c, place);

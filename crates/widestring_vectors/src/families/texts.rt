@@ -1,7 +1,7 @@
 //! What a view of units of either width prints, its lines, trims and escapes, its text in another case, and comparisons. A
 //! question is a letter, and after it, where two are compared, the other's units.
 //!
-//! `l` and `L` are the lines of the units and of the text, each followed by a `;`; `t`, `<` and `>` the text trimmed at both
+//! `l` and `L` are the lines of the units and of the text, each followed by a `;`, and `i` and `I` the same with the offset of each before it; `t`, `<` and `>` the text trimmed at both
 //! ends, at the start and at the end; `g`, `f` and `G` the debug text of the units, of the text and of the C string of the units
 //! and a NUL; `p` and `P` what the units, lossily, and the text print; `d`, `e` and `u` the escapes as in debug text, by default
 //! and by number; `w` and `W` the text in lower and in upper case. `c` is the order of the units and other units, `k` that
@@ -9,6 +9,7 @@
 ghost use Rattle.std.specs.Iterator.{IsFinite};
 
 use crate::families::ucstring::text_of;
+use crate::families::width::Width;
 use crate::parse::{self, FromHex, NoAnswer};
 use crate::show::Answer;
 use std::alloc::Global;
@@ -20,7 +21,6 @@ use widestring::ucstring::UCString;
 use widestring::ustr::UStr;
 use widestring::utfstr::UtfStr;
 use widestring::utfstring::UtfStrInUtfstring;
-use widestring::{Utf16Str, Utf16String, Utf32Str, Utf32String};
 
 fn characters<I: Iterator<Item = char>>(alloc: Global, chars: I) -> Result<String, NoAnswer>
     requires { I.can_next chars × IsFinite (I.remaining chars) }
@@ -66,8 +66,8 @@ fn decided(alloc: Global, holds: bool) -> Result<String, NoAnswer> {
     word(alloc, if holds { "1" } else { "0" })
 }
 
-// The C string of units and a NUL.
-fn c_string<C: FaultUnit>(alloc: Global, units: &[C]) -> Result<UCString<C>, NoAnswer> {
+/// The C string of units and a NUL.
+pub fn c_string<C: FaultUnit>(alloc: Global, units: &[C]) -> Result<UCString<C>, NoAnswer> {
     match UCString::from_ustr(alloc, UStr::from_slice(units)) {
         Ok(string) => Ok(string),
         Err(_) => Err(NoAnswer::Unparsed),
@@ -86,6 +86,32 @@ fn lines_of_units<C: FaultUnit>(alloc: Global, view: UStr<'_, C>) -> Result<Stri
 fn lines_of_text<C: FaultUnit>(alloc: Global, text: UtfStr<'_, C>) -> Result<String, NoAnswer> {
     let mut answer = Answer::new(alloc);
     for line in text.lines() {
+        answer.units(line.as_slice());
+        answer.part();
+    }
+    answer.finish()
+}
+
+fn line_offsets_of_units<C: FaultUnit>(
+    alloc: Global,
+    view: UStr<'_, C>,
+) -> Result<String, NoAnswer> {
+    let mut answer = Answer::new(alloc);
+    for (offset, line) in view.line_indices_lossy() {
+        answer.count(Some(offset));
+        answer.units(line.as_slice());
+        answer.part();
+    }
+    answer.finish()
+}
+
+fn line_offsets_of_text<C: FaultUnit>(
+    alloc: Global,
+    text: UtfStr<'_, C>,
+) -> Result<String, NoAnswer> {
+    let mut answer = Answer::new(alloc);
+    for (offset, line) in text.line_indices() {
+        answer.count(Some(offset));
         answer.units(line.as_slice());
         answer.part();
     }
@@ -117,6 +143,7 @@ fn of_units<C: FaultUnit + FromHex + Ord>(
 ) -> Result<String, NoAnswer> {
     match kind {
         b'l' => lines_of_units(alloc, view),
+        b'i' => line_offsets_of_units(alloc, view),
         b'g' => debugged(alloc, &view),
         b'G' => debugged(alloc, &c_string(alloc, view.as_slice())?),
         b'p' => printed(alloc, &view.display()),
@@ -130,6 +157,7 @@ fn of_units<C: FaultUnit + FromHex + Ord>(
 fn of_text<C: FaultUnit>(alloc: Global, kind: u8, text: UtfStr<'_, C>) -> Result<String, NoAnswer> {
     match kind {
         b'L' => lines_of_text(alloc, text),
+        b'I' => line_offsets_of_text(alloc, text),
         b't' => units(alloc, text.trim().as_slice()),
         b'<' => units(alloc, text.trim_start().as_slice()),
         b'>' => units(alloc, text.trim_end().as_slice()),
@@ -151,7 +179,7 @@ fn asked<C: FaultUnit + FromHex + Ord>(
     other: &[C],
 ) -> Result<String, NoAnswer> {
     match kind {
-        b'l' | b'g' | b'G' | b'p' | b'c' | b'k' => {
+        b'l' | b'i' | b'g' | b'G' | b'p' | b'c' | b'k' => {
             of_units(alloc, kind, UStr::from_slice(list), other)
         }
         _ => match UtfStr::from_slice(list) {
@@ -161,41 +189,21 @@ fn asked<C: FaultUnit + FromHex + Ord>(
     }
 }
 
-/// What is answered about a list of 16-bit units.
-pub fn utf16(alloc: Global, list: &str, question: &str) -> Result<String, NoAnswer> {
+/// What is answered about a list of units.
+pub fn text<C: Width>(alloc: Global, list: &str, question: &str) -> Result<String, NoAnswer> {
     let (kind, more) = parse::kind(question)?;
-    let list = parse::list::<u16>(alloc, list)?;
-    let other = parse::list::<u16>(alloc, more)?;
+    let list = parse::list::<C>(alloc, list)?;
+    let other = parse::list::<C>(alloc, more)?;
     if kind != b'x' {
         return asked(alloc, kind, &list, &other);
     }
-    let Ok(text) = Utf16Str::from_slice(&list) else {
+    let Ok(text) = UtfStr::from_slice(&list) else {
         return Err(NoAnswer::Unparsed);
     };
     let theirs = text_of(alloc, &other)?;
-    let wide = Utf32String::from_str(alloc, &theirs)?;
     let same = text.eq_str(&theirs);
-    if text.eq_utf32(wide.as_utfstr()) != same || text.eq_ustr(UStr::from_slice(&other)) != same {
-        return word(alloc, "?");
-    }
-    decided(alloc, same)
-}
-
-/// What is answered about a list of 32-bit units.
-pub fn utf32(alloc: Global, list: &str, question: &str) -> Result<String, NoAnswer> {
-    let (kind, more) = parse::kind(question)?;
-    let list = parse::list::<u32>(alloc, list)?;
-    let other = parse::list::<u32>(alloc, more)?;
-    if kind != b'x' {
-        return asked(alloc, kind, &list, &other);
-    }
-    let Ok(text) = Utf32Str::from_slice(&list) else {
-        return Err(NoAnswer::Unparsed);
-    };
-    let theirs = text_of(alloc, &other)?;
-    let narrow = Utf16String::from_str(alloc, &theirs)?;
-    let same = text.eq_str(&theirs);
-    if text.eq_utf16(narrow.as_utfstr()) != same || text.eq_ustr(UStr::from_slice(&other)) != same {
+    let others = C::eq_other(&list, &theirs, alloc)?;
+    if others != [same, same] || text.eq_ustr(UStr::from_slice(&other)) != same {
         return word(alloc, "?");
     }
     decided(alloc, same)

@@ -1,7 +1,8 @@
 //! Scripts of calls of owned strings of well-formed text, in units of either width. A question has a `/` between two calls.
 //!
 //! The first makes the string of the list: a `v` of the vector, a `t` of the text that has these units, an `f` of the
-//! characters of that text. The answer is the string's units, or the index, the item number and the unit of the first fault and the vector
+//! characters of that text, a `u` of a string of any units, a `c` of a C string. After it may stand a `+` and the capacity that the
+//! vector has to spare; then the number of requests of each call stands after a `#` in its answer. The answer is the string's units, or the index, the item number and the unit of the first fault and the vector
 //! that is handed back, and then no calls follow. Each other call is a letter and what it takes, and adds two parts to the
 //! answer: what the call answers, and the units that it leaves. A `-` is the answer where a place or a range is none of the
 //! text's: the string stays as it was.
@@ -13,43 +14,43 @@
 //! - `x`, `d`: `replace_range`, `drain`, with a range, a colon, and units or a word of calls. A drain answers the characters,
 //!   and as a part of its own what it still shows when it is dropped.
 //! - `k`: `retain`, with a number: kept are the characters that have no bit of it. The answer is how often it asks.
+//! - `K`: `retain`, with a bit for each call: kept are the characters at a `1`. The answer is the same.
 //! - `p`, `l`: `pop`, `clear`.
+//! - `.`: a call by its name, of `text_calls`.
+use crate::families::pieces::{self, Text};
+use crate::families::text_calls;
 use crate::families::ucstring::text_of;
-use crate::parse::{self, FromHex, NoAnswer};
+use crate::parse::{self, FromHex, Memory, NoAnswer};
 use crate::show::{Answer, ToldUnit};
 use std::alloc::Global;
 use std::ops::Bound;
 use widestring::error::{FaultUnit, UtfError};
 use widestring::iter::End;
+use widestring::ucstring::UCString;
+use widestring::unit::Unit;
+use widestring::ustring::UString;
 use widestring::utfstr::UtfStr;
 use widestring::utfstring::UtfString;
+use widestring_testing::Heap;
 
 // The string of a text.
-fn of_text<C: FaultUnit>(alloc: Global, units: &[C]) -> Result<UtfString<C>, NoAnswer> {
-    let text = text_of(alloc, units)?;
-    Ok(UtfString::from_str(alloc, &text)?)
+fn of_text<'a, C: FaultUnit>(memory: Memory<'a>, units: &[C]) -> Result<Text<'a, C>, NoAnswer> {
+    let text = text_of(memory.alloc, units)?;
+    Ok(UtfString::from_str(memory.heap, &text)?)
 }
 
 // The string of the characters of a text.
-fn of_chars<C: FaultUnit>(alloc: Global, units: &[C]) -> Result<UtfString<C>, NoAnswer> {
-    let text = text_of(alloc, units)?;
-    match UtfString::from_iter_chars(alloc, text.chars()) {
+fn of_chars<'a, C: FaultUnit>(memory: Memory<'a>, units: &[C]) -> Result<Text<'a, C>, NoAnswer> {
+    let text = text_of(memory.alloc, units)?;
+    match UtfString::from_iter_chars(memory.heap, text.chars()) {
         Ok(string) => Ok(string),
         Err(_) => Err(NoAnswer::OutOfMemory),
     }
 }
 
-// The text that a call takes, by its units.
-fn taken<C: FaultUnit + FromHex>(alloc: Global, list: &str) -> Result<UtfString<C>, NoAnswer> {
-    match UtfString::from_vec(parse::list(alloc, list)?) {
-        Ok(string) => Ok(string),
-        Err(_) => Err(NoAnswer::Unparsed),
-    }
-}
-
 // Puts a character in before a place.
 fn insert<C: FaultUnit>(
-    string: &mut UtfString<C>,
+    string: &mut Text<'_, C>,
     answer: &mut Answer,
     at: usize,
     c: &str,
@@ -66,12 +67,12 @@ fn insert<C: FaultUnit>(
 // Puts a text in before a place.
 fn insert_text<C: FaultUnit + FromHex>(
     alloc: Global,
-    string: &mut UtfString<C>,
+    string: &mut Text<'_, C>,
     answer: &mut Answer,
     at: usize,
     list: &str,
 ) -> Result<(), NoAnswer> {
-    let with = taken(alloc, list)?;
+    let with = pieces::utfstring(alloc, list)?;
     if string.as_utfstr().is_char_boundary(at) {
         string.insert_utfstr(at, with.as_utfstr())?;
     } else {
@@ -81,7 +82,7 @@ fn insert_text<C: FaultUnit + FromHex>(
 }
 
 // Takes away the character at a place.
-fn remove<C: FaultUnit>(string: &mut UtfString<C>, answer: &mut Answer, at: usize) {
+fn remove<C: FaultUnit>(string: &mut Text<'_, C>, answer: &mut Answer, at: usize) {
     if at < string.len() && string.as_utfstr().is_char_boundary(at) {
         answer.character(Some(string.remove(at)));
     } else {
@@ -90,7 +91,7 @@ fn remove<C: FaultUnit>(string: &mut UtfString<C>, answer: &mut Answer, at: usiz
 }
 
 // Takes away all text from a place on. A cut past the end does nothing.
-fn truncate<C: FaultUnit>(string: &mut UtfString<C>, answer: &mut Answer, at: usize) {
+fn truncate<C: FaultUnit>(string: &mut Text<'_, C>, answer: &mut Answer, at: usize) {
     if at > string.len() || string.as_utfstr().is_char_boundary(at) {
         string.truncate(at);
     } else {
@@ -100,7 +101,7 @@ fn truncate<C: FaultUnit>(string: &mut UtfString<C>, answer: &mut Answer, at: us
 
 // Takes away all text from a place on, as a string of its own.
 fn split_off<C: FaultUnit>(
-    string: &mut UtfString<C>,
+    string: &mut Text<'_, C>,
     answer: &mut Answer,
     at: usize,
 ) -> Result<(), NoAnswer> {
@@ -114,7 +115,7 @@ fn split_off<C: FaultUnit>(
 
 // Drains a range.
 fn drain<C: FaultUnit>(
-    string: &mut UtfString<C>,
+    string: &mut Text<'_, C>,
     answer: &mut Answer,
     range: (Bound<usize>, Bound<usize>),
     calls: &[End],
@@ -127,13 +128,17 @@ fn drain<C: FaultUnit>(
     for end in calls {
         answer.character(asked!(drain, end));
     }
+    let len = drain.as_utfstr().len();
+    if drain.size_hint() != (len / C::MAX_CHAR_LEN, Some(len)) {
+        answer.word("?");
+    }
     answer.part();
     answer.units(drain.as_utfstr().as_slice());
 }
 
 // Puts a text in the place of a range.
 fn replace<C: FaultUnit>(
-    string: &mut UtfString<C>,
+    string: &mut Text<'_, C>,
     answer: &mut Answer,
     range: (Bound<usize>, Bound<usize>),
     with: UtfStr<'_, C>,
@@ -147,7 +152,7 @@ fn replace<C: FaultUnit>(
 }
 
 // Keeps the characters that have no bit of the mask.
-fn retain<C: FaultUnit>(string: &mut UtfString<C>, answer: &mut Answer, mask: u32) {
+fn retain<C: FaultUnit>(string: &mut Text<'_, C>, answer: &mut Answer, mask: u32) {
     let mut calls = 0u32;
     string.retain(|c| {
         calls = calls.saturating_add(1);
@@ -156,9 +161,20 @@ fn retain<C: FaultUnit>(string: &mut UtfString<C>, answer: &mut Answer, mask: u3
     answer.number(Some(calls));
 }
 
+// Keeps the characters at which a bit is a `1`, one bit for each call.
+fn retain_by_call<C: FaultUnit>(string: &mut Text<'_, C>, answer: &mut Answer, bits: &[u8]) {
+    let mut calls = 0usize;
+    string.retain(|_c| {
+        let bit = bits.get(calls).copied();
+        calls = calls.saturating_add(1);
+        bit == Some(b'1')
+    });
+    answer.count(Some(calls));
+}
+
 // Extends a string by characters (`e`), or by references to them.
 fn extend<C: FaultUnit>(
-    string: &mut UtfString<C>,
+    string: &mut Text<'_, C>,
     kind: u8,
     chars: Vec<char>,
 ) -> Result<(), NoAnswer> {
@@ -173,7 +189,7 @@ fn extend<C: FaultUnit>(
 // Adds a text at the end, by its characters.
 fn push_str<C: FaultUnit + FromHex>(
     alloc: Global,
-    string: &mut UtfString<C>,
+    string: &mut Text<'_, C>,
     list: &str,
 ) -> Result<(), NoAnswer> {
     let units = parse::list::<C>(alloc, list)?;
@@ -185,10 +201,10 @@ fn push_str<C: FaultUnit + FromHex>(
 // Adds a text at the end, by its units.
 fn push_view<C: FaultUnit + FromHex>(
     alloc: Global,
-    string: &mut UtfString<C>,
+    string: &mut Text<'_, C>,
     list: &str,
 ) -> Result<(), NoAnswer> {
-    let with = taken(alloc, list)?;
+    let with = pieces::utfstring(alloc, list)?;
     string.push_utfstr(with.as_utfstr())?;
     Ok(())
 }
@@ -196,7 +212,7 @@ fn push_view<C: FaultUnit + FromHex>(
 // Puts a character (`i`) or a text in before a place, and adds what is answered.
 fn put_in<C: FaultUnit + FromHex>(
     alloc: Global,
-    string: &mut UtfString<C>,
+    string: &mut Text<'_, C>,
     answer: &mut Answer,
     kind: u8,
     more: &str,
@@ -211,7 +227,7 @@ fn put_in<C: FaultUnit + FromHex>(
 
 // Takes away the character at a place (`r`) or all text from there on, and adds what is answered.
 fn cut<C: FaultUnit>(
-    string: &mut UtfString<C>,
+    string: &mut Text<'_, C>,
     answer: &mut Answer,
     kind: u8,
     at: usize,
@@ -227,7 +243,7 @@ fn cut<C: FaultUnit>(
 // Makes a call at a range, and adds what it answers.
 fn call_in<C: FaultUnit + FromHex>(
     alloc: Global,
-    string: &mut UtfString<C>,
+    string: &mut Text<'_, C>,
     answer: &mut Answer,
     kind: u8,
     more: &str,
@@ -238,16 +254,22 @@ fn call_in<C: FaultUnit + FromHex>(
         drain(string, answer, range, &parse::calls(alloc, more)?);
         return Ok(());
     }
-    replace(string, answer, range, taken(alloc, more)?.as_utfstr())
+    replace(
+        string,
+        answer,
+        range,
+        pieces::utfstring(alloc, more)?.as_utfstr(),
+    )
 }
 
 // Makes a call, and adds what it answers.
-fn call<C: FaultUnit + FromHex>(
-    alloc: Global,
-    string: &mut UtfString<C>,
+fn call<'a, C: ToldUnit>(
+    memory: Memory<'a>,
+    string: &mut Text<'a, C>,
     answer: &mut Answer,
     call: &str,
 ) -> Result<(), NoAnswer> {
+    let alloc = memory.alloc;
     let (kind, more) = parse::kind(call)?;
     match kind {
         b'c' => string.push(parse::value(more)?)?,
@@ -258,35 +280,84 @@ fn call<C: FaultUnit + FromHex>(
         b'r' | b't' | b'o' => cut(string, answer, kind, parse::value(more)?)?,
         b'x' | b'd' => call_in(alloc, string, answer, kind, more)?,
         b'k' => retain(string, answer, parse::value(more)?),
+        b'K' => retain_by_call(string, answer, more.as_bytes()),
         b'p' => answer.character(string.pop()),
         b'l' => string.clear(),
+        b'.' => text_calls::named(memory, string, answer, more)?,
         _ => return Err(NoAnswer::Unparsed),
     }
     Ok(())
 }
 
-// What the calls after the first answer and leave, where there are any.
-fn edited<C: FaultUnit + FromHex>(
+// Whether a call whose request failed left what its contract says.
+fn is_kept<C: ToldUnit>(
     alloc: Global,
-    mut string: UtfString<C>,
+    call: &str,
+    before: (&[C], usize),
+    after: (&[C], usize),
+) -> Result<bool, NoAnswer> {
+    match parse::kind(call)? {
+        (b'e' | b'n', _) => Ok(after.0.starts_with(before.0)),
+        (b'.', named) => pieces::is_kept(alloc, named, before, after),
+        _ => Ok(before.0 == after.0 && before.1 == after.1),
+    }
+}
+
+// Makes a call of a script, and adds what it answers. A text that would be too long is a `-`, with no request.
+fn step<'a, C: ToldUnit>(
+    memory: Memory<'a>,
+    string: &mut Text<'a, C>,
+    answer: &mut Answer,
+    written: &str,
+) -> Result<(), NoAnswer> {
+    let units = Vec::from_slice(memory.alloc, string.as_slice())?;
+    let before = (units.as_slice(), string.capacity());
+    match call(memory, string, answer, written) {
+        Err(NoAnswer::OutOfMemory) => {
+            let after = (string.as_slice(), string.capacity());
+            if !is_kept(memory.alloc, written, before, after)? {
+                answer.word("?");
+            } else if memory.heap.refused() == 0 {
+                answer.word("-");
+            } else {
+                return Err(NoAnswer::OutOfMemory);
+            }
+            Ok(())
+        }
+        done => done,
+    }
+}
+
+// What the calls after the first answer and leave, where there are any, and what each requests, where that is asked.
+fn edited<'a, C: ToldUnit>(
+    memory: Memory<'a>,
+    mut string: Text<'a, C>,
     calls: Option<&str>,
+    counts: bool,
 ) -> Result<String, NoAnswer> {
-    let mut answer = Answer::new(alloc);
+    let mut answer = Answer::new(memory.alloc);
     answer.units(string.as_slice());
     let Some(calls) = calls else {
         return answer.finish();
     };
     for written in calls.split('/') {
         answer.part();
-        call(alloc, &mut string, &mut answer, written)?;
+        let left = memory.heap.left();
+        step(memory, &mut string, &mut answer, written)?;
         answer.part();
         answer.units(string.as_slice());
+        if counts {
+            answer.requests(memory.requests_since(left));
+        }
     }
     answer.finish()
 }
 
 // What is answered about units that are not well formed.
-fn refused<C: ToldUnit>(alloc: Global, error: UtfError<C>) -> Result<String, NoAnswer> {
+fn refused<'a, C: ToldUnit>(
+    alloc: Global,
+    error: UtfError<C, &'a Heap>,
+) -> Result<String, NoAnswer> {
     let mut answer = Answer::new(alloc);
     answer.first_fault(&error);
     answer.part();
@@ -294,30 +365,50 @@ fn refused<C: ToldUnit>(alloc: Global, error: UtfError<C>) -> Result<String, NoA
     answer.finish()
 }
 
-// What a script answers that makes its string of a vector. No calls follow where the units are not well formed.
-fn of_vec<C: ToldUnit>(
-    alloc: Global,
-    units: Vec<C>,
-    calls: Option<&str>,
-) -> Result<String, NoAnswer> {
-    match UtfString::from_vec(units) {
-        Ok(string) => edited(alloc, string, calls),
-        Err(error) if calls.is_none() => refused(alloc, error),
-        Err(_) => Err(NoAnswer::Unparsed),
+// The string of a vector, of a string of any units or of a C string.
+fn of_vec<'a, C: ToldUnit>(
+    kind: &str,
+    units: Vec<C, &'a Heap>,
+) -> Result<Result<Text<'a, C>, UtfError<C, &'a Heap>>, NoAnswer> {
+    match kind {
+        "v" => Ok(UtfString::from_vec(units)),
+        "u" => Ok(UtfString::from_ustring(UString::from_vec(units))),
+        "c" => match UCString::from_vec(units) {
+            Ok(string) => Ok(UtfString::from_ucstring(string)),
+            Err(_) => Err(NoAnswer::OutOfMemory),
+        },
+        _ => Err(NoAnswer::Unparsed),
     }
 }
 
 /// What the calls of a script answer, and the units that each leaves.
-pub fn script<C: ToldUnit>(alloc: Global, list: &str, question: &str) -> Result<String, NoAnswer> {
+pub fn script<C: ToldUnit>(
+    memory: Memory<'_>,
+    list: &str,
+    question: &str,
+) -> Result<String, NoAnswer> {
     let (maker, calls) = match question.split_once('/') {
         None => (question, None),
         Some((maker, calls)) => (maker, Some(calls)),
     };
-    let units = parse::list::<C>(alloc, list)?;
-    match maker.as_bytes() {
-        b"v" => of_vec(alloc, units, calls),
-        b"t" => edited(alloc, of_text(alloc, &units)?, calls),
-        b"f" => edited(alloc, of_chars(alloc, &units)?, calls),
-        _ => Err(NoAnswer::Unparsed),
+    let (kind, spare) = match maker.split_once('+') {
+        None => (maker, None),
+        Some((kind, spare)) => (kind, Some(parse::value::<usize>(spare)?)),
+    };
+    let units = parse::list::<C>(memory.alloc, list)?;
+    let counts = spare.is_some();
+    if kind == "t" {
+        return edited(memory, of_text(memory, &units)?, calls, counts);
+    }
+    if kind == "f" {
+        return edited(memory, of_chars(memory, &units)?, calls, counts);
+    }
+    match of_vec(
+        kind,
+        pieces::vec_on(memory.heap, &units, spare.unwrap_or(0))?,
+    )? {
+        Ok(string) => edited(memory, string, calls, counts),
+        Err(error) if calls.is_none() => refused(memory.alloc, error),
+        Err(_) => Err(NoAnswer::Unparsed),
     }
 }

@@ -1,0 +1,15 @@
+//! What the tests share: an allocator that fails when it is told to and devices that are slow or fail.
+#![tactic(auto)]
+
+mod devices;
+pub mod limited;
+mod sink;
+mod source;
+
+pub use limited::Limited;
+pub use sink::SlowSink;
+pub use source::SlowSource;
+use std::alloc::Global;
+
+/// The heap, which grants as many requests as a test says and then fails.
+pub type Heap = Limited<Global>;

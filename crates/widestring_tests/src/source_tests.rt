@@ -1,0 +1,136 @@
+//! Sources that tell little of themselves, or that fail.
+ghost use Rattle.std.specs.Prelude.{length};
+ghost use Rattle.std.specs.Iterator.{at_most};
+
+use crate::all_hold::all_hold;
+use std::alloc::{AllocError, Global};
+use std::cell::Cell;
+use widestring::{U16String, Utf32String, encode_utf8, encode_utf16};
+
+// Characters of which nothing is told but an upper bound of their number, the greatest there is, or not even that.
+#[derive(Drop)]
+struct Vague<'a> {
+    rest: &'a [char],
+    is_bounded: bool,
+}
+
+impl Iterator for Vague<'_> {
+    type Item = char;
+
+    ghost remaining = { λ s. at_most (length s.rest.now) };
+
+    fn next(&mut self) -> Option<char> {
+        let (first, others) = self.rest.split_first()?;
+        self.rest = others;
+        Some(*first)
+    }
+
+    fn size_hint(&self) -> (usize, Option<usize>) {
+        let upper = if self.is_bounded {
+            Some(usize::MAX)
+        } else {
+            None
+        };
+        (0, upper)
+    }
+}
+
+const CHARS: [char; 3] = ['a', '😀', 'é'];
+
+fn vague_source(is_bounded: bool) -> Vague<'static> {
+    Vague {
+        rest: &CHARS,
+        is_bounded,
+    }
+}
+
+// Whether these units were collected.
+fn is_collected<T: PartialEq + Drop>(made: Result<Vec<T>, AllocError>, expected: &[T]) -> bool {
+    match made {
+        Ok(given) => given.as_slice() == expected,
+        Err(_) => false,
+    }
+}
+
+// Whether strings and encoders take all of it, and the hints of encoders say no more than its own.
+fn is_taken(alloc: Global, is_bounded: bool) -> [bool; 7] {
+    let units = [0x61, 0xd83d, 0xde00, 0xe9];
+    let mut narrow = U16String::new(alloc);
+    let mut wide = Utf32String::new(alloc);
+    let extended = narrow.extend_chars(vague_source(is_bounded)).is_ok();
+    [
+        extended && narrow.as_slice() == units.as_slice(),
+        wide.extend_chars(vague_source(is_bounded)).is_ok() && wide.len() == 3,
+        encode_utf16(vague_source(is_bounded)).size_hint() == (0, None),
+        encode_utf8(vague_source(is_bounded)).size_hint() == (0, None),
+        is_collected(
+            encode_utf16(vague_source(is_bounded)).collect(alloc),
+            &units,
+        ),
+        is_collected(encode_utf16(CHARS).collect(alloc), &units),
+        is_collected(
+            encode_utf8(vague_source(is_bounded)).collect(alloc),
+            "a😀é".as_bytes(),
+        ),
+    ]
+}
+
+#[test]
+fn vague_sources(rt: HostRuntime) {
+    for is_bounded in [true, false] {
+        all_hold(&rt, &is_taken(rt.alloc(), is_bounded));
+    }
+}
+
+// Characters that are read until there is a fault, which ends them and is told elsewhere.
+#[derive(Drop)]
+struct Faulty<'a> {
+    rest: &'a [Option<char>],
+    has_failed: &'a Cell<bool>,
+}
+
+impl Iterator for Faulty<'_> {
+    type Item = char;
+
+    ghost remaining = { λ s. at_most (length s.rest.now) };
+
+    fn next(&mut self) -> Option<char> {
+        let (first, others) = self.rest.split_first()?;
+        self.rest = others;
+        if first.is_none() {
+            self.has_failed.set(true);
+            self.rest = &[];
+        }
+        *first
+    }
+}
+
+// Whether an extension keeps the characters before a fault, and adds none behind it.
+fn is_kept(alloc: Global, before: usize) -> bool {
+    let mut read = [Some('a'), Some('😀'), Some('b'), Some('c')];
+    let Some(place) = read.get_mut(before) else {
+        return false;
+    };
+    *place = None;
+    let has_failed = Cell::new(false);
+    let mut string = Utf32String::new(alloc);
+    let answer = string.extend_chars(Faulty {
+        rest: &read,
+        has_failed: &has_failed,
+    });
+    let whole = [0x61, 0x1_f600, 0x62, 0x63];
+    answer.is_ok()
+        && has_failed.get()
+        && string.len() == before
+        && whole.starts_with(string.as_slice())
+}
+
+#[test]
+fn sources_that_fail(rt: HostRuntime) {
+    for before in 0..4 {
+        assert!(rt;
+            is_kept(rt.alloc(), before),
+            "a fault after {before} characters"
+        );
+    }
+}

@@ -1,0 +1,57 @@
+//! Units as bytes. A question is `le` or `be`, the order of the two or four bytes, and an `m` behind it for a byte order mark before them. The answer has
+//! the bytes in a vector, a `;`, the bytes that are put into a buffer, and a `1` where the buffer stays as it is behind them.
+ghost use Rattle.std.specs.Prelude.{◌*◌, ◌+◌, ◌≤◌, length};
+ghost use Rattle.widestring.specs.UnitBytes.{unit_width};
+
+use crate::parse::{self, Memory, NoAnswer};
+use crate::show::Answer;
+use widestring::unit::Unit;
+use widestring::ustr::UStr;
+
+// The bytes of units in a vector and in a buffer.
+fn put<C: Unit>(memory: Memory<'_>, units: &[C], question: &str) -> Result<String, NoAnswer>
+    requires { unit_width C.form * (length units.now + 1) ≤ 404 }
+{
+    let view = UStr::from_slice(units);
+    let heap = memory.heap;
+    let mut buffer = [0xaa; 404];
+    let (made, count) = match question {
+        "le" => (view.to_le_bytes(heap)?, view.put_le_bytes(&mut buffer)),
+        "be" => (view.to_be_bytes(heap)?, view.put_be_bytes(&mut buffer)),
+        "lem" => (
+            view.to_le_bytes_with_mark(heap)?,
+            view.put_le_bytes_with_mark(&mut buffer),
+        ),
+        "bem" => (
+            view.to_be_bytes_with_mark(heap)?,
+            view.put_be_bytes_with_mark(&mut buffer),
+        ),
+        _ => return Err(NoAnswer::Unparsed),
+    };
+    let (bytes, behind) = buffer.split_at(count.min(404));
+    let mut answer = Answer::new(memory.alloc);
+    answer.bytes(&made);
+    answer.part();
+    answer.bytes(bytes);
+    answer.part();
+    answer.decided(behind.iter().all(|byte| *byte == 0xaa));
+    answer.finish()
+}
+
+/// The bytes of 16-bit units.
+pub fn of_units16(memory: Memory<'_>, list: &str, question: &str) -> Result<String, NoAnswer> {
+    let units = parse::list::<u16>(memory.alloc, list)?;
+    if units.len() > 100 {
+        return Err(NoAnswer::Unparsed);
+    }
+    put(memory, &units, question)
+}
+
+/// The bytes of 32-bit units.
+pub fn of_units32(memory: Memory<'_>, list: &str, question: &str) -> Result<String, NoAnswer> {
+    let units = parse::list::<u32>(memory.alloc, list)?;
+    if units.len() > 100 {
+        return Err(NoAnswer::Unparsed);
+    }
+    put(memory, &units, question)
+}

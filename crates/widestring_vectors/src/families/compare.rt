@@ -1,0 +1,184 @@
+//! Comparisons of two lists of units. A question is a word for the two types, a space and the units of the other list.
+//!
+//! - `units`, `contents` and `text` compare two views of one type, and `unit_string`, `c_string` and `string` two owned strings, of which the first has
+//!   spare capacity: whether they are equal, their order, whether they hash alike, and of strings whether the first hashes as its view does.
+//! - `mixed` asks whether text is equal to the other units, to the C string of them, and to the text of them at the other width, and then the same
+//!   from the other side. `str` asks whether the text is the text of the other units as a `str`, and `chars` whether it has its characters.
+use crate::families::texts::c_string;
+use crate::families::ucstring::text_of;
+use crate::families::width::{Width, as_text};
+use crate::parse::{self, Memory, NoAnswer};
+use crate::show::Answer;
+use std::alloc::Global;
+use std::hash::{DefaultHasher, Hash, Hasher};
+use widestring::ustr::UStr;
+use widestring::ustring::UString;
+use widestring::utfstr::{UCStrInUtfstr, UStrInUtfstr, UtfStr};
+use widestring::utfstring::UtfString;
+
+fn hash_of(value: &impl Hash) -> u64 {
+    let mut hasher = DefaultHasher::new();
+    value.hash(&mut hasher);
+    hasher.finish()
+}
+
+// How one value compares with another.
+macro_rules! compared {
+    ($answer:expr, $left:expr, $right:expr) => {
+        $answer.decided($left == $right);
+        $answer.order($left.cmp($right));
+        $answer.decided(hash_of($left) == hash_of($right));
+    };
+}
+
+fn views<C: Width>(answer: &mut Answer, list: &[C], other: &[C]) {
+    let left = UStr::from_slice(list);
+    let right = UStr::from_slice(other);
+    compared!(answer, &left, &right);
+}
+
+fn contents<C: Width>(
+    answer: &mut Answer,
+    alloc: Global,
+    list: &[C],
+    other: &[C],
+) -> Result<(), NoAnswer> {
+    let left = c_string(alloc, list)?;
+    let right = c_string(alloc, other)?;
+    compared!(answer, &left.as_ucstr(), &right.as_ucstr());
+    answer.part();
+    compared!(answer, &left, &right);
+    answer.decided(hash_of(&left) == hash_of(&left.as_ucstr()));
+    Ok(())
+}
+
+fn unit_strings<C: Width>(
+    answer: &mut Answer,
+    alloc: Global,
+    list: &[C],
+    other: &[C],
+) -> Result<(), NoAnswer> {
+    let mut left = UString::with_capacity(alloc, list.len().saturating_add(10))?;
+    left.push_slice(list)?;
+    let right = UString::from_vec(Vec::from_slice(alloc, other)?);
+    compared!(answer, &left, &right);
+    answer.decided(hash_of(&left) == hash_of(&left.as_ustr()));
+    Ok(())
+}
+
+fn texts<C: Width>(answer: &mut Answer, list: &[C], other: &[C]) -> Result<(), NoAnswer> {
+    let left = as_text(list)?;
+    let right = as_text(other)?;
+    compared!(answer, &left, &right);
+    Ok(())
+}
+
+fn strings<C: Width>(
+    answer: &mut Answer,
+    alloc: Global,
+    list: &[C],
+    other: &[C],
+) -> Result<(), NoAnswer> {
+    let list = as_text(list)?;
+    let other = as_text(other)?;
+    let mut left = UtfString::with_capacity(alloc, list.len().saturating_add(10))?;
+    left.push_utfstr(list)?;
+    let mut right = UtfString::new(alloc);
+    right.push_utfstr(other)?;
+    compared!(answer, &left, &right);
+    answer.decided(hash_of(&left) == hash_of(&left.as_utfstr()));
+    Ok(())
+}
+
+// Whether a text is equal to the contents of a C string of units, if there is one.
+fn with_contents<C: Width>(answer: &mut Answer, alloc: Global, list: UtfStr<'_, C>, other: &[C]) {
+    match c_string(alloc, other) {
+        Ok(string) => {
+            answer.decided(list.eq_ucstr(string.as_ucstr()));
+            answer.decided(string.as_ucstr().eq_utfstr(list));
+        }
+        Err(_) => {}
+    }
+}
+
+// Whether a text is equal to the text of units at the other width, if they are text.
+fn with_other_width<C: Width>(
+    answer: &mut Answer,
+    alloc: Global,
+    list: UtfStr<'_, C>,
+    other: &[C],
+) -> Result<(), NoAnswer> {
+    if UtfStr::from_slice(other).is_err() {
+        return Ok(());
+    }
+    let theirs = text_of(alloc, other)?;
+    let [to_other, from_other] = C::eq_other(list.as_slice(), &theirs, alloc)?;
+    answer.decided(to_other);
+    answer.decided(from_other);
+    Ok(())
+}
+
+// Whether a text is equal to another's units, to those as the contents of a C string, and to that text at the other width.
+fn mixed<C: Width>(
+    answer: &mut Answer,
+    alloc: Global,
+    list: &[C],
+    other: &[C],
+) -> Result<(), NoAnswer> {
+    let list = as_text(list)?;
+    let view = UStr::from_slice(other);
+    answer.decided(list.eq_ustr(view));
+    answer.decided(view.eq_utfstr(list));
+    answer.part();
+    with_contents(answer, alloc, list, other);
+    answer.part();
+    with_other_width(answer, alloc, list, other)
+}
+
+fn characters<C: Width>(alloc: Global, units: &[C]) -> Result<Vec<char>, NoAnswer> {
+    let mut chars = Vec::new(alloc);
+    for c in UStr::from_slice(units).chars_lossy() {
+        chars.push(c)?;
+    }
+    Ok(chars)
+}
+
+// Whether a text is this one of a `str`, or has these characters.
+fn with_text<C: Width>(
+    alloc: Global,
+    word: &str,
+    list: &[C],
+    other: &[C],
+) -> Result<bool, NoAnswer> {
+    let list = as_text(list)?;
+    if word == "str" {
+        let theirs = text_of(alloc, other)?;
+        return Ok(list.eq_str(&theirs));
+    }
+    let chars = characters(alloc, other)?;
+    C::eq_chars(list.as_slice(), &chars)
+}
+
+/// How two lists of units compare.
+pub fn compared<C: Width>(
+    memory: Memory<'_>,
+    list: &str,
+    question: &str,
+) -> Result<String, NoAnswer> {
+    let alloc = memory.alloc;
+    let (word, more) = parse::word(question);
+    let list = parse::list::<C>(alloc, list)?;
+    let other = parse::list::<C>(alloc, more)?;
+    let mut answer = Answer::new(alloc);
+    match word {
+        "units" => views(&mut answer, &list, &other),
+        "unit_string" => unit_strings(&mut answer, alloc, &list, &other)?,
+        "contents" => contents(&mut answer, alloc, &list, &other)?,
+        "text" => texts(&mut answer, &list, &other)?,
+        "string" => strings(&mut answer, alloc, &list, &other)?,
+        "mixed" => mixed(&mut answer, alloc, &list, &other)?,
+        "str" | "chars" => answer.decided(with_text(alloc, word, &list, &other)?),
+        _ => return Err(NoAnswer::Unparsed),
+    }
+    answer.finish()
+}
