@@ -1,9 +1,10 @@
--- Characters mapped one after another.
+-- Mapping characters one after another.
 use Rattle.std.proofs.Common.{◌≡◌, ℕ, List, [], ◌∷◌, ◌++◌, sym, ◌∙◌, ap, append_assoc}
 use Rattle.std.proofs.lemmas.List.{append-nil}
 use Rattle.std.specs.List.{flat_map}
 
--- what was put so far, and what the characters that are left become, are what all become; none is left of none
+-- What was appended so far and the mapped remaining characters make up the mapped whole. Nothing remains of an empty
+-- text.
 pub record IsCasing (mapping : ℕ → List ℕ) (all put left : List ℕ) : Type 0 where
   pub joined : put ++ flat_map mapping left ≡ flat_map mapping all
   pub none : all ≡ [] → left ≡ []

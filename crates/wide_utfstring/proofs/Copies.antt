@@ -1,4 +1,4 @@
--- Units of a copy, which are their own numbers.
+-- Units that equal their numbers, as those of a copy of `u16` or `u32` do.
 use Rattle.std.proofs.Common.{◌≡◌, ℕ, List, subst, ◌∙◌}
 use Rattle.std.specs.Prelude.{Vec, vec_capacity}
 use Rattle.std.proofs.lemmas.List.{map-id}

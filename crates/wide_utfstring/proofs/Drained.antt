@@ -1,4 +1,5 @@
--- What is left of well-formed text once a character is taken from its front or its back, and how many characters there are.
+-- What remains of well-formed text after its first or its last character is removed, and bounds on the number of
+-- characters.
 use Rattle.std.proofs.Common.{◌≡◌, ◌≢◌, ℕ, nat_eq, if◌then◌else◌, eq-eqb, ◌+◌, ◌-◌, ◌≤◌, List, [], ◌∷◌, ◌++◌, inl, inr, sym, ◌∙◌, ap, subst, arith, length, length-append, length-drop, map, take, drop, slice_range}
 use Rattle.std.proofs.lemmas.List.{append-nil, drop-drop, drop-take, take-take, take-map, drop-map, length-map, length-take-le, take-append-drop}
 use Rattle.std.proofs.lemmas.List.Concat.{flat_map-append}
@@ -12,7 +13,7 @@ use Rattle.wide_unit.specs.Places.{IsPlaceOf}
 use Rattle.wide_unit.specs.Laws.Places.{IsPlaceOf-front, encode-chars, IsWellFormed-take, IsWellFormed-drop, IsBoundary-within}
 use Rattle.wide_unit.specs.Laws.Splices.{chars-nil}
 
--- a string that lost a part is shorter, or the part was empty
+-- A string without a range is shorter, or the range was empty.
 pub gone_or_same : {X : Type 0} (us left : List X) (from to total : ℕ) → length us ≡ total → from ≤ to → to ≤ total → left ≡ splice us from to [] → length left ≡ total → left ≡ us
 gone_or_same us left from to total long forward within gone same =
     let first : length (take from us) ≡ from = length-take-le from us (omega arith) in
@@ -24,7 +25,7 @@ push_not_nil : (cs : List ℕ) (c : ℕ) → cs ++ c ∷ [] ≡ [] → ⊥
 push_not_nil [] c e = cc
 push_not_nil (d ∷ cs) c e = cc
 
--- a part without some elements at its front, or at its back
+-- A slice without some elements at its beginning, or at its end.
 module _ {X : Type 0} (xs : List X) (from to n : ℕ) (fits : from + n ≤ to) where
   slice-from : slice_range xs (from + n) to ≡ drop n (slice_range xs from to)
   slice-from =
@@ -36,7 +37,7 @@ module _ {X : Type 0} (xs : List X) (from to n : ℕ) (fits : from + n ≤ to) w
       let count : to - n - from ≡ to - from - n = omega arith in
       ap (λ k. take k (drop from xs)) count ∙ sym (take-take (to - from - n) (to - from) (drop from xs) (omega arith))
 
--- Well-formed units by their first character, and by their last.
+-- Well-formed units by their first character, and by their last one.
 module _ (form : EncodingForm) (us : List ℕ) (well : IsWellFormed form us) (c : ℕ) (cs : List ℕ) where
   module _ (e : chars form us ≡ c ∷ cs) where
     first_place : IsPlaceOf form us 1 (length (code_units form c))
@@ -74,7 +75,7 @@ module _ (form : EncodingForm) (us : List ℕ) (well : IsWellFormed form us) (c 
     last_others : chars form (take (length us - length (code_units form c)) us) ≡ cs
     last_others = last_place.front ∙ ap (take (length cs)) e ∙ take-append_seam cs (c ∷ [])
 
--- The part from `front` up to `back`, once a character is taken from it.
+-- The units from `front` up to `back` after a character is removed from them.
 module _ {X : Type 0} (form : EncodingForm) (number : X → ℕ) (xs : List X) (front back : ℕ) (ordered : front ≤ back) (within : back ≤ length xs) (well : IsWellFormed form (map number (slice_range xs front back))) (c : ℕ) (cs : List ℕ) where
   abbrev us : List ℕ
   us = map number (slice_range xs front back)
@@ -112,7 +113,7 @@ module _ {X : Type 0} (form : EncodingForm) (number : X → ℕ) (xs : List X) (
     back_others : chars form (map number (slice_range xs front (back - n))) ≡ cs
     back_others = ap (chars form) to_back ∙ last_others form us well c cs e
 
--- Of a string of `total` units, which may have lost some.
+-- For a string of `total` units, which may have lost some.
 module _ {X Y : Type 0} (xs : List X) (total : ℕ) (there gone : Y) where
   while_whole : length xs ≡ total → (if nat_eq (length xs) total then there else gone) ≡ there
   while_whole e = rw (eq-eqb (length xs) total e)
@@ -120,13 +121,14 @@ module _ {X Y : Type 0} (xs : List X) (total : ℕ) (there gone : Y) where
   once_gone : length xs ≢ total → (if nat_eq (length xs) total then there else gone) ≡ gone
   once_gone e = grind (arith, nat_tests)
 
--- the part that is left, and nothing once the range is gone
+-- The units that were not read yet; none once the range is removed.
 abbrev pub left_of : {X : Type 0} → List X → ℕ → ℕ → ℕ → List X
 left_of xs total front back = if nat_eq (length xs) total then slice_range xs front back else []
 
 module _ {X : Type 0} (form : EncodingForm) (number : X → ℕ) (xs : List X) (total : ℕ) where
   module _ (front back : ℕ) where
-    -- a character of this many units came out of the part, which is from `first` up to `last` now, and has these characters
+    -- A character of `n` units was removed from the range, which now is from `first` up to `last` and has the
+    -- characters `cs`.
     pub record IsTaken (n first last : ℕ) (cs : List ℕ) : Type 0 where
       pub fits : front + n ≤ back
       pub part : length xs ≡ total → IsWellFormed form (map number (slice_range xs first last))

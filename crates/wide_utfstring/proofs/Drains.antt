@@ -1,4 +1,4 @@
--- What calls of a drain give, one after another.
+-- What successive calls of a drain return.
 use Rattle.std.proofs.Common.{◌≡◌, ℕ, ◌+◌, ◌-◌, List, [], ◌∷◌, ◌++◌, length, refl, ap, subst, ◌∙◌, arith}
 use Rattle.std.specs.Iterator.Runs.{YieldsInOrder, YieldsInReverse}
 use Rattle.std.proofs.iter.runs.Sources.{from_front, from_back, as_is, as_is_back}
@@ -26,7 +26,7 @@ module _ {C A F : Type 0} {f : Faults C F} {g : Ghosts C} where
       let rest = drain_stays y.0 cs later y.2 in
       record { lender = rest.lender ∙ first.lender; leaves = rest.leaves ∙ first.leaves; capacity = rest.capacity ∙ first.capacity }
 
-  -- what is left once a character is taken from the front, or from the back
+  -- What remains after a character is taken from the front or from the back.
   module _ (d : DrainUtf C A F f g) (c : ℕ) (cs : List ℕ) (n : ℕ) (takes : n ≡ length (code_units g.form c)) where
     pub drain_first : drain_rest d ≡ c ∷ cs → IsTaken g.form g.number d.string.now.units d.total d.front d.back n (d.front + n) d.back cs
     drain_first e = front_taken g.form g.number d.string.now.units d.total d.front d.back (omega (arith, d.ordered)) (omega (arith, d.ordered)) d.part c cs n takes e

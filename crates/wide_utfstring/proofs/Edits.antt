@@ -15,7 +15,8 @@ on_ok (Ok x) f p = f p
 on_ok (Err e) f p = tt
 
 module _ {X : Type 0} (form : EncodingForm) (number : X → ℕ) where
-  -- a call that was refused left the string, and one that was not left it well formed
+  -- If a failed call left the string unchanged, and a successful one left it well formed, it is well formed after the
+  -- call.
   pub kept : {A E : Type 0} (r : Result A E) (old new : Units X) → IsWellFormed form (map number old.units) → OnOk r (IsWellFormed form (map number new.units)) → OnErr r (new ≡ old) → IsWellFormed form (map number new.units)
   kept (Ok x) old new well ok err = ok
   kept (Err e) old new well ok err = subst (λ s. IsWellFormed form (map number s.units)) (sym err) well
@@ -27,12 +28,12 @@ module _ {X : Type 0} (form : EncodingForm) (number : X → ℕ) where
   repeated zero xs well = IsWellFormed-nil form
   repeated (suc n) xs well = joined xs (repeat n xs) well (repeated n xs well)
 
-  -- what is left of text that is cut at a boundary, or past its end
+  -- A prefix that ends at a boundary, or past the end, is well formed.
   pub front_of : (xs : List X) (len : ℕ) → IsWellFormed form (map number xs) → (length xs ≤ len) ⊎ IsBoundary form (map number xs) len → IsWellFormed form (map number (take len xs))
   front_of xs len well (inl past) = subst (λ ys. IsWellFormed form (map number ys)) (sym (take_all len xs past)) well
   front_of xs len well (inr at) = IsWellFormed-map_take form number xs well len at
 
-  -- and its characters
+  -- The characters of such a prefix.
   pub front_text : (xs : List X) (len : ℕ) → IsWellFormed form (map number xs) → (length xs ≤ len) ⊎ IsBoundary form (map number xs) len
       → chars form (map number (take len xs)) ≡ take (chars_before form (map number xs) len) (chars form (map number xs))
   front_text xs len well (inl past) =
@@ -41,7 +42,7 @@ module _ {X : Type 0} (form : EncodingForm) (number : X → ℕ) where
       ap (chars form) (ap (map number) (take_all len xs past)) ∙ sym (ap (λ vs. take (length (chars form vs)) (chars form us)) whole ∙ take_all (length (chars form us)) (chars form us) (omega arith))
   front_text xs len well (inr at) = ap (chars form) (sym (take-map number len xs)) ∙ (IsPlaceOf-boundary form (map number xs) well len at).front
 
-  -- those of the rest
+  -- The characters after a boundary.
   pub rest_text : (xs : List X) (place : ℕ) → IsWellFormed form (map number xs) → IsBoundary form (map number xs) place
       → chars form (map number (drop place xs)) ≡ drop (chars_before form (map number xs) place) (chars form (map number xs))
   rest_text xs place well at = ap (chars form) (sym (drop-map number place xs)) ∙ (IsPlaceOf-boundary form (map number xs) well place at).rest

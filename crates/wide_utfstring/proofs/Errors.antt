@@ -1,4 +1,4 @@
--- What holds of an error.
+-- Implications between facts about an error.
 use Rattle.std.proofs.Common.{Result, Ok, Err}
 use Rattle.std.specs.Prelude.{IfErr}
 

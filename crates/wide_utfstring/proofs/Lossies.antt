@@ -1,4 +1,4 @@
--- Lossy text that is made of a well-formed front and the rest, and the two ways in which a text is the lossy one of units.
+-- Lossy text made from a well-formed prefix and the rest, and the two ways to make it: unit by unit, and run by run.
 use Rattle.std.proofs.Common.{◌≡◌, ◌≢◌, ◌⊎◌, ◌<◌, ℕ, List, [], ◌∷◌, ◌++◌, inl, inr, refl, sym, ap, subst, ◌∙◌, arith, ◌+◌, ◌≤◌, length, length-append, length-take, take, drop, append_assoc, append-nil}
 use Rattle.std.proofs.lemmas.List.{take-append-drop, take-append-le, take_all, take-map, drop-map, map-append}
 use Rattle.std.proofs.Math.Seq.{take-append_seam}
@@ -24,7 +24,8 @@ use Rattle.wide_utfstr.specs.declared.view.UtfStr.{UtfStr}
 use Rattle.wide_utfstring.specs.CowText.{IsLossyBy}
 use Rattle.wide_utfstring.specs.declared.cow.CowUtfStr.TheVariants.{Borrowed, Owned}
 
--- units with room behind them, which others take
+-- If a list consists of a prefix and filler, writing other elements over the filler gives the prefix and those
+-- elements.
 pub taken_back : {C : Type 0} (now front fill ys more : List C) (index m k n : ℕ) → now ≡ take m front ++ fill → length front ≡ index → index ≤ m → n ≡ index + length ys → take n (put_mid index k now ys ++ more) ≡ front ++ ys
 taken_back now front fill ys more index m k n is long within all =
     let begins : now ≡ front ++ fill = is ∙ ap (λ xs. xs ++ fill) (take_all m front (omega arith)) in
@@ -33,14 +34,14 @@ taken_back now front fill ys more index m k n is long within all =
     let first : take index now ≡ front = ap (take index) begins ∙ ap (λ n. take n (front ++ fill)) (sym long) ∙ take-append_seam front fill in
     take-append-le n (put_mid index k now ys) more filled ∙ take-put_mid index k now ys n all enough ∙ ap (λ xs. xs ++ ys) first
 
--- well-formed units, and the mended rest
+-- A well-formed prefix and the repaired rest make up the lossy text.
 pub mended_text : {C : Type 0} (form : EncodingForm) (number : C → ℕ) (units front rest ys : List C) → front ++ rest ≡ units → IsWellFormed form (map number front) → length ys ≡ length rest
     → map number (take (length rest) ys) ≡ encode form (lossy (items form (map number rest))) → map number (front ++ ys) ≡ encode form (lossy (items form (map number units)))
 mended_text form number units front rest ys whole well long mended =
     map-append number front ys ∙ ap (λ us. map number front ++ us) (ap (map number) (sym (take_all (length rest) ys (omega arith))) ∙ mended)
     ∙ lossy_by-split Each form number units front rest whole well
 
--- what stands in the text for a row of faults
+-- What replaces a run of faults in the text.
 abbrev pub for_row : Policy → List ℕ
 for_row Run = 0xFFFD ∷ []
 for_row _ = []
@@ -54,7 +55,7 @@ module _ (policy : Policy) (by_rows : policy ≢ Each) where
       go Run isnt row u is rest e begins = ap lossy_runs e ∙ runs_first (map Fault row ++ rest) rest u (record { row = row; joined = refl; past = begins.past })
       go Skip isnt row u is rest e begins = ap characters e ∙ characters-append (map Fault (u ∷ row)) rest ∙ ap (λ cs. cs ++ characters rest) (characters-of_row (u ∷ row))
 
--- a row of faults at the front is not empty
+-- A run of faults at the beginning is not empty.
 row-some : (row : List ℕ) (u : ℕ) (is js rest : List Item) → is ≡ Fault u ∷ js → is ≡ map Fault row ++ rest → (rest ≡ []) ⊎ ((c : ℕ) × (tail : List Item) × (rest ≡ Char c ∷ tail))
     → (v : ℕ) × (more : List ℕ) × (is ≡ map Fault (v ∷ more) ++ rest)
 row-some [] u is js rest head joined past = elim past [
@@ -75,7 +76,7 @@ module _ (policy : Policy) (form : EncodingForm) where
       go Run isnt = absurd (isnt refl)
       go Skip isnt = sym (append-nil us)
 
--- the units before a first fault
+-- The units before the first fault are well formed.
 pub front_well_formed : {C : Type 0} (form : EncodingForm) (number : C → ℕ) (rest : List C) (index item u : ℕ) → IsFirstFault form (map number rest) index item u → IsWellFormed form (map number (take index rest))
 front_well_formed form number rest index item u fault = subst (IsWellFormed form) (take-map number index rest) (first_fault-front form (map number rest) index item u fault)
 
@@ -89,7 +90,8 @@ module _ {C : Type 0} (policy : Policy) (form : EncodingForm) (number : C → �
   front : IsWellFormed form (map number (take index rest))
   front = front_well_formed form number rest index item u fault
 
-  -- a text that lossy text of the rest follows goes on with the units before the fault, and then with what stands for its row
+  -- Appending the units before a fault and the replacement of its run keeps the invariant: the text made so far and the
+  -- lossy text of the rest make up the whole lossy text.
   pub lossy_row : policy ≢ Each → (text : List C) (more : List ℕ) → map number text ++ encode form (lossy_by policy (items form (map number rest))) ≡ encode form (lossy_by policy (items form (map number units)))
       → more ≡ map number (text ++ take index rest) ++ encode form (for_row policy) → more ++ encode form (lossy_by policy (items form (map number behind))) ≡ encode form (lossy_by policy (items form (map number units)))
   lossy_row by_rows text more so_far now =
@@ -104,7 +106,7 @@ module _ {C : Type 0} (policy : Policy) (form : EncodingForm) (number : C → �
       ∙ append_assoc (map number text ++ piece) gap (encode form left) ∙ append_assoc (map number text) piece (gap ++ encode form left)
       ∙ ap (λ us. map number text ++ us) (sym parts) ∙ so_far
 
-  -- and fewer items are left
+  -- The rest after the run has fewer items.
   pub fewer_items : length (items form (map number behind)) < length (items form (map number rest))
   fewer_items =
       let whole : items form (map number rest) ≡ items form (map number (take index rest)) ++ items form (map number (drop index rest)) =

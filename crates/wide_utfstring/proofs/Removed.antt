@@ -1,4 +1,4 @@
--- What is left of well-formed units when the character at a boundary is taken away.
+-- Removing the character at a boundary keeps the units well formed.
 use Rattle.std.proofs.Common.{◌≡◌, ℕ, ◌+◌, ◌<◌, arith, get_or, List, [], ◌∷◌, ◌++◌, ap, sym, subst, ◌∙◌, length, map, take, drop}
 use Rattle.std.specs.Char.{IsScalar}
 use Rattle.std.specs.List.{splice}
@@ -68,7 +68,7 @@ module _ (form : EncodingForm) (us vs : List ℕ) (at : ℕ) (well : IsWellForme
       let behind : drop (at + n) us ≡ drop at vs = sym (drop-drop n at us) ∙ ap (drop n) joined ∙ drop-append_seam (code_units form c) (drop at vs) in
       left ∙ ap (λ xs. take at us ++ xs) (sym behind)
 
--- The same over the units of any type.
+-- Removal of the first character, for units of any type, by their numbers.
 module _ {X : Type 0} (form : EncodingForm) (number : X → ℕ) (xs ys : List X) (at c : ℕ) where
   pub taken_of_map : TakesFirst form (map number (drop at xs)) (map number (drop at ys)) c → TakesFirst form (drop at (map number xs)) (drop at (map number ys)) c
   taken_of_map taken = rw (drop-map number at xs, drop-map number at ys) taken

@@ -1,4 +1,4 @@
--- Well-formed units of 32 bits are their characters.
+-- Well-formed UTF-32 units equal their characters.
 use Rattle.std.proofs.Common.{◌≡◌, ℕ, suc, ◌<◌, List, [], ◌∷◌, ◌++◌, map, length, take, drop, set, ap, sym, subst, ◌∙◌, refl, arith}
 use Rattle.std.specs.Char.{IsScalar}
 use Rattle.std.specs.List.{refill}
@@ -18,7 +18,7 @@ pub encode32 : (cs : List ℕ) → encode Utf32 cs ≡ cs
 encode32 [] = refl
 encode32 (c ∷ cs) = ap (λ us. c ∷ us) (encode32 cs)
 
--- another character in one place
+-- Replacing one unit by a character keeps the units well formed.
 module _ (us : List ℕ) (well : IsWellFormed Utf32 us) (index c : ℕ) (within : index < length us) (scalar : IsScalar c) where
   pub set-well_formed : IsWellFormed Utf32 (set us index c)
   set-well_formed =
@@ -28,6 +28,6 @@ module _ (us : List ℕ) (well : IsWellFormed Utf32 us) (index c : ℕ) (within 
   pub set-chars : chars Utf32 (set us index c) ≡ set (chars Utf32 us) index c
   set-chars = chars32-well_formed (set us index c) set-well_formed ∙ ap (λ vs. set vs index c) (sym (chars32-well_formed us well))
 
--- what a slice of all units holds is what they are once it is given back
+-- Writing a slice back over all units gives that slice.
 pub refill_all : (us vs : List ℕ) → length vs ≡ length us → refill (length us) us vs ≡ vs
 refill_all us vs long = ap (λ n. take n (vs ++ drop (length vs) us)) (sym long) ∙ take-append_seam vs (drop (length vs) us)

@@ -1,4 +1,4 @@
--- What a contract sees of a `DrainUtf`.
+-- What contracts say about a `DrainUtf`.
 use Rattle.std.specs.Prelude.{◌≡◌, ℕ, List, [], map, length, slice_range, nat_eq, if◌then◌else◌, Option}
 use Rattle.std.specs.Borrow.{GName}
 use Rattle.std.specs.Iterator.{Yields, YieldsFirst, YieldsLast}
@@ -10,44 +10,45 @@ use Rattle.wide_unit.specs.Items.{chars}
 use Rattle.wide_utfstring.specs.declared.iter.DrainUtf.{DrainUtf}
 
 module _ {C A F : Type 0} {f : Faults C F} {g : Ghosts C} where
-  -- the units of the characters that are still to come; none once the string has lost its range, which it does as the drain is
-  -- dropped
+  -- The units of the characters that were not read yet. There are none once the range is removed from the string, which
+  -- happens when the drain is dropped.
   abbrev pub drain_units : DrainUtf C A F f g → List C
   drain_units d = if nat_eq (length d.string.now.units) d.total then slice_range d.string.now.units d.front d.back else []
 
-  -- the characters that are still to come
+  -- The characters that were not read yet.
   abbrev pub drain_rest : DrainUtf C A F f g → List ℕ
   drain_rest d = chars g.form (map g.number (drain_units d))
 
-  -- the units, and the capacity, that the string has once the drain is dropped
+  -- The units that the string has once the drain is dropped, and its capacity.
   abbrev pub drain_leaves : DrainUtf C A F f g → List C
   drain_leaves d = if nat_eq (length d.string.now.units) d.total then splice d.string.now.units d.start d.end [] else d.string.now.units
 
   abbrev pub drain_capacity : DrainUtf C A F f g → ℕ
   drain_capacity d = d.string.now.capacity
 
-  -- the reference to the string that is drained
+  -- The reference to the string that is drained.
   abbrev pub drain_lender : DrainUtf C A F f g → GName
   drain_lender d = d.string.ghost_name
 
-  -- both drain the same string, and leave it alike
+  -- Both drain the same string, and leave it with the same units and capacity.
   pub record DrainKeeps (old new : DrainUtf C A F f g) : Type 0 where
     pub lender : drain_lender new ≡ drain_lender old
     pub leaves : drain_leaves new ≡ drain_leaves old
     pub capacity : drain_capacity new ≡ drain_capacity old
 
-  -- a call gave the first character, or the last, and keeps what the string is left
+  -- A call returned the first character, or the last one, and did not change what the string will have once the drain
+  -- is dropped.
   abbrev pub DrainGives : DrainUtf C A F f g → Option ℕ → DrainUtf C A F f g → Type 0
   DrainGives old c new = YieldsFirst drain_rest old c new × DrainKeeps old new
 
   abbrev pub DrainGivesBack : DrainUtf C A F f g → Option ℕ → DrainUtf C A F f g → Type 0
   DrainGivesBack old c new = YieldsLast drain_rest old c new × DrainKeeps old new
 
-  -- calls from the front keep what the string is left
+  -- Calls of `next` do not change what the string will have once the drain is dropped.
   abbrev pub DrainStays : DrainUtf C A F f g → Type 0
   DrainStays first = (cs : List ℕ) (later : DrainUtf C A F f g) → Yields DrainGives first cs later → DrainKeeps first later
 
-  -- what calls give, one after another, are the characters that were still to come: from the front, and from the back
+  -- Successive calls return the characters that were not read yet, from the front and from the back.
   abbrev pub DrainRuns : DrainUtf C A F f g → Type 0
   DrainRuns _ = YieldsInOrder DrainGives drain_rest
 

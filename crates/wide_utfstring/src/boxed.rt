@@ -1,4 +1,4 @@
-//! Well-formed text in a block of its own size.
+//! Well-formed text in an allocation of exactly its length.
 ghost use Rattle.std.specs.Prelude.{◌≡◌, ◌<◌, ◌≤◌, length, map, IsOk, IfOk, IfErr};
 ghost use Rattle.std.specs.Iterator.{IsFiniteIterable};
 ghost use Rattle.wide_ustring.specs.Extended.{Adds, Collects, numbered};
@@ -14,20 +14,20 @@ use wide_ustring::extend::{Piece, Whole, extend, from_iter};
 use wide_utferror::FaultUnit;
 use wide_utfstr::UtfStr;
 
-/// Well-formed text (Unicode Standard, D85) in a block of its own size, which does not grow: what `Box<Utf16Str>` and
-/// `Box<Utf32Str>` are in the Rust crate.
+/// Well-formed text (Unicode Standard, D85) in an allocation of exactly its length, which does not grow. It corresponds
+/// to `Box<Utf16Str>` and `Box<Utf32Str>` in the Rust crate.
 ///
-/// Two of them are compared through their views, by [`BoxedUtfStr::as_utfstr`]. `{}` prints the text, and `{:?}` what that of
-/// this view does.
+/// Compare two of them through their views, by [`BoxedUtfStr::as_utfstr`]. `{}` prints the characters. `{:?}` prints
+/// them between quotes, as [`char::escape_debug`] escapes them.
 #[derive(Drop)]
 pub struct BoxedUtfStr<C: FaultUnit, A: Allocator = Global> {
     units: BoxedUStr<C, A>,
 }
 
-/// UTF-16 in a block of its own size.
+/// UTF-16 in an allocation of exactly its length.
 pub type BoxedUtf16Str<A = Global> = BoxedUtfStr<u16, A>;
 
-/// UTF-32 in a block of its own size.
+/// UTF-32 in an allocation of exactly its length.
 pub type BoxedUtf32Str<A = Global> = BoxedUtfStr<u32, A>;
 
 impl<C: FaultUnit, A: Allocator> Model for BoxedUtfStr<C, A> {
@@ -45,14 +45,14 @@ impl<C: FaultUnit, A: Allocator> Model for BoxedUtfStr<C, A> {
 }
 
 impl<C: FaultUnit, A: Allocator> BoxedUtfStr<C, A> {
-    /// A view of the text. It takes no memory.
+    /// Returns a view of the text, without allocating.
     pub fn as_utfstr(&self) -> UtfStr<'_, C>
         ensures { units_seen result ≡ self.now }
     {
         UtfStr::from_slice_unchecked(self.units.as_ustr().as_slice())
     }
 
-    /// The text as a string, in the block that it stands in: one with no room beyond its length. It takes no memory.
+    /// Returns the text as a string in the same allocation, whose capacity is its length. It does not allocate.
     pub fn into_utfstring(self) -> UtfString<C, A>
         ensures units { result.units ≡ self }
         ensures capacity { result.capacity ≡ length self }
@@ -73,12 +73,13 @@ impl<C: FaultUnit, A: Allocator, B: Allocator> Piece<UtfString<C, A>, Whole> for
 }
 
 impl<C: FaultUnit, A: Allocator> UtfString<C, A> {
-    /// The text in a block of its own size. The string's block is shrunk; where it has no spare room no memory is asked for.
+    /// Returns the text in an allocation of exactly its length. It shrinks the string's allocation; it does not ask for
+    /// memory if the string has no spare capacity.
     ///
     /// # Errors
     ///
-    /// The smaller block was refused. The string is handed back with its units and its block, which has spare room still,
-    /// as by [`wide_ustring::UString::into_boxed_ustr`].
+    /// The string, with its units, if the allocation could not be shrunk. It still has spare capacity, and no more
+    /// capacity than before.
     pub fn into_boxed_utfstr(self) -> Result<BoxedUtfStr<C, A>, Self>
         ensures units { IfOk result (λ boxed. boxed ≡ self.units) }
         ensures refused { IfErr result (λ s. s.units ≡ self.units) }
@@ -93,7 +94,15 @@ impl<C: FaultUnit, A: Allocator> UtfString<C, A> {
         }
     }
 
-    /// The texts at the end. On want of memory those of the items before the refused one are there.
+    /// Appends the texts of an iterator over boxed texts.
+    ///
+    /// # Requires
+    ///
+    /// The iterator can be advanced, and it ends.
+    ///
+    /// # Errors
+    ///
+    /// [`OutOfMemory`] if the allocation for an item fails. The string then holds the items before it.
     pub fn extend_boxed<B: Allocator, U: IntoIterator<Item = BoxedUtfStr<C, B>>>(
         &mut self,
         items: U,
@@ -105,7 +114,15 @@ impl<C: FaultUnit, A: Allocator> UtfString<C, A> {
         extend(self, items)
     }
 
-    /// A string of the texts. The error is the string of the items before the one that found no memory.
+    /// Concatenates the texts of an iterator over boxed texts into a new string.
+    ///
+    /// # Requires
+    ///
+    /// The iterator can be advanced, and it ends.
+    ///
+    /// # Errors
+    ///
+    /// The allocation for an item failed. The error is the string of the items before it.
     pub fn from_iter_boxed<B: Allocator, U: IntoIterator<Item = BoxedUtfStr<C, B>>>(
         alloc: A,
         items: U,

@@ -1,4 +1,4 @@
-//! Text in lower case, and in upper case.
+//! Conversion of text to lower case and upper case.
 ghost use Rattle.std.specs.Prelude.{◌≡◌, ◌++◌, [], option_to_list, IsOk, IfOk, OnOk};
 ghost use Rattle.std.specs.Char.Iter.{case_mapping_chars};
 ghost use Rattle.std.specs.List.{flat_map};
@@ -13,14 +13,14 @@ use wide_error::OutOfMemory;
 use wide_utferror::FaultUnit;
 use wide_utfstr::UtfStr;
 
-// The case that text is put into.
+// The case to convert to.
 #[derive(Clone, Copy)]
 pub(crate) enum Case {
     Lower,
     Upper,
 }
 
-// What a character becomes. The standard library has one type for the letters of both cases.
+// Returns the full case mapping of a character. The standard library has one type for both cases.
 fn mapped(c: char, case: Case) -> ToLowercase
     ensures { case_mapping_chars result ≡ mapping case c }
 {
@@ -30,7 +30,7 @@ fn mapped(c: char, case: Case) -> ToLowercase
     }
 }
 
-// Puts a letter at the end, where there is one.
+// Appends a character, if there is one.
 fn push_letter<C: FaultUnit, A: Allocator>(
     string: &mut UtfString<C, A>,
     letter: Option<char>,
@@ -43,7 +43,7 @@ fn push_letter<C: FaultUnit, A: Allocator>(
     }
 }
 
-// Puts all letters at the end: a character becomes at most three.
+// Appends the characters of a mapping, of which there are at most three.
 fn push_letters<C: FaultUnit, A: Allocator>(
     string: &mut UtfString<C, A>,
     mut letters: ToLowercase,
@@ -58,8 +58,8 @@ fn push_letters<C: FaultUnit, A: Allocator>(
     push_letter(string, third)
 }
 
-// The text in a case. Memory is asked for once for as many units as there are, since most characters keep their length; where
-// the text grows, as it grows.
+// Converts text to a case. It allocates once for as many units as the text has, since most characters keep their
+// length, and again only if the text grows beyond them.
 pub(crate) fn in_case<C: FaultUnit, A: Allocator>(
     text: UtfStr<'_, C>,
     case: Case,

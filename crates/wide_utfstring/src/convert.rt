@@ -16,13 +16,14 @@ use wide_ustring::UStrInUstring;
 use wide_utferror::{Utf16ConvertError, Utf32ConvertError};
 
 impl<A: Allocator> UtfString<u16, A> {
-    /// A copy of a view's units, where they are well formed (Unicode Standard, D85). Memory for the copy is asked for once,
-    /// before the units are checked, and not at all where there are none.
+    /// Copies a view's units into a new string, if they are well formed (Unicode Standard, D85). Allocates once, before
+    /// the units are checked, or not at all if there are none.
     ///
     /// # Errors
     ///
-    /// Memory was refused for the copy, whether the units are well formed or not; or else the first fault, where they are not:
-    /// its index is counted in units, its item number in characters, and the vector of the copy comes with it.
+    /// An out-of-memory error if the allocation fails, whether the units are well formed or not. Otherwise the first
+    /// fault, if the units are ill-formed: its index is counted in units, its item number in characters, and the error
+    /// holds the vector of the copy.
     pub fn from_ustr(alloc: A, view: U16Str<'_>) -> Result<Self, Utf16ConvertError<A>>
         ensures units { IfOk result (λ s. s.units ≡ units_seen view.entry) }
         ensures ok { OnOk result (IsWellFormed Utf16 (units_seen view.entry)) }
@@ -33,7 +34,14 @@ impl<A: Allocator> UtfString<u16, A> {
         Ok(UtfString::from_ustring(view.to_ustring(alloc)?)?)
     }
 
-    /// As `from_ustr`, of the contents of a C string, without its NUL.
+    /// Copies the contents of a C string, without its NUL, into a new string, if they are well formed (Unicode
+    /// Standard, D85). Allocates once, before the contents are checked, or not at all if they are empty.
+    ///
+    /// # Errors
+    ///
+    /// An out-of-memory error if the allocation fails, whether the contents are well formed or not. Otherwise the first
+    /// fault, if the contents are ill-formed: its index is counted in units, its item number in characters, and the
+    /// error holds the vector of the copy.
     pub fn from_ucstr(alloc: A, view: U16CStr<'_>) -> Result<Self, Utf16ConvertError<A>>
         ensures units { IfOk result (λ s. s.units ≡ contents_seen view.entry) }
         ensures ok { OnOk result (IsWellFormed Utf16 (contents_seen view.entry)) }
@@ -46,13 +54,14 @@ impl<A: Allocator> UtfString<u16, A> {
 }
 
 impl<A: Allocator> UtfString<u32, A> {
-    /// A copy of a view's units, where they are well formed (Unicode Standard, D85). Memory for the copy is asked for once,
-    /// before the units are checked, and not at all where there are none.
+    /// Copies a view's units into a new string, if they are well formed (Unicode Standard, D85). Allocates once, before
+    /// the units are checked, or not at all if there are none.
     ///
     /// # Errors
     ///
-    /// Memory was refused for the copy, whether the units are well formed or not; or else the first fault, where they are not:
-    /// its index is counted in units, its item number in characters, and the vector of the copy comes with it.
+    /// An out-of-memory error if the allocation fails, whether the units are well formed or not. Otherwise the first
+    /// fault, if the units are ill-formed: its index is counted in units, its item number in characters, and the error
+    /// holds the vector of the copy.
     pub fn from_ustr(alloc: A, view: U32Str<'_>) -> Result<Self, Utf32ConvertError<A>>
         ensures units { IfOk result (λ s. s.units ≡ units_seen view.entry) }
         ensures ok { OnOk result (IsWellFormed Utf32 (units_seen view.entry)) }
@@ -63,7 +72,14 @@ impl<A: Allocator> UtfString<u32, A> {
         Ok(UtfString::from_ustring(view.to_ustring(alloc)?)?)
     }
 
-    /// As `from_ustr`, of the contents of a C string, without its NUL.
+    /// Copies the contents of a C string, without its NUL, into a new string, if they are well formed (Unicode
+    /// Standard, D85). Allocates once, before the contents are checked, or not at all if they are empty.
+    ///
+    /// # Errors
+    ///
+    /// An out-of-memory error if the allocation fails, whether the contents are well formed or not. Otherwise the first
+    /// fault, if the contents are ill-formed: its index is counted in units, its item number in characters, and the
+    /// error holds the vector of the copy.
     pub fn from_ucstr(alloc: A, view: U32CStr<'_>) -> Result<Self, Utf32ConvertError<A>>
         ensures units { IfOk result (λ s. s.units ≡ contents_seen view.entry) }
         ensures ok { OnOk result (IsWellFormed Utf32 (contents_seen view.entry)) }

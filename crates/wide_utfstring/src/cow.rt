@@ -1,4 +1,4 @@
-//! Well-formed text that is borrowed where it can be.
+//! Well-formed text that is borrowed or owned.
 ghost use Rattle.std.specs.Prelude.{◌≡◌, ◌≤◌, [], map, Ok, IfOk, IsOk};
 ghost use Rattle.std.specs.Iterator.{IsFiniteIterable};
 ghost use Rattle.wide_ustring.specs.Extended.{Adds, Collects, numbered};
@@ -13,29 +13,29 @@ use wide_ustring::extend::{Piece, Whole, extend, from_iter};
 use wide_utferror::FaultUnit;
 use wide_utfstr::UtfStr;
 
-/// Well-formed text that is borrowed where it can be, and owned where it had to be made: what `Cow<Utf16Str>` and
-/// `Cow<Utf32Str>` are in the Rust crate.
+/// Well-formed text that is borrowed, or owned if it had to be made. It corresponds to `Cow<Utf16Str>` and
+/// `Cow<Utf32Str>` in the Rust crate.
 ///
-/// Two of them are compared through their views, by [`CowUtfStr::as_utfstr`]. `{}` prints the text, and `{:?}` what that of
-/// this view does.
+/// Compare two of them through their views, by [`CowUtfStr::as_utfstr`]. `{}` prints the characters. `{:?}` prints them
+/// between quotes, as [`char::escape_debug`] escapes them.
 #[derive(Drop)]
 pub enum CowUtfStr<'a, C: FaultUnit, A: Allocator = Global> {
-    /// A view of units that stand elsewhere.
+    /// A view of units that something else owns.
     Borrowed(UtfStr<'a, C>),
-    /// A string of its own.
+    /// A string that this value owns.
     Owned(UtfString<C, A>),
 }
 
-/// UTF-16 that is borrowed where it can be.
+/// UTF-16 that is borrowed or owned.
 pub type CowUtf16Str<'a, A = Global> = CowUtfStr<'a, u16, A>;
 
-/// UTF-32 that is borrowed where it can be.
+/// UTF-32 that is borrowed or owned.
 pub type CowUtf32Str<'a, A = Global> = CowUtfStr<'a, u32, A>;
 
 impl<'a, C: FaultUnit, A: Allocator> CowUtfStr<'a, C, A> {
     ghost use Rattle.wide_utfstring.specs.CowText.{IfOwned};
 
-    /// A view of the text. It takes no memory.
+    /// Returns a view of the text, without allocating.
     pub fn as_utfstr(&self) -> UtfStr<'_, C>
         ensures { units_seen result ≡ cow_units self.now }
     {
@@ -45,12 +45,12 @@ impl<'a, C: FaultUnit, A: Allocator> CowUtfStr<'a, C, A> {
         }
     }
 
-    /// The string of the text: where it is borrowed a copy, for which memory is asked for once, or not at all where it is empty, and
-    /// else the owned string itself, with its room, which takes no memory.
+    /// Returns the text as an owned string. An owned string is returned as it is, with its capacity, without
+    /// allocating. Borrowed text is copied: this allocates once, or not at all if the text is empty.
     ///
     /// # Errors
     ///
-    /// Memory was refused for the copy. The text stands where it was borrowed from.
+    /// [`OutOfMemory`] if the allocation for the copy fails.
     pub fn into_owned(self, alloc: A) -> Result<UtfString<C, A>, OutOfMemory>
         ensures units { IfOk result (λ s. s.units ≡ cow_units self.entry) }
         ensures owned { IfOwned self.entry (λ s. result ≡ Ok s) }
@@ -73,7 +73,15 @@ impl<C: FaultUnit, A: Allocator, B: Allocator> Piece<UtfString<C, A>, Whole>
 }
 
 impl<C: FaultUnit, A: Allocator> UtfString<C, A> {
-    /// The texts at the end. On want of memory those of the items before the refused one are there.
+    /// Appends the texts of an iterator's items.
+    ///
+    /// # Requires
+    ///
+    /// The iterator can be advanced, and it ends.
+    ///
+    /// # Errors
+    ///
+    /// [`OutOfMemory`] if the allocation for an item fails. The string then holds the items before it.
     pub fn extend_cows<'a, B: Allocator, U: IntoIterator<Item = CowUtfStr<'a, C, B>>>(
         &mut self,
         items: U,
@@ -87,7 +95,15 @@ impl<C: FaultUnit, A: Allocator> UtfString<C, A> {
         extend(self, items)
     }
 
-    /// A string of the texts. The error is the string of the items before the one that found no memory.
+    /// Concatenates the texts of an iterator's items.
+    ///
+    /// # Requires
+    ///
+    /// The iterator can be advanced, and it ends.
+    ///
+    /// # Errors
+    ///
+    /// The allocation for an item failed. The error is the string of the items before it.
     pub fn from_iter_cows<'a, B: Allocator, U: IntoIterator<Item = CowUtfStr<'a, C, B>>>(
         alloc: A,
         items: U,

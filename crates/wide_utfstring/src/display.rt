@@ -1,4 +1,4 @@
-//! What is printed of an owned string, of text that may be borrowed, of text in a block of its own size, and of a drain.
+//! `Display` and `Debug` of an owned string, of borrowed or owned text, of boxed text, and of a drain.
 ghost use Rattle.std.specs.Prelude.{map, Some};
 ghost use Rattle.wide_unit.specs.Places.{text_of};
 ghost use Rattle.wide_unit.specs.Texts.{debug_output};
@@ -15,7 +15,7 @@ impl<C: FaultUnit, A: Allocator> fmt::Display for UtfString<C, A> {
 
     ghost styled_output = { λ s _. Some (utf8 (text_of C.form C.number s.units)) };
 
-    /// Prints the characters, whatever options the hole has.
+    /// Prints the characters. It ignores the format options.
     fn fmt<W: fmt::Write>(&self, f: &mut fmt::Formatter<W>) -> fmt::Result {
         fmt::Display::fmt(&self.as_utfstr(), f)
     }
@@ -24,7 +24,7 @@ impl<C: FaultUnit, A: Allocator> fmt::Display for UtfString<C, A> {
 impl<C: FaultUnit, A: Allocator> fmt::Debug for UtfString<C, A> {
     ghost debug_output = { λ s. debug_output C.form (map C.number s.units) };
 
-    /// Prints a quote, the characters as [`char::escape_debug`] gives them, and a quote.
+    /// Prints the characters between quotes, as [`char::escape_debug`] escapes them.
     fn fmt<W: fmt::Write>(&self, f: &mut fmt::Formatter<W>) -> fmt::Result {
         fmt::Debug::fmt(&self.as_utfstr(), f)
     }
@@ -37,7 +37,7 @@ impl<C: FaultUnit, A: Allocator> fmt::Display for CowUtfStr<'_, C, A> {
 
     ghost styled_output = { λ s _. Some (utf8 (text_of C.form C.number (cow_units s))) };
 
-    /// Prints the characters, whatever options the hole has.
+    /// Prints the characters. It ignores the format options.
     fn fmt<W: fmt::Write>(&self, f: &mut fmt::Formatter<W>) -> fmt::Result {
         fmt::Display::fmt(&self.as_utfstr(), f)
     }
@@ -48,7 +48,7 @@ impl<C: FaultUnit, A: Allocator> fmt::Debug for CowUtfStr<'_, C, A> {
 
     ghost debug_output = { λ s. debug_output C.form (map C.number (cow_units s)) };
 
-    /// Prints a quote, the characters as [`char::escape_debug`] gives them, and a quote.
+    /// Prints the characters between quotes, as [`char::escape_debug`] escapes them.
     fn fmt<W: fmt::Write>(&self, f: &mut fmt::Formatter<W>) -> fmt::Result {
         fmt::Debug::fmt(&self.as_utfstr(), f)
     }
@@ -59,7 +59,7 @@ impl<C: FaultUnit, A: Allocator> fmt::Display for BoxedUtfStr<C, A> {
 
     ghost styled_output = { λ s _. Some (utf8 (text_of C.form C.number s)) };
 
-    /// Prints the characters, whatever options the hole has.
+    /// Prints the characters. It ignores the format options.
     fn fmt<W: fmt::Write>(&self, f: &mut fmt::Formatter<W>) -> fmt::Result {
         fmt::Display::fmt(&self.as_utfstr(), f)
     }
@@ -68,7 +68,7 @@ impl<C: FaultUnit, A: Allocator> fmt::Display for BoxedUtfStr<C, A> {
 impl<C: FaultUnit, A: Allocator> fmt::Debug for BoxedUtfStr<C, A> {
     ghost debug_output = { λ s. debug_output C.form (map C.number s) };
 
-    /// Prints a quote, the characters as [`char::escape_debug`] gives them, and a quote.
+    /// Prints the characters between quotes, as [`char::escape_debug`] escapes them.
     fn fmt<W: fmt::Write>(&self, f: &mut fmt::Formatter<W>) -> fmt::Result {
         fmt::Debug::fmt(&self.as_utfstr(), f)
     }
@@ -81,7 +81,7 @@ impl<C: FaultUnit, A: Allocator> fmt::Display for DrainUtf<'_, C, A> {
 
     ghost styled_output = { λ d _. Some (utf8 (drain_rest d)) };
 
-    /// Prints the characters that are left, whatever options the hole has.
+    /// Prints the characters that were not read yet. It ignores the format options.
     fn fmt<W: fmt::Write>(&self, f: &mut fmt::Formatter<W>) -> fmt::Result {
         fmt::Display::fmt(&self.as_utfstr(), f)
     }
@@ -92,7 +92,7 @@ impl<C: FaultUnit, A: Allocator> fmt::Debug for DrainUtf<'_, C, A> {
 
     ghost debug_output = { λ d. debug_output C.form (map C.number (drain_units d)) };
 
-    /// Prints a quote, the characters that are left as [`char::escape_debug`] gives them, and a quote.
+    /// Prints the characters that were not read yet between quotes, as [`char::escape_debug`] escapes them.
     fn fmt<W: fmt::Write>(&self, f: &mut fmt::Formatter<W>) -> fmt::Result {
         fmt::Debug::fmt(&self.as_utfstr(), f)
     }

@@ -1,7 +1,7 @@
-//! Strings made of the items of an iterator, or extended by them.
+//! Strings that are collected from the items of an iterator, or extended by them.
 //!
-//! The items go in by order, each whole or not at all. Where one finds no memory, the string holds those before it; that item
-//! and the rest of the iterator are dropped. Memory is asked for item by item.
+//! The items are appended in order, each as a whole or not at all. If the allocation for an item fails, the string
+//! holds the items before it; that item and the rest of the iterator are dropped. Memory is reserved item by item.
 ghost use Rattle.std.specs.Prelude.{◌≤◌, map, string_bytes};
 ghost use Rattle.std.specs.Iterator.{IsFiniteIterable};
 ghost use Rattle.std.specs.Str.{chars};
@@ -69,7 +69,15 @@ impl<C: FaultUnit, A: Allocator, B: Allocator> Piece<UtfString<C, A>, Whole> for
 }
 
 impl<C: FaultUnit, A: Allocator> UtfString<C, A> {
-    /// The characters at the end. On want of memory those of the items before the refused one are there.
+    /// Appends the characters of an iterator.
+    ///
+    /// # Requires
+    ///
+    /// The iterator can be advanced, and it ends.
+    ///
+    /// # Errors
+    ///
+    /// [`OutOfMemory`] if the allocation for an item fails. The string then holds the items before it.
     pub fn extend_chars<U: IntoIterator<Item = char>>(
         &mut self,
         items: U,
@@ -81,7 +89,15 @@ impl<C: FaultUnit, A: Allocator> UtfString<C, A> {
         extend(self, items)
     }
 
-    /// The characters referred to at the end. On want of memory those of the items before the refused one are there.
+    /// Appends the characters that an iterator's items refer to.
+    ///
+    /// # Requires
+    ///
+    /// The iterator can be advanced, and it ends.
+    ///
+    /// # Errors
+    ///
+    /// [`OutOfMemory`] if the allocation for an item fails. The string then holds the items before it.
     pub fn extend_char_refs<'a, U: IntoIterator<Item = &'a char>>(
         &mut self,
         items: U,
@@ -93,7 +109,15 @@ impl<C: FaultUnit, A: Allocator> UtfString<C, A> {
         extend(self, items)
     }
 
-    /// The texts at the end. On want of memory those of the items before the refused one are there.
+    /// Appends the texts of an iterator over `&str`.
+    ///
+    /// # Requires
+    ///
+    /// The iterator can be advanced, and it ends.
+    ///
+    /// # Errors
+    ///
+    /// [`OutOfMemory`] if the allocation for an item fails. The string then holds the items before it.
     pub fn extend_strs<'a, U: IntoIterator<Item = &'a str>>(
         &mut self,
         items: U,
@@ -105,7 +129,15 @@ impl<C: FaultUnit, A: Allocator> UtfString<C, A> {
         extend(self, items)
     }
 
-    /// The texts at the end. On want of memory those of the items before the refused one are there.
+    /// Appends the texts of an iterator over `String`.
+    ///
+    /// # Requires
+    ///
+    /// The iterator can be advanced, and it ends.
+    ///
+    /// # Errors
+    ///
+    /// [`OutOfMemory`] if the allocation for an item fails. The string then holds the items before it.
     pub fn extend_strings<B: Allocator, U: IntoIterator<Item = String<B>>>(
         &mut self,
         items: U,
@@ -117,7 +149,15 @@ impl<C: FaultUnit, A: Allocator> UtfString<C, A> {
         extend(self, items)
     }
 
-    /// The views' text at the end. On want of memory those of the items before the refused one are there.
+    /// Appends the texts of an iterator over views.
+    ///
+    /// # Requires
+    ///
+    /// The iterator can be advanced, and it ends.
+    ///
+    /// # Errors
+    ///
+    /// [`OutOfMemory`] if the allocation for an item fails. The string then holds the items before it.
     pub fn extend_utfstrs<'a, U: IntoIterator<Item = UtfStr<'a, C>>>(
         &mut self,
         items: U,
@@ -131,7 +171,15 @@ impl<C: FaultUnit, A: Allocator> UtfString<C, A> {
         extend(self, items)
     }
 
-    /// The strings' text at the end. On want of memory those of the items before the refused one are there.
+    /// Appends the texts of an iterator over owned strings.
+    ///
+    /// # Requires
+    ///
+    /// The iterator can be advanced, and it ends.
+    ///
+    /// # Errors
+    ///
+    /// [`OutOfMemory`] if the allocation for an item fails. The string then holds the items before it.
     pub fn extend_utfstrings<B: Allocator, U: IntoIterator<Item = UtfString<C, B>>>(
         &mut self,
         items: U,
@@ -145,7 +193,15 @@ impl<C: FaultUnit, A: Allocator> UtfString<C, A> {
 }
 
 impl<C: FaultUnit, A: Allocator> UtfString<C, A> {
-    /// A string of the characters. The error is the string of the items before the one that found no memory.
+    /// Collects the characters of an iterator into a new string.
+    ///
+    /// # Requires
+    ///
+    /// The iterator can be advanced, and it ends.
+    ///
+    /// # Errors
+    ///
+    /// The allocation for an item failed. The error is the string of the items before it.
     pub fn from_iter_chars<U: IntoIterator<Item = char>>(alloc: A, items: U) -> Result<Self, Self>
         requires { IsFiniteIterable U.into_iter_gives U.IntoIter.can_next U.IntoIter.remaining items }
         ensures { Collects result U.into_iter_gives U.IntoIter.next_gives (code_units C.form) items (numbered C.number) }
@@ -153,7 +209,15 @@ impl<C: FaultUnit, A: Allocator> UtfString<C, A> {
         from_iter(UtfString::new(alloc), items)
     }
 
-    /// A string of the characters referred to. The error is the string of the items before the one that found no memory.
+    /// Collects the characters that an iterator's items refer to into a new string.
+    ///
+    /// # Requires
+    ///
+    /// The iterator can be advanced, and it ends.
+    ///
+    /// # Errors
+    ///
+    /// The allocation for an item failed. The error is the string of the items before it.
     pub fn from_iter_char_refs<'a, U: IntoIterator<Item = &'a char>>(
         alloc: A,
         items: U,
@@ -164,7 +228,15 @@ impl<C: FaultUnit, A: Allocator> UtfString<C, A> {
         from_iter(UtfString::new(alloc), items)
     }
 
-    /// A string of the texts. The error is the string of the items before the one that found no memory.
+    /// Concatenates the texts of an iterator over `&str` into a new string.
+    ///
+    /// # Requires
+    ///
+    /// The iterator can be advanced, and it ends.
+    ///
+    /// # Errors
+    ///
+    /// The allocation for an item failed. The error is the string of the items before it.
     pub fn from_iter_strs<'a, U: IntoIterator<Item = &'a str>>(
         alloc: A,
         items: U,
@@ -175,7 +247,15 @@ impl<C: FaultUnit, A: Allocator> UtfString<C, A> {
         from_iter(UtfString::new(alloc), items)
     }
 
-    /// A string of the texts. The error is the string of the items before the one that found no memory.
+    /// Concatenates the texts of an iterator over `String` into a new string.
+    ///
+    /// # Requires
+    ///
+    /// The iterator can be advanced, and it ends.
+    ///
+    /// # Errors
+    ///
+    /// The allocation for an item failed. The error is the string of the items before it.
     pub fn from_iter_strings<B: Allocator, U: IntoIterator<Item = String<B>>>(
         alloc: A,
         items: U,
@@ -186,7 +266,15 @@ impl<C: FaultUnit, A: Allocator> UtfString<C, A> {
         from_iter(UtfString::new(alloc), items)
     }
 
-    /// A string of the views' text. The error is the string of the items before the one that found no memory.
+    /// Concatenates the texts of an iterator over views into a new string.
+    ///
+    /// # Requires
+    ///
+    /// The iterator can be advanced, and it ends.
+    ///
+    /// # Errors
+    ///
+    /// The allocation for an item failed. The error is the string of the items before it.
     pub fn from_iter_utfstrs<'a, U: IntoIterator<Item = UtfStr<'a, C>>>(
         alloc: A,
         items: U,
@@ -199,7 +287,15 @@ impl<C: FaultUnit, A: Allocator> UtfString<C, A> {
         from_iter(UtfString::new(alloc), items)
     }
 
-    /// A string of the strings' text. The error is the string of the items before the one that found no memory.
+    /// Concatenates the texts of an iterator over owned strings into a new string.
+    ///
+    /// # Requires
+    ///
+    /// The iterator can be advanced, and it ends.
+    ///
+    /// # Errors
+    ///
+    /// The allocation for an item failed. The error is the string of the items before it.
     pub fn from_iter_utfstrings<B: Allocator, U: IntoIterator<Item = UtfString<C, B>>>(
         alloc: A,
         items: U,

@@ -1,4 +1,4 @@
-//! What a drain gives.
+//! Iterators that drain an owned string.
 ghost use Rattle.std.specs.Prelude.{◌≡◌, ◌≤◌, ◌/◌, [], length, map, slice_range, Some, IfSome};
 ghost use Rattle.std.specs.Iterator.{at_most, UpTo};
 ghost use Rattle.std.specs.Iterator.SizeHint.{IsWithinCount};
@@ -12,11 +12,12 @@ use std::iter::FusedIterator;
 use wide_utferror::FaultUnit;
 use wide_utfstr::UtfStr;
 
-/// The characters of a range, from both ends. When it is dropped the whole range is gone from the string, whatever was read.
-/// Made by [`UtfString::drain`].
+/// An iterator over the characters of a range, from both ends. When it is dropped, the whole range is removed from the
+/// string, even if it was not read to the end. Made by [`UtfString::drain`].
 ///
-/// `{}` prints the text that is left, and `{:?}` what that of [`DrainUtf::as_utfstr`] does.
-// Once the range is gone the string is shorter than `total`, and its places are no longer known to be boundaries.
+/// `{}` prints the characters that were not read yet. `{:?}` prints them between quotes, as [`char::escape_debug`]
+/// escapes them.
+// Once the range is removed, the string is shorter than `total`, and the offsets may no longer be character boundaries.
 pub struct DrainUtf<'a, C: FaultUnit, A: Allocator = Global> {
     pub(crate) string: &'a mut UtfString<C, A>,
     pub(crate) total: usize,
@@ -29,10 +30,10 @@ pub struct DrainUtf<'a, C: FaultUnit, A: Allocator = Global> {
     ghost others: { length string.now.units ≡ total → IsWellFormed C.form (map C.number (splice string.now.units start end [])) },
 }
 
-/// The characters of a range of UTF-16.
+/// An iterator over the characters of a range of UTF-16.
 pub type DrainUtf16<'a, A = Global> = DrainUtf<'a, u16, A>;
 
-/// The characters of a range of UTF-32.
+/// An iterator over the characters of a range of UTF-32.
 pub type DrainUtf32<'a, A = Global> = DrainUtf<'a, u32, A>;
 
 impl<C: FaultUnit, A: Allocator> Drop for DrainUtf<'_, C, A> {
@@ -59,7 +60,7 @@ impl<C: FaultUnit, A: Allocator> Drop for DrainUtf<'_, C, A> {
 impl<C: FaultUnit, A: Allocator> DrainUtf<'_, C, A> {
     ghost use Rattle.wide_utfstring.specs.Drain.{drain_rest, drain_units};
 
-    /// The text that is left.
+    /// Returns a view of the text that was not read yet.
     pub fn as_utfstr(&self) -> UtfStr<'_, C>
         ensures characters { text_seen result ≡ drain_rest self.now }
         ensures units { units_seen result ≡ drain_units self.now }

@@ -1,5 +1,5 @@
-//! Owned strings of well-formed text, in units of 16 or 32 bits: UTF-16 and UTF-32; and text that may be borrowed, or that
-//! stands in a block of its own size.
+//! Owned strings of well-formed text, UTF-16 or UTF-32, in units of 16 or 32 bits. Also text that is borrowed or owned,
+//! and text in an allocation of exactly its length.
 #![tactic(auto)]
 
 mod boxed;

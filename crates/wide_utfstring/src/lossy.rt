@@ -1,4 +1,4 @@
-//! Well-formed text of any units, with U+FFFD in the place of each fault.
+//! Well-formed text made from any units, with U+FFFD for each fault.
 ghost use Rattle.std.specs.Prelude.{◌≡◌, ◌≢◌, ◌≤◌, ◌<◌, length, map, take, IsOk, IfOk};
 ghost use Rattle.wide_unit.specs.EncodingForm.{encode};
 ghost use Rattle.wide_unit.specs.Items.{items, IsWellFormed, IsFirstFault};
@@ -19,13 +19,14 @@ use wide_utferror::FaultUnit;
 use wide_utfstr::UtfStr;
 
 impl<C: FaultUnit, A: Allocator> UtfString<C, A> {
-    /// The text of the units, with U+FFFD in the place of each unit that belongs to no character, one for each (Unicode Standard,
-    /// section 3.9, "U+FFFD Substitution of Maximal Subparts"). Where the units are well formed (D85) it is a view of the units
-    /// themselves, and takes no memory. Else it is a string, which has as many units as there are, and memory is asked for once.
+    /// Makes well-formed text of any units. Each unit that belongs to no character is replaced by one U+FFFD (Unicode
+    /// Standard, section 3.9, "U+FFFD Substitution of Maximal Subparts"). If the units are well formed (D85), returns a
+    /// view of the units themselves, without allocating. Otherwise returns a string with as many units, and allocates
+    /// once.
     ///
     /// # Errors
     ///
-    /// Memory was refused for a string. Well-formed units never fail.
+    /// [`OutOfMemory`] if the allocation fails. It never fails if the units are well formed.
     pub fn from_slice_lossy<'a>(
         alloc: A,
         units: &'a [C],
@@ -36,12 +37,14 @@ impl<C: FaultUnit, A: Allocator> UtfString<C, A> {
         UtfString::from_slice_lossy_with(alloc, units, Policy::Each)
     }
 
-    /// As [`UtfString::from_slice_lossy`], with what the policy says in place of U+FFFD for each unit that belongs to no character.
-    /// A string has room for as many units as there are.
+    /// Makes well-formed text of any units. The policy says what replaces the units that belong to no character: one
+    /// U+FFFD for each, one for each run of them, or nothing. If the units are well formed (Unicode Standard, D85),
+    /// returns a view of the units themselves, without allocating. Otherwise returns a string with capacity for as many
+    /// units as there are, and allocates once.
     ///
     /// # Errors
     ///
-    /// Memory was refused for a string. Well-formed units never fail.
+    /// [`OutOfMemory`] if the allocation fails. It never fails if the units are well formed.
     pub fn from_slice_lossy_with<'a>(
         alloc: A,
         units: &'a [C],
@@ -56,8 +59,8 @@ impl<C: FaultUnit, A: Allocator> UtfString<C, A> {
         }
     }
 
-    // The text of units with this first fault, with what the policy says for each fault. It has at most as many units as there are, so
-    // that all fits in the room that is asked for once.
+    // Returns a copy of units whose first fault is given, with the faults replaced as the policy says. The copy has at
+    // most as many units as there are, so the capacity that is allocated first suffices.
     fn lossy_copy(
         alloc: A,
         units: &[C],
@@ -75,7 +78,7 @@ impl<C: FaultUnit, A: Allocator> UtfString<C, A> {
         }
     }
 
-    // The text of units that are well formed before this index, with U+FFFD for each fault.
+    // Returns a copy of units that are well formed before `index`, with each fault replaced by U+FFFD.
     fn mended_copy(alloc: A, units: &[C], index: usize) -> Result<Self, OutOfMemory>
         requires within { index ≤ length units.now }
         requires front { IsWellFormed C.form (map C.number (take index units.now)) }
@@ -93,8 +96,8 @@ impl<C: FaultUnit, A: Allocator> UtfString<C, A> {
         })
     }
 
-    // The text of units with this first fault, with what the policy says for each longest row of faults. The text between the rows is
-    // copied whole.
+    // Returns a copy of units whose first fault is given, with each longest run of faults replaced as the policy says.
+    // It copies the text between the runs as a whole.
     fn copy_by_rows(
         alloc: A,
         units: &[C],
@@ -123,7 +126,13 @@ impl<C: FaultUnit, A: Allocator> UtfString<C, A> {
         Ok(text)
     }
 
-    /// As [`UtfString::from_slice_lossy`], of the units of a view.
+    /// Makes well-formed text of the units of a view. Each unit that belongs to no character is replaced by one U+FFFD
+    /// (Unicode Standard, section 3.9, "U+FFFD Substitution of Maximal Subparts"). If the units are well formed,
+    /// returns a view of them, without allocating. Otherwise returns a string with as many units, and allocates once.
+    ///
+    /// # Errors
+    ///
+    /// [`OutOfMemory`] if the allocation fails. It never fails if the units are well formed.
     pub fn from_ustr_lossy<'a>(
         alloc: A,
         view: UStr<'a, C>,
@@ -134,7 +143,14 @@ impl<C: FaultUnit, A: Allocator> UtfString<C, A> {
         UtfString::from_slice_lossy(alloc, view.as_slice())
     }
 
-    /// As [`UtfString::from_slice_lossy_with`], of the units of a view.
+    /// Makes well-formed text of the units of a view. The policy says what replaces the units that belong to no
+    /// character: one U+FFFD for each, one for each run of them, or nothing. If the units are well formed, returns a
+    /// view of them, without allocating. Otherwise returns a string with capacity for as many units as there are, and
+    /// allocates once.
+    ///
+    /// # Errors
+    ///
+    /// [`OutOfMemory`] if the allocation fails. It never fails if the units are well formed.
     pub fn from_ustr_lossy_with<'a>(
         alloc: A,
         view: UStr<'a, C>,
@@ -146,7 +162,14 @@ impl<C: FaultUnit, A: Allocator> UtfString<C, A> {
         UtfString::from_slice_lossy_with(alloc, view.as_slice(), policy)
     }
 
-    /// As [`UtfString::from_slice_lossy`], of the contents of a C string, without its NUL.
+    /// Makes well-formed text of the contents of a C string, without its NUL. Each unit that belongs to no character is
+    /// replaced by one U+FFFD (Unicode Standard, section 3.9, "U+FFFD Substitution of Maximal Subparts"). If the
+    /// contents are well formed, returns a view of them, without allocating. Otherwise returns a string with as many
+    /// units, and allocates once.
+    ///
+    /// # Errors
+    ///
+    /// [`OutOfMemory`] if the allocation fails. It never fails if the contents are well formed.
     pub fn from_ucstr_lossy<'a>(
         alloc: A,
         view: UCStr<'a, C>,
@@ -157,7 +180,14 @@ impl<C: FaultUnit, A: Allocator> UtfString<C, A> {
         UtfString::from_slice_lossy(alloc, view.as_slice())
     }
 
-    /// As [`UtfString::from_slice_lossy_with`], of the contents of a C string, without its NUL.
+    /// Makes well-formed text of the contents of a C string, without its NUL. The policy says what replaces the units
+    /// that belong to no character: one U+FFFD for each, one for each run of them, or nothing. If the contents are well
+    /// formed, returns a view of them, without allocating. Otherwise returns a string with capacity for as many units
+    /// as the contents have, and allocates once.
+    ///
+    /// # Errors
+    ///
+    /// [`OutOfMemory`] if the allocation fails. It never fails if the contents are well formed.
     pub fn from_ucstr_lossy_with<'a>(
         alloc: A,
         view: UCStr<'a, C>,

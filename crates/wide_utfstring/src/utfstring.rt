@@ -30,11 +30,13 @@ use wide_ustring::UString;
 use wide_utferror::{FaultUnit, UtfError};
 use wide_utfstr::{UtfStr, check};
 
-/// An owned string of well-formed text (Unicode Standard, D85), by its type: no call leaves one that isn't.
+/// An owned string of well-formed UTF-16 or UTF-32 (Unicode Standard, D85). The type guarantees it: no call leaves
+/// ill-formed units in the string.
 ///
-/// Places and lengths are counted in units. A call that finds no memory answers [`OutOfMemory`] and has changed nothing.
+/// Offsets and lengths are counted in units. A call that returns [`OutOfMemory`] leaves the string unchanged, except
+/// the `extend_*` calls, which keep the items before the one that did not fit.
 ///
-/// `{}` prints the text, and `{:?}` what that of [`UtfString::as_utfstr`] does.
+/// `{}` prints the characters. `{:?}` prints them between quotes, as [`char::escape_debug`] escapes them.
 #[derive(Drop)]
 pub struct UtfString<C: FaultUnit, A: Allocator = Global> {
     pub(crate) string: UString<C, A>,
@@ -66,7 +68,7 @@ impl<C: FaultUnit, A: Allocator> Model for UtfString<C, A> {
 impl<C: FaultUnit, A: Allocator> UtfString<C, A> {
     ghost use Rattle.wide_utfstring.specs.Drain.{drain_rest, drain_lender, drain_leaves, drain_capacity, DrainRuns, DrainRunsBack, DrainStays};
 
-    /// The empty string, which takes no memory.
+    /// Creates an empty string, without allocating.
     pub fn new(alloc: A) -> Self
         ensures units { result.units ≡ [] }
         ensures capacity { result.capacity ≡ 0 }
@@ -76,7 +78,11 @@ impl<C: FaultUnit, A: Allocator> UtfString<C, A> {
         }
     }
 
-    /// An empty string with room for this many units. It does not fail where that is none.
+    /// Creates an empty string with capacity for at least `capacity` units.
+    ///
+    /// # Errors
+    ///
+    /// [`OutOfMemory`] if the allocation fails. It never fails if `capacity` is 0.
     pub fn with_capacity(alloc: A, capacity: usize) -> Result<Self, OutOfMemory>
         ensures units { IfOk result (λ s. s.units ≡ []) }
         ensures room { IfOk result (λ s. capacity ≤ s.capacity) }
@@ -87,12 +93,14 @@ impl<C: FaultUnit, A: Allocator> UtfString<C, A> {
         })
     }
 
-    /// The text of a vector's units, where they are well formed. It reads them in one pass, by blocks, and takes no memory.
+    /// Checks that the units of a vector are well formed, and makes a string of them without copying or allocating. The
+    /// check is vectorized and reads the units once. If there is a fault, it reads the units before it again to count
+    /// their characters.
     ///
     /// # Errors
     ///
-    /// The first fault, where they are not: its index is counted in units, its item number in characters. The vector is handed
-    /// back.
+    /// The first fault, if the units are ill-formed. Its index is counted in units, its item number in characters. The
+    /// error holds the vector.
     pub fn from_vec(units: Vec<C, A>) -> Result<Self, UtfError<C, A>>
         ensures string { IfOk result (λ s. (s.units ≡ units.items) × (s.capacity ≡ vec_capacity units)) }
         ensures ok { OnOk result (IsWellFormed C.form (map C.number units.items)) }
@@ -108,12 +116,13 @@ impl<C: FaultUnit, A: Allocator> UtfString<C, A> {
         }
     }
 
-    /// The text of a string's units, as [`UtfString::from_vec`].
+    /// Checks that the units of a string are well formed, and makes a `UtfString` of them without copying or
+    /// allocating, like [`UtfString::from_vec`].
     ///
     /// # Errors
     ///
-    /// The first fault, where they are not well formed: its index is counted in units, its item number in characters. The
-    /// string's vector is handed back.
+    /// The first fault, if the units are ill-formed. Its index is counted in units, its item number in characters. The
+    /// error holds the string's vector, with its units and its capacity.
     pub fn from_ustring(string: UString<C, A>) -> Result<Self, UtfError<C, A>>
         ensures string { IfOk result (λ s. s ≡ string) }
         ensures ok { OnOk result (IsWellFormed C.form (map C.number string.units)) }
@@ -124,12 +133,13 @@ impl<C: FaultUnit, A: Allocator> UtfString<C, A> {
         UtfString::from_vec(string.into_vec())
     }
 
-    /// The text of the contents of a C string, without its NUL, as [`UtfString::from_vec`].
+    /// Checks that the contents of a C string, without its NUL, are well formed, and makes a `UtfString` of them
+    /// without copying or allocating, like [`UtfString::from_vec`].
     ///
     /// # Errors
     ///
-    /// The first fault, where they are not well formed: its index is counted in units, its item number in characters. The vector
-    /// of the contents is handed back, without the NUL.
+    /// The first fault, if the contents are ill-formed. Its index is counted in units, its item number in characters.
+    /// The error holds the vector of the contents, without the NUL.
     pub fn from_ucstring(string: UCString<C, A>) -> Result<Self, UtfError<C, A>>
         ensures string { IfOk result (λ s. (s.units ≡ contents string.units) × (s.capacity ≡ string.capacity)) }
         ensures ok { OnOk result (IsWellFormed C.form (map C.number (contents string.units))) }
@@ -140,7 +150,12 @@ impl<C: FaultUnit, A: Allocator> UtfString<C, A> {
         UtfString::from_vec(string.into_vec())
     }
 
-    /// As [`UtfString::from_vec`], of units that must be well formed; no check is made.
+    /// Makes a string of a vector's units without checking them, copying or allocating. [`UtfString::from_vec`] checks
+    /// them.
+    ///
+    /// # Requires
+    ///
+    /// The units are well formed.
     pub fn from_vec_unchecked(units: Vec<C, A>) -> Self
         requires { IsWellFormed C.form (map C.number units.items) }
         ensures units { result.units ≡ units.items }
@@ -151,7 +166,12 @@ impl<C: FaultUnit, A: Allocator> UtfString<C, A> {
         }
     }
 
-    /// As [`UtfString::from_ustring`], of units that must be well formed; no check is made.
+    /// Makes a `UtfString` of a string's units without checking them, copying or allocating.
+    /// [`UtfString::from_ustring`] checks them.
+    ///
+    /// # Requires
+    ///
+    /// The units are well formed.
     pub fn from_ustring_unchecked(string: UString<C, A>) -> Self
         requires { IsWellFormed C.form (map C.number string.units) }
         ensures { result ≡ string }
@@ -159,7 +179,12 @@ impl<C: FaultUnit, A: Allocator> UtfString<C, A> {
         UtfString { string }
     }
 
-    /// As [`UtfString::from_ucstring`], of contents that must be well formed; no check is made.
+    /// Makes a `UtfString` of the contents of a C string, without its NUL. It does not check, copy or allocate.
+    /// [`UtfString::from_ucstring`] checks the contents.
+    ///
+    /// # Requires
+    ///
+    /// The contents are well formed.
     pub fn from_ucstring_unchecked(string: UCString<C, A>) -> Self
         requires { IsWellFormed C.form (map C.number (contents string.units)) }
         ensures units { result.units ≡ contents string.units }
@@ -170,7 +195,11 @@ impl<C: FaultUnit, A: Allocator> UtfString<C, A> {
         }
     }
 
-    /// The text of a `&str`.
+    /// Encodes the text of a `&str` as a new string.
+    ///
+    /// # Errors
+    ///
+    /// [`OutOfMemory`] if the allocation fails. It never fails if the text is empty.
     pub fn from_str(alloc: A, text: &str) -> Result<Self, OutOfMemory>
         ensures units { IfOk result (λ s. map C.number s.units ≡ encode C.form (str_chars text.now)) }
         ensures text { IfOk result (λ s. text_of C.form C.number s.units ≡ str_chars text.now) }
@@ -182,21 +211,21 @@ impl<C: FaultUnit, A: Allocator> UtfString<C, A> {
         })
     }
 
-    /// A view of the text.
+    /// Returns a view of the text.
     pub fn as_utfstr(&self) -> UtfStr<'_, C>
         ensures { units_seen result ≡ self.now.units }
     {
         UtfStr::from_slice_unchecked(self.string.as_slice())
     }
 
-    /// A view of the units, which does not tell that they are well formed.
+    /// Returns a view of the units, as units that may be ill-formed.
     pub fn as_ustr(&self) -> UStr<'_, C>
         ensures { ustr_units result ≡ self.now.units }
     {
         self.string.as_ustr()
     }
 
-    /// The units.
+    /// Returns the units as a slice.
     pub fn as_slice(&self) -> &[C]
         ensures units { result.now ≡ self.now.units }
         ensures well_formed { IsWellFormed C.form (map C.number result.now) }
@@ -204,21 +233,21 @@ impl<C: FaultUnit, A: Allocator> UtfString<C, A> {
         self.string.as_slice()
     }
 
-    /// How many units there are.
+    /// Returns the length in units.
     pub fn len(&self) -> usize
         ensures { result ≡ ustring_len self.now }
     {
         self.string.len()
     }
 
-    /// Whether there are no units.
+    /// Returns whether the string is empty.
     pub fn is_empty(&self) -> bool
         ensures { result ≡ (ustring_len self.now == 0) }
     {
         self.string.is_empty()
     }
 
-    /// How many units fit with no allocation.
+    /// Returns how many units the string can hold without allocating.
     pub fn capacity(&self) -> usize
         ensures value { result ≡ self.now.capacity }
         ensures length { ustring_len self.now ≤ result }
@@ -226,7 +255,7 @@ impl<C: FaultUnit, A: Allocator> UtfString<C, A> {
         self.string.capacity()
     }
 
-    /// The vector of the units. It takes no memory.
+    /// Returns the vector of the units, without allocating.
     pub fn into_vec(self) -> Vec<C, A>
         ensures units { result.items ≡ self.units }
         ensures well_formed { IsWellFormed C.form (map C.number result.items) }
@@ -235,7 +264,7 @@ impl<C: FaultUnit, A: Allocator> UtfString<C, A> {
         self.into_ustring().into_vec()
     }
 
-    /// The string of the units, which does not tell that they are well formed. It takes no memory.
+    /// Returns the units as a string that may be ill-formed, without allocating.
     pub fn into_ustring(self) -> UString<C, A>
         ensures string { result ≡ self }
         ensures well_formed { IsWellFormed C.form (map C.number result.units) }
@@ -244,7 +273,11 @@ impl<C: FaultUnit, A: Allocator> UtfString<C, A> {
         string
     }
 
-    /// A copy, with a copy of the allocator. Memory is asked for once, and not at all where the text is empty.
+    /// Returns a copy of the string, with a copy of the allocator. Allocates once, or not at all if the text is empty.
+    ///
+    /// # Errors
+    ///
+    /// [`OutOfMemory`] if the allocation fails or the allocator cannot be copied.
     pub fn try_clone(&self) -> Result<Self, OutOfMemory>
     where
         A: Clone,
@@ -256,7 +289,12 @@ impl<C: FaultUnit, A: Allocator> UtfString<C, A> {
         })
     }
 
-    /// Room for this many more units.
+    /// Reserves capacity for at least `more` additional units.
+    ///
+    /// # Errors
+    ///
+    /// [`OutOfMemory`] if the allocation fails; the string is unchanged. It never fails if the string already has this
+    /// capacity.
     pub fn reserve(&mut self, more: usize) -> Result<(), OutOfMemory>
         ensures units { self.new.units ≡ self.old.units }
         ensures room { OnOk result (HasRoomFor self.new more) }
@@ -267,7 +305,13 @@ impl<C: FaultUnit, A: Allocator> UtfString<C, A> {
         self.string.reserve(more)
     }
 
-    /// As [`UtfString::reserve`], with no room beyond what is asked for where it finds memory.
+    /// Reserves capacity for `more` additional units. If it allocates, the new capacity is exactly the length plus
+    /// `more`, unlike [`UtfString::reserve`], which may reserve more.
+    ///
+    /// # Errors
+    ///
+    /// [`OutOfMemory`] if the allocation fails; the string is unchanged. It never fails if the string already has this
+    /// capacity.
     pub fn reserve_exact(&mut self, more: usize) -> Result<(), OutOfMemory>
         ensures units { self.new.units ≡ self.old.units }
         ensures room { OnOk result (self.new.capacity ≡ max self.old.capacity (ustring_len self.old + more)) }
@@ -277,7 +321,7 @@ impl<C: FaultUnit, A: Allocator> UtfString<C, A> {
         self.string.reserve_exact(more)
     }
 
-    /// Takes all text away; the room stays.
+    /// Removes all text. The capacity is unchanged.
     pub fn clear(&mut self)
         ensures units { self.new.units ≡ [] }
         ensures capacity { self.new.capacity ≡ self.old.capacity }
@@ -285,7 +329,11 @@ impl<C: FaultUnit, A: Allocator> UtfString<C, A> {
         self.string.clear();
     }
 
-    /// The character at the end.
+    /// Appends a character.
+    ///
+    /// # Errors
+    ///
+    /// [`OutOfMemory`] if the allocation fails; the string is unchanged. It never fails if the spare capacity suffices.
     pub fn push(&mut self, c: char) -> Result<(), OutOfMemory>
         ensures units { OnOk result (map C.number self.new.units ≡ map C.number self.old.units ++ code_units C.form c) }
         ensures text { OnOk result (text_of C.form C.number self.new.units ≡ text_of C.form C.number self.old.units ++ c ∷ []) }
@@ -296,7 +344,12 @@ impl<C: FaultUnit, A: Allocator> UtfString<C, A> {
         self.string.push_char(c)
     }
 
-    /// As [`UtfString::push`]: what `fmt::Write` is in the Rust crate, with an error that names the want of memory.
+    /// Appends a character, like [`UtfString::push`]. It corresponds to `fmt::Write::write_char` in the Rust crate, but
+    /// its error says that memory ran out.
+    ///
+    /// # Errors
+    ///
+    /// [`OutOfMemory`] if the allocation fails; the string is unchanged. It never fails if the spare capacity suffices.
     pub fn write_char(&mut self, c: char) -> Result<(), OutOfMemory>
         ensures units { OnOk result (map C.number self.new.units ≡ map C.number self.old.units ++ code_units C.form c) }
         ensures text { OnOk result (text_of C.form C.number self.new.units ≡ text_of C.form C.number self.old.units ++ c ∷ []) }
@@ -307,7 +360,11 @@ impl<C: FaultUnit, A: Allocator> UtfString<C, A> {
         self.push(c)
     }
 
-    /// The characters of a text at the end.
+    /// Appends the characters of a `&str`.
+    ///
+    /// # Errors
+    ///
+    /// [`OutOfMemory`] if the allocation fails; the string is unchanged. It never fails if the spare capacity suffices.
     pub fn push_str(&mut self, text: &str) -> Result<(), OutOfMemory>
         ensures units { OnOk result (map C.number self.new.units ≡ map C.number self.old.units ++ encode C.form (str_chars text.now)) }
         ensures text { OnOk result (text_of C.form C.number self.new.units ≡ text_of C.form C.number self.old.units ++ str_chars text.now) }
@@ -318,7 +375,12 @@ impl<C: FaultUnit, A: Allocator> UtfString<C, A> {
         self.string.push_str(text)
     }
 
-    /// As [`UtfString::push_str`]: what `fmt::Write` is in the Rust crate, with an error that names the want of memory.
+    /// Appends the characters of a `&str`, like [`UtfString::push_str`]. It corresponds to `fmt::Write::write_str` in
+    /// the Rust crate, but its error says that memory ran out.
+    ///
+    /// # Errors
+    ///
+    /// [`OutOfMemory`] if the allocation fails; the string is unchanged. It never fails if the spare capacity suffices.
     pub fn write_str(&mut self, text: &str) -> Result<(), OutOfMemory>
         ensures units { OnOk result (map C.number self.new.units ≡ map C.number self.old.units ++ encode C.form (str_chars text.now)) }
         ensures text { OnOk result (text_of C.form C.number self.new.units ≡ text_of C.form C.number self.old.units ++ str_chars text.now) }
@@ -329,7 +391,11 @@ impl<C: FaultUnit, A: Allocator> UtfString<C, A> {
         self.push_str(text)
     }
 
-    /// The text of a view at the end.
+    /// Appends the text of a view.
+    ///
+    /// # Errors
+    ///
+    /// [`OutOfMemory`] if the allocation fails; the string is unchanged. It never fails if the spare capacity suffices.
     pub fn push_utfstr(&mut self, text: UtfStr<'_, C>) -> Result<(), OutOfMemory>
         ensures units { OnOk result (self.new.units ≡ self.old.units ++ units_seen text.entry) }
         ensures text { OnOk result (text_of C.form C.number self.new.units ≡ text_of C.form C.number self.old.units ++ text_seen text.entry) }
@@ -340,7 +406,7 @@ impl<C: FaultUnit, A: Allocator> UtfString<C, A> {
         self.string.push(text.as_ustr())
     }
 
-    /// Takes the last character away, and answers it; none where the string is empty.
+    /// Removes the last character and returns it, or returns `None` if the string is empty.
     pub fn pop(&mut self) -> Option<char>
         ensures none { IsNone result ↔ (self.old.units ≡ []) }
         ensures taken { IfSome result (λ c. text_of C.form C.number self.old.units ≡ text_of C.form C.number self.new.units ++ c ∷ []) }
@@ -354,7 +420,15 @@ impl<C: FaultUnit, A: Allocator> UtfString<C, A> {
         Some(c)
     }
 
-    /// The character before a place, counted in units, which must be a boundary.
+    /// Inserts a character at an offset in units.
+    ///
+    /// # Requires
+    ///
+    /// The offset is a character boundary: it is at most the length, and not between the two surrogates of a pair.
+    ///
+    /// # Errors
+    ///
+    /// [`OutOfMemory`] if the allocation fails; the string is unchanged. It never fails if the spare capacity suffices.
     pub fn insert(&mut self, at: usize, c: char) -> Result<(), OutOfMemory>
         requires { IsCharBoundary C.form (map C.number self.old.units) at }
         ensures units { OnOk result (map C.number self.new.units ≡ splice (map C.number self.old.units) at at (code_units C.form c)) }
@@ -366,7 +440,15 @@ impl<C: FaultUnit, A: Allocator> UtfString<C, A> {
         self.string.insert_char(at, c)
     }
 
-    /// The text of a view before a place, counted in units, which must be a boundary.
+    /// Inserts the text of a view at an offset in units.
+    ///
+    /// # Requires
+    ///
+    /// The offset is a character boundary: it is at most the length, and not between the two surrogates of a pair.
+    ///
+    /// # Errors
+    ///
+    /// [`OutOfMemory`] if the allocation fails; the string is unchanged. It never fails if the spare capacity suffices.
     pub fn insert_utfstr(&mut self, at: usize, text: UtfStr<'_, C>) -> Result<(), OutOfMemory>
         requires { IsCharBoundary C.form (map C.number self.old.units) at }
         ensures units { OnOk result (self.new.units ≡ splice self.old.units at at (units_seen text.entry)) }
@@ -378,7 +460,11 @@ impl<C: FaultUnit, A: Allocator> UtfString<C, A> {
         self.string.insert_ustr(at, text.as_ustr())
     }
 
-    /// Takes the text from a place on away, counted in units, which must be a boundary; past the end it does nothing.
+    /// Shortens the text to `len` units. It does nothing if the text is not longer. The capacity is unchanged.
+    ///
+    /// # Requires
+    ///
+    /// `len` is a character boundary, or at least the length.
     pub fn truncate(&mut self, len: usize)
         requires { (ustring_len self.old ≤ len) ⊎ IsCharBoundary C.form (map C.number self.old.units) len }
         ensures units { self.new.units ≡ take len self.old.units }
@@ -388,8 +474,17 @@ impl<C: FaultUnit, A: Allocator> UtfString<C, A> {
         self.string.truncate(len);
     }
 
-    /// Takes the text from a place on away, and answers it as a string of its own, with a copy of the allocator. The place,
-    /// counted in units, must be a boundary. Memory is asked for once, and not at all at the end.
+    /// Splits the string in two at an offset in units. The string keeps the text before the offset. The text from the
+    /// offset on is returned as a new string, with a copy of the allocator. Allocates once, or not at all if the offset
+    /// is the length.
+    ///
+    /// # Requires
+    ///
+    /// The offset is a character boundary: it is at most the length, and not between the two surrogates of a pair.
+    ///
+    /// # Errors
+    ///
+    /// [`OutOfMemory`] if the allocation fails or the allocator cannot be copied; the string is unchanged.
     pub fn split_off(&mut self, at: usize) -> Result<Self, OutOfMemory>
     where
         A: Clone,
@@ -407,8 +502,12 @@ impl<C: FaultUnit, A: Allocator> UtfString<C, A> {
         })
     }
 
-    /// Takes the character at a place away, and answers it. The place, counted in units, must be a boundary below the length.
-    /// It takes no memory, and each unit behind the character moves once.
+    /// Removes the character at an offset in units and returns it. It does not allocate, and moves each unit after the
+    /// character once.
+    ///
+    /// # Requires
+    ///
+    /// The offset is a character boundary and less than the length.
     pub fn remove(&mut self, at: usize) -> char
         requires boundary { IsCharBoundary C.form (map C.number self.old.units) at }
         requires below { at < ustring_len self.old }
@@ -424,12 +523,21 @@ impl<C: FaultUnit, A: Allocator> UtfString<C, A> {
         c
     }
 
-    /// The text of a view in the place of a range of places, counted in units. The range must be one for which
-    /// [`wide_unit::range_check`] answers places, and these must be boundaries. Memory is asked for the growth alone, before a
-    /// unit moves.
+    /// Replaces the text of a range by the text of a view. The ends of the range are offsets in units. Allocates for
+    /// the growth only, before any unit moves.
     ///
-    /// Each call moves all units after the range, so that replacing each occurrence of a needle by this call in a loop is quadratic: build a
-    /// new string of the pieces of `split` instead.
+    /// Each call moves all units after the range, so replacing each occurrence of a needle by this call in a loop is
+    /// quadratic. Build a new string from the substrings that `split` yields instead.
+    ///
+    /// # Requires
+    ///
+    /// The range starts at or before its end and lies within the string. Both its ends are character boundaries. It is
+    /// not an inclusive range that was iterated to its end.
+    ///
+    /// # Errors
+    ///
+    /// [`OutOfMemory`] if the allocation fails; the string is unchanged. It never fails if the new length is at most
+    /// the capacity.
     pub fn replace_range<R: RangeBounds<usize>>(
         &mut self,
         range: R,
@@ -446,9 +554,18 @@ impl<C: FaultUnit, A: Allocator> UtfString<C, A> {
         self.string.replace_range(range, with.as_ustr())
     }
 
-    /// The text of a `&str` in the place of that from `from` up to `to`, counted in units: places in order within the string,
-    /// both boundaries. It is this port's own: [`UtfString::replace_range`] takes a view, which nobody can make of a `&str`
-    /// without memory. Memory is asked for the growth alone, before a unit moves.
+    /// Replaces the text from `from` up to `to`, offsets in units, by the text of a `&str`. Allocates for the growth
+    /// only, before any unit moves. The Rust crate has no such call: [`UtfString::replace_range`] takes a view, and
+    /// making a view of a `&str` would allocate.
+    ///
+    /// # Requires
+    ///
+    /// `from` is at most `to`, `to` is at most the length, and both are character boundaries.
+    ///
+    /// # Errors
+    ///
+    /// [`OutOfMemory`] if the allocation fails; the string is unchanged. It never fails if the new length is at most
+    /// the capacity.
     pub fn splice_str(&mut self, from: usize, to: usize, text: &str) -> Result<(), OutOfMemory>
         requires { IsCharRange C.form (map C.number self.old.units) from to }
         ensures units { OnOk result (map C.number self.new.units ≡ splice (map C.number self.old.units) from to (encode C.form (str_chars text.now))) }
@@ -460,8 +577,12 @@ impl<C: FaultUnit, A: Allocator> UtfString<C, A> {
         self.string.splice_str(from, to, text)
     }
 
-    /// Keeps the characters at which the closure answers yes. It is asked once for each character, in order. It takes no
-    /// memory, and each unit moves at most once.
+    /// Retains the characters for which the closure returns true. It calls the closure once for each character, in
+    /// order. It does not allocate, and moves each unit at most once.
+    ///
+    /// # Requires
+    ///
+    /// The closure can be called any number of times.
     pub fn retain<F: FnMut(char) -> bool>(&mut self, keep: F)
         requires { F.IsAlwaysCallable keep }
         ensures filtered { IsFiltered F.step keep (text_of C.form C.number self.old.units) (text_of C.form C.number self.new.units) }
@@ -470,7 +591,12 @@ impl<C: FaultUnit, A: Allocator> UtfString<C, A> {
         self.string.retain_chars(keep);
     }
 
-    /// Gives room back, as [`UString::shrink_to`]: down to the length or to this many units, whichever is more.
+    /// Reduces the capacity, but to no less than the length and no less than `least` units, like
+    /// [`UString::shrink_to`].
+    ///
+    /// # Errors
+    ///
+    /// [`OutOfMemory`] if the capacity is greater than both and could not be reduced; the string is unchanged.
     pub fn shrink_to(&mut self, least: usize) -> Result<(), OutOfMemory>
         ensures units { self.new.units ≡ self.old.units }
         ensures ok { OnOk result ((self.new.capacity < self.old.capacity) ⊎ (self.old.capacity ≤ max least (ustring_len self.old))) }
@@ -483,7 +609,11 @@ impl<C: FaultUnit, A: Allocator> UtfString<C, A> {
         self.string.shrink_to(least)
     }
 
-    /// As [`UtfString::shrink_to`], down to the length.
+    /// Reduces the capacity, but to no less than the length in units.
+    ///
+    /// # Errors
+    ///
+    /// [`OutOfMemory`] if the capacity is greater than the length and could not be reduced; the string is unchanged.
     pub fn shrink_to_fit(&mut self) -> Result<(), OutOfMemory>
         ensures units { self.new.units ≡ self.old.units }
         ensures ok { OnOk result ((self.new.capacity < self.old.capacity) ⊎ (self.old.capacity ≤ ustring_len self.old)) }
@@ -495,9 +625,14 @@ impl<C: FaultUnit, A: Allocator> UtfString<C, A> {
         self.string.shrink_to_fit()
     }
 
-    /// Takes the text of a range away, and gives its characters from both ends. When the [`DrainUtf`] is dropped the whole range
-    /// is gone, also where it was not read to the end. [`wide_unit::range_check`] must answer places for the range, and these
-    /// must be boundaries.
+    /// Removes the text of a range and returns an iterator over its characters, from both ends. The ends of the range
+    /// are offsets in units. The text is removed when the [`DrainUtf`] is dropped, all of it, even if it was not read
+    /// to the end.
+    ///
+    /// # Requires
+    ///
+    /// The range starts at or before its end and lies within the string. Both its ends are character boundaries. It is
+    /// not an inclusive range that was iterated to its end.
     pub fn drain<R: RangeBounds<usize>>(&mut self, range: R) -> DrainUtf<'_, C, A>
         requires bounds { R.has_bounds range }
         requires in_range { IsCharPart C.form C.number self.old.units (R.start_bound range) (R.end_bound range) }
@@ -521,7 +656,7 @@ impl<C: FaultUnit, A: Allocator> UtfString<C, A> {
         }
     }
 
-    // Takes the units from `from` up to `to` away. Each unit behind them moves once.
+    // Removes the units from `from` up to `to`. Each unit after them moves once.
     pub(crate) fn remove_part(&mut self, from: usize, to: usize)
         requires range { IsWithin from to (ustring_len self.old) }
         requires others { IsWellFormed C.form (map C.number (splice self.old.units from to [])) }
@@ -536,7 +671,11 @@ impl<A: Allocator> UtfString<u32, A> {
     ghost use Rattle.std.specs.Prelude.{slice_set};
     ghost use Rattle.wide_unit.specs.EncodingForm.{Utf32};
 
-    /// The text of characters, one unit for each.
+    /// Encodes characters as a new string, one unit for each.
+    ///
+    /// # Errors
+    ///
+    /// [`OutOfMemory`] if the allocation fails. It never fails if there are no characters.
     pub fn from_chars(alloc: A, text: &[char]) -> Result<Self, OutOfMemory>
         ensures units { IfOk result (λ s. s.units ≡ text.now) }
         ensures text { IfOk result (λ s. chars Utf32 s.units ≡ text.now) }
@@ -549,7 +688,11 @@ impl<A: Allocator> UtfString<u32, A> {
         Ok(string)
     }
 
-    /// Another character in the place of character number `index`, which must be below the length.
+    /// Replaces the character at an index by another.
+    ///
+    /// # Requires
+    ///
+    /// `index` is less than the length.
     pub fn set_char(&mut self, index: usize, c: char)
         requires { index < ustring_len self.old }
         ensures units { self.new.units ≡ slice_set self.old.units index c }
@@ -559,7 +702,7 @@ impl<A: Allocator> UtfString<u32, A> {
         self.string.as_mut_slice()[index] = u32::from(c);
     }
 
-    // The characters, in a vector with a copy of the allocator.
+    // Returns the characters as a vector, with a copy of the allocator.
     fn copy_chars(&self) -> Result<Vec<char, A>, OutOfMemory>
     where
         A: Clone,
@@ -573,8 +716,12 @@ impl<A: Allocator> UtfString<u32, A> {
         Ok(chars)
     }
 
-    /// The characters, in a vector with a copy of the allocator: a copy, since units and characters are different types. Where
-    /// there is no memory for it the error is the string.
+    /// Returns the characters as a vector, with a copy of the allocator. It allocates a copy, since units and
+    /// characters are different types.
+    ///
+    /// # Errors
+    ///
+    /// The string, unchanged, if the allocation fails or the allocator cannot be copied.
     pub fn into_char_vec(self) -> Result<Vec<char, A>, Self>
     where
         A: Clone,

@@ -1,4 +1,4 @@
-//! The calls of a view that make a string.
+//! Calls of a view of well-formed text that make an owned string.
 ghost use Rattle.std.specs.Prelude.{◌≡◌, [], List, IsOk, IfOk};
 ghost use Rattle.std.specs.List.{repeat, flat_map};
 ghost use Rattle.std.specs.Char.Unicode.ToLowercase.{to_lowercase};
@@ -13,41 +13,52 @@ use wide_ustring::UStrInUstring;
 use wide_utferror::FaultUnit;
 use wide_utfstr::UtfStr;
 
-/// What a view of well-formed text does with owned strings: calls of the view, in a trait since the view's crate knows no owned
-/// string.
+/// Calls of a view of well-formed text that make an owned string. They are in a trait because the view's crate does not
+/// know owned strings.
 pub trait UtfStrInUtfstring<C: FaultUnit> {
-    // The units that are seen.
+    // The units of the view.
     ghost text: { Self → List C };
 
-    /// A string of the view's text. Memory is asked for once, and not at all where there is none.
+    /// Copies the view's text into a new string. Allocates once, or not at all if the text is empty.
+    ///
+    /// # Errors
+    ///
+    /// [`OutOfMemory`] if the allocation fails. It never fails if the text is empty.
     fn to_utfstring<A: Allocator>(self, alloc: A) -> Result<UtfString<C, A>, OutOfMemory>
         ensures units { IfOk result (λ s. s.units ≡ text self) }
         ensures succeeds { text self ≡ [] → IsOk result };
 
-    /// A string of the view's text, so many times. A length past the greatest `usize` counts as want of memory.
+    /// Repeats the view's text `count` times in a new string.
+    ///
+    /// # Errors
+    ///
+    /// [`OutOfMemory`] if the allocation fails, or if the new length in units exceeds `usize::MAX`. It never fails if
+    /// `count` is 0 or the text is empty.
     fn repeat<A: Allocator>(self, alloc: A, count: usize) -> Result<UtfString<C, A>, OutOfMemory>
         ensures units { IfOk result (λ s. s.units ≡ repeat count (text self)) }
         ensures succeeds { count ≡ 0 → IsOk result }
         ensures empty { text self ≡ [] → IsOk result };
 
-    /// A string of the text in lower case: each character becomes its full lower-case mapping, up to three characters (Unicode
-    /// Standard, section 3.13, rule R2), as [`char::to_lowercase`] gives it. Neither what stands beside a character nor a language
-    /// counts, so that a capital sigma at the end of a word becomes U+03C3 as within one.
+    /// Converts the text to lower case in a new string. Each character becomes its full lowercase mapping, up to three
+    /// characters (Unicode Standard, section 3.13, rule R2), as [`char::to_lowercase`] returns it. Neither context nor
+    /// language matters, so a capital sigma at the end of a word becomes U+03C3, as within a word.
     ///
     /// # Errors
     ///
-    /// Memory was refused. It is asked for first for as many units as the text has, and again only where the text grows beyond.
+    /// [`OutOfMemory`] if an allocation fails. It allocates first for as many units as the text has, and again only if
+    /// the text grows beyond them. It never fails if the text is empty.
     fn to_lowercase<A: Allocator>(self, alloc: A) -> Result<UtfString<C, A>, OutOfMemory>
         ensures text { IfOk result (λ s. text_of C.form C.number s.units ≡ flat_map to_lowercase (text_of C.form C.number (text self))) }
         ensures empty { text self ≡ [] → IsOk result };
 
-    /// A string of the text in upper case: each character becomes its full upper-case mapping, up to three characters (Unicode
-    /// Standard, section 3.13, rule R1), as [`char::to_uppercase`] gives it. Neither what stands beside a character nor a language
-    /// counts.
+    /// Converts the text to upper case in a new string. Each character becomes its full uppercase mapping, up to three
+    /// characters (Unicode Standard, section 3.13, rule R1), as [`char::to_uppercase`] returns it. Neither context nor
+    /// language matters.
     ///
     /// # Errors
     ///
-    /// Memory was refused. It is asked for first for as many units as the text has, and again only where the text grows beyond.
+    /// [`OutOfMemory`] if an allocation fails. It allocates first for as many units as the text has, and again only if
+    /// the text grows beyond them. It never fails if the text is empty.
     fn to_uppercase<A: Allocator>(self, alloc: A) -> Result<UtfString<C, A>, OutOfMemory>
         ensures text { IfOk result (λ s. text_of C.form C.number s.units ≡ flat_map to_uppercase (text_of C.form C.number (text self))) }
         ensures empty { text self ≡ [] → IsOk result };

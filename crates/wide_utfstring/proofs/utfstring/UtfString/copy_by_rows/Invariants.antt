@@ -5,7 +5,8 @@ use Rattle.wide_unit.specs.Items.{items, IsWellFormed, IsFirstFault}
 use Rattle.wide_unit.specs.Lossy.{lossy_by}
 use Rattle.wide_utfstring.proofs.utfstring.UtfString.copy_by_rows.Given as goal
 
--- what is copied, and what was found of the rest
+-- The loop invariant: the text copied so far and the lossy text of the rest make up the whole lossy text, and `found`
+-- is the result of checking the rest.
 abbrev pub invariant-loop-found : goal.invariant-loop-found
 invariant-loop-found g l =
     let form = g.C.Unit.form in
