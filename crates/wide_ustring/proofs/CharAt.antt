@@ -1,4 +1,4 @@
--- The character that begins at a place of units, by the first item from there on.
+-- The character that begins at an offset in units, by the first item from there on.
 use Rattle.std.proofs.Common.{◌≡◌, ℕ, ◌+◌, ◌-◌, ◌<◌, List, ◌∷◌, ◌++◌, length, map, take, drop, slice_range, refl, sym, ap, ◌∙◌, subst, arith, length-drop}
 use Rattle.std.proofs.lemmas.List.{drop-drop, take-map, take_at}
 use Rattle.wide_unit.specs.EncodingForm.{EncodingForm, code_units}
@@ -7,7 +7,7 @@ use Rattle.wide_unit.specs.Items.{items, IsWellFormed}
 use Rattle.wide_unit.specs.Laws.Items.{units_of-items}
 use Rattle.wide_unit.specs.Laws.WellFormed.{well_formed-rest}
 
--- a decoder at the place gave the character, and the units that are left
+-- Decoding at the offset returned the character, and the units after it.
 module _ {X : Type 0} (form : EncodingForm) (number : X → ℕ) (us rest : List X) (at c : ℕ) (below : at < length us)
     (is : items form (map number (drop at us)) ≡ Char c ∷ items form (map number rest)) (left : rest ≡ drop (length (code_units form c)) (drop at us)) (long : length rest + length (code_units form c) ≡ length (drop at us)) where
   abbrev next : ℕ

@@ -1,4 +1,5 @@
--- The loop of `retain_chars`: the closure's answers at the characters that were passed, and the units of those that were kept.
+-- The loop of `retain_chars`: what the closure returned for the characters that were passed, and the units of the
+-- characters that were retained.
 use Rattle.std.proofs.Common.{◌≡◌, ℕ, ◌+◌, ◌-◌, ◌<◌, ◌≤◌, List, [], ◌∷◌, ◌++◌, Bool, true, false, length, map, take, drop, slice_range, refl, ap, sym, ◌∙◌, subst, arith, append_assoc, append-nil, get_or, length-append, length-drop}
 use Rattle.std.proofs.lemmas.List.{drop_all, drop-drop, length-take-le, map-append, take_at}
 use Rattle.std.proofs.lemmas.Slice.{drop-append-drop}
@@ -12,7 +13,7 @@ use Rattle.wide_unit.specs.Laws.Places.{scalars-chars}
 use Rattle.wide_unit.specs.Laws.Splices.{IsWellFormed-nil, IsWellFormed-append, chars-nil, chars-append, chars-code_units}
 use Rattle.wide_ustring.proofs.Filters.{no_elements, one_element}
 
--- a part of a list that is copied down, over what stands before it
+-- A slice of a list that is copied to a lower index, over the elements before it.
 module _ {X : Type 0} (xs : List X) (from to onto : ℕ) (down : onto ≤ from) (forward : from ≤ to) (within : to ≤ length xs) where
   front-long : length (take onto xs ++ slice_range xs from to) ≡ onto + (to - from)
   front-long =
@@ -42,8 +43,8 @@ module _ {X P : Type 0} (form : EncodingForm) (number : X → ℕ) (answers : P 
   abbrev IsText : List X → Type 0
   IsText xs = IsWellFormed form (map number xs)
 
-  -- the closure, which was `first`, is `now` and was asked at the characters before `at`; the units of those it kept are the
-  -- first `kept`
+  -- The closure was `first` and is `now` after calls for the characters before `at`. The units of the characters that
+  -- it retained are the first `kept`.
   pub record FilteringChars (first now : P) (old new : List X) (kept at : ℕ) : Type 0 where
     pub finish : (cs : List ℕ) → IsFiltered answers now (text (drop at old)) cs → IsFiltered answers first (text old) (text (take kept new) ++ cs)
     pub below : kept ≤ at

@@ -1,4 +1,4 @@
--- What calls of a drain give, one after another.
+-- What successive calls of a drain return.
 use Rattle.std.proofs.Common.{length, refl, ap, subst, ◌∙◌, [], ◌∷◌}
 use Rattle.std.specs.Iterator.Runs.{YieldsInOrder, YieldsInReverse}
 use Rattle.std.proofs.iter.runs.Sources.{from_front, from_back, as_is, as_is_back}

@@ -1,4 +1,4 @@
--- Runs of an iterator that are one item longer, and what an extension says of an error.
+-- Runs of an iterator that are one item longer, and what `Adds` says if there is an error.
 use Rattle.std.proofs.Common.{ℕ, List, [], ◌∷◌, ◌++◌, Option, Some, Result, Ok, Err, subst, sym, refl}
 use Rattle.std.specs.Prelude.{IsErr}
 use Rattle.std.specs.Iterator.{Yields}

@@ -1,4 +1,5 @@
--- The loop of `retain`: the closure's answers at the elements that were passed, and the elements that were kept.
+-- The loop of `retain`: what the closure returned for the elements that were passed, and the elements that were
+-- retained.
 use Rattle.std.proofs.Common.{◌≡◌, ℕ, ◌+◌, ◌<◌, ◌≤◌, List, [], ◌∷◌, ◌++◌, Bool, true, false, cond, length, take, drop, set, get_or, refl, ap, sym, ◌∙◌, arith, append_assoc, length-set, append-nil}
 use Rattle.std.proofs.lemmas.List.{take_more_set, drop_more, drop-set-lt}
 use Rattle.std.proofs.lemmas.Grind.{common_steps, drop_more_same}
@@ -12,7 +13,8 @@ module _ {X P : Type 0} (answers : P → X → Bool → P → Type 0) where
   one_element p q x true xs ys asked rest = (true ∷ rest.0, rest.1, omega (arith, rest.2), (q, asked, rest.3), ap (λ l. x ∷ l) rest.4)
   one_element p q x false xs ys asked rest = (false ∷ rest.0, rest.1, omega (arith, rest.2), (q, asked, rest.3), rest.4)
 
-  -- the closure, which was `first`, is `now` and was asked at the elements before `at`; those it kept are the first `kept`
+  -- The closure was `first` and is `now` after calls for the elements before `at`. The elements that it retained are
+  -- the first `kept`.
   pub record Filtering (first now : P) (old new : List X) (kept at : ℕ) : Type 0 where
     pub finish : (ys : List X) → IsFiltered answers now (drop at old) ys → IsFiltered answers first old (take kept new ++ ys)
     pub below : kept ≤ at

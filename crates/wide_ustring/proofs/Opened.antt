@@ -1,4 +1,4 @@
--- Units written into the room that was opened in a list.
+-- Units written into the gap that was opened in a list.
 use Rattle.std.proofs.Common.{◌≡◌, ℕ, suc, ◌+◌, ◌<◌, List, [], ◌∷◌, ◌++◌, map, length, take, drop, set, ap, sym, ◌∙◌, arith, append_assoc, length-set}
 use Rattle.std.specs.List.{splice}
 use Rattle.std.proofs.lemmas.List.{set_split, take_more_set, drop-set-lt}

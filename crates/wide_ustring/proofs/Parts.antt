@@ -1,4 +1,4 @@
--- A part of a list without its first element, or its last.
+-- A slice of a list without its first element, or without its last one.
 use Rattle.std.proofs.Common.{◌≡◌, ℕ, zero, suc, ◌+◌, ◌-◌, ◌<◌, ◌≤◌, min, List, [], ◌∷◌, ◌++◌, get_or, take, drop, slice_range, length, refl, sym, ap, ◌∙◌, arith, length-drop}
 use Rattle.std.proofs.lemmas.List.{drop_more, take_more, get_or-drop}
 use Rattle.std.proofs.lemmas.Grind.{common_steps}
@@ -21,7 +21,7 @@ module _ {X : Type 0} where
   take_enough (y ∷ ys) (suc n) zero e = absurd (omega arith)
   take_enough (y ∷ ys) (suc n) (suc m) e = ap (λ l. y ∷ l) (take_enough ys n m (omega arith))
 
-  -- the part ends where `back` or the list does
+  -- The slice ends at `back` or at the end of the list.
   pub part_last : (xs : List X) (front back end : ℕ) (x : X) → end ≡ min back (length xs) → front < end → x ≡ get_or xs (end - 1) x → slice_range xs front back ≡ slice_range xs front (end - 1) ++ x ∷ []
   part_last xs front back end x cut ordered is =
       let n : ℕ = end - 1 - front in

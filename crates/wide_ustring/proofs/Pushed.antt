@@ -1,4 +1,4 @@
--- The units of a text that are written over a list of as many.
+-- A list over which the units of a text are written, of the same length.
 use Rattle.std.proofs.Common.{◌≡◌, ◌≤◌, ℕ, List, [], ◌∷◌, ◌++◌, length, map, take, drop, refl, sym, ap, ◌∙◌, arith, append-nil, length-drop}
 use Rattle.std.proofs.lemmas.List.{length-map, length-take-le, take_all}
 use Rattle.std.specs.Str.{chars}
@@ -9,7 +9,8 @@ unfolding chars
 none_left form [] none = refl
 none_left form (b ∷ bs) none = absurd (omega arith)
 
--- a front of the list has the units of the front of a text that was read: of all, where the list is as long as those
+-- A prefix of the list holds the units of a prefix of the text. If the text was read to its end, the list holds the
+-- units of the whole text.
 pub all_written : {X : Type 0} (form : EncodingForm) (number : X → ℕ) (text : List ℕ) (written : List X) (read count : ℕ) → length written ≡ length (encode form (chars text)) → read ≡ length text → count ≤ length written
     → encode form (chars text) ≡ map number (take count written) ++ encode form (chars (drop read text)) → map number written ≡ encode form (chars text)
 all_written form number text written read count long all within units =

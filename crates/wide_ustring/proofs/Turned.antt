@@ -1,9 +1,9 @@
--- A list whose end has changed places with what was written behind it.
+-- A list whose end was rotated with the units that were appended to it.
 use Rattle.std.proofs.Common.{◌≡◌, ℕ, ◌-◌, ◌≤◌, List, ◌++◌, length, map, take, drop, ap, sym, ◌∙◌, arith, append_assoc, append-nil, length-append, length-drop}
 use Rattle.std.proofs.lemmas.List.{length-take-le, length-map, map-append, take-map, drop-map, take_at, drop_at, drop_all}
 use Rattle.std.specs.List.{splice, remove_range}
 
--- a list whose end, from a place on, was written over
+-- Writing as many units over the end of a list, from an offset on, replaces its end by them.
 pub end_written : {X : Type 0} (len from : ℕ) (xs ws : List X) → len ≡ length xs → from ≤ length xs → length ws ≡ length xs - from
     → take len ((take from xs ++ (ws ++ drop (length ws) (drop from xs))) ++ drop (length (take from xs ++ (ws ++ drop (length ws) (drop from xs)))) xs) ≡ take from xs ++ ws
 end_written len from xs ws same within long =
@@ -13,7 +13,7 @@ end_written len from xs ws same within long =
     ∙ is
 
 module _ {X Y : Type 0} (f : X → Y) (old written : List X) (ys : List Y) (from to : ℕ) (forward : from ≤ to) (within : to ≤ length old) (is : map f written ≡ map f (remove_range old from to) ++ ys) where
-  -- what stands before the place, behind it, and at the end
+  -- The list splits into the units before `from`, those from the old offset `to` on, and those that were appended.
   split : map f written ≡ take from (map f old) ++ (drop to (map f old) ++ ys)
   split =
       is ∙ ap (λ us. us ++ ys) (map-append f (take from old) (drop to old) ∙ ap (λ us. us ++ map f (drop to old)) (sym (take-map f from old)) ∙ ap (λ us. take from (map f old) ++ us) (sym (drop-map f to old)))

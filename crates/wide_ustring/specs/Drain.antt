@@ -1,4 +1,4 @@
--- What a contract sees of a `Drain`.
+-- What contracts say about a `Drain`.
 use Rattle.std.specs.Prelude.{◌≡◌, ℕ, List, [], slice_range, Option}
 use Rattle.std.specs.Borrow.{GName}
 use Rattle.std.specs.Iterator.{Yields, YieldsFirst, YieldsLast}
@@ -6,34 +6,35 @@ use Rattle.std.specs.List.{splice}
 use Rattle.wide_ustring.specs.declared.iter.Drain.{Drain}
 
 module _ {C A : Type 0} where
-  -- the units that are still to come
+  -- The units that were not read yet.
   abbrev pub drain_rest : Drain C A → List C
   drain_rest d = slice_range d.string.now.units d.front d.back
 
-  -- the units, and the capacity, that the string has once the drain is dropped
+  -- The units that the string has once the drain is dropped, and its capacity.
   abbrev pub drain_leaves : Drain C A → List C
   drain_leaves d = splice d.string.now.units d.start d.end []
 
   abbrev pub drain_capacity : Drain C A → ℕ
   drain_capacity d = d.string.now.capacity
 
-  -- the reference to the string that is drained
+  -- The reference to the string that is drained.
   abbrev pub drain_lender : Drain C A → GName
   drain_lender d = d.string.ghost_name
 
-  -- both drain the same string, and leave it alike
+  -- Both drain the same string, and leave it with the same units and capacity.
   pub record DrainKeeps (old new : Drain C A) : Type 0 where
     pub lender : drain_lender new ≡ drain_lender old
     pub leaves : drain_leaves new ≡ drain_leaves old
     pub capacity : drain_capacity new ≡ drain_capacity old
 
-  -- a call gave the first unit, or the last, and keeps what the string is left
+  -- A call returned the first unit, or the last one, and did not change what the string will have once the drain is
+  -- dropped.
   abbrev pub DrainGives : Drain C A → Option C → Drain C A → Type 0
   DrainGives old unit new = YieldsFirst drain_rest old unit new × DrainKeeps old new
 
   abbrev pub DrainGivesBack : Drain C A → Option C → Drain C A → Type 0
   DrainGivesBack old unit new = YieldsLast drain_rest old unit new × DrainKeeps old new
 
-  -- calls from the front keep what the string is left
+  -- Calls of `next` do not change what the string will have once the drain is dropped.
   abbrev pub DrainStays : Drain C A → Type 0
   DrainStays first = (units : List C) (later : Drain C A) → Yields DrainGives first units later → DrainKeeps first later

@@ -1,15 +1,15 @@
--- The character or the unit that an edit takes.
+-- The character or the unit that an edit removes.
 use Rattle.std.specs.Prelude.{◌≡◌, ℕ, List, [], ◌∷◌, ◌++◌}
 use Rattle.wide_unit.specs.EncodingForm.{EncodingForm}
 use Rattle.wide_unit.specs.Segmentation.{Item, Char, Fault}
 use Rattle.wide_unit.specs.Items.{items}
 
--- the number of a character, or of a fault's unit
+-- The number of a character, or of a fault's unit.
 abbrev pub item_code : Item → ℕ
 item_code (Char c) = c
 item_code (Fault u) = u
 
--- the first item of the units is gone, and this is its number; or the last
+-- The first item of the units, or the last one, was removed, and `code` is its number.
 pub record TakesFirst (form : EncodingForm) (old new : List ℕ) (code : ℕ) : Type 0 where
   pub item : Item
   pub was : items form old ≡ item ∷ items form new

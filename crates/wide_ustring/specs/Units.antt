@@ -1,8 +1,8 @@
--- What a contract sees of an owned string of units.
+-- What contracts say about an owned string of units.
 use Rattle.std.specs.Prelude.{ℕ, ◌+◌, ◌≤◌, List, refl, length}
 use Rattle.std.specs.Coded.{Coded, code_by, coded×, coded_ℕ, coded_list}
 
--- the units, in order, and how many fit with no allocation
+-- The units, in order, and how many units fit without allocating.
 pub record Units (C : Type 0) : Type 0 where
   pub units : List C
   pub capacity : ℕ
@@ -13,10 +13,10 @@ units_code {C} code =
     (λ p. record { units = p.0; capacity = p.1 }) (λ _. refl)
 
 module _ {C : Type 0} where
-  -- how many units there are
+  -- The length in units.
   abbrev pub ustring_len : Units C → ℕ
   ustring_len s = length s.units
 
-  -- so many more units fit with no allocation
+  -- `more` additional units fit without allocating.
   abbrev pub HasRoomFor : Units C → ℕ → Type 0
   HasRoomFor s more = length s.units + more ≤ s.capacity

@@ -1,4 +1,4 @@
-//! Units in a block of their own size, which does not grow.
+//! Units in an allocation of exactly their length, which does not grow.
 ghost use Rattle.std.specs.Prelude.{◌≡◌, ◌<◌, ◌≤◌, length, map, IsOk, IfOk, IfErr};
 ghost use Rattle.std.specs.Iterator.{IsFiniteIterable};
 ghost use Rattle.wide_unit.specs.Texts.{debug_output};
@@ -15,20 +15,22 @@ use wide_error::OutOfMemory;
 use wide_ustr::UStr;
 use wide_utferror::FaultUnit;
 
-/// Units of any values in a block of their own size, which does not grow: what `Box<U16Str>` and `Box<U32Str>` are in the
-/// Rust crate.
+/// Units of any values in an allocation of exactly their length, which does not grow. It corresponds to `Box<U16Str>`
+/// and `Box<U32Str>` in the Rust crate.
 ///
-/// Two of them are compared through their views, by [`BoxedUStr::as_ustr`]. `{:?}` prints what that of this view does.
+/// Compare two of them through their views, by [`BoxedUStr::as_ustr`]. `{:?}` prints the text between quotes, as
+/// [`char::escape_debug`] escapes it; a unit that belongs to no character is printed as `\<XXXX>`, in hexadecimal.
 #[derive(Drop)]
 pub struct BoxedUStr<C, A: Allocator = Global> {
-    // A string with no spare room. std's `BoxedSlice` would keep what room its vector had, and tells nothing of it.
+    // A string without spare capacity. It is no `BoxedSlice` of std, which would retain its vector's spare capacity,
+    // and whose contracts say nothing about it.
     string: UString<C, A>,
 }
 
-/// 16-bit units in a block of their own size.
+/// 16-bit units in an allocation of exactly their length.
 pub type BoxedU16Str<A = Global> = BoxedUStr<u16, A>;
 
-/// 32-bit units in a block of their own size.
+/// 32-bit units in an allocation of exactly their length.
 pub type BoxedU32Str<A = Global> = BoxedUStr<u32, A>;
 
 impl<C, A: Allocator> Model for BoxedUStr<C, A> {
@@ -45,14 +47,14 @@ impl<C, A: Allocator> Model for BoxedUStr<C, A> {
 }
 
 impl<C: FaultUnit, A: Allocator> BoxedUStr<C, A> {
-    /// A view of the units. It takes no memory.
+    /// Returns a view of the units, without allocating.
     pub fn as_ustr(&self) -> UStr<'_, C>
         ensures { units_seen result ≡ self.now }
     {
         self.string.as_ustr()
     }
 
-    /// The units as a string, in the block that they stand in: one with no room beyond its length. It takes no memory.
+    /// Returns the units as a string in the same allocation, whose capacity is its length. It does not allocate.
     pub fn into_ustring(self) -> UString<C, A>
         ensures units { result.units ≡ self }
         ensures capacity { result.capacity ≡ length self }
@@ -63,13 +65,13 @@ impl<C: FaultUnit, A: Allocator> BoxedUStr<C, A> {
 }
 
 impl<C: FaultUnit, A: Allocator> UString<C, A> {
-    /// The units in a block of their own size. The string's block is shrunk as by [`UString::shrink_to_fit`]; where it has no
-    /// spare room no memory is asked for.
+    /// Returns the units in an allocation of exactly their length. It shrinks the string's allocation as
+    /// [`UString::shrink_to_fit`] does; it does not ask for memory if the string has no spare capacity.
     ///
     /// # Errors
     ///
-    /// The smaller block was refused. The string is handed back with its units and its block, which has spare room still. std
-    /// promises of a block that is to shrink no more than that it does not grow, and so does this call of one handed back.
+    /// The string, with its units, if the allocation could not be shrunk to the length. It still has spare capacity,
+    /// and no more capacity than before. That is all that std's contract says of a vector that shrinks.
     pub fn into_boxed_ustr(mut self) -> Result<BoxedUStr<C, A>, Self>
         ensures units { IfOk result (λ boxed. boxed ≡ self.units) }
         ensures refused { IfErr result (λ s. s.units ≡ self.units) }
@@ -83,7 +85,15 @@ impl<C: FaultUnit, A: Allocator> UString<C, A> {
         }
     }
 
-    /// The items' units at the end. On want of memory those of the items before the refused one are there.
+    /// Appends the units of an iterator over boxed units.
+    ///
+    /// # Requires
+    ///
+    /// The iterator can be advanced, and it ends.
+    ///
+    /// # Errors
+    ///
+    /// [`OutOfMemory`] if the allocation for an item fails. The string then holds the items before it.
     pub fn extend_boxed<B: Allocator, U: IntoIterator<Item = BoxedUStr<C, B>>>(
         &mut self,
         items: U,
@@ -95,7 +105,15 @@ impl<C: FaultUnit, A: Allocator> UString<C, A> {
         extend(self, items)
     }
 
-    /// A string of the items' units. The error is the string of the items before the one that found no memory.
+    /// Concatenates the units of an iterator over boxed units into a new string.
+    ///
+    /// # Requires
+    ///
+    /// The iterator can be advanced, and it ends.
+    ///
+    /// # Errors
+    ///
+    /// The allocation for an item failed. The error is the string of the items before it.
     pub fn from_iter_boxed<B: Allocator, U: IntoIterator<Item = BoxedUStr<C, B>>>(
         alloc: A,
         items: U,

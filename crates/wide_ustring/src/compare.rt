@@ -1,4 +1,4 @@
-//! Equality, order and hash of owned strings: those of their units. Room and allocator don't count.
+//! Equality, order and hash of owned strings, by their units. Capacity and allocator do not matter.
 ghost use Rattle.std.specs.Cmp.{on_equiv, on_per, on_po, on_total};
 ghost use Rattle.std.specs.Cmp.Lexicographic.{pointwise, slice_cmp, slice_partial_cmp, lists_equiv, lists_per, lists_po, lists_total, lists_agrees, lists_ties};
 ghost use Rattle.std.specs.Hash as fed;
@@ -14,7 +14,7 @@ impl<C: PartialEq, A: Allocator> PartialEq for UString<C, A> {
 
     ghost laws = { on_per (λ x. x.units) (lists_per C.laws) };
 
-    /// Whether both have the same units.
+    /// Returns whether both have the same units.
     fn eq(&self, other: &Self) -> bool {
         self.units == other.units
     }
@@ -29,7 +29,7 @@ impl<C: PartialOrd, A: Allocator> PartialOrd for UString<C, A> {
 
     ghost laws = { on_po (λ x. x.units) (lists_po C.PartialOrd.laws) };
 
-    /// The lexicographic order of the units.
+    /// Compares the units lexicographically.
     fn partial_cmp(&self, other: &Self) -> Option<Ordering> {
         self.units.partial_cmp(&other.units)
     }
@@ -44,7 +44,7 @@ impl<C: Ord, A: Allocator> Ord for UString<C, A> {
 
     ghost matches_eq = { λ x y. lists_ties C.cmp C.matches_eq x.units y.units };
 
-    /// The lexicographic order of the units.
+    /// Compares the units lexicographically.
     fn cmp(&self, other: &Self) -> Ordering {
         self.units.cmp(&other.units)
     }
@@ -55,7 +55,7 @@ impl<C: Hash, A: Allocator> Hash for UString<C, A> {
 
     ghost respects_eq = { (on_Alike (λ s. s.units) (items_Alike (record { fed = C.respects_eq }))).fed };
 
-    /// Hashes as the slice of the units does.
+    /// Hashes the units as a slice.
     fn hash<H: Hasher>(&self, state: &mut H) {
         self.units.as_slice().hash(state);
     }

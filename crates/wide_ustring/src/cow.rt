@@ -1,4 +1,4 @@
-//! Units that are borrowed where they can be, and owned where they had to be made.
+//! Units that are borrowed or owned.
 ghost use Rattle.std.specs.Prelude.{◌≡◌, ◌≤◌, [], map, Ok, IfOk, IsOk};
 ghost use Rattle.std.specs.Iterator.{IsFiniteIterable};
 ghost use Rattle.wide_unit.specs.Texts.{debug_output};
@@ -15,25 +15,27 @@ use wide_error::OutOfMemory;
 use wide_ustr::UStr;
 use wide_utferror::FaultUnit;
 
-/// Units of any values that are borrowed, or owned: what `Cow<'_, U16Str>` and `Cow<'_, U32Str>` are in the Rust crate.
+/// Units of any values that are borrowed, or owned if they had to be made. It corresponds to `Cow<'_, U16Str>` and
+/// `Cow<'_, U32Str>` in the Rust crate.
 ///
-/// Two of them are compared through their views, by [`CowUStr::as_ustr`]. `{:?}` prints what that of this view does.
+/// Compare two of them through their views, by [`CowUStr::as_ustr`]. `{:?}` prints the text between quotes, as
+/// [`char::escape_debug`] escapes it; a unit that belongs to no character is printed as `\<XXXX>`, in hexadecimal.
 #[derive(Drop)]
 pub enum CowUStr<'a, C, A: Allocator = Global> {
-    /// A view of units that stand elsewhere.
+    /// A view of units that something else owns.
     Borrowed(UStr<'a, C>),
-    /// A string of its own.
+    /// A string that this value owns.
     Owned(UString<C, A>),
 }
 
-/// 16-bit units that are borrowed, or owned.
+/// 16-bit units that are borrowed or owned.
 pub type CowU16Str<'a, A = Global> = CowUStr<'a, u16, A>;
 
-/// 32-bit units that are borrowed, or owned.
+/// 32-bit units that are borrowed or owned.
 pub type CowU32Str<'a, A = Global> = CowUStr<'a, u32, A>;
 
 impl<'a, C: FaultUnit, A: Allocator> CowUStr<'a, C, A> {
-    /// A view of the units. It takes no memory.
+    /// Returns a view of the units, without allocating.
     pub fn as_ustr(&self) -> UStr<'_, C>
         ensures { units_seen result ≡ cow_units self.now }
     {
@@ -43,12 +45,12 @@ impl<'a, C: FaultUnit, A: Allocator> CowUStr<'a, C, A> {
         }
     }
 
-    /// The units as a string. Where they are borrowed, memory is asked for once, for a copy of them, and not at all where there are
-    /// none; an owned string is answered itself, with its room, and takes no memory.
+    /// Returns the units as an owned string. An owned string is returned as it is, with its capacity, without
+    /// allocating. Borrowed units are copied: this allocates once, or not at all if there are none.
     ///
     /// # Errors
     ///
-    /// The units are borrowed, and there was no memory for the copy.
+    /// [`OutOfMemory`] if the allocation for the copy fails.
     pub fn into_owned(self, alloc: A) -> Result<UString<C, A>, OutOfMemory>
         ensures units { IfOk result (λ s. s.units ≡ cow_units self.entry) }
         ensures owned { IfOwned self.entry (λ s. result ≡ Ok s) }
@@ -78,7 +80,15 @@ impl<C: FaultUnit, A: Allocator, B: Allocator> Piece<UString<C, A>, Whole> for C
 }
 
 impl<C: FaultUnit, A: Allocator> UString<C, A> {
-    /// The items' units at the end. On want of memory those of the items before the refused one are there.
+    /// Appends the units of an iterator's items, borrowed or owned.
+    ///
+    /// # Requires
+    ///
+    /// The iterator can be advanced, and it ends.
+    ///
+    /// # Errors
+    ///
+    /// [`OutOfMemory`] if the allocation for an item fails. The string then holds the items before it.
     pub fn extend_cows<'a, B: Allocator, U: IntoIterator<Item = CowUStr<'a, C, B>>>(
         &mut self,
         items: U,
@@ -92,7 +102,15 @@ impl<C: FaultUnit, A: Allocator> UString<C, A> {
         extend(self, items)
     }
 
-    /// A string of the items' units. The error is the string of the items before the one that found no memory.
+    /// Concatenates the units of an iterator's items, borrowed or owned, into a new string.
+    ///
+    /// # Requires
+    ///
+    /// The iterator can be advanced, and it ends.
+    ///
+    /// # Errors
+    ///
+    /// The allocation for an item failed. The error is the string of the items before it.
     pub fn from_iter_cows<'a, B: Allocator, U: IntoIterator<Item = CowUStr<'a, C, B>>>(
         alloc: A,
         items: U,

@@ -1,7 +1,7 @@
-//! Strings made of the items of an iterator, or extended by them.
+//! Strings that are collected from the items of an iterator, or extended by them.
 //!
-//! The items go in by order, each whole or not at all. Where one finds no memory, the string holds those before it; that item
-//! and the rest of the iterator are dropped. Memory is asked for item by item.
+//! The items are appended in order, each as a whole or not at all. If the allocation for an item fails, the string
+//! holds the items before it; that item and the rest of the iterator are dropped. Memory is reserved item by item.
 ghost use Rattle.std.specs.Prelude.{◌≡◌, ◌<◌, ◌≤◌, ◌+◌, ◌++◌, ℕ, List, [], length, map, OnOk, OnErr, string_bytes};
 ghost use Rattle.std.specs.Iterator.{IsFiniteIterable};
 ghost use Rattle.std.specs.Str.{chars};
@@ -16,9 +16,10 @@ use wide_error::OutOfMemory;
 use wide_ustr::UStr;
 use wide_utferror::FaultUnit;
 
-/// A string that can grow at its end. The trait is this port's own; crates above implement it for their strings.
+/// A string that can grow at its end. The Rust crate has no such trait. Dependent crates implement it for their
+/// strings.
 pub trait Growing {
-    // The numbers of its units, and how many fit with no allocation.
+    // The numbers of the string's units, and how many units it can hold without allocating.
     ghost seen: { Self → Units ℕ };
 }
 
@@ -26,16 +27,20 @@ impl<C: FaultUnit, A: Allocator> Growing for UString<C, A> {
     ghost seen = { numbered C.number };
 }
 
-/// An item whose units can be put at the end of a string: a character, a text, a view or a string. The trait is this port's
-/// own; crates above implement it for their types.
+/// An item whose units can be appended to a string: a character, a text, a view or a string. The Rust crate has no such
+/// trait. Dependent crates implement it for their types.
 ///
-/// The marker `M` of an impl for views of a second crate and strings of a third is a type of the impl's own crate, since Rust
-/// asks for one; any other impl has [`Whole`].
+/// A crate that implements the trait for a view and a string of two other crates needs a type of its own in the impl,
+/// by Rust's orphan rule, and passes it as the marker `M`. Any other impl passes [`Whole`].
 pub trait Piece<S: Growing, M> {
-    // The numbers of its units.
+    // The numbers of the item's units.
     ghost text: { Self → List ℕ };
 
-    /// The item's units at the end of a string, which stays as it was where there is no memory for them.
+    /// Appends the item's units to a string.
+    ///
+    /// # Errors
+    ///
+    /// [`OutOfMemory`] if the allocation fails; the string is unchanged. It never fails if the spare capacity suffices.
     fn push_to(self, string: &mut S) -> Result<(), OutOfMemory>
         ensures ok { OnOk result ((S.seen string.new).units ≡ (S.seen string.old).units ++ text self) }
         ensures err { OnErr result (string.new ≡ string.old) }
@@ -43,7 +48,7 @@ pub trait Piece<S: Growing, M> {
         ensures capacity { (S.seen string.old).capacity ≤ (S.seen string.new).capacity };
 }
 
-/// The marker of the impls in the crate of their string, which need none of their own.
+/// The marker for impls of [`Piece`] in the crate of their string, which need no marker of their own.
 pub struct Whole;
 
 impl<C: FaultUnit, A: Allocator> Piece<UString<C, A>, Whole> for char {
@@ -94,8 +99,16 @@ impl<C: FaultUnit, A: Allocator, B: Allocator> Piece<UString<C, A>, Whole> for S
     }
 }
 
-/// Puts the items' units at the end, one after another. On want of memory those of the items before the refused one are
-/// there. The calls `extend_*` of every string are this one, each for its items.
+/// Appends the units of an iterator's items to a string, one item after another. The `extend_*` calls of all strings
+/// call this function.
+///
+/// # Requires
+///
+/// The iterator can be advanced, and it ends.
+///
+/// # Errors
+///
+/// [`OutOfMemory`] if the allocation for an item fails. The string then holds the items before it.
 pub fn extend<S: Growing, M, P: Piece<S, M>, U: IntoIterator<Item = P>>(
     string: &mut S,
     pieces: U,
@@ -110,8 +123,16 @@ pub fn extend<S: Growing, M, P: Piece<S, M>, U: IntoIterator<Item = P>>(
     Ok(())
 }
 
-/// The string that the items make, put into an empty one. The error is the string of the items before the one that found no
-/// memory. The calls `from_iter_*` of every string are this one, each for its items.
+/// Appends the units of an iterator's items to an empty string, and returns it. The `from_iter_*` calls of all strings
+/// call this function.
+///
+/// # Requires
+///
+/// The string is empty. The iterator can be advanced, and it ends.
+///
+/// # Errors
+///
+/// The allocation for an item failed. The error is the string of the items before it.
 pub fn from_iter<S: Growing, M, P: Piece<S, M>, U: IntoIterator<Item = P>>(
     empty: S,
     pieces: U,
@@ -128,7 +149,15 @@ pub fn from_iter<S: Growing, M, P: Piece<S, M>, U: IntoIterator<Item = P>>(
 }
 
 impl<C: FaultUnit, A: Allocator> UString<C, A> {
-    /// The characters' units at the end. On want of memory those of the items before the refused one are there.
+    /// Appends the units of an iterator's characters.
+    ///
+    /// # Requires
+    ///
+    /// The iterator can be advanced, and it ends.
+    ///
+    /// # Errors
+    ///
+    /// [`OutOfMemory`] if the allocation for an item fails. The string then holds the items before it.
     pub fn extend_chars<U: IntoIterator<Item = char>>(
         &mut self,
         items: U,
@@ -140,7 +169,15 @@ impl<C: FaultUnit, A: Allocator> UString<C, A> {
         extend(self, items)
     }
 
-    /// The units of the characters referred to at the end. On want of memory those of the items before the refused one are there.
+    /// Appends the units of the characters that an iterator's items refer to.
+    ///
+    /// # Requires
+    ///
+    /// The iterator can be advanced, and it ends.
+    ///
+    /// # Errors
+    ///
+    /// [`OutOfMemory`] if the allocation for an item fails. The string then holds the items before it.
     pub fn extend_char_refs<'a, U: IntoIterator<Item = &'a char>>(
         &mut self,
         items: U,
@@ -152,7 +189,15 @@ impl<C: FaultUnit, A: Allocator> UString<C, A> {
         extend(self, items)
     }
 
-    /// The views' units at the end. On want of memory those of the items before the refused one are there.
+    /// Appends the units of an iterator over views.
+    ///
+    /// # Requires
+    ///
+    /// The iterator can be advanced, and it ends.
+    ///
+    /// # Errors
+    ///
+    /// [`OutOfMemory`] if the allocation for an item fails. The string then holds the items before it.
     pub fn extend_ustrs<'a, U: IntoIterator<Item = UStr<'a, C>>>(
         &mut self,
         items: U,
@@ -166,7 +211,15 @@ impl<C: FaultUnit, A: Allocator> UString<C, A> {
         extend(self, items)
     }
 
-    /// The texts' units at the end. On want of memory those of the items before the refused one are there.
+    /// Appends the units of the texts of an iterator over `&str`.
+    ///
+    /// # Requires
+    ///
+    /// The iterator can be advanced, and it ends.
+    ///
+    /// # Errors
+    ///
+    /// [`OutOfMemory`] if the allocation for an item fails. The string then holds the items before it.
     pub fn extend_strs<'a, U: IntoIterator<Item = &'a str>>(
         &mut self,
         items: U,
@@ -178,7 +231,15 @@ impl<C: FaultUnit, A: Allocator> UString<C, A> {
         extend(self, items)
     }
 
-    /// The strings' units at the end. On want of memory those of the items before the refused one are there.
+    /// Appends the units of an iterator over owned strings.
+    ///
+    /// # Requires
+    ///
+    /// The iterator can be advanced, and it ends.
+    ///
+    /// # Errors
+    ///
+    /// [`OutOfMemory`] if the allocation for an item fails. The string then holds the items before it.
     pub fn extend_ustrings<B: Allocator, U: IntoIterator<Item = UString<C, B>>>(
         &mut self,
         items: U,
@@ -190,7 +251,15 @@ impl<C: FaultUnit, A: Allocator> UString<C, A> {
         extend(self, items)
     }
 
-    /// The texts' units at the end. On want of memory those of the items before the refused one are there.
+    /// Appends the units of the texts of an iterator over `String`.
+    ///
+    /// # Requires
+    ///
+    /// The iterator can be advanced, and it ends.
+    ///
+    /// # Errors
+    ///
+    /// [`OutOfMemory`] if the allocation for an item fails. The string then holds the items before it.
     pub fn extend_strings<B: Allocator, U: IntoIterator<Item = String<B>>>(
         &mut self,
         items: U,
@@ -204,7 +273,15 @@ impl<C: FaultUnit, A: Allocator> UString<C, A> {
 }
 
 impl<C: FaultUnit, A: Allocator> UString<C, A> {
-    /// A string of the characters. The error is the string of the items before the one that found no memory.
+    /// Collects the units of an iterator's characters into a new string.
+    ///
+    /// # Requires
+    ///
+    /// The iterator can be advanced, and it ends.
+    ///
+    /// # Errors
+    ///
+    /// The allocation for an item failed. The error is the string of the items before it.
     pub fn from_iter_chars<U: IntoIterator<Item = char>>(alloc: A, items: U) -> Result<Self, Self>
         requires { IsFiniteIterable U.into_iter_gives U.IntoIter.can_next U.IntoIter.remaining items }
         ensures { Collects result U.into_iter_gives U.IntoIter.next_gives (code_units C.form) items (numbered C.number) }
@@ -212,7 +289,15 @@ impl<C: FaultUnit, A: Allocator> UString<C, A> {
         from_iter(UString::new(alloc), items)
     }
 
-    /// A string of the characters referred to. The error is the string of the items before the one that found no memory.
+    /// Collects the units of the characters that an iterator's items refer to into a new string.
+    ///
+    /// # Requires
+    ///
+    /// The iterator can be advanced, and it ends.
+    ///
+    /// # Errors
+    ///
+    /// The allocation for an item failed. The error is the string of the items before it.
     pub fn from_iter_char_refs<'a, U: IntoIterator<Item = &'a char>>(
         alloc: A,
         items: U,
@@ -223,7 +308,15 @@ impl<C: FaultUnit, A: Allocator> UString<C, A> {
         from_iter(UString::new(alloc), items)
     }
 
-    /// A string of the views' units. The error is the string of the items before the one that found no memory.
+    /// Concatenates the units of an iterator over views into a new string.
+    ///
+    /// # Requires
+    ///
+    /// The iterator can be advanced, and it ends.
+    ///
+    /// # Errors
+    ///
+    /// The allocation for an item failed. The error is the string of the items before it.
     pub fn from_iter_ustrs<'a, U: IntoIterator<Item = UStr<'a, C>>>(
         alloc: A,
         items: U,
@@ -236,7 +329,15 @@ impl<C: FaultUnit, A: Allocator> UString<C, A> {
         from_iter(UString::new(alloc), items)
     }
 
-    /// A string of the texts. The error is the string of the items before the one that found no memory.
+    /// Concatenates the units of the texts of an iterator over `&str` into a new string.
+    ///
+    /// # Requires
+    ///
+    /// The iterator can be advanced, and it ends.
+    ///
+    /// # Errors
+    ///
+    /// The allocation for an item failed. The error is the string of the items before it.
     pub fn from_iter_strs<'a, U: IntoIterator<Item = &'a str>>(
         alloc: A,
         items: U,
@@ -247,7 +348,15 @@ impl<C: FaultUnit, A: Allocator> UString<C, A> {
         from_iter(UString::new(alloc), items)
     }
 
-    /// A string of the strings' units. The error is the string of the items before the one that found no memory.
+    /// Concatenates the units of an iterator over owned strings into a new string.
+    ///
+    /// # Requires
+    ///
+    /// The iterator can be advanced, and it ends.
+    ///
+    /// # Errors
+    ///
+    /// The allocation for an item failed. The error is the string of the items before it.
     pub fn from_iter_ustrings<B: Allocator, U: IntoIterator<Item = UString<C, B>>>(
         alloc: A,
         items: U,
@@ -258,7 +367,15 @@ impl<C: FaultUnit, A: Allocator> UString<C, A> {
         from_iter(UString::new(alloc), items)
     }
 
-    /// A string of the texts. The error is the string of the items before the one that found no memory.
+    /// Concatenates the units of the texts of an iterator over `String` into a new string.
+    ///
+    /// # Requires
+    ///
+    /// The iterator can be advanced, and it ends.
+    ///
+    /// # Errors
+    ///
+    /// The allocation for an item failed. The error is the string of the items before it.
     pub fn from_iter_strings<B: Allocator, U: IntoIterator<Item = String<B>>>(
         alloc: A,
         items: U,

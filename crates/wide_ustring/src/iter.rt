@@ -1,4 +1,4 @@
-//! What a drain gives.
+//! The iterator that drains an owned string.
 ghost use Rattle.std.specs.Prelude.{◌≡◌, ◌+◌, ◌-◌, ◌≤◌, ◌<◌, length, Some, slice_range, IfSome};
 ghost use Rattle.std.specs.Iterator.{at_most, UpTo};
 ghost use Rattle.std.specs.Iterator.SizeHint.{IsWithinCount};
@@ -8,9 +8,9 @@ use crate::room::cut;
 use std::alloc::{Allocator, Global};
 use std::iter::FusedIterator;
 
-/// The units of a range, from both ends. When it is dropped the whole range is gone from the string, whatever was read. Made
-/// by [`UString::drain`].
-// Its places are cut at the string's length, so that nothing has to be known of the string that it borrows.
+/// An iterator over the units of a range, from both ends. When it is dropped, the whole range is removed from the
+/// string, even if it was not read to the end. Made by [`UString::drain`].
+// The offsets are clamped to the string's length, so that the proof needs to know nothing about the borrowed string.
 pub struct Drain<'a, C: Copy, A: Allocator = Global> {
     pub(crate) string: &'a mut UString<C, A>,
     pub(crate) start: usize,
@@ -42,7 +42,7 @@ impl<C: Copy, A: Allocator> Drop for Drain<'_, C, A> {
 impl<C: Copy, A: Allocator> Drain<'_, C, A> {
     ghost use Rattle.wide_ustring.specs.Drain.{drain_rest};
 
-    /// The units that are left.
+    /// Returns the units that were not read yet.
     pub fn as_slice(&self) -> &[C]
         ensures { result.now ≡ drain_rest self.now }
     {

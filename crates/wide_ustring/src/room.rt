@@ -1,4 +1,4 @@
-//! Edits of a vector of units, in place. The memory is found before a unit moves.
+//! Edits of a vector of units, in place. Each edit allocates before it moves a unit.
 ghost use Rattle.std.specs.Prelude.{◌≡◌, ◌+◌, ◌-◌, ◌≤◌, ◌++◌, length, map, take, drop, IsOk, OnOk, OnErr, vec_len, vec_capacity};
 ghost use Rattle.std.specs.List.{splice, remove_range};
 ghost use Rattle.std.specs.Str.{chars};
@@ -9,7 +9,7 @@ use wide_blocks::decode_utf8_front;
 use wide_error::OutOfMemory;
 use wide_unit::Unit;
 
-// Takes the units from `from` up to `to` away. Each unit behind them moves once.
+// Removes the units from `from` up to `to`. Each unit after them moves once.
 pub(crate) fn cut<C: Copy, A: Allocator>(units: &mut Vec<C, A>, from: usize, to: usize)
     requires forward { from ≤ to }
     requires within { to ≤ vec_len units.old }
@@ -21,8 +21,8 @@ pub(crate) fn cut<C: Copy, A: Allocator>(units: &mut Vec<C, A>, from: usize, to:
     units.truncate(len - (to - from));
 }
 
-// Makes room for `count` units in the place of those from `from` up to `to`, whatever stands in it. Each unit behind them
-// moves once.
+// Replaces the units from `from` up to `to` by a gap of `count` units, whose values are unspecified. Each unit after
+// them moves once.
 pub(crate) fn open<C: Unit, A: Allocator>(
     units: &mut Vec<C, A>,
     from: usize,
@@ -47,7 +47,7 @@ pub(crate) fn open<C: Unit, A: Allocator>(
     Ok(())
 }
 
-// Puts other units in the place of those from `from` up to `to`. Each unit behind them moves once.
+// Replaces the units from `from` up to `to` by other units. Each unit after them moves once.
 pub(crate) fn replace<C: Unit, A: Allocator>(
     units: &mut Vec<C, A>,
     from: usize,
@@ -68,7 +68,7 @@ pub(crate) fn replace<C: Unit, A: Allocator>(
     Ok(())
 }
 
-// Puts the units of a character in the place of those from `from` up to `to`. Each unit behind them moves once.
+// Replaces the units from `from` up to `to` by the units of a character. Each unit after them moves once.
 pub(crate) fn replace_char<C: Unit, A: Allocator>(
     units: &mut Vec<C, A>,
     from: usize,
@@ -91,7 +91,7 @@ pub(crate) fn replace_char<C: Unit, A: Allocator>(
     Ok(())
 }
 
-// Puts the units of a character at the end, in room that is there.
+// Appends the units of a character, in spare capacity.
 pub(crate) fn push_char<C: Unit, A: Allocator>(units: &mut Vec<C, A>, c: char)
     requires { vec_len units.old + length (code_units C.form c) ≤ vec_capacity units.old }
     ensures units { map C.number units.new.items ≡ map C.number units.old.items ++ code_units C.form c }
@@ -105,7 +105,7 @@ pub(crate) fn push_char<C: Unit, A: Allocator>(units: &mut Vec<C, A>, c: char)
     }
 }
 
-// Puts the units of a text at the end.
+// Appends the units of a text.
 pub(crate) fn push_str<C: Unit, A: Allocator>(
     units: &mut Vec<C, A>,
     text: &str,
@@ -123,8 +123,8 @@ pub(crate) fn push_str<C: Unit, A: Allocator>(
     Ok(())
 }
 
-// Puts the units of a text in the place of those from `from` up to `to`. They are written at the end, and then change places
-// with the units behind `to`.
+// Replaces the units from `from` up to `to` by the units of a text. They are written at the end, and then rotated
+// before the units that follow `to`.
 pub(crate) fn replace_str<C: Unit, A: Allocator>(
     units: &mut Vec<C, A>,
     from: usize,

@@ -1,4 +1,4 @@
-//! Owned strings of units.
+//! Owned strings of units that may be ill-formed.
 ghost use Rattle.std.specs.Prelude.{◌≡◌, ◌==◌, ◌+◌, ◌-◌, ◌<◌, ◌≤◌, ◌↔◌, ◌⊎◌, ◌++◌, ◌∷◌, [], min, max, length, map, take, drop, slice_range, IsOk, IfOk, OnOk, OnErr, IsNone, IfSome, vec_capacity};
 ghost use Rattle.std.specs.Borrow.{sem};
 ghost use Rattle.std.specs.Iterator.Runs.{YieldsInOrder, YieldsInReverse};
@@ -28,13 +28,14 @@ use wide_unit::{Unit, split_first, split_last};
 use wide_ustr::UStr;
 use wide_utferror::FaultUnit;
 
-/// An owned string of units of 16 or 32 bits, of any values: text that may be well formed or not.
+/// An owned string of units of 16 or 32 bits, of any values: its text may be well formed or not.
 ///
-/// Places and lengths are counted in units. A call that finds no memory answers [`OutOfMemory`] and has changed nothing; but an extension
-/// has added the items before the one that was refused, `from_iter_*` hand back the string of these, and `into_boxed_ustr` hands the
-/// string back.
+/// Offsets and lengths are counted in units. A call that returns [`OutOfMemory`] leaves the string unchanged, except
+/// the `extend_*` calls, which keep the items before the one that did not fit. If an allocation fails, `from_iter_*`
+/// return the string of the items before the one that did not fit, and `into_boxed_ustr` returns the string.
 ///
-/// `{:?}` prints what that of [`UString::as_ustr`] does.
+/// `{:?}` prints the text between quotes, as [`char::escape_debug`] escapes it. A unit that belongs to no character is
+/// printed as `\<XXXX>`, in hexadecimal.
 #[derive(Drop)]
 pub struct UString<C, A: Allocator = Global> {
     pub(crate) units: Vec<C, A>,
@@ -60,7 +61,7 @@ impl<C, A: Allocator> Model for UString<C, A> {
     ghost view = { λ s. record { units = s.units.items; capacity = vec_capacity s.units } };
 }
 
-// The number of a character, or of a unit that belongs to none.
+// Returns the number of a character, or of a unit that belongs to none.
 fn code_of<C: Unit>(item: Result<char, C>) -> u32
     ensures { result ≡ item_code (item_of C.number item) }
 {
@@ -70,7 +71,7 @@ fn code_of<C: Unit>(item: Result<char, C>) -> u32
     }
 }
 
-// The character that begins at a place from which on the units are well formed, and the place behind it.
+// Returns the character that begins at an offset, from which on the units are well formed, and the offset after it.
 fn char_at<C: Unit>(units: &[C], at: usize) -> (char, usize)
     requires below { at < length units.now }
     requires well_formed { IsWellFormed C.form (map C.number (drop at units.now)) }
@@ -88,7 +89,7 @@ fn char_at<C: Unit>(units: &[C], at: usize) -> (char, usize)
 }
 
 impl<C: FaultUnit, A: Allocator> UString<C, A> {
-    /// The empty string, which takes no memory.
+    /// Creates an empty string, without allocating.
     pub fn new(alloc: A) -> Self
         ensures units { result.units ≡ [] }
         ensures capacity { result.capacity ≡ 0 }
@@ -98,7 +99,11 @@ impl<C: FaultUnit, A: Allocator> UString<C, A> {
         }
     }
 
-    /// An empty string with room for this many units. It does not fail where that is none.
+    /// Creates an empty string with capacity for at least `capacity` units.
+    ///
+    /// # Errors
+    ///
+    /// [`OutOfMemory`] if the allocation fails. It never fails if `capacity` is 0.
     pub fn with_capacity(alloc: A, capacity: usize) -> Result<Self, OutOfMemory>
         ensures units { IfOk result (λ s. s.units ≡ []) }
         ensures room { IfOk result (λ s. capacity ≤ s.capacity) }
@@ -109,7 +114,7 @@ impl<C: FaultUnit, A: Allocator> UString<C, A> {
         Ok(UString { units })
     }
 
-    /// The units of a vector, which takes no memory.
+    /// Makes a string of a vector's units, without copying or allocating.
     pub fn from_vec(units: Vec<C, A>) -> Self
         ensures units { result.units ≡ units.items }
         ensures capacity { result.capacity ≡ vec_capacity units }
@@ -117,7 +122,7 @@ impl<C: FaultUnit, A: Allocator> UString<C, A> {
         UString { units }
     }
 
-    /// The vector of the units.
+    /// Returns the vector of the units, without allocating.
     pub fn into_vec(self) -> Vec<C, A>
         ensures units { result.items ≡ self.units }
         ensures capacity { vec_capacity result ≡ self.capacity }
@@ -126,7 +131,11 @@ impl<C: FaultUnit, A: Allocator> UString<C, A> {
         units
     }
 
-    /// The units of a text.
+    /// Encodes the text of a `&str` as a new string.
+    ///
+    /// # Errors
+    ///
+    /// [`OutOfMemory`] if the allocation fails. It never fails if the text is empty.
     pub fn from_str(alloc: A, text: &str) -> Result<Self, OutOfMemory>
         ensures units { IfOk result (λ s. map C.number s.units ≡ encode C.form (chars text.now)) }
         ensures read_back { IfOk result (λ s. utf8 (text_chars C.form (map C.number s.units)) ≡ text.now) }
@@ -137,21 +146,21 @@ impl<C: FaultUnit, A: Allocator> UString<C, A> {
         Ok(UString { units })
     }
 
-    /// A view of the units.
+    /// Returns a view of the units.
     pub fn as_ustr(&self) -> UStr<'_, C>
         ensures { units_seen result ≡ self.now.units }
     {
         UStr::from_slice(self.units.as_slice())
     }
 
-    /// The units.
+    /// Returns the units as a slice.
     pub fn as_slice(&self) -> &[C]
         ensures { result.now ≡ self.now.units }
     {
         self.units.as_slice()
     }
 
-    /// The vector of the units.
+    /// Returns a reference to the vector of the units.
     pub fn as_vec(&self) -> &Vec<C, A>
         ensures units { result.now.items ≡ self.now.units }
         ensures capacity { vec_capacity result.now ≡ self.now.capacity }
@@ -159,7 +168,7 @@ impl<C: FaultUnit, A: Allocator> UString<C, A> {
         &self.units
     }
 
-    /// The units, to be written over. Their number stays.
+    /// Returns the units as a mutable slice. Their number cannot change.
     pub fn as_mut_slice(&mut self) -> &mut [C]
         ensures* writes_back { sem 𝓛 (lends_units C.row A.row A.Allocator self.entry result) }
         ensures value { result.now ≡ self.old.units }
@@ -167,21 +176,21 @@ impl<C: FaultUnit, A: Allocator> UString<C, A> {
         self.units.as_mut_slice()
     }
 
-    /// How many units there are.
+    /// Returns the length in units.
     pub fn len(&self) -> usize
         ensures { result ≡ ustring_len self.now }
     {
         self.units.len()
     }
 
-    /// Whether there are no units.
+    /// Returns whether the string is empty.
     pub fn is_empty(&self) -> bool
         ensures { result ≡ (ustring_len self.now == 0) }
     {
         self.units.is_empty()
     }
 
-    /// How many units fit with no allocation.
+    /// Returns how many units the string can hold without allocating.
     pub fn capacity(&self) -> usize
         ensures value { result ≡ self.now.capacity }
         ensures holds { ustring_len self.now ≤ result }
@@ -189,7 +198,12 @@ impl<C: FaultUnit, A: Allocator> UString<C, A> {
         self.units.capacity()
     }
 
-    /// Finds room for this many more units.
+    /// Reserves capacity for at least `more` additional units.
+    ///
+    /// # Errors
+    ///
+    /// [`OutOfMemory`] if the allocation fails; the string is unchanged. It never fails if the string already has this
+    /// capacity.
     pub fn reserve(&mut self, more: usize) -> Result<(), OutOfMemory>
         ensures units { self.new.units ≡ self.old.units }
         ensures room { OnOk result (HasRoomFor self.new more) }
@@ -201,7 +215,13 @@ impl<C: FaultUnit, A: Allocator> UString<C, A> {
         Ok(())
     }
 
-    /// As [`UString::reserve`], with no room beyond what is asked for where it finds memory.
+    /// Reserves capacity for `more` additional units. If it allocates, the new capacity is exactly the length plus
+    /// `more`, unlike [`UString::reserve`], which may reserve more.
+    ///
+    /// # Errors
+    ///
+    /// [`OutOfMemory`] if the allocation fails; the string is unchanged. It never fails if the string already has this
+    /// capacity.
     pub fn reserve_exact(&mut self, more: usize) -> Result<(), OutOfMemory>
         ensures units { self.new.units ≡ self.old.units }
         ensures room { OnOk result (self.new.capacity ≡ max self.old.capacity (ustring_len self.old + more)) }
@@ -212,8 +232,11 @@ impl<C: FaultUnit, A: Allocator> UString<C, A> {
         Ok(())
     }
 
-    /// Gives room back, down to the length or to this many units, whichever is more. Where the smaller block is refused the
-    /// answer is [`OutOfMemory`], and nothing has changed.
+    /// Reduces the capacity, but to no less than the length and no less than `least` units.
+    ///
+    /// # Errors
+    ///
+    /// [`OutOfMemory`] if the capacity is greater than both and could not be reduced; the string is unchanged.
     pub fn shrink_to(&mut self, least: usize) -> Result<(), OutOfMemory>
         ensures units { self.new.units ≡ self.old.units }
         ensures ok { OnOk result ((self.new.capacity < self.old.capacity) ⊎ (self.old.capacity ≤ max least (ustring_len self.old))) }
@@ -231,7 +254,11 @@ impl<C: FaultUnit, A: Allocator> UString<C, A> {
         Ok(())
     }
 
-    /// As [`UString::shrink_to`], down to the length.
+    /// Reduces the capacity, but to no less than the length in units.
+    ///
+    /// # Errors
+    ///
+    /// [`OutOfMemory`] if the capacity is greater than the length and could not be reduced; the string is unchanged.
     pub fn shrink_to_fit(&mut self) -> Result<(), OutOfMemory>
         ensures units { self.new.units ≡ self.old.units }
         ensures ok { OnOk result ((self.new.capacity < self.old.capacity) ⊎ (self.old.capacity ≤ ustring_len self.old)) }
@@ -243,7 +270,11 @@ impl<C: FaultUnit, A: Allocator> UString<C, A> {
         self.shrink_to(0)
     }
 
-    /// The units of a slice at the end.
+    /// Appends the units of a slice.
+    ///
+    /// # Errors
+    ///
+    /// [`OutOfMemory`] if the allocation fails; the string is unchanged. It never fails if the spare capacity suffices.
     pub fn push_slice(&mut self, more: &[C]) -> Result<(), OutOfMemory>
         ensures ok { OnOk result (self.new.units ≡ self.old.units ++ more.now) }
         ensures err { OnErr result (self.new ≡ self.old) }
@@ -255,7 +286,11 @@ impl<C: FaultUnit, A: Allocator> UString<C, A> {
         Ok(())
     }
 
-    /// The units of a view at the end.
+    /// Appends the units of a view.
+    ///
+    /// # Errors
+    ///
+    /// [`OutOfMemory`] if the allocation fails; the string is unchanged. It never fails if the spare capacity suffices.
     pub fn push(&mut self, more: UStr<'_, C>) -> Result<(), OutOfMemory>
         ensures ok { OnOk result (self.new.units ≡ self.old.units ++ units_seen more.entry) }
         ensures err { OnErr result (self.new ≡ self.old) }
@@ -265,7 +300,7 @@ impl<C: FaultUnit, A: Allocator> UString<C, A> {
         self.push_slice(more.as_slice())
     }
 
-    /// Takes all units away; the room stays.
+    /// Removes all units. The capacity is unchanged.
     pub fn clear(&mut self)
         ensures units { self.new.units ≡ [] }
         ensures capacity { self.new.capacity ≡ self.old.capacity }
@@ -273,7 +308,7 @@ impl<C: FaultUnit, A: Allocator> UString<C, A> {
         self.units.clear();
     }
 
-    /// Takes the units from this place on away; past the end it does nothing.
+    /// Shortens the string to `len` units. It does nothing if the string is not longer. The capacity is unchanged.
     pub fn truncate(&mut self, len: usize)
         ensures units { self.new.units ≡ take len self.old.units }
         ensures capacity { self.new.capacity ≡ self.old.capacity }
@@ -281,7 +316,15 @@ impl<C: FaultUnit, A: Allocator> UString<C, A> {
         self.units.truncate(len);
     }
 
-    /// The units of a view before a place, which must be at most the length.
+    /// Inserts the units of a view at an offset in units.
+    ///
+    /// # Requires
+    ///
+    /// The offset is at most the length.
+    ///
+    /// # Errors
+    ///
+    /// [`OutOfMemory`] if the allocation fails; the string is unchanged. It never fails if the spare capacity suffices.
     pub fn insert_ustr(&mut self, at: usize, more: UStr<'_, C>) -> Result<(), OutOfMemory>
         requires { at ≤ ustring_len self.old }
         ensures ok { OnOk result (self.new.units ≡ splice self.old.units at at (units_seen more.entry)) }
@@ -292,10 +335,20 @@ impl<C: FaultUnit, A: Allocator> UString<C, A> {
         replace(&mut self.units, at, at, more.as_slice())
     }
 
-    /// The units of a view in the place of a range, for which [`wide_unit::range_check`] must answer places.
+    /// Replaces the units of a range by the units of a view. The ends of the range are offsets in units.
     ///
-    /// Each call moves all units after the range, so that replacing each occurrence of a needle by this call in a loop is quadratic: build a
-    /// new string of the pieces of `split` instead.
+    /// Each call moves all units after the range, so replacing each occurrence of a needle by this call in a loop is
+    /// quadratic. Build a new string from the substrings that `split` yields instead.
+    ///
+    /// # Requires
+    ///
+    /// The range starts at or before its end and lies within the string. It is not an inclusive range that was iterated
+    /// to its end.
+    ///
+    /// # Errors
+    ///
+    /// [`OutOfMemory`] if the allocation fails; the string is unchanged. It never fails if the new length is at most
+    /// the capacity.
     pub fn replace_range<R: RangeBounds<usize>>(
         &mut self,
         range: R,
@@ -313,7 +366,11 @@ impl<C: FaultUnit, A: Allocator> UString<C, A> {
         replace(&mut self.units, places.start, places.end, with.as_slice())
     }
 
-    /// Keeps the units at which the closure answers yes. It is asked once for each unit, in order.
+    /// Retains the units for which the closure returns true. It calls the closure once for each unit, in order.
+    ///
+    /// # Requires
+    ///
+    /// The closure can be called any number of times.
     pub fn retain<F: FnMut(C) -> bool>(&mut self, mut keep: F)
         requires { F.IsAlwaysCallable keep }
         ensures filtered { IsFiltered F.step keep self.old.units self.new.units }
@@ -332,8 +389,13 @@ impl<C: FaultUnit, A: Allocator> UString<C, A> {
         units.truncate(kept);
     }
 
-    /// Keeps the characters at which the closure answers yes, in units that must be well formed. It is asked once for each
-    /// character, in order. It is this port's own, for well-formed strings: [`UString::retain`] asks for units.
+    /// Retains the characters for which the closure returns true, in well-formed units. It calls the closure once for
+    /// each character, in order. The Rust crate has no such call. It serves strings of well-formed text;
+    /// [`UString::retain`] calls its closure for units.
+    ///
+    /// # Requires
+    ///
+    /// The closure can be called any number of times, and the units are well formed.
     pub fn retain_chars<F: FnMut(char) -> bool>(&mut self, mut keep: F)
         requires callable { F.IsAlwaysCallable keep }
         requires well_formed { IsWellFormed C.form (map C.number self.old.units) }
@@ -357,8 +419,14 @@ impl<C: FaultUnit, A: Allocator> UString<C, A> {
         units.truncate(kept);
     }
 
-    /// Takes the units of a range away, and gives them from both ends. When the [`Drain`] is dropped the whole range is
-    /// gone, also where it was not read to the end. [`wide_unit::range_check`] must answer places for the range.
+    /// Removes the units of a range and returns an iterator over them, from both ends. The ends of the range are
+    /// offsets in units. The units are removed when the [`Drain`] is dropped, all of them, even if they were not read
+    /// to the end.
+    ///
+    /// # Requires
+    ///
+    /// The range starts at or before its end and lies within the string. It is not an inclusive range that was iterated
+    /// to its end.
     pub fn drain<R: RangeBounds<usize>>(&mut self, range: R) -> Drain<'_, C, A>
         requires bounds { R.has_bounds range }
         requires in_range { IsInRange self.old.units (R.start_bound range) (R.end_bound range) }
@@ -381,7 +449,11 @@ impl<C: FaultUnit, A: Allocator> UString<C, A> {
         }
     }
 
-    /// The character's units at the end.
+    /// Appends the units of a character.
+    ///
+    /// # Errors
+    ///
+    /// [`OutOfMemory`] if the allocation fails; the string is unchanged. It never fails if the spare capacity suffices.
     pub fn push_char(&mut self, c: char) -> Result<(), OutOfMemory>
         ensures ok { OnOk result (map C.number self.new.units ≡ map C.number self.old.units ++ code_units C.form c) }
         ensures err { OnErr result (self.new ≡ self.old) }
@@ -393,7 +465,11 @@ impl<C: FaultUnit, A: Allocator> UString<C, A> {
         Ok(())
     }
 
-    /// The text's units at the end.
+    /// Appends the units of the text of a `&str`.
+    ///
+    /// # Errors
+    ///
+    /// [`OutOfMemory`] if the allocation fails; the string is unchanged. It never fails if the spare capacity suffices.
     pub fn push_str(&mut self, text: &str) -> Result<(), OutOfMemory>
         ensures ok { OnOk result (map C.number self.new.units ≡ map C.number self.old.units ++ encode C.form (chars text.now)) }
         ensures err { OnErr result (self.new ≡ self.old) }
@@ -403,7 +479,12 @@ impl<C: FaultUnit, A: Allocator> UString<C, A> {
         push_str(&mut self.units, text)
     }
 
-    /// As [`UString::push_str`]: what `fmt::Write` is in the Rust crate, with an error that names the want of memory.
+    /// Appends the units of the text of a `&str`, like [`UString::push_str`]. It corresponds to `fmt::Write::write_str`
+    /// in the Rust crate, but its error says that memory ran out.
+    ///
+    /// # Errors
+    ///
+    /// [`OutOfMemory`] if the allocation fails; the string is unchanged. It never fails if the spare capacity suffices.
     pub fn write_str(&mut self, text: &str) -> Result<(), OutOfMemory>
         ensures ok { OnOk result (map C.number self.new.units ≡ map C.number self.old.units ++ encode C.form (chars text.now)) }
         ensures err { OnErr result (self.new ≡ self.old) }
@@ -413,7 +494,12 @@ impl<C: FaultUnit, A: Allocator> UString<C, A> {
         self.push_str(text)
     }
 
-    /// As [`UString::push_char`]: what `fmt::Write` is in the Rust crate, with an error that names the want of memory.
+    /// Appends the units of a character, like [`UString::push_char`]. It corresponds to `fmt::Write::write_char` in the
+    /// Rust crate, but its error says that memory ran out.
+    ///
+    /// # Errors
+    ///
+    /// [`OutOfMemory`] if the allocation fails; the string is unchanged. It never fails if the spare capacity suffices.
     pub fn write_char(&mut self, c: char) -> Result<(), OutOfMemory>
         ensures ok { OnOk result (map C.number self.new.units ≡ map C.number self.old.units ++ code_units C.form c) }
         ensures err { OnErr result (self.new ≡ self.old) }
@@ -423,7 +509,15 @@ impl<C: FaultUnit, A: Allocator> UString<C, A> {
         self.push_char(c)
     }
 
-    /// The character's units before a place, counted in units, which must be at most the length.
+    /// Inserts the units of a character at an offset in units.
+    ///
+    /// # Requires
+    ///
+    /// The offset is at most the length.
+    ///
+    /// # Errors
+    ///
+    /// [`OutOfMemory`] if the allocation fails; the string is unchanged. It never fails if the spare capacity suffices.
     pub fn insert_char(&mut self, at: usize, c: char) -> Result<(), OutOfMemory>
         requires { at ≤ ustring_len self.old }
         ensures ok { OnOk result (map C.number self.new.units ≡ splice (map C.number self.old.units) at at (code_units C.form c)) }
@@ -434,8 +528,17 @@ impl<C: FaultUnit, A: Allocator> UString<C, A> {
         replace_char(&mut self.units, at, at, c)
     }
 
-    /// The units of a text in the place of those from `from` up to `to`, which must be places in order within the string. It
-    /// is this port's own: [`UString::replace_range`] takes a view, which a text is not.
+    /// Replaces the units from `from` up to `to`, offsets in units, by the units of the text of a `&str`. The Rust
+    /// crate has no such call: [`UString::replace_range`] takes a view, and making a view of a `&str` would allocate.
+    ///
+    /// # Requires
+    ///
+    /// `from` is at most `to`, and `to` is at most the length.
+    ///
+    /// # Errors
+    ///
+    /// [`OutOfMemory`] if the allocation fails; the string is unchanged. It never fails if the new length is at most
+    /// the capacity.
     pub fn splice_str(&mut self, from: usize, to: usize, text: &str) -> Result<(), OutOfMemory>
         requires { IsWithin from to (ustring_len self.old) }
         ensures ok { OnOk result (map C.number self.new.units ≡ splice (map C.number self.old.units) from to (encode C.form (chars text.now))) }
@@ -446,8 +549,17 @@ impl<C: FaultUnit, A: Allocator> UString<C, A> {
         replace_str(&mut self.units, from, to, text)
     }
 
-    /// Takes the units from a place on away, and answers them as a string of their own, with a copy of the allocator. The
-    /// place must be at most the length. Memory is asked for once, and not at all at the end.
+    /// Splits the string in two at an offset in units. The string keeps the units before the offset. The units from the
+    /// offset on are returned as a new string, with a copy of the allocator. Allocates once, or not at all if the
+    /// offset is the length.
+    ///
+    /// # Requires
+    ///
+    /// The offset is at most the length.
+    ///
+    /// # Errors
+    ///
+    /// [`OutOfMemory`] if the allocation fails or the allocator cannot be copied; the string is unchanged.
     pub fn split_off(&mut self, at: usize) -> Result<Self, OutOfMemory>
     where
         A: Clone,
@@ -464,8 +576,8 @@ impl<C: FaultUnit, A: Allocator> UString<C, A> {
         Ok(rest)
     }
 
-    /// Takes the last character away, a whole pair, or a unit that belongs to none, and answers its number; none where the
-    /// string is empty.
+    /// Removes the last character, or the last unit if it belongs to no character, and returns its number. In UTF-16
+    /// the character may be a surrogate pair. Returns `None` if the string is empty.
     pub fn pop_char(&mut self) -> Option<u32>
         ensures none { IsNone result ↔ (self.old.units ≡ []) }
         ensures taken { IfSome result (TakesLast C.form (map C.number self.old.units) (map C.number self.new.units)) }
@@ -478,8 +590,12 @@ impl<C: FaultUnit, A: Allocator> UString<C, A> {
         Some(code_of(item))
     }
 
-    /// Takes the character at a place away, a whole pair that begins there, or a unit that belongs to none, and answers its
-    /// number. The place must be below the length.
+    /// Removes the character that begins at an offset in units, or the unit there if it begins no character, and
+    /// returns its number. In UTF-16 the character may be a surrogate pair.
+    ///
+    /// # Requires
+    ///
+    /// The offset is less than the length.
     pub fn remove_char(&mut self, at: usize) -> u32
         requires { at < ustring_len self.old }
         ensures front { take at self.new.units ≡ take at self.old.units }
@@ -495,7 +611,11 @@ impl<C: FaultUnit, A: Allocator> UString<C, A> {
         code_of(item)
     }
 
-    /// A copy of the units, with a copy of the allocator. Memory is asked for once, and not at all where there are none.
+    /// Returns a copy of the string, with a copy of the allocator. Allocates once, or not at all if there are no units.
+    ///
+    /// # Errors
+    ///
+    /// [`OutOfMemory`] if the allocation fails or the allocator cannot be copied.
     pub fn try_clone(&self) -> Result<Self, OutOfMemory>
     where
         A: Clone,
@@ -508,7 +628,11 @@ impl<C: FaultUnit, A: Allocator> UString<C, A> {
 }
 
 impl<A: Allocator> UString<u32, A> {
-    /// The characters as units of 32 bits, one for each.
+    /// Encodes characters as a new string of 32-bit units, one unit for each.
+    ///
+    /// # Errors
+    ///
+    /// [`OutOfMemory`] if the allocation fails. It never fails if there are no characters.
     pub fn from_chars(alloc: A, chars: &[char]) -> Result<Self, OutOfMemory>
         ensures units { IfOk result (λ s. s.units ≡ chars.now) }
         ensures succeeds { chars.now ≡ [] → IsOk result }

@@ -1,4 +1,4 @@
-//! The calls of a view that make a string.
+//! Calls of a view of units that make an owned string.
 ghost use Rattle.std.specs.Prelude.{◌≡◌, [], List, IsOk, IfOk};
 ghost use Rattle.std.specs.List.{repeat};
 
@@ -8,17 +8,27 @@ use wide_error::OutOfMemory;
 use wide_ustr::UStr;
 use wide_utferror::FaultUnit;
 
-/// What a view of units does with owned strings: calls of the view, in a trait since the view's crate knows no owned string.
+/// Calls of a view of units that make an owned string. They are in a trait because the view's crate does not know owned
+/// strings.
 pub trait UStrInUstring<C> {
-    // The units that are seen.
+    // The units of the view.
     ghost text: { Self → List C };
 
-    /// A string of the view's units. Memory is asked for once, and not at all where there are none.
+    /// Copies the view's units into a new string. Allocates once, or not at all if there are no units.
+    ///
+    /// # Errors
+    ///
+    /// [`OutOfMemory`] if the allocation fails. It never fails if there are no units.
     fn to_ustring<A: Allocator>(self, alloc: A) -> Result<UString<C, A>, OutOfMemory>
         ensures units { IfOk result (λ s. s.units ≡ text self) }
         ensures succeeds { text self ≡ [] → IsOk result };
 
-    /// A string of the view's units, so many times. A length past the greatest `usize` counts as want of memory.
+    /// Repeats the view's units `count` times in a new string.
+    ///
+    /// # Errors
+    ///
+    /// [`OutOfMemory`] if the allocation fails, or if the new length in units exceeds `usize::MAX`. It never fails if
+    /// `count` is 0 or there are no units.
     fn repeat<A: Allocator>(self, alloc: A, count: usize) -> Result<UString<C, A>, OutOfMemory>
         ensures units { IfOk result (λ s. s.units ≡ repeat count (text self)) }
         ensures succeeds { count ≡ 0 → IsOk result }
