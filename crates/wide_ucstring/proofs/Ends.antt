@@ -1,4 +1,4 @@
--- Units that are cut at their first NUL, or given one, and texts that are read back from before it.
+-- Units that are truncated after their first NUL, or get one, and texts that are read back from before the NUL.
 use Rattle.std.proofs.Common.{◌≡◌, ℕ, ◌+◌, ◌-◌, List, [], ◌∷◌, ◌++◌, take, length, map, inl, inr, sym, ap, subst, ◌∙◌, arith, Result, Ok, Err}
 use Rattle.std.specs.Prelude.{IfOk}
 use Rattle.std.specs.List.{take-map}
@@ -20,7 +20,7 @@ module _ {X : Type 0} (number : X → ℕ) (xs : List X) (place : ℕ) (first : 
   pub ended_at_first : EndsAtFirst (map number xs) (map number (take place xs) ++ 0 ∷ [])
   ended_at_first = inl (place, first, sym (take_more (map number xs) place 0 first.at.0 ∙ ap (λ u. take place (map number xs) ++ u ∷ []) first.at.1 ∙ ap (λ us. us ++ 0 ∷ []) (take-map number place xs)))
 
--- what holds of numbers that stand for themselves
+-- A relation between lists of numbers, after mapping each number to itself.
 pub of_numbers : (R : List ℕ → List ℕ → Type 0) (us made : List ℕ) → R (map (λ u. u) us) (map (λ u. u) made) → R us made
 of_numbers R us made h = subst (λ xs. R xs made) (map-id us) (subst (λ xs. R (map (λ u. u) us) xs) (map-id made) h)
 
@@ -28,7 +28,7 @@ pub ok_gives : {A E : Type 0} {P Q : A → Type 0} (r : Result A E) → ((x : A)
 ok_gives (Ok x) f p = f x p
 ok_gives (Err e) f p = tt
 
--- units without NUL are what stands before the NUL that they were given
+-- If units without a NUL got one, they are the contents.
 pub contents_as_given : {X : Type 0} (number : X → ℕ) (us : List ℕ) (xs : List X) → EndsAsGiven us (map number xs) → HasNoNul us → map number (contents xs) ≡ us
 contents_as_given number us xs (inl given) none = absurd (none (length us - 1) given.0.0 given.0)
 contents_as_given number us xs (inr ended) none =

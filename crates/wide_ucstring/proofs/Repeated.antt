@@ -1,4 +1,4 @@
--- Units without NUL several times over.
+-- Repeated units without a NUL have no NUL.
 use Rattle.std.proofs.Common.{ℕ, zero, suc, List, [], ◌∷◌, ◌++◌, map, sym, subst, arith}
 use Rattle.std.specs.List.{repeat}
 use Rattle.std.proofs.lemmas.List.{map-append}

@@ -1,16 +1,16 @@
--- The units of a C string that a constructor made of a list of units.
+-- The units of a C string that a constructor makes of a list of units.
 use Rattle.std.specs.Prelude.{◌≡◌, ℕ, ◌+◌, ◌-◌, List, [], ◌∷◌, ◌++◌, length, take, ◌⊎◌}
 use Rattle.wide_unit.specs.Nul.{NoNulBefore, HasNoNul, IsFirstNul}
 use Rattle.wide_ucstr.specs.CString.{EndsInNul}
 
--- no NUL stands before the last unit
+-- No unit before the last one is a NUL.
 abbrev pub HasNoInnerNul : List ℕ → Type 0
 HasNoInnerNul us = NoNulBefore us (length us - 1)
 
--- they are the units as given, where a NUL ends these, and else those and a NUL
+-- The C string has the given units if they end in a NUL, and otherwise these units and a NUL.
 abbrev pub EndsAsGiven : List ℕ → List ℕ → Type 0
 EndsAsGiven us made = (EndsInNul us × (made ≡ us)) ⊎ ((¬ (EndsInNul us)) × (made ≡ us ++ 0 ∷ []))
 
--- they are the units up to and with the first NUL, or all of them and a NUL where there is none
+-- The C string has the units up to and including the first NUL, or all of them and a NUL if there is none.
 abbrev pub EndsAtFirst : List ℕ → List ℕ → Type 0
 EndsAtFirst us made = ((place : ℕ) × IsFirstNul us place × (made ≡ take (place + 1) us)) ⊎ (HasNoNul us × (made ≡ us ++ 0 ∷ []))

@@ -1,4 +1,4 @@
-//! C strings in a block of their own size, which does not grow.
+//! C strings in an allocation of exactly their length, which does not grow.
 ghost use Rattle.std.specs.Prelude.{◌≡◌, ◌<◌, ◌≤◌, length, map, IsOk, IfOk, IfErr};
 ghost use Rattle.wide_unit.specs.Texts.{debug_output};
 ghost use Rattle.wide_ustring.specs.Units.{ustring_len};
@@ -12,19 +12,21 @@ use wide_ucstr::UCStr;
 use wide_ustring::BoxedUStr;
 use wide_utferror::FaultUnit;
 
-/// A C string in a block of its own size, which does not grow: what `Box<U16CStr>` and `Box<U32CStr>` are in the Rust crate.
-/// Of its units the last is the only NUL, by its type.
+/// A C string in an allocation of exactly its length, which does not grow. It corresponds to `Box<U16CStr>` and
+/// `Box<U32CStr>` in the Rust crate. Its type guarantees that the last unit is a NUL, and the only one.
 ///
-/// Two of them are compared through their views, by [`BoxedUCStr::as_ucstr`]. `{:?}` prints what that of this view does.
+/// Compare two of them through their views, by [`BoxedUCStr::as_ucstr`]. `{:?}` prints the units with the NUL between
+/// quotes, as [`char::escape_debug`] escapes them; a unit that belongs to no character is printed as `\<XXXX>`, in
+/// hexadecimal.
 #[derive(Drop)]
 pub struct BoxedUCStr<C: FaultUnit, A: Allocator = Global> {
     units: BoxedUStr<C, A>,
 }
 
-/// A C string of 16-bit units in a block of its own size.
+/// A C string of 16-bit units in an allocation of exactly its length.
 pub type BoxedU16CStr<A = Global> = BoxedUCStr<u16, A>;
 
-/// A C string of 32-bit units in a block of its own size.
+/// A C string of 32-bit units in an allocation of exactly its length.
 pub type BoxedU32CStr<A = Global> = BoxedUCStr<u32, A>;
 
 impl<C: FaultUnit, A: Allocator> Model for BoxedUCStr<C, A> {
@@ -42,14 +44,14 @@ impl<C: FaultUnit, A: Allocator> Model for BoxedUCStr<C, A> {
 }
 
 impl<C: FaultUnit, A: Allocator> BoxedUCStr<C, A> {
-    /// A view of the C string. It takes no memory.
+    /// Returns a view of the C string, without allocating.
     pub fn as_ucstr(&self) -> UCStr<'_, C>
         ensures { units_with_nul result ≡ self.now }
     {
         UCStr::from_slice_unchecked(self.units.as_ustr().as_slice())
     }
 
-    /// The C string as an owned one, in the block that it stands in: one with no room beyond the NUL. It takes no memory.
+    /// Returns the C string in the same allocation, whose capacity is its length with the NUL. It does not allocate.
     pub fn into_ucstring(self) -> UCString<C, A>
         ensures units { result.units ≡ self }
         ensures capacity { result.capacity ≡ length self }
@@ -62,13 +64,13 @@ impl<C: FaultUnit, A: Allocator> BoxedUCStr<C, A> {
 }
 
 impl<C: FaultUnit, A: Allocator> UCString<C, A> {
-    /// The C string, with its NUL, in a block of its own size. The string's block is shrunk; where it has no spare room no
-    /// memory is asked for.
+    /// Returns the C string, with its NUL, in an allocation of exactly its length. It shrinks the string's allocation;
+    /// it does not ask for memory if the string has no spare capacity.
     ///
     /// # Errors
     ///
-    /// The smaller block was refused. The string is handed back with its units and its block, which has spare room still,
-    /// as by [`wide_ustring::UString::into_boxed_ustr`].
+    /// The C string, with its units, if the allocation could not be shrunk to the length. It still has spare capacity,
+    /// and no more capacity than before.
     pub fn into_boxed_ucstr(self) -> Result<BoxedUCStr<C, A>, Self>
         ensures units { IfOk result (λ boxed. boxed ≡ self.units) }
         ensures refused { IfErr result (λ s. s.units ≡ self.units) }

@@ -1,4 +1,5 @@
-//! Equality, order and hash of owned C strings: those of their units with the NUL, which are those of the contents.
+//! Equality, order and hash of owned C strings, by their units with the NUL. Equality and order are the same as those
+//! of the contents.
 ghost use Rattle.std.specs.Cmp.{on_equiv, on_per, on_po, on_total};
 ghost use Rattle.std.specs.Cmp.Lexicographic.{pointwise, slice_cmp, slice_partial_cmp, lists_equiv, lists_per, lists_po, lists_total, lists_agrees, lists_ties};
 ghost use Rattle.std.specs.Hash as fed;
@@ -15,7 +16,7 @@ impl<C: FaultUnit + PartialEq, A: Allocator> PartialEq for UCString<C, A> {
 
     ghost laws = { on_per (λ x. x.units) (lists_per C.laws) };
 
-    /// Whether both have the same units.
+    /// Returns whether both have the same units.
     fn eq(&self, other: &Self) -> bool {
         self.string == other.string
     }
@@ -30,7 +31,7 @@ impl<C: FaultUnit + PartialOrd, A: Allocator> PartialOrd for UCString<C, A> {
 
     ghost laws = { on_po (λ x. x.units) (lists_po C.PartialOrd.laws) };
 
-    /// The lexicographic order of the units.
+    /// Compares the units lexicographically.
     fn partial_cmp(&self, other: &Self) -> Option<Ordering> {
         self.string.partial_cmp(&other.string)
     }
@@ -45,7 +46,7 @@ impl<C: FaultUnit + Ord, A: Allocator> Ord for UCString<C, A> {
 
     ghost matches_eq = { λ x y. lists_ties C.cmp C.matches_eq x.units y.units };
 
-    /// The lexicographic order of the units.
+    /// Compares the units lexicographically.
     fn cmp(&self, other: &Self) -> Ordering {
         self.string.cmp(&other.string)
     }
@@ -56,7 +57,7 @@ impl<C: FaultUnit + Hash, A: Allocator> Hash for UCString<C, A> {
 
     ghost respects_eq = { (on_Alike (λ s. s.units) (items_Alike (record { fed = C.respects_eq }))).fed };
 
-    /// Hashes as the slice of the units does.
+    /// Hashes the units, with the NUL, as a slice.
     fn hash<H: Hasher>(&self, state: &mut H) {
         self.string.hash(state);
     }

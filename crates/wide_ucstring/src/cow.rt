@@ -1,4 +1,4 @@
-//! C strings that are borrowed where they can be, and owned where they had to be made.
+//! C strings that are borrowed or owned.
 ghost use Rattle.std.specs.Prelude.{◌≡◌, map, Ok, IfOk};
 ghost use Rattle.wide_unit.specs.Texts.{debug_output};
 ghost use Rattle.wide_ucstr.specs.View.{units_with_nul};
@@ -12,25 +12,28 @@ use wide_ucstr::UCStr;
 use wide_ustring::UStrInUstring;
 use wide_utferror::FaultUnit;
 
-/// A C string that is borrowed, or owned: what `Cow<'_, U16CStr>` and `Cow<'_, U32CStr>` are in the Rust crate.
+/// A C string that is borrowed, or owned if it had to be made. It corresponds to `Cow<'_, U16CStr>` and `Cow<'_,
+/// U32CStr>` in the Rust crate.
 ///
-/// Two of them are compared through their views, by [`CowUCStr::as_ucstr`]. `{:?}` prints what that of this view does.
+/// Compare two of them through their views, by [`CowUCStr::as_ucstr`]. `{:?}` prints the units with the NUL between
+/// quotes, as [`char::escape_debug`] escapes them; a unit that belongs to no character is printed as `\<XXXX>`, in
+/// hexadecimal.
 #[derive(Drop)]
 pub enum CowUCStr<'a, C: FaultUnit, A: Allocator = Global> {
-    /// A view of units that stand elsewhere.
+    /// A view of units that something else owns.
     Borrowed(UCStr<'a, C>),
-    /// A C string of its own.
+    /// A C string that this value owns.
     Owned(UCString<C, A>),
 }
 
-/// A C string of 16-bit units that is borrowed, or owned.
+/// A C string of 16-bit units that is borrowed or owned.
 pub type CowU16CStr<'a, A = Global> = CowUCStr<'a, u16, A>;
 
-/// A C string of 32-bit units that is borrowed, or owned.
+/// A C string of 32-bit units that is borrowed or owned.
 pub type CowU32CStr<'a, A = Global> = CowUCStr<'a, u32, A>;
 
 impl<'a, C: FaultUnit, A: Allocator> CowUCStr<'a, C, A> {
-    /// A view of the C string. It takes no memory.
+    /// Returns a view of the C string, without allocating.
     pub fn as_ucstr(&self) -> UCStr<'_, C>
         ensures { units_with_nul result ≡ cow_units_with_nul self.now }
     {
@@ -40,12 +43,12 @@ impl<'a, C: FaultUnit, A: Allocator> CowUCStr<'a, C, A> {
         }
     }
 
-    /// The C string as an owned one. Where it is borrowed, memory is asked for once, for a copy of its units and the NUL; an
-    /// owned one is answered itself, with its room, and takes no memory.
+    /// Returns the C string as an owned one. An owned C string is returned as it is, with its capacity, without
+    /// allocating. A borrowed one is copied with its NUL, which allocates once.
     ///
     /// # Errors
     ///
-    /// The C string is borrowed, and there was no memory for the copy.
+    /// [`OutOfMemory`] if the allocation for the copy fails.
     pub fn into_owned(self, alloc: A) -> Result<UCString<C, A>, OutOfMemory>
         ensures units { IfOk result (λ s. s.units ≡ cow_units_with_nul self.entry) }
         ensures owned { IfOwned self.entry (λ s. result ≡ Ok s) }

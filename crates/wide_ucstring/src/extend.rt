@@ -1,7 +1,7 @@
-//! Strings of units made of C strings, or extended by them, without their NULs.
+//! Strings of units that are collected from C strings, or extended by them, without their NULs.
 //!
-//! The items go in by order, each whole or not at all. Where one finds no memory, the string holds those before it; that item
-//! and the rest of the iterator are dropped. Memory is asked for item by item.
+//! The items are appended in order, each as a whole or not at all. If the allocation for an item fails, the string
+//! holds the items before it; that item and the rest of the iterator are dropped. Memory is reserved item by item.
 ghost use Rattle.std.specs.Prelude.{◌≤◌, map};
 ghost use Rattle.std.specs.Iterator.{IsFiniteIterable};
 ghost use Rattle.wide_ustring.specs.Extended.{Adds, Collects};
@@ -16,7 +16,7 @@ use wide_ustring::UString;
 use wide_ustring::extend::{Growing, Piece, extend, from_iter};
 use wide_utferror::FaultUnit;
 
-/// The marker of C strings as items: they give a string their contents, without their NULs.
+/// The marker for the impls of `Piece` for C strings, which append their contents, without their NULs, to a string.
 pub struct OfCStrings;
 
 impl<C: FaultUnit, A: Allocator> Piece<UString<C, A>, OfCStrings> for UCStr<'_, C> {
@@ -35,9 +35,18 @@ impl<C: FaultUnit, A: Allocator, B: Allocator> Piece<UString<C, A>, OfCStrings> 
     }
 }
 
-/// What a string of units does with C strings: calls of the string, in a trait since its crate knows no C string.
+/// Calls of a string of units that take owned C strings. They are in a trait because the string's crate does not know C
+/// strings.
 pub trait UStringInUcstring<C: FaultUnit, A: Allocator>: Growing + Sized {
-    /// The C strings' contents at the end. On want of memory those of the items before the refused one are there.
+    /// Appends the contents of the C strings, without their NULs.
+    ///
+    /// # Requires
+    ///
+    /// The iterator can be advanced, and it ends.
+    ///
+    /// # Errors
+    ///
+    /// [`OutOfMemory`] if the allocation for an item fails. The string then holds the items before it.
     fn extend_ucstrings<B: Allocator, U: IntoIterator<Item = UCString<C, B>>>(
         &mut self,
         items: U,
@@ -46,7 +55,15 @@ pub trait UStringInUcstring<C: FaultUnit, A: Allocator>: Growing + Sized {
         ensures added { Adds result U.into_iter_gives U.IntoIter.next_gives (λ s. map C.number (contents s.units)) items Self.seen self.old self.new }
         ensures capacity { (Self.seen self.old).capacity ≤ (Self.seen self.new).capacity };
 
-    /// A string of the C strings' contents. The error is the string of the items before the one that found no memory.
+    /// Concatenates the contents of the C strings, without their NULs, into a new string.
+    ///
+    /// # Requires
+    ///
+    /// The iterator can be advanced, and it ends.
+    ///
+    /// # Errors
+    ///
+    /// The allocation for an item failed. The error is the string of the items before it.
     fn from_iter_ucstrings<B: Allocator, U: IntoIterator<Item = UCString<C, B>>>(
         alloc: A,
         items: U,
@@ -71,7 +88,9 @@ impl<C: FaultUnit, A: Allocator> UStringInUcstring<C, A> for UString<C, A> {
     }
 }
 
-/// As [`UStringInUcstring`], the calls that take views: a trait of its own, over the type of the source of the views.
+/// Calls of a string of units that take views of C strings. They are in a trait because the string's crate does not
+/// know C strings. It is separate from [`UStringInUcstring`], and has the type of the iterator that yields the views as
+/// a parameter.
 pub trait UStringOverUcstrs<
     'a,
     C: FaultUnit + 'a,
@@ -79,13 +98,29 @@ pub trait UStringOverUcstrs<
     U: IntoIterator<Item = UCStr<'a, C>>,
 >: Growing
     + Sized {
-    /// The views' contents at the end. On want of memory those of the items before the refused one are there.
+    /// Appends the contents of the C strings that are viewed, without their NULs.
+    ///
+    /// # Requires
+    ///
+    /// The iterator can be advanced, and it ends.
+    ///
+    /// # Errors
+    ///
+    /// [`OutOfMemory`] if the allocation for an item fails. The string then holds the items before it.
     fn extend_ucstrs(&mut self, items: U) -> Result<(), OutOfMemory>
         requires { IsFiniteIterable U.into_iter_gives U.IntoIter.can_next U.IntoIter.remaining items }
         ensures added { Adds result U.into_iter_gives U.IntoIter.next_gives (λ s. map C.number (contents_seen s)) items Self.seen self.old self.new }
         ensures capacity { (Self.seen self.old).capacity ≤ (Self.seen self.new).capacity };
 
-    /// A string of the views' contents. The error is the string of the items before the one that found no memory.
+    /// Concatenates the contents of the C strings that are viewed, without their NULs, into a new string.
+    ///
+    /// # Requires
+    ///
+    /// The iterator can be advanced, and it ends.
+    ///
+    /// # Errors
+    ///
+    /// The allocation for an item failed. The error is the string of the items before it.
     fn from_iter_ucstrs(alloc: A, items: U) -> Result<Self, Self>
         requires { IsFiniteIterable U.into_iter_gives U.IntoIter.can_next U.IntoIter.remaining items }
         ensures { Collects result U.into_iter_gives U.IntoIter.next_gives (λ s. map C.number (contents_seen s)) items Self.seen };

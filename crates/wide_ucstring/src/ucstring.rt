@@ -21,12 +21,14 @@ use wide_ustr::UStr;
 use wide_ustring::UString;
 use wide_utferror::FaultUnit;
 
-/// An owned wide C string: units of which the last is the only NUL, by its type.
+/// An owned wide C string. Its type guarantees that the last unit is a NUL, and the only one.
 ///
-/// The units before the NUL are its contents. A constructor that answers an error hands back the vector that it was given,
-/// or the copy that it made, where a NUL stands in the way; where memory was refused, only a vector that it was given.
+/// The units before the NUL are its contents. If a constructor fails because of a NUL, its error holds the vector that
+/// was passed, or the copy that was made. If it fails because an allocation failed, its error holds the vector that was
+/// passed, if any.
 ///
-/// `{:?}` prints what that of [`UCString::as_ucstr`] does: the NUL comes last, as `\0`.
+/// `{:?}` prints the units with the NUL between quotes, as [`char::escape_debug`] escapes them, so the NUL is printed
+/// last, as `\0`. A unit that belongs to no character is printed as `\<XXXX>`, in hexadecimal.
 #[derive(Drop)]
 pub struct UCString<C: FaultUnit, A: Allocator = Global> {
     pub(crate) string: UString<C, A>,
@@ -55,7 +57,7 @@ impl<C: FaultUnit, A: Allocator> Model for UCString<C, A> {
     ghost invariant = { λ s. IsCString (map C.number s.string.units) };
 }
 
-// The units and a NUL behind them. Room is asked for that NUL alone.
+// Appends a NUL to units that have none. It reserves capacity for that NUL only.
 pub(crate) fn end<C: FaultUnit, A: Allocator>(
     units: Vec<C, A>,
 ) -> Result<UCString<C, A>, UCStringError<C, A>>
@@ -77,7 +79,7 @@ pub(crate) fn end<C: FaultUnit, A: Allocator>(
     }
 }
 
-// An empty string with room for so many units and a NUL.
+// Creates an empty string with capacity for `len` units and a NUL.
 pub(crate) fn with_room<C: FaultUnit, A: Allocator>(
     alloc: A,
     len: usize,
@@ -91,7 +93,7 @@ pub(crate) fn with_room<C: FaultUnit, A: Allocator>(
     UString::with_capacity(alloc, room)
 }
 
-// A copy of the units, with room for a NUL.
+// Returns a copy of the units, with capacity for a NUL.
 fn copy_of_ustr<C: FaultUnit, A: Allocator>(
     alloc: A,
     text: UStr<'_, C>,
@@ -104,7 +106,7 @@ fn copy_of_ustr<C: FaultUnit, A: Allocator>(
     Ok(string.into_vec())
 }
 
-// The units of a text, with room for a NUL.
+// Returns the units of a text, with capacity for a NUL.
 fn copy_of_str<C: FaultUnit, A: Allocator>(alloc: A, text: &str) -> Result<Vec<C, A>, OutOfMemory>
     ensures units { IfOk result (λ v. map C.number v.items ≡ encode C.form (chars text.now)) }
     ensures room { IfOk result (λ v. length v.items + 1 ≤ vec_capacity v) }
@@ -114,7 +116,7 @@ fn copy_of_str<C: FaultUnit, A: Allocator>(alloc: A, text: &str) -> Result<Vec<C
     Ok(string.into_vec())
 }
 
-// The characters as units of 32 bits, with room for a NUL.
+// Returns the characters as 32-bit units, with capacity for a NUL.
 fn copy_of_chars<A: Allocator>(alloc: A, chars: &[char]) -> Result<Vec<u32, A>, OutOfMemory>
     ensures units { IfOk result (λ v. v.items ≡ chars.now) }
     ensures room { IfOk result (λ v. length v.items + 1 ≤ vec_capacity v) }
@@ -130,13 +132,13 @@ impl<C: FaultUnit, A: Allocator> UCString<C, A> {
     /// The unit that ends a C string.
     pub const NUL_TERMINATOR: C = C::NUL;
 
-    /// The C string of a vector's units. A NUL at their end is taken as the terminator, and then no memory is; else one is
-    /// added.
+    /// Makes a C string of a vector's units. A NUL at their end is taken as the terminator, and nothing is allocated.
+    /// Otherwise a NUL is appended.
     ///
     /// # Errors
     ///
-    /// The place of the first NUL, in units, where it is not the last unit; or that a NUL was to be added for which there was
-    /// no room. Both hand the vector back as it was.
+    /// The offset of the first NUL, in units, if it is not the last unit; or out of memory, if the vector has no NUL
+    /// and no spare capacity, and the allocation fails. Both errors hold the vector, with its units and its capacity.
     pub fn from_vec(units: Vec<C, A>) -> Result<Self, UCStringError<C, A>>
         ensures made { IfOk result (λ s. EndsAsGiven (map C.number units.items) (map C.number s.units)) }
         ensures ok { IfOk result (λ s. HasNoInnerNul (map C.number units.items)) }
@@ -152,7 +154,17 @@ impl<C: FaultUnit, A: Allocator> UCString<C, A> {
         }
     }
 
-    /// As [`UCString::from_vec`], of units with no NUL before the last of them; no check is made but of the last.
+    /// Makes a C string of a vector's units, checking only the last one. A NUL there is taken as the terminator.
+    /// Otherwise a NUL is appended.
+    ///
+    /// # Requires
+    ///
+    /// No unit before the last one is a NUL.
+    ///
+    /// # Errors
+    ///
+    /// Out of memory, if a NUL must be appended, the vector has no spare capacity, and the allocation fails. The error
+    /// holds the vector, with its units and its capacity.
     pub fn from_vec_unchecked(units: Vec<C, A>) -> Result<Self, UCStringError<C, A>>
         requires { HasNoInnerNul (map C.number units.items) }
         ensures made { IfOk result (λ s. EndsAsGiven (map C.number units.items) (map C.number s.units)) }
@@ -167,12 +179,13 @@ impl<C: FaultUnit, A: Allocator> UCString<C, A> {
         }
     }
 
-    /// The C string of a vector's units up to and with the first NUL, which takes no memory, or of all of them and a NUL
-    /// that is added.
+    /// Makes a C string of a vector's units up to and including the first NUL, without allocating. If there is none,
+    /// takes all units and appends a NUL.
     ///
     /// # Errors
     ///
-    /// There was no room for the NUL. The vector is handed back as it was.
+    /// Out of memory, if the vector has no NUL and no spare capacity, and the allocation fails. The error holds the
+    /// vector, with its units and its capacity.
     pub fn from_vec_truncate(units: Vec<C, A>) -> Result<Self, UCStringError<C, A>>
         ensures made { IfOk result (λ s. EndsAtFirst (map C.number units.items) (map C.number s.units)) }
         ensures room { IfOk result (λ s. s.capacity ≡ max (vec_capacity units) (length s.units)) }
@@ -188,7 +201,11 @@ impl<C: FaultUnit, A: Allocator> UCString<C, A> {
         })
     }
 
-    /// The empty C string.
+    /// Creates an empty C string, which has only its NUL.
+    ///
+    /// # Errors
+    ///
+    /// Out of memory, if the allocation fails. The error holds no vector.
     pub fn new(alloc: A) -> Result<Self, UCStringError<C, A>>
         ensures made { IfOk result (λ s. map C.number s.units ≡ 0 ∷ []) }
         ensures refused { IfErr result IsWantOfMemory }
@@ -196,12 +213,13 @@ impl<C: FaultUnit, A: Allocator> UCString<C, A> {
         end(with_room(alloc, 0)?.into_vec())
     }
 
-    /// The C string of a copy of the view's units. A NUL at their end is taken as the terminator; else one is added.
+    /// Makes a C string of a copy of a view's units. A NUL at their end is taken as the terminator. Otherwise a NUL is
+    /// appended.
     ///
     /// # Errors
     ///
-    /// There was no memory for the copy; or the place of the first NUL, in units, where it is not the last unit, with the
-    /// copy.
+    /// Out of memory, without a vector, if the allocation for the copy fails; or the offset of the first NUL, in units,
+    /// if it is not the last unit, with the copy.
     pub fn from_ustr(alloc: A, text: UStr<'_, C>) -> Result<Self, UCStringError<C, A>>
         ensures made { IfOk result (λ s. EndsAsGiven (map C.number (units_seen text.entry)) (map C.number s.units)) }
         ensures ok { IfOk result (λ s. HasNoInnerNul (map C.number (units_seen text.entry))) }
@@ -210,7 +228,16 @@ impl<C: FaultUnit, A: Allocator> UCString<C, A> {
         UCString::from_vec(copy_of_ustr(alloc, text)?)
     }
 
-    /// As [`UCString::from_ustr`], of units with no NUL before the last of them; no check is made but of the last.
+    /// Makes a C string of a copy of a view's units, checking only the last one. A NUL there is taken as the
+    /// terminator. Otherwise a NUL is appended.
+    ///
+    /// # Requires
+    ///
+    /// No unit before the last one is a NUL.
+    ///
+    /// # Errors
+    ///
+    /// Out of memory, if the allocation for the copy fails. The error holds no vector.
     pub fn from_ustr_unchecked(alloc: A, text: UStr<'_, C>) -> Result<Self, UCStringError<C, A>>
         requires { HasNoInnerNul (map C.number (units_seen text)) }
         ensures made { IfOk result (λ s. EndsAsGiven (map C.number (units_seen text.entry)) (map C.number s.units)) }
@@ -219,8 +246,12 @@ impl<C: FaultUnit, A: Allocator> UCString<C, A> {
         UCString::from_vec_unchecked(copy_of_ustr(alloc, text)?)
     }
 
-    /// The C string of a copy of the view's units up to and with the first NUL, or of all of them and a NUL that is added.
-    /// It fails where there is no memory for that.
+    /// Makes a C string of a copy of a view's units up to the first NUL, or of all of them if there is none, and
+    /// appends a NUL.
+    ///
+    /// # Errors
+    ///
+    /// Out of memory, if the allocation for the copy fails. The error holds no vector.
     pub fn from_ustr_truncate(alloc: A, text: UStr<'_, C>) -> Result<Self, UCStringError<C, A>>
         ensures made { IfOk result (λ s. EndsAtFirst (map C.number (units_seen text.entry)) (map C.number s.units)) }
         ensures refused { IfErr result IsWantOfMemory }
@@ -231,12 +262,13 @@ impl<C: FaultUnit, A: Allocator> UCString<C, A> {
         }
     }
 
-    /// The C string of the text's units. A NUL at their end is taken as the terminator; else one is added.
+    /// Makes a C string of the units of a text. A NUL at their end is taken as the terminator. Otherwise a NUL is
+    /// appended.
     ///
     /// # Errors
     ///
-    /// There was no memory for the units; or the place of the first NUL, in units, where it is not the last unit, with the
-    /// vector of them.
+    /// Out of memory, without a vector, if the allocation for the units fails; or the offset of the first NUL, in
+    /// units, if it is not the last unit, with the vector of the units.
     pub fn from_str(alloc: A, text: &str) -> Result<Self, UCStringError<C, A>>
         ensures made { IfOk result (λ s. EndsAsGiven (encode C.form (chars text.now)) (map C.number s.units)) }
         ensures read_back { IfOk result (λ s. HasNoNul (encode C.form (chars text.now)) → utf8 (text_chars C.form (map C.number (contents s.units))) ≡ text.now) }
@@ -246,7 +278,16 @@ impl<C: FaultUnit, A: Allocator> UCString<C, A> {
         UCString::from_vec(copy_of_str(alloc, text)?)
     }
 
-    /// As [`UCString::from_str`], of a text whose units have no NUL before the last; no check is made but of the last.
+    /// Makes a C string of the units of a text, checking only the last one. A NUL there is taken as the terminator.
+    /// Otherwise a NUL is appended.
+    ///
+    /// # Requires
+    ///
+    /// No unit of the text before the last one is a NUL.
+    ///
+    /// # Errors
+    ///
+    /// Out of memory, if the allocation for the units fails. The error holds no vector.
     pub fn from_str_unchecked(alloc: A, text: &str) -> Result<Self, UCStringError<C, A>>
         requires { HasNoInnerNul (encode C.form (chars text.now)) }
         ensures made { IfOk result (λ s. EndsAsGiven (encode C.form (chars text.now)) (map C.number s.units)) }
@@ -255,8 +296,12 @@ impl<C: FaultUnit, A: Allocator> UCString<C, A> {
         UCString::from_vec_unchecked(copy_of_str(alloc, text)?)
     }
 
-    /// The C string of the text's units up to and with the first NUL, or of all of them and a NUL that is added. All of the text
-    /// is copied before it is cut, and the room for it stays; it fails where there is no memory for that.
+    /// Makes a C string of the units of a text up to and including the first NUL. If there is none, takes all units and
+    /// appends a NUL. It encodes the whole text before it truncates, and the capacity for it is retained.
+    ///
+    /// # Errors
+    ///
+    /// Out of memory, if the allocation for the whole text fails. The error holds no vector.
     pub fn from_str_truncate(alloc: A, text: &str) -> Result<Self, UCStringError<C, A>>
         ensures made { IfOk result (λ s. EndsAtFirst (encode C.form (chars text.now)) (map C.number s.units)) }
         ensures refused { IfErr result IsWantOfMemory }
@@ -264,13 +309,13 @@ impl<C: FaultUnit, A: Allocator> UCString<C, A> {
         UCString::from_vec_truncate(copy_of_str(alloc, text)?)
     }
 
-    /// The C string of the text's units and a NUL. In the Rust crate a literal is read so when a program is compiled; here it
-    /// is at run time.
+    /// Makes a C string of the units of a text, which may contain no NUL, and appends a NUL. The Rust crate has a macro
+    /// for this, which converts a literal when the program is compiled. This function converts it at run time.
     ///
     /// # Errors
     ///
-    /// There was no memory for the units; or the place of the first NUL, in units, where there is any, also at the end, with
-    /// the vector of them.
+    /// Out of memory, without a vector, if the allocation for the units fails; or the offset of the first NUL, in
+    /// units, if there is any, even at the end, with the vector of the units.
     pub fn from_str_literal(alloc: A, text: &str) -> Result<Self, UCStringError<C, A>>
         ensures made { IfOk result (λ s. map C.number s.units ≡ encode C.form (chars text.now) ++ 0 ∷ []) }
         ensures read_back { IfOk result (λ s. utf8 (text_chars C.form (map C.number (contents s.units))) ≡ text.now) }
@@ -284,14 +329,14 @@ impl<C: FaultUnit, A: Allocator> UCString<C, A> {
         }
     }
 
-    /// A view of the C string.
+    /// Returns a view of the C string.
     pub fn as_ucstr(&self) -> UCStr<'_, C>
         ensures { units_with_nul result ≡ self.now.units }
     {
         UCStr::from_slice_unchecked(self.string.as_slice())
     }
 
-    /// The vector of the contents, without the NUL. It takes no memory.
+    /// Returns the vector of the contents, without the NUL. It does not allocate.
     pub fn into_vec(self) -> Vec<C, A>
         ensures units { result.items ≡ contents self.units }
         ensures no_nul { HasNoNul (map C.number result.items) }
@@ -303,7 +348,7 @@ impl<C: FaultUnit, A: Allocator> UCString<C, A> {
         units
     }
 
-    /// The vector of the contents and the NUL. It takes no memory.
+    /// Returns the vector of the contents and the NUL, without allocating.
     pub fn into_vec_with_nul(self) -> Vec<C, A>
         ensures units { result.items ≡ self.units }
         ensures c_string { IsCString (map C.number result.items) }
@@ -313,7 +358,7 @@ impl<C: FaultUnit, A: Allocator> UCString<C, A> {
         string.into_vec()
     }
 
-    /// The string of the contents, without the NUL. It takes no memory.
+    /// Returns the contents, without the NUL, as a string of units. It does not allocate.
     pub fn into_ustring(self) -> UString<C, A>
         ensures units { result.units ≡ contents self.units }
         ensures no_nul { HasNoNul (map C.number result.units) }
@@ -322,7 +367,7 @@ impl<C: FaultUnit, A: Allocator> UCString<C, A> {
         UString::from_vec(self.into_vec())
     }
 
-    /// The string of the contents and the NUL. It takes no memory.
+    /// Returns the contents and the NUL as a string of units, without allocating.
     pub fn into_ustring_with_nul(self) -> UString<C, A>
         ensures units { result.units ≡ self.units }
         ensures c_string { IsCString (map C.number result.units) }
@@ -332,7 +377,11 @@ impl<C: FaultUnit, A: Allocator> UCString<C, A> {
         string
     }
 
-    /// A copy, with a copy of the allocator.
+    /// Returns a copy of the C string, with a copy of the allocator.
+    ///
+    /// # Errors
+    ///
+    /// [`OutOfMemory`] if the allocation fails or the allocator cannot be copied.
     pub fn try_clone(&self) -> Result<Self, OutOfMemory>
     where
         A: Clone,
@@ -345,12 +394,13 @@ impl<C: FaultUnit, A: Allocator> UCString<C, A> {
 }
 
 impl<A: Allocator> UCString<u32, A> {
-    /// The C string of the characters as units of 32 bits. A NUL at their end is taken as the terminator; else one is added.
+    /// Makes a C string of characters as 32-bit units. A NUL at their end is taken as the terminator. Otherwise a NUL
+    /// is appended.
     ///
     /// # Errors
     ///
-    /// There was no memory for the units; or the place of the first NUL where it is not the last character, with the vector
-    /// of the units.
+    /// Out of memory, without a vector, if the allocation for the units fails; or the offset of the first NUL, in
+    /// units, if it is not the last character, with the vector of the units.
     pub fn from_chars(alloc: A, chars: &[char]) -> Result<Self, UCStringError<u32, A>>
         ensures made { IfOk result (λ s. EndsAsGiven chars.now s.units) }
         ensures ok { IfOk result (λ s. HasNoInnerNul chars.now) }
@@ -359,7 +409,16 @@ impl<A: Allocator> UCString<u32, A> {
         UCString::from_vec(copy_of_chars(alloc, chars)?)
     }
 
-    /// As [`UCString::from_chars`], of characters with no NUL before the last; no check is made but of the last.
+    /// Makes a C string of characters as 32-bit units, checking only the last one. A NUL there is taken as the
+    /// terminator. Otherwise a NUL is appended.
+    ///
+    /// # Requires
+    ///
+    /// No character before the last one is a NUL.
+    ///
+    /// # Errors
+    ///
+    /// Out of memory, if the allocation for the units fails. The error holds no vector.
     pub fn from_chars_unchecked(alloc: A, chars: &[char]) -> Result<Self, UCStringError<u32, A>>
         requires { HasNoInnerNul chars.now }
         ensures made { IfOk result (λ s. EndsAsGiven chars.now s.units) }
@@ -368,8 +427,13 @@ impl<A: Allocator> UCString<u32, A> {
         UCString::from_vec_unchecked(copy_of_chars(alloc, chars)?)
     }
 
-    /// The C string of the characters up to and with the first NUL, or of all of them and a NUL that is added. All characters
-    /// are copied before they are cut, and the room for them stays; it fails where there is no memory for that.
+    /// Makes a C string of characters as 32-bit units, up to and including the first NUL. If there is none, takes all
+    /// characters and appends a NUL. It copies all characters before it truncates, and the capacity for them is
+    /// retained.
+    ///
+    /// # Errors
+    ///
+    /// Out of memory, if the allocation for all characters fails. The error holds no vector.
     pub fn from_chars_truncate(alloc: A, chars: &[char]) -> Result<Self, UCStringError<u32, A>>
         ensures made { IfOk result (λ s. EndsAtFirst chars.now s.units) }
         ensures refused { IfErr result IsWantOfMemory }

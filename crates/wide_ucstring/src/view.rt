@@ -1,4 +1,4 @@
-//! The calls of a view of a C string that make a string.
+//! Calls of a view of a C string that make an owned string.
 ghost use Rattle.std.specs.Prelude.{◌≡◌, [], List, IsOk, IfOk};
 ghost use Rattle.std.specs.List.{repeat};
 ghost use Rattle.wide_ustr.specs.View.{units_seen};
@@ -14,27 +14,40 @@ use wide_ustr::UStr;
 use wide_ustring::{UStrInUstring, UString};
 use wide_utferror::FaultUnit;
 
-/// What a view of a C string does with owned strings: calls of the view, in a trait since the view's crate knows no owned
-/// string.
+/// Calls of a view of a C string that make an owned string. They are in a trait because the view's crate does not know
+/// owned strings.
 pub trait UCStrInUcstring<C: FaultUnit> {
     // The units before the NUL.
     ghost text: { Self → List C };
 
-    /// A C string of the view's contents.
+    /// Copies the C string into a new owned C string.
+    ///
+    /// # Errors
+    ///
+    /// [`OutOfMemory`] if the allocation fails.
     fn to_ucstring<A: Allocator>(self, alloc: A) -> Result<UCString<C, A>, OutOfMemory>
         ensures { IfOk result (λ s. contents s.units ≡ text self) };
 
-    /// A string of the view's contents, without the NUL. Memory is asked for once, and not at all where there are none.
+    /// Copies the contents, without the NUL, into a new string of units. Allocates once, or not at all if there are no
+    /// contents.
+    ///
+    /// # Errors
+    ///
+    /// [`OutOfMemory`] if the allocation fails. It never fails if there are no contents.
     fn to_ustring<A: Allocator>(self, alloc: A) -> Result<UString<C, A>, OutOfMemory>
         ensures units { IfOk result (λ s. s.units ≡ text self) }
         ensures succeeds { text self ≡ [] → IsOk result };
 
-    /// A C string of the view's contents, so many times. A length past the greatest `usize` counts as want of memory.
+    /// Repeats the contents `count` times in a new C string.
+    ///
+    /// # Errors
+    ///
+    /// [`OutOfMemory`] if the allocation fails, or if the length in units exceeds `usize::MAX`.
     fn repeat<A: Allocator>(self, alloc: A, count: usize) -> Result<UCString<C, A>, OutOfMemory>
         ensures { IfOk result (λ s. contents s.units ≡ repeat count (text self)) };
 }
 
-// The units so many times, with room for a NUL.
+// Returns the units repeated `count` times, with capacity for a NUL.
 #[tactic(auto, using(wide_ustring::proofs::Repeats::repeat_more, wide_ustring::proofs::Repeats::repeat_empty))]
 fn repeated<C: FaultUnit, A: Allocator>(
     alloc: A,
