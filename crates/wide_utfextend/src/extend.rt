@@ -1,7 +1,7 @@
-//! Strings of units made of views and strings of well-formed text, or extended by them.
+//! Strings of units that are collected from views and strings of well-formed text, or extended by them.
 //!
-//! The items go in by order, each whole or not at all. Where one finds no memory, the string holds those before it; that item
-//! and the rest of the iterator are dropped. Memory is asked for item by item.
+//! The items are appended in order, each as a whole or not at all. If the allocation for an item fails, the string
+//! holds the items before it; that item and the rest of the iterator are dropped. Memory is reserved item by item.
 ghost use Rattle.std.specs.Prelude.{◌≤◌, map};
 ghost use Rattle.std.specs.Iterator.{IsFiniteIterable};
 ghost use Rattle.wide_ustring.specs.Extended.{Adds, Collects};
@@ -15,7 +15,7 @@ use wide_utferror::FaultUnit;
 use wide_utfstr::UtfStr;
 use wide_utfstring::UtfString;
 
-/// The marker of well-formed text as items: it gives a string of any units its units.
+/// The marker for the impls of `Piece` for well-formed text, which append its units to a string of any units.
 pub struct OfText;
 
 impl<C: FaultUnit, A: Allocator> Piece<UString<C, A>, OfText> for UtfStr<'_, C> {
@@ -34,8 +34,8 @@ impl<C: FaultUnit, A: Allocator, B: Allocator> Piece<UString<C, A>, OfText> for 
     }
 }
 
-/// What a string of units does with views of well-formed text: calls of the string, in a trait since its crate knows no such
-/// view. The trait is over the type of the source of the views.
+/// Calls of a string of units that take views of well-formed text. They are in a trait because the string's crate does
+/// not know such views. The trait has the type of the iterator that yields the views as a parameter.
 pub trait UStringOverUtfstrs<
     'a,
     C: FaultUnit + 'a,
@@ -43,21 +43,46 @@ pub trait UStringOverUtfstrs<
     U: IntoIterator<Item = UtfStr<'a, C>>,
 >: Growing
     + Sized {
-    /// The views' units at the end. On want of memory those of the items before the refused one are there.
+    /// Appends the units of the views.
+    ///
+    /// # Requires
+    ///
+    /// The iterator can be advanced, and it ends.
+    ///
+    /// # Errors
+    ///
+    /// [`OutOfMemory`] if the allocation for an item fails. The string then holds the items before it.
     fn extend_utfstrs(&mut self, items: U) -> Result<(), OutOfMemory>
         requires { IsFiniteIterable U.into_iter_gives U.IntoIter.can_next U.IntoIter.remaining items }
         ensures added { Adds result U.into_iter_gives U.IntoIter.next_gives (λ s. map C.number (units_seen s)) items Self.seen self.old self.new }
         ensures capacity { (Self.seen self.old).capacity ≤ (Self.seen self.new).capacity };
 
-    /// A string of the views' units. The error is the string of the items before the one that found no memory.
+    /// Concatenates the units of the views into a new string.
+    ///
+    /// # Requires
+    ///
+    /// The iterator can be advanced, and it ends.
+    ///
+    /// # Errors
+    ///
+    /// The allocation for an item failed. The error is the string of the items before it.
     fn from_iter_utfstrs(alloc: A, items: U) -> Result<Self, Self>
         requires { IsFiniteIterable U.into_iter_gives U.IntoIter.can_next U.IntoIter.remaining items }
         ensures { Collects result U.into_iter_gives U.IntoIter.next_gives (λ s. map C.number (units_seen s)) items Self.seen };
 }
 
-/// As [`UStringOverUtfstrs`], the calls that take strings of well-formed text.
+/// Calls of a string of units that take strings of well-formed text. They are in a trait because the string's crate
+/// does not know such strings. It is separate from [`UStringOverUtfstrs`], which takes views.
 pub trait UStringInUtfstring<C: FaultUnit, A: Allocator>: Growing + Sized {
-    /// The strings' units at the end. On want of memory those of the items before the refused one are there.
+    /// Appends the units of the strings.
+    ///
+    /// # Requires
+    ///
+    /// The iterator can be advanced, and it ends.
+    ///
+    /// # Errors
+    ///
+    /// [`OutOfMemory`] if the allocation for an item fails. The string then holds the items before it.
     fn extend_utfstrings<B: Allocator, U: IntoIterator<Item = UtfString<C, B>>>(
         &mut self,
         items: U,
@@ -66,7 +91,15 @@ pub trait UStringInUtfstring<C: FaultUnit, A: Allocator>: Growing + Sized {
         ensures added { Adds result U.into_iter_gives U.IntoIter.next_gives (λ s. map C.number s.units) items Self.seen self.old self.new }
         ensures capacity { (Self.seen self.old).capacity ≤ (Self.seen self.new).capacity };
 
-    /// A string of the strings' units. The error is the string of the items before the one that found no memory.
+    /// Concatenates the units of the strings into a new string.
+    ///
+    /// # Requires
+    ///
+    /// The iterator can be advanced, and it ends.
+    ///
+    /// # Errors
+    ///
+    /// The allocation for an item failed. The error is the string of the items before it.
     fn from_iter_utfstrings<B: Allocator, U: IntoIterator<Item = UtfString<C, B>>>(
         alloc: A,
         items: U,

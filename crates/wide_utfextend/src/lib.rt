@@ -1,4 +1,4 @@
-//! What strings of any units do with well-formed text: they are made of it, or extended by it.
+//! Strings of any units that are collected from well-formed text, or extended by it.
 #![tactic(auto)]
 
 mod extend;
