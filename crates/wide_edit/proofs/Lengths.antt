@@ -1,4 +1,4 @@
--- How many units the characters of an edited text have.
+-- How many units the characters of an edited text take.
 use Rattle.std.proofs.Common.{◌≡◌, ℕ, ◌+◌, ◌≤◌, suc, List, [], ◌∷◌, ◌++◌, sym, ◌∙◌, ap, arith, length, take, drop, length-append, inl, inr}
 use Rattle.std.specs.Prelude.{Bool, true, false, cond, filter}
 use Rattle.std.specs.List.{splice}
@@ -11,7 +11,7 @@ use Rattle.wide_edit.specs.Step.{changed}
 use Rattle.wide_edit.specs.declared.edits.Edit.TheVariants.{Remove, SplitOff, Drain}
 
 module _ (form : EncodingForm) where
-  -- the unit length of characters, and of the first of them
+  -- The length in units of characters, and of the first of them.
   abbrev pub size : List ℕ → ℕ
   size l = length (encode form l)
 
@@ -27,7 +27,7 @@ module _ (form : EncodingForm) where
   pub size-one : (c : ℕ) → size (c ∷ []) ≡ length (code_units form c)
   size-one c = ap length (append-nil (code_units form c))
 
-  -- all that an edit needs is told by arithmetic from this one
+  -- The other lengths of an edited text follow from this one by arithmetic.
   pub size-splice : (l m : List ℕ) (i j : ℕ) → size (splice l i j m) + place l j ≡ place l i + size m + size l
   size-splice l m i j = omega (arith, size-append (take i l) (m ++ drop j l), size-append m (drop j l), size-cut l j)
 
@@ -45,7 +45,7 @@ module _ (form : EncodingForm) where
   size-filter test [] = omega arith
   size-filter test (c ∷ cs) = kept_or_not c (filter test cs) cs (size-filter test cs) (test c)
 
--- an edit that only takes leaves no more units, made or refused
+-- An edit that only removes characters leaves no more units, whether it is made or rejected.
 module _ (form : EncodingForm) (l : List ℕ) where
   pub size-remove : (i : ℕ) → size form (changed l (Remove i)) ≤ size form l
   size-remove i = elim (leb_tells (suc i) (length l)) [

@@ -1,4 +1,4 @@
--- When an edit of a list was made, and when it was refused.
+-- When an edit of a list was made, and when it was rejected.
 use Rattle.std.proofs.Common.{◌≡◌, ℕ, ◌+◌, ◌-◌, ◌≤◌, ◌<◌, suc, List, [], ◌∷◌, ◌++◌, refl, sym, ◌∙◌, ap, arith, length, take, drop, length-append, length-drop}
 use Rattle.std.specs.Prelude.{true, false, nat_le, nat_lt, slice_range}
 use Rattle.std.specs.List.{splice}
@@ -70,7 +70,7 @@ module _ (l new : List ℕ) where
   pub made-drain : (a b : ℕ) (taken : List ℕ) → a ≤ b → b ≤ length l → new ≡ splice l a b [] → taken ≡ slice_range l a b → (new ≡ (step l (Drain a b)).0) × (Chars taken ≡ (step l (Drain a b)).1)
   made-drain a b taken le within e f = (rw (in_range a b (length l) le within) e, rw (in_range a b (length l) le within) (ap Chars f))
 
--- an edit that is refused
+-- An edit that is rejected.
 module _ (l : List ℕ) where
   pub refused-insert : (i c : ℕ) → (i ≤ length l → ⊥) → IsMade l (Insert i c) l reply.BadPlace
   refused-insert i c never = record { text = rw (past i (length l) never) refl; answer = rw (past i (length l) never) refl }

@@ -1,4 +1,4 @@
--- Marks, and characters gone over one by one.
+-- The entries of an offset index, and characters that are read one by one.
 use Rattle.std.proofs.Common.{◌≡◌, ℕ, ◌+◌, ◌*◌, ◌/◌, ◌-◌, ◌≤◌, ◌<◌, suc, zero, inl, inr, Some, None, List, [], ◌∷◌, ◌++◌, refl, sym, ◌∙◌, ap, arith, length, take, drop, map, subst, get_or, length-append, length-drop, length-take}
 use Rattle.std.specs.Prelude.{min, Option}
 use Rattle.std.specs.List.{range_with_len, splice}
@@ -20,7 +20,7 @@ use Rattle.wide_edit.specs.declared.edits.Edit.TheVariants.{Push, PushStr, Pop, 
 use Rattle.wide_edit.specs.Marks.{mark, marks_of, edit_place}
 use Rattle.wide_edit.proofs.Lengths.{size, size-append, size-one, size-take}
 
--- one character more was gone over
+-- One more character was read.
 pub record GoesOn (cs : List ℕ) (read c : ℕ) (rest : List ℕ) : Type 0 where
   pub below : read < length cs
   pub left : rest ≡ drop (read + 1) cs
@@ -37,7 +37,7 @@ next_char cs read c rest e =
       at = ap (size Utf16) (take_more cs read 0 lt ∙ ap (λ d. take read cs ++ d ∷ []) same) ∙ size-append Utf16 (take read cs) (c ∷ []) ∙ ap (λ n. size Utf16 (take read cs) + n) (size-one Utf16 c);
     }
 
--- the first marks
+-- The first entries.
 pub some-length : (cs : List ℕ) (ms : List ℕ) → ms ≡ take (length ms) (marks_of cs) → length ms ≤ length cs / 64
 some-length cs ms e = omega (arith, ap length e, length-take (length ms) (marks_of cs), length-map-range_with_len (mark cs) 1 (length cs / 64))
 
@@ -50,7 +50,7 @@ mark-at cs ms k j d e lt is = ap (λ xs. get_or xs k d) (some-marks cs ms e) ∙
 pub all-some : (cs ms : List ℕ) → ms ≡ marks_of cs → ms ≡ take (length ms) (marks_of cs)
 all-some cs ms e = e ∙ sym (take_all (length ms) (marks_of cs) (omega (arith, ap length e)))
 
--- the units of a view are those of its characters
+-- The units of a view are those of its characters.
 pub well-formed : (us : List ℕ) → IsWellFormed Utf16 (map (λ u. u) us) → IsWellFormed Utf16 us
 well-formed us well = subst (λ vs. IsWellFormed Utf16 vs) (map-id us) well
 
@@ -77,17 +77,17 @@ module _ (us : List ℕ) (well : IsWellFormed Utf16 us) where
   pub none-left : (read : ℕ) → drop read cs ≡ [] → length cs ≤ read
   none-left read e = omega (arith, ap length e, length-drop read cs)
 
--- a search past the end finds none
+-- A search past the end finds none.
 pub found-none : (us : List ℕ) (i : ℕ) (r : Option ℕ) → r ≡ None → length (chars Utf16 us) < i → IsFoundAt Utf16 us i r
 found-none us i None e past = record { some = (λ some. absurd cc, λ le. absurd (omega (arith, le, past))); place = tt; boundary = tt }
 found-none us i (Some at) e past = absurd cc
 
--- no text has more characters than units
+-- No text has more characters than units.
 pub few-characters : (form : EncodingForm) (l : List ℕ) → length l ≤ size form l
 few-characters form [] = omega arith
 few-characters form (c ∷ l) = omega (arith, length-append (code_units form c) (encode form l), some_units form c, few-characters form l)
 
--- the place of an edit lies within the text, and the characters before it stay
+-- The index of an edit's first character lies within the text, and the characters before it stay as they are.
 pub place-within : (n : ℕ) (e : Edit) → edit_place n e ≤ n
 place-within n (Push c) = omega arith
 place-within n (PushStr t) = omega arith
@@ -144,7 +144,7 @@ module _ (l : List ℕ) where
   ]
   step-keeps Clear = refl
 
--- the marks not past a place before which nothing changes
+-- The entries that are not past an offset before which nothing changes.
 module _ (f g : ℕ → ℕ) where
   map-same : (a n : ℕ) → ((j : ℕ) → j < a + n → f j ≡ g j) → map f (range_with_len a n) ≡ map g (range_with_len a n)
   map-same a zero same = refl
@@ -170,6 +170,6 @@ module _ (old new : List ℕ) (p : ℕ) (within : p ≤ length old) (same : take
     pub kept-count : length items ≡ k
     kept-count = ap length kept-new ∙ length-take-le k (marks_of new) (omega (arith, long, length-map-range_with_len (mark new) 1 (length new / 64)))
 
-    -- as many of the old marks as stand before the place are the first of the new ones
+    -- The retained entries of the old index are the first entries of the new one.
     pub kept-marks : items ≡ take (length items) (marks_of new)
     kept-marks = kept-new ∙ ap (λ n. take n (marks_of new)) (sym kept-count)

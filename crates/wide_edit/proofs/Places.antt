@@ -1,4 +1,4 @@
--- Places that a search found, and the parts of a text between them.
+-- Offsets that a search found, and the substrings between them.
 use Rattle.std.proofs.Common.{refl, ◌≡◌, ℕ, ◌-◌, ◌≤◌, List, [], sym, ◌∙◌, ap, arith, length, take, drop, map, length-drop, subst, Ok, Err, Some, None}
 use Rattle.std.specs.Prelude.{slice_range, Result, Option, IsOk, OnOk}
 use Rattle.std.proofs.lemmas.List.{length-map, length-take-le, take-map, drop-map, drop_all}
@@ -10,16 +10,16 @@ use Rattle.wide_unit.specs.Laws.Splices.{chars-part, chars-nil}
 use Rattle.wide_unit.specs.Laws.Encodings.{places-grow}
 use Rattle.wide_edit.specs.Found.{IsFoundAt, IsFoundRange}
 
--- what a call that succeeded says
+-- The postcondition of a call that succeeded.
 pub got : {T E P : Type 0} (r : Result T E) → IsOk r → OnOk r P → P
 got (Ok x) i p = p
 got (Err e) i p = absurd cc
 
--- at the place of a character stand as many characters before it as its number
+-- The number of characters before the offset of a character is its index.
 pub before-place : (form : EncodingForm) (us : List ℕ) (i at : ℕ) → i ≤ length (chars form us) → IsPlaceOf form us i at → chars_before form us at ≡ i
 before-place form us i at le p = ap length p.front ∙ length-take-le i (chars form us) le
 
--- what a search says where it found a place, and where it found none
+-- What a search that found an offset says, and one that found none.
 module _ (form : EncodingForm) (us : List ℕ) (i : ℕ) where
   pub record Found (at : ℕ) : Type 0 where
     pub within : i ≤ length (chars form us)
@@ -36,7 +36,7 @@ module _ (form : EncodingForm) (us : List ℕ) (i : ℕ) where
   found_none (Some a) found e le = absurd cc
   found_none None found e le = let f = found.some.1 le in absurd cc
 
--- a range of no units
+-- A range of no units.
 pub no_units : (form : EncodingForm) (us : List ℕ) (at : ℕ) → IsCharBoundary form us at → IsCharRange form us at at
 no_units form us at here = record { within = record { forward = omega arith; within = here.0 }; start = here; end = here }
 
@@ -47,7 +47,7 @@ module _ {X : Type 0} (form : EncodingForm) (number : X → ℕ) (xs : List X) (
   pub range-forward : (i j a b : ℕ) → i ≤ j → IsPlaceOf form us i a → IsPlaceOf form us j b → a ≤ b
   range-forward i j a b le p q = omega (arith, place-IsPlaceOf form us well i a p, place-IsPlaceOf form us well j b q, places-grow form (chars form us) i j le)
 
-  -- the places of two characters in order are a range
+  -- The offsets of two characters in order are a range.
   pub found_range : (i j a b : ℕ) → i ≤ j → Found form us i a → Found form us j b → IsFoundRange form us i j a b
   found_range i j a b le first last = record {
     forward = le;
@@ -57,7 +57,7 @@ module _ {X : Type 0} (form : EncodingForm) (number : X → ℕ) (xs : List X) (
     range = record { within = record { forward = range-forward i j a b le first.place last.place; within = last.boundary.0 }; start = first.boundary; end = last.boundary };
   }
 
-  -- a part of the units is a part of the characters
+  -- A substring of the units has the characters of the corresponding range.
   pub part-text : (i j a b : ℕ) → IsFoundRange form us i j a b → chars form (map number (slice_range xs a b)) ≡ slice_range (chars form us) i j
   part-text i j a b r =
       let before-i = before-place form us i a (omega (arith, r.forward, r.within)) r.starts in
@@ -66,7 +66,7 @@ module _ {X : Type 0} (form : EncodingForm) (number : X → ℕ) (xs : List X) (
       ap (chars form) same ∙ chars-part form us a b well r.starts.boundary r.ends.boundary r.range.within.forward ∙ ap (λ k. slice_range (chars form us) k (chars_before form us b)) before-i
       ∙ ap (slice_range (chars form us) i) before-j
 
-  -- no characters stand behind the end
+  -- There are no characters after the end.
   pub end-all : (i at : ℕ) → IsPlaceOf form us i at → at ≡ length xs → length (chars form us) ≤ i
   end-all i at p e =
       let none : drop at us ≡ [] = drop_all at us (omega (arith, length-map xs number)) in

@@ -1,4 +1,4 @@
--- A run goes on by one step, and texts that begin alike end alike.
+-- A run extended by one step, and texts with the same characters, which have the same characters after a run.
 use Rattle.std.proofs.Common.{◌≡◌, ℕ, ◌+◌, ◌<◌, List, [], ◌∷◌, ◌++◌, refl, sym, ◌∙◌, ap, append_assoc, map, take, drop, length, subst, get_or}
 use Rattle.std.proofs.lemmas.List.{map-append, take_more, take-append-drop}
 use Rattle.std.proofs.Math.Seq.{take-append_seam, drop-append_seam}
@@ -16,7 +16,7 @@ answers_last l [] edit = refl
 answers_last l (first ∷ edits) edit = ap (λ more. (step l first).1 ∷ more) (answers_last (step l first).0 edits edit)
 
 module _ (l : List ℕ) (edits : List Edit) (edit : Edit) (mid new : List ℕ) (before between after : List Reply) (run : HasRun l edits mid before between) (stepped : HasStepped mid edit new between after) where
-  -- the replies of the run
+  -- The replies of the run.
   abbrev more : List Reply
   more = drop (length before) between
 
@@ -40,7 +40,7 @@ module _ (l : List ℕ) (edits : List Edit) (edit : Edit) (mid new : List ℕ) (
     answers = ap (λ rs. map answer_of (drop (length before) rs)) after-parts ∙ ap (map answer_of) (drop-append_seam before (more ++ reply ∷ [])) ∙ answers-more;
   }
 
--- the first edits of a list, and one more
+-- A run of the first edits of a list, extended by the next edit.
 pub run_on : (l : List ℕ) (edits : List Edit) (i : ℕ) (default : Edit) (mid new : List ℕ) (before between after : List Reply) → i < length edits
     → HasRun l (take i edits) mid before between → HasStepped mid (get_or edits i default) new between after → HasRun l (take (i + 1) edits) new before after
 run_on l edits i default mid new before between after below run stepped =

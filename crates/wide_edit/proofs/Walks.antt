@@ -1,4 +1,4 @@
--- What a proof by hand of a function that makes a count cites.
+-- The names that the hand-written proofs of functions which make a counter use.
 pub use Rattle.std.proofs.Common.{◌+◌, [], ◌∷◌, refl}
 pub use Rattle.std.proofs.raw_atomic.Walks.{proved}
 pub use base.Fml.{ftrue}

@@ -1,4 +1,4 @@
--- The places of an edit, in characters and in units.
+-- The offsets of an edit, in characters and in units.
 use Rattle.std.specs.Prelude.{ℕ, ◌≤◌, ◌↔◌, List, length, Option, IsSome, IfSome}
 use Rattle.wide_unit.specs.EncodingForm.{EncodingForm}
 use Rattle.wide_unit.specs.Items.{chars}
@@ -6,7 +6,7 @@ use Rattle.wide_unit.specs.Places.{IsPlaceOf, IsCharBoundary, IsCharRange}
 use Rattle.wide_edit.specs.declared.edits.Edit.{Edit}
 use Rattle.wide_edit.specs.declared.edits.Edit.TheVariants.{Push, PushStr, Pop, Truncate, Insert, InsertStr, Remove, Retain, Drain, Replace, SplitOff, Clear}
 
--- the first number of an edit, or 0 where it has none
+-- The first number of an edit, or 0 if it has none.
 abbrev pub first_number : Edit → ℕ
 first_number (Push c) = 0
 first_number (PushStr t) = 0
@@ -21,7 +21,7 @@ first_number (Replace a b t) = a
 first_number (SplitOff i) = i
 first_number Clear = 0
 
--- the second number of an edit, or 0 where it has none
+-- The second number of an edit, or 0 if it has none.
 abbrev pub second_number : Edit → ℕ
 second_number (Push c) = 0
 second_number (PushStr t) = 0
@@ -37,13 +37,13 @@ second_number (SplitOff i) = 0
 second_number Clear = 0
 
 module _ (form : EncodingForm) (units : List ℕ) where
-  -- the search for character number `index` found the place at which it begins, or none where there are fewer
+  -- The search for the character at an index found the offset at which it begins, or none if the index is past the end.
   pub record IsFoundAt (index : ℕ) (found : Option ℕ) : Type 0 where
     pub some : IsSome found ↔ (index ≤ length (chars form units))
     pub place : IfSome found (IsPlaceOf form units index)
     pub boundary : IfSome found (IsCharBoundary form units)
 
-  -- the places, in units, of the characters from number `from` up to number `to`, which are a range
+  -- The offsets, in units, of the characters from index `from` up to index `to`, which are a range of the text.
   pub record IsFoundRange (from to start end : ℕ) : Type 0 where
     pub forward : from ≤ to
     pub within : to ≤ length (chars form units)

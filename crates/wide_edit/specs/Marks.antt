@@ -1,4 +1,4 @@
--- Kept marks: the unit offsets, in UTF-16, of every sixty-fourth character of a text.
+-- The offset index of a UTF-16 text: the offsets, in units, of every 64th character.
 use Rattle.std.specs.Prelude.{ℕ, ◌+◌, ◌-◌, ◌*◌, ◌/◌, ◌≤◌, List, map, take, drop, length, min, refl}
 use Rattle.std.specs.Coded.{Coded, code_by, coded×, coded_ℕ}
 use Rattle.std.specs.List.{range_with_len}
@@ -10,15 +10,16 @@ use Rattle.wide_edit.specs.Edited.{CanHold}
 use Rattle.wide_edit.specs.declared.edits.Edit.{Edit}
 use Rattle.wide_edit.specs.declared.edits.Edit.TheVariants.{Push, PushStr, Pop, Truncate, Insert, InsertStr, Remove, Retain, Drain, Replace, SplitOff, Clear}
 
--- mark number `k` of these characters: the unit length of the first `64 * k`
+-- Entry number `k` of the index of these characters: the length in units of the first `64 * k`.
 abbrev pub mark : List ℕ → ℕ → ℕ
 mark cs k = length (encode Utf16 (take (64 * k) cs))
 
--- the marks number 1, 2, .. as far as there are so many characters
+-- The entries number 1, 2 and so on, as long as there are so many characters.
 abbrev pub marks_of : List ℕ → List ℕ
 marks_of cs = map (mark cs) (range_with_len 1 (length cs / 64))
 
--- the place of an edit of so many characters: an edit leaves those before it as they are
+-- The index of the first character that an edit can change, in a text of so many characters. The characters before it
+-- stay as they are.
 abbrev pub edit_place : ℕ → Edit → ℕ
 edit_place count (Push c) = count
 edit_place count (PushStr t) = count
@@ -33,16 +34,17 @@ edit_place count (Replace a b t) = min a count
 edit_place count (SplitOff i) = min i count
 edit_place count Clear = 0
 
--- how many marks of these characters are not past the edit's place
+-- How many index entries of these characters are not past the edit's first character.
 abbrev pub marks_kept : List ℕ → Edit → ℕ
 marks_kept cs edit = edit_place (length cs) edit / 64
 
--- the units behind the last of those marks, before the edit and after it
+-- The number of units after the last of those entries, before the edit and after it.
 abbrev pub units_behind : List ℕ → List ℕ → Edit → ℕ
 units_behind old new edit =
     (length (encode Utf16 old) - mark old (marks_kept old edit)) + (length (encode Utf16 new) - mark new (marks_kept old edit))
 
--- the units from which the characters of a reply are counted: those of the characters that a `SplitOff` takes
+-- The number of units that are read to count the characters of a reply: those of the characters that a `SplitOff`
+-- removes.
 abbrev pub units_split_off : List ℕ → Edit → ℕ
 units_split_off cs (Push c) = 0
 units_split_off cs (PushStr t) = 0
@@ -57,7 +59,7 @@ units_split_off cs (Replace a b t) = 0
 units_split_off cs (SplitOff i) = length (encode Utf16 (drop i cs))
 units_split_off cs Clear = 0
 
--- what a contract sees of a string with kept marks: the string, and how many marks fit with no allocation
+-- What contracts say about a string with an offset index: the string, and how many entries fit without allocating.
 pub record Marked : Type 0 where
   pub string : Units ℕ
   pub marks_room : ℕ
@@ -67,19 +69,19 @@ marked_code =
     code_by (Units ℕ × ℕ) (coded× (units_code coded_ℕ) coded_ℕ) (λ m. (m.string, m.marks_room))
     (λ p. record { string = p.0; marks_room = p.1 }) (λ _. refl)
 
--- its units
+-- Its units.
 abbrev pub marked_units : Marked → List ℕ
 marked_units m = m.string.units
 
--- how many units fit with no allocation
+-- How many units fit without allocating.
 abbrev pub marked_capacity : Marked → ℕ
 marked_capacity m = m.string.capacity
 
--- its characters
+-- Its characters.
 abbrev pub marked_text : Marked → List ℕ
 marked_text m = chars Utf16 m.string.units
 
--- the new units fit with no allocation, and so do the new marks
+-- The new units and the new index entries fit without allocating.
 pub record IsMarkedReady (m : Marked) (edit : Edit) : Type 0 where
   pub units : CanHold Utf16 m.string (step (marked_text m) edit).0
   pub marks : length (step (marked_text m) edit).0 / 64 ≤ m.marks_room

@@ -1,4 +1,4 @@
--- What edits mean: each one makes a list of characters a new list, and gives an answer.
+-- The meaning of edits: each one makes a new list of characters of a list, and gives a reply.
 use Rattle.std.specs.Prelude.{ℕ, ◌+◌, ◌-◌, List, [], ◌∷◌, length, take, drop, Bool, ◌&&◌, if◌then◌else◌, nat_le, nat_lt, nat_eq, slice_range}
 use Rattle.std.specs.List.{splice, list_any, filter}
 use Rattle.std.specs.Str.{chars}
@@ -7,7 +7,7 @@ use Rattle.wide_edit.specs.declared.edits.Edit.TheVariants.{Push, PushStr, Pop, 
 use Rattle.wide_edit.specs.declared.edits.Reply.{Reply}
 use Rattle.wide_edit.specs.declared.edits.Reply.TheVariants as reply
 
--- a reply as data: the characters that it holds, and not where they lie
+-- A reply as data: the characters that it holds, without their memory.
 pub data Answer : Type 0 where
   Done : Answer
   Char : (c : ℕ) → Answer
@@ -16,7 +16,7 @@ pub data Answer : Type 0 where
   BadPlace : Answer
   BadRange : Answer
 
--- the answer that a reply gives
+-- The data of a reply.
 abbrev pub answer_of : Reply → Answer
 answer_of reply.Done = Done
 answer_of (reply.Char c) = Char c
@@ -25,20 +25,20 @@ answer_of (reply.Chars cs) = Chars cs.items
 answer_of reply.BadPlace = BadPlace
 answer_of reply.BadRange = BadRange
 
--- the first of these characters, where there is one
+-- The first of these characters, if there is one.
 abbrev pub first_char : List ℕ → Answer
 first_char [] = NoChar
 first_char (c ∷ cs) = Char c
 
--- places `a` and `b` are a range of so many characters: it runs forward, and ends within them
+-- Indices `a` and `b` are a range of so many characters: `a` is at most `b`, and `b` at most the count.
 abbrev pub is_range : ℕ → ℕ → ℕ → Bool
 is_range a b count = nat_le a b && nat_le b count
 
--- whether a character occurs in a list
+-- Whether a character occurs in a list.
 abbrev pub occurs : List ℕ → ℕ → Bool
 occurs keep c = list_any (λ k. nat_eq k c) keep
 
--- the new list that an edit makes of the list `l`: `l` itself where the edit is refused
+-- The list that an edit makes of the list `l`; `l` itself if the edit is rejected.
 abbrev pub changed : List ℕ → Edit → List ℕ
 changed l (Push c) = splice l (length l) (length l) (c ∷ [])
 changed l (PushStr t) = splice l (length l) (length l) (chars t.now)
@@ -53,7 +53,7 @@ changed l (Replace a b t) = if is_range a b (length l) then splice l a b (chars 
 changed l (SplitOff i) = if nat_le i (length l) then take i l else l
 changed l Clear = []
 
--- the answer of an edit of the list `l`
+-- The reply to an edit of the list `l`.
 abbrev pub answer : List ℕ → Edit → Answer
 answer l (Push c) = Done
 answer l (PushStr t) = Done
@@ -68,16 +68,16 @@ answer l (Replace a b t) = if is_range a b (length l) then Done else BadRange
 answer l (SplitOff i) = if nat_le i (length l) then Chars (drop i l) else BadPlace
 answer l Clear = Done
 
--- one edit: the new list, and the answer
+-- One edit: the new list, and the reply.
 abbrev pub step : List ℕ → Edit → List ℕ × Answer
 step l edit = (changed l edit, answer l edit)
 
--- edits one after another, each of the list that those before it made: the last list, and the list of answers
+-- Edits one after another, each of the list that the edits before it made: the last list, and the list of replies.
 abbrev pub meaning : List ℕ → List Edit → List ℕ × List Answer
 meaning l [] = (l, [])
 meaning l (edit ∷ edits) = ((meaning (step l edit).0 edits).0, (step l edit).1 ∷ (meaning (step l edit).0 edits).1)
 
--- how many characters an answer holds in a list
+-- How many characters a reply holds in a list.
 abbrev pub chars_in : Answer → ℕ
 chars_in Done = 0
 chars_in (Char c) = 0

@@ -1,7 +1,8 @@
-//! The twelve edits of a well-formed string, each made in units at places that were found, in memory that was found.
+//! The twelve edits of a well-formed string, each made in units at offsets that were found, in memory that was
+//! allocated before.
 //!
-//! A place that was searched for and not found is past the end. Where a call could find no memory, its answer is not read: the
-//! room for what it puts in was found before.
+//! If a search found no offset, the index is past the end. The results of calls that could fail by allocation are not
+//! read, because the capacity was reserved before.
 ghost use Rattle.std.specs.Prelude.{◌≡◌, ◌≤◌, [], length, map, vec_capacity};
 ghost use Rattle.wide_unit.specs.Places.{text_of};
 ghost use Rattle.wide_utfstr.specs.View.{text_seen};
@@ -16,7 +17,7 @@ use wide_utferror::FaultUnit;
 use wide_utfstr::UtfStr;
 use wide_utfstring::UtfString;
 
-// The characters of a view, in room that was found for them.
+// Returns the characters of a view, in an empty vector with capacity for them.
 fn copy<C: FaultUnit>(text: UtfStr<'_, C>, mut room: Vec<char>) -> Vec<char>
     requires empty { room.items ≡ [] }
     requires fits { length (text_seen text) ≤ vec_capacity room }
@@ -215,7 +216,7 @@ fn clear<C: FaultUnit>(s: &mut UtfString<C>) -> Reply
     Reply::Done
 }
 
-// Makes the edit, whose places were found, in the memory that was found for it.
+// Makes the edit at offsets that were found, in memory that was allocated for it.
 pub(crate) fn apply_at<C: FaultUnit>(
     s: &mut UtfString<C>,
     edit: Edit<'_>,

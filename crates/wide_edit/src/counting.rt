@@ -1,10 +1,10 @@
-//! Steps, counted for contracts alone.
+//! A ghost counter of steps, for contracts only.
 ghost use Rattle.std.specs.Prelude.{◌≡◌, ℕ, ◌+◌};
 
 use std::marker::Model;
 
-/// How many code units were read: a number without a greatest. Contracts alone see it. It takes no bytes, and nothing happens to it
-/// when the program runs.
+/// The number of code units that were read, without an upper bound. Only contracts can see it. It takes no bytes, and
+/// the program does nothing with it at run time.
 #[derive(Drop)]
 pub struct Steps {
     ghost count: { ℕ },
@@ -19,21 +19,21 @@ impl Model for Steps {
 impl Steps {
     ghost use Rattle.wide_edit.specs.Counted.{counted};
 
-    /// None.
+    /// Creates a counter of zero steps.
     pub fn new() -> Self
         ensures { counted result ≡ 0 }
     {
         Steps {}
     }
 
-    // So many more.
+    // Returns the counter `_before` with `_more` steps added.
     fn with(_before: &Steps, _more: &usize) -> Self
         ensures { counted result ≡ counted _before.now + _more.now }
     {
         Steps {}
     }
 
-    // So many units are read.
+    // Counts `units` more units that are read.
     pub(crate) fn tick(&mut self, units: usize)
         ensures { counted self.new ≡ counted self.old + units }
     {

@@ -1,4 +1,4 @@
-//! Edits, their replies, and what can be edited.
+//! Edits, their replies, and the trait of texts that can be edited.
 ghost use Rattle.std.specs.Prelude.{◌≡◌, ◌≤◌, ℕ, List, length, IfOk, OnOk};
 ghost use Rattle.wide_unit.specs.EncodingForm.{EncodingForm, encode};
 ghost use Rattle.wide_edit.specs.Step.{step, answer_of};
@@ -11,59 +11,64 @@ use wide_error::OutOfMemory;
 
 /// An edit of a text.
 ///
-/// Places and ends of ranges count characters, Unicode scalar values (Unicode Standard, D76), from 0, in the text as it is before
-/// the edit. A refused edit changes nothing.
+/// Indices and ends of ranges count characters, that is Unicode scalar values (Unicode Standard, D76), from 0, in the
+/// text as it is before the edit. An edit whose reply is [`Reply::BadPlace`] or [`Reply::BadRange`] is rejected and
+/// changes nothing.
 #[derive(Clone, Copy, Debug, PartialEq, Eq)]
 pub enum Edit<'a> {
-    /// The character at the end. It answers [`Reply::Done`].
+    /// Appends the character. The reply is [`Reply::Done`].
     Push(char),
-    /// The text at the end. It answers [`Reply::Done`].
+    /// Appends the text. The reply is [`Reply::Done`].
     PushStr(&'a str),
-    /// Takes the last character. It answers [`Reply::Char`], or [`Reply::NoChar`] where the text is empty.
+    /// Removes the last character. The reply is [`Reply::Char`], or [`Reply::NoChar`] if the text is empty.
     Pop,
-    /// The first so many stay; past the end nothing changes. It answers [`Reply::Done`].
+    /// Shortens the text to this many characters. It changes nothing if the text is not longer. The reply is
+    /// [`Reply::Done`].
     Truncate(usize),
-    /// The character before a place. It answers [`Reply::Done`], or [`Reply::BadPlace`] where the place is past the end.
+    /// Inserts the character before the character at this index. The reply is [`Reply::Done`], or [`Reply::BadPlace`]
+    /// if the index is past the end.
     Insert(usize, char),
-    /// The text before a place. It answers [`Reply::Done`], or [`Reply::BadPlace`] where the place is past the end.
+    /// Inserts the text before the character at this index. The reply is [`Reply::Done`], or [`Reply::BadPlace`] if the
+    /// index is past the end.
     InsertStr(usize, &'a str),
-    /// Takes the character at a place. It answers [`Reply::Char`], or [`Reply::BadPlace`] where none stands there.
+    /// Removes the character at this index. The reply is [`Reply::Char`], or [`Reply::BadPlace`] if there is none.
     Remove(usize),
-    /// Those that occur in the list stay, in order. It answers [`Reply::Done`].
+    /// Retains the characters that occur in the list, in order. The reply is [`Reply::Done`].
     Retain(&'a [char]),
-    /// Takes those from the first place up to the second, without that at the second. It answers [`Reply::Chars`], or
-    /// [`Reply::BadRange`] where the range starts behind its end or ends past the text's.
+    /// Removes the characters from the first index up to, but not including, the second. The reply is [`Reply::Chars`],
+    /// or [`Reply::BadRange`] if the range starts after its end or ends past the end of the text.
     Drain(usize, usize),
-    /// The text in the place of those from the first place up to the second, without that at the second. It answers
-    /// [`Reply::Done`], or [`Reply::BadRange`] where the range starts behind its end or ends past the text's.
+    /// Replaces the characters from the first index up to, but not including, the second by the text. The reply is
+    /// [`Reply::Done`], or [`Reply::BadRange`] if the range starts after its end or ends past the end of the text.
     Replace(usize, usize, &'a str),
-    /// Takes those from a place on. It answers [`Reply::Chars`], or [`Reply::BadPlace`] where the place is past the end.
+    /// Removes the characters from this index on. The reply is [`Reply::Chars`], or [`Reply::BadPlace`] if the index is
+    /// past the end.
     SplitOff(usize),
-    /// Takes all. It answers [`Reply::Done`].
+    /// Removes all characters. The reply is [`Reply::Done`].
     Clear,
 }
 
-/// What an edit answers.
+/// The reply of an edit.
 #[derive(Debug, PartialEq, Eq, Drop)]
 pub enum Reply {
-    /// The edit was made, and takes no character that it answers.
+    /// The edit was made, and returns no characters.
     Done,
-    /// The character that was taken.
+    /// The character that was removed.
     Char(char),
-    /// There was no character to take.
+    /// There was no character to remove.
     NoChar,
-    /// The characters that were taken, in order.
+    /// The characters that were removed, in order.
     Chars(Vec<char>),
-    /// The place is past the end; nothing has changed.
+    /// The index is past the end. Nothing has changed.
     BadPlace,
-    /// The range starts behind its end, or ends past the end; nothing has changed.
+    /// The range starts after its end, or ends past the end of the text. Nothing has changed.
     BadRange,
 }
 
-/// An allocation was refused when the first `done` edits of a list had been made.
+/// An allocation failed after the first `done` edits of a list were made.
 #[derive(Clone, Copy, Debug, PartialEq, Eq)]
 pub struct Stopped {
-    /// How many edits were made and have their replies. The next one has changed nothing.
+    /// The number of edits that were made and have their replies. The next edit has changed nothing.
     pub done: usize,
 }
 
@@ -80,7 +85,7 @@ impl fmt::Display for Stopped {
 
 impl Error for Stopped {}
 
-/// A text that edits change: a list of characters, kept in code units of one encoding form.
+/// A text that can be edited: a list of characters, stored as the code units of one encoding form.
 pub trait TextEdit {
     ghost use Rattle.wide_edit.specs.declared.edits.Edit.{Edit};
 
@@ -90,30 +95,30 @@ pub trait TextEdit {
     // The numbers of the code units.
     ghost units: { Self → List ℕ };
 
-    // The encoding form that the units are of.
+    // The encoding form of the units.
     ghost form: { EncodingForm };
 
-    // How many units fit with no allocation.
+    // How many units fit without allocating.
     ghost capacity: { Self → ℕ };
 
-    // All memory that the edit takes of the text is there.
+    // The text has all the capacity that the edit needs.
     ghost is_ready: { Self → Edit → Type 0 };
 
-    /// How many characters there are.
+    /// Returns the number of characters.
     fn char_count(&self) -> usize
         ensures { result ≡ length (text self.now) };
 
-    /// How many code units the text takes. They are the encoding of its characters (Unicode Standard, D79).
+    /// Returns the number of code units of the text. They are the encoding of its characters (Unicode Standard, D79).
     fn unit_count(&self) -> usize
         ensures count { result ≡ length (units self.now) }
         ensures encoded { units self.now ≡ encode form (text self.now) };
 
-    /// Finds all memory of an edit: in the text, and room for the characters of its reply, which is the answer. Nothing else
-    /// changes: the text has the units that it had, and no capacity is given back.
+    /// Allocates all memory that an edit needs: capacity in the text, and a vector for the characters of its reply,
+    /// which is returned. The text keeps its units, and its capacity does not shrink.
     ///
     /// # Errors
     ///
-    /// An allocation was refused. The text has the units that it had, and no less capacity.
+    /// [`OutOfMemory`] if an allocation fails. The text keeps its units, and its capacity does not shrink.
     fn prepare(&mut self, alloc: Global, edit: Edit<'_>) -> Result<Vec<char>, OutOfMemory>
         ensures ready { OnOk result (is_ready self.new edit.entry) }
         ensures room { IfOk result (λ room. HasReplyRoom (text self.new) edit.entry room) }
@@ -121,7 +126,12 @@ pub trait TextEdit {
         ensures units { units self.new ≡ units self.old }
         ensures capacity { capacity self.old ≤ capacity self.new };
 
-    /// Makes an edit, in memory that was found for it. It takes none, no allocation is refused, and no capacity is given back.
+    /// Makes an edit in memory that was allocated for it, so that no allocation can fail. The capacity does not shrink.
+    ///
+    /// # Requires
+    ///
+    /// The text has the capacity that the edit needs, and the vector is empty and has capacity for the characters of
+    /// the reply, as after [`TextEdit::prepare`] for this edit.
     fn apply(&mut self, edit: Edit<'_>, room: Vec<char>) -> Reply
         requires ready { is_ready self.old edit }
         requires room { HasReplyRoom (text self.old) edit room }

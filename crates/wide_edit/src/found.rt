@@ -1,4 +1,4 @@
-//! The places of an edit: as it names them, in characters, and as a well-formed string has them, in units.
+//! The offsets of an edit: in characters, as the edit states them, and in units, as they are in a well-formed string.
 ghost use Rattle.std.specs.Prelude.{◌≡◌, ◌≤◌, false, length, map, IfNone, IfSome};
 ghost use Rattle.wide_unit.specs.EncodingForm.{encode};
 ghost use Rattle.wide_unit.specs.Items.{IsWellFormed};
@@ -12,7 +12,7 @@ use std::ops::Range;
 use wide_utferror::FaultUnit;
 use wide_utfstring::UtfString;
 
-// The first number of an edit and its second, 0 where it has none: a search for character 0 reads nothing.
+// Returns the two numbers of an edit, and 0 for one that it does not have: a search for character 0 reads nothing.
 pub(crate) fn numbers_of(edit: Edit<'_>) -> (usize, usize)
     ensures first { result.0 ≡ first_number edit.entry }
     ensures second { result.1 ≡ second_number edit.entry }
@@ -33,7 +33,7 @@ pub(crate) fn numbers_of(edit: Edit<'_>) -> (usize, usize)
     }
 }
 
-// Changes nothing, and reads no unit: it tells a proof at its caller what is true of every string.
+// Changes nothing, and reads no unit. Its contract gives the caller's proof the facts that are true of every string.
 pub(crate) fn recall<C: FaultUnit>(s: &UtfString<C>)
     ensures well_formed { IsWellFormed C.form (map C.number s.now.units) }
     ensures encoded { map C.number s.now.units ≡ encode C.form (text_of C.form C.number s.now.units) }
@@ -44,14 +44,16 @@ pub(crate) fn recall<C: FaultUnit>(s: &UtfString<C>)
     let _capacity = s.capacity();
 }
 
-// The unit offset of character number `index`, where there are as many. It reads the units before it once.
+// Returns the offset, in units, of the character at an index, or `None` if the index is past the end. It reads the
+// units before it once.
 pub(crate) fn find<C: FaultUnit>(s: &UtfString<C>, index: usize) -> Option<usize>
     ensures { IsFoundAt C.form (map C.number s.now.units) index result }
 {
     s.as_utfstr().unit_offset(index)
 }
 
-// The unit offsets of the characters from number `from` up to number `to`, by those of both; none where these are no range.
+// Returns the range, in units, of the characters from index `from` up to index `to`, given the unit offsets of both.
+// Returns `None` if they are not a range of the text.
 pub(crate) fn range_at<C: FaultUnit>(
     s: &UtfString<C>,
     from: usize,

@@ -1,4 +1,4 @@
-//! Edits as data, whose places are counted in characters, and texts that carry them out.
+//! Edits as data, whose offsets are counted in characters, and texts that apply them.
 #![tactic(auto)]
 
 mod arms;

@@ -1,4 +1,4 @@
-//! Lists of edits, of one text and of two.
+//! Application of lists of edits to one text, or to two.
 ghost use Rattle.std.specs.Prelude.{◌≡◌, ◌<◌, ◌≤◌, length, take, IfErr, OnOk, OnErr};
 ghost use Rattle.wide_unit.specs.EncodingForm.{encode};
 ghost use Rattle.wide_edit.specs.Edited.{HasStepped, HasRun};
@@ -7,7 +7,7 @@ use crate::edits::{Edit, Reply, Stopped, TextEdit};
 use std::alloc::Global;
 use wide_error::OutOfMemory;
 
-// Makes one edit and appends its reply, or finds no memory and changes neither.
+// Makes one edit and appends its reply. If an allocation fails, it changes neither.
 fn make<T: TextEdit>(
     alloc: Global,
     text: &mut T,
@@ -25,7 +25,7 @@ fn make<T: TextEdit>(
     Ok(())
 }
 
-// Makes the edits in order, until memory is refused.
+// Makes the edits in order, until an allocation fails.
 fn make_all<T: TextEdit>(
     alloc: Global,
     text: &mut T,
@@ -48,12 +48,13 @@ fn make_all<T: TextEdit>(
     Ok(())
 }
 
-/// Makes the edits of a text in order, and appends a reply for each. An edit that is refused changes nothing, and the run goes on.
-/// No capacity of the text is given back.
+/// Makes the edits of a text in order, and appends a reply for each. An edit that is rejected changes nothing, and the
+/// run continues. The capacity of the text does not shrink.
 ///
 /// # Errors
 ///
-/// An allocation was refused at an edit: those before it are made and have their replies, and it has changed nothing.
+/// [`Stopped`] if an allocation fails for an edit. The edits before it are made and have their replies; it has changed
+/// nothing.
 pub fn run<T: TextEdit>(
     alloc: Global,
     text: &mut T,
@@ -71,7 +72,7 @@ pub fn run<T: TextEdit>(
     ran
 }
 
-// Makes one edit of both texts and appends both replies, or finds no memory and changes none of the four.
+// Makes one edit of both texts and appends both replies. If an allocation fails, it changes none of the four.
 fn make_both<T: TextEdit, U: TextEdit>(
     alloc: Global,
     first: &mut T,
@@ -98,7 +99,7 @@ fn make_both<T: TextEdit, U: TextEdit>(
     Ok(())
 }
 
-// Makes the edits of both texts in order, until memory is refused.
+// Makes the edits of both texts in order, until an allocation fails.
 fn make_all_both<T: TextEdit, U: TextEdit>(
     alloc: Global,
     first: &mut T,
@@ -126,14 +127,15 @@ fn make_all_both<T: TextEdit, U: TextEdit>(
     Ok(())
 }
 
-/// Makes the edits of two texts in order, and appends a reply for each to either list. Texts that begin with the same characters
-/// end with the same and give the same answers, whatever their encoding forms are. The memory that an edit takes of both texts and
-/// for both replies is found before either text changes. No capacity of a text is given back.
+/// Makes the edits of two texts in order, and appends a reply for each to both lists. Texts that have the same
+/// characters before have the same characters and equal replies after, whatever their encoding forms are. The memory
+/// that an edit needs in both texts and for both replies is allocated before either text changes. The capacities of the
+/// texts do not shrink.
 ///
 /// # Errors
 ///
-/// An allocation was refused at an edit: in both texts those before it are made and have their replies, and it has changed nothing
-/// in either.
+/// [`Stopped`] if an allocation fails for an edit. In both texts the edits before it are made and have their replies;
+/// it has changed nothing in either.
 pub fn run_both<T: TextEdit, U: TextEdit>(
     alloc: Global,
     first: &mut T,

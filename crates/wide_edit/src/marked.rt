@@ -1,4 +1,4 @@
-//! A UTF-16 string with kept marks, as a text that edits change.
+//! A UTF-16 string with an offset index, as a text that can be edited.
 ghost use Rattle.std.specs.Prelude.{◌≡◌, ◌+◌, ◌*◌, ◌/◌, ◌<◌, ◌≤◌, ◌↔◌, length, IsSome, IfSome, IsOk, OnOk, IfOk, IfErr, vec_capacity};
 ghost use Rattle.wide_unit.specs.EncodingForm.{Utf16, encode};
 ghost use Rattle.wide_unit.specs.Items.{chars};
@@ -22,11 +22,12 @@ use wide_error::OutOfMemory;
 use wide_utfstr::Utf16Str;
 use wide_utfstring::Utf16String;
 
-/// A UTF-16 string with kept marks: the offsets, in units, of the characters number 64, 128 and so on, and of the end where it is
-/// one of these.
+/// A UTF-16 string with an offset index. Its entries are the offsets, in units, of the characters at indices 64, 128
+/// and so on, and of the end if the number of characters is a positive multiple of 64.
 ///
-/// A character is found by its number from the last mark not past it, so that fewer than 64 characters are read. An edit leaves the
-/// marks that are not past its place, and counts the later ones from the last of these.
+/// A character is found by its index from the last entry that is not past it, so that fewer than 64 characters are
+/// read. An edit keeps the entries that are not past its first character, and counts the later ones again from the last
+/// of these.
 #[derive(Drop)]
 pub struct Marked16 {
     string: Utf16String,
@@ -48,7 +49,8 @@ impl Model for Marked16 {
     ghost invariant = { λ m. m.marks.items ≡ marks_of (chars Utf16 m.string.units) };
 }
 
-// The place of an edit in a text of so many characters: those before it stay as they are.
+// Returns the index of the first character that an edit can change, in a text of `count` characters. The characters
+// before it stay as they are.
 fn place_in(edit: Edit<'_>, count: usize) -> usize
     ensures { result ≡ edit_place count edit.entry }
 {
@@ -68,7 +70,7 @@ fn place_in(edit: Edit<'_>, count: usize) -> usize
     }
 }
 
-// Finds all memory that an edit takes of a string in UTF-16, whose places were found.
+// Allocates all memory that an edit needs in a UTF-16 string, given the offsets that were found.
 fn prepare16(
     string: &mut Utf16String,
     alloc: Global,
@@ -86,7 +88,7 @@ fn prepare16(
     prepare_at(string, alloc, edit, start, end)
 }
 
-// How many units are read to count the characters of an edit's reply: those from the place of a `SplitOff` on.
+// Returns how many units are read to count the characters of an edit's reply: those from the offset of a `SplitOff` on.
 fn units_counted(string: &Utf16String, edit: Edit<'_>, start: Option<usize>) -> usize
     requires { IsFoundAt Utf16 string.now.units (first_number edit) start }
     ensures { result ≡ units_split_off (chars Utf16 string.now.units) edit.entry }
@@ -112,7 +114,7 @@ fn units_counted(string: &Utf16String, edit: Edit<'_>, start: Option<usize>) -> 
     }
 }
 
-// Makes the edit of a string in UTF-16, whose places were found.
+// Makes the edit of a UTF-16 string at the offsets that were found.
 fn apply16(
     string: &mut Utf16String,
     edit: Edit<'_>,
@@ -130,7 +132,7 @@ fn apply16(
     apply_at(string, edit, start, end, room)
 }
 
-// Makes the edit, and counts the marks behind its place anew.
+// Makes the edit, and counts the index entries after its first character again.
 fn apply_to(
     string: &mut Utf16String,
     marks: &mut Vec<usize>,
@@ -153,7 +155,7 @@ fn apply_to(
     let end = find_from(string.as_utfstr(), marks.as_slice(), second, steps);
     let count = count_from(string.as_utfstr(), marks.as_slice(), steps);
     let kept = place_in(edit, count) / 64;
-    // The edit may read the units behind the last mark that stays, and no others.
+    // The edit may read the units after the last entry that is retained, and no others.
     steps.tick(units_from(string.as_utfstr(), marks.as_slice(), kept));
     let reply = apply16(string, edit, start, end, room);
     marks.truncate(kept);
@@ -162,11 +164,12 @@ fn apply_to(
 }
 
 impl Marked16 {
-    /// The string, with its marks.
+    /// Builds the offset index of a string.
     ///
     /// # Errors
     ///
-    /// The memory for the marks was refused. The error is the string, as it was.
+    /// The string, unchanged, if the allocation for the index fails. It never fails if the string has fewer than 64
+    /// characters.
     pub fn new(alloc: Global, string: Utf16String) -> Result<Self, Utf16String>
         ensures ok { IfOk result (λ m. m.string ≡ string) }
         ensures err { IfErr result (λ s. s ≡ string) }
@@ -182,15 +185,15 @@ impl Marked16 {
         }
     }
 
-    /// The marks: for each `k` from 1 on, as far as there are `64 * k` characters, how many units the first `64 * k` take (Unicode
-    /// Standard, D79 and D91).
+    /// Returns the entries of the offset index: for each `k` from 1 on, as long as there are `64 * k` characters, the
+    /// length in units of the first `64 * k` characters (Unicode Standard, D79 and D91).
     pub fn marks(&self) -> &[usize]
         ensures { result.now ≡ marks_of (marked_text self.now) }
     {
         self.marks.as_slice()
     }
 
-    /// A view of the text.
+    /// Returns a view of the text.
     pub fn as_utfstr(&self) -> Utf16Str<'_>
         ensures units { units_seen result ≡ marked_units self.now }
         ensures encoded { units_seen result ≡ encode Utf16 (marked_text self.now) }
@@ -199,7 +202,7 @@ impl Marked16 {
         self.string.as_utfstr()
     }
 
-    /// The string, without its marks.
+    /// Returns the string, without its offset index.
     pub fn into_utfstring(self) -> Utf16String
         ensures string { result ≡ self.string }
         ensures encoded { result.units ≡ encode Utf16 (marked_text self) }
@@ -209,9 +212,10 @@ impl Marked16 {
         string
     }
 
-    /// The offset, in units, at which character number `index` begins, counted from 0: the unit length of the first `index`
-    /// characters, so that their number has the offset of the end. None past it. It reads the characters from the last mark not past
-    /// it, which are fewer than 64 and so no more than 126 units, and counts these units.
+    /// Returns the offset, in units, at which the character at an index begins, which is the length in units of the
+    /// first `index` characters. If the index is the number of characters, returns the offset of the end. If it is
+    /// greater, returns `None`. It reads the characters from the last index entry that is not past it, which are fewer
+    /// than 64 and so at most 126 units, and counts these units.
     pub fn unit_offset(&self, index: usize, steps: &mut Steps) -> Option<usize>
         ensures some { IsSome result ↔ (index ≤ length (marked_text self.now)) }
         ensures place { IfSome result (IsPlaceOf Utf16 (marked_units self.now) index) }
@@ -221,12 +225,12 @@ impl Marked16 {
         find_from(self.string.as_utfstr(), self.marks.as_slice(), index, steps)
     }
 
-    /// As [`TextEdit::prepare`], and counts steps, one for each unit that may be read: no more than 252, and for a `SplitOff` those
-    /// from its place on.
+    /// Allocates all memory that an edit needs, like [`TextEdit::prepare`]. It counts a step for each unit that may be
+    /// read: at most 252, and for a `SplitOff` the units from its offset on.
     ///
     /// # Errors
     ///
-    /// An allocation was refused. The text has the units that it had, and no less capacity.
+    /// [`OutOfMemory`] if an allocation fails. The text keeps its units, and its capacity does not shrink.
     pub fn prepare_counted(
         &mut self,
         alloc: Global,
@@ -256,8 +260,14 @@ impl Marked16 {
         Ok(room)
     }
 
-    /// As [`TextEdit::apply`], and counts steps, one for each unit that may be read: no more than 512, and all units of the old and of the
-    /// new text behind the last mark that is not past the edit's place, read or not.
+    /// Makes an edit in memory that was allocated for it, like [`TextEdit::apply`]. It counts a step for each unit that
+    /// may be read: at most 512, and all units of the old and of the new text after the last index entry that is not
+    /// past the edit's first character, read or not.
+    ///
+    /// # Requires
+    ///
+    /// The text and its offset index have the capacity that the edit needs, and the vector is empty and has capacity
+    /// for the characters of the reply, as after [`Marked16::prepare_counted`] for this edit.
     pub fn apply_counted(&mut self, edit: Edit<'_>, room: Vec<char>, steps: &mut Steps) -> Reply
         requires ready { IsMarkedReady self.old edit }
         requires room { HasReplyRoom (marked_text self.old) edit room }

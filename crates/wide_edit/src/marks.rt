@@ -1,6 +1,7 @@
-//! Marks of a text in UTF-16, every sixty-four characters, and the search for a character from the last mark before it.
+//! The offset index of a UTF-16 text, with an entry for every 64th character, and the search for a character from the
+//! last entry before it.
 //!
-//! Each unit that is read ticks once.
+//! Each unit that is read is counted once.
 ghost use Rattle.std.specs.Prelude.{◌≡◌, ◌+◌, ◌-◌, ◌*◌, ◌/◌, ◌≤◌, length, take, drop, vec_capacity};
 ghost use Rattle.wide_unit.specs.EncodingForm.{Utf16, encode};
 ghost use Rattle.wide_unit.specs.Items.{chars};
@@ -14,7 +15,8 @@ use crate::counting::Steps;
 use wide_unit::Unit;
 use wide_utfstr::{CharsUtf16, Utf16Str};
 
-// The offset of a mark, or of the front for number 0, and the characters from there on. The marks are the first of the text's.
+// Returns the unit offset of entry number `number`, or 0 for number 0, and the characters from there on. The given
+// entries are the first ones of the text's index.
 fn seek<'a>(text: Utf16Str<'a>, marks: &[usize], number: usize) -> (usize, CharsUtf16<'a>)
     requires some { marks.now ≡ take (length marks.now) (marks_of (chars Utf16 (units_seen text))) }
     requires within { number ≤ length marks.now }
@@ -29,7 +31,7 @@ fn seek<'a>(text: Utf16Str<'a>, marks: &[usize], number: usize) -> (usize, Chars
     (at, behind.chars())
 }
 
-// Puts the marks that are missing behind those that are there. It reads the units from the last of these on.
+// Appends the missing entries to the index. It reads the units from the last entry on.
 pub(crate) fn mend(text: Utf16Str<'_>, marks: &mut Vec<usize>, steps: &mut Steps)
     requires some { marks.old.items ≡ take (length marks.old.items) (marks_of (chars Utf16 (units_seen text))) }
     requires room { length (chars Utf16 (units_seen text)) / 64 ≤ vec_capacity marks.old }
@@ -54,8 +56,8 @@ pub(crate) fn mend(text: Utf16Str<'_>, marks: &mut Vec<usize>, steps: &mut Steps
     }
 }
 
-// The unit offset of character number `index`, where there are as many. It reads from the last mark not past it, at most 63
-// characters.
+// Returns the offset, in units, of the character at an index, or `None` if the index is past the end. It reads from the
+// last entry that is not past the character, at most 63 characters.
 pub(crate) fn find_from(
     text: Utf16Str<'_>,
     marks: &[usize],
@@ -78,7 +80,7 @@ pub(crate) fn find_from(
     Some(at)
 }
 
-// How many characters there are. It reads those behind the last mark, at most 63.
+// Returns the number of characters. It reads those after the last entry, at most 63.
 pub(crate) fn count_from(text: Utf16Str<'_>, marks: &[usize], steps: &mut Steps) -> usize
     requires { marks.now ≡ marks_of (chars Utf16 (units_seen text)) }
     ensures count { result ≡ length (chars Utf16 (units_seen text.entry)) }
@@ -94,7 +96,7 @@ pub(crate) fn count_from(text: Utf16Str<'_>, marks: &[usize], steps: &mut Steps)
     count
 }
 
-// How many units stand behind a mark. It reads none of them.
+// Returns the number of units after an entry. It reads none of them.
 pub(crate) fn units_from(text: Utf16Str<'_>, marks: &[usize], number: usize) -> usize
     requires some { marks.now ≡ marks_of (chars Utf16 (units_seen text)) }
     requires within { number ≤ length marks.now }

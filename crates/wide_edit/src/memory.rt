@@ -1,4 +1,4 @@
-//! The memory that an edit takes: of a well-formed string, and for the characters of its reply.
+//! The memory that an edit needs: in a well-formed string, and for the characters of its reply.
 ghost use Rattle.std.specs.Prelude.{◌≡◌, ◌≤◌, ◌-◌, length, map, IsOk, OnOk, IfOk};
 ghost use Rattle.wide_unit.specs.EncodingForm.{encode};
 ghost use Rattle.wide_unit.specs.Places.{text_of};
@@ -14,7 +14,7 @@ use wide_error::OutOfMemory;
 use wide_utferror::FaultUnit;
 use wide_utfstring::UtfString;
 
-// How many units more the string has once the edit is made; 0 where it has no more.
+// Returns how many units the string grows by the edit, or 0 if it does not grow.
 pub(crate) fn growth<C: FaultUnit>(
     s: &UtfString<C>,
     edit: Edit<'_>,
@@ -51,7 +51,8 @@ pub(crate) fn growth<C: FaultUnit>(
     }
 }
 
-// How many characters the reply holds in a list. It reads the units behind the place of a `SplitOff`, and no others.
+// Returns how many characters the reply holds in a list. It reads the units after the offset of a `SplitOff`, and no
+// others.
 pub(crate) fn reply_len<C: FaultUnit>(
     s: &UtfString<C>,
     edit: Edit<'_>,
@@ -84,7 +85,7 @@ pub(crate) fn reply_len<C: FaultUnit>(
     }
 }
 
-// Finds all memory of an edit whose places were found.
+// Allocates all memory of an edit whose offsets were found.
 pub(crate) fn prepare_at<C: FaultUnit>(
     s: &mut UtfString<C>,
     alloc: Global,

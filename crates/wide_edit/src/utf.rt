@@ -1,4 +1,4 @@
-//! Well-formed strings as texts that edits change.
+//! Well-formed strings as texts that can be edited.
 ghost use Rattle.std.specs.Prelude.{◌≡◌, ◌≤◌, map, IsOk, OnOk, IfOk};
 ghost use Rattle.wide_unit.specs.Places.{text_of};
 ghost use Rattle.wide_edit.specs.Step.{step, chars_in};

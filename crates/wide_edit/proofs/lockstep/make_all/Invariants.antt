@@ -2,7 +2,7 @@ use Rattle.std.proofs.Common.{◌≡◌, ◌≤◌, take}
 use Rattle.wide_edit.specs.Edited.{HasRun}
 use Rattle.wide_edit.proofs.lockstep.make_all.Given as goal
 
--- as many edits are made as were gone over
+-- The loop invariant: as many edits were made as were iterated over.
 abbrev pub invariant-loop-edit : goal.invariant-loop-edit
 invariant-loop-edit g l =
     let text = g.T.TextEdit.text in

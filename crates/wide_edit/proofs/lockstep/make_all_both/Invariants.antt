@@ -2,7 +2,7 @@ use Rattle.std.proofs.Common.{◌≡◌, ◌≤◌, take}
 use Rattle.wide_edit.specs.Edited.{HasRun}
 use Rattle.wide_edit.proofs.lockstep.make_all_both.Given as goal
 
--- as many edits are made in both as were gone over
+-- The loop invariant: as many edits were made in both texts as were iterated over.
 abbrev pub invariant-loop-edit : goal.invariant-loop-edit
 invariant-loop-edit g l =
     let first_text = g.T.TextEdit.text in

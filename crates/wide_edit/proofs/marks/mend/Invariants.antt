@@ -9,7 +9,7 @@ use Rattle.wide_edit.specs.Counted.{counted}
 use Rattle.wide_edit.specs.Marks.{mark}
 use Rattle.wide_edit.proofs.marks.mend.Given as goal
 
--- the marks of the characters that were gone over, 64 for each mark and some more
+-- The loop invariant: the index entries of the characters that were read, 64 for each entry and `gone` more.
 abbrev pub invariant-loop-c : goal.invariant-loop-c
 invariant-loop-c l =
     let cs = chars Utf16 (units_seen l.fn.text) in
