@@ -1,4 +1,4 @@
--- What the unit at a place of well-formed units tells of it, over the units of any type.
+-- What the unit at an offset in well-formed units says about the offset, for units of any type.
 use Rattle.std.proofs.Common.{◌≡◌, ℕ, zero, suc, inl, inr, ◌-◌, ◌+◌, ◌<◌, ◌≤◌, List, [], ◌∷◌, take, drop, length-append, length-take, Bool, true, false, not, nat_eq, refl, sym, ◌∙◌, ap, subst, arith, eq-eqb, map, length, get_or, IsTrue, ◌↔◌}
 use Rattle.std.proofs.lemmas.List.{length-map, get_or-map, get_or-take, get_or_at, take-append-drop, length-take-le}
 use borrow.Author.Tests.{eqb-true}
@@ -16,7 +16,7 @@ module _ {X : Type 0} (form : EncodingForm) (number : X → ℕ) (xs : List X) (
   pub boundary-within : IsBoundary form (map number xs) place → place ≤ length xs
   boundary-within at = omega (arith, IsBoundary-within form (map number xs) place at, length-map xs number)
 
-  -- at the end or past it
+  -- The offset is at the end or past it.
   pub boundary_by_length : length xs ≤ place → IsTrue (nat_eq place (length xs)) ↔ IsBoundary form (map number xs) place
   boundary_by_length past = (
     λ same. let e : length (map number xs) ≡ place = omega (arith, length-map xs number, eqb-true place (length xs) same) in
@@ -24,7 +24,7 @@ module _ {X : Type 0} (form : EncodingForm) (number : X → ℕ) (xs : List X) (
     λ at. let e : place ≡ length xs = omega (arith, boundary-within at) in eq-eqb place (length xs) e,
   )
 
-  -- before the end
+  -- The offset is before the end.
   module _ (well : IsWellFormed form (map number xs)) (x : X) (here : place < length xs) (is : x ≡ get_or xs place x) where
     within : place < length (map number xs)
     within = omega (arith, length-map xs number)
@@ -42,7 +42,7 @@ module _ {X : Type 0} (form : EncodingForm) (number : X → ℕ) (xs : List X) (
       λ at. refl,
     )
 
--- before a place that is none there is one
+-- If an offset is no boundary, the offset before it is one.
 module _ (form : EncodingForm) (us : List ℕ) (n : ℕ) (well : IsWellFormed form us) (below : n + 1 < length us) where
   not_both : (form : EncodingForm) (u : ℕ) → IsHighSurrogate form u → IsLowSurrogate form u → ⊥
   not_both Utf16 u high low = omega (arith, high, low)
@@ -68,7 +68,7 @@ above-of_other n other l apart = grind (arith, l, apart)
 below-of_other : (other n : ℕ) → other ≤ suc n → (other ≡ suc n → ⊥) → other ≤ n
 below-of_other other n l apart = grind (arith, l, apart)
 
--- and behind it
+-- If an offset is no boundary, the offset after it is one.
 module _ (form : EncodingForm) (us : List ℕ) (n : ℕ) (well : IsWellFormed form us) where
   pub boundary_behind : n < length us → ¬ (IsCharBoundary form us n) → IsCharBoundary form us (n + 1)
   boundary_behind here none = (omega (arith, here), λ some within second. none (omega (arith, here), λ _ _ low. no-low_at_boundary form us (n + 1) well within (behind-boundary form us n well within low) second))

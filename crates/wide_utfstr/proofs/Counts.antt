@@ -1,4 +1,4 @@
--- How many characters well-formed units have.
+-- Bounds on the number of characters of well-formed units.
 use Rattle.std.proofs.Common.{◌≡◌, ℕ, ◌*◌, ◌/◌, ◌≤◌, List, [], ◌∷◌, inl, inr, ◌∙◌, ap, arith, length, length-append, map}
 use Rattle.std.proofs.lemmas.List.{length-map}
 use Rattle.std.proofs.Math.Nat.{div-le_of_le-mul}
@@ -7,7 +7,7 @@ use Rattle.wide_unit.specs.Items.{chars, IsWellFormed}
 use Rattle.wide_unit.specs.Laws.Forms.{code_units-cases, some_units}
 use Rattle.wide_unit.specs.Laws.Places.{encode-chars}
 
--- A character takes a unit, and no more units than U+10000.
+-- A character takes at least one unit, and at most as many as U+10000.
 most_of : (form : EncodingForm) (most : ℕ) → length (code_units form 0x1_0000) ≤ most → (c : ℕ) → length (code_units form c) ≤ most
 most_of Utf16 most all c = elim (code_units-cases Utf16 c) [
   | inl one ↦ rw one.1 (omega arith)
@@ -24,7 +24,8 @@ module _ (form : EncodingForm) where
   at_least_units most longest [] = omega arith
   at_least_units most longest (c ∷ cs) = omega (arith, length-append (code_units form c) (encode form cs), most_of form most longest c, at_least_units most longest cs)
 
--- How many characters there are: at most one for each unit, and at least one for each `most` units, which no character exceeds.
+-- The number of characters is at most the number of units, and at least the number of units divided by `most`, which no
+-- character exceeds.
 module _ {X : Type 0} (form : EncodingForm) (number : X → ℕ) (xs : List X) (well : IsWellFormed form (map number xs)) where
   all_units : length (encode form (chars form (map number xs))) ≡ length xs
   all_units = ap length (encode-chars form (map number xs) well) ∙ length-map xs number

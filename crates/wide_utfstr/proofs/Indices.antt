@@ -1,4 +1,4 @@
--- Characters with their offsets: each offset is a boundary, and calls give them in order.
+-- Characters with their offsets: each offset is a boundary, and calls return them in order.
 use Rattle.std.proofs.Common.{◌≡◌, ℕ, ◌+◌, List, [], ◌∷◌, ◌++◌, take, append_assoc, sym, ◌∙◌, ap, subst, length, length-append}
 use Rattle.std.specs.List.{All}
 use Rattle.std.specs.Iterator.Runs.{YieldsInOrder, YieldsInReverse}

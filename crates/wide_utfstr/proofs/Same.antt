@@ -2,7 +2,7 @@
 use Rattle.std.proofs.Common.{◌≡◌, ℕ, List, [], ◌∷◌, ap, ◌∙◌, sym, true, false, Bool, Option, Some, None, is_some, not, refl}
 use Rattle.std.specs.Prelude.{IsTrue, ◌↔◌, MatchOption}
 
--- the two are equal just where what is left of them is
+-- The two lists are equal if and only if their rests are.
 pub record IsSameAs (xs ys left rest : List ℕ) : Type 0 where
   pub onto : left ≡ rest → xs ≡ ys
   pub back : xs ≡ ys → left ≡ rest

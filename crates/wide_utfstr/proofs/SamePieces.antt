@@ -1,4 +1,4 @@
--- Text compared with the bytes of a text, or with its scalar values, a piece after another.
+-- Text compared with the bytes of a text, or with its scalar values, chunk by chunk.
 use Rattle.std.proofs.Common.{◌≡◌, ℕ, List, [], ◌∷◌, ◌++◌, Bool, true, false, nat_eq, IsTrue, ◌↔◌, refl, sym, ◌∙◌, ap, arith, length, map, take, drop, subst}
 use Rattle.std.proofs.lemmas.List.{append_cancel_left, map-id, take-append-drop}
 use Rattle.std.proofs.lemmas.Bool.Decides.{Decides-eqb}
@@ -18,14 +18,14 @@ use Rattle.wide_unit.specs.Laws.Utf32.{chars32-well_formed}
 use Rattle.wide_unit.specs.Laws.Utf8.{utf8-encode_utf8_all}
 use Rattle.wide_blocks.proofs.Utf8Texts.{all_scalars-of_All}
 
--- the characters are those of the text where the bytes are
+-- Characters equal those of a text if and only if the bytes are equal.
 pub same_bytes : (cs bs : List ℕ) → All IsScalar cs → IsUtf8 bs → (cs ≡ str_chars bs) ↔ (utf8 cs ≡ bs)
 same_bytes cs bs scalars text = (
   λ e. ap utf8 e ∙ utf8-encode_utf8_all (str_chars bs) ∙ encodes-chars bs text,
   λ e. sym (chars-encodes cs (all_scalars-of_All cs scalars)) ∙ ap str_chars (sym (utf8-encode_utf8_all cs) ∙ e),
 )
 
--- the characters of UTF-16 are those of UTF-32 where they are its units
+-- The characters of UTF-16 equal those of UTF-32 if and only if they are its units.
 pub same_scalars : (us vs narrow wide : List ℕ) → narrow ≡ us → wide ≡ vs → IsWellFormed Utf32 (map (λ (u : ℕ). u) wide) → (chars Utf16 (map (λ (u : ℕ). u) us) ≡ chars Utf32 (map (λ (u : ℕ). u) vs)) ↔ (chars Utf16 narrow ≡ wide)
 same_scalars us vs narrow wide is_narrow is_wide well =
     let left : chars Utf16 (map (λ (u : ℕ). u) us) ≡ chars Utf16 narrow = ap (chars Utf16) (map-id us ∙ sym is_narrow) in
@@ -33,19 +33,19 @@ same_scalars us vs narrow wide is_narrow is_wide well =
     let right : chars Utf32 (map (λ (u : ℕ). u) vs) ≡ wide = ap (chars Utf32) (map-id vs ∙ sym is_wide) ∙ scalars in
     (λ e. sym left ∙ e ∙ right, λ e. left ∙ e ∙ sym right)
 
--- no units are no characters
+-- An empty list of units has no characters.
 pub no_chars : (us : List ℕ) → length us ≡ 0 → chars Utf16 us ≡ []
 no_chars [] none = ap characters (items-nil Utf16)
 no_chars (u ∷ us) none = absurd (omega arith)
 
 module _ {T : Type 0} (ours theirs : List ℕ) (so_far : T ↔ (ours ≡ theirs)) where
-  -- behind a piece that both begin with
+  -- After a chunk that both begin with, the rests are equal if and only if the whole texts are.
   pub same_behind : (piece left rest : List ℕ) → ours ≡ piece ++ left → pointwise nat_eq (take (length piece) theirs) piece ≡ true → rest ≡ drop (length piece) theirs → T ↔ (left ≡ rest)
   same_behind piece left rest e begins behind =
       let f : theirs ≡ piece ++ rest = sym (take-append-drop (length piece) theirs) ∙ ap (λ xs. xs ++ drop (length piece) theirs) ((slice_eq-Decides Decides-eqb (take (length piece) theirs) piece true (sym begins)).0 refl) ∙ ap (λ ys. piece ++ ys) (sym behind) in
       (λ t. append_cancel_left piece left rest (sym e ∙ so_far.0 t ∙ f), λ g. so_far.1 (e ∙ ap (λ ys. piece ++ ys) g ∙ sym f))
 
-  -- where they do not begin with one
+  -- If they do not both begin with a chunk, they differ.
   pub no_longer_same : (piece left : List ℕ) → ours ≡ piece ++ left → pointwise nat_eq (take (length piece) theirs) piece ≡ false → IsTrue false ↔ T
   no_longer_same piece left e differs = (
     λ no. absurd cc,
@@ -54,7 +54,7 @@ module _ {T : Type 0} (ours theirs : List ℕ) (so_far : T ↔ (ours ≡ theirs)
         absurd cc,
   )
 
-  -- where none of ours is left
+  -- If no units of the view are left, they are equal if and only if none of the other are left.
   pub same_at_end : (empty : Bool) → ours ≡ [] → empty ≡ nat_eq (length theirs) 0 → IsTrue empty ↔ T
   same_at_end empty e is = (
     λ yes. so_far.1 (e ∙ sym (nothing theirs ((Decides-eqb (length theirs) 0).0 (sym is ∙ yes)))),

@@ -1,4 +1,4 @@
--- What is left of characters without the White_Space at an end is one list.
+-- Removing the White_Space at an end of characters has only one result.
 use Rattle.std.proofs.Common.{◌≡◌, ℕ, List, [], ◌∷◌, ◌++◌, refl, sym, ◌∙◌, ap, subst}
 use Rattle.std.proofs.lemmas.List.{reverse-append, reverse-reverse}
 use Rattle.std.proofs.lemmas.List.Elements.{All-nil, All-head, All-tail, All-push, All-same, All-append}
@@ -17,7 +17,7 @@ fronts-same (c ∷ front) (d ∷ before) rest left e white also begins starts =
 pub trimmed_start-same : (cs rest left : List ℕ) → IsTrimmedStart cs rest → IsTrimmedStart cs left → rest ≡ left
 trimmed_start-same cs rest left a b = fronts-same a.front b.front rest left (sym a.joined ∙ b.joined) a.white b.white a.longest b.longest
 
--- from the end, by the lists the other way round
+-- For the end, by the reversed lists.
 white-reverse : (cs : List ℕ) → All IsWhiteSpace cs → All IsWhiteSpace (reverse cs)
 white-reverse [] white = All-nil IsWhiteSpace
 white-reverse (c ∷ cs) white =
@@ -40,7 +40,8 @@ trimmed_end-same cs rest left a b =
     let same = trimmed_start-same (reverse cs) (reverse rest) (reverse left) (trimmed_start-reverse cs rest a) (trimmed_start-reverse cs left b) in
     sym (reverse-reverse rest) ∙ ap reverse same ∙ reverse-reverse left
 
--- from both ends: where nothing is left all are White_Space, and else the two ends are trimmed one after the other
+-- For both ends: if nothing remains, all characters are White_Space. Otherwise the two ends are trimmed one after the
+-- other.
 white-back : (front back : List ℕ) → All IsWhiteSpace (front ++ back) → All IsWhiteSpace back
 white-back [] back white = white
 white-back (c ∷ front) back white = white-back front back (All-tail IsWhiteSpace c (front ++ back) white)

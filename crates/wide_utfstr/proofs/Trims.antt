@@ -1,4 +1,4 @@
--- White_Space taken from an end, one character after another.
+-- White_Space removed from an end, one character after another.
 use Rattle.std.proofs.Common.{◌≡◌, ℕ, List, [], ◌∷◌, ◌++◌, refl, sym, ◌∙◌, ap, take, drop, append_assoc, true, false}
 use Rattle.std.proofs.lemmas.List.{append-nil, take-append-drop}
 use Rattle.std.proofs.lemmas.List.Elements.{All-nil, All-cons, All-push}
@@ -6,7 +6,7 @@ use Rattle.std.specs.Char.{is_whitespace}
 use Rattle.std.specs.List.{All}
 use Rattle.wide_utfstr.specs.Trim.{IsWhiteSpace, BeginsWithText, EndsWithText, IsTrimmedStart, IsTrimmedEnd, IsTrimmed, IsBackOf, IsFrontOf, IsMiddleOf}
 
--- all that was taken from the front, or from the back, is White_Space
+-- All that was removed from the front, or from the back, is White_Space.
 pub record IsPastWhite (cs rest : List ℕ) : Type 0 where
   pub front : List ℕ
   pub joined : cs ≡ front ++ rest
@@ -71,7 +71,7 @@ before-all cs rest before e = record { back = before.back; joined = before.joine
 pub before-end : (cs rest others : List ℕ) (c : ℕ) → IsBeforeWhite cs rest → rest ≡ others ++ c ∷ [] → is_whitespace c ≡ false → IsTrimmedEnd cs rest
 before-end cs rest others c before e black = record { back = before.back; joined = before.joined; white = before.white; longest = ends-push rest others c e black }
 
--- a front of what begins with no White_Space begins with none
+-- If a text begins with no White_Space, neither does a prefix of it.
 begins-front : (mid rest back : List ℕ) → mid ≡ rest ++ back → BeginsWithText mid → BeginsWithText rest
 begins-front mid rest back e begins c others f = begins c (others ++ back) (e ∙ ap (λ xs. xs ++ back) f)
 
@@ -86,7 +86,7 @@ trimmed-both cs mid rest start end = record {
   last = end.longest;
 }
 
--- The units that are left, after as many as a character has.
+-- The units that remain after the units of a character are removed.
 module _ {C : Type 0} where
   pub back-none : (us : List C) → IsBackOf us us
   back-none us = ([], refl)

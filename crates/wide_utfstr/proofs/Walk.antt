@@ -1,4 +1,4 @@
--- Characters taken from the front, one after another.
+-- Characters read from the front, one after another.
 use Rattle.std.proofs.Common.{◌≡◌, ℕ, ◌+◌, ◌≤◌, List, [], ◌∷◌, ◌++◌, sym, ◌∙◌, ap, subst, arith, length, length-append, length-drop, take, drop}
 use Rattle.std.proofs.lemmas.List.{take-append-drop, drop-drop}
 use Rattle.std.proofs.lemmas.List.Concat.{flat_map-append}
@@ -12,7 +12,8 @@ use Rattle.wide_unit.specs.Laws.Ends.{items-append_left}
 use Rattle.wide_unit.specs.Laws.Places.{chars-encode, encode-chars, scalars-chars, IsPlaceOf-front}
 use Rattle.wide_unit.specs.Laws.Policies.{characters-append}
 
--- what is left of the units is the encoding of their characters from number `index` on, and there are that many
+-- The rest of the units is the encoding of their characters from number `index` on, and the text has at least that
+-- many.
 pub record IsLeftFrom (form : EncodingForm) (us rest : List ℕ) (index : ℕ) : Type 0 where
   pub characters : rest ≡ encode form (drop index (chars form us))
   pub within : index ≤ length (chars form us)
@@ -48,13 +49,13 @@ module _ (form : EncodingForm) (us : List ℕ) (well : IsWellFormed form us) whe
     pub left-shorter : length rest ≤ length us
     left-shorter = omega (arith, left-length)
 
-    -- the place that was reached
+    -- The offset that was reached.
     pub left-place : (place : ℕ) → place + length rest ≡ length us → IsPlaceOf form us index place
     left-place place e =
         let long : length (encode form (take index (chars form us))) ≡ place = omega (arith, left-length) in
         subst (λ n. IsPlaceOf form us index n) long (IsPlaceOf-front form us well index)
 
-    -- behind a front of as many characters
+    -- The rest after a prefix of so many characters.
     pub left-front : (front others : List ℕ) (count : ℕ) → front ++ others ≡ rest → IsWellFormed form front → IsWellFormed form others → count ≡ length (chars form front) → count + index ≤ length (chars form us) × IsLeftFrom form us others (index + count)
     left-front front others count joined before after counted =
         let split : drop index (chars form us) ≡ chars form front ++ chars form others =

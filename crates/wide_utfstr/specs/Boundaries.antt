@@ -1,15 +1,15 @@
--- The boundaries around a place of well-formed units.
+-- The character boundaries around an offset in well-formed units.
 use Rattle.std.specs.Prelude.{◌≡◌, ◌≤◌, ℕ, List, length}
 use Rattle.wide_unit.specs.EncodingForm.{EncodingForm}
 use Rattle.wide_unit.specs.Places.{IsCharBoundary}
 
--- the last at or before it
+-- The last boundary at or before the offset.
 pub record IsFloorBoundary (form : EncodingForm) (units : List ℕ) (place at : ℕ) : Type 0 where
   pub boundary : IsCharBoundary form units at
   pub within : at ≤ place
   pub greatest : (other : ℕ) → IsCharBoundary form units other → other ≤ place → other ≤ at
 
--- the first at or behind it, or the end where it lies past that
+-- The first boundary at or after the offset, or the end if the offset is past the end.
 pub record IsCeilBoundary (form : EncodingForm) (units : List ℕ) (place at : ℕ) : Type 0 where
   pub boundary : IsCharBoundary form units at
   pub not_before : place ≤ length units → place ≤ at

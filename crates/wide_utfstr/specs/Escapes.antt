@@ -1,4 +1,4 @@
--- What the iterators over the escapes of a well-formed view have left.
+-- What the iterators over the escapes of a well-formed view will yield.
 use Rattle.std.specs.Prelude.{◌≡◌, ℕ, ◌+◌, ◌*◌, length, true, if◌then◌else◌, List, [], ◌∷◌, ◌++◌, Option, Some, None, IfNone}
 use Rattle.std.specs.Char.{is_ascii}
 use Rattle.std.specs.Char.Escape.{escape_unicode, escape_default}
@@ -15,20 +15,21 @@ use Rattle.wide_utfstr.specs.declared.escapes.EscapeUnicode.{EscapeUnicode}
 use Rattle.wide_utfstr.specs.declared.escapes.EscapeDefault.{EscapeDefault}
 use Rattle.wide_utfstr.specs.declared.escapes.EscapeDebug.{EscapeDebug}
 
--- the bytes between quotes
+-- The bytes between quotes.
 abbrev pub in_quotes : List ℕ → List ℕ
 in_quotes bs = 34 ∷ (bs ++ 34 ∷ [])
 
 module _ {C : Type 0} {g : Ghosts C} where
-  -- the characters whose escapes were not begun yet
+  -- The characters whose escapes were not begun.
   abbrev pub escapes_rest : Escapes C g → List ℕ
   escapes_rest s = text_seen s.rest
 
-  -- what is left of the escape that was begun, and the escapes of those, where `escaped` is a character's
+  -- The rest of the escape that was partly read, and the escapes of the characters after it, given the escape of each
+  -- character.
   abbrev pub escapes_left : (ℕ → List ℕ) → Escapes C g → List ℕ
   escapes_left escaped s = hand_rest escape_rest s.current ++ flat_map escaped (escapes_rest s)
 
-  -- no more characters than that are to come: ten for each escape
+  -- A bound on the number of characters to be yielded: ten for each escape.
   abbrev pub escapes_most : Escapes C g → ℕ
   escapes_most s = hand_left escape_left s.current + 10 * length (escapes_rest s)
 
@@ -38,7 +39,7 @@ module _ {C : Type 0} {g : Ghosts C} where
   abbrev pub default_left : EscapeDefault C g → List ℕ
   default_left s = escapes_left escape_default s.escapes
 
-  -- the same of `escape_debug`, where the characters that were not begun yet are ASCII
+  -- What an `EscapeDebug` will yield, which is specified if the characters whose escapes were not begun are ASCII.
   abbrev pub debug_left : EscapeDebug C g → List ℕ
   debug_left s = escapes_left escape_debug s.escapes
 
@@ -48,11 +49,12 @@ module _ {C : Type 0} {g : Ghosts C} where
   abbrev pub debug_most : EscapeDebug C g → ℕ
   debug_most s = escapes_most s.escapes
 
-  -- a call gave the first of what is left, where that is told, and nothing only where nothing is left
+  -- A call returned the first of the characters to be yielded, if they are specified. It returned `None` only if none
+  -- were left.
   abbrev pub DebugGives : EscapeDebug C g → Option ℕ → EscapeDebug C g → Type 0
   DebugGives s r t = (HasAsciiLeft s → YieldsFirst debug_left s r t × HasAsciiLeft t) × IfNone r ((debug_most s ≡ 0) × (debug_most t ≡ 0))
 
-  -- what is printed of it, as it stands and between quotes; past ASCII nothing is said
+  -- What is printed, without and with quotes. Beyond ASCII nothing is specified.
   abbrev pub debug_left_output : EscapeDebug C g → Option (List ℕ)
   debug_left_output s = if list_all is_ascii (escapes_rest s.escapes) then Some (utf8 (debug_left s)) else None
 

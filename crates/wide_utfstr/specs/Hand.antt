@@ -1,7 +1,7 @@
--- An escape of which a part was taken.
+-- An escape that was partly read.
 use Rattle.std.specs.Prelude.{ℕ, List, [], Option, Some, None}
 
--- what is left of it, and how much that is: nothing where there is no escape
+-- The rest of the escape, and its length; nothing if there is no escape.
 abbrev pub hand_rest : {E : Type 0} → (E → List ℕ) → Option E → List ℕ
 hand_rest rest None = []
 hand_rest rest (Some escape) = rest escape

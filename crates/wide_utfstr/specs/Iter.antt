@@ -1,4 +1,4 @@
--- What the iterators over a well-formed view have left.
+-- What the iterators over a well-formed view will yield.
 use Rattle.std.specs.Prelude.{◌≡◌, ◌+◌, ℕ, List, map, Option}
 use Rattle.std.specs.Iterator.{YieldsFirst, YieldsLast}
 use Rattle.std.specs.Iterator.Runs.{YieldsInOrder, YieldsInReverse}
@@ -12,42 +12,43 @@ use Rattle.wide_utfstr.specs.declared.iter.Chars.{Chars}
 use Rattle.wide_utfstr.specs.declared.iter.CharIndices.{CharIndices}
 use Rattle.wide_utfstr.specs.declared.iter.CodeUnits.{CodeUnits}
 
--- the units of a view that were not taken yet
+-- The units of a view that were not read yet.
 abbrev pub code_units_rest : CodeUnits → List ℕ
 code_units_rest s = s.rest.now
 
 module _ {C : Type 0} {g : Ghosts C} where
-  -- the units that were not taken yet
+  -- The units that were not read yet.
   abbrev pub chars_rest : Chars C g → List C
   chars_rest s = units_seen s.text
 
   abbrev pub indices_rest : CharIndices C g → List C
   indices_rest s = units_seen s.text
 
-  -- the unit length of what was taken from the front
+  -- The length in units of what was read from the front.
   abbrev pub offset_of : CharIndices C g → ℕ
   offset_of s = s.offset
 
   module _ (form : EncodingForm) (number : C → ℕ) where
-    -- what is to come: their characters, and these with their offsets
+    -- What will be yielded: the characters of those units, and these characters with their offsets.
     abbrev pub chars_left : Chars C g → List ℕ
     chars_left s = chars form (map number (chars_rest s))
 
     abbrev pub indices_left : CharIndices C g → List (ℕ × ℕ)
     indices_left s = indexed_chars form (offset_of s) (chars form (map number (indices_rest s)))
 
-  -- a call gave the first character with its offset
+  -- A call returned the first character with its offset.
   abbrev pub IndicesGive : CharIndices C g → Option (ℕ × ℕ) → CharIndices C g → Type 0
   IndicesGive s r t = YieldsFirst (indices_left g.form g.number) s r t × (offset_of t ≡ offset_of s + given_length g.form r)
 
-  -- what calls give, one after another, are the characters that were still to come
+  -- Successive calls return the characters that were not read yet.
   abbrev pub IndicesRun : CharIndices C g → Type 0
   IndicesRun _ = YieldsInOrder IndicesGive (indices_left g.form g.number)
 
-  -- a call from the back gave the last character with its offset, and the offset of the next one from the front stays
+  -- A call from the back returned the last character with its offset, and did not change the offset of the next one
+  -- from the front.
   abbrev pub IndicesGiveBack : CharIndices C g → Option (ℕ × ℕ) → CharIndices C g → Type 0
   IndicesGiveBack s r t = YieldsLast (indices_left g.form g.number) s r t × (offset_of t ≡ offset_of s)
 
-  -- what calls from the back give, one after another, are those characters, the last one first
+  -- Successive calls from the back return those characters, the last one first.
   abbrev pub IndicesRunBack : CharIndices C g → Type 0
   IndicesRunBack _ = YieldsInReverse IndicesGiveBack (indices_left g.form g.number)

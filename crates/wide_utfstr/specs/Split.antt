@@ -1,4 +1,4 @@
--- What an iterator over the pieces of well-formed text has left.
+-- What an iterator over the substrings of well-formed text will yield.
 use Rattle.std.specs.Prelude.{ℕ, List}
 use Rattle.wide_unit.specs.EncodingForm.{EncodingForm, code_units}
 use Rattle.wide_unit.specs.declared.unit.Unit.{Ghosts}
@@ -8,10 +8,10 @@ use Rattle.wide_utfstr.specs.View.{numbers_seen}
 use Rattle.wide_utfstr.specs.declared.view.UtfStr.{UtfStr}
 
 module _ {C : Type 0} {g : Ghosts C} where
-  -- of text that is cut at text
+  -- The substrings of text that is split at a text.
   abbrev pub text_pieces_left : (C → ℕ) → Split (UtfStr C g) (UtfStr C g) → List (List ℕ)
   text_pieces_left number s = pieces_left (numbers_seen number) (numbers_seen number) s
 
-  -- of text that is cut at a character
+  -- The substrings of text that is split at a character.
   abbrev pub char_pieces_left : EncodingForm → (C → ℕ) → Split (UtfStr C g) ℕ → List (List ℕ)
   char_pieces_left form number s = pieces_left (numbers_seen number) (code_units form) s

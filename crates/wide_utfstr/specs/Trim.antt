@@ -6,28 +6,28 @@ use Rattle.std.specs.List.{All}
 abbrev pub IsWhiteSpace : ℕ → Type 0
 IsWhiteSpace c = is_whitespace c ≡ true
 
--- the first, or the last, of the characters, where there are any, is no White_Space
+-- The first character, or the last one, is no White_Space, if there are any characters.
 abbrev pub BeginsWithText : List ℕ → Type 0
 BeginsWithText cs = (c : ℕ) (others : List ℕ) → cs ≡ c ∷ others → ¬ (IsWhiteSpace c)
 
 abbrev pub EndsWithText : List ℕ → Type 0
 EndsWithText cs = (c : ℕ) (others : List ℕ) → cs ≡ others ++ c ∷ [] → ¬ (IsWhiteSpace c)
 
--- the rest of the characters after their longest front of White_Space
+-- The rest of the characters after their longest prefix of White_Space.
 pub record IsTrimmedStart (cs rest : List ℕ) : Type 0 where
   pub front : List ℕ
   pub joined : cs ≡ front ++ rest
   pub white : All IsWhiteSpace front
   pub longest : BeginsWithText rest
 
--- the rest before their longest back of White_Space
+-- The rest of the characters before their longest suffix of White_Space.
 pub record IsTrimmedEnd (cs rest : List ℕ) : Type 0 where
   pub back : List ℕ
   pub joined : cs ≡ rest ++ back
   pub white : All IsWhiteSpace back
   pub longest : EndsWithText rest
 
--- the rest between the two
+-- The rest of the characters between their longest prefix and their longest suffix of White_Space.
 pub record IsTrimmed (cs rest : List ℕ) : Type 0 where
   pub front : List ℕ
   pub back : List ℕ
@@ -37,7 +37,7 @@ pub record IsTrimmed (cs rest : List ℕ) : Type 0 where
   pub first : BeginsWithText rest
   pub last : EndsWithText rest
 
--- Which units the rest is: those that the units end with, begin with, or have between others.
+-- `rest` is a suffix of the units, a prefix of them, or a sublist between other units.
 abbrev pub IsBackOf : {C : Type 0} → List C → List C → Type 0
 IsBackOf {C} us rest = (front : List C) × (us ≡ front ++ rest)
 

@@ -1,4 +1,4 @@
--- What a well-formed view shows.
+-- The units and the characters of a well-formed view.
 use Rattle.std.specs.Prelude.{ℕ, List, map}
 use Rattle.wide_unit.specs.EncodingForm.{EncodingForm}
 use Rattle.wide_unit.specs.Segmentation.{Item}
@@ -6,18 +6,18 @@ use Rattle.wide_unit.specs.Items.{items, chars}
 use Rattle.wide_unit.specs.declared.unit.Unit.{Ghosts}
 use Rattle.wide_utfstr.specs.declared.view.UtfStr.{UtfStr}
 
--- its units
+-- Its units.
 abbrev pub units_seen : {C : Type 0} {g : Ghosts C} → UtfStr C g → List C
 units_seen view = view.units.now
 
--- its characters
+-- Its characters.
 abbrev pub text_seen : {C : Type 0} {g : Ghosts C} → UtfStr C g → List ℕ
 text_seen {g = g} view = chars g.form (map g.number view.units.now)
 
--- the items of its units, which are its characters alone
+-- The items of its units, which are its characters only.
 abbrev pub items_seen : {C : Type 0} {g : Ghosts C} → EncodingForm → (C → ℕ) → UtfStr C g → List Item
 items_seen form number view = items form (map number (units_seen view))
 
--- the numbers of its units
+-- The numbers of its units.
 abbrev pub numbers_seen : {C : Type 0} {g : Ghosts C} → (C → ℕ) → UtfStr C g → List ℕ
 numbers_seen number view = map number (units_seen view)

@@ -1,4 +1,4 @@
-//! The boundaries around a place.
+//! The character boundaries around an offset.
 ghost use Rattle.std.specs.Prelude.{map};
 ghost use Rattle.wide_utfstr.specs.Boundaries.{IsFloorBoundary, IsCeilBoundary};
 ghost use Rattle.wide_utfstr.specs.View.{units_seen};
@@ -7,8 +7,9 @@ use crate::view::UtfStr;
 use wide_unit::Unit;
 
 impl<C: Unit> UtfStr<'_, C> {
-    /// The last boundary at or before a place, counted in units: the place itself, or the one before it where it lies within a surrogate
-    /// pair (Unicode Standard, D75), or the end where it lies past that. It reads at most one unit.
+    /// Returns the last character boundary at or before an offset in units. That is the offset itself, or the one
+    /// before it if it is within a surrogate pair (Unicode Standard, D75), or the end if it is past the end. It reads
+    /// at most one unit.
     pub fn floor_char_boundary(self, place: usize) -> usize
         ensures { IsFloorBoundary C.form (map C.number (units_seen self.entry)) place result }
     {
@@ -21,8 +22,9 @@ impl<C: Unit> UtfStr<'_, C> {
         }
     }
 
-    /// The first boundary at or behind a place, counted in units: the place itself, or the one behind it where it lies within a surrogate
-    /// pair (Unicode Standard, D75), or the end where it lies past that. It reads at most one unit.
+    /// Returns the first character boundary at or after an offset in units. That is the offset itself, or the one after
+    /// it if it is within a surrogate pair (Unicode Standard, D75), or the end if it is past the end. It reads at most
+    /// one unit.
     pub fn ceil_char_boundary(self, place: usize) -> usize
         ensures { IsCeilBoundary C.form (map C.number (units_seen self.entry)) place result }
     {

@@ -1,4 +1,4 @@
-//! Well-formed text compared with text of other types.
+//! Comparison of well-formed text with text of other types.
 ghost use Rattle.std.specs.Prelude.{◌≡◌, ◌↔◌, IsTrue};
 ghost use Rattle.std.specs.Str.{chars as str_chars};
 ghost use Rattle.wide_utfstr.specs.View.{text_seen};
@@ -7,10 +7,10 @@ use crate::view::{Utf16Str, Utf32Str, UtfStr};
 use wide_blocks::{decode_front, encode_front};
 use wide_unit::Unit;
 
-// As many bytes, or scalar values, as are compared in one step, at most.
+// The most bytes, or scalar values, that are compared in one step.
 const PIECE: usize = 256;
 
-// Whether two texts have the same characters. The units of UTF-32 are those.
+// Returns whether two texts have the same characters. In UTF-32 the units are the characters.
 fn same_text(narrow: Utf16Str<'_>, wide: Utf32Str<'_>) -> bool
     ensures { IsTrue result ↔ (text_seen narrow.entry ≡ text_seen wide.entry) }
 {
@@ -29,7 +29,8 @@ fn same_text(narrow: Utf16Str<'_>, wide: Utf32Str<'_>) -> bool
 }
 
 impl<C: Unit> UtfStr<'_, C> {
-    /// Whether the characters are those of the `str`. Both are read once, by blocks, as far as the blocks agree.
+    /// Returns whether the view has the same characters as the `str`. It reads both once, chunk by chunk, until two
+    /// chunks differ.
     pub fn eq_str(self, text: &str) -> bool
         ensures { IsTrue result ↔ (text_seen self.entry ≡ str_chars text.now) }
     {
@@ -49,7 +50,8 @@ impl<C: Unit> UtfStr<'_, C> {
 }
 
 impl UtfStr<'_, u16> {
-    /// Whether the characters are those of the UTF-32 text. Both are read once, by blocks, as far as the blocks agree.
+    /// Returns whether the view has the same characters as the UTF-32 text. It reads both once, chunk by chunk, until
+    /// two chunks differ.
     pub fn eq_utf32(self, other: Utf32Str<'_>) -> bool
         ensures { IsTrue result ↔ (text_seen self.entry ≡ text_seen other.entry) }
     {
@@ -58,14 +60,15 @@ impl UtfStr<'_, u16> {
 }
 
 impl UtfStr<'_, u32> {
-    /// Whether the characters are those of the UTF-16 text. Both are read once, by blocks, as far as the blocks agree.
+    /// Returns whether the view has the same characters as the UTF-16 text. It reads both once, chunk by chunk, until
+    /// two chunks differ.
     pub fn eq_utf16(self, other: Utf16Str<'_>) -> bool
         ensures { IsTrue result ↔ (text_seen self.entry ≡ text_seen other.entry) }
     {
         same_text(other, self)
     }
 
-    /// Whether the characters are those of the slice. Both are read once, as far as they agree and one character more.
+    /// Returns whether the view has the same characters as the slice. It reads both once, until two characters differ.
     pub fn eq_chars(self, chars: &[char]) -> bool
         ensures { IsTrue result ↔ (text_seen self.entry ≡ chars.now) }
     {

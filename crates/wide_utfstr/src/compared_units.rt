@@ -1,4 +1,4 @@
-//! Well-formed text compared with units that are not told to be well formed.
+//! Comparison of well-formed text with units that may be ill-formed.
 ghost use Rattle.std.specs.Prelude.{◌≡◌, ◌↔◌, List, IsTrue};
 ghost use Rattle.wide_ustr.specs.View.{units_seen as ustr_units};
 ghost use Rattle.wide_ucstr.specs.View.{contents_seen};
@@ -11,14 +11,14 @@ use wide_ustr::UStr;
 use wide_utferror::FaultUnit;
 
 impl<C: FaultUnit> UtfStr<'_, C> {
-    /// Whether the units are those of the view. It stops at the first that differ.
+    /// Returns whether both views have the same units. It stops at the first that differ.
     pub fn eq_ustr(self, other: UStr<'_, C>) -> bool
         ensures { IsTrue result ↔ (units_seen self.entry ≡ ustr_units other.entry) }
     {
         same_units(self.as_slice(), other.as_slice())
     }
 
-    /// Whether the units are the contents of the C string, without its NUL. It stops at the first that differ.
+    /// Returns whether the units are the contents of the C string, without its NUL. It stops at the first that differ.
     pub fn eq_ucstr(self, other: UCStr<'_, C>) -> bool
         ensures { IsTrue result ↔ (units_seen self.entry ≡ contents_seen other.entry) }
     {
@@ -26,16 +26,16 @@ impl<C: FaultUnit> UtfStr<'_, C> {
     }
 }
 
-/// How a view of units of the type `C` compares with well-formed text of the type `T`: a call of the view, in a trait since the
-/// view's crate knows no well-formed text.
+/// Comparison of a view of units of the type `C` with well-formed text of the type `T`. It is in a trait because the
+/// view's crate does not know well-formed text.
 pub trait UStrInUtfstr<C, T> {
-    // The units that are seen.
+    // The units of the view.
     ghost units: { Self → List C };
 
     // The units of the text.
     ghost text: { T → List C };
 
-    /// Whether the units are those of the text. It stops at the first that differ.
+    /// Returns whether the view has the units of the text. It stops at the first that differ.
     fn eq_utfstr(self, other: T) -> bool
         ensures { IsTrue result ↔ (units self ≡ text other) };
 }
@@ -50,8 +50,8 @@ impl<'a, C: FaultUnit> UStrInUtfstr<C, UtfStr<'a, C>> for UStr<'_, C> {
     }
 }
 
-/// How a view of a C string of the type `C` of units compares with well-formed text of the type `T`: a call of the view, in a trait
-/// since the view's crate knows no well-formed text.
+/// Comparison of a view of a C string, of units of the type `C`, with well-formed text of the type `T`. It is in a
+/// trait because the view's crate does not know well-formed text.
 pub trait UCStrInUtfstr<C, T> {
     // The units before the NUL.
     ghost contents: { Self → List C };
@@ -59,7 +59,7 @@ pub trait UCStrInUtfstr<C, T> {
     // The units of the text.
     ghost text: { T → List C };
 
-    /// Whether the contents, without the NUL, are the units of the text. It stops at the first that differ.
+    /// Returns whether the contents, without the NUL, are the units of the text. It stops at the first that differ.
     fn eq_utfstr(self, other: T) -> bool
         ensures { IsTrue result ↔ (contents self ≡ text other) };
 }

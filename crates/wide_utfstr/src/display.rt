@@ -1,4 +1,4 @@
-//! What is printed of a well-formed view, and of its characters that are still to come.
+//! `Display` and `Debug` of a well-formed view, and of an iterator over its characters.
 ghost use Rattle.std.specs.Prelude.{map, Some};
 ghost use Rattle.wide_unit.specs.Texts.{debug_output};
 ghost use Rattle.wide_unit.specs.Utf8.{utf8};
@@ -16,7 +16,7 @@ impl<C: Unit> fmt::Display for UtfStr<'_, C> {
 
     ghost styled_output = { λ view _. Some (utf8 (text_seen view)) };
 
-    /// Prints the characters, whatever options the hole has.
+    /// Prints the characters. It ignores the format options.
     fn fmt<W: fmt::Write>(&self, f: &mut fmt::Formatter<W>) -> fmt::Result {
         fmt::Display::fmt(&UStr::from_slice(self.as_slice()).display(), f)
     }
@@ -27,7 +27,7 @@ impl<C: Unit> fmt::Debug for UtfStr<'_, C> {
 
     ghost debug_output = { λ view. debug_output C.form (map C.number (units_seen view)) };
 
-    /// Prints a quote, the characters as [`char::escape_debug`] gives them, and a quote.
+    /// Prints the characters between quotes, as [`char::escape_debug`] escapes them.
     fn fmt<W: fmt::Write>(&self, f: &mut fmt::Formatter<W>) -> fmt::Result {
         fmt::Debug::fmt(&UStr::from_slice(self.as_slice()), f)
     }
@@ -40,7 +40,7 @@ impl<C: Unit> fmt::Display for Chars<'_, C> {
 
     ghost styled_output = { λ s _. Some (utf8 (chars_left C.form C.number s)) };
 
-    /// Prints the characters that are left, whatever options the hole has.
+    /// Prints the characters that were not read yet. It ignores the format options.
     fn fmt<W: fmt::Write>(&self, f: &mut fmt::Formatter<W>) -> fmt::Result {
         fmt::Display::fmt(&self.text, f)
     }
@@ -51,7 +51,7 @@ impl<C: Unit> fmt::Debug for Chars<'_, C> {
 
     ghost debug_output = { λ s. debug_output C.form (map C.number (chars_rest s)) };
 
-    /// Prints a quote, the characters that are left as [`char::escape_debug`] gives them, and a quote.
+    /// Prints the characters that were not read yet between quotes, as [`char::escape_debug`] escapes them.
     fn fmt<W: fmt::Write>(&self, f: &mut fmt::Formatter<W>) -> fmt::Result {
         fmt::Debug::fmt(&self.text, f)
     }

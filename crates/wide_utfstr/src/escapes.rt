@@ -19,21 +19,21 @@ use std::iter::FusedIterator;
 use std::{char, fmt};
 use wide_unit::{Unit, write_escape};
 
-// One of the three ways to escape a character. std has one type for the escapes of all three.
+// One of the three ways to escape a character. The standard library has one type for the escapes of all three.
 trait Escaping {
-    // What is written for a character, and of which characters that is told.
+    // The escape of a character, and for which characters the contract specifies it.
     ghost escaped: { ℕ → List ℕ };
 
     ghost is_told: { ℕ → Bool };
 
-    // The escape of the character.
+    // Returns the escape of a character.
     fn escape(c: char) -> char::EscapeUnicode
         ensures rest { is_told c ≡ true → escape_rest result ≡ escaped c }
         ensures bound { escape_end result ≤ 10 }
         ensures some { 0 < escape_left result };
 }
 
-// `\u{..}` for each character.
+// Escapes each character as `\u{..}`.
 struct AsUnicode;
 
 impl Escaping for AsUnicode {
@@ -46,7 +46,7 @@ impl Escaping for AsUnicode {
     }
 }
 
-// As [`char::escape_default`].
+// Escapes like [`char::escape_default`].
 struct AsDefault;
 
 impl Escaping for AsDefault {
@@ -59,7 +59,7 @@ impl Escaping for AsDefault {
     }
 }
 
-// As [`char::escape_debug`], of which std's contract tells no more than the ASCII characters.
+// Escapes like [`char::escape_debug`]. The standard library's contract specifies it for ASCII characters only.
 struct AsDebug;
 
 impl Escaping for AsDebug {
@@ -72,7 +72,7 @@ impl Escaping for AsDebug {
     }
 }
 
-// Writes what is left of an escape that was begun, where there is one.
+// Writes the rest of an escape that was partly read, if there is one.
 fn write_hand<W: fmt::Write>(
     f: &mut fmt::Formatter<W>,
     current: Option<char::EscapeUnicode>,
@@ -87,7 +87,8 @@ fn write_hand<W: fmt::Write>(
     }
 }
 
-// The escapes of the characters of a text: what is left of the one that was begun, and the text after its character.
+// The escapes of the characters of a text: the rest of the escape that was partly read, and the text after its
+// character.
 struct Escapes<'a, C: Unit> {
     rest: UtfStr<'a, C>,
     current: Option<char::EscapeUnicode>,
@@ -119,7 +120,7 @@ impl<'a, C: Unit> Escapes<'a, C> {
         }
     }
 
-    // The next character, where the characters that are left are escaped as `E` has it.
+    // Returns the next character, with the characters that were not read yet escaped as `E` does it.
     fn next<E: Escaping>(&mut self) -> Option<char>
         ensures first { list_all E.is_told (escapes_rest self.old) ≡ true → YieldsFirst (escapes_left E.escaped) self.old result self.new }
         ensures told { list_all E.is_told (escapes_rest self.old) ≡ true → list_all E.is_told (escapes_rest self.new) ≡ true }
@@ -140,7 +141,7 @@ impl<'a, C: Unit> Escapes<'a, C> {
         first
     }
 
-    // Writes what is left, as `E` has it, whatever options the formatter has.
+    // Writes the characters that were not read yet, escaped as `E` does it. It ignores the format options.
     fn write<E: Escaping, W: fmt::Write>(&self, f: &mut fmt::Formatter<W>) -> fmt::Result
         ensures writes { list_all E.is_told (escapes_rest self.now) ≡ true → WritesOnOk W.write_str_gives f.old result (utf8 (escapes_left E.escaped self.now)) f.new }
         ensures styled { list_all E.is_told (escapes_rest self.now) ≡ true → WritesStyledOnOk W.write_str_gives f.old result (utf8 (escapes_left E.escaped self.now)) f.new }
@@ -152,7 +153,7 @@ impl<'a, C: Unit> Escapes<'a, C> {
         Ok(())
     }
 
-    // Writes the same between quotes.
+    // Writes the characters that were not read yet, escaped as `E` does it, between quotes.
     fn write_quoted<E: Escaping, W: fmt::Write>(&self, f: &mut fmt::Formatter<W>) -> fmt::Result
         ensures { list_all E.is_told (escapes_rest self.now) ≡ true → WritesOnOk W.write_str_gives f.old result (in_quotes (utf8 (escapes_left E.escaped self.now))) f.new }
     {
@@ -162,9 +163,10 @@ impl<'a, C: Unit> Escapes<'a, C> {
     }
 }
 
-/// The escapes of a view's characters: of each, `\u{..}` with its number in hexadecimal, in lower case with no zero in front.
+/// An iterator over the escapes of a view's characters. Each escape is `\u{..}` with the character's number in
+/// lower-case hexadecimal, without leading zeros.
 ///
-/// It gives them from the front, stays ended, and takes no memory. Made by
+/// It yields them from the front, continues to return `None` after its end, and does not allocate. Made by
 /// [`UtfStr::escape_unicode`](crate::UtfStr::escape_unicode).
 #[derive(Drop)]
 pub struct EscapeUnicode<'a, C: Unit> {
@@ -176,7 +178,7 @@ impl<C: Unit> Clone for EscapeUnicode<'_, C> {
 
     ghost is_infallible = { λ _. ⊤ };
 
-    /// A copy, with the same characters to come.
+    /// Returns a copy that yields the same characters.
     fn clone(&self) -> Result<Self, AllocError> {
         Ok(EscapeUnicode {
             escapes: self.escapes,
@@ -197,7 +199,7 @@ impl<C: Unit> Iterator for EscapeUnicode<'_, C> {
         self.escapes.next::<AsUnicode>()
     }
 
-    /// No bounds: 0 and none.
+    /// Returns no bounds: 0 and `None`.
     fn size_hint(&self) -> (usize, Option<usize>)
         ensures lower { IsWithinCount result.0 (at_most (length (unicode_left self.now))) }
         ensures upper { IfSome result.1 (UpTo (at_most (length (unicode_left self.now)))) }
@@ -217,7 +219,7 @@ impl<C: Unit> fmt::Display for EscapeUnicode<'_, C> {
 
     ghost styled_output = { λ s _. Some (utf8 (unicode_left s)) };
 
-    /// Prints what is left. The options of a hole, as its width and fill, change nothing.
+    /// Prints the characters that were not read yet. It ignores the format options.
     fn fmt<W: fmt::Write>(&self, f: &mut fmt::Formatter<W>) -> fmt::Result {
         self.escapes.write::<AsUnicode, W>(f)
     }
@@ -228,15 +230,15 @@ impl<C: Unit> fmt::Debug for EscapeUnicode<'_, C> {
 
     ghost debug_output = { λ s. Some (in_quotes (utf8 (unicode_left s))) };
 
-    /// Prints what is left, between quotes.
+    /// Prints the characters that were not read yet between quotes.
     fn fmt<W: fmt::Write>(&self, f: &mut fmt::Formatter<W>) -> fmt::Result {
         self.escapes.write_quoted::<AsUnicode, W>(f)
     }
 }
 
-/// The escapes of a view's characters: of each, what [`char::escape_default`] gives.
+/// An iterator over the escapes of a view's characters, as [`char::escape_default`] returns them.
 ///
-/// It gives them from the front, stays ended, and takes no memory. Made by
+/// It yields them from the front, continues to return `None` after its end, and does not allocate. Made by
 /// [`UtfStr::escape_default`](crate::UtfStr::escape_default).
 #[derive(Drop)]
 pub struct EscapeDefault<'a, C: Unit> {
@@ -248,7 +250,7 @@ impl<C: Unit> Clone for EscapeDefault<'_, C> {
 
     ghost is_infallible = { λ _. ⊤ };
 
-    /// A copy, with the same characters to come.
+    /// Returns a copy that yields the same characters.
     fn clone(&self) -> Result<Self, AllocError> {
         Ok(EscapeDefault {
             escapes: self.escapes,
@@ -269,7 +271,7 @@ impl<C: Unit> Iterator for EscapeDefault<'_, C> {
         self.escapes.next::<AsDefault>()
     }
 
-    /// No bounds: 0 and none.
+    /// Returns no bounds: 0 and `None`.
     fn size_hint(&self) -> (usize, Option<usize>)
         ensures lower { IsWithinCount result.0 (at_most (length (default_left self.now))) }
         ensures upper { IfSome result.1 (UpTo (at_most (length (default_left self.now)))) }
@@ -289,7 +291,7 @@ impl<C: Unit> fmt::Display for EscapeDefault<'_, C> {
 
     ghost styled_output = { λ s _. Some (utf8 (default_left s)) };
 
-    /// Prints what is left. The options of a hole, as its width and fill, change nothing.
+    /// Prints the characters that were not read yet. It ignores the format options.
     fn fmt<W: fmt::Write>(&self, f: &mut fmt::Formatter<W>) -> fmt::Result {
         self.escapes.write::<AsDefault, W>(f)
     }
@@ -300,15 +302,15 @@ impl<C: Unit> fmt::Debug for EscapeDefault<'_, C> {
 
     ghost debug_output = { λ s. Some (in_quotes (utf8 (default_left s))) };
 
-    /// Prints what is left, between quotes.
+    /// Prints the characters that were not read yet between quotes.
     fn fmt<W: fmt::Write>(&self, f: &mut fmt::Formatter<W>) -> fmt::Result {
         self.escapes.write_quoted::<AsDefault, W>(f)
     }
 }
 
-/// The escapes of a view's characters: of each, what [`char::escape_debug`] gives.
+/// An iterator over the escapes of a view's characters, as [`char::escape_debug`] returns them.
 ///
-/// It gives them from the front, stays ended, and takes no memory. Made by
+/// It yields them from the front, continues to return `None` after its end, and does not allocate. Made by
 /// [`UtfStr::escape_debug`](crate::UtfStr::escape_debug).
 #[derive(Drop)]
 pub struct EscapeDebug<'a, C: Unit> {
@@ -320,7 +322,7 @@ impl<C: Unit> Clone for EscapeDebug<'_, C> {
 
     ghost is_infallible = { λ _. ⊤ };
 
-    /// A copy, with the same characters to come.
+    /// Returns a copy that yields the same characters.
     fn clone(&self) -> Result<Self, AllocError> {
         Ok(EscapeDebug {
             escapes: self.escapes,
@@ -341,7 +343,7 @@ impl<C: Unit> Iterator for EscapeDebug<'_, C> {
         self.escapes.next::<AsDebug>()
     }
 
-    /// No bounds: 0 and none.
+    /// Returns no bounds: 0 and `None`.
     fn size_hint(&self) -> (usize, Option<usize>)
         ensures lower { IsWithinCount result.0 (at_most (debug_most self.now)) }
         ensures upper { IfSome result.1 (UpTo (at_most (debug_most self.now))) }
@@ -361,7 +363,7 @@ impl<C: Unit> fmt::Display for EscapeDebug<'_, C> {
 
     ghost styled_output = { λ s _. debug_left_output s };
 
-    /// Prints what is left. The options of a hole, as its width and fill, change nothing.
+    /// Prints the characters that were not read yet. It ignores the format options.
     fn fmt<W: fmt::Write>(&self, f: &mut fmt::Formatter<W>) -> fmt::Result {
         self.escapes.write::<AsDebug, W>(f)
     }
@@ -372,7 +374,7 @@ impl<C: Unit> fmt::Debug for EscapeDebug<'_, C> {
 
     ghost debug_output = { debug_left_quoted };
 
-    /// Prints what is left, between quotes.
+    /// Prints the characters that were not read yet between quotes.
     fn fmt<W: fmt::Write>(&self, f: &mut fmt::Formatter<W>) -> fmt::Result {
         self.escapes.write_quoted::<AsDebug, W>(f)
     }
@@ -381,7 +383,8 @@ impl<C: Unit> fmt::Debug for EscapeDebug<'_, C> {
 impl<'a, C: Unit> UtfStr<'a, C> {
     ghost use Rattle.wide_utfstr.specs.Escapes.{unicode_left, default_left, debug_left, HasAsciiLeft};
 
-    /// The characters, each as `\u{..}` with its number in hexadecimal, in lower case with no zero in front.
+    /// Returns an iterator over the escaped characters, each as `\u{..}` with its number in lower-case hexadecimal,
+    /// without leading zeros.
     pub fn escape_unicode(self) -> EscapeUnicode<'a, C>
         ensures { unicode_left result ≡ flat_map escape_unicode (text_seen self.entry) }
     {
@@ -390,9 +393,9 @@ impl<'a, C: Unit> UtfStr<'a, C> {
         }
     }
 
-    /// The characters, each as [`char::escape_default`] gives it: tab, carriage return and line feed as `\t`, `\r` and `\n`,
-    /// quotes of both kinds and the backslash after a backslash, U+0020 to U+007E else as they stand, and all others as
-    /// `\u{..}`.
+    /// Returns an iterator over the escaped characters, as [`char::escape_default`] returns them. Tab, carriage return
+    /// and line feed become `\t`, `\r` and `\n`. Quotes of both kinds and the backslash get a backslash before them.
+    /// Other characters from U+0020 to U+007E are not escaped. All others become `\u{..}`.
     pub fn escape_default(self) -> EscapeDefault<'a, C>
         ensures { default_left result ≡ flat_map escape_default (text_seen self.entry) }
     {
@@ -401,8 +404,9 @@ impl<'a, C: Unit> UtfStr<'a, C> {
         }
     }
 
-    /// The characters, each as [`char::escape_debug`] gives it: as [`UtfStr::escape_default`] has it, but NUL as `\0`, and past
-    /// ASCII those that print as they stand. The contract tells the text where all characters are ASCII.
+    /// Returns an iterator over the escaped characters, as [`char::escape_debug`] returns them. It escapes ASCII like
+    /// [`UtfStr::escape_default`], except that NUL becomes `\0`. It does not escape printable characters beyond ASCII.
+    /// The contract specifies the text only if all characters are ASCII.
     pub fn escape_debug(self) -> EscapeDebug<'a, C>
         ensures left { debug_left result ≡ flat_map escape_debug (text_seen self.entry) }
         ensures ascii { list_all is_ascii (text_seen self.entry) ≡ true → HasAsciiLeft result }

@@ -10,31 +10,31 @@ use std::alloc::AllocError;
 use std::iter::FusedIterator;
 use wide_unit::Unit;
 
-// The bounds on the characters of a text: at least one for as many units as a character takes at most, and at most one for
-// each unit.
+// Returns bounds on the number of characters of a text: at least its length divided by the most units that a character
+// takes, and at most its length in units.
 fn hint_of<C: Unit>(text: UtfStr<'_, C>) -> (usize, Option<usize>)
     ensures least { result.0 ≡ length (units_seen text.entry) / C.MAX_CHAR_LEN }
     ensures most { result.1 ≡ Some (length (units_seen text.entry)) }
     ensures lower { result.0 ≤ length (text_seen text.entry) }
     ensures upper { length (text_seen text.entry) ≤ length (units_seen text.entry) }
 {
-    // A call for its contract: no character takes more units than the greatest length.
+    // This call is for its contract: no character takes more units than `MAX_CHAR_LEN`.
     let _longest = C::char_len('\u{10000}');
     (text.len() / C::MAX_CHAR_LEN, Some(text.len()))
 }
 
-/// The characters of a well-formed view. Made by [`UtfStr::chars`](crate::UtfStr::chars).
+/// An iterator over the characters of a well-formed view. Made by [`UtfStr::chars`](crate::UtfStr::chars).
 ///
-/// `{}` and `{:?}` print the characters that are left, as those of a view.
+/// `{}` and `{:?}` print the characters that were not read yet, as they print a view of them.
 #[derive(Drop)]
 pub struct Chars<'a, C: Unit> {
     pub(crate) text: UtfStr<'a, C>,
 }
 
-/// The characters of well-formed UTF-16.
+/// An iterator over the characters of well-formed UTF-16.
 pub type CharsUtf16<'a> = Chars<'a, u16>;
 
-/// The characters of well-formed UTF-32.
+/// An iterator over the characters of well-formed UTF-32.
 pub type CharsUtf32<'a> = Chars<'a, u32>;
 
 impl<C: Unit> Clone for Chars<'_, C> {
@@ -42,7 +42,7 @@ impl<C: Unit> Clone for Chars<'_, C> {
 
     ghost is_infallible = { λ _. ⊤ };
 
-    /// A copy, with the same characters to come.
+    /// Returns a copy that yields the same characters.
     fn clone(&self) -> Result<Self, AllocError> {
         Ok(Chars { text: self.text })
     }
@@ -97,7 +97,7 @@ impl ExactSizeIterator for Chars<'_, u32> {
 
 impl<C: Unit> FusedIterator for Chars<'_, C> {}
 
-/// The characters of a well-formed view, each with the offset, in units, at which it begins. Made by
+/// An iterator over the characters of a well-formed view, each with the offset, in units, at which it begins. Made by
 /// [`UtfStr::char_indices`](crate::UtfStr::char_indices).
 #[derive(Debug, Drop)]
 pub struct CharIndices<'a, C: Unit> {
@@ -106,10 +106,10 @@ pub struct CharIndices<'a, C: Unit> {
     ghost fits: { offset + length (units_seen text) < 2 ^ 64 },
 }
 
-/// The characters of well-formed UTF-16, with their offsets.
+/// An iterator over the characters of well-formed UTF-16, with their offsets in units.
 pub type CharIndicesUtf16<'a> = CharIndices<'a, u16>;
 
-/// The characters of well-formed UTF-32, with their offsets.
+/// An iterator over the characters of well-formed UTF-32, with their offsets in units.
 pub type CharIndicesUtf32<'a> = CharIndices<'a, u32>;
 
 impl<'a, C: Unit> CharIndices<'a, C> {
@@ -123,7 +123,7 @@ impl<'a, C: Unit> CharIndices<'a, C> {
         CharIndices { text, offset: 0 }
     }
 
-    /// The offset, in units, of the next character from the front: how many units were taken from there.
+    /// Returns the offset, in units, of the next character from the front: how many units were read from there.
     pub fn offset(&self) -> usize
         ensures { result ≡ offset_of self.now }
     {
@@ -136,7 +136,7 @@ impl<C: Unit> Clone for CharIndices<'_, C> {
 
     ghost is_infallible = { λ _. ⊤ };
 
-    /// A copy, with the same list to come.
+    /// Returns a copy that yields the same characters and offsets.
     fn clone(&self) -> Result<Self, AllocError> {
         Ok(CharIndices {
             text: self.text,
@@ -195,7 +195,7 @@ impl ExactSizeIterator for CharIndices<'_, u32> {
 
 impl<C: Unit> FusedIterator for CharIndices<'_, C> {}
 
-/// The units of well-formed UTF-16. Made by [`UtfStr::code_units`](crate::UtfStr::code_units).
+/// An iterator over the units of well-formed UTF-16. Made by [`UtfStr::code_units`](crate::UtfStr::code_units).
 #[derive(Clone, Debug, Drop)]
 pub struct CodeUnits<'a> {
     pub(crate) rest: &'a [u16],

@@ -1,4 +1,4 @@
-//! Views of well-formed text, in units of 16 or 32 bits: UTF-16 and UTF-32.
+//! Views of well-formed text, UTF-16 or UTF-32, in units of 16 or 32 bits.
 #![tactic(auto)]
 
 mod boundaries;

@@ -33,27 +33,28 @@ impl<C: Unit> LineView for UtfStr<'_, C> {
 }
 
 impl<C: Unit> UtfStr<'_, C> {
-    /// The lines, each a well-formed view of a part of the units, from the front. The text is cut at each line feed (U+000A), which
-    /// belongs to no line; a line that one ended loses one carriage return (U+000D) at its end, and the last piece is no line
-    /// where it is empty.
+    /// Returns an iterator over the lines, from the front. Each line is a well-formed view of some of the units. The
+    /// text is split at each line feed (U+000A), which is part of no line. A line before a line feed loses one carriage
+    /// return (U+000D) at its end. If the text after the last line feed is empty, it is not a line.
     pub fn lines(self) -> Lines<Self>
         ensures lines { lines_left (items_seen C.form C.number) result ≡ lines_of (items C.form (map C.number (units_seen self.entry))) }
         ensures most { length (lines_left (items_seen C.form C.number) result) ≤ length (units_seen self.entry) }
         ensures fits { length (lines_left (items_seen C.form C.number) result) < 2 ^ 64 }
     {
-        // A call for its contract: a length is below 2 ^ 64, so that lines can be counted.
+        // This call is for its contract: a length is below 2 ^ 64, so the number of lines fits in a `usize`.
         let _units = self.len();
         Lines::new(self)
     }
 
-    /// The lines, as [`UtfStr::lines`] has them, each with the place, in units, at which it begins in the text.
+    /// Returns an iterator over the lines, as [`UtfStr::lines`] splits them, each with the offset, in units, at which
+    /// it begins in the text.
     pub fn line_indices(self) -> LineIndices<Self>
         ensures lines { placed_left result ≡ placed_lines C.form 0 (items C.form (map C.number (units_seen self.entry))) }
         ensures boundaries { All (λ line. IsCharBoundary C.form (map C.number (units_seen self.entry)) line.0) (placed_left result) }
         ensures most { length (placed_left result) ≤ length (units_seen self.entry) }
         ensures fits { length (placed_left result) < 2 ^ 64 }
     {
-        // A call for its contract: a length is below 2 ^ 64, so that lines can be counted.
+        // This call is for its contract: a length is below 2 ^ 64, so the number of lines fits in a `usize`.
         let _units = self.len();
         LineIndices::new(self)
     }

@@ -14,32 +14,33 @@ use wide_unit::Unit;
 use wide_ustr::{Split, SplitView};
 
 impl<C: Unit> UtfStr<'_, C> {
-    /// Whether the view begins with the units of the other. It does where that has none.
+    /// Returns whether the view begins with the needle. It does if the needle is empty.
     pub fn starts_with(self, part: UtfStr<'_, C>) -> bool
         ensures { IsTrue result ↔ BeginsWith (units_seen part.entry) (units_seen self.entry) }
     {
         wide_search::starts_with(self.as_slice(), part.as_slice())
     }
 
-    /// Whether the view ends with the units of the other. It does where that has none.
+    /// Returns whether the view ends with the needle. It does if the needle is empty.
     pub fn ends_with(self, part: UtfStr<'_, C>) -> bool
         ensures { IsTrue result ↔ EndsWith (units_seen part.entry) (units_seen self.entry) }
     {
         wide_search::ends_with(self.as_slice(), part.as_slice())
     }
 
-    /// Whether the units of the other view stand anywhere in this one, as [`UtfStr::find`] finds them.
+    /// Returns whether the needle occurs anywhere in the view, as [`UtfStr::find`] finds it.
     pub fn contains(self, part: UtfStr<'_, C>) -> bool
         ensures { IsTrue result ↔ StandsIn (units_seen part.entry) (units_seen self.entry) }
     {
         self.find(part).is_some()
     }
 
-    /// The first place, in units, at which the other view's units stand in this one: how many units stand before it. None where they
-    /// stand nowhere. An empty view stands at the start. The place is a boundary, and so is the place behind the other view.
+    /// Returns the offset, in units, of the first occurrence of the needle, or `None` if there is none. An empty needle
+    /// occurs at the start. The offset and the end of the occurrence are character boundaries.
     ///
-    /// What stands before the first unit of the other view is passed by blocks, and from there on units are compared up to the first that
-    /// differs. So the worst case, where a long front of it stands nearly everywhere, is the product of both lengths.
+    /// The search for the first unit of the needle is vectorized; from there on, units are compared up to the first
+    /// that differ. So in the worst case, where a long prefix of the needle occurs nearly everywhere, the time is
+    /// proportional to the product of both lengths.
     pub fn find(self, part: UtfStr<'_, C>) -> Option<usize>
         ensures first { IfSome result (IsFirstAt (units_seen part.entry) (units_seen self.entry)) }
         ensures none { IfNone result (StandsNowhere (units_seen part.entry) (units_seen self.entry)) }
@@ -50,8 +51,9 @@ impl<C: Unit> UtfStr<'_, C> {
         wide_search::find(self.as_slice(), part.as_slice())
     }
 
-    /// The last place, in units, at which the other view's units stand in this one, as [`UtfStr::find`] has the first. An empty view stands
-    /// at the end. Units are gone over one by one, from the back.
+    /// Returns the offset, in units, of the last occurrence of the needle, or `None` if there is none. An empty needle
+    /// occurs at the end. The offset and the end of the occurrence are character boundaries. The search goes through
+    /// the units one by one, from the back.
     pub fn rfind(self, part: UtfStr<'_, C>) -> Option<usize>
         ensures last { IfSome result (IsLastAt (units_seen part.entry) (units_seen self.entry)) }
         ensures none { IfNone result (StandsNowhere (units_seen part.entry) (units_seen self.entry)) }
@@ -62,8 +64,8 @@ impl<C: Unit> UtfStr<'_, C> {
         wide_search::rfind(self.as_slice(), part.as_slice())
     }
 
-    /// The first place, in units, at which the character stands: how many units stand before it. None where it stands nowhere. The place
-    /// is a boundary, and so is the place behind the character.
+    /// Returns the offset, in units, of the first occurrence of the character, or `None` if there is none. The offset
+    /// and the end of the character are character boundaries.
     pub fn find_char(self, c: char) -> Option<usize>
         ensures first { IfSome result (IsFirstAt (code_units C.form c) (map C.number (units_seen self.entry))) }
         ensures none { IfNone result (StandsNowhere (code_units C.form c) (map C.number (units_seen self.entry))) }
@@ -74,7 +76,8 @@ impl<C: Unit> UtfStr<'_, C> {
         wide_search::find_char(self.as_slice(), c)
     }
 
-    /// The last place, in units, at which the character stands, as [`UtfStr::find_char`] has the first.
+    /// Returns the offset, in units, of the last occurrence of the character, or `None` if there is none. The offset
+    /// and the end of the character are character boundaries.
     pub fn rfind_char(self, c: char) -> Option<usize>
         ensures last { IfSome result (IsLastAt (code_units C.form c) (map C.number (units_seen self.entry))) }
         ensures none { IfNone result (StandsNowhere (code_units C.form c) (map C.number (units_seen self.entry))) }
@@ -85,7 +88,7 @@ impl<C: Unit> UtfStr<'_, C> {
         wide_search::rfind_char(self.as_slice(), c)
     }
 
-    /// The units behind those of the other view, where this one begins with them, and else none.
+    /// Returns the view without the given prefix, or `None` if it does not begin with it.
     pub fn strip_prefix(self, part: UtfStr<'_, C>) -> Option<Self>
         ensures some { IsSome result ↔ BeginsWith (units_seen part.entry) (units_seen self.entry) }
         ensures rest { IfSome result (λ rest. units_seen self.entry ≡ units_seen part.entry ++ units_seen rest) }
@@ -97,7 +100,7 @@ impl<C: Unit> UtfStr<'_, C> {
         Some(rest)
     }
 
-    /// The units before those of the other view, where this one ends with them, and else none.
+    /// Returns the view without the given suffix, or `None` if it does not end with it.
     pub fn strip_suffix(self, part: UtfStr<'_, C>) -> Option<Self>
         ensures some { IsSome result ↔ EndsWith (units_seen part.entry) (units_seen self.entry) }
         ensures front { IfSome result (λ front. units_seen self.entry ≡ units_seen front ++ units_seen part.entry) }
@@ -109,7 +112,8 @@ impl<C: Unit> UtfStr<'_, C> {
         Some(front)
     }
 
-    /// What stands before the other view's units, and behind them, at their first place. None where they stand nowhere.
+    /// Splits the view at the first occurrence of the needle, into the text before it and the text after it. Returns
+    /// `None` if there is none.
     pub fn split_once(self, part: UtfStr<'_, C>) -> Option<(Self, Self)>
         ensures first { IfSome result (λ r. IsFirstSplit (units_seen part.entry) (units_seen self.entry) (units_seen r.0) (units_seen r.1)) }
         ensures none { IfNone result (StandsNowhere (units_seen part.entry) (units_seen self.entry)) }
@@ -122,7 +126,8 @@ impl<C: Unit> UtfStr<'_, C> {
         Some((front, rest))
     }
 
-    /// What stands before the other view's units, and behind them, at their last place. None where they stand nowhere.
+    /// Splits the view at the last occurrence of the needle, into the text before it and the text after it. Returns
+    /// `None` if there is none.
     pub fn rsplit_once(self, part: UtfStr<'_, C>) -> Option<(Self, Self)>
         ensures last { IfSome result (λ r. IsLastSplit (units_seen part.entry) (units_seen self.entry) (units_seen r.0) (units_seen r.1)) }
         ensures none { IfNone result (StandsNowhere (units_seen part.entry) (units_seen self.entry)) }
@@ -135,9 +140,10 @@ impl<C: Unit> UtfStr<'_, C> {
         Some((front, rest))
     }
 
-    /// The pieces between the places of the other view, each well formed, from the front: each place is the first behind the one before, so
-    /// that places never overlap. Where it stands at the start, at the end or one behind another, the piece there is empty; where it
-    /// stands nowhere, and where the other view is empty, the whole text is the only piece.
+    /// Returns an iterator over the substrings between the occurrences of the separator, each well formed, from the
+    /// front. Each occurrence is the first one after the one before, so occurrences do not overlap. If the separator
+    /// occurs at the start, at the end, or twice in a row, the substring there is empty. If it does not occur, or is
+    /// empty, the whole text is the only substring.
     pub fn split<'p>(self, part: UtfStr<'p, C>) -> Split<Self, UtfStr<'p, C>>
         ensures left { text_pieces_left C.number result ≡ pieces (numbers_seen C.number part.entry) (numbers_seen C.number self.entry) }
         ensures cut { 0 < length (units_seen part.entry) → ArePieces (numbers_seen C.number part.entry) (numbers_seen C.number self.entry) (text_pieces_left C.number result) }
@@ -145,19 +151,21 @@ impl<C: Unit> UtfStr<'_, C> {
         ensures most { length (text_pieces_left C.number result) ≤ length (units_seen self.entry) + 1 }
         ensures fits { length (text_pieces_left C.number result) < 2 ^ 64 }
     {
-        // A call for its contract: there are so few units that one more piece can be counted.
+        // This call is for its contract: there are so few units that one more substring can be counted.
         let _bytes = byte_len(self.as_slice());
         Split::new(self, part)
     }
 
-    /// The pieces between the places of the character, as [`UtfStr::split`] has them between those of a view.
+    /// Returns an iterator over the substrings between the occurrences of a character, each well formed, from the
+    /// front. If the character occurs at the start, at the end, or twice in a row, the substring there is empty. If it
+    /// does not occur, the whole text is the only substring.
     pub fn split_char(self, c: char) -> Split<Self, char>
         ensures left { char_pieces_left C.form C.number result ≡ pieces (code_units C.form c) (numbers_seen C.number self.entry) }
         ensures cut { ArePieces (code_units C.form c) (numbers_seen C.number self.entry) (char_pieces_left C.form C.number result) }
         ensures most { length (char_pieces_left C.form C.number result) ≤ length (units_seen self.entry) + 1 }
         ensures fits { length (char_pieces_left C.form C.number result) < 2 ^ 64 }
     {
-        // A call for its contract: there are so few units that one more piece can be counted.
+        // This call is for its contract: there are so few units that one more substring can be counted.
         let _bytes = byte_len(self.as_slice());
         Split::new(self, c)
     }

@@ -1,4 +1,4 @@
-//! Texts of well-formed views in UTF-8.
+//! Conversion of well-formed views to UTF-8.
 ghost use Rattle.std.specs.Prelude.{◌≡◌, [], IsOk, IfOk, string_bytes};
 ghost use Rattle.wide_unit.specs.Utf8.{utf8};
 ghost use Rattle.wide_utfstr.specs.View.{units_seen, text_seen};
@@ -10,13 +10,14 @@ use wide_error::OutOfMemory;
 use wide_unit::Unit;
 
 impl<C: Unit> UtfStr<'_, C> {
-    /// The text of the view in UTF-8.
+    /// Encodes the text of the view as a UTF-8 string.
     ///
-    /// It reads the units twice, by blocks, and asks for memory once, for as many bytes as the text has: none where there are no units.
+    /// It reads the units twice, vectorized, and allocates once, exactly as many bytes as the text has, or not at all
+    /// if there are no units.
     ///
     /// # Errors
     ///
-    /// The allocation was refused.
+    /// [`OutOfMemory`] if the allocation fails. It never fails if there are no units.
     pub fn to_string<A: Allocator>(self, alloc: A) -> Result<String<A>, OutOfMemory>
         ensures text { IfOk result (λ text. string_bytes text ≡ utf8 (text_seen self.entry)) }
         ensures succeeds { units_seen self.entry ≡ [] → IsOk result }

@@ -1,4 +1,4 @@
-//! Well-formed text without the White_Space at its ends.
+//! Removal of White_Space at the ends of well-formed text.
 ghost use Rattle.wide_utfstr.specs.View.{units_seen, text_seen};
 ghost use Rattle.wide_utfstr.specs.Trim.{IsTrimmedStart, IsTrimmedEnd, IsTrimmed, IsBackOf, IsFrontOf, IsMiddleOf};
 
@@ -6,8 +6,8 @@ use crate::view::UtfStr;
 use wide_unit::Unit;
 
 impl<C: Unit> UtfStr<'_, C> {
-    /// The text after its longest front of White_Space characters (Unicode Character Database), as a view of the same units:
-    /// empty where all are White_Space. It reads that front and one character more.
+    /// Returns a view of the text after its longest prefix of White_Space characters (Unicode Character Database). It
+    /// is empty if all characters are White_Space. It reads that prefix and one more character.
     pub fn trim_start(self) -> Self
         ensures trimmed { IsTrimmedStart (text_seen self.entry) (text_seen result) }
         ensures part { IsBackOf (units_seen self.entry) (units_seen result) }
@@ -22,8 +22,8 @@ impl<C: Unit> UtfStr<'_, C> {
         rest
     }
 
-    /// The text before its longest back of White_Space characters (Unicode Character Database), as a view of the same units:
-    /// empty where all are White_Space. It reads that back and one character more.
+    /// Returns a view of the text before its longest suffix of White_Space characters (Unicode Character Database). It
+    /// is empty if all characters are White_Space. It reads that suffix and one more character.
     pub fn trim_end(self) -> Self
         ensures trimmed { IsTrimmedEnd (text_seen self.entry) (text_seen result) }
         ensures part { IsFrontOf (units_seen self.entry) (units_seen result) }
@@ -38,8 +38,8 @@ impl<C: Unit> UtfStr<'_, C> {
         rest
     }
 
-    /// The text between its longest front and its longest back of White_Space characters (Unicode Character Database), as a
-    /// view of the same units: empty where all are White_Space.
+    /// Returns a view of the text without its longest prefix and its longest suffix of White_Space characters (Unicode
+    /// Character Database). It is empty if all characters are White_Space.
     pub fn trim(self) -> Self
         ensures trimmed { IsTrimmed (text_seen self.entry) (text_seen result) }
         ensures part { IsMiddleOf (units_seen self.entry) (units_seen result) }

@@ -23,16 +23,17 @@ use wide_unit::{Unit, check, range_check, split_first, split_last};
 use wide_ustr::UStr;
 use wide_utferror::{FaultUnit, UtfError};
 
-// As many units as are counted in one step.
+// How many units are counted in one step.
 const BLOCK: usize = 256;
 
-/// A view of units that are well formed (Unicode Standard, D85), by its type: no call can make one that isn't.
+/// A view of well-formed UTF-16 or UTF-32 (Unicode Standard, D85). Its type guarantees that the units are well formed:
+/// no call can make a view of ill-formed units.
 ///
-/// It is a slice by another name, and is copied freely; views are equal where their units are, and ordered as these. No call
-/// takes memory but those that are handed an allocator.
+/// A view is a slice of units and can be copied. Equality and order of views are those of their units. Only calls that
+/// take an allocator allocate.
 ///
-/// `{}` prints its characters, and `{:?}` prints them between quotes, each as `char::escape_debug` gives it. The options of the
-/// hole change nothing, and an error of the sink is handed on at once.
+/// `{}` prints the characters. `{:?}` prints them between quotes, as [`char::escape_debug`] escapes them. Both ignore
+/// the format options, and return an error of the sink at once.
 #[derive(PartialEq, Eq, PartialOrd, Ord, Hash)]
 pub struct UtfStr<'a, C: Unit> {
     units: &'a [C],
@@ -53,7 +54,11 @@ impl<'a, C: Unit> UtfStr<'a, C> {
     ghost use Rattle.wide_utfstr.specs.Iter.{chars_left, chars_rest, indices_left, offset_of, IndicesRun, IndicesRunBack};
     ghost use Rattle.wide_utfstr.specs.Indexed.{indexed_chars};
 
-    /// A view of the units, which must be well formed. No check is made.
+    /// Makes a view of units without checking them. `UtfStr::from_slice` checks them.
+    ///
+    /// # Requires
+    ///
+    /// The units are well formed.
     pub fn from_slice_unchecked(units: &'a [C]) -> Self
         requires { IsWellFormed C.form (map C.number units.now) }
         ensures { units_seen result ≡ units.now }
@@ -61,7 +66,7 @@ impl<'a, C: Unit> UtfStr<'a, C> {
         UtfStr { units }
     }
 
-    /// The units.
+    /// Returns the units as a slice.
     pub fn as_slice(self) -> &'a [C]
         ensures units { result.now ≡ units_seen self.entry }
         ensures well_formed { IsWellFormed C.form (map C.number result.now) }
@@ -69,22 +74,23 @@ impl<'a, C: Unit> UtfStr<'a, C> {
         self.units
     }
 
-    /// How many units there are.
+    /// Returns the length in units.
     pub fn len(self) -> usize
         ensures { result ≡ length (units_seen self.entry) }
     {
         self.units.len()
     }
 
-    /// Whether there are no units.
+    /// Returns whether the view is empty.
     pub fn is_empty(self) -> bool
         ensures { result ≡ (length (units_seen self.entry) == 0) }
     {
         self.units.is_empty()
     }
 
-    /// Whether the place, counted in units, lies between two characters or is an end: false within a surrogate pair (Unicode
-    /// Standard, D75) and past the end. It reads at most the unit at the place.
+    /// Returns whether an offset in units is a character boundary: it is between two characters, or at an end of the
+    /// text. It is not one if it is within a surrogate pair (Unicode Standard, D75) or past the end. It reads at most
+    /// the unit at the offset.
     pub fn is_char_boundary(self, place: usize) -> bool
         ensures boundary { IsTrue result ↔ IsBoundary C.form (map C.number (units_seen self.entry)) place }
         ensures char_boundary { IsTrue result ↔ IsCharBoundary C.form (map C.number (units_seen self.entry)) place }
@@ -95,16 +101,17 @@ impl<'a, C: Unit> UtfStr<'a, C> {
         }
     }
 
-    /// How many characters there are. It reads each unit once, by blocks, and in UTF-32 none.
+    /// Returns the number of characters. In UTF-16 it reads each unit once, vectorized; in UTF-32 it reads none.
     pub fn char_count(self) -> usize
         ensures { result ≡ length (text_seen self.entry) }
     {
         C::char_count(self.units)
     }
 
-    /// The offset, in units, at which character number `index` begins, counted from 0: the unit length of the first `index`
-    /// characters, so that their number has the offset of the end. None past it. It reads the units before the offset, by blocks as far
-    /// as whole blocks stand before it, and at most one block behind it.
+    /// Returns the offset, in units, at which the character at an index begins, which is the length in units of the
+    /// first `index` characters. If the index is the number of characters, returns the offset of the end. If it is
+    /// greater, returns `None`. It reads the units before the offset, in whole blocks as far as possible, and at most
+    /// one block after it.
     pub fn unit_offset(self, index: usize) -> Option<usize>
         ensures some { IsSome result ↔ (index ≤ length (text_seen self.entry)) }
         ensures place { IfSome result (IsPlaceOf C.form (map C.number (units_seen self.entry)) index) }
@@ -113,7 +120,7 @@ impl<'a, C: Unit> UtfStr<'a, C> {
         let mut rest = self;
         let mut passed = 0;
         'counted: while rest.len() > BLOCK {
-            // Where one place lies within a pair, the place before it doesn't.
+            // If an offset is within a surrogate pair, the offset before it is not.
             let end = if rest.is_char_boundary(BLOCK) {
                 BLOCK
             } else {
@@ -134,8 +141,9 @@ impl<'a, C: Unit> UtfStr<'a, C> {
         Some(self.units.len() - rest.units.len())
     }
 
-    /// The part of the view in a range of places, counted in units; none where the range starts behind its end, ends behind
-    /// the view or has a bound past the greatest `usize`, as [`range_check`] tells, or where an end of it is no boundary.
+    /// Returns a view of the units in a range, whose ends are offsets in units. Returns `None` if the range starts
+    /// after its end, ends past the end of the view, or has a bound past `usize::MAX`, or if one of its ends is no
+    /// character boundary. [`range_check`] checks the range.
     pub fn get<R: RangeBounds<usize>>(self, range: R) -> Option<Self>
         ensures some { R.has_bounds range → IsSome result ↔ IsTextPart C.form C.number (units_seen self.entry) (R.start_bound range) (R.end_bound range) }
         ensures char_range { R.has_bounds range → IsSome result ↔ IsCharPart C.form C.number (units_seen self.entry) (R.start_bound range) (R.end_bound range) }
@@ -150,8 +158,12 @@ impl<'a, C: Unit> UtfStr<'a, C> {
         None
     }
 
-    /// The part of the view in a range of places, counted in units. The range must be one for which [`range_check`] answers
-    /// places, and these must be boundaries; no check is made.
+    /// Returns a view of the units in a range, whose ends are offsets in units. It does not check the range.
+    ///
+    /// # Requires
+    ///
+    /// The range starts at or before its end and lies within the view. Both its ends are character boundaries. It is
+    /// not an inclusive range that was iterated to its end.
     pub fn slice<R: RangeBounds<usize>>(self, range: R) -> Self
         requires bounds { R.has_bounds range }
         requires at_boundaries { IsCharPart C.form C.number (units_seen self) (R.start_bound range) (R.end_bound range) }
@@ -163,7 +175,13 @@ impl<'a, C: Unit> UtfStr<'a, C> {
         }
     }
 
-    /// As [`UtfStr::slice`], under the Rust crate's name.
+    /// Returns a view of the units in a range, whose ends are offsets in units, without checking the range. It is
+    /// [`UtfStr::slice`] under the name that the Rust crate has for it.
+    ///
+    /// # Requires
+    ///
+    /// The range starts at or before its end and lies within the view. Both its ends are character boundaries. It is
+    /// not an inclusive range that was iterated to its end.
     pub fn get_unchecked<R: RangeBounds<usize>>(self, range: R) -> Self
         requires bounds { R.has_bounds range }
         requires at_boundaries { IsCharPart C.form C.number (units_seen self) (R.start_bound range) (R.end_bound range) }
@@ -172,7 +190,11 @@ impl<'a, C: Unit> UtfStr<'a, C> {
         self.slice(range)
     }
 
-    /// The units before a place, and those from it on. The place, counted in units, must be a boundary.
+    /// Splits the view at an offset in units, into the units before it and those from it on.
+    ///
+    /// # Requires
+    ///
+    /// The offset is a character boundary: it is at most the length, and not between the two surrogates of a pair.
     pub fn split_at(self, mid: usize) -> (Self, Self)
         requires { IsCharBoundary C.form (map C.number (units_seen self)) mid }
         ensures front { units_seen result.0 ≡ take mid (units_seen self.entry) }
@@ -183,7 +205,7 @@ impl<'a, C: Unit> UtfStr<'a, C> {
         (UtfStr { units: front }, UtfStr { units: back })
     }
 
-    /// The characters, from both ends.
+    /// Returns an iterator over the characters, from both ends.
     pub fn chars(self) -> Chars<'a, C>
         ensures characters { chars_left C.form C.number result ≡ text_seen self.entry }
         ensures units { chars_rest result ≡ units_seen self.entry }
@@ -191,7 +213,8 @@ impl<'a, C: Unit> UtfStr<'a, C> {
         Chars { text: self }
     }
 
-    /// The characters, each with the offset, in units, at which it begins in the view, from both ends.
+    /// Returns an iterator over the characters, from both ends, each with the offset, in units, at which it begins in
+    /// the view.
     pub fn char_indices(self) -> CharIndices<'a, C>
         ensures characters { indices_left C.form C.number result ≡ indexed_chars C.form 0 (text_seen self.entry) }
         ensures offset { offset_of result ≡ 0 }
@@ -202,14 +225,14 @@ impl<'a, C: Unit> UtfStr<'a, C> {
         CharIndices::new(self)
     }
 
-    /// The UTF-8 bytes of the characters (Unicode Standard, D92), from the front.
+    /// Returns an iterator over the UTF-8 bytes of the characters (Unicode Standard, D92), from the front.
     pub fn encode_utf8(self) -> EncodeUtf8<Chars<'a, C>>
         ensures { bytes_left (chars_left C.form C.number) result ≡ utf8 (text_seen self.entry) }
     {
         encode_utf8(self.chars())
     }
 
-    // The first character, and the text after it.
+    // Returns the first character and the text after it.
     pub(crate) fn split_first_char(self) -> Option<(char, Self)>
         ensures none { IfNone result (text_seen self.entry ≡ []) }
         ensures some { IfSome result (λ r. text_seen self.entry ≡ r.0 ∷ text_seen r.1) }
@@ -222,7 +245,7 @@ impl<'a, C: Unit> UtfStr<'a, C> {
         Some((c, UtfStr { units: rest }))
     }
 
-    // The last character, and the text before it.
+    // Returns the text before the last character, and that character.
     pub(crate) fn split_last_char(self) -> Option<(Self, char)>
         ensures none { IfNone result (text_seen self.entry ≡ []) }
         ensures some { IfSome result (λ r. text_seen self.entry ≡ text_seen r.0 ++ r.1 ∷ []) }
@@ -238,13 +261,13 @@ impl<'a, C: Unit> UtfStr<'a, C> {
 impl<'a, C: FaultUnit> UtfStr<'a, C> {
     ghost use Rattle.wide_utfstr.specs.View.{units_seen, text_seen};
 
-    /// A view of the units, where they are well formed. It reads them in one pass, by blocks; where there is a fault, it reads the
-    /// units before it once more, to count their characters.
+    /// Makes a view of units if they are well formed. The check is vectorized and reads the units once. If there is a
+    /// fault, it reads the units before it again to count their characters.
     ///
     /// # Errors
     ///
-    /// The first fault, where they are not: its index is counted in units, its item number in characters. There is no vector to
-    /// hand back.
+    /// The first fault, if the units are ill-formed. Its index is counted in units, its item number in characters. The
+    /// error holds no vector.
     pub fn from_slice(units: &'a [C]) -> Result<Self, UtfError<C>>
         ensures view { IfOk result (λ view. units_seen view ≡ units.now) }
         ensures ok { OnOk result (IsWellFormed C.form (map C.number units.now)) }
@@ -259,12 +282,12 @@ impl<'a, C: FaultUnit> UtfStr<'a, C> {
         }
     }
 
-    /// A view of the units of a view, where they are well formed, as [`UtfStr::from_slice`].
+    /// Makes a well-formed view of the units of a view, if they are well formed, like [`UtfStr::from_slice`].
     ///
     /// # Errors
     ///
-    /// The first fault, where they are not: its index is counted in units, its item number in characters. There is no vector to
-    /// hand back.
+    /// The first fault, if the units are ill-formed. Its index is counted in units, its item number in characters. The
+    /// error holds no vector.
     pub fn from_ustr(view: UStr<'a, C>) -> Result<Self, UtfError<C>>
         ensures view { IfOk result (λ text. units_seen text ≡ ustr_units view.entry) }
         ensures ok { OnOk result (IsWellFormed C.form (map C.number (ustr_units view.entry))) }
@@ -276,7 +299,11 @@ impl<'a, C: FaultUnit> UtfStr<'a, C> {
         Self::from_slice(view.as_slice())
     }
 
-    /// A view of the units of a view, which must be well formed. No check is made.
+    /// Makes a well-formed view of the units of a view without checking them. [`UtfStr::from_ustr`] checks them.
+    ///
+    /// # Requires
+    ///
+    /// The units are well formed.
     pub fn from_ustr_unchecked(view: UStr<'a, C>) -> Self
         requires { IsWellFormed C.form (map C.number (ustr_units view)) }
         ensures { units_seen result ≡ ustr_units view.entry }
@@ -284,12 +311,13 @@ impl<'a, C: FaultUnit> UtfStr<'a, C> {
         Self::from_slice_unchecked(view.as_slice())
     }
 
-    /// A view of the contents of a C string, without its NUL, where they are well formed, as [`UtfStr::from_slice`].
+    /// Makes a view of the contents of a C string, without its NUL, if they are well formed, like
+    /// [`UtfStr::from_slice`].
     ///
     /// # Errors
     ///
-    /// The first fault, where they are not: its index is counted in units, its item number in characters. There is no vector to
-    /// hand back.
+    /// The first fault, if the contents are ill-formed. Its index is counted in units, its item number in characters.
+    /// The error holds no vector.
     pub fn from_ucstr(view: UCStr<'a, C>) -> Result<Self, UtfError<C>>
         ensures view { IfOk result (λ text. units_seen text ≡ contents_seen view.entry) }
         ensures ok { OnOk result (IsWellFormed C.form (map C.number (contents_seen view.entry))) }
@@ -301,7 +329,12 @@ impl<'a, C: FaultUnit> UtfStr<'a, C> {
         Self::from_slice(view.as_slice())
     }
 
-    /// A view of the contents of a C string, which must be well formed. No check is made.
+    /// Makes a view of the contents of a C string, without its NUL, and does not check them. [`UtfStr::from_ucstr`]
+    /// checks them.
+    ///
+    /// # Requires
+    ///
+    /// The contents are well formed.
     pub fn from_ucstr_unchecked(view: UCStr<'a, C>) -> Self
         requires { IsWellFormed C.form (map C.number (contents_seen view)) }
         ensures { units_seen result ≡ contents_seen view.entry }
@@ -309,7 +342,7 @@ impl<'a, C: FaultUnit> UtfStr<'a, C> {
         Self::from_slice_unchecked(view.as_slice())
     }
 
-    /// The view of the units that does not tell that they are well formed.
+    /// Returns a view of the units, as units that may be ill-formed.
     pub fn as_ustr(self) -> UStr<'a, C>
         ensures units { ustr_units result ≡ units_seen self.entry }
         ensures well_formed { IsWellFormed C.form (map C.number (ustr_units result)) }
@@ -322,14 +355,14 @@ impl<'a> UtfStr<'a, u16> {
     ghost use Rattle.wide_utfstr.specs.View.{units_seen, text_seen};
     ghost use Rattle.wide_utfstr.specs.Iter.{code_units_rest, chars_left};
 
-    /// The units, from both ends.
+    /// Returns an iterator over the units, from both ends.
     pub fn code_units(self) -> CodeUnits<'a>
         ensures { code_units_rest result ≡ units_seen self.entry }
     {
         CodeUnits { rest: self.units }
     }
 
-    /// The UTF-32 units of the characters (Unicode Standard, D90), from both ends.
+    /// Returns an iterator over the UTF-32 units of the characters (Unicode Standard, D90), from both ends.
     pub fn encode_utf32(self) -> EncodeUtf32<CharsUtf16<'a>>
         ensures { units32_left (chars_left Utf16 (λ u. u)) result ≡ encode Utf32 (chars Utf16 (units_seen self.entry)) }
     {
@@ -341,7 +374,11 @@ impl<'a> UtfStr<'a, u32> {
     ghost use Rattle.wide_utfstr.specs.View.{units_seen, text_seen};
     ghost use Rattle.wide_utfstr.specs.Iter.{chars_left};
 
-    /// Character number `index`, counted from 0, which is below the length: in UTF-32 each unit is a character.
+    /// Returns the character at an index. In UTF-32 each unit is a character.
+    ///
+    /// # Requires
+    ///
+    /// The index is less than the length.
     pub fn char_at(self, index: usize) -> char
         requires { index < length (units_seen self) }
         ensures unit { slice_get (units_seen self.entry) index ≡ Some result }
@@ -353,7 +390,7 @@ impl<'a> UtfStr<'a, u32> {
         c
     }
 
-    /// The UTF-16 units of the characters (Unicode Standard, D91), from the front.
+    /// Returns an iterator over the UTF-16 units of the characters (Unicode Standard, D91), from the front.
     pub fn encode_utf16(self) -> EncodeUtf16<CharsUtf32<'a>>
         ensures { units16_left (chars_left Utf32 (λ u. u)) result ≡ encode Utf16 (chars Utf32 (units_seen self.entry)) }
     {
@@ -366,7 +403,7 @@ impl<C: Unit> Default for UtfStr<'_, C> {
 
     ghost is_default = { λ view. units_seen view ≡ [] };
 
-    /// The empty view.
+    /// Creates an empty view.
     fn default() -> Self {
         UtfStr { units: &[] }
     }
@@ -377,7 +414,7 @@ impl<C: Unit> Clone for UtfStr<'_, C> {
 
     ghost is_infallible = { λ _. ⊤ };
 
-    /// A copy: the view of the same units.
+    /// Returns a view of the same units.
     fn clone(&self) -> Result<Self, AllocError> {
         Ok(*self)
     }

@@ -5,7 +5,7 @@ use Rattle.wide_utfstr.specs.View.{units_seen}
 use Rattle.wide_utfstr.specs.declared.iter.CharIndices.{CharIndices}
 use Rattle.wide_utfstr.proofs.iter.CharIndicesClone.clone.Goals as goal
 
--- two copies of a fact on numbers are one
+-- Two proofs of an inequality of numbers are equal.
 same-indices : {C : Type 0} {g : Ghosts C} (s : CharIndices C g) (fits : s.offset + length (units_seen s.text) < 2 ^ 64) → ◌≡◌ {A = CharIndices C g} (record { text = s.text; offset = s.offset; fits = fits }) s
 same-indices s fits =
     ap (λ (h : s.offset + length (units_seen s.text) < 2 ^ 64). record { text = s.text; offset = s.offset; fits = h }) (le_prop fits s.fits)
