@@ -1,4 +1,4 @@
--- Rows of faults at the ends of a list of items, and the lossy text behind them and before them.
+-- Runs of faults at the ends of a list of items, and the lossy text after them and before them.
 use Rattle.std.proofs.Common.{◌≡◌, ℕ, List, [], ◌∷◌, ◌++◌, inl, inr, refl, sym, ◌∙◌, ap, append_assoc}
 use Rattle.std.specs.Prelude.{map}
 use Rattle.std.proofs.lemmas.List.{append-nil, map_push}
@@ -9,7 +9,7 @@ use Rattle.wide_unit.specs.declared.policy.Policy.{Policy}
 use Rattle.wide_unit.specs.declared.policy.Policy.TheVariants.{Each, Run, Skip}
 use Rattle.wide_ustr.specs.LossyWith.{BeginsPastFaults, EndsBeforeFaults}
 
--- so far all were faults, from the front and from the back
+-- All items that were read are faults, from the front and from the back.
 abbrev pub PassedFirst : List Item → List Item → Type 0
 PassedFirst is now = (row : List ℕ) × (is ≡ map Fault row ++ now)
 
@@ -42,7 +42,7 @@ before_all is rest passed e = record { row = passed.0; joined = passed.1; before
 pub before_to : (is rest front : List Item) (c : ℕ) → PassedLast is rest → rest ≡ front ++ Char c ∷ [] → EndsBeforeFaults is rest
 before_to is rest front c passed e = record { row = passed.0; joined = passed.1; before = inr (c, front, e) }
 
--- one U+FFFD for the row at the front
+-- The run of faults at the beginning becomes one U+FFFD.
 pub runs_first : (is rest : List Item) (u : ℕ) → BeginsPastFaults is rest → lossy_runs (Fault u ∷ is) ≡ 0xFFFD ∷ lossy_runs rest
 runs_first is rest u begins =
     ap (λ xs. lossy_runs (Fault u ∷ xs)) begins.joined ∙ elim begins.past [
@@ -60,7 +60,7 @@ joined_end : (is rest : List Item) (row : List ℕ) (u : ℕ) → is ≡ rest ++
 joined_end is rest row u e =
     ap (λ xs. xs ++ Fault u ∷ []) e ∙ append_assoc rest (map Fault row) (Fault u ∷ []) ∙ ap (λ xs. rest ++ xs) (sym (map_push Fault row u))
 
--- the same at the back
+-- The run of faults at the end becomes one U+FFFD.
 pub runs_last : (is rest : List Item) (u : ℕ) → EndsBeforeFaults is rest → lossy_runs (is ++ Fault u ∷ []) ≡ lossy_runs rest ++ 0xFFFD ∷ []
 runs_last is rest u ends =
     let faults = map Fault (ends.row ++ u ∷ []) in
@@ -73,7 +73,7 @@ runs_last is rest u ends =
           ∙ sym (append_assoc (lossy_runs front) (c ∷ []) (0xFFFD ∷ [])) ∙ ap (λ xs. xs ++ 0xFFFD ∷ []) (sym (runs-at_char front [] c)) ∙ ap (λ xs. lossy_runs xs ++ 0xFFFD ∷ []) (sym some.2))
     ]
 
--- a call under the policy that gives one U+FFFD for a row
+-- A call under the policy that replaces a run of faults by one U+FFFD.
 pub run_next : (policy : Policy) (is tail rest : List Item) (u : ℕ) → policy ≡ Run → is ≡ Fault u ∷ tail → BeginsPastFaults tail rest → lossy_by policy is ≡ 0xFFFD ∷ lossy_by policy rest
 run_next policy is tail rest u p e begins = rw p (ap lossy_runs e ∙ runs_first tail rest u begins)
 
@@ -85,6 +85,6 @@ lossy_by-none Each = refl
 lossy_by-none Run = refl
 lossy_by-none Skip = refl
 
--- the last item under any policy, where it is a character
+-- The last item under any policy, if it is a character.
 pub last_char : (policy : Policy) (is front : List Item) (c : ℕ) → is ≡ front ++ Char c ∷ [] → lossy_by policy is ≡ lossy_by policy front ++ c ∷ []
 last_char policy is front c e = ap (lossy_by policy) e ∙ lossy_by-at_char policy front [] c ∙ ap (λ xs. lossy_by policy front ++ c ∷ xs) (lossy_by-none policy)

@@ -1,4 +1,4 @@
--- Items with their places, joined.
+-- Items with their offsets, of joined lists.
 use Rattle.std.proofs.Common.{◌≡◌, ℕ, ◌+◌, List, [], ◌∷◌, ◌++◌, length, map, ap, ◌∙◌, arith, length-append}
 use Rattle.std.proofs.lemmas.List.{length-map}
 use Rattle.wide_unit.specs.EncodingForm.{EncodingForm}
@@ -15,7 +15,7 @@ indexed-append form place (i ∷ is) js =
     let there : after + length (units_of form is) ≡ place + length (units_of form (i ∷ is)) = omega (arith, units) in
     ap (λ l. (place, i) ∷ l) (indexed-append form after is js ∙ ap (λ n. indexed form after is ++ indexed form n js) there)
 
--- the items of units and one more, which begins where the units end
+-- The items of units and one more, which begins at the end of the units.
 pub indexed-push : {C : Type 0} (form : EncodingForm) (number : C → ℕ) (place : ℕ) (all rest : List C) (i : Item) → items form (map number all) ≡ items form (map number rest) ++ i ∷ []
     → indexed form place (items form (map number all)) ≡ indexed form place (items form (map number rest)) ++ (place + length rest, i) ∷ []
 indexed-push form number place all rest i e =

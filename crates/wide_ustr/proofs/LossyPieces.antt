@@ -1,4 +1,4 @@
--- Lossy text under a policy, of which a front is taken.
+-- Lossy text under a policy, from which a prefix is read.
 use Rattle.std.proofs.Common.{◌≡◌, ℕ, ◌<◌, ◌≤◌, ◌+◌, List, [], ◌∷◌, ◌++◌, refl, sym, ◌∙◌, ap, arith, length, length-append, map, take, slice_set}
 use Rattle.std.proofs.lemmas.List.{map-append, append_assoc}
 use Rattle.std.proofs.lemmas.List.Concat.{flat_map-append}
@@ -13,7 +13,7 @@ use Rattle.wide_unit.specs.Laws.Policies.{behind-chars}
 use Rattle.wide_unit.specs.declared.policy.Policy.{Policy}
 use Rattle.wide_ustr.proofs.FaultRows.{lossy_by-none}
 
--- one or two units at the front
+-- One or two units that are written at the beginning.
 pub one_unit : {C : Type 0} (number : C → ℕ) (us : List C) (u : C) → 2 ≤ length us → map number (take 1 (slice_set us 0 u)) ≡ number u ∷ []
 one_unit number [] u room = absurd (omega arith)
 one_unit number (v ∷ us) u room = refl
@@ -28,7 +28,7 @@ module _ {C : Type 0} (form : EncodingForm) (number : C → ℕ) where
   no_lossy_text policy [] none = ap (lossy_by policy) (items-nil form) ∙ lossy_by-none policy
   no_lossy_text policy (u ∷ us) none = absurd (omega arith)
 
-  -- well-formed units are characters
+  -- Well-formed units have at least one character.
   pub some_text : (us : List C) → IsWellFormed form (map number us) → 0 < length us → 0 < length (chars form (map number us))
   some_text [] well some = absurd (omega arith)
   some_text (u ∷ us) well some = some_of (chars form (map number (u ∷ us))) (encode-chars form (map number (u ∷ us)) well)
@@ -37,7 +37,7 @@ module _ {C : Type 0} (form : EncodingForm) (number : C → ℕ) where
       some_of [] e = absurd cc
       some_of (c ∷ cs) e = omega arith
 
-  -- a sound front stays as it is
+  -- A well-formed prefix is unchanged in the lossy text.
   pub sound_piece : (policy : Policy) (units front back : List C) → front ++ back ≡ units → IsWellFormed form (map number front)
       → lossy_by policy (items form (map number units)) ≡ chars form (map number front) ++ lossy_by policy (items form (map number back))
   sound_piece policy units front back joined well =
@@ -46,7 +46,7 @@ module _ {C : Type 0} (form : EncodingForm) (number : C → ℕ) where
       ap (λ us. lossy_by policy (items form us)) (ap (map number) (sym joined) ∙ map-append number front back) ∙ ap (lossy_by policy) (items-append_left form a (map number back) well)
       ∙ ap (λ is. lossy_by policy (is ++ rest)) (chars-of_well_formed form a well) ∙ behind-chars policy (chars form a) rest
 
--- what was written, or counted, and what is to come
+-- What was written, or counted, and the text to come.
 pub written_on : (before text piece rest : List ℕ) → text ≡ piece ++ rest → (before ++ utf8 piece) ++ utf8 rest ≡ before ++ utf8 text
 written_on before text piece rest e = append_assoc before (utf8 piece) (utf8 rest) ∙ ap (λ bs. before ++ bs) (sym (flat_map-append utf8_bytes piece rest) ∙ ap utf8 (sym e))
 

@@ -1,4 +1,4 @@
--- How many pieces of units there are.
+-- A bound on the number of substrings of units.
 use Rattle.std.proofs.Common.{◌≡◌, ℕ, ◌+◌, ◌*◌, ◌^◌, ◌<◌, ◌≤◌, List, arith, length}
 use Rattle.std.specs.Prelude.{map}
 use Rattle.std.proofs.lemmas.List.{length-map}
@@ -15,6 +15,6 @@ module _ {C : Type 0} (number : C → ℕ) (part : List ℕ) (us : List C) where
   pub pieces-most : length (pieces part (map number us)) ≤ length us + 1
   pieces-most = omega (arith, pieces-at_most part (map number us), length-map us number)
 
-  -- units take memory, so that there are few enough for one piece more to be counted
+  -- Units take memory, so there are so few that one more substring can be counted.
   pub pieces-fit : (form : EncodingForm) (bytes : ℕ) → bytes ≡ unit_width form * length us → bytes < 2 ^ 63 → length (pieces part (map number us)) < 2 ^ 64
   pieces-fit form bytes long bound = omega (arith, pieces-most, few_units form (length us) bytes long bound)

@@ -1,4 +1,4 @@
--- What the iterators over the units of a view have left.
+-- What the iterators over the units of a view will yield.
 use Rattle.std.specs.Prelude.{ℕ, List, map, length, Option, Some, None}
 use Rattle.wide_unit.specs.EncodingForm.{EncodingForm, code_units}
 use Rattle.wide_unit.specs.Segmentation.{Item}
@@ -12,7 +12,7 @@ use Rattle.wide_ustr.specs.declared.iter.CharIndices.{CharIndices}
 use Rattle.wide_ustr.specs.declared.iter.CharIndicesLossy.{CharIndicesLossy}
 
 module _ {C : Type 0} where
-  -- the units that were not taken yet
+  -- The units that were not read yet.
   abbrev pub chars_rest : Chars C → List C
   chars_rest s = s.rest.now
 
@@ -28,7 +28,7 @@ module _ {C : Type 0} where
   abbrev pub indices_lossy_rest : CharIndicesLossy C → List C
   indices_lossy_rest s = places_rest s.places
 
-  -- the unit length of what was taken from the front
+  -- The length in units of what was read from the front.
   abbrev pub place_of : Places C → ℕ
   place_of s = s.offset
 
@@ -39,7 +39,7 @@ module _ {C : Type 0} where
   lossy_offset_of s = place_of s.places
 
   module _ (form : EncodingForm) (number : C → ℕ) where
-    -- what is to come
+    -- What will be yielded.
     abbrev pub items_left : Chars C → List Item
     items_left s = items form (map number (chars_rest s))
 
@@ -55,7 +55,7 @@ module _ {C : Type 0} where
     abbrev pub indices_lossy_left : CharIndicesLossy C → List (ℕ × ℕ)
     indices_lossy_left s = indexed_lossy form (lossy_offset_of s) (items form (map number (indices_lossy_rest s)))
 
--- the unit length of a character that was given
+-- The length in units of a character that was yielded.
 abbrev pub given_length : EncodingForm → Option (ℕ × ℕ) → ℕ
 given_length form None = 0
 given_length form (Some r) = length (code_units form r.1)

@@ -1,13 +1,13 @@
--- What an iterator over lines has left.
+-- What an iterator over lines will yield.
 use Rattle.std.specs.Prelude.{List}
 use Rattle.wide_unit.specs.Segmentation.{Item}
 use Rattle.wide_unit.specs.Lines.{lines_of}
 use Rattle.wide_ustr.specs.declared.lines.Lines.{Lines}
 
--- the view of what was not taken yet
+-- The view of the units that were not read yet.
 abbrev pub lines_rest : {V : Type 0} → Lines V → V
 lines_rest s = s.rest
 
--- the items of each line to come, by what the items of a view are
+-- The items of each line that will be yielded, given the items of a view.
 abbrev pub lines_left : {V : Type 0} → (V → List Item) → Lines V → List (List Item)
 lines_left seen s = lines_of (seen (lines_rest s))

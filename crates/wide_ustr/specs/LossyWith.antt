@@ -1,4 +1,4 @@
--- What the iterators under a policy over the units of a view have left.
+-- What the iterators under a policy over the units of a view will yield.
 use Rattle.std.specs.Prelude.{◌≡◌, ℕ, ◌⊎◌, List, [], ◌∷◌, ◌++◌, map, Option}
 use Rattle.wide_unit.specs.EncodingForm.{EncodingForm}
 use Rattle.wide_unit.specs.Segmentation.{Item, Char, Fault}
@@ -8,34 +8,34 @@ use Rattle.wide_unit.specs.Texts.{quoted_output}
 use Rattle.wide_unit.specs.declared.policy.Policy.{Policy}
 use Rattle.wide_ustr.specs.declared.lossy_with.CharsLossyWith.{CharsLossyWith}
 
--- the first items are faults, and then those of `rest`, which are none or begin with a character
+-- The items are a run of faults, and then those of `rest`, which is empty or begins with a character.
 pub record BeginsPastFaults (is rest : List Item) : Type 0 where
   pub row : List ℕ
   pub joined : is ≡ map Fault row ++ rest
   pub past : (rest ≡ []) ⊎ ((c : ℕ) × (tail : List Item) × (rest ≡ Char c ∷ tail))
 
--- the last items are faults, and before them those of `rest`, which are none or end with a character
+-- The items are those of `rest`, which is empty or ends with a character, and then a run of faults.
 pub record EndsBeforeFaults (is rest : List Item) : Type 0 where
   pub row : List ℕ
   pub joined : is ≡ rest ++ map Fault row
   pub before : (rest ≡ []) ⊎ ((c : ℕ) × (front : List Item) × (rest ≡ front ++ Char c ∷ []))
 
 module _ {C : Type 0} where
-  -- the units that were not taken yet
+  -- The units that were not read yet.
   abbrev pub lossy_with_rest : CharsLossyWith C → List C
   lossy_with_rest s = s.rest.now
 
-  -- the characters to come
+  -- The characters that will be yielded.
   abbrev pub lossy_with_left : EncodingForm → (C → ℕ) → CharsLossyWith C → List ℕ
   lossy_with_left form number s = lossy_by s.policy (items form (map number (lossy_with_rest s)))
 
   abbrev pub policy_of : CharsLossyWith C → Policy
   policy_of s = s.policy
 
-  -- the characters among the items to come
+  -- The characters among the items that were not read yet.
   abbrev pub characters_left : EncodingForm → (C → ℕ) → CharsLossyWith C → List ℕ
   characters_left form number s = chars form (map number (lossy_with_rest s))
 
-  -- what `{:?}` writes of the characters to come, where they are ASCII
+  -- What `{:?}` prints of the characters that will be yielded, if they are ASCII.
   abbrev pub lossy_with_debug_output : EncodingForm → (C → ℕ) → CharsLossyWith C → Option (List ℕ)
   lossy_with_debug_output form number s = quoted_output (map Char (lossy_with_left form number s))

@@ -1,4 +1,4 @@
--- Which view is printed.
+-- The view that is printed.
 use Rattle.wide_ustr.specs.declared.view.UStr.{UStr}
 use Rattle.wide_ustr.specs.declared.display.Display.{Display}
 use Rattle.wide_ustr.specs.declared.display.DisplaySkipping.{DisplaySkipping}

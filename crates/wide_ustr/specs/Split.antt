@@ -1,4 +1,4 @@
--- What an iterator over the pieces of a view has left.
+-- What an iterator over the substrings of a view will yield.
 use Rattle.std.specs.Prelude.{ℕ, List, [], Option, Some, None}
 use Rattle.wide_search.specs.Cut.{pieces}
 use Rattle.wide_ustr.specs.View.{numbers_seen}
@@ -9,10 +9,11 @@ abbrev pub pieces_of_rest : {V : Type 0} → (V → List ℕ) → List ℕ → O
 pieces_of_rest seen part None = []
 pieces_of_rest seen part (Some view) = pieces part (seen view)
 
--- the numbers of the units of each piece to come, by what they are of a view and of a part
+-- The numbers of the units of each substring that will be yielded, given the numbers of the units of a view and of a
+-- separator.
 abbrev pub pieces_left : {V P : Type 0} → (V → List ℕ) → (P → List ℕ) → Split V P → List (List ℕ)
 pieces_left seen sought s = pieces_of_rest seen (sought s.part) s.rest
 
--- of units that are cut at units
+-- The substrings of units that are split at units.
 abbrev pub unit_pieces_left : {C : Type 0} → (C → ℕ) → Split (UStr C) (UStr C) → List (List ℕ)
 unit_pieces_left number s = pieces_left (numbers_seen number) (numbers_seen number) s

@@ -1,18 +1,18 @@
--- What a view of units shows.
+-- The units and the items of a view of units.
 use Rattle.std.specs.Prelude.{ℕ, List, map}
 use Rattle.wide_unit.specs.EncodingForm.{EncodingForm}
 use Rattle.wide_unit.specs.Segmentation.{Item}
 use Rattle.wide_unit.specs.Items.{items}
 use Rattle.wide_ustr.specs.declared.view.UStr.{UStr}
 
--- its units
+-- Its units.
 abbrev pub units_seen : {C : Type 0} → UStr C → List C
 units_seen view = view.units.now
 
--- the characters of its units, and the units that belong to none
+-- The characters of its units, and the units that belong to none.
 abbrev pub items_seen : {C : Type 0} → EncodingForm → (C → ℕ) → UStr C → List Item
 items_seen form number view = items form (map number (units_seen view))
 
--- the numbers of its units
+-- The numbers of its units.
 abbrev pub numbers_seen : {C : Type 0} → (C → ℕ) → UStr C → List ℕ
 numbers_seen number view = map number (units_seen view)

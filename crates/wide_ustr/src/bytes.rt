@@ -1,4 +1,4 @@
-//! The bytes of views, in either order.
+//! The bytes of views, little-endian or big-endian.
 ghost use Rattle.std.specs.Prelude.{◌≡◌, ◌∷◌, ◌*◌, ◌+◌, ◌≤◌, [], drop, length, map, take, IfOk, IsOk};
 ghost use Rattle.wide_unit.specs.UnitBytes.{unit_width, little_bytes_of, big_bytes_of, byte_order_mark};
 ghost use Rattle.wide_ustr.specs.View.{units_seen};
@@ -9,7 +9,7 @@ use wide_blocks::{byte_len, byte_width, put_be_bytes, put_be_mark, put_le_bytes,
 use wide_error::OutOfMemory;
 use wide_unit::Unit;
 
-// So many bytes, of which memory is asked for once.
+// Returns `len` bytes, in a single allocation.
 fn zeros<A: Allocator>(alloc: A, len: usize) -> Result<Vec<u8, A>, AllocError>
     ensures long { IfOk result (λ bytes. length bytes.items ≡ len) }
     ensures succeeds { len ≡ 0 → IsOk result }
@@ -20,14 +20,14 @@ fn zeros<A: Allocator>(alloc: A, len: usize) -> Result<Vec<u8, A>, AllocError>
 }
 
 impl<C: Unit> UStr<'_, C> {
-    /// The bytes of the units, the low byte of each first, without a byte order mark (Unicode Standard, D97 and D100): two for a unit
-    /// of 16 bits, four for one of 32. The call is this port's own.
+    /// Returns the bytes of the units, little-endian, without a BOM (Unicode Standard, D97 and D100): two for a 16-bit
+    /// unit, four for a 32-bit unit. The Rust crate has no such call.
     ///
-    /// It asks for memory once, for as many bytes as there are: none where there are no units.
+    /// It allocates once, exactly as many bytes as there are, or not at all if there are no units.
     ///
     /// # Errors
     ///
-    /// The allocation was refused.
+    /// [`OutOfMemory`] if the allocation fails. It never fails if there are no units.
     pub fn to_le_bytes<A: Allocator>(self, alloc: A) -> Result<Vec<u8, A>, OutOfMemory>
         ensures bytes { IfOk result (λ bytes. bytes.items ≡ little_bytes_of C.form (map C.number (units_seen self.entry))) }
         ensures succeeds { units_seen self.entry ≡ [] → IsOk result }
@@ -37,11 +37,12 @@ impl<C: Unit> UStr<'_, C> {
         Ok(bytes)
     }
 
-    /// As [`UStr::to_le_bytes`], the high byte of each unit first (Unicode Standard, D96 and D99).
+    /// Returns the bytes of the units, big-endian, without a BOM (Unicode Standard, D96 and D99): two for a 16-bit
+    /// unit, four for a 32-bit unit. The Rust crate has no such call.
     ///
     /// # Errors
     ///
-    /// The allocation was refused.
+    /// [`OutOfMemory`] if the allocation fails. It never fails if there are no units.
     pub fn to_be_bytes<A: Allocator>(self, alloc: A) -> Result<Vec<u8, A>, OutOfMemory>
         ensures bytes { IfOk result (λ bytes. bytes.items ≡ big_bytes_of C.form (map C.number (units_seen self.entry))) }
         ensures succeeds { units_seen self.entry ≡ [] → IsOk result }
@@ -51,12 +52,13 @@ impl<C: Unit> UStr<'_, C> {
         Ok(bytes)
     }
 
-    /// As [`UStr::to_le_bytes`], behind a byte order mark (Unicode Standard, D98 and D101): the bytes `FF FE`, or `FF FE 00 00` before
-    /// units of 32 bits. One is put there also where the units begin with one.
+    /// Returns a BOM and the bytes of the units, little-endian (Unicode Standard, D98 and D101). The BOM is `FF FE` for
+    /// 16-bit units, and `FF FE 00 00` for 32-bit units. It is put there even if the units begin with a BOM. The Rust
+    /// crate has no such call.
     ///
     /// # Errors
     ///
-    /// The allocation was refused.
+    /// [`OutOfMemory`] if the allocation fails.
     pub fn to_le_bytes_with_mark<A: Allocator>(self, alloc: A) -> Result<Vec<u8, A>, OutOfMemory>
         ensures { IfOk result (λ bytes. bytes.items ≡ little_bytes_of C.form (byte_order_mark ∷ map C.number (units_seen self.entry))) }
     {
@@ -67,12 +69,13 @@ impl<C: Unit> UStr<'_, C> {
         Ok(bytes)
     }
 
-    /// As [`UStr::to_be_bytes`], behind a byte order mark (Unicode Standard, D98 and D101): the bytes `FE FF`, or `00 00 FE FF` before
-    /// units of 32 bits. One is put there also where the units begin with one.
+    /// Returns a BOM and the bytes of the units, big-endian (Unicode Standard, D98 and D101). The BOM is `FE FF` for
+    /// 16-bit units, and `00 00 FE FF` for 32-bit units. It is put there even if the units begin with a BOM. The Rust
+    /// crate has no such call.
     ///
     /// # Errors
     ///
-    /// The allocation was refused.
+    /// [`OutOfMemory`] if the allocation fails.
     pub fn to_be_bytes_with_mark<A: Allocator>(self, alloc: A) -> Result<Vec<u8, A>, OutOfMemory>
         ensures { IfOk result (λ bytes. bytes.items ≡ big_bytes_of C.form (byte_order_mark ∷ map C.number (units_seen self.entry))) }
     {
@@ -83,8 +86,12 @@ impl<C: Unit> UStr<'_, C> {
         Ok(bytes)
     }
 
-    /// Stores the bytes of [`UStr::to_le_bytes`] at the front of `bytes`, and answers how many they are. What lies behind them stays as
-    /// it was. There must be room for them: two bytes for each unit of 16 bits, four for each of 32. The call is this port's own.
+    /// Writes the bytes of the units, little-endian and without a BOM (Unicode Standard, D97 and D100), at the start of
+    /// `bytes`, and returns how many there are. The bytes after them are unchanged. The Rust crate has no such call.
+    ///
+    /// # Requires
+    ///
+    /// `bytes` has space for them: two bytes for each 16-bit unit, four for each 32-bit unit.
     pub fn put_le_bytes(self, bytes: &mut [u8]) -> usize
         requires { unit_width C.form * length (units_seen self) ≤ length bytes.old }
         ensures len { result ≡ unit_width C.form * length (units_seen self.entry) }
@@ -95,7 +102,12 @@ impl<C: Unit> UStr<'_, C> {
         byte_len(self.units)
     }
 
-    /// As [`UStr::put_le_bytes`], the high byte of each unit first (Unicode Standard, D96 and D99).
+    /// Writes the bytes of the units, big-endian and without a BOM (Unicode Standard, D96 and D99), at the start of
+    /// `bytes`, and returns how many there are. The bytes after them are unchanged. The Rust crate has no such call.
+    ///
+    /// # Requires
+    ///
+    /// `bytes` has space for them: two bytes for each 16-bit unit, four for each 32-bit unit.
     pub fn put_be_bytes(self, bytes: &mut [u8]) -> usize
         requires { unit_width C.form * length (units_seen self) ≤ length bytes.old }
         ensures len { result ≡ unit_width C.form * length (units_seen self.entry) }
@@ -106,8 +118,14 @@ impl<C: Unit> UStr<'_, C> {
         byte_len(self.units)
     }
 
-    /// As [`UStr::put_le_bytes`], behind a byte order mark (Unicode Standard, D98 and D101), as [`UStr::to_le_bytes_with_mark`] has it: there must
-    /// be room for one unit more.
+    /// Writes a BOM and the bytes of the units, little-endian (Unicode Standard, D98 and D101), at the start of
+    /// `bytes`, and returns how many bytes there are. The BOM is that of [`UStr::to_le_bytes_with_mark`]. The bytes
+    /// after them are unchanged. The Rust crate has no such call.
+    ///
+    /// # Requires
+    ///
+    /// `bytes` has space for the BOM and the units: two bytes for each 16-bit unit, four for each 32-bit unit, and one
+    /// unit more.
     pub fn put_le_bytes_with_mark(self, bytes: &mut [u8]) -> usize
         requires { unit_width C.form * (length (units_seen self) + 1) ≤ length bytes.old }
         ensures len { result ≡ unit_width C.form * (length (units_seen self.entry) + 1) }
@@ -121,8 +139,14 @@ impl<C: Unit> UStr<'_, C> {
         width + byte_len(self.units)
     }
 
-    /// As [`UStr::put_be_bytes`], behind a byte order mark (Unicode Standard, D98 and D101), as [`UStr::to_be_bytes_with_mark`] has it: there must
-    /// be room for one unit more.
+    /// Writes a BOM and the bytes of the units, big-endian (Unicode Standard, D98 and D101), at the start of `bytes`,
+    /// and returns how many bytes there are. The BOM is that of [`UStr::to_be_bytes_with_mark`]. The bytes after them
+    /// are unchanged. The Rust crate has no such call.
+    ///
+    /// # Requires
+    ///
+    /// `bytes` has space for the BOM and the units: two bytes for each 16-bit unit, four for each 32-bit unit, and one
+    /// unit more.
     pub fn put_be_bytes_with_mark(self, bytes: &mut [u8]) -> usize
         requires { unit_width C.form * (length (units_seen self) + 1) ≤ length bytes.old }
         ensures len { result ≡ unit_width C.form * (length (units_seen self.entry) + 1) }

@@ -1,4 +1,4 @@
-//! What is printed of a view, and of its characters that are still to come.
+//! `Display` and `Debug` of a view, and of iterators over its characters.
 ghost use Rattle.std.specs.Prelude.{map, Some};
 ghost use Rattle.wide_unit.specs.Texts.{display_text, skipping_text, debug_output, lossy_debug_output};
 ghost use Rattle.wide_ustr.specs.View.{units_seen};
@@ -9,14 +9,14 @@ use crate::view::UStr;
 use std::fmt;
 use wide_unit::{Unit, split_first, write_escape};
 
-/// Prints the text of a view with U+FFFD for each unit that belongs to no character (Unicode Standard, section 3.9). Made by
-/// [`UStr::display`](crate::UStr::display).
+/// Prints the text of a view, with one U+FFFD for each unit that belongs to no character (Unicode Standard, section
+/// 3.9). Made by [`UStr::display`](crate::UStr::display).
 ///
-/// The options of a hole, as its width and fill, change nothing. So `{:#}` prints what `{}` does, where the Rust crate leaves
-/// out each U+FFFD: for that there is [`UStr::display_skipping`](crate::UStr::display_skipping). No call takes memory. An
-/// error of the sink is handed on at once, and nothing more is written.
+/// It ignores the format options, such as width and fill. So `{:#}` prints the same text as `{}`, whereas the Rust
+/// crate leaves out each U+FFFD; [`UStr::display_skipping`](crate::UStr::display_skipping) does that here. No call
+/// allocates. It returns an error of the sink at once, and then writes nothing more.
 ///
-/// `{:?}` prints what that of the view does.
+/// `{:?}` prints the same text as `{:?}` of the view.
 #[derive(Clone, Copy)]
 pub struct Display<'a, C> {
     pub(crate) view: UStr<'a, C>,
@@ -40,10 +40,10 @@ impl<C: Unit> fmt::Display for Display<'_, C> {
 /// Prints the text of a view without the units that belong to no character, and without any U+FFFD of the text. Made by
 /// [`UStr::display_skipping`](crate::UStr::display_skipping).
 ///
-/// The options of a hole, as its width and fill, change nothing. No call takes memory. An error of the sink is handed on at
-/// once, and nothing more is written.
+/// It ignores the format options, such as width and fill. No call allocates. It returns an error of the sink at once,
+/// and then writes nothing more.
 ///
-/// `{:?}` prints what that of the view does.
+/// `{:?}` prints the same text as `{:?}` of the view.
 #[derive(Clone, Copy)]
 pub struct DisplaySkipping<'a, C> {
     pub(crate) view: UStr<'a, C>,

@@ -12,7 +12,7 @@ use std::iter::FusedIterator;
 use wide_unit::{Unit, split_first, split_last};
 use wide_utferror::FaultUnit;
 
-// The character, or U+FFFD in place of a fault.
+// Returns the character, or U+FFFD if the item is a fault.
 fn lossy_char<C: Unit>(item: Result<char, C>) -> char
     ensures { result ≡ lossy_of (item_of C.number item) }
 {
@@ -22,7 +22,7 @@ fn lossy_char<C: Unit>(item: Result<char, C>) -> char
     }
 }
 
-// The answer of a strict iterator.
+// Returns the item as a strict iterator yields it: the character, or an error for a fault.
 fn answer<C: FaultUnit>(item: Result<char, C>) -> Result<char, C::Fault>
     ensures { item_of C.told result ≡ item_of C.number item }
 {
@@ -32,8 +32,8 @@ fn answer<C: FaultUnit>(item: Result<char, C>) -> Result<char, C::Fault>
     }
 }
 
-// The bounds on the characters of units that are all still to come: at least one for as many units as a character takes at
-// most, and at most one for each.
+// Returns bounds on the number of characters of units that were not read yet: at least their number divided by the most
+// units that a character takes, and at most their number.
 fn unit_hint<C: Unit>(units: &[C]) -> (usize, Option<usize>)
     ensures least { result.0 ≡ length units.now / C.MAX_CHAR_LEN }
     ensures most { result.1 ≡ Some (length units.now) }
@@ -41,19 +41,19 @@ fn unit_hint<C: Unit>(units: &[C]) -> (usize, Option<usize>)
     (units.len() / C::MAX_CHAR_LEN, Some(units.len()))
 }
 
-/// The characters of a view, and as errors the units that belong to none. Made by
+/// An iterator over the characters of a view, which yields an error for each unit that belongs to none. Made by
 /// [`UStr::chars`](crate::UStr::chars).
 ///
-/// `{:?}` prints what is left, as that of a view of those units does.
+/// `{:?}` prints the units that were not read yet, as `{:?}` of a view prints them.
 #[derive(Clone, Drop)]
 pub struct Chars<'a, C> {
     pub(crate) rest: &'a [C],
 }
 
-/// The characters of a view of 16-bit units.
+/// An iterator over the characters of a view of 16-bit units.
 pub type CharsUtf16<'a> = Chars<'a, u16>;
 
-/// The characters of a view of 32-bit units.
+/// An iterator over the characters of a view of 32-bit units.
 pub type CharsUtf32<'a> = Chars<'a, u32>;
 
 impl<C: FaultUnit> Iterator for Chars<'_, C> {
@@ -103,19 +103,20 @@ impl ExactSizeIterator for Chars<'_, u32> {
 
 impl<C: FaultUnit> FusedIterator for Chars<'_, C> {}
 
-/// The characters of a view, with U+FFFD for each unit that belongs to none. Made by
+/// An iterator over the characters of a view, with one U+FFFD for each unit that belongs to none. Made by
 /// [`UStr::chars_lossy`](crate::UStr::chars_lossy).
 ///
-/// `{:?}` prints what is left, as that of a view does: between quotes, each character escaped. A fault is the escape of U+FFFD.
+/// `{:?}` prints the characters that were not read yet between quotes, as [`char::escape_debug`] escapes them. A fault
+/// is printed as the escape of U+FFFD.
 #[derive(Clone, Drop)]
 pub struct CharsLossy<'a, C> {
     pub(crate) rest: &'a [C],
 }
 
-/// The lossy characters of a view of 16-bit units.
+/// An iterator over the lossy characters of a view of 16-bit units.
 pub type CharsLossyUtf16<'a> = CharsLossy<'a, u16>;
 
-/// The lossy characters of a view of 32-bit units.
+/// An iterator over the lossy characters of a view of 32-bit units.
 pub type CharsLossyUtf32<'a> = CharsLossy<'a, u32>;
 
 impl<C: Unit> Iterator for CharsLossy<'_, C> {
@@ -165,17 +166,17 @@ impl ExactSizeIterator for CharsLossy<'_, u32> {
 
 impl<C: Unit> FusedIterator for CharsLossy<'_, C> {}
 
-/// The characters of a view and the units that belong to none, each with the offset, in units, at which it begins. Made by
-/// [`UStr::char_indices`](crate::UStr::char_indices).
+/// An iterator over the characters of a view and the units that belong to none, each with the offset, in units, at
+/// which it begins. Made by [`UStr::char_indices`](crate::UStr::char_indices).
 #[derive(Debug, Drop)]
 pub struct CharIndices<'a, C> {
     places: Places<'a, C>,
 }
 
-/// The characters of a view of 16-bit units, with their offsets.
+/// An iterator over the characters of a view of 16-bit units, with their offsets in units.
 pub type CharIndicesUtf16<'a> = CharIndices<'a, u16>;
 
-/// The characters of a view of 32-bit units, with their offsets.
+/// An iterator over the characters of a view of 32-bit units, with their offsets in units.
 pub type CharIndicesUtf32<'a> = CharIndices<'a, u32>;
 
 impl<'a, C: FaultUnit> CharIndices<'a, C> {
@@ -193,7 +194,7 @@ impl<'a, C: FaultUnit> CharIndices<'a, C> {
         }
     }
 
-    /// The offset, in units, of the next item from the front: how many units were taken from there.
+    /// Returns the offset, in units, of the next item from the front: how many units were read from there.
     pub fn offset(&self) -> usize
         ensures { result ≡ offset_of self.now }
     {
@@ -206,7 +207,7 @@ impl<C: Copy> Clone for CharIndices<'_, C> {
 
     ghost is_infallible = { λ _. ⊤ };
 
-    /// A copy, with the same list to come.
+    /// Returns a copy that yields the same items and offsets.
     fn clone(&self) -> Result<Self, AllocError> {
         Ok(CharIndices {
             places: self.places,
@@ -259,17 +260,17 @@ impl ExactSizeIterator for CharIndices<'_, u32> {
 
 impl<C: FaultUnit> FusedIterator for CharIndices<'_, C> {}
 
-/// The characters of a view, with U+FFFD for each unit that belongs to none, each with the offset, in units, at which it
-/// begins. Made by [`UStr::char_indices_lossy`](crate::UStr::char_indices_lossy).
+/// An iterator over the characters of a view, with one U+FFFD for each unit that belongs to none, each with the offset,
+/// in units, at which it begins. Made by [`UStr::char_indices_lossy`](crate::UStr::char_indices_lossy).
 #[derive(Debug, Drop)]
 pub struct CharIndicesLossy<'a, C> {
     places: Places<'a, C>,
 }
 
-/// The lossy characters of a view of 16-bit units, with their offsets.
+/// An iterator over the lossy characters of a view of 16-bit units, with their offsets in units.
 pub type CharIndicesLossyUtf16<'a> = CharIndicesLossy<'a, u16>;
 
-/// The lossy characters of a view of 32-bit units, with their offsets.
+/// An iterator over the lossy characters of a view of 32-bit units, with their offsets in units.
 pub type CharIndicesLossyUtf32<'a> = CharIndicesLossy<'a, u32>;
 
 impl<'a, C: Unit> CharIndicesLossy<'a, C> {
@@ -287,7 +288,7 @@ impl<'a, C: Unit> CharIndicesLossy<'a, C> {
         }
     }
 
-    /// The offset, in units, of the next character from the front: how many units were taken from there.
+    /// Returns the offset, in units, of the next character from the front: how many units were read from there.
     pub fn offset(&self) -> usize
         ensures { result ≡ lossy_offset_of self.now }
     {
@@ -300,7 +301,7 @@ impl<C: Copy> Clone for CharIndicesLossy<'_, C> {
 
     ghost is_infallible = { λ _. ⊤ };
 
-    /// A copy, with the same list to come.
+    /// Returns a copy that yields the same characters and offsets.
     fn clone(&self) -> Result<Self, AllocError> {
         Ok(CharIndicesLossy {
             places: self.places,

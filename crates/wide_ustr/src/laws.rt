@@ -1,4 +1,4 @@
-//! The laws of views, as contracts of functions that do no more than the call of which the law is.
+//! The laws of views, stated as contracts of functions that only make the call which the law is about.
 ghost use Rattle.std.specs.Prelude.{◌≡◌, ◌↔◌, IsTrue};
 ghost use Rattle.std.specs.List.{fold};
 ghost use Rattle.std.specs.Hash as fed;
@@ -10,15 +10,14 @@ use crate::view::{U16Str, U32Str, UStr};
 use std::cmp::Ordering;
 use std::hash::{Hash, Hasher};
 
-/// What a view gives to a hasher is what the slice of its units gives: a function of its units, so that views of equal units hash
-/// alike.
+/// A view gives a hasher what the slice of its units gives. So views of equal units have equal hashes.
 pub fn hash_of_units<C: Hash, H: Hasher>(view: UStr<'_, C>, state: &mut H)
     ensures { state.new ≡ fold H.write state.old (fed.slice C.hash_input (units_seen view.entry)) }
 {
     view.hash(state);
 }
 
-/// Views of 16-bit units are equal, and ordered, as their units are.
+/// Equality and order of views of 16-bit units are those of their units.
 pub fn comparisons_of_units16(left: U16Str<'_>, right: U16Str<'_>) -> (bool, Ordering)
     ensures equal { IsTrue result.0 ↔ (units_seen left.entry ≡ units_seen right.entry) }
     ensures order { result.1 ≡ slice_cmp nat_cmp (units_seen left.entry) (units_seen right.entry) }
@@ -26,7 +25,7 @@ pub fn comparisons_of_units16(left: U16Str<'_>, right: U16Str<'_>) -> (bool, Ord
     (left == right, left.cmp(&right))
 }
 
-/// Views of 32-bit units are equal, and ordered, as their units are.
+/// Equality and order of views of 32-bit units are those of their units.
 pub fn comparisons_of_units32(left: U32Str<'_>, right: U32Str<'_>) -> (bool, Ordering)
     ensures equal { IsTrue result.0 ↔ (units_seen left.entry ≡ units_seen right.entry) }
     ensures order { result.1 ≡ slice_cmp nat_cmp (units_seen left.entry) (units_seen right.entry) }

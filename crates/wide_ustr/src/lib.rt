@@ -1,4 +1,4 @@
-//! Views of units of 16 or 32 bits, well formed or not.
+//! Views of units of 16 or 32 bits, which may be well formed or ill-formed.
 #![tactic(auto)]
 
 mod bytes;

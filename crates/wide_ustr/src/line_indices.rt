@@ -1,4 +1,4 @@
-//! The lines of a view with their places.
+//! The lines of a view with their offsets.
 ghost use Rattle.std.specs.Prelude.{◌≡◌, ◌<◌, ◌≤◌, ◌^◌, length, map, None, IfSome, ⊤};
 ghost use Rattle.std.specs.Iterator.{YieldsFirstBy, at_most, UpTo};
 ghost use Rattle.std.specs.Iterator.SizeHint.{IsWithinCount};
@@ -12,7 +12,7 @@ use std::alloc::AllocError;
 use std::iter::FusedIterator;
 use wide_utferror::FaultUnit;
 
-/// The lines of a view, each with the place, in units, at which it begins, from the front. Made by
+/// An iterator over the lines of a view, from the front, each with the offset, in units, at which it begins. Made by
 /// [`UStr::line_indices_lossy`](crate::UStr::line_indices_lossy) and by `line_indices` of well-formed views.
 #[derive(Debug)]
 pub struct LineIndices<V: LineView> {
@@ -26,7 +26,7 @@ impl<V: LineView> Clone for LineIndices<V> {
 
     ghost is_infallible = { λ _. ⊤ };
 
-    /// A copy: the same lines to come.
+    /// Returns a copy that yields the same lines.
     fn clone(&self) -> Result<Self, AllocError> {
         Ok(*self)
     }
@@ -37,7 +37,7 @@ impl<V: LineView> Copy for LineIndices<V> {}
 impl<V: LineView> LineIndices<V> {
     ghost use Rattle.wide_ustr.specs.LineIndices.{placed_left};
 
-    /// The lines of the view, the first at place 0.
+    /// Creates an iterator over the lines of the view. The first line has offset 0.
     pub fn new(view: V) -> Self
         ensures { placed_left result ≡ placed_lines V.form 0 (V.items_seen view) }
     {
@@ -57,7 +57,8 @@ impl<V: LineView> Iterator for LineIndices<V> {
 
     ghost remaining = { λ s. at_most (length (placed_left s)) };
 
-    /// The next line and its place. Units are read by blocks, up to the one that holds the line feed that ends it.
+    /// Returns the next line and its offset in units. It reads the units, vectorized, up to the block that holds the
+    /// line feed which ends the line.
     fn next(&mut self) -> Option<(usize, V)> {
         let Some((line, rest)) = self.rest.first_line() else {
             return None;
@@ -67,7 +68,7 @@ impl<V: LineView> Iterator for LineIndices<V> {
         Some((place, line))
     }
 
-    /// No bounds: how many lines a view has is not known before it is read.
+    /// Returns no bounds, since the number of lines is unknown before the view is read.
     fn size_hint(&self) -> (usize, Option<usize>)
         ensures lower { IsWithinCount result.0 (at_most (length (placed_left self.now))) }
         ensures upper { IfSome result.1 (UpTo (at_most (length (placed_left self.now)))) }
@@ -84,15 +85,15 @@ impl<C: FaultUnit> UStr<'_, C> {
     ghost use Rattle.wide_ustr.specs.LineIndices.{placed_left};
     ghost use Rattle.wide_ustr.specs.View.{units_seen};
 
-    /// The lines, as [`UStr::lines_lossy`] has them, each with the place, in units, at which it begins in the view. The call is this port's
-    /// own.
+    /// Returns an iterator over the lines, as [`UStr::lines_lossy`] splits them, each with the offset, in units, at
+    /// which it begins in the view. The Rust crate has no such call.
     pub fn line_indices_lossy(self) -> LineIndices<Self>
         ensures lines { placed_left result ≡ placed_lines C.form 0 (items C.form (map C.number (units_seen self.entry))) }
         ensures boundaries { All (λ line. IsBoundary C.form (map C.number (units_seen self.entry)) line.0) (placed_left result) }
         ensures most { length (placed_left result) ≤ length (units_seen self.entry) }
         ensures fits { length (placed_left result) < 2 ^ 64 }
     {
-        // A call for its contract: a length is below 2 ^ 64, so that lines can be counted.
+        // This call is for its contract: a length is below 2 ^ 64, so the number of lines fits in a `usize`.
         let _units = self.len();
         LineIndices::new(self)
     }

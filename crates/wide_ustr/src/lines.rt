@@ -13,25 +13,25 @@ use std::iter::FusedIterator;
 use wide_unit::split_line;
 use wide_utferror::FaultUnit;
 
-/// A view that has lines: units of which an iterator over lines gives parts.
+/// A view that can be split into lines.
 ///
-/// The trait is this port's own. No call takes memory.
+/// The Rust crate has no such trait. No call allocates.
 pub trait LineView: Copy {
     // The characters of the view, and its units that belong to none.
     ghost items_seen: { Self → List Item };
 
-    // The encoding form of its units, and how many they are.
+    // The encoding form of its units, and their number.
     ghost form: { EncodingForm };
 
     ghost count: { Self → ℕ };
 
-    /// How many units the view has.
+    /// Returns the length in units.
     fn count_units(self) -> usize
         ensures { result ≡ count self };
 
-    /// The first line, and the view after it: a line feed (U+000A) ends the line, and with it one carriage return (U+000D) right
-    /// before it; neither belongs to a line. None where the view has no units. The view after it is shorter, so that a loop over what is left
-    /// ends.
+    /// Splits off the first line, and returns it and the view after it. A line feed (U+000A), with one carriage return
+    /// (U+000D) right before it, ends the line; neither is part of a line. Returns `None` if the view has no units. The
+    /// view after the line is shorter, so a loop over the rest ends.
     fn first_line(self) -> Option<(Self, Self)>
         ensures none { IfNone result (lines_of (items_seen self) ≡ []) }
         ensures some { IfSome result (λ r. lines_of (items_seen self) ≡ items_seen r.0 ∷ lines_of (items_seen r.1)) }
@@ -39,15 +39,15 @@ pub trait LineView: Copy {
         ensures shorter { IfSome result (λ r. count r.1 < count self) };
 }
 
-/// The lines of a view, from the front. Made by [`UStr::lines_lossy`](crate::UStr::lines_lossy) and by `lines` of well-formed
-/// views.
+/// An iterator over the lines of a view, from the front. Made by [`UStr::lines_lossy`](crate::UStr::lines_lossy) and by
+/// `lines` of well-formed views.
 #[derive(Clone, Debug, Drop)]
 pub struct Lines<V> {
     rest: V,
 }
 
 impl<V: LineView> Lines<V> {
-    /// The lines of the view.
+    /// Creates an iterator over the lines of the view.
     pub fn new(view: V) -> Self
         ensures { lines_left V.items_seen result ≡ lines_of (V.items_seen view) }
     {
@@ -62,14 +62,15 @@ impl<V: LineView> Iterator for Lines<V> {
 
     ghost remaining = { λ s. at_most (length (lines_left V.items_seen s)) };
 
-    /// The next line. Units are read by blocks, up to the one that holds the line feed that ends it.
+    /// Returns the next line. It reads the units, vectorized, up to the block that holds the line feed which ends the
+    /// line.
     fn next(&mut self) -> Option<V> {
         let (line, rest) = self.rest.first_line()?;
         self.rest = rest;
         Some(line)
     }
 
-    /// No bounds: how many lines a view has is not known before it is read.
+    /// Returns no bounds, since the number of lines is unknown before the view is read.
     fn size_hint(&self) -> (usize, Option<usize>)
         ensures lower { IsWithinCount result.0 (at_most (length (lines_left V.items_seen self.now))) }
         ensures upper { IfSome result.1 (UpTo (at_most (length (lines_left V.items_seen self.now)))) }
@@ -104,15 +105,16 @@ impl<C: FaultUnit> LineView for UStr<'_, C> {
 impl<C: FaultUnit> UStr<'_, C> {
     ghost use Rattle.wide_ustr.specs.View.{units_seen, items_seen};
 
-    /// The lines, each a view of a part of the units, from the front. The view is cut at each line feed (U+000A), which belongs to
-    /// no line; a line that one ended loses one carriage return (U+000D) at its end, and the last piece is no line where it is
-    /// empty. Units that belong to no character stay in the lines as they are.
+    /// Returns an iterator over the lines, from the front. Each line is a view of some of the units. The view is split
+    /// at each line feed (U+000A), which is part of no line. A line before a line feed loses one carriage return
+    /// (U+000D) at its end. If there are no units after the last line feed, they are not a line. Units that belong to
+    /// no character remain in the lines unchanged.
     pub fn lines_lossy(self) -> Lines<Self>
         ensures lines { lines_left (items_seen C.form C.number) result ≡ lines_of (items C.form (map C.number (units_seen self.entry))) }
         ensures most { length (lines_left (items_seen C.form C.number) result) ≤ length (units_seen self.entry) }
         ensures fits { length (lines_left (items_seen C.form C.number) result) < 2 ^ 64 }
     {
-        // A call for its contract: a length is below 2 ^ 64, so that lines can be counted.
+        // This call is for its contract: a length is below 2 ^ 64, so the number of lines fits in a `usize`.
         let _units = self.len();
         Lines::new(self)
     }

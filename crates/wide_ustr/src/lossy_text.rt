@@ -1,4 +1,4 @@
-//! Lossy text under a policy, a piece after another, in UTF-8.
+//! Lossy text under a policy, written chunk by chunk in UTF-8.
 ghost use Rattle.std.specs.Prelude.{◌≡◌, ◌++◌, ◌<◌, ◌≤◌, ◌^◌, ◌-◌, [], length, map, take, min, IfNone, IfOk, IfSome, OnOk, string_bytes};
 ghost use Rattle.wide_unit.specs.EncodingForm.{code_units};
 ghost use Rattle.wide_unit.specs.Items.{IsWellFormed, items};
@@ -13,10 +13,10 @@ use std::alloc::{AllocError, Allocator};
 use wide_blocks::{lossy_front, push_utf8, sound_len, utf8_len};
 use wide_unit::{AnyUnits, Policy, Unit};
 
-// As many units as are mended in one step.
+// How many units are repaired in one step.
 const SPARE: usize = 256;
 
-// Stores the units of a character at the front, and answers how many they are.
+// Writes the units of a character at the start of the slice, and returns how many there are.
 fn put_char<C: Unit>(units: &mut [C], c: char) -> usize
     requires { 2 ≤ length units.old }
     ensures within { result ≤ length units.new }
@@ -32,7 +32,8 @@ fn put_char<C: Unit>(units: &mut [C], c: char) -> usize
 impl<'a, C: Unit> CharsLossyWith<'a, C> {
     ghost use Rattle.wide_ustr.specs.LossyWith.{lossy_with_left};
 
-    // A front of the text to come, as units: those of the view, where they stand as they are, or else some that are put into `spare`.
+    // Returns the next chunk of the text to come, as units: a prefix of the view's own units if they can be used
+    // unchanged, and otherwise units that are written into `spare`.
     fn next_piece<'m>(&mut self, spare: &'m mut [C]) -> Option<&'m [C]>
     where
         'a: 'm,
@@ -60,7 +61,7 @@ impl<'a, C: Unit> CharsLossyWith<'a, C> {
         Some(&spare[..len])
     }
 
-    // How many bytes the text to come has in UTF-8, or the greatest number where they are more.
+    // Returns the length of the text to come in UTF-8 bytes, or `usize::MAX` if it is greater.
     fn utf8_len(mut self, spare: &mut [C]) -> usize
         requires { 2 ≤ length spare.old }
         ensures { result ≡ min (length (utf8 (lossy_with_left C.form C.number self.entry))) (2 ^ 64 - 1) }
@@ -88,7 +89,7 @@ impl<'a, C: Unit> CharsLossyWith<'a, C> {
     }
 }
 
-// The lossy text of a view. Units that are not handed on as they are go through the spare room.
+// Returns the lossy text of a view. Units that cannot be used unchanged are written into the buffer `spare`.
 fn lossy_by<C: Unit, A: Allocator>(
     alloc: A,
     view: UStr<'_, C>,
@@ -101,11 +102,11 @@ fn lossy_by<C: Unit, A: Allocator>(
     let len = view.chars_lossy_with(policy).utf8_len(spare);
     let mut text = Vec::with_capacity(alloc, len)?;
     view.chars_lossy_with(policy).push_to(&mut text, spare)?;
-    // It was written as UTF-8, so that it needs no check.
+    // The bytes were written as UTF-8, so they need no check.
     Ok(unsafe { String::from_utf8_unchecked(text) })
 }
 
-// The lossy text of a view in UTF-8, of which memory is asked for once.
+// Returns the lossy text of a view in UTF-8, in a single allocation.
 pub(crate) fn lossy_string<C: Unit, A: Allocator>(
     alloc: A,
     view: UStr<'_, C>,

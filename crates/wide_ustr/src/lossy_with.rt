@@ -1,4 +1,4 @@
-//! Iterators over the characters of a view, from both ends, with what a policy says in place of faults.
+//! Iterators over the characters of a view, from both ends, with faults replaced as a policy says.
 ghost use Rattle.std.specs.Prelude.{◌≡◌, ◌≤◌, ◌<◌, length, map, None, IfSome};
 ghost use Rattle.std.specs.Iterator.{YieldsFirst, YieldsLast, at_most, UpTo};
 ghost use Rattle.std.specs.Iterator.SizeHint.{IsWithinCount};
@@ -8,7 +8,7 @@ ghost use Rattle.wide_ustr.specs.LossyWith.{BeginsPastFaults, EndsBeforeFaults};
 use std::iter::FusedIterator;
 use wide_unit::{Policy, Unit, split_first, split_last};
 
-/// The units behind the longest row of faults at the front.
+/// Returns the units after the longest run of faults at the beginning.
 pub fn behind_faults<C: Unit>(units: &[C]) -> &[C]
     ensures row { BeginsPastFaults (items C.form (map C.number units.now)) (items C.form (map C.number result.now)) }
     ensures within { length result.now ≤ length units.now }
@@ -20,7 +20,7 @@ pub fn behind_faults<C: Unit>(units: &[C]) -> &[C]
     rest
 }
 
-// The units before the longest row of faults at the back.
+// Returns the units before the longest run of faults at the end.
 fn before_faults<C: Unit>(units: &[C]) -> &[C]
     ensures row { EndsBeforeFaults (items C.form (map C.number units.now)) (items C.form (map C.number result.now)) }
     ensures within { length result.now ≤ length units.now }
@@ -32,11 +32,12 @@ fn before_faults<C: Unit>(units: &[C]) -> &[C]
     rest
 }
 
-/// The characters of a view, with what a policy says in place of each unit that belongs to none. Made by
+/// An iterator over the characters of a view, with the units that belong to none replaced as a policy says. Made by
 /// [`UStr::chars_lossy_with`](crate::UStr::chars_lossy_with).
 ///
-/// Under [`Policy::Run`] and [`Policy::Skip`] a row of faults is passed whole by the call that meets it, at either end; under
-/// [`Policy::Each`] each call passes one. It stays ended, and takes no memory.
+/// Under [`Policy::Run`] and [`Policy::Skip`] the call that reaches a run of faults, at either end, reads the whole
+/// run. Under [`Policy::Each`] each call reads one fault. It continues to return `None` after its end, and does not
+/// allocate.
 #[derive(Clone, Drop)]
 pub struct CharsLossyWith<'a, C> {
     pub(crate) rest: &'a [C],
@@ -46,7 +47,7 @@ pub struct CharsLossyWith<'a, C> {
 impl<C: Unit> CharsLossyWith<'_, C> {
     ghost use Rattle.wide_ustr.specs.LossyWith.{characters_left, lossy_with_rest, policy_of};
 
-    // The first character, past the faults before it.
+    // Returns the first character, after the faults before it.
     fn first_character(&mut self) -> Option<char>
         ensures first { YieldsFirst (characters_left C.form C.number) self.old result self.new }
         ensures fewer { IfSome result (λ _. length (lossy_with_rest self.new) < length (lossy_with_rest self.old)) }
@@ -61,7 +62,7 @@ impl<C: Unit> CharsLossyWith<'_, C> {
         None
     }
 
-    // The last character, before the faults behind it.
+    // Returns the last character, before the faults after it.
     fn last_character(&mut self) -> Option<char>
         ensures last { YieldsLast (characters_left C.form C.number) self.old result self.new }
         ensures fewer { IfSome result (λ _. length (lossy_with_rest self.new) < length (lossy_with_rest self.old)) }
@@ -105,7 +106,7 @@ impl<C: Unit> Iterator for CharsLossyWith<'_, C> {
         }
     }
 
-    /// No bounds: how many characters a row of faults gives is not known before it is read.
+    /// Returns no bounds, since the number of characters for a run of faults is unknown before the run is read.
     fn size_hint(&self) -> (usize, Option<usize>)
         ensures lower { IsWithinCount result.0 (at_most (length (lossy_with_rest self.now))) }
         ensures upper { IfSome result.1 (UpTo (at_most (length (lossy_with_rest self.now)))) }

@@ -1,4 +1,4 @@
-//! Items with their places.
+//! Items of a view with their offsets.
 ghost use Rattle.std.specs.Prelude.{◌≡◌, ◌+◌, ◌<◌, ◌^◌, length, OnSome, ⊤};
 ghost use Rattle.std.specs.Iterator.{YieldsFirstBy, YieldsLastBy};
 ghost use Rattle.wide_ustr.specs.Indexed.{indexed_item, taken_length};
@@ -6,7 +6,7 @@ ghost use Rattle.wide_ustr.specs.Indexed.{indexed_item, taken_length};
 use std::alloc::AllocError;
 use wide_unit::{Unit, split_first, split_last};
 
-/// The units that were not taken yet, and the unit offset at which they begin in the whole.
+/// The units that were not read yet, and the offset, in units, at which they begin in the whole view.
 #[derive(Debug)]
 pub(crate) struct Places<'a, C> {
     pub(crate) rest: &'a [C],
@@ -29,7 +29,7 @@ impl<C: Copy> Copy for Places<'_, C> {}
 impl<C: Unit> Places<'_, C> {
     ghost use Rattle.wide_ustr.specs.Iter.{places_left, place_of, places_rest};
 
-    // The first item, and where it begins.
+    // Returns the first item and its offset.
     pub(crate) fn first(&mut self) -> Option<(usize, Result<char, C>)>
         ensures steps { YieldsFirstBy (indexed_item C.number) (places_left C.form C.number) self.old result self.new }
         ensures offset { place_of self.new ≡ place_of self.old + taken_length C.number C.form result }
@@ -43,7 +43,7 @@ impl<C: Unit> Places<'_, C> {
         Some((place, item))
     }
 
-    // The last item, and where it begins.
+    // Returns the last item and its offset.
     pub(crate) fn last(&mut self) -> Option<(usize, Result<char, C>)>
         ensures steps { YieldsLastBy (indexed_item C.number) (places_left C.form C.number) self.old result self.new }
         ensures offset { place_of self.new ≡ place_of self.old }

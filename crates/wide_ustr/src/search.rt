@@ -8,32 +8,33 @@ use crate::view::UStr;
 use wide_unit::Unit;
 
 impl<C: Unit> UStr<'_, C> {
-    /// Whether the view begins with the units of the other. It does where that has none.
+    /// Returns whether the view begins with the needle. It does if the needle is empty.
     pub fn starts_with(self, part: UStr<'_, C>) -> bool
         ensures { IsTrue result ↔ BeginsWith (units_seen part.entry) (units_seen self.entry) }
     {
         wide_search::starts_with(self.as_slice(), part.as_slice())
     }
 
-    /// Whether the view ends with the units of the other. It does where that has none.
+    /// Returns whether the view ends with the needle. It does if the needle is empty.
     pub fn ends_with(self, part: UStr<'_, C>) -> bool
         ensures { IsTrue result ↔ EndsWith (units_seen part.entry) (units_seen self.entry) }
     {
         wide_search::ends_with(self.as_slice(), part.as_slice())
     }
 
-    /// Whether the units of the other view stand anywhere in this one, as [`UStr::find`] finds them.
+    /// Returns whether the needle occurs anywhere in the view, as [`UStr::find`] finds it.
     pub fn contains(self, part: UStr<'_, C>) -> bool
         ensures { IsTrue result ↔ StandsIn (units_seen part.entry) (units_seen self.entry) }
     {
         self.find(part).is_some()
     }
 
-    /// The first place, in units, at which the other view's units stand in this one: how many units stand before it. None where they
-    /// stand nowhere. An empty view stands at the start. Units may be of any values, so that a place may lie within a surrogate pair.
+    /// Returns the offset, in units, of the first occurrence of the needle, or `None` if there is none. An empty needle
+    /// occurs at the start. Units may have any values, so the offset may be within a surrogate pair.
     ///
-    /// What stands before the first unit of the other view is passed by blocks, and from there on units are compared up to the first that
-    /// differs. So the worst case, where a long front of it stands nearly everywhere, is the product of both lengths.
+    /// The search for the first unit of the needle is vectorized; from there on, units are compared up to the first
+    /// that differ. So in the worst case, where a long prefix of the needle occurs nearly everywhere, the time is
+    /// proportional to the product of both lengths.
     pub fn find(self, part: UStr<'_, C>) -> Option<usize>
         ensures first { IfSome result (IsFirstAt (units_seen part.entry) (units_seen self.entry)) }
         ensures none { IfNone result (StandsNowhere (units_seen part.entry) (units_seen self.entry)) }
@@ -42,8 +43,9 @@ impl<C: Unit> UStr<'_, C> {
         wide_search::find(self.as_slice(), part.as_slice())
     }
 
-    /// The last place, in units, at which the other view's units stand in this one, as [`UStr::find`] has the first. An empty view stands
-    /// at the end. Units are gone over one by one, from the back.
+    /// Returns the offset, in units, of the last occurrence of the needle, or `None` if there is none. An empty needle
+    /// occurs at the end. Units may have any values, so the offset may be within a surrogate pair. The search goes
+    /// through the units one by one, from the back.
     pub fn rfind(self, part: UStr<'_, C>) -> Option<usize>
         ensures last { IfSome result (IsLastAt (units_seen part.entry) (units_seen self.entry)) }
         ensures none { IfNone result (StandsNowhere (units_seen part.entry) (units_seen self.entry)) }
@@ -52,8 +54,8 @@ impl<C: Unit> UStr<'_, C> {
         wide_search::rfind(self.as_slice(), part.as_slice())
     }
 
-    /// The first place of the unit: how many units stand before it. None where it is not among them. It may be half of a surrogate pair.
-    /// Units are read by blocks.
+    /// Returns the offset, in units, of the first occurrence of the unit, or `None` if there is none. The unit may be
+    /// half of a surrogate pair. The search is vectorized.
     pub fn find_unit(self, unit: C) -> Option<usize>
         ensures first { IfSome result (IsFirstAt (unit ∷ []) (units_seen self.entry)) }
         ensures none { IfNone result (StandsNowhere (unit ∷ []) (units_seen self.entry)) }
@@ -62,7 +64,8 @@ impl<C: Unit> UStr<'_, C> {
         wide_search::find_unit(self.as_slice(), unit)
     }
 
-    /// The last place of the unit, as [`UStr::find_unit`] has the first. Units are gone over one by one, from the back.
+    /// Returns the offset, in units, of the last occurrence of the unit, or `None` if there is none. The unit may be
+    /// half of a surrogate pair. The search goes through the units one by one, from the back.
     pub fn rfind_unit(self, unit: C) -> Option<usize>
         ensures last { IfSome result (IsLastAt (unit ∷ []) (units_seen self.entry)) }
         ensures none { IfNone result (StandsNowhere (unit ∷ []) (units_seen self.entry)) }
@@ -71,9 +74,9 @@ impl<C: Unit> UStr<'_, C> {
         wide_search::rfind_unit(self.as_slice(), unit)
     }
 
-    /// The first place, in units, at which the character stands: how many units stand before it. None where it stands nowhere. Half of a
-    /// surrogate pair is no character, so it is not found, and both the place and the one behind the character lie between two items
-    /// (`wide_search::laws::parts_of_text`).
+    /// Returns the offset, in units, of the first occurrence of the character, or `None` if there is none. Half of a
+    /// surrogate pair is no character and is not found, so both the offset and the end of the character are between two
+    /// items (`wide_search::laws::parts_of_text`).
     pub fn find_char(self, c: char) -> Option<usize>
         ensures first { IfSome result (IsFirstAt (code_units C.form c) (map C.number (units_seen self.entry))) }
         ensures none { IfNone result (StandsNowhere (code_units C.form c) (map C.number (units_seen self.entry))) }
@@ -82,7 +85,9 @@ impl<C: Unit> UStr<'_, C> {
         wide_search::find_char(self.as_slice(), c)
     }
 
-    /// The last place, in units, at which the character stands, as [`UStr::find_char`] has the first.
+    /// Returns the offset, in units, of the last occurrence of the character, or `None` if there is none. Half of a
+    /// surrogate pair is no character and is not found, so both the offset and the end of the character are between two
+    /// items (`wide_search::laws::parts_of_text`).
     pub fn rfind_char(self, c: char) -> Option<usize>
         ensures last { IfSome result (IsLastAt (code_units C.form c) (map C.number (units_seen self.entry))) }
         ensures none { IfNone result (StandsNowhere (code_units C.form c) (map C.number (units_seen self.entry))) }
@@ -91,7 +96,7 @@ impl<C: Unit> UStr<'_, C> {
         wide_search::rfind_char(self.as_slice(), c)
     }
 
-    /// The units behind those of the other view, where this one begins with them, and else none.
+    /// Returns the view without the given prefix, or `None` if it does not begin with it.
     pub fn strip_prefix(self, part: UStr<'_, C>) -> Option<Self>
         ensures some { IsSome result ↔ BeginsWith (units_seen part.entry) (units_seen self.entry) }
         ensures rest { IfSome result (λ rest. units_seen self.entry ≡ units_seen part.entry ++ units_seen rest) }
@@ -100,7 +105,7 @@ impl<C: Unit> UStr<'_, C> {
         Some(UStr::from_slice(rest))
     }
 
-    /// The units before those of the other view, where this one ends with them, and else none.
+    /// Returns the view without the given suffix, or `None` if it does not end with it.
     pub fn strip_suffix(self, part: UStr<'_, C>) -> Option<Self>
         ensures some { IsSome result ↔ EndsWith (units_seen part.entry) (units_seen self.entry) }
         ensures front { IfSome result (λ front. units_seen self.entry ≡ units_seen front ++ units_seen part.entry) }
@@ -109,7 +114,8 @@ impl<C: Unit> UStr<'_, C> {
         Some(UStr::from_slice(front))
     }
 
-    /// What stands before the other view's units, and behind them, at their first place. None where they stand nowhere.
+    /// Splits the view at the first occurrence of the needle, into what is before it and what is after it. Returns
+    /// `None` if there is none.
     pub fn split_once(self, part: UStr<'_, C>) -> Option<(Self, Self)>
         ensures first { IfSome result (λ r. IsFirstSplit (units_seen part.entry) (units_seen self.entry) (units_seen r.0) (units_seen r.1)) }
         ensures none { IfNone result (StandsNowhere (units_seen part.entry) (units_seen self.entry)) }
@@ -118,7 +124,8 @@ impl<C: Unit> UStr<'_, C> {
         Some((UStr::from_slice(front), UStr::from_slice(rest)))
     }
 
-    /// What stands before the other view's units, and behind them, at their last place. None where they stand nowhere.
+    /// Splits the view at the last occurrence of the needle, into what is before it and what is after it. Returns
+    /// `None` if there is none.
     pub fn rsplit_once(self, part: UStr<'_, C>) -> Option<(Self, Self)>
         ensures last { IfSome result (λ r. IsLastSplit (units_seen part.entry) (units_seen self.entry) (units_seen r.0) (units_seen r.1)) }
         ensures none { IfNone result (StandsNowhere (units_seen part.entry) (units_seen self.entry)) }

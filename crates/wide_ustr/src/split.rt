@@ -1,4 +1,4 @@
-//! The pieces of a view that is cut at a part.
+//! The substrings of a view that is split at a separator.
 ghost use Rattle.std.specs.Prelude.{◌≡◌, ◌<◌, ◌≤◌, ◌+◌, ◌^◌, ◌∷◌, ℕ, List, [], length, None, IfNone, IfSome};
 ghost use Rattle.std.specs.Iterator.{YieldsFirstBy, at_most, UpTo};
 ghost use Rattle.std.specs.Iterator.SizeHint.{IsWithinCount};
@@ -12,23 +12,24 @@ use std::iter::FusedIterator;
 use wide_blocks::byte_len;
 use wide_unit::Unit;
 
-/// A view that can be cut at a part of some kind: units, or a character.
+/// A view that can be split at a separator of some type: units, or a character.
 ///
-/// The trait is this port's own. No call takes memory.
+/// The Rust crate has no such trait. No call allocates.
 pub trait SplitView<P>: Copy {
-    // The numbers of the view's units, and of the part's.
+    // The numbers of the view's units, and of the separator's.
     ghost numbers_seen: { Self → List ℕ };
 
     ghost part_numbers: { P → List ℕ };
 
-    /// What stands before the part and behind it, at its first place. None where it stands nowhere, or has no units.
+    /// Splits the view at the first occurrence of the separator, into what is before it and what is after it. Returns
+    /// `None` if the separator does not occur, or has no units.
     fn cut_first(self, part: P) -> Option<(Self, Self)>
         ensures none { IfNone result (pieces (part_numbers part) (numbers_seen self) ≡ numbers_seen self ∷ []) }
         ensures some { IfSome result (λ r. pieces (part_numbers part) (numbers_seen self) ≡ numbers_seen r.0 ∷ pieces (part_numbers part) (numbers_seen r.1)) };
 }
 
-/// The pieces of a view that is cut at a part, from the front. Made by [`UStr::split`](crate::UStr::split) and by `split` and
-/// `split_char` of the other views.
+/// An iterator over the substrings of a view between the occurrences of a separator, from the front. Made by
+/// [`UStr::split`](crate::UStr::split) and by `split` and `split_char` of the other views.
 #[derive(Clone, Copy, Debug, Drop)]
 pub struct Split<V, P> {
     rest: Option<V>,
@@ -36,7 +37,8 @@ pub struct Split<V, P> {
 }
 
 impl<P: Copy, V: SplitView<P>> Split<V, P> {
-    /// The pieces of the view. A part without units cuts nothing, so that the view is the only piece.
+    /// Creates an iterator over the substrings of the view. If the separator has no units, the whole view is the only
+    /// substring.
     pub fn new(view: V, part: P) -> Self
         ensures { pieces_left V.numbers_seen V.part_numbers result ≡ pieces (V.part_numbers part) (V.numbers_seen view) }
     {
@@ -54,7 +56,8 @@ impl<P: Copy, V: SplitView<P>> Iterator for Split<V, P> {
 
     ghost remaining = { λ s. at_most (length (pieces_left V.numbers_seen V.part_numbers s)) };
 
-    /// The next piece. Units are read by blocks, up to those of the part that ends it, and some behind it may be.
+    /// Returns the next substring. It reads the units, vectorized, up to those of the separator that ends the
+    /// substring, and may read some after them.
     fn next(&mut self) -> Option<V> {
         let view = self.rest?;
         let Some((piece, rest)) = view.cut_first(self.part) else {
@@ -65,7 +68,7 @@ impl<P: Copy, V: SplitView<P>> Iterator for Split<V, P> {
         Some(piece)
     }
 
-    /// No bounds: how many pieces a view has is not known before it is read.
+    /// Returns no bounds, since the number of substrings is unknown before the view is read.
     fn size_hint(&self) -> (usize, Option<usize>)
         ensures lower { IsWithinCount result.0 (at_most (length (pieces_left V.numbers_seen V.part_numbers self.now))) }
         ensures upper { IfSome result.1 (UpTo (at_most (length (pieces_left V.numbers_seen V.part_numbers self.now)))) }
@@ -94,9 +97,10 @@ impl<'a, C: Unit> SplitView<UStr<'a, C>> for UStr<'_, C> {
 impl<C: Unit> UStr<'_, C> {
     ghost use Rattle.wide_ustr.specs.View.{units_seen};
 
-    /// The pieces between the places of the other view's units, each a view of a part of the units, from the front: each place is the first
-    /// behind the one before, so that places never overlap. Where they stand at the start, at the end or one behind another, the piece
-    /// there is empty; where they stand nowhere, and where the other view is empty, the whole view is the only piece.
+    /// Returns an iterator over the substrings between the occurrences of the separator, from the front. Each
+    /// occurrence is the first one after the one before, so occurrences do not overlap. If the separator occurs at the
+    /// start, at the end, or twice in a row, the substring there is empty. If it does not occur, or is empty, the whole
+    /// view is the only substring.
     pub fn split<'p>(self, part: UStr<'p, C>) -> Split<Self, UStr<'p, C>>
         ensures left { unit_pieces_left C.number result ≡ pieces (numbers_seen C.number part.entry) (numbers_seen C.number self.entry) }
         ensures cut { 0 < length (units_seen part.entry) → ArePieces (numbers_seen C.number part.entry) (numbers_seen C.number self.entry) (unit_pieces_left C.number result) }
@@ -104,7 +108,7 @@ impl<C: Unit> UStr<'_, C> {
         ensures most { length (unit_pieces_left C.number result) ≤ length (units_seen self.entry) + 1 }
         ensures fits { length (unit_pieces_left C.number result) < 2 ^ 64 }
     {
-        // A call for its contract: there are so few units that one more piece can be counted.
+        // This call is for its contract: there are so few units that one more substring can be counted.
         let _bytes = byte_len(self.units);
         Split::new(self, part)
     }

@@ -1,4 +1,4 @@
-//! Texts of views in UTF-8.
+//! Conversion of views to UTF-8.
 ghost use Rattle.std.specs.Prelude.{◌≡◌, ◌<◌, length, [], map, IsOk, IfOk, IfErr, IfSome, IfNone, OnOk, None, string_bytes};
 ghost use Rattle.wide_unit.specs.EncodingForm.{Utf16, Utf32};
 ghost use Rattle.wide_unit.specs.Items.{items, chars, IsWellFormed, IsFirstFault};
@@ -16,14 +16,15 @@ use wide_unit::{Policy, Unit, check};
 use wide_utferror::{Utf16ConvertError, Utf32ConvertError, UtfError};
 
 impl<C: Unit> UStr<'_, C> {
-    /// The text of the view in UTF-8, with U+FFFD for each unit that belongs to no character (Unicode Standard, section 3.9).
+    /// Encodes the text of the view as a UTF-8 string, with one U+FFFD for each unit that belongs to no character
+    /// (Unicode Standard, section 3.9).
     ///
-    /// It reads the units three times, by blocks, and asks for memory once, for as many bytes as the text has: none where there are no
-    /// units.
+    /// If the text is well formed, it reads the units three times, vectorized. It allocates once, exactly as many bytes
+    /// as the text has, or not at all if there are no units.
     ///
     /// # Errors
     ///
-    /// The allocation was refused.
+    /// [`OutOfMemory`] if the allocation fails. It never fails if there are no units.
     pub fn to_string_lossy<A: Allocator>(self, alloc: A) -> Result<String<A>, OutOfMemory>
         ensures text { IfOk result (λ text. string_bytes text ≡ utf8 (lossy (items C.form (map C.number (units_seen self.entry))))) }
         ensures succeeds { units_seen self.entry ≡ [] → IsOk result }
@@ -31,11 +32,15 @@ impl<C: Unit> UStr<'_, C> {
         self.to_string_lossy_with(alloc, Policy::Each)
     }
 
-    /// As [`UStr::to_string_lossy`], with what the policy says in place of U+FFFD for each unit that belongs to no character.
+    /// Encodes the text of the view as a UTF-8 string. The policy says what replaces the units that belong to no
+    /// character: one U+FFFD for each, one for each run of them, or nothing.
+    ///
+    /// If the text is well formed, it reads the units three times, vectorized. It allocates once, exactly as many bytes
+    /// as the text has, or not at all if there are no units.
     ///
     /// # Errors
     ///
-    /// The allocation was refused.
+    /// [`OutOfMemory`] if the allocation fails. It never fails if there are no units.
     pub fn to_string_lossy_with<A: Allocator>(
         self,
         alloc: A,
@@ -54,15 +59,15 @@ impl<C: Unit> UStr<'_, C> {
 impl UStr<'_, u16> {
     ghost use Rattle.wide_utferror.specs.Converted.{utf16_fault};
 
-    /// The text of the view in UTF-8, where it is well formed (Unicode Standard, D85).
+    /// Encodes the text of the view as a UTF-8 string, if it is well formed (Unicode Standard, D85).
     ///
-    /// It reads the units three times at most, by blocks, and asks for memory once, for as many bytes as the text has: none where there
-    /// are no units.
+    /// It reads the units at most three times, vectorized, and allocates once, exactly as many bytes as the text has,
+    /// or not at all if there are no units.
     ///
     /// # Errors
     ///
-    /// The first fault, by its index in units and its item number, with no vector to hand back; it is found before memory is
-    /// asked for. Else the allocation was refused.
+    /// The first fault, if the text is ill-formed, with its index in units, its item number in characters, and no
+    /// vector. It is found before anything is allocated. Otherwise out of memory, if the allocation fails.
     pub fn to_string<A: Allocator>(self, alloc: A) -> Result<String<A>, Utf16ConvertError>
         ensures text { IfOk result (λ text. string_bytes text ≡ utf8 (chars Utf16 (units_seen self.entry))) }
         ensures well_formed { OnOk result (IsWellFormed Utf16 (units_seen self.entry)) }
@@ -82,15 +87,15 @@ impl UStr<'_, u16> {
 impl UStr<'_, u32> {
     ghost use Rattle.wide_utferror.specs.Converted.{utf32_fault};
 
-    /// The text of the view in UTF-8, where it is well formed (Unicode Standard, D85).
+    /// Encodes the text of the view as a UTF-8 string, if it is well formed (Unicode Standard, D85).
     ///
-    /// It reads the units three times at most, by blocks, and asks for memory once, for as many bytes as the text has: none where there
-    /// are no units.
+    /// It reads the units at most three times, vectorized, and allocates once, exactly as many bytes as the text has,
+    /// or not at all if there are no units.
     ///
     /// # Errors
     ///
-    /// The first fault, by its index in units and its item number, with no vector to hand back; it is found before memory is
-    /// asked for. Else the allocation was refused.
+    /// The first fault, if the text is ill-formed, with its index in units, its item number in characters, and no
+    /// vector. It is found before anything is allocated. Otherwise out of memory, if the allocation fails.
     pub fn to_string<A: Allocator>(self, alloc: A) -> Result<String<A>, Utf32ConvertError>
         ensures text { IfOk result (λ text. string_bytes text ≡ utf8 (chars Utf32 (units_seen self.entry))) }
         ensures well_formed { OnOk result (IsWellFormed Utf32 (units_seen self.entry)) }

@@ -1,4 +1,4 @@
-//! Views of units, well formed or not.
+//! Views of units that may be ill-formed.
 ghost use Rattle.std.specs.Prelude.{◌≡◌, ◌≤◌, ◌↔◌, ◌++◌, ◌==◌, [], length, map, take, drop, IsSome, IfSome};
 ghost use Rattle.wide_unit.specs.Range.{IsInRange, part_of};
 ghost use Rattle.wide_unit.specs.Items.{items};
@@ -13,15 +13,15 @@ use std::slice;
 use wide_unit::{Policy, Unit, range_check};
 use wide_utferror::FaultUnit;
 
-/// A view of units of 16 or 32 bits, of any values: text that may be well formed or not.
+/// A view of units of 16 or 32 bits, of any values: its text may be well formed or not.
 ///
-/// It is a slice by another name, and is copied freely. No call takes memory but those that are handed an allocator. Views are
-/// equal, ordered and hashed as their units are: the order is that of the units' numbers, as of words in a lexicon, and not that
-/// of the characters.
+/// A view is a slice of units and can be copied. Only calls that take an allocator allocate. Equality, order and hash
+/// of views are those of their units. The order is lexicographic by the units' numbers; it can differ from the order of
+/// the characters.
 ///
-/// `{:?}` prints the units between quotes: each character by its escape, as `char::escape_debug` gives it, and each unit that
-/// belongs to none as `\<H>`, its number in upper-case hexadecimal. The options of the hole change nothing, and an error of the
-/// sink is handed on at once.
+/// `{:?}` prints the text between quotes, as [`char::escape_debug`] escapes it. A unit that belongs to no character is
+/// printed as `\<XXXX>`, its number in upper-case hexadecimal. It ignores the format options, and returns an error of
+/// the sink at once.
 #[derive(Clone, Copy, PartialEq, Eq, PartialOrd, Ord, Hash)]
 pub struct UStr<'a, C> {
     pub(crate) units: &'a [C],
@@ -33,7 +33,7 @@ pub type U16Str<'a> = UStr<'a, u16>;
 /// A view of 32-bit units.
 pub type U32Str<'a> = UStr<'a, u32>;
 
-/// The unit of the wide types: 32 bits wide.
+/// The unit of the wide types, of 32 bits.
 pub type WideChar = u32;
 
 /// A view of wide units.
@@ -43,36 +43,37 @@ impl<'a, C> UStr<'a, C> {
     ghost use Rattle.wide_ustr.specs.View.{units_seen};
     ghost use Rattle.wide_ustr.specs.Printed.{displayed, displayed_skipping};
 
-    /// A view of the units.
+    /// Makes a view of a slice of units.
     pub fn from_slice(units: &'a [C]) -> Self
         ensures { units_seen result ≡ units.now }
     {
         UStr { units }
     }
 
-    /// The units.
+    /// Returns the units as a slice.
     pub fn as_slice(self) -> &'a [C]
         ensures { result.now ≡ units_seen self.entry }
     {
         self.units
     }
 
-    /// How many units there are.
+    /// Returns the length in units.
     pub fn len(self) -> usize
         ensures { result ≡ length (units_seen self.entry) }
     {
         self.units.len()
     }
 
-    /// Whether there are no units.
+    /// Returns whether the view is empty.
     pub fn is_empty(self) -> bool
         ensures { result ≡ (length (units_seen self.entry) == 0) }
     {
         self.units.is_empty()
     }
 
-    /// The part of the view in a range of places, counted in units; none where the range starts behind its end, ends behind
-    /// the view, or has a bound past the greatest `usize`, as [`range_check`] tells.
+    /// Returns a view of the units in a range, whose ends are offsets in units. Returns `None` if the range starts
+    /// after its end, ends past the end of the view, or has a bound past `usize::MAX`. [`range_check`] checks the
+    /// range.
     pub fn get<R: RangeBounds<usize>>(self, range: R) -> Option<Self>
         ensures some { R.has_bounds range → IsSome result ↔ IsInRange (units_seen self.entry) (R.start_bound range) (R.end_bound range) }
         ensures part { R.has_bounds range → IfSome result (λ part. units_seen part ≡ part_of (units_seen self.entry) (R.start_bound range) (R.end_bound range)) }
@@ -83,8 +84,12 @@ impl<'a, C> UStr<'a, C> {
         })
     }
 
-    /// The part of the view in a range of places, counted in units. The range must be one for which [`range_check`] answers
-    /// places; no check is made.
+    /// Returns a view of the units in a range, whose ends are offsets in units. It does not check the range.
+    ///
+    /// # Requires
+    ///
+    /// The range starts at or before its end and lies within the view. It is not an inclusive range that was iterated
+    /// to its end.
     pub fn slice<R: RangeBounds<usize>>(self, range: R) -> Self
         requires bounds { R.has_bounds range }
         requires in_range { IsInRange (units_seen self) (R.start_bound range) (R.end_bound range) }
@@ -96,7 +101,13 @@ impl<'a, C> UStr<'a, C> {
         }
     }
 
-    /// As [`UStr::slice`], under the Rust crate's name.
+    /// Returns a view of the units in a range, whose ends are offsets in units, without checking the range. It is
+    /// [`UStr::slice`] under the name that the Rust crate has for it.
+    ///
+    /// # Requires
+    ///
+    /// The range starts at or before its end and lies within the view. It is not an inclusive range that was iterated
+    /// to its end.
     pub fn get_unchecked<R: RangeBounds<usize>>(self, range: R) -> Self
         requires bounds { R.has_bounds range }
         requires in_range { IsInRange (units_seen self) (R.start_bound range) (R.end_bound range) }
@@ -105,7 +116,11 @@ impl<'a, C> UStr<'a, C> {
         self.slice(range)
     }
 
-    /// The units before a place, and those from it on. The place must be at most the length.
+    /// Splits the view at an offset in units, into the units before it and those from it on.
+    ///
+    /// # Requires
+    ///
+    /// The offset is at most the length.
     pub fn split_at(self, mid: usize) -> (Self, Self)
         requires { mid ≤ length (units_seen self) }
         ensures front { units_seen result.0 ≡ take mid (units_seen self.entry) }
@@ -116,14 +131,16 @@ impl<'a, C> UStr<'a, C> {
         (UStr { units: front }, UStr { units: back })
     }
 
-    /// What prints the text of the view, with U+FFFD for each unit that belongs to no character.
+    /// Returns a value whose `Display` prints the text of the view, with one U+FFFD for each unit that belongs to no
+    /// character.
     pub fn display(self) -> Display<'a, C>
         ensures { displayed result ≡ self.entry }
     {
         Display { view: self }
     }
 
-    /// What prints the text of the view without the units that belong to no character, and without any U+FFFD of the text.
+    /// Returns a value whose `Display` prints the text of the view without the units that belong to no character, and
+    /// without any U+FFFD of the text.
     pub fn display_skipping(self) -> DisplaySkipping<'a, C>
         ensures { displayed_skipping result ≡ self.entry }
     {
@@ -136,14 +153,15 @@ impl<'a, C: Unit> UStr<'a, C> {
     ghost use Rattle.wide_ustr.specs.Iter.{lossy_left, indices_lossy_left, lossy_offset_of};
     ghost use Rattle.wide_ustr.specs.LossyWith.{lossy_with_left, lossy_with_rest};
 
-    /// The characters, with U+FFFD for each unit that belongs to none, from both ends.
+    /// Returns an iterator over the characters, from both ends, with one U+FFFD for each unit that belongs to none.
     pub fn chars_lossy(self) -> CharsLossy<'a, C>
         ensures { lossy_left C.form C.number result ≡ lossy (items C.form (map C.number (units_seen self.entry))) }
     {
         CharsLossy { rest: self.units }
     }
 
-    /// The characters, with what the policy says for each unit that belongs to none, from both ends.
+    /// Returns an iterator over the characters, from both ends. The policy says what replaces the units that belong to
+    /// none: one U+FFFD for each, one for each run of them, or nothing.
     pub fn chars_lossy_with(self, policy: Policy) -> CharsLossyWith<'a, C>
         ensures left { lossy_with_left C.form C.number result ≡ lossy_by policy (items C.form (map C.number (units_seen self.entry))) }
         ensures rest { lossy_with_rest result ≡ units_seen self.entry }
@@ -154,7 +172,8 @@ impl<'a, C: Unit> UStr<'a, C> {
         }
     }
 
-    /// As [`UStr::chars_lossy`], each with the offset, in units, at which it begins in the view.
+    /// Returns an iterator over the characters, from both ends, with one U+FFFD for each unit that belongs to none.
+    /// Each comes with the offset, in units, at which it begins in the view.
     pub fn char_indices_lossy(self) -> CharIndicesLossy<'a, C>
         ensures items { indices_lossy_left C.form C.number result ≡ indexed_lossy C.form 0 (items C.form (map C.number (units_seen self.entry))) }
         ensures offset { lossy_offset_of result ≡ 0 }
@@ -167,14 +186,16 @@ impl<'a, C: FaultUnit> UStr<'a, C> {
     ghost use Rattle.wide_ustr.specs.View.{units_seen};
     ghost use Rattle.wide_ustr.specs.Iter.{items_left, indices_left, offset_of};
 
-    /// The characters, and as errors the units that belong to none (Unicode Standard, D84a), from both ends.
+    /// Returns an iterator over the characters, from both ends. It yields an error for each unit that belongs to none
+    /// (Unicode Standard, D84a).
     pub fn chars(self) -> Chars<'a, C>
         ensures { items_left C.form C.number result ≡ items C.form (map C.number (units_seen self.entry)) }
     {
         Chars { rest: self.units }
     }
 
-    /// As [`UStr::chars`], each with the offset, in units, at which it begins in the view.
+    /// Returns an iterator over the characters, from both ends. It yields an error for each unit that belongs to none
+    /// (Unicode Standard, D84a). Each comes with the offset, in units, at which it begins in the view.
     pub fn char_indices(self) -> CharIndices<'a, C>
         ensures items { indices_left C.form C.number result ≡ indexed C.form 0 (items C.form (map C.number (units_seen self.entry))) }
         ensures offset { offset_of result ≡ 0 }
@@ -188,7 +209,7 @@ impl<C> Default for UStr<'_, C> {
 
     ghost is_default = { λ view. units_seen view ≡ [] };
 
-    /// The empty view.
+    /// Creates an empty view.
     fn default() -> Self {
         UStr { units: &[] }
     }
