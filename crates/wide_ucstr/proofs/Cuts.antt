@@ -1,4 +1,4 @@
--- Lists that are cut at their first NUL.
+-- Lists that are truncated after their first NUL.
 use Rattle.std.proofs.Common.{◌≡◌, ℕ, ◌+◌, ◌-◌, ◌<◌, ◌≤◌, List, length, take, get_or, map, arith, sym, ap, ◌∙◌, subst}
 use Rattle.std.specs.List.{take-map}
 use Rattle.std.proofs.lemmas.List.{get_or-take, get_or-map, length-take, length-map}

@@ -1,14 +1,14 @@
--- C strings: a list of units of which the last is the only NUL.
+-- C strings: lists of units of which the last is a NUL, and the only one.
 use Rattle.std.specs.Prelude.{ℕ, ◌-◌, List, length, take}
 use Rattle.wide_unit.specs.Nul.{IsNulAt, IsFirstNul}
 
--- the last unit is a NUL, or is the first NUL
+-- `EndsInNul`: the last unit is a NUL. `IsCString`: the last unit is the first NUL.
 abbrev pub EndsInNul : List ℕ → Type 0
 EndsInNul us = IsNulAt us (length us - 1)
 
 abbrev pub IsCString : List ℕ → Type 0
 IsCString us = IsFirstNul us (length us - 1)
 
--- the units but the last
+-- The units except the last.
 abbrev pub contents : {X : Type 0} → List X → List X
 contents us = take (length us - 1) us

@@ -6,7 +6,7 @@ use Rattle.wide_error.specs.declared.nul.NulError.{NulError}
 use Rattle.wide_error.specs.declared.nul.NulError.TheVariants.{MissingNulTerminator, ContainsNul}
 use Rattle.wide_ucstr.specs.CString.{EndsInNul}
 
--- no NUL ends the units; or one does, and is not the first. There is no vector to hand back.
+-- The units do not end in a NUL, or they do, and it is not the first. The error holds no vector.
 abbrev pub IsNulFault : {C A : Type 0} → List ℕ → NulError C A → Type 0
 IsNulFault us (MissingNulTerminator e) = ¬ (EndsInNul us)
 IsNulFault us (ContainsNul e) = EndsInNul us × IsFirstNul us (position_of e) × (position_of e + 1 < length us) × (vec_of e ≡ None)

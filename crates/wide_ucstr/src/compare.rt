@@ -1,4 +1,4 @@
-//! C strings compared with units that tell of no NUL.
+//! Comparison of C strings with views of any units.
 ghost use Rattle.std.specs.Prelude.{◌≡◌, ◌↔◌, ℕ, List, map, IsTrue};
 ghost use Rattle.std.specs.Ordering.{nat_cmp};
 ghost use Rattle.std.specs.Cmp.Lexicographic.{slice_cmp};
@@ -12,15 +12,15 @@ use wide_ustr::UStr;
 use wide_utferror::FaultUnit;
 
 impl<C: FaultUnit> UCStr<'_, C> {
-    /// Whether the contents, without the NUL, are the view's units. It stops at the first that differ.
+    /// Returns whether the contents, without the NUL, are the view's units. It stops at the first that differ.
     pub fn eq_ustr(self, other: UStr<'_, C>) -> bool
         ensures { IsTrue result ↔ (contents_seen self.entry ≡ units_seen other.entry) }
     {
         same_units(self.as_slice(), other.as_slice())
     }
 
-    /// The order of the contents, without the NUL, and the view's units, as that of words in a lexicon, by the units' numbers. It
-    /// stops at the first that differ.
+    /// Compares the contents, without the NUL, with the view's units, lexicographically by the units' numbers. It stops
+    /// at the first that differ.
     pub fn cmp_ustr(self, other: UStr<'_, C>) -> Ordering
         ensures { result ≡ slice_cmp nat_cmp (map C.number (contents_seen self.entry)) (map C.number (units_seen other.entry)) }
     {
@@ -28,24 +28,24 @@ impl<C: FaultUnit> UCStr<'_, C> {
     }
 }
 
-/// How a view of units of the type `C` compares with a C string of the type `S`: calls of the view, in a trait since the view's
-/// crate knows no C string.
+/// Comparison of a view of units of the type `C` with a C string of the type `S`. It is in a trait because the view's
+/// crate does not know C strings.
 pub trait UStrInUcstr<C, S> {
-    // The units that are seen.
+    // The units of the view.
     ghost text: { Self → List C };
 
     // The units of the C string before its NUL.
     ghost contents: { S → List C };
 
-    // The number that a unit is.
+    // The number of a unit.
     ghost number: { C → ℕ };
 
-    /// Whether the units are the contents of the C string, without its NUL. It stops at the first that differ.
+    /// Returns whether the units are the contents of the C string, without its NUL. It stops at the first that differ.
     fn eq_ucstr(self, other: S) -> bool
         ensures { IsTrue result ↔ (text self ≡ contents other) };
 
-    /// The order of the units and the contents of the C string, without its NUL, as that of words in a lexicon, by the units'
-    /// numbers. It stops at the first that differ.
+    /// Compares the units with the contents of the C string, without its NUL, lexicographically by the units' numbers.
+    /// It stops at the first that differ.
     fn cmp_ucstr(self, other: S) -> Ordering
         ensures { result ≡ slice_cmp nat_cmp (map number (text self)) (map number (contents other)) };
 }

@@ -1,4 +1,4 @@
-//! What is printed of a C string for debugging.
+//! `Debug` of a view of a C string.
 ghost use Rattle.std.specs.Prelude.{map};
 ghost use Rattle.wide_unit.specs.Texts.{debug_output};
 

@@ -1,6 +1,6 @@
 //! Views of wide C strings: units of 16 or 32 bits that end in their only NUL.
 //!
-//! `specs/` says what a C string is; the functions of [`laws`] have its laws as their contracts.
+//! `specs/` defines what a C string is. The contracts of the functions of [`laws`] state the laws of C strings.
 #![tactic(auto)]
 
 mod compare;

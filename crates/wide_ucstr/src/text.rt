@@ -1,4 +1,4 @@
-//! Texts of C strings in UTF-8.
+//! Conversion of C strings to UTF-8.
 ghost use Rattle.std.specs.Prelude.{◌≡◌, ◌<◌, [], length, map, IsOk, IfOk, IfErr, IfSome, IfNone, OnOk, None, string_bytes};
 ghost use Rattle.wide_unit.specs.EncodingForm.{Utf16, Utf32};
 ghost use Rattle.wide_unit.specs.Items.{items, chars, IsWellFormed, IsFirstFault};
@@ -14,14 +14,15 @@ use wide_unit::Policy;
 use wide_utferror::{FaultUnit, Utf16ConvertError, Utf32ConvertError};
 
 impl<C: FaultUnit> UCStr<'_, C> {
-    /// The text of the contents in UTF-8, with U+FFFD for each unit that belongs to no character (Unicode Standard, section
-    /// 3.9), and without the NUL.
+    /// Encodes the contents, without the NUL, as a UTF-8 string, with one U+FFFD for each unit that belongs to no
+    /// character (Unicode Standard, section 3.9).
     ///
-    /// It reads the units twice, and asks for memory once, for as many bytes as the text has: none where there are no units.
+    /// If the contents are well formed, it reads the units three times. It allocates once, exactly as many bytes as the
+    /// text has, or not at all if there are no contents.
     ///
     /// # Errors
     ///
-    /// The allocation was refused.
+    /// [`OutOfMemory`] if the allocation fails. It never fails if there are no contents.
     pub fn to_string_lossy<A: Allocator>(self, alloc: A) -> Result<String<A>, OutOfMemory>
         ensures text { IfOk result (λ text. string_bytes text ≡ utf8 (lossy (items C.form (map C.number (contents_seen self.entry))))) }
         ensures succeeds { contents_seen self.entry ≡ [] → IsOk result }
@@ -29,11 +30,14 @@ impl<C: FaultUnit> UCStr<'_, C> {
         self.as_ustr().to_string_lossy(alloc)
     }
 
-    /// As [`UCStr::to_string_lossy`], with what the policy says in place of U+FFFD for each unit that belongs to no character.
+    /// Encodes the contents, without the NUL, as a UTF-8 string. The policy says what replaces the units that belong to
+    /// no character: one U+FFFD for each, one for each run of them, or nothing.
+    ///
+    /// It allocates once, exactly as many bytes as the text has, or not at all if there are no contents.
     ///
     /// # Errors
     ///
-    /// The allocation was refused.
+    /// [`OutOfMemory`] if the allocation fails. It never fails if there are no contents.
     pub fn to_string_lossy_with<A: Allocator>(
         self,
         alloc: A,
@@ -49,15 +53,15 @@ impl<C: FaultUnit> UCStr<'_, C> {
 impl UCStr<'_, u16> {
     ghost use Rattle.wide_utferror.specs.Converted.{utf16_fault};
 
-    /// The text of the contents in UTF-8, where they are well formed (Unicode Standard, D85), without the NUL.
+    /// Encodes the contents, without the NUL, as a UTF-8 string, if they are well formed (Unicode Standard, D85).
     ///
-    /// It reads the units three times at most, and asks for memory once, for as many bytes as the text has: none where there
-    /// are no units.
+    /// It reads the units at most three times, and allocates once, exactly as many bytes as the text has, or not at all
+    /// if there are no contents.
     ///
     /// # Errors
     ///
-    /// The first fault, by its index in units and its item number, with no vector to hand back; it is found before memory is
-    /// asked for. Else the allocation was refused.
+    /// The first fault, if the contents are ill-formed, with its index in units, its item number in characters, and no
+    /// vector. It is found before anything is allocated. Otherwise out of memory, if the allocation fails.
     pub fn to_string<A: Allocator>(self, alloc: A) -> Result<String<A>, Utf16ConvertError>
         ensures text { IfOk result (λ text. string_bytes text ≡ utf8 (chars Utf16 (contents_seen self.entry))) }
         ensures well_formed { OnOk result (IsWellFormed Utf16 (contents_seen self.entry)) }
@@ -74,15 +78,15 @@ impl UCStr<'_, u16> {
 impl UCStr<'_, u32> {
     ghost use Rattle.wide_utferror.specs.Converted.{utf32_fault};
 
-    /// The text of the contents in UTF-8, where they are well formed (Unicode Standard, D85), without the NUL.
+    /// Encodes the contents, without the NUL, as a UTF-8 string, if they are well formed (Unicode Standard, D85).
     ///
-    /// It reads the units three times at most, and asks for memory once, for as many bytes as the text has: none where there
-    /// are no units.
+    /// It reads the units at most three times, and allocates once, exactly as many bytes as the text has, or not at all
+    /// if there are no contents.
     ///
     /// # Errors
     ///
-    /// The first fault, by its index in units and its item number, with no vector to hand back; it is found before memory is
-    /// asked for. Else the allocation was refused.
+    /// The first fault, if the contents are ill-formed, with its index in units, its item number in characters, and no
+    /// vector. It is found before anything is allocated. Otherwise out of memory, if the allocation fails.
     pub fn to_string<A: Allocator>(self, alloc: A) -> Result<String<A>, Utf32ConvertError>
         ensures text { IfOk result (λ text. string_bytes text ≡ utf8 (chars Utf32 (contents_seen self.entry))) }
         ensures well_formed { OnOk result (IsWellFormed Utf32 (contents_seen self.entry)) }

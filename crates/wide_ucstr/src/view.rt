@@ -22,13 +22,15 @@ use wide_ustr::{
 };
 use wide_utferror::FaultUnit;
 
-/// A view of a wide C string: units of which the last is the only NUL, by its type.
+/// A view of a wide C string. Its type guarantees that the last unit is a NUL, and the only one.
 ///
-/// The units before the NUL are its contents. Places and lengths count those, in units. It is a slice by another name, and
-/// is copied freely. No call takes memory but those that are handed an allocator.
+/// The units before the NUL are its contents. Offsets and lengths are counted in units of the contents. A view is a
+/// slice of units and can be copied. Only calls that take an allocator allocate.
 ///
-/// C strings are equal, ordered and hashed as their units with the NUL are; since a NUL is the least unit, the order is that of
-/// their contents, by the units' numbers. `{:?}` prints what that of [`UCStr::as_ustr_with_nul`] does: the NUL comes last, as `\0`.
+/// Equality, order and hash of C strings are those of their units with the NUL. Since a NUL is the least unit, the
+/// order is that of the contents, by the units' numbers. `{:?}` prints the units with the NUL between quotes, as
+/// [`char::escape_debug`] escapes them, so the NUL is printed last, as `\0`. A unit that belongs to no character is
+/// printed as `\<XXXX>`, in upper-case hexadecimal.
 #[derive(PartialEq, Eq, PartialOrd, Ord, Hash)]
 pub struct UCStr<'a, C: Unit> {
     pub(crate) units: &'a [C],
@@ -53,12 +55,12 @@ impl<'a, C: FaultUnit> UCStr<'a, C> {
     ghost use Rattle.wide_ucstr.specs.View.{units_with_nul, contents_seen};
     ghost use Rattle.wide_ucstr.specs.Faults.{IsNulFault};
 
-    /// A view of the units, where the last of them is their only NUL. It reads them in one pass at most.
+    /// Makes a view of units if the last of them is a NUL, and the only one. It reads the units at most once.
     ///
     /// # Errors
     ///
-    /// That the NUL is missing, where there are no units or the last one is none; else the place of the first NUL, in units,
-    /// where that is not the last. There is no vector to hand back.
+    /// A missing NUL, if there are no units or the last one is not a NUL. Otherwise the offset of the first NUL, in
+    /// units, if that is not the last unit. The error holds no vector.
     pub fn from_slice(units: &'a [C]) -> Result<Self, NulError<C>>
         ensures view { IfOk result (λ view. units_with_nul view ≡ units.now) }
         ensures ok { OnOk result (IsCString (map C.number units.now)) }
@@ -76,11 +78,12 @@ impl<'a, C: FaultUnit> UCStr<'a, C> {
         }
     }
 
-    /// A view of the units up to and with the first NUL. Units are read by blocks, up to the one that holds it.
+    /// Makes a view of the units up to and including the first NUL. It reads the units, vectorized, up to the block
+    /// that holds the NUL.
     ///
     /// # Errors
     ///
-    /// There is no NUL.
+    /// [`MissingNulTerminator`] if there is no NUL.
     pub fn from_slice_truncate(units: &'a [C]) -> Result<Self, MissingNulTerminator>
         ensures view { IfOk result (λ view. (place : ℕ) × IsFirstNul (map C.number units.now) place × (units_with_nul view ≡ take (place + 1) units.now)) }
         ensures err { OnErr result (HasNoNul (map C.number units.now)) }
@@ -93,7 +96,11 @@ impl<'a, C: FaultUnit> UCStr<'a, C> {
         })
     }
 
-    /// A view of the units, of which the last must be the only NUL, as [`UCStr::from_slice`] tells; no check is made.
+    /// Makes a view of units without checking them. [`UCStr::from_slice`] checks them.
+    ///
+    /// # Requires
+    ///
+    /// The last unit is a NUL, and the only one.
     pub fn from_slice_unchecked(units: &'a [C]) -> Self
         requires { IsCString (map C.number units.now) }
         ensures { units_with_nul result ≡ units.now }
@@ -101,7 +108,7 @@ impl<'a, C: FaultUnit> UCStr<'a, C> {
         UCStr { units }
     }
 
-    /// The contents: the units without the NUL.
+    /// Returns the contents, without the NUL, as a slice.
     pub fn as_slice(self) -> &'a [C]
         ensures units { result.now ≡ contents_seen self.entry }
         ensures no_nul { HasNoNul (map C.number result.now) }
@@ -109,7 +116,7 @@ impl<'a, C: FaultUnit> UCStr<'a, C> {
         &self.units[..self.units.len() - 1]
     }
 
-    /// The contents and the NUL.
+    /// Returns the contents and the NUL as a slice.
     pub fn as_slice_with_nul(self) -> &'a [C]
         ensures units { result.now ≡ units_with_nul self.entry }
         ensures c_string { IsCString (map C.number result.now) }
@@ -117,7 +124,7 @@ impl<'a, C: FaultUnit> UCStr<'a, C> {
         self.units
     }
 
-    /// A view of the contents.
+    /// Returns a view of the contents, without the NUL.
     pub fn as_ustr(self) -> UStr<'a, C>
         ensures units { units_seen result ≡ contents_seen self.entry }
         ensures no_nul { HasNoNul (map C.number (units_seen result)) }
@@ -125,7 +132,7 @@ impl<'a, C: FaultUnit> UCStr<'a, C> {
         UStr::from_slice(self.as_slice())
     }
 
-    /// A view of the contents and the NUL.
+    /// Returns a view of the contents and the NUL.
     pub fn as_ustr_with_nul(self) -> UStr<'a, C>
         ensures units { units_seen result ≡ units_with_nul self.entry }
         ensures c_string { IsCString (map C.number (units_seen result)) }
@@ -133,22 +140,23 @@ impl<'a, C: FaultUnit> UCStr<'a, C> {
         UStr::from_slice(self.units)
     }
 
-    /// How many units there are before the NUL.
+    /// Returns the length of the contents in units, without the NUL.
     pub fn len(self) -> usize
         ensures { result ≡ length (contents_seen self.entry) }
     {
         self.units.len() - 1
     }
 
-    /// Whether there are no units before the NUL.
+    /// Returns whether the contents are empty.
     pub fn is_empty(self) -> bool
         ensures { result ≡ (length (contents_seen self.entry) == 0) }
     {
         self.units.len() == 1
     }
 
-    /// The part of the contents in a range of places, counted in units; none where the range starts behind its end, ends
-    /// behind the contents, or has a bound past the greatest `usize`, as [`wide_unit::range_check`] tells.
+    /// Returns a view of the contents in a range, whose ends are offsets in units. Returns `None` if the range starts
+    /// after its end, ends past the end of the contents, or has a bound past `usize::MAX`. [`wide_unit::range_check`]
+    /// checks the range.
     pub fn get<R: RangeBounds<usize>>(self, range: R) -> Option<UStr<'a, C>>
         ensures some { R.has_bounds range → IsSome result ↔ IsInRange (contents_seen self.entry) (R.start_bound range) (R.end_bound range) }
         ensures part { R.has_bounds range → IfSome result (λ part. units_seen part ≡ part_of (contents_seen self.entry) (R.start_bound range) (R.end_bound range)) }
@@ -156,8 +164,12 @@ impl<'a, C: FaultUnit> UCStr<'a, C> {
         self.as_ustr().get(range)
     }
 
-    /// The part of the contents in a range of places, counted in units. The range must be one for which
-    /// [`wide_unit::range_check`] answers places; no check is made.
+    /// Returns a view of the contents in a range, whose ends are offsets in units. It does not check the range.
+    ///
+    /// # Requires
+    ///
+    /// The range starts at or before its end and lies within the contents. It is not an inclusive range that was
+    /// iterated to its end.
     pub fn slice<R: RangeBounds<usize>>(self, range: R) -> UStr<'a, C>
         requires bounds { R.has_bounds range }
         requires in_range { IsInRange (contents_seen self) (R.start_bound range) (R.end_bound range) }
@@ -166,7 +178,13 @@ impl<'a, C: FaultUnit> UCStr<'a, C> {
         self.as_ustr().slice(range)
     }
 
-    /// As [`UCStr::slice`], under the Rust crate's name.
+    /// Returns a view of the contents in a range, whose ends are offsets in units, without checking the range. It is
+    /// [`UCStr::slice`] under the name that the Rust crate has for it.
+    ///
+    /// # Requires
+    ///
+    /// The range starts at or before its end and lies within the contents. It is not an inclusive range that was
+    /// iterated to its end.
     pub fn get_unchecked<R: RangeBounds<usize>>(self, range: R) -> UStr<'a, C>
         requires bounds { R.has_bounds range }
         requires in_range { IsInRange (contents_seen self) (R.start_bound range) (R.end_bound range) }
@@ -175,7 +193,11 @@ impl<'a, C: FaultUnit> UCStr<'a, C> {
         self.slice(range)
     }
 
-    /// The contents before a place, and those from it on. The place must be at most the length.
+    /// Splits the contents at an offset in units, into the units before it and those from it on.
+    ///
+    /// # Requires
+    ///
+    /// The offset is at most the length of the contents.
     pub fn split_at(self, mid: usize) -> (UStr<'a, C>, UStr<'a, C>)
         requires { mid ≤ length (contents_seen self) }
         ensures front { units_seen result.0 ≡ take mid (contents_seen self.entry) }
@@ -185,22 +207,24 @@ impl<'a, C: FaultUnit> UCStr<'a, C> {
         self.as_ustr().split_at(mid)
     }
 
-    /// The characters of the contents, and as errors the units that belong to none (Unicode Standard, D84a), from both
-    /// ends.
+    /// Returns an iterator over the characters of the contents, from both ends. It yields an error for each unit that
+    /// belongs to none (Unicode Standard, D84a).
     pub fn chars(self) -> Chars<'a, C>
         ensures { items_left C.form C.number result ≡ items C.form (map C.number (contents_seen self.entry)) }
     {
         self.as_ustr().chars()
     }
 
-    /// The characters of the contents, with U+FFFD for each unit that belongs to none, from both ends.
+    /// Returns an iterator over the characters of the contents, from both ends, with one U+FFFD for each unit that
+    /// belongs to none.
     pub fn chars_lossy(self) -> CharsLossy<'a, C>
         ensures { lossy_left C.form C.number result ≡ lossy (items C.form (map C.number (contents_seen self.entry))) }
     {
         self.as_ustr().chars_lossy()
     }
 
-    /// The characters of the contents, with what the policy says for each unit that belongs to none, from both ends.
+    /// Returns an iterator over the characters of the contents, from both ends. The policy says what replaces the units
+    /// that belong to none: one U+FFFD for each, one for each run of them, or nothing.
     pub fn chars_lossy_with(self, policy: Policy) -> CharsLossyWith<'a, C>
         ensures left { lossy_with_left C.form C.number result ≡ lossy_by policy (items C.form (map C.number (contents_seen self.entry))) }
         ensures rest { lossy_with_rest result ≡ contents_seen self.entry }
@@ -208,21 +232,25 @@ impl<'a, C: FaultUnit> UCStr<'a, C> {
         self.as_ustr().chars_lossy_with(policy)
     }
 
-    /// What prints the text of the contents, with U+FFFD for each unit that belongs to no character.
+    /// Returns a value whose `Display` prints the text of the contents, with one U+FFFD for each unit that belongs to
+    /// no character.
     pub fn display(self) -> Display<'a, C>
         ensures { units_seen (displayed result) ≡ contents_seen self.entry }
     {
         self.as_ustr().display()
     }
 
-    /// What prints the text of the contents without the units that belong to no character, and without any U+FFFD of the text.
+    /// Returns a value whose `Display` prints the text of the contents without the units that belong to no character,
+    /// and without any U+FFFD of the text.
     pub fn display_skipping(self) -> DisplaySkipping<'a, C>
         ensures { units_seen (displayed_skipping result) ≡ contents_seen self.entry }
     {
         self.as_ustr().display_skipping()
     }
 
-    /// As [`UCStr::chars`], each with the offset, in units, at which it begins in the contents.
+    /// Returns an iterator over the characters of the contents, from both ends. It yields an error for each unit that
+    /// belongs to none (Unicode Standard, D84a). Each comes with the offset, in units, at which it begins in the
+    /// contents.
     pub fn char_indices(self) -> CharIndices<'a, C>
         ensures items { indices_left C.form C.number result ≡ indexed C.form 0 (items C.form (map C.number (contents_seen self.entry))) }
         ensures offset { offset_of result ≡ 0 }
@@ -230,7 +258,8 @@ impl<'a, C: FaultUnit> UCStr<'a, C> {
         self.as_ustr().char_indices()
     }
 
-    /// As [`UCStr::chars_lossy`], each with the offset, in units, at which it begins in the contents.
+    /// Returns an iterator over the characters of the contents, from both ends, with one U+FFFD for each unit that
+    /// belongs to none. Each comes with the offset, in units, at which it begins in the contents.
     pub fn char_indices_lossy(self) -> CharIndicesLossy<'a, C>
         ensures items { indices_lossy_left C.form C.number result ≡ indexed_lossy C.form 0 (items C.form (map C.number (contents_seen self.entry))) }
         ensures offset { lossy_offset_of result ≡ 0 }
@@ -244,7 +273,7 @@ impl<C: Unit> Clone for UCStr<'_, C> {
 
     ghost is_infallible = { λ _. ⊤ };
 
-    /// A copy: the view of the same units.
+    /// Returns a view of the same units.
     fn clone(&self) -> Result<Self, AllocError> {
         Ok(*self)
     }
@@ -257,7 +286,7 @@ impl Default for UCStr<'_, u16> {
 
     ghost is_default = { λ view. units_with_nul view ≡ 0 ∷ [] };
 
-    /// The empty C string.
+    /// Creates a view of an empty C string.
     fn default() -> Self {
         UCStr { units: &[0] }
     }
@@ -268,7 +297,7 @@ impl Default for UCStr<'_, u32> {
 
     ghost is_default = { λ view. units_with_nul view ≡ 0 ∷ [] };
 
-    /// The empty C string.
+    /// Creates a view of an empty C string.
     fn default() -> Self {
         UCStr { units: &[0] }
     }
