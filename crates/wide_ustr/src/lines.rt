@@ -29,9 +29,9 @@ pub trait LineView: Copy {
     fn count_units(self) -> usize
         ensures { result ≡ count self };
 
-    /// Splits off the first line, and returns it and the view after it. A line feed (U+000A), with one carriage return
-    /// (U+000D) right before it, ends the line; neither is part of a line. Returns `None` if the view has no units. The
-    /// view after the line is shorter, so a loop over the rest ends.
+    /// Splits off the first line, and returns it and the view after it. A line feed (U+000A) ends the line, together
+    /// with one carriage return (U+000D) right before it, if there is one. Neither is in the line. Returns `None` if
+    /// the view has no units. The view after the line is shorter, so a loop over the rest ends.
     fn first_line(self) -> Option<(Self, Self)>
         ensures none { IfNone result (lines_of (items_seen self) ≡ []) }
         ensures some { IfSome result (λ r. lines_of (items_seen self) ≡ items_seen r.0 ∷ lines_of (items_seen r.1)) }
@@ -106,9 +106,9 @@ impl<C: FaultUnit> UStr<'_, C> {
     ghost use Rattle.wide_ustr.specs.View.{units_seen, items_seen};
 
     /// Returns an iterator over the lines, from the front. Each line is a view of some of the units. The view is split
-    /// at each line feed (U+000A), which is part of no line. A line before a line feed loses one carriage return
-    /// (U+000D) at its end. If there are no units after the last line feed, they are not a line. Units that belong to
-    /// no character remain in the lines unchanged.
+    /// at each line feed (U+000A), which is in no line. A line before a line feed loses one carriage return (U+000D) at
+    /// its end. The last substring is not a line if it is empty. Units that belong to no character remain in the lines
+    /// unchanged.
     pub fn lines_lossy(self) -> Lines<Self>
         ensures lines { lines_left (items_seen C.form C.number) result ≡ lines_of (items C.form (map C.number (units_seen self.entry))) }
         ensures most { length (lines_left (items_seen C.form C.number) result) ≤ length (units_seen self.entry) }

@@ -34,8 +34,8 @@ impl<C: Unit> LineView for UtfStr<'_, C> {
 
 impl<C: Unit> UtfStr<'_, C> {
     /// Returns an iterator over the lines, from the front. Each line is a well-formed view of some of the units. The
-    /// text is split at each line feed (U+000A), which is part of no line. A line before a line feed loses one carriage
-    /// return (U+000D) at its end. If the text after the last line feed is empty, it is not a line.
+    /// text is split at each line feed (U+000A), which is in no line. A line before a line feed loses one carriage
+    /// return (U+000D) at its end. The last substring is not a line if it is empty.
     pub fn lines(self) -> Lines<Self>
         ensures lines { lines_left (items_seen C.form C.number) result ≡ lines_of (items C.form (map C.number (units_seen self.entry))) }
         ensures most { length (lines_left (items_seen C.form C.number) result) ≤ length (units_seen self.entry) }
