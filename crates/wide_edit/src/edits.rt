@@ -25,11 +25,11 @@ pub enum Edit<'a> {
     /// Shortens the text to this many characters. It changes nothing if the text is not longer. The reply is
     /// [`Reply::Done`].
     Truncate(usize),
-    /// Inserts the character before the character at this index. The reply is [`Reply::Done`], or [`Reply::BadPlace`]
-    /// if the index is past the end.
+    /// Inserts the character at this index, or at the end if the index is the number of characters. The reply is
+    /// [`Reply::Done`], or [`Reply::BadPlace`] if the index is past the end.
     Insert(usize, char),
-    /// Inserts the text before the character at this index. The reply is [`Reply::Done`], or [`Reply::BadPlace`] if the
-    /// index is past the end.
+    /// Inserts the text at this index, or at the end if the index is the number of characters. The reply is
+    /// [`Reply::Done`], or [`Reply::BadPlace`] if the index is past the end.
     InsertStr(usize, &'a str),
     /// Removes the character at this index. The reply is [`Reply::Char`], or [`Reply::BadPlace`] if there is none.
     Remove(usize),

@@ -17,7 +17,7 @@ impl<C: FaultUnit> UCStr<'_, C> {
     /// Encodes the contents, without the NUL, as a UTF-8 string, with one U+FFFD for each unit that belongs to no
     /// character (Unicode Standard, section 3.9).
     ///
-    /// If the contents are well formed, it reads the units three times. It allocates once, exactly as many bytes as the
+    /// If the contents are well formed, it reads the units three times. It allocates once, for as many bytes as the
     /// text has, or not at all if there are no contents.
     ///
     /// # Errors
@@ -33,7 +33,7 @@ impl<C: FaultUnit> UCStr<'_, C> {
     /// Encodes the contents, without the NUL, as a UTF-8 string. The policy says what replaces the units that belong to
     /// no character: one U+FFFD for each, one for each run of them, or nothing.
     ///
-    /// It allocates once, exactly as many bytes as the text has, or not at all if there are no contents.
+    /// It allocates once, for as many bytes as the text has, or not at all if there are no contents.
     ///
     /// # Errors
     ///
@@ -55,8 +55,8 @@ impl UCStr<'_, u16> {
 
     /// Encodes the contents, without the NUL, as a UTF-8 string, if they are well formed (Unicode Standard, D85).
     ///
-    /// It reads the units at most three times, and allocates once, exactly as many bytes as the text has, or not at all
-    /// if there are no contents.
+    /// It reads the units at most three times, and allocates once, for as many bytes as the text has, or not at all if
+    /// there are no contents.
     ///
     /// # Errors
     ///
@@ -80,8 +80,8 @@ impl UCStr<'_, u32> {
 
     /// Encodes the contents, without the NUL, as a UTF-8 string, if they are well formed (Unicode Standard, D85).
     ///
-    /// It reads the units at most three times, and allocates once, exactly as many bytes as the text has, or not at all
-    /// if there are no contents.
+    /// It reads the units at most three times, and allocates once, for as many bytes as the text has, or not at all if
+    /// there are no contents.
     ///
     /// # Errors
     ///

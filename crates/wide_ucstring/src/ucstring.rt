@@ -309,8 +309,8 @@ impl<C: FaultUnit, A: Allocator> UCString<C, A> {
         UCString::from_vec_truncate(copy_of_str(alloc, text)?)
     }
 
-    /// Makes a C string of the units of a text, which may contain no NUL, and appends a NUL. The Rust crate has a macro
-    /// for this, which converts a literal when the program is compiled. This function converts it at run time.
+    /// Makes a C string of the units of a text and a NUL. The text must not contain a NUL itself. The Rust crate has a
+    /// macro for this, which converts a literal when the program is compiled. This function converts it at run time.
     ///
     /// # Errors
     ///

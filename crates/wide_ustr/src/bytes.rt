@@ -23,7 +23,7 @@ impl<C: Unit> UStr<'_, C> {
     /// Returns the bytes of the units, little-endian, without a BOM (Unicode Standard, D97 and D100): two for a 16-bit
     /// unit, four for a 32-bit unit. The Rust crate has no such call.
     ///
-    /// It allocates once, exactly as many bytes as there are, or not at all if there are no units.
+    /// It allocates once, for as many bytes as there are, or not at all if there are no units.
     ///
     /// # Errors
     ///

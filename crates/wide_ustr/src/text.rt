@@ -19,8 +19,8 @@ impl<C: Unit> UStr<'_, C> {
     /// Encodes the text of the view as a UTF-8 string, with one U+FFFD for each unit that belongs to no character
     /// (Unicode Standard, section 3.9).
     ///
-    /// If the text is well formed, it reads the units three times, vectorized. It allocates once, exactly as many bytes
-    /// as the text has, or not at all if there are no units.
+    /// If the text is well formed, it reads the units three times, vectorized. It allocates once, for as many bytes as
+    /// the text has, or not at all if there are no units.
     ///
     /// # Errors
     ///
@@ -35,8 +35,8 @@ impl<C: Unit> UStr<'_, C> {
     /// Encodes the text of the view as a UTF-8 string. The policy says what replaces the units that belong to no
     /// character: one U+FFFD for each, one for each run of them, or nothing.
     ///
-    /// If the text is well formed, it reads the units three times, vectorized. It allocates once, exactly as many bytes
-    /// as the text has, or not at all if there are no units.
+    /// If the text is well formed, it reads the units three times, vectorized. It allocates once, for as many bytes as
+    /// the text has, or not at all if there are no units.
     ///
     /// # Errors
     ///
@@ -61,8 +61,8 @@ impl UStr<'_, u16> {
 
     /// Encodes the text of the view as a UTF-8 string, if it is well formed (Unicode Standard, D85).
     ///
-    /// It reads the units at most three times, vectorized, and allocates once, exactly as many bytes as the text has,
-    /// or not at all if there are no units.
+    /// It reads the units at most three times, vectorized, and allocates once, for as many bytes as the text has, or
+    /// not at all if there are no units.
     ///
     /// # Errors
     ///
@@ -89,8 +89,8 @@ impl UStr<'_, u32> {
 
     /// Encodes the text of the view as a UTF-8 string, if it is well formed (Unicode Standard, D85).
     ///
-    /// It reads the units at most three times, vectorized, and allocates once, exactly as many bytes as the text has,
-    /// or not at all if there are no units.
+    /// It reads the units at most three times, vectorized, and allocates once, for as many bytes as the text has, or
+    /// not at all if there are no units.
     ///
     /// # Errors
     ///

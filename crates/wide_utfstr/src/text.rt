@@ -12,8 +12,8 @@ use wide_unit::Unit;
 impl<C: Unit> UtfStr<'_, C> {
     /// Encodes the text of the view as a UTF-8 string.
     ///
-    /// It reads the units twice, vectorized, and allocates once, exactly as many bytes as the text has, or not at all
-    /// if there are no units.
+    /// It reads the units twice, vectorized, and allocates once, for as many bytes as the text has, or not at all if
+    /// there are no units.
     ///
     /// # Errors
     ///
