@@ -9,8 +9,8 @@ use crate::view::UStr;
 use std::fmt;
 use wide_unit::{Unit, split_first, write_escape};
 
-/// Prints the text of a view, with one U+FFFD for each unit that belongs to no character (Unicode Standard, section
-/// 3.9). Made by [`UStr::display`](crate::UStr::display).
+/// A value that prints the text of a view, with one U+FFFD for each unit that belongs to no character (Unicode
+/// Standard, section 3.9). Made by [`UStr::display`](crate::UStr::display).
 ///
 /// It ignores the format options, such as width and fill. So `{:#}` prints the same text as `{}`, whereas the Rust
 /// crate leaves out each U+FFFD; [`UStr::display_skipping`](crate::UStr::display_skipping) does that here. No call
@@ -37,8 +37,8 @@ impl<C: Unit> fmt::Display for Display<'_, C> {
     }
 }
 
-/// Prints the text of a view without the units that belong to no character, and without any U+FFFD of the text. Made by
-/// [`UStr::display_skipping`](crate::UStr::display_skipping).
+/// A value that prints the text of a view without the units that belong to no character, and without any U+FFFD of the
+/// text. Made by [`UStr::display_skipping`](crate::UStr::display_skipping).
 ///
 /// It ignores the format options, such as width and fill. No call allocates. It returns an error of the sink at once,
 /// and then writes nothing more.

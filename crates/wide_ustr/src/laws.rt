@@ -10,14 +10,15 @@ use crate::view::{U16Str, U32Str, UStr};
 use std::cmp::Ordering;
 use std::hash::{Hash, Hasher};
 
-/// A view gives a hasher what the slice of its units gives. So views of equal units have equal hashes.
+/// Hashes a view. The contract states that the view gives the hasher what the slice of its units gives, so views of
+/// equal units have equal hashes.
 pub fn hash_of_units<C: Hash, H: Hasher>(view: UStr<'_, C>, state: &mut H)
     ensures { state.new ≡ fold H.write state.old (fed.slice C.hash_input (units_seen view.entry)) }
 {
     view.hash(state);
 }
 
-/// Equality and order of views of 16-bit units are those of their units.
+/// Compares two views of 16-bit units. The contract states that their equality and order are those of their units.
 pub fn comparisons_of_units16(left: U16Str<'_>, right: U16Str<'_>) -> (bool, Ordering)
     ensures equal { IsTrue result.0 ↔ (units_seen left.entry ≡ units_seen right.entry) }
     ensures order { result.1 ≡ slice_cmp nat_cmp (units_seen left.entry) (units_seen right.entry) }
@@ -25,7 +26,7 @@ pub fn comparisons_of_units16(left: U16Str<'_>, right: U16Str<'_>) -> (bool, Ord
     (left == right, left.cmp(&right))
 }
 
-/// Equality and order of views of 32-bit units are those of their units.
+/// Compares two views of 32-bit units. The contract states that their equality and order are those of their units.
 pub fn comparisons_of_units32(left: U32Str<'_>, right: U32Str<'_>) -> (bool, Ordering)
     ensures equal { IsTrue result.0 ↔ (units_seen left.entry ≡ units_seen right.entry) }
     ensures order { result.1 ≡ slice_cmp nat_cmp (units_seen left.entry) (units_seen right.entry) }
