@@ -1,4 +1,4 @@
--- Well-formed units cut behind a front of them: the text of the front, and that of the rest.
+-- Well-formed units that are split after a prefix: the UTF-8 of the prefix, and that of the rest.
 use Rattle.std.proofs.Common.{◌≡◌, ℕ, ◌<◌, ◌≤◌, inl, inr, Option, None, Some, List, [], ◌∷◌, ◌++◌, length, take, drop, refl, sym, ap, ◌∙◌, subst, arith, length-drop, length-take, take-append-drop}
 use Rattle.std.specs.Prelude.{map}
 use Rattle.std.specs.Char.{IsScalar}
@@ -17,13 +17,13 @@ use Rattle.wide_unit.specs.Laws.WellFormed.{no_first_fault}
 use Rattle.wide_from_utf16.specs.Encoded.{AreCutShort, BeginsWithFault, EncodedUnits, StopsBefore}
 use Rattle.wide_from_utf16.proofs.Lanes.{cut-length, fault-append}
 
--- the text of the units is that of a front of them and of the rest
+-- The UTF-8 of the units is `bytes` and the UTF-8 of the units from `place` on, which are well formed.
 pub record IsFrontText (form : EncodingForm) (us : List ℕ) (place : ℕ) (bytes : List ℕ) : Type 0 where
   pub text : utf8 (chars form us) ≡ bytes ++ utf8 (chars form (drop place us))
   pub rest : IsWellFormed form (drop place us)
 
 module _ (form : EncodingForm) (us : List ℕ) (well : IsWellFormed form us) where
-  -- at each boundary
+  -- At each boundary.
   pub front_text-boundary : (place : ℕ) → IsBoundary form us place → IsFrontText form us place (utf8 (chars form (take place us)))
   front_text-boundary place at =
       let cs = chars form us in
@@ -34,7 +34,7 @@ module _ (form : EncodingForm) (us : List ℕ) (well : IsWellFormed form us) whe
         rest = IsWellFormed-drop form us well place at;
       }
 
-  -- behind the units of characters
+  -- After the units that encode some characters.
   pub front_text-encode : (n : ℕ) (cs bytes : List ℕ) → n ≤ length us → All IsScalar cs → take n us ≡ encode form cs → bytes ≡ utf8 cs → IsFrontText form us n bytes
   front_text-encode n cs bytes within scalars front text =
       let front_well : IsWellFormed form (take n us) = subst (λ vs. IsWellFormed form vs) (sym front) (IsWellFormed-encode form cs scalars) in
@@ -43,7 +43,7 @@ module _ (form : EncodingForm) (us : List ℕ) (well : IsWellFormed form us) whe
       let same : utf8 (chars form (take n us)) ≡ bytes = ap (λ vs. utf8 (chars form vs)) front ∙ ap utf8 (chars-encode form cs scalars) ∙ sym text in
       subst (λ bs. IsFrontText form us n bs) same (front_text-boundary n at)
 
--- the same of units of any type, whose numbers these are
+-- For units of any type whose numbers are `us`.
 front_text-numbers : {X : Type 0} {kind form : EncodingForm} (number : X → ℕ) (xs : List X) {us bytes : List ℕ} (n : ℕ) → kind ≡ form → us ≡ map number xs → utf8 (chars kind us) ≡ bytes ++ utf8 (chars kind (drop n us)) → IsWellFormed kind (drop n us)
     → IsFrontText form (map number xs) n bytes
 front_text-numbers {kind} number xs {bytes} n same_form same text rest =
@@ -57,11 +57,11 @@ module _ {X : Type 0} {kind form : EncodingForm} (number : X → ℕ) (xs : List
   pub rest-numbers : IsWellFormed form (map number (drop n xs))
   rest-numbers = subst (λ vs. IsWellFormed form vs) (drop-map number n xs) (front_text-numbers number xs n same_form same text rest).rest
 
--- what was encoded of well-formed 16-bit units
+-- For what `EncodedUnits` says of well-formed 16-bit units.
 pub front_text-units : (us : List ℕ) (n count : ℕ) (bytes : List ℕ) → IsWellFormed Utf16 us → n ≤ count → count ≤ length us → EncodedUnits (take n (take count us)) [] bytes → IsFrontText Utf16 us n bytes
 front_text-units us n count bytes well short within e = front_text-encode Utf16 us well n e.cs bytes (omega arith) e.scalars (sym (take-take n count us short) ∙ e.units) e.text
 
--- well-formed units begin with no fault
+-- Well-formed units do not begin with a fault.
 no_fault-first : (us : List ℕ) (u : ℕ) → IsWellFormed Utf16 us → BeginsWithFault us u → ⊥
 no_fault-first us u well (tail, same, inl low) = no_first_fault Utf16 us tail well u (ap (λ vs. items Utf16 vs) same ∙ items-front_low Utf16 u tail low)
 no_fault-first us u well (tail, same, inr (high, l, back, is_tail, apart)) =
@@ -72,7 +72,7 @@ no_half-alone [] well some cut = omega arith
 no_half-alone (u ∷ []) well some cut = no_first_fault Utf16 (u ∷ []) [] well u (items-front_high Utf16 u [] cut (λ l back e low. cc))
 no_half-alone (u ∷ v ∷ us) well some cut = cut
 
--- so something of them is encoded, where not all but one unit was cut off
+-- Encoding reads at least one of some well-formed units, unless the only unit that was given was split from others.
 pub some-encoded : (us : List ℕ) (n count : ℕ) (fault : Option ℕ) → IsWellFormed Utf16 us → count ≤ length us → (count < 2 → count ≡ length us) → StopsBefore (drop n (take count us)) fault → 0 < length us → 0 < n
 some-encoded us n count fault well within all stop some = elim (cases_lt 0 n) [ inl more ↦ more | inr none ↦ absurd (nothing fault (subst (λ m. StopsBefore (drop m (take count us)) fault) {x = n} {y = 0} (omega arith) stop)) ]
   where
@@ -82,7 +82,7 @@ some-encoded us n count fault well within all stop some = elim (cases_lt 0 n) [ 
         let whole : take count us ≡ us = take_all count us (omega (arith, all (omega (arith, cut-length (take count us) cut, length-take count us)))) in
         no_half-alone us well some (subst (λ vs. AreCutShort vs) whole cut)
 
--- units that are encoded to their end
+-- Units that are encoded to their end.
 module _ (us : List ℕ) (n : ℕ) (bytes : List ℕ) (e : EncodedUnits (take n us) [] bytes) where
   module _ (all : n ≡ length us) where
     the_units : encode Utf16 e.cs ≡ us
@@ -94,7 +94,7 @@ module _ (us : List ℕ) (n : ℕ) (bytes : List ℕ) (e : EncodedUnits (take n 
     pub whole-text : bytes ≡ utf8 (chars Utf16 us)
     whole-text = e.text ∙ ap utf8 (sym (chars-encode Utf16 e.cs e.scalars)) ∙ ap (λ vs. utf8 (chars Utf16 vs)) the_units
 
-  -- well-formed ones are, wherever it stopped
+  -- Well-formed units are encoded to their end, wherever encoding stopped.
   pub stop-end : (fault : Option ℕ) → IsWellFormed Utf16 us → n ≤ length us → StopsBefore (drop n us) fault → n ≡ length us
   stop-end fault well within stop =
       let rest = drop n us in

@@ -1,4 +1,4 @@
--- The first bytes of units, computed in lanes.
+-- The first bytes of units, computed in SIMD lanes.
 use Rattle.std.proofs.Common.{◌≡◌, ℕ, zero, suc, ◌+◌, ◌-◌, ◌*◌, ◌/◌, ◌%◌, ◌^◌, ◌<◌, ◌≤◌, Bool, cond, ltb, eqb, inl, inr, List, [], ◌∷◌, length, get_or, map, replicate, refl, sym, ◌∙◌, subst, arith}
 use Rattle.std.proofs.lemmas.Bool.{cases_lt, lt-ltb, le-ltb}
 use Rattle.std.proofs.lemmas.Bool.Decides.{eqb_tells}
@@ -49,7 +49,7 @@ narrow-front-is u below = elim (cases_lt u 0x80) [
 pub narrow-fronts-are : (us : List ℕ) → length us ≡ 8 → (k : ℕ) → k < 8 → get_or us k 0 < 0x800 → IsFront (get_or us k 0) (get_or (narrow-fronts 8 us) k 0)
 narrow-fronts-are us long k within low = subst (λ f. IsFront (get_or us k 0) f) (sym (narrow-fronts-at 8 us k long within)) (narrow-front-is (get_or us k 0) low)
 
--- with what the narrow ones have
+-- The first two bytes of units, given those of the units below 0x800.
 abbrev pub fronts : ℕ → List ℕ → List ℕ → List ℕ
 fronts n us narrow = sel_l (below n us 0x800) narrow (sums (sums (replicate n 0x80e0) (overs n us 0x1000)) (times n (rests n (overs n us 0x40) 0x40) 0x100))
 
@@ -86,7 +86,7 @@ backs-at (suc n) (u ∷ us) (suc k) long within = backs-at n us k (omega arith) 
 pub backs-are : (us : List ℕ) → length us ≡ 8 → (k : ℕ) → k < 8 → get_or (backs 8 us) k 0 ≡ 0x80 + get_or us k 0 % 0x40
 backs-are us long k within = omega (arith, backs-at 8 us k long within)
 
--- ---- halves of pairs
+-- ---- surrogates of pairs
 
 abbrev pub half-fronts : ℕ → List ℕ → List ℕ → List ℕ → List ℕ
 half-fronts n bs us ws =
@@ -159,7 +159,7 @@ half-keys-at (suc n) (u ∷ us) zero long within = key u
     key u = elim (eqb_tells (u / 0x800) 27) [ inl told ↦ rw told.0 refl | inr told ↦ rw told.0 refl ]
 half-keys-at (suc n) (u ∷ us) (suc k) long within = half-keys-at n us k (omega arith) (omega arith)
 
--- ---- marks
+-- ---- the bits of the row numbers
 
 abbrev pub marks : ℕ → List ℕ → List ℕ
 marks n us = sel_l (below n us 0x80) (replicate n 0xffff) (sel_l (below n us 0x800) (replicate n 0xff00) (replicate n 0))

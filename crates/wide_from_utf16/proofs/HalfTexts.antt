@@ -1,4 +1,4 @@
--- The text of paired units is the bytes of each, half of a pair by itself.
+-- The UTF-8 of paired units is the bytes that each unit yields.
 use Rattle.std.proofs.Common.{◌≡◌, ◌≢◌, ℕ, zero, suc, ◌+◌, ◌-◌, ◌*◌, ◌/◌, ◌%◌, ◌<◌, ◌≤◌, inl, inr, eqb, List, [], ◌∷◌, ◌++◌, length, length-append, length-drop, get_or, take, drop, refl, sym, ap, ◌∙◌, subst, arith, append_assoc}
 use Rattle.std.proofs.lemmas.Bool.{cases_lt, lt-ltb, le-ltb}
 use Rattle.std.proofs.lemmas.Bool.Decides.{eqb_tells}
@@ -30,9 +30,10 @@ half-high b u from to = rw (le-ltb u 0xd800 from, lt-ltb u 0xdc00 to) refl
 half-low : (b u : ℕ) → 0xdc00 ≤ u → u < 0xe000 → half_bytes b u ≡ low_word b u % 0x100 ∷ low_word b u / 0x100 ∷ []
 half-low b u from to = rw (le-ltb u 0xd800 (omega arith), le-ltb u 0xdc00 from, lt-ltb u 0xe000 to) refl
 
--- ---- all of a paired list
+-- ---- all units of a paired list
 
--- what a list of units has behind an unit that is no half: no low surrogate first, and pairs, also at the end
+-- What holds for units after one that is not a high surrogate: the first is no low surrogate, and all are paired, also
+-- the last.
 pub record IsPairedList (us : List ℕ) : Type 0 where
   pub fits : (k : ℕ) → get_or us k 0 < 0x10000
   pub first : 0xdc00 ≤ get_or us 0 0 → 0xe000 ≤ get_or us 0 0
@@ -96,7 +97,7 @@ paired-text b (u ∷ v ∷ us) s p = elim (cases_lt u 0xd800) [
   ]
 ]
 
--- ---- a window in two
+-- ---- a window split in two
 
 pub halves-split : (n : ℕ) (ws : List ℕ) → n < length ws → halves ws ≡ halves (take (n + 1) ws) ++ halves (drop n ws)
 halves-split n [] within = absurd (omega arith)
@@ -111,7 +112,7 @@ halves-split (suc n) (b ∷ u ∷ us) within =
     let longer : take (suc n + 1) (b ∷ u ∷ us) ≡ b ∷ u ∷ take n us = ap (λ k. take k (b ∷ u ∷ us)) next_two in
     ap (λ x. half_bytes b u ++ x) (rest ∙ ap (λ x. halves x ++ halves (drop n (u ∷ us))) same) ∙ sym (append_assoc (half_bytes b u) (halves (u ∷ take n us)) (halves (drop n (u ∷ us)))) ∙ ap (λ x. halves x ++ halves (drop n (u ∷ us))) (sym longer)
 
--- ---- the end, where a high surrogate waits
+-- ---- a high surrogate at the end
 
 few-bytes : (u : ℕ) → u < 0x10000 → length (utf8_bytes u) ≤ 3
 few-bytes u below = elim (cases_lt u 0x80) [
@@ -140,7 +141,7 @@ at-end (w ∷ v ∷ []) zero long = refl
 at-end (w ∷ v ∷ u ∷ ws) zero long = absurd (omega arith)
 at-end (w ∷ v ∷ ws) (suc n) long = at-end (v ∷ ws) n (omega arith)
 
--- what is known of a window of seventeen, of which the first is any
+-- What holds for a window of seventeen units, of which the first is arbitrary.
 pub record IsWindow (ws : List ℕ) : Type 0 where
   pub long : length ws ≡ 17
   pub fits : (k : ℕ) → get_or ws k 0 < 0x10000
@@ -175,7 +176,7 @@ paired-front b us n w some most plain = record {
     next_two : (k : ℕ) → k + 2 ≡ suc (suc k)
     next_two k = omega arith
 
--- the bytes of a whole window, where those of a high surrogate at the end are left out again
+-- How many units at the end of a window are not counted: one if the last is a high surrogate, and otherwise none.
 pub record IsCutWindow (ws : List ℕ) (cut : ℕ) : Type 0 where
   pub high : (0xd800 ≤ get_or ws 16 0) → (get_or ws 16 0 < 0xdc00) → cut ≡ 1
   pub other : ((0xd800 ≤ get_or ws 16 0) × (get_or ws 16 0 < 0xdc00) → ⊥) → cut ≡ 0
@@ -254,7 +255,7 @@ window-text (b ∷ us) xs zs at end cut w is room within stored = elim (cases_lt
         ) in
         rw one (record { text = text; most = omega (arith, less, few); least = omega (arith, len, both) })
 
--- the two steps of eight together
+-- The two steps of eight units together.
 pub window-halves : (ws s t v : List ℕ) → length ws ≡ 17 → t ≡ s ++ halves (take 9 ws) → v ≡ t ++ halves (take 9 (drop 8 ws)) → v ≡ s ++ halves ws
 window-halves ws s t v long first second =
     let front = halves (take 9 ws) in
@@ -262,7 +263,7 @@ window-halves ws s t v long first second =
     let split : halves ws ≡ front ++ halves (drop 8 ws) = halves-split 8 ws (omega arith) in
     second ∙ ap (λ x. t ++ halves x) rest ∙ ap (λ x. x ++ halves (drop 8 ws)) first ∙ append_assoc s front (halves (drop 8 ws)) ∙ ap (λ x. s ++ x) (sym split)
 
--- ---- by lanes
+-- ---- in SIMD lanes
 
 pub half-laid : (b u f back : ℕ) → IsHalfFront b u f → back ≡ 0x80 + u % 0x40 → u < 0x10000 → laid_unit (half_key u) f back ≡ half_bytes b u
 half-laid b u f back is is_back below = elim (cases_lt u 0xd800) [

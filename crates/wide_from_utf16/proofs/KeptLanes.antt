@@ -1,4 +1,4 @@
--- Lanes that are kept by a table of the places of their bytes.
+-- SIMD lanes that are compressed by a table of byte indices.
 use Rattle.std.proofs.Common.{◌≡◌, ℕ, zero, suc, ◌+◌, ◌*◌, ◌/◌, ◌%◌, ◌<◌, ◌≤◌, ◌&&◌, Bool, T, cond, ltb, ltb→lt, inl, inr, List, [], ◌∷◌, length, get_or, map, take, drop, w8, refl, sym, ap, ◌∙◌, subst, arith}
 use Rattle.std.specs.Int.RustNames.{count_ones}
 use Rattle.std.specs.List.{range_with_len}
@@ -17,7 +17,7 @@ use Rattle.wide_from_utf16.proofs.Tables.{every, every-at, is-same, ones-few, sa
 
 -- ---- the table
 
--- the lanes whose bytes two by two places are, and the places of the bytes of lanes
+-- `halves`: the lanes of byte indices, two for each lane. `doubles`: the byte indices of lanes.
 abbrev halves : List ℕ → List ℕ
 halves [] = []
 halves (p ∷ []) = []
@@ -27,7 +27,7 @@ abbrev doubles : List ℕ → List ℕ
 doubles [] = []
 doubles (p ∷ ps) = (2 * p) ∷ (2 * p + 1) ∷ doubles ps
 
--- where bits are set, from a place on
+-- The positions of the bits that are set, counted from i on.
 abbrev positions : ℕ → ℕ → ℕ → List ℕ
 positions zero i bits = []
 positions (suc n) i bits = cond (ltb 0 (bits % 2)) (i ∷ positions n (i + 1) (bits / 2)) (positions n (i + 1) (bits / 2))
@@ -35,7 +35,7 @@ positions (suc n) i bits = cond (ltb 0 (bits % 2)) (i ∷ positions n (i + 1) (b
 abbrev row : ℕ → List ℕ
 row n = take 16 (get_or KEPT_PLACES n [])
 
--- the places of a row are those of eight lanes, and first of the lanes whose bits its number has
+-- The byte indices of a row are those of eight lanes, and begin with the lanes whose bits are set in its number.
 abbrev is-paired : ℕ → Bool
 is-paired n = is-same (row n) (doubles (halves (row n)))
 
@@ -82,7 +82,7 @@ module _ (n : ℕ) (within : n < 256) where
   first-are : take (count_ones n) (halves (row n)) ≡ positions 8 0 n
   first-are = same-is _ _ sound.3
 
--- ---- the places of lanes
+-- ---- the byte indices of lanes
 
 length-doubles : (ps : List ℕ) → length (doubles ps) ≡ 2 * length ps
 length-doubles [] = refl
@@ -152,7 +152,7 @@ module _ (xs : List ℕ) (long : length xs ≡ 8) (each : Each1 (λ x. x < 65536
         let others : length (map (λ p. get_or xs p 0) ps) ≡ 8 = length-map ps (λ p. get_or xs p 0) ∙ as_long in
         same-lists ys _ (all ∙ sym others) (λ k within. moved-at k (omega (arith, within, all)) ∙ sym (get_or-map (λ p. get_or xs p 0) ps k 0 0 (omega (arith, within, all, as_long))))
 
--- ---- the lanes that are kept
+-- ---- the compressed lanes
 
 positions-kept : (f : ℕ → ℕ) (m i bits : ℕ) → map f (positions m i bits) ≡ kept_lanes bits (map f (range_with_len i m))
 positions-kept f zero i bits = refl

@@ -1,4 +1,4 @@
--- Sixteen units in one step.
+-- Encoding sixteen units in one step.
 use Rattle.std.proofs.Common.{◌≡◌, ℕ, zero, suc, ◌+◌, ◌-◌, ◌<◌, ◌≤◌, true, false, List, [], ◌∷◌, ◌++◌, length, get_or, take, drop, sym, ap, ◌∙◌, subst, arith, length-drop, take-add, append_assoc, inl, inr, Option, Some, None}
 use Rattle.std.proofs.lemmas.Simd.{get_or-chunk}
 use Rattle.std.proofs.lemmas.Bool.{cases_lt}
@@ -46,19 +46,19 @@ cut-length [] cut = omega arith
 cut-length (u ∷ []) cut = omega arith
 cut-length (u ∷ v ∷ us) cut = absurd cut
 
--- without a fault a block is passed up to its last unit
+-- If there is no fault, at least one unit of a block is read.
 pub some-read : (block : List ℕ) (r : ℕ) (fault : Option ℕ) → 2 ≤ length block → r ≤ length block → is_some fault ≡ false → StopsBefore (drop r block) fault → 0 < r
 some-read block r None long within none stop = omega (arith, cut-length (drop r block) stop, length-drop r block)
 some-read block r (Some u) long within none stop = absurd cc
 
--- the bits of one more unit
+-- Joining one more unit into the bitwise or.
 pub more-bits : (us : List ℕ) (k bits : ℕ) → ((j : ℕ) → j < k → get_or us j 0 ≤ bits) → (j : ℕ) → j < k + 1 → get_or us j 0 ≤ bit_or bits (get_or us k 0)
 more-bits us k bits all j within = elim (cases_lt j k) [
   | inl before ↦ omega (arith, all j before, le_or_l bits (get_or us k 0))
   | inr from ↦ (let same : j ≡ k = omega arith in subst (λ i. get_or us i 0 ≤ bit_or bits (get_or us k 0)) (sym same) (le_or_r bits (get_or us k 0)))
 ]
 
--- sixteen ASCII characters are their own text
+-- ASCII characters are their own UTF-8.
 pub encoded-ascii : (us before : List ℕ) → ((k : ℕ) → k < length us → get_or us k 0 < 0x80) → EncodedUnits us before (before ++ us)
 encoded-ascii [] before ascii = subst (λ t. EncodedUnits [] before t) (sym (append-nil before)) (units-none before)
 encoded-ascii (u ∷ us) before ascii =
@@ -66,7 +66,7 @@ encoded-ascii (u ∷ us) before ascii =
     let first : EncodedUnits (u ∷ []) before (before ++ u ∷ []) = units-one u before (before ++ u ∷ []) (omega arith) (λ from. omega arith) (ap (λ bs. before ++ bs) (sym (one_byte u low))) in
     subst (λ t. EncodedUnits (u ∷ us) before t) (append_assoc before (u ∷ []) us) (units-then first (encoded-ascii us (before ++ u ∷ []) (λ k within. ascii (suc k) (omega arith))))
 
--- ---- units behind a place
+-- ---- units from an index on
 
 pub more-front : (us : List ℕ) (i r : ℕ) {s t u : List ℕ} → EncodedUnits (take i us) s t → EncodedUnits (take r (drop i us)) t u → EncodedUnits (take (i + r) us) s u
 more-front us i r {s} {t} {u} so_far front = subst (λ vs. EncodedUnits vs s u) (sym (take-add i r us)) (units-then so_far front)
@@ -82,7 +82,7 @@ pairs-at us i n long pairs k within =
     let next : i + (k + 1) ≡ i + k + 1 = omega arith in
     both (sym (get_or-chunk i n us k 0 (omega arith))) (sym (get_or-chunk i n us (k + 1) 0 (omega arith) ∙ ap (λ j. get_or us j 0) next)) (pairs k within)
 
--- a window that begins one unit before a place
+-- A window that begins one unit before an index.
 pub window-pairs : (us : List ℕ) (i n : ℕ) → 0 < i → n ≡ 17 → ((k : ℕ) → k < 16 → ArePaired (get_or us (i + k) 0) (get_or us (i + k + 1) 0)) → (k : ℕ) → k < 15 → ArePaired (get_or (take n (drop (i - 1) us)) (k + 1) 0) (get_or (take n (drop (i - 1) us)) (k + 2) 0)
 window-pairs us i n some long pairs k within =
     let first : i - 1 + (k + 1) ≡ i + k = omega arith in
@@ -96,7 +96,7 @@ window-behind us i n r {s} {t} some long few e =
     let behind : drop 1 (take n (drop (i - 1) us)) ≡ take 16 (drop i us) = cut ∙ drop-take 1 16 (drop (i - 1) us) ∙ ap (take 16) (sym (drop-more (i - 1) 1 us) ∙ ap (λ j. drop j us) (sym same)) in
     subst (λ vs. EncodedUnits vs s t) (ap (take r) behind ∙ take-take r 16 (drop i us) few) e
 
--- the same behind a zero before the first unit
+-- A window that begins with a zero, before the first unit.
 pub first-pairs : (us vs : List ℕ) (i : ℕ) → i ≡ 0 → vs ≡ take 16 us → ((k : ℕ) → k < 16 → ArePaired (get_or us (i + k) 0) (get_or us (i + k + 1) 0)) → (k : ℕ) → k < 15 → ArePaired (get_or (0 ∷ vs) (k + 1) 0) (get_or (0 ∷ vs) (k + 2) 0)
 first-pairs us vs i none same pairs k within =
     let one : k + 1 ≡ suc k = omega arith in

@@ -1,4 +1,4 @@
--- Units that are characters in four bytes for each, and the bytes that are kept of those.
+-- Units that are characters in four bytes for each, and the bytes of those that are used.
 use Rattle.std.proofs.Common.{◌≡◌, ℕ, zero, suc, ◌+◌, ◌-◌, ◌*◌, ◌/◌, ◌%◌, ◌^◌, ◌<◌, ◌≤◌, T, cond, inl, inr, List, [], ◌∷◌, ◌++◌, length, get_or, map, replicate, take, drop, w8, refl, sym, ap, ◌∙◌, subst, arith, append_assoc}
 use Rattle.std.proofs.lemmas.Bool.{cases_lt, lt-ltb, le-ltb}
 use Rattle.std.proofs.lemmas.List.{append-nil, get_or-map, length-map}
@@ -115,7 +115,7 @@ words-stored xs words at n a b c d within is room =
     let same : take (get_or ROW_LENS n 0) (swz_l w8 16 words 0 (take 16 (get_or ROWS n []))) ≡ kept_bytes a b c d words = subst (λ k. take (get_or ROW_LENS k 0) (swz_l w8 16 words 0 (take 16 (get_or ROWS k []))) ≡ kept_bytes a b c d words) (sym is) (picked a b c d words) in
     row-stored ROWS rows-sound n within xs words (kept_bytes a b c d words) at (get_or ROW_LENS n 0) (omega (arith, row-len n)) room same
 
--- ---- the row of four units
+-- ---- the row number of four units
 
 digit-small : (a : Size) → digit_of a ≤ 3
 digit-small One = omega arith
@@ -125,7 +125,7 @@ digit-small Three = omega arith
 pub row-small : (a b c d : Size) → row_of a b c d < 256
 row-small a b c d = omega (arith, digit-small a, digit-small b, digit-small c, digit-small d)
 
--- the bytes of 16-bit numbers
+-- The bytes of 16-bit numbers.
 abbrev bytes-of : List ℕ → List ℕ
 bytes-of [] = []
 bytes-of (m ∷ ms) = m % 256 ∷ m / 256 ∷ bytes-of ms
@@ -145,7 +145,7 @@ bytes-are (suc n) (m ∷ ms) long each =
     let third : (m + 65536 * rest) / 256 / 256 ≡ rest = omega (arith, below) in
     cons-two _ _ _ _ _ _ first second (ap (digits_l 256 (double n)) third ∙ bytes-are n ms (omega arith) each.1)
 
--- the digits of the sizes of units, in base four from the lowest on
+-- The digits of the lengths of units, in base four from the lowest on.
 abbrev digits : List ℕ → ℕ
 digits [] = 0
 digits (u ∷ us) = digit_of (size_of u) + 4 * digits us
@@ -198,7 +198,7 @@ module _ (us ms : List ℕ) (long : length us ≡ 8) (long_marks : length ms ≡
   pub second-row : mask_l (map (top 7) (zip2 (λ a b. cond (leb b a) (2 ^ 8 - 1) 0) (digits_l 256 16 (number_l 65536 ms)) (replicate 16 0x80))) % 2 ^ 64 / 256 ≡ row_at us 4
   second-row = ap (λ n. n / 256) (bits-are ∙ ap digits (eight us long)) ∙ (rows-of-eight (get_or us 0 0) (get_or us 1 0) (get_or us 2 0) (get_or us 3 0) (get_or us 4 0) (get_or us 5 0) (get_or us 6 0) (get_or us 7 0)).1
 
--- ---- the bytes of words
+-- ---- the four bytes of each unit
 
 pub four-places : (P : ℕ → Type 0) → P 0 → P 1 → P 2 → P 3 → (k : ℕ) → k < 4 → P k
 four-places P a b c d zero within = a
@@ -207,7 +207,7 @@ four-places P a b c d (suc (suc zero)) within = c
 four-places P a b c d (suc (suc (suc zero))) within = d
 four-places P a b c d (suc (suc (suc (suc k)))) within = absurd (omega arith)
 
--- the bytes of eight halves, of which each other one is a back
+-- The bytes of eight 16-bit lanes that hold the first two bytes of a unit and its third byte in turn.
 module _ (xs : List ℕ) (long : length xs ≡ 8) (each : Each1 (λ x. x < 65536) xs) where
   pub low-byte : (j : ℕ) → j < 8 → get_or (digits_l 256 16 (number_l 65536 xs)) (2 * j) 0 ≡ get_or xs j 0 % 0x100
   low-byte j within =
@@ -232,7 +232,7 @@ module _ (xs : List ℕ) (long : length xs ≡ 8) (each : Each1 (λ x. x < 65536
         third = ap (λ n. get_or ds n 0) at_third ∙ low-byte (2 * k + 1) (omega arith);
       }
 
--- the lanes of two lists of eight in turn, from their fronts and from their backs
+-- The lanes of two lists of eight, interleaved: those of the first four of each, and those of the last four.
 abbrev low-lanes : List ℕ → List ℕ → List ℕ
 low-lanes fs bs = let both = fs ++ bs in get_or both 0 0 ∷ get_or both 8 0 ∷ get_or both 1 0 ∷ get_or both 9 0 ∷ get_or both 2 0 ∷ get_or both 10 0 ∷ get_or both 3 0 ∷ get_or both 11 0 ∷ []
 
@@ -266,7 +266,7 @@ module _ (fs bs : List ℕ) (long : length fs ≡ 8) (long_backs : length bs ≡
       let held = holds-word xs refl each in
       four-places (λ k. HoldsWord (digits_l 256 16 (number_l 65536 xs)) (4 * k) (get_or fs (k + 4) 0) (get_or bs (k + 4) 0)) (held 0 (omega arith) (below 4 (omega arith))) (held 1 (omega arith) (below 5 (omega arith))) (held 2 (omega arith) (below 6 (omega arith))) (held 3 (omega arith) (below 7 (omega arith))))
 
--- ---- the bytes that are laid
+-- ---- the bytes that are written
 
 module _ (words : List ℕ) (at key front back : ℕ) (word : HoldsWord words at front back) where
   pub kept-laid : kept_bytes_of (size_of key) at words ≡ laid_unit key front back
@@ -287,7 +287,7 @@ laid-unit u front back is is_back below = elim (cases_lt u 0x80) [
   ]
 ]
 
--- four units of eight, by their words
+-- The bytes written for four of eight units, from their four bytes each.
 pub row-laid : (words ks fs bs : List ℕ) (i : ℕ) → ((k : ℕ) → k < 4 → HoldsWord words (4 * k) (get_or fs (k + i) 0) (get_or bs (k + i) 0))
     → kept_bytes (size_of (get_or ks (0 + i) 0)) (size_of (get_or ks (1 + i) 0)) (size_of (get_or ks (2 + i) 0)) (size_of (get_or ks (3 + i) 0)) words
     ≡ ((laid_unit (get_or ks (0 + i) 0) (get_or fs (0 + i) 0) (get_or bs (0 + i) 0) ++ laid_unit (get_or ks (1 + i) 0) (get_or fs (1 + i) 0) (get_or bs (1 + i) 0)) ++ laid_unit (get_or ks (2 + i) 0) (get_or fs (2 + i) 0) (get_or bs (2 + i) 0)) ++ laid_unit (get_or ks (3 + i) 0) (get_or fs (3 + i) 0) (get_or bs (3 + i) 0)
@@ -315,7 +315,7 @@ eight-laid ks fs bs s t v low high long_keys long long_backs held_low held_high 
     let unit : ℕ → List ℕ = λ k. laid_unit (get_or ks k 0) (get_or fs k 0) (get_or bs k 0) in
     second ∙ ap (λ x. t ++ x) back ∙ ap (λ x. x ++ (((unit 4 ++ unit 5) ++ unit 6) ++ unit 7)) (first ∙ ap (λ x. s ++ x) front) ∙ in-turn s (unit 0) (unit 1) (unit 2) (unit 3) (unit 4) (unit 5) (unit 6) (unit 7) ∙ ap (λ x. s ++ x) (sym all)
 
--- units that are characters, where each is laid as its text
+-- If the bytes are those of units that are characters, what is written is their UTF-8.
 pub laid-encoded : (us fs bs s : List ℕ) → length fs ≡ length us → length bs ≡ length us → ((k : ℕ) → k < length us → IsFront (get_or us k 0) (get_or fs k 0)) → ((k : ℕ) → k < length us → get_or bs k 0 ≡ 0x80 + get_or us k 0 % 0x40)
     → ((k : ℕ) → k < length us → get_or us k 0 < 0x10000) → ((k : ℕ) → k < length us → 0xd800 ≤ get_or us k 0 → 0xe000 ≤ get_or us k 0) → EncodedUnits us s (s ++ laid us fs bs)
 laid-encoded [] fs bs s long long_backs front back below plain = subst (λ t. EncodedUnits [] s t) (sym (append-nil s)) (units-none s)
@@ -326,7 +326,7 @@ laid-encoded (u ∷ us) (f ∷ fs) (b ∷ bs) s long long_backs front back below
     let rest = laid-encoded us fs bs (s ++ laid_unit u f b) (omega arith) (omega arith) (λ k within. front (suc k) (omega arith)) (λ k within. back (suc k) (omega arith)) (λ k within. below (suc k) (omega arith)) (λ k within. plain (suc k) (omega arith)) in
     subst (λ t. EncodedUnits (u ∷ us) s t) (append_assoc s (laid_unit u f b) (laid us fs bs)) (units-then one rest)
 
--- eight of them, in lanes
+-- Eight units that are characters, in SIMD lanes.
 pub laid-of-units : (ls us fs bs s : List ℕ) → ls ≡ us → length us ≡ 8 → length fs ≡ 8 → length bs ≡ 8 → ((k : ℕ) → k < 8 → IsFront (get_or ls k 0) (get_or fs k 0)) → ((k : ℕ) → k < 8 → get_or bs k 0 ≡ 0x80 + get_or ls k 0 % 0x40)
     → ((k : ℕ) → get_or us k 0 < 0x10000) → ((k : ℕ) → k < 8 → 0xd800 ≤ get_or us k 0 → 0xe000 ≤ get_or us k 0) → EncodedUnits us s (s ++ laid ls fs bs)
 laid-of-units ls us fs bs s same long long_fronts long_backs front back below plain =

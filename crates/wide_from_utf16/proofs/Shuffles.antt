@@ -1,4 +1,4 @@
--- Units below 0x800 in two bytes for each, and the bytes that are kept of those.
+-- Units below 0x800 in two bytes for each, and the bytes of those that are used.
 use Rattle.std.proofs.Common.{◌≡◌, ℕ, zero, suc, ◌+◌, ◌-◌, ◌*◌, ◌/◌, ◌%◌, ◌<◌, ◌≤◌, ◌^◌, Bool, true, false, T, cond, inl, inr, ltb, map, replicate, w16, append_assoc, List, [], ◌∷◌, ◌++◌, length, get_or, set, take, drop, w8, refl, sym, ap, ◌∙◌, subst, arith, length-drop}
 use Rattle.std.specs.Int.RustNames.{count_ones}
 use Rattle.std.proofs.lemmas.Bool.{cases_lt, lt-ltb, le-ltb}
@@ -17,7 +17,7 @@ use Rattle.wide_from_utf16.proofs.UnitEncodings.{units-none, units-one, units-th
 
 -- ---- the table
 
--- where the bytes stand that are kept of pairs from a place on, by the bits of a number
+-- The indices of the bytes that are used, from the index i on: one for each bit that is set, and two for each other.
 abbrev spots : ℕ → ℕ → ℕ → List ℕ
 spots zero i bits = []
 spots (suc n) i bits = cond (ltb 0 (bits % 2)) (i ∷ spots n (i + 2) (bits / 2)) (i ∷ (i + 1) ∷ spots n (i + 2) (bits / 2))
@@ -68,7 +68,7 @@ module _ (n : ℕ) (within : n < 256) where
       → take (at + (16 - count_ones n)) (put_mid at (at + 16 - at) xs (put_chunk 0 (take (at + 16 - at) (drop at xs)) (swz_l w8 16 pairs 0 (take 16 (get_or PLACES n []))))) ≡ take at xs ++ kept us 0 pairs
   pairs-stored xs pairs us at long is room = row-stored PLACES places-sound n within xs pairs (kept us 0 pairs) at (16 - count_ones n) (omega arith) room (picked pairs us long is)
 
--- ---- which are below a bound
+-- ---- which units are below a bound
 
 pub eight : (xs : List ℕ) → length xs ≡ 8 → xs ≡ get_or xs 0 0 ∷ get_or xs 1 0 ∷ get_or xs 2 0 ∷ get_or xs 3 0 ∷ get_or xs 4 0 ∷ get_or xs 5 0 ∷ get_or xs 6 0 ∷ get_or xs 7 0 ∷ []
 eight [] long = absurd (omega arith)
@@ -99,7 +99,7 @@ below-small bound zero (u ∷ us) long = absurd (omega arith)
 below-small bound (suc n) [] long = absurd (omega arith)
 below-small bound (suc n) (u ∷ us) long = omega (arith, bit-small (ltb u bound), below-small bound n us (omega arith))
 
--- ---- the bytes of the fronts
+-- ---- the bytes of the units
 
 front-small : (u front : ℕ) → u < 0x800 → IsFront u front → front < 65536
 front-small u front below f = elim (cases_lt u 0x80) [
@@ -121,7 +121,7 @@ pair-of us fs k within long narrow fronts =
       two = λ from below. (let f = front.two from below in (omega (arith, first, f), omega (arith, second, f)));
     }
 
--- ---- the text of units
+-- ---- the UTF-8 of the units
 
 module _ (pairs : List ℕ) (k u : ℕ) (pair : IsPair u (get_or pairs k 0) (get_or pairs (k + 1) 0)) (below : u < 0x800) where
   kept-unit : kept_of (ltb u 0x80) k pairs ≡ utf8_bytes u
@@ -130,7 +130,7 @@ module _ (pairs : List ℕ) (k u : ℕ) (pair : IsPair u (get_or pairs k 0) (get
     | inr from ↦ rw (le-ltb u 0x80 from) (list2 _ _ _ _ (pair.two from below).0 (pair.two from below).1 ∙ sym (two_bytes u from below))
   ]
 
--- a fact of two numbers holds of the same two elsewhere
+-- A property of two numbers holds for equal numbers.
 pub same-two : (P : ℕ → ℕ → Type 0) {x y other_x other_y : ℕ} → other_x ≡ x → other_y ≡ y → P x y → P other_x other_y
 same-two P {x} {y} {other_x} {other_y} e f is = subst (λ z. P z other_y) (sym e) (subst (λ z. P x z) (sym f) is)
 

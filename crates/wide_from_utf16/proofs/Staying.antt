@@ -1,4 +1,4 @@
--- Mended units of which some marks are left out, by lanes and by a policy.
+-- Repaired units without some of the replacement characters, in SIMD lanes and under a policy.
 use Rattle.std.proofs.Common.{◌≡◌, ℕ, zero, suc, ◌+◌, ◌-◌, ◌*◌, ◌^◌, ◌%◌, ◌/◌, ◌<◌, ◌≤◌, Bool, true, false, cond, not, eqb, inl, inr, List, [], ◌∷◌, ◌++◌, append_assoc, length, get_or, map, replicate, take, drop, w16, refl, sym, ap, ◌∙◌, subst, arith, length-take, length-drop, get_or-take}
 use Rattle.std.specs.Prelude.{nat_eq}
 use Rattle.std.proofs.lemmas.Bool.Decides.{eqb_tells}
@@ -22,7 +22,7 @@ use Rattle.wide_from_utf16.specs.Narrow.{bit_of}
 use Rattle.wide_from_utf16.proofs.Stores.{kept-front}
 use Rattle.wide_from_utf16.proofs.Tables.{stored-block}
 
--- the mended units that stay
+-- The repaired units that are retained.
 abbrev pub staying : Bool → ℕ → ℕ → List ℕ → List ℕ → List ℕ
 staying marks u m [] ms = []
 staying marks u m (v ∷ us) [] = []
@@ -66,7 +66,7 @@ bits-few (suc n) marks u m [] ms = (let some = bits-few n marks u m [] ms in ome
 bits-few (suc n) marks u m (v ∷ us) [] = (let some = bits-few n marks u m us [] in omega (arith, some))
 bits-few (suc n) marks u m (v ∷ us) (w ∷ ms) = omega (arith, bits-few n marks v w us ms, one-bit (stays marks u m v w))
 
--- ---- the units of such bits
+-- ---- the units that the bits select
 
 first-kept : (b : Bool) (bits x : ℕ) (xs : List ℕ) → kept_lanes (bit_of b + 2 * bits) (x ∷ xs) ≡ cond b (x ∷ kept_lanes bits xs) (kept_lanes bits xs)
 first-kept true bits x xs =
@@ -88,7 +88,7 @@ staying-bits (suc n) marks u m (v ∷ us) (w ∷ ms) long as_long =
     let bit = stays marks u m v w in
     first-kept bit (stay_bits n marks v w us ms) w ms ∙ ap (λ xs. cond bit (w ∷ xs) xs) (staying-bits n marks v w us ms (omega arith) (omega arith))
 
--- ---- a part after another
+-- ---- one chunk after another
 
 add-first : (b : Bool) (x : ℕ) (a c : List ℕ) → cond b (x ∷ (a ++ c)) (a ++ c) ≡ cond b (x ∷ a) a ++ c
 add-first true x a c = refl
@@ -107,9 +107,9 @@ staying-parts (suc n) marks (u ∷ v ∷ us) (m ∷ w ∷ ms) within as_within =
     let back = staying marks (get_or (v ∷ us) n 0) (get_or (w ∷ ms) n 0) (drop (suc n) (v ∷ us)) (drop (suc n) (w ∷ ms)) in
     ap (λ xs. cond bit (w ∷ xs) xs) (staying-parts n marks (v ∷ us) (w ∷ ms) (omega arith) (omega arith)) ∙ add-first bit w front back
 
--- ---- by items
+-- ---- item by item
 
--- of what stands before only this counts: whether it is its own mended unit
+-- What is retained depends on the unit before only by whether it was replaced.
 same-before : (marks : Bool) (u m v w : ℕ) (us ms : List ℕ) → nat_eq u m ≡ nat_eq v w → staying marks u m us ms ≡ staying marks v w us ms
 same-before marks u m v w [] ms e = refl
 same-before marks u m v w (x ∷ us) [] e = refl
@@ -126,7 +126,7 @@ own x = elim (eqb_tells x x) [
   | inr other ↦ absurd (other.1 refl)
 ]
 
--- units that are their own mended ones stay
+-- Units that were not replaced are retained.
 sound-stays : (marks : Bool) (u m x : ℕ) (a us ms : List ℕ) → staying marks u m ((x ∷ a) ++ us) ((x ∷ a) ++ ms) ≡ (x ∷ a) ++ behind marks false us ms
 sound-stays marks u m x [] us ms =
     let rest = staying marks x x us ms in
@@ -148,7 +148,7 @@ no-mark v fault = elim (eqb_tells v 0xFFFD) [
   | inr other ↦ other.0
 ]
 
--- the mark of a fault stays by what stands before
+-- The replacement character of a fault is retained by whether a fault precedes it.
 mark-stays : (marks after : Bool) (v : ℕ) (us ms : List ℕ) → nat_eq v 0xFFFD ≡ false → behind marks after (v ∷ us) (0xFFFD ∷ ms) ≡ cond (cond marks (not after) false) (0xFFFD ∷ behind marks true us ms) (behind marks true us ms)
 mark-stays marks after v us ms other =
     let rest = staying marks v 0xFFFD us ms in
@@ -186,13 +186,13 @@ staying-text : (marks after : Bool) (us ms : List ℕ) → ms ≡ encode Utf16 (
 staying-text marks after us ms mended =
     ap (λ xs. behind marks after us xs) mended ∙ ap (λ xs. behind marks after xs (encode Utf16 (lossy (items Utf16 us)))) (sym (units_of-items Utf16 us)) ∙ staying-items marks after (items Utf16 us) (items-chain Utf16 us)
 
--- ---- eight lanes of which the first are kept
+-- ---- eight lanes of which the first are used
 
 pub lanes-stored : (xs ys : List ℕ) (at len : ℕ) → length ys ≡ 8 → at + 8 ≤ length xs → len ≤ 8 → take (at + len) (put_mid at (at + 8 - at) xs (put_chunk 0 (take (at + 8 - at) (drop at xs)) ys)) ≡ take at xs ++ take len ys
 lanes-stored xs ys at len long room few =
     kept-front xs (put_mid at (at + 8 - at) xs (put_chunk 0 (take (at + 8 - at) (drop at xs)) ys)) ys at 8 len (omega arith) few (stored-block 8 xs ys at long room)
 
--- ---- one step more
+-- ---- one more step
 
 eight-parts : (marks : Bool) (v w : ℕ) (vs ws : List ℕ) → 8 ≤ length vs → length ws ≡ length vs
     → staying marks v w vs ws ≡ staying marks v w (take 8 vs) (take 8 ws) ++ staying marks (get_or vs 7 0) (get_or ws 7 0) (drop 8 vs) (drop 8 ws)
@@ -229,7 +229,7 @@ staying-eights marks p q done us ms front more some within long so_far put =
     let both : staying marks v w (drop done us) (drop done ms) ≡ here ++ rest = rw (next-at us done, next-at ms done, drop-drop 8 done us, drop-drop 8 done ms) at parts in
     so_far ∙ ap (λ xs. front ++ xs) both ∙ sym (append_assoc front here rest) ∙ ap (λ xs. xs ++ rest) (sym written)
 
--- ---- all of them
+-- ---- all units
 
 none-left : (xs : List ℕ) → length xs ≡ 0 → xs ≡ []
 none-left [] none = refl

@@ -1,4 +1,4 @@
--- What stores behind a place make of the front of a list.
+-- What writing bytes at an offset of a list does to its prefix.
 use Rattle.std.proofs.Common.{◌≡◌, ℕ, zero, suc, inl, inr, length-take-le, ◌+◌, ◌-◌, ◌*◌, ◌/◌, ◌%◌, ◌^◌, ◌<◌, ◌≤◌, List, [], ◌∷◌, ◌++◌, length, take, set, refl, sym, ap, ◌∙◌, arith, length-set, append_assoc}
 use Rattle.std.proofs.Math.Seq.{take-append-add}
 use Rattle.std.proofs.lemmas.Bool.{cases_lt}
@@ -30,7 +30,7 @@ stored_four xs at a b d e room =
     let last : take (at + 3 + 1) (set ys (at + 3) e) ≡ take (at + 3) ys ++ e ∷ [] = stored_one ys (at + 3) e (omega (arith, length-set {A = ℕ})) in
     ap (λ n. take n (set ys (at + 3) e)) longer ∙ last ∙ ap (λ zs. zs ++ e ∷ []) (stored_three xs at a b d (omega arith)) ∙ append_assoc (take at xs) (a ∷ b ∷ d ∷ []) (e ∷ [])
 
--- the bytes of a character
+-- The bytes of a unit that is a character.
 module _ (xs : List ℕ) (at u : ℕ) where
   pub put_one : at < length xs → u < 0x80 → take (at + 1) (set xs at u) ≡ take at xs ++ utf8_bytes u
   put_one room below = stored_one xs at u room ∙ ap (λ bs. take at xs ++ bs) (sym (one_byte u below))
@@ -54,7 +54,7 @@ pub pair-word : (h l word : ℕ) → 0xd800 ≤ h → h < 0xdc00 → 0xdc00 ≤ 
     → (word % 0x100) ∷ (word / 0x100 % 0x100) ∷ (word / 0x10000 % 0x100) ∷ (word / 0x1000000) ∷ [] ≡ utf8_bytes (0x10000 + ((h - 0xd800) * 0x400 + (l - 0xdc00)))
 pair-word h l word from_h to_h from_l to_l is = list4 _ _ _ _ _ _ _ _ (omega arith) (omega arith) (omega arith) (omega arith) ∙ pair_bytes h l from_h to_h from_l to_l
 
--- ---- four bytes at once, of which the first are kept
+-- ---- four bytes at once, of which the first are used
 
 take-take_le : (m n : ℕ) (xs : List ℕ) → m ≤ n → take m (take n xs) ≡ take m xs
 take-take_le zero n xs low = refl

@@ -1,4 +1,4 @@
--- Tables of places among sixteen lanes, and what a row of one picks.
+-- Tables of shuffles of sixteen bytes, and which bytes a row selects.
 use Rattle.std.proofs.Common.{◌≡◌, ℕ, zero, suc, ◌+◌, ◌-◌, ◌*◌, ◌/◌, ◌<◌, ◌≤◌, ◌&&◌, Bool, true, false, T, inl, inr, ltb, ltb→lt, List, [], ◌∷◌, ◌++◌, length, get_or, map, take, drop, w8, refl, sym, ap, ◌∙◌, subst, arith, rules, length-take, length-drop}
 use Rattle.std.specs.Int.RustNames.{count_ones}
 use Rattle.std.proofs.Math.Facts.{eqb_yes}
@@ -34,7 +34,7 @@ same-is [] (y ∷ ys) h = absurd h
 same-is (x ∷ xs) [] h = absurd h
 same-is (x ∷ xs) (y ∷ ys) h = ap (λ z. z ∷ xs) (eqb_yes (and_l (eqb x y) (is-same xs ys) h)) ∙ ap (λ zs. y ∷ zs) (same-is xs ys (and_r (eqb x y) (is-same xs ys) h))
 
--- ---- what holds of each number below another
+-- ---- what holds for each number below another
 
 unfoldable pub every : (ℕ → Bool) → ℕ → Bool
 every holds zero = true
@@ -58,9 +58,9 @@ all-few = tt
 pub ones-few : (n : ℕ) → n < 256 → count_ones n ≤ 8
 ones-few n within = leb→le (count_ones n) 8 (every-at is-few 256 n within all-few)
 
--- ---- rows
+-- ---- rows of a table
 
--- a row has sixteen places below sixteen
+-- A row has at least sixteen numbers, and its first sixteen are below sixteen.
 unfoldable pub is-row : List ℕ → Bool
 is-row row = all_below 16 (take 16 row) && ltb 15 (length (take 16 row))
 
@@ -78,13 +78,13 @@ all-each : (js : List ℕ) → T (all_below 16 js) → Each1 (λ j. j < 16) js
 all-each [] h = tt
 all-each (j ∷ js) h = (ltb→lt j 16 (and_l _ _ h), all-each js (and_r (ltb j 16) _ h))
 
--- the numbers of a table are below a bound
+-- Each number of a table is below a bound.
 pub each-most : (bound : ℕ) (xs : List ℕ) (n : ℕ) → 0 < bound → T (all_below bound xs) → get_or xs n 0 < bound
 each-most bound [] n some h = omega arith
 each-most bound (x ∷ xs) zero some h = ltb→lt x bound (and_l _ _ h)
 each-most bound (x ∷ xs) (suc n) some h = each-most bound xs n some (and_r (ltb x bound) _ h)
 
--- what a store makes of the list before it
+-- Writing as many elements over a list at an index makes its prefix end with them.
 pub stored-block : (n : ℕ) (xs ys : List ℕ) (at : ℕ) → length ys ≡ n → at + n ≤ length xs → take (at + n) (put_mid at (at + n - at) xs (put_chunk 0 (take (at + n - at) (drop at xs)) ys)) ≡ take at xs ++ ys
 stored-block n xs ys at long room =
     let part = take (at + n - at) (drop at xs) in
@@ -103,7 +103,7 @@ module _ (rows : List (List ℕ)) (sound : T (are-rows rows)) (n : ℕ) (within 
   unfolding is-row
   row-long = omega (arith, length-take 16 (get_or rows n []), ltb→lt 15 (length (take 16 (get_or rows n []))) (and_r (all_below 16 (take 16 (get_or rows n []))) _ row))
 
-  -- a row picks the bytes at its places
+  -- A row selects the bytes at its indices.
   pub row-picks : (bytes : List ℕ) → swz_l w8 16 bytes 0 (take 16 (get_or rows n [])) ≡ map (λ p. get_or bytes p 0) (take 16 (get_or rows n []))
   unfolding is-row
   row-picks bytes =
@@ -117,7 +117,7 @@ module _ (rows : List (List ℕ)) (sound : T (are-rows rows)) (n : ℕ) (within 
       let first : 16 * ((0 + k) / 16) + place ≡ place = omega (arith, here, row-long) in
       get_or-swz_l_below w8 16 bytes 0 js k here (Each1-get_or (λ j. j < 16) js k 0 here low) ∙ ap f first ∙ sym (get_or-map f js k 0 0 here)))
 
-  -- what the first lanes that a row picks make of the bytes before them
+  -- Writing a shuffled vector appends the first bytes that its row selects.
   pub row-stored : (xs lanes kept : List ℕ) (at len : ℕ) → len ≤ 16 → at + 16 ≤ length xs → take len (swz_l w8 16 lanes 0 (take 16 (get_or rows n []))) ≡ kept
       → take (at + len) (put_mid at (at + 16 - at) xs (put_chunk 0 (take (at + 16 - at) (drop at xs)) (swz_l w8 16 lanes 0 (take 16 (get_or rows n []))))) ≡ take at xs ++ kept
   row-stored xs lanes kept at len few room picked =

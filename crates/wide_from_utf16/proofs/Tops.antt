@@ -1,4 +1,4 @@
--- The upper six bits of units, by lanes.
+-- The upper six bits of units, compared in SIMD lanes.
 use Rattle.std.proofs.Common.{◌≡◌, ℕ, zero, suc, ◌+◌, ◌-◌, ◌*◌, ◌/◌, ◌%◌, ◌^◌, ◌<◌, ◌≤◌, Bool, true, false, cond, eqb, inl, inr, List, [], ◌∷◌, length, get_or, map, replicate, take, drop, w16, refl, sym, ap, ◌∙◌, arith, length-take}
 use Rattle.std.proofs.lemmas.Bool.{eqb-true}
 use Rattle.std.proofs.lemmas.List.{get_or-take}
@@ -54,7 +54,7 @@ pairs-by-tops (u ∷ us) long e k within =
     let behind : get_or us k 0 ≡ get_or (u ∷ us) (k + 1) 0 = ap (λ i. get_or (u ∷ us) i 0) (sym next) in
     paired-by (get_or (u ∷ us) k 0) (get_or (u ∷ us) (k + 1) 0) (same-tops 54 55 16 (u ∷ us) us (omega arith) (omega arith) e k within ∙ ap (λ v. eqb (v / 0x400) 55) behind)
 
--- ---- each other one
+-- ---- the units at even indices
 
 abbrev pub double : ℕ → ℕ
 double zero = 0

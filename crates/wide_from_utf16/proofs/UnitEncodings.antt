@@ -1,4 +1,4 @@
--- How encodings of units join, and what stops them.
+-- How encodings of adjacent units join, and what stops them.
 use Rattle.std.proofs.Common.{◌≡◌, ℕ, zero, suc, ◌+◌, ◌-◌, ◌*◌, ◌<◌, ◌≤◌, inl, inr, List, [], ◌∷◌, ◌++◌, length, get_or, take, drop, refl, sym, ap, ◌∙◌, subst, arith, length-drop, append_assoc, drop-cons, take-add, take-append-drop}
 use Rattle.std.proofs.lemmas.List.{append-nil}
 use Rattle.std.proofs.lemmas.List.Concat.{flat_map-append}
@@ -18,7 +18,7 @@ all-one : (P : ℕ → Type 0) (x : ℕ) → P x → All P (x ∷ [])
 all-one P x p zero d within = p
 all-one P x p (suc k) d within = absurd (omega arith)
 
--- nothing yet
+-- No units.
 pub units-none : (text : List ℕ) → EncodedUnits [] text text
 units-none text = record { cs = []; scalars = λ k d within. absurd (omega arith); units = refl; text = sym (append-nil text) }
 
@@ -30,7 +30,7 @@ units-then {a} {b} {s} {t} {u} x y = record {
   text = y.text ∙ ap (λ bs. bs ++ utf8 y.cs) x.text ∙ append_assoc s (utf8 x.cs) (utf8 y.cs) ∙ ap (λ bs. s ++ bs) (sym (flat_map-append utf8_bytes x.cs y.cs));
 }
 
--- one character
+-- One unit that is a character.
 pub units-one : (u : ℕ) (s t : List ℕ) → u < 0x10000 → (0xd800 ≤ u → 0xe000 ≤ u) → t ≡ s ++ utf8_bytes u → EncodedUnits (u ∷ []) s t
 units-one u s t below plain text = record {
   cs = u ∷ [];
@@ -51,7 +51,7 @@ units-pair h l s t from_h to_h from_l to_l text =
       text = text ∙ ap (λ bs. s ++ bs) (sym (append-nil (utf8_bytes c)));
     }
 
--- ---- a longer front of the units
+-- ---- a longer prefix of the units
 
 pub take-one : (us : List ℕ) (i : ℕ) → i < length us → take (i + 1) us ≡ take i us ++ get_or us i 0 ∷ []
 take-one us i within = take-add i 1 us ∙ ap (λ vs. take i us ++ take 1 vs) (drop-cons us i 0 within)
@@ -76,7 +76,7 @@ more-pair us i h l {s} {t} {v} so_far within is_h is_l from_h to_h from_l to_l t
     let more : take (i + 2) us ≡ take i us ++ h ∷ l ∷ [] = take-two us i within ∙ ap (λ x. take i us ++ x ∷ get_or us (i + 1) 0 ∷ []) (sym is_h) ∙ ap (λ x. take i us ++ h ∷ x ∷ []) (sym is_l) in
     subst (λ vs. EncodedUnits vs s v) (sym more) (units-then so_far (units-pair h l t v from_h to_h from_l to_l text))
 
--- ---- where it stops
+-- ---- where encoding stops
 
 pub stops-at_end : (us : List ℕ) (i : ℕ) → length us ≤ i → AreCutShort (drop i us)
 stops-at_end us i over = none (drop i us) (omega (arith, length-drop i us))
@@ -105,7 +105,7 @@ stops-at_unpaired us i h l within is_h is_l from to apart = (
 
 -- ---- lists
 
--- what is behind i, where the bytes end in what is behind n
+-- The bytes from i on are those from i up to n, and those from n on.
 pub drop-split : (i n : ℕ) (bytes : List ℕ) → i ≤ n → n ≤ length bytes → drop i bytes ≡ drop i (take n bytes) ++ drop n bytes
 drop-split zero n bytes low high = sym (take-append-drop n bytes)
 drop-split (suc i) n [] low high = absurd (omega arith)

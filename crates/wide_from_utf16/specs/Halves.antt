@@ -1,9 +1,10 @@
--- The text of paired units, half of a pair by itself: the high surrogate has the first two bytes of the four, and the low one the others.
+-- The UTF-8 of paired units, unit by unit: a high surrogate yields the first two of the four bytes of its pair, and a
+-- low one the others.
 use Rattle.std.specs.Prelude.{◌≡◌, ℕ, ◌<◌, ◌≤◌, ◌+◌, ◌*◌, ◌/◌, ◌%◌, nat_eq, nat_lt, if◌then◌else◌, List, [], ◌∷◌, ◌++◌}
 use Rattle.wide_unit.specs.Utf8.{utf8_bytes}
 use Rattle.wide_from_utf16.specs.Encoded.{high_word, low_word}
 
--- the bytes of a unit, with the one before it
+-- The bytes that a unit yields, given the unit before it.
 abbrev pub half_bytes : ℕ → ℕ → List ℕ
 half_bytes before u =
     if nat_lt u 0xD800 then utf8_bytes u
@@ -11,13 +12,13 @@ half_bytes before u =
     else if nat_lt u 0xE000 then low_word before u % 0x100 ∷ low_word before u / 0x100 ∷ []
     else utf8_bytes u
 
--- those of all units but the first
+-- The bytes that all units but the first yield.
 abbrev pub halves : List ℕ → List ℕ
 halves [] = []
 halves (before ∷ []) = []
 halves (before ∷ u ∷ us) = half_bytes before u ++ halves (u ∷ us)
 
--- the first two of them as a number, low byte first
+-- The first two bytes that a unit yields, as a number, low byte first.
 pub record IsHalfFront (before u front : ℕ) : Type 0 where
   pub one : u < 0x80 → front ≡ u
   pub two : 0x80 ≤ u → u < 0x800 → front ≡ 0x80c0 + u / 0x40 + u % 0x40 * 0x100
@@ -25,6 +26,6 @@ pub record IsHalfFront (before u front : ℕ) : Type 0 where
   pub high : 0xD800 ≤ u → u < 0xDC00 → front ≡ high_word u
   pub low : 0xDC00 ≤ u → u < 0xE000 → front ≡ low_word before u
 
--- a unit with as many bytes: at half of a pair one with two
+-- A unit whose UTF-8 is as long as what the unit yields: 0x80 for a surrogate, which yields two bytes.
 abbrev pub half_key : ℕ → ℕ
 half_key u = if nat_eq (u / 0x800) 27 then 0x80 else u

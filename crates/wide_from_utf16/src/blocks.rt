@@ -1,4 +1,6 @@
-//! The text of units, sixteen in one step.
+//! Converts UTF-16 to UTF-8 (Unicode Standard, section 3.9, D91 and D92), sixteen units in one step.
+//! Vectorized: each block of units is classified in SIMD lanes, as ASCII, as units below 0x800, as units without
+//! surrogates, or as units with surrogates, and encoded by the method for its class.
 
 ghost use Rattle.std.specs.Prelude.{◌≡◌, ◌+◌, ◌*◌, ◌/◌, ◌%◌, ◌-◌, ◌≤◌, ◌<◌, ◌++◌, ◌∷◌, [], false, ℕ, slice_index, IsTrue, length, take, drop, is_some, true, IfNone, IfSome};
 ghost use Rattle.wide_unit.specs.EncodingForm.{Utf16};
@@ -12,7 +14,7 @@ use crate::steps::{Step, encode_plain, put_pair};
 use crate::wide::put_wide;
 use std::simd::prelude::*;
 
-// The bits of sixteen units, joined: no unit is above them.
+// Returns the bitwise or of sixteen units. No unit is greater than it.
 #[inline(always)]
 fn bits_of(block: &[u16]) -> u16
     requires { length block.now ≡ 16 }
@@ -25,7 +27,11 @@ fn bits_of(block: &[u16]) -> u16
     bits
 }
 
-/// Stores sixteen ASCII characters.
+/// Writes sixteen ASCII characters as bytes at the offset `at` in `out`.
+///
+/// # Requires
+///
+/// The block has sixteen units, all below 0x80. `out` has at least 16 bytes from `at` on.
 #[inline(always)]
 pub fn put_ascii(block: &[u16], out: &mut [u8], at: usize)
     requires whole { length block.now ≡ 16 }
@@ -33,7 +39,7 @@ pub fn put_ascii(block: &[u16], out: &mut [u8], at: usize)
     requires ascii { (k : ℕ) → k < 16 → slice_index block.now k < 0x80 }
     ensures { take (at + 16) out.new ≡ take at out.old ++ block.now }
 {
-    // An own array can't overlap the block, so that this is compiled to vectors.
+    // A local array cannot overlap the block, so the compiler vectorizes this loop.
     let mut bytes = [0u8; 16];
     for k in 0..16 {
         bytes[k] = block[k] as u8;
@@ -41,7 +47,11 @@ pub fn put_ascii(block: &[u16], out: &mut [u8], at: usize)
     u8x16::from_slice(&bytes).copy_to_slice(&mut out[at..at + 16]);
 }
 
-/// Whether one of sixteen units is a surrogate.
+/// Returns whether a block of units contains a surrogate.
+///
+/// # Requires
+///
+/// The block has sixteen units.
 #[inline(always)]
 pub fn has_surrogate(block: &[u16]) -> bool
     requires { length block.now ≡ 16 }
@@ -54,7 +64,7 @@ pub fn has_surrogate(block: &[u16]) -> bool
     found
 }
 
-// One bit for each of the first sixteen units whose upper six bits are these, from the lowest on.
+// Returns a bit mask of the first sixteen units: bit k is set if the upper six bits of unit k are `top`.
 #[inline(always)]
 fn bits_of_tops(units: &[u16], top: u16) -> u64
     requires { 16 ≤ length units.now }
@@ -65,7 +75,8 @@ fn bits_of_tops(units: &[u16], top: u16) -> u64
         .to_bitmask()
 }
 
-// Whether sixteen units and one more are paired.
+// Returns whether the surrogates among seventeen units are paired: the first unit is no low surrogate, and each of the
+// first sixteen is a high surrogate exactly if the unit after it is a low one.
 #[inline(always)]
 fn is_paired(units: &[u16]) -> bool
     requires { length units.now ≡ 17 }
@@ -77,7 +88,7 @@ fn is_paired(units: &[u16]) -> bool
     units[0] / 0x400 != 55 && highs == lows
 }
 
-// Whether each other one of sixteen units is a high surrogate, from the first on.
+// Returns whether the units at even indices of a block are high surrogates, and those at odd indices are not.
 #[inline(always)]
 fn are_pairs(block: &[u16]) -> bool
     requires { length block.now ≡ 16 }
@@ -86,7 +97,7 @@ fn are_pairs(block: &[u16]) -> bool
     bits_of_tops(block, 54) == 0x5555
 }
 
-// Writes the text of eight pairs, and answers the place behind it.
+// Writes eight surrogate pairs as UTF-8, four bytes each, and returns the offset after them, in bytes.
 #[inline(always)]
 fn put_pairs(block: &[u16], out: &mut [u8], at: usize) -> usize
     requires whole { length block.now ≡ 16 }
@@ -102,8 +113,10 @@ fn put_pairs(block: &[u16], out: &mut [u8], at: usize) -> usize
     at + 32
 }
 
-// Writes the text of some of sixteen units that are paired, from a place on, by the unit before them. Answers how many units it read and the
-// place behind the text; up to fourteen bytes behind it are overwritten.
+// Writes some of the sixteen units from `from` on as UTF-8. They are paired. The unit before them,
+// if there is one, is read too.
+// Returns how many units were encoded, and the offset in bytes after the text. Up to fourteen bytes after the text may
+// be overwritten.
 #[inline(always)]
 fn put_paired(units: &[u16], from: usize, out: &mut [u8], at: usize) -> (usize, usize)
     requires whole { from + 17 ≤ length units.now }
@@ -123,7 +136,8 @@ fn put_paired(units: &[u16], from: usize, out: &mut [u8], at: usize) -> (usize, 
     put_halves(&window, out, at)
 }
 
-// Writes the text of a front of the units from a place on, of which the first sixteen have surrogates: at most seventeen, up to a fault.
+// Encodes at most seventeen of the units from `from` on, and stops before a fault. It is called if the first sixteen
+// contain a surrogate.
 #[inline(always)]
 fn encode_surrogates(units: &[u16], from: usize, out: &mut [u8], at: usize) -> Step
     requires long { from + 17 ≤ length units.now }
@@ -153,8 +167,14 @@ fn encode_surrogates(units: &[u16], from: usize, out: &mut [u8], at: usize) -> S
     }
 }
 
-/// Writes the text of the characters that the units begin with after the first `at` bytes of `out`, up to a fault or the end. The lengths
-/// read are in units, those written in bytes. Any byte of `out` after the text may be overwritten.
+/// Encodes the units as UTF-8 after the first `at` bytes of `out`. It stops before the first unpaired surrogate or at
+/// the
+/// end. A high surrogate that is the last unit is not read, and is not reported as a fault. `read` counts units, and
+/// `written` is an offset in bytes. Any byte of `out` after the text may be overwritten.
+///
+/// # Requires
+///
+/// `out` has at least `at + 3 * units.len() + 4` bytes.
 pub fn encode(units: &[u16], out: &mut [u8], at: usize) -> Step
     requires { at + 3 * length units.now + 4 ≤ length out.old }
     ensures read { result.read ≤ length units.now }
@@ -198,8 +218,14 @@ pub fn encode(units: &[u16], out: &mut [u8], at: usize) -> Step
     }
 }
 
-/// Writes the text of 16-bit units in UTF-8 (Unicode Standard, D92) to the front of `text`, if they are well formed (D85), and answers how
-/// many bytes it has. The units are read once. Bytes behind the text may be overwritten, and any where the units are not well formed.
+/// Encodes 16-bit units as UTF-8 (Unicode Standard, D92) at the beginning of `text`, and returns the length in bytes.
+/// Returns `None` if the units are ill-formed (D85). The units are read once. Bytes after the text may be overwritten,
+/// and
+/// any byte if the units are ill-formed.
+///
+/// # Requires
+///
+/// `text` has at least `3 * units.len() + 4` bytes.
 pub fn encode_whole(units: &[u16], text: &mut [u8]) -> Option<usize>
     requires room { 3 * length units.now + 4 ≤ length text.old }
     ensures sound { IfSome result (λ len. IsWellFormed Utf16 units.now) }

@@ -1,4 +1,6 @@
-//! The first bytes of units, and which units are below a bound, in lanes.
+//! Computes the UTF-8 bytes of eight UTF-16 units that are characters (Unicode Standard, section 3.9, D92, Table 3-6).
+//! Vectorized: one SIMD lane for each unit. A lane of sixteen bits holds the first two bytes, and another one the
+//! third.
 
 ghost use Rattle.std.specs.Prelude.{◌≡◌, ◌+◌, ◌%◌, ◌<◌, ℕ, slice_index};
 ghost use Rattle.wide_from_utf16.specs.Encoded.{IsFront};
@@ -6,7 +8,7 @@ ghost use Rattle.wide_from_utf16.specs.Narrow.{below_bits};
 
 use std::simd::prelude::*;
 
-/// One bit for each of eight lanes that is below a bound, from the lowest on.
+/// Returns a bit mask of eight lanes: bit k is set if lane k is below the bound.
 #[inline(always)]
 pub(crate) fn lanes_below(lanes: u16x8, bound: u16) -> usize
     ensures { result ≡ below_bits bound lanes }
@@ -14,7 +16,9 @@ pub(crate) fn lanes_below(lanes: u16x8, bound: u16) -> usize
     lanes.simd_lt(u16x8::splat(bound)).to_bitmask() as usize
 }
 
-/// The first two bytes of each of eight units that is below 0x800, low byte first.
+/// Returns the first two UTF-8 bytes of each of eight units that is below 0x800, low byte first. The second byte is 0
+/// if
+/// the unit is ASCII.
 #[inline(always)]
 pub(crate) fn narrow_front_lanes(units: u16x8) -> u16x8
     ensures { (k : ℕ) → k < 8 → slice_index units k < 0x800 → IsFront (slice_index units k) (slice_index result k) }
@@ -24,7 +28,9 @@ pub(crate) fn narrow_front_lanes(units: u16x8) -> u16x8
     units.simd_lt(u16x8::splat(0x80)).select(units, two)
 }
 
-/// The first two bytes of each of eight units that are characters, low byte first.
+/// Returns the first two UTF-8 bytes of each of eight units that are characters, low byte first. The second byte is 0
+/// if
+/// the unit is ASCII.
 #[inline(always)]
 pub(crate) fn front_lanes(units: u16x8) -> u16x8
     ensures { (k : ℕ) → k < 8 → IsFront (slice_index units k) (slice_index result k) }
@@ -35,7 +41,7 @@ pub(crate) fn front_lanes(units: u16x8) -> u16x8
     is_narrow.select(narrow_front_lanes(units), three)
 }
 
-/// The third byte of each of eight units that has three.
+/// Returns the third UTF-8 byte of each of eight units. It belongs to the text only if the unit is at least 0x800.
 #[inline(always)]
 pub(crate) fn back_lanes(units: u16x8) -> u16x8
     ensures { (k : ℕ) → k < 8 → slice_index result k ≡ 0x80 + slice_index units k % 0x40 }

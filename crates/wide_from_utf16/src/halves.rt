@@ -1,4 +1,8 @@
-//! The text of units with surrogate pairs, by shuffles: half of a pair has two bytes of the four.
+//! Converts UTF-16 with surrogate pairs to UTF-8 (Unicode Standard, section 3.9, D91 and D92), sixteen units in one
+//! step.
+//! Vectorized: each surrogate of a pair yields two of the four bytes, so one SIMD lane for each unit suffices. A
+//! look-up
+//! table of shuffles then compresses the bytes.
 
 ghost use Rattle.std.specs.Prelude.{◌≡◌, ◌+◌, ◌*◌, ◌/◌, ◌%◌, ◌≤◌, ◌<◌, ◌++◌, ℕ, slice_index, length, take, drop};
 ghost use Rattle.wide_from_utf16.specs.Encoded.{ArePaired, EncodedUnits};
@@ -8,12 +12,14 @@ use crate::fronts::{back_lanes, front_lanes};
 use crate::wide::put_laid;
 use std::simd::prelude::*;
 
-// As `front_lanes`, of eight units of a paired text, with the unit before each: at half of a pair its two bytes.
+// Returns the first two UTF-8 bytes of each of eight units, low byte first, given the unit before each. A high
+// surrogate
+// yields the first two bytes of its pair, and a low surrogate the last two.
 #[inline(always)]
 fn half_fronts_of(befores: u16x8, units: u16x8) -> u16x8
     ensures { (k : ℕ) → k < 8 → IsHalfFront (slice_index befores k) (slice_index units k) (slice_index result k) }
 {
-    // The sixteenth of the scalar value over 0x40.
+    // The scalar value divided by 0x400.
     let top = units % u16x8::splat(0x400) + u16x8::splat(0x40);
     let second = top / u16x8::splat(4) % u16x8::splat(0x40) * u16x8::splat(0x100);
     let high = u16x8::splat(0x80f0) + top / u16x8::splat(0x100) + second;
@@ -26,7 +32,8 @@ fn half_fronts_of(befores: u16x8, units: u16x8) -> u16x8
     is_half.select(is_low.select(low, high), front_lanes(units))
 }
 
-// Units with as many bytes in a paired text, half of a pair two.
+// Returns keys that select how many bytes each unit yields: the unit itself, or 0x80 for a surrogate, which yields two
+// bytes as a unit from 0x80 up to 0x7FF does.
 #[inline(always)]
 fn half_keys_of(units: u16x8) -> u16x8
     ensures { (k : ℕ) → k < 8 → slice_index result k ≡ half_key (slice_index units k) }
@@ -35,7 +42,8 @@ fn half_keys_of(units: u16x8) -> u16x8
     is_half.select(u16x8::splat(0x80), units)
 }
 
-// Writes the bytes of eight units behind another, and answers the place behind them. Up to twelve bytes behind it are overwritten.
+// Writes the bytes of the last eight of nine units at the offset `at`, and returns the offset after them. Up to twelve
+// bytes after them may be overwritten.
 #[inline(always)]
 fn put_eight_halves(window: &[u16], out: &mut [u8], at: usize) -> usize
     requires whole { length window.now ≡ 9 }
@@ -54,8 +62,17 @@ fn put_eight_halves(window: &[u16], out: &mut [u8], at: usize) -> usize
     )
 }
 
-/// Writes the text of sixteen paired units, which stand behind the first of the window, or of fifteen where the last is a high
-/// surrogate. Answers how many units it read and the place behind the text; up to fourteen bytes behind it are overwritten.
+/// Writes the last sixteen units of the window as UTF-8, or the fifteen before the last one if that is a high
+/// surrogate.
+/// Returns how many units were encoded, and the offset in bytes after the text. Up to fourteen bytes after the text may
+/// be
+/// overwritten.
+///
+/// # Requires
+///
+/// The window has seventeen units. The surrogates from the second unit on are paired, except that the last unit may be
+/// a
+/// high surrogate. `out` has at least 52 bytes from `at` on.
 #[inline(never)]
 pub(crate) fn put_halves(window: &[u16], out: &mut [u8], at: usize) -> (usize, usize)
     requires whole { length window.now ≡ 17 }
@@ -69,7 +86,7 @@ pub(crate) fn put_halves(window: &[u16], out: &mut [u8], at: usize) -> (usize, u
 {
     let half = put_eight_halves(&window[..9], out, at);
     let end = put_eight_halves(&window[8..17], out, half);
-    // The first half of a pair at the end waits for the other.
+    // A high surrogate at the end is not counted: its pair is encoded together with the next unit.
     let cut = usize::from(window[16] / 0x400 == 54);
     (16 - cut, end - 2 * cut)
 }

@@ -1,4 +1,7 @@
-//! Lossy text of 16-bit units by policies that have fewer marks than faults: what is mended, without some of its marks.
+//! Writes lossy UTF-16 under a policy (Unicode Standard, section 3.9, "U+FFFD Substitution of Maximal Subparts").
+//! It retains only some replacement characters of text that has one for each fault. Vectorized: eight units in one
+//! step,
+//! compressed by a look-up table of shuffles.
 
 ghost use Rattle.std.specs.Prelude.{◌≡◌, ◌++◌, ◌∷◌, [], ◌+◌, ◌<◌, ◌≤◌, ℕ, length, slice_index, take, drop, if◌then◌else◌};
 ghost use Rattle.wide_unit.specs.EncodingForm.{Utf16, encode};
@@ -13,7 +16,8 @@ use crate::kept::kept_of;
 use std::simd::prelude::*;
 use wide_unit::Policy;
 
-// Whether a mended unit stays behind another.
+// Returns whether a repaired unit is retained: if the unit was not replaced, or if the policy retains replacement
+// characters and the unit before was not replaced.
 #[inline(always)]
 fn stays(marks: bool, before: u16, mended_before: u16, unit: u16, mended: u16) -> bool
     ensures { result ≡ stays marks before mended_before unit mended }
@@ -21,7 +25,7 @@ fn stays(marks: bool, before: u16, mended_before: u16, unit: u16, mended: u16) -
     unit == mended || (marks && before == mended_before)
 }
 
-// The same of eight units behind the first of nine.
+// Sets lane k of eight to 1 if repaired unit k + 1 of nine is retained, and otherwise to 0.
 #[inline(always)]
 fn stay_lanes(marks: bool, units: &[u16], mended: &[u16], lanes: &mut [u16])
     requires units { length units.now ≡ 9 }
@@ -35,7 +39,7 @@ fn stay_lanes(marks: bool, units: &[u16], mended: &[u16], lanes: &mut [u16])
     }
 }
 
-// One bit for each of those eight, from the lowest on.
+// Returns a bit mask of the last eight of nine repaired units: bit k is set if unit k + 1 is retained.
 #[inline(always)]
 fn stay_bits(marks: bool, units: &[u16], mended: &[u16]) -> usize
     requires units { length units.now ≡ 9 }
@@ -49,7 +53,8 @@ fn stay_bits(marks: bool, units: &[u16], mended: &[u16]) -> usize
     stays.to_bitmask() as usize
 }
 
-// Writes those of eight mended units that stay, and answers the place behind them. The units up to eight places on are overwritten.
+// Writes those of the last eight of nine repaired units that are retained, and returns the index after them. The eight
+// units from `at` on are overwritten.
 #[inline(always)]
 fn put_staying(marks: bool, units: &[u16], mended: &[u16], kept: &mut [u16], at: usize) -> usize
     requires units { length units.now ≡ 9 }
@@ -64,7 +69,7 @@ fn put_staying(marks: bool, units: &[u16], mended: &[u16], kept: &mut [u16], at:
     at + bits.count_ones() as usize
 }
 
-// Writes one mended unit, if it stays.
+// Writes one repaired unit if it is retained, and returns the index after it.
 #[inline(always)]
 fn put_one(stays: bool, mended: u16, kept: &mut [u16], at: usize) -> usize
     requires { at < length kept.old }
@@ -79,7 +84,9 @@ fn put_one(stays: bool, mended: u16, kept: &mut [u16], at: usize) -> usize
     }
 }
 
-// Writes the mended units that stay, behind a fault or not: with one mark for each row of faults, or with none.
+// Writes the repaired units that are retained, and returns how many there are: one replacement character for each run
+// of
+// faults if `marks` is true, and otherwise none. If `after_fault` is true, a fault precedes the units.
 fn keep_behind(
     marks: bool,
     after_fault: bool,
@@ -119,9 +126,15 @@ fn keep_behind(
     at
 }
 
-/// Writes the units of lossy text (Unicode Standard, section 3.9, "U+FFFD Substitution of Maximal Subparts") by a policy, behind a fault
-/// or not, to the front of `kept`, and answers how many they are. `mended` is the same text with a U+FFFD for each fault. What stands
-/// behind the answer's units may be overwritten.
+/// Writes the lossy text of units (Unicode Standard, section 3.9, "U+FFFD Substitution of Maximal Subparts") under a
+/// policy
+/// to the beginning of `kept`, and returns its length in units. If `after_fault` is true, a fault precedes the units.
+/// The
+/// units of `kept` after the text may be overwritten.
+///
+/// # Requires
+///
+/// `mended` is the text of `units` with a U+FFFD for each fault. `kept` is at least as long as `units`.
 pub fn lossy_units(
     units: &[u16],
     mended: &[u16],
@@ -144,7 +157,9 @@ pub fn lossy_units(
     }
 }
 
-/// Whether lossy text has a U+FFFD for a fault, by its policy and by whether another fault stands right before.
+/// Returns whether lossy text under this policy has a U+FFFD for a fault. If `after_fault` is true, another fault
+/// directly
+/// precedes it.
 #[inline(always)]
 pub fn is_marked(policy: Policy, after_fault: bool) -> bool
     ensures { (unit : ℕ) → lossy_after policy after_fault (Fault unit ∷ []) ≡ (if result then 0xFFFD ∷ [] else []) }

@@ -1,4 +1,5 @@
-//! Some of eight lanes, kept by a shuffle.
+//! Compresses SIMD lanes: moves the selected lanes of eight to the beginning, by a shuffle from a look-up table.
+//! Part of the conversion of UTF-16 (Unicode Standard, section 3.9).
 
 ghost use Rattle.std.specs.Prelude.{◌≡◌, ◌<◌, ℕ, slice_index, take};
 ghost use Rattle.std.specs.Int.RustNames.{count_ones};
@@ -6,8 +7,9 @@ ghost use Rattle.wide_from_utf16.specs.Kept.{kept_lanes};
 
 use std::simd::prelude::*;
 
-// By which of eight lanes are kept, one bit for each from the lowest on: where their bytes stand among two for each lane. Those of the
-// first lane follow, as often as there is place.
+// For each bit mask of eight lanes, the byte indices of a shuffle that moves the selected lanes to the beginning, two
+// bytes
+// for each lane. The rest of each row is filled with the bytes of the first lane.
 const KEPT_PLACES: [[u8; 16]; 256] = [
     [0, 1, 0, 1, 0, 1, 0, 1, 0, 1, 0, 1, 0, 1, 0, 1],
     [0, 1, 0, 1, 0, 1, 0, 1, 0, 1, 0, 1, 0, 1, 0, 1],
@@ -267,7 +269,11 @@ const KEPT_PLACES: [[u8; 16]; 256] = [
     [0, 1, 2, 3, 4, 5, 6, 7, 8, 9, 10, 11, 12, 13, 14, 15],
 ];
 
-/// Those of eight lanes whose bits are set, and behind them any of the eight.
+/// Returns the lanes whose bits are set, in order, followed by copies of any of the eight lanes.
+///
+/// # Requires
+///
+/// `bits` is below 256.
 #[inline(always)]
 pub fn kept_of(lanes: u16x8, bits: usize) -> u16x8
     requires below { bits < 256 }

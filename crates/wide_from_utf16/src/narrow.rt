@@ -1,4 +1,5 @@
-//! The text of units below 0x800, which have a byte or two, by shuffles.
+//! Converts UTF-16 units below 0x800 to UTF-8 (Unicode Standard, section 3.9, D92), one or two bytes for each unit.
+//! Vectorized: SIMD lanes compute two bytes for each unit, and a look-up table of shuffles compresses them.
 
 ghost use Rattle.std.specs.Prelude.{◌≡◌, ◌+◌, ◌*◌, ◌≤◌, ◌<◌, ◌++◌, ℕ, List, slice_index, length, take};
 ghost use Rattle.wide_from_utf16.specs.Encoded.{EncodedUnits};
@@ -7,8 +8,8 @@ ghost use Rattle.wide_from_utf16.specs.Narrow.{IsPair, below_bits, kept};
 use crate::fronts::{lanes_below, narrow_front_lanes};
 use std::simd::prelude::*;
 
-// By which of eight units are ASCII, one bit for each from the lowest on: where the bytes of their text stand among two for each unit.
-// What follows those is arbitrary.
+// For each bit mask of the ASCII units among eight, the byte indices of a shuffle that compresses their UTF-8: it drops
+// the second byte of each ASCII unit. The rest of each row is arbitrary.
 const PLACES: [[u8; 16]; 256] = [
     [0, 1, 2, 3, 4, 5, 6, 7, 8, 9, 10, 11, 12, 13, 14, 15],
     [0, 2, 3, 4, 5, 6, 7, 8, 9, 10, 11, 12, 13, 14, 15, 0],
@@ -268,8 +269,8 @@ const PLACES: [[u8; 16]; 256] = [
     [0, 2, 4, 6, 8, 10, 12, 14, 0, 0, 0, 0, 0, 0, 0, 0],
 ];
 
-// Writes the text of eight units, whose bytes stand two and two, by one bit for each that is ASCII, and answers the place behind it. Up to
-// eight bytes behind it are overwritten.
+// Writes the UTF-8 of eight units at the offset `at`, and returns the offset after it. `pairs` holds two bytes for each
+// unit, and bit k of `ascii` is set if unit k is ASCII. Up to eight bytes after the text may be overwritten.
 #[inline(always)]
 fn put_pair_bytes(pairs: u8x16, ascii: usize, out: &mut [u8], at: usize) -> usize
     requires below { ascii < 256 }
@@ -284,7 +285,7 @@ fn put_pair_bytes(pairs: u8x16, ascii: usize, out: &mut [u8], at: usize) -> usiz
     at + (16 - ascii.count_ones() as usize)
 }
 
-// The bytes of the fronts of eight units below 0x800, two and two.
+// Returns two UTF-8 bytes for each of eight units below 0x800.
 #[inline(always)]
 fn pairs_of(units: u16x8) -> u8x16
     requires narrow { (k : ℕ) → k < 8 → slice_index units k < 0x800 }
@@ -293,7 +294,8 @@ fn pairs_of(units: u16x8) -> u8x16
     narrow_front_lanes(units).to_le_bytes()
 }
 
-// Writes the text of eight units below 0x800, and answers the place behind it. Up to eight bytes behind it are overwritten.
+// Writes eight units below 0x800 as UTF-8, and returns the offset in bytes after them. Up to eight bytes after them may
+// be overwritten.
 #[inline(always)]
 fn put_eight(units: &[u16], out: &mut [u8], at: usize) -> usize
     requires whole { length units.now ≡ 8 }
@@ -306,7 +308,13 @@ fn put_eight(units: &[u16], out: &mut [u8], at: usize) -> usize
     put_pair_bytes(pairs_of(lanes), lanes_below(lanes, 0x80), out, at)
 }
 
-/// Writes the text of sixteen units below 0x800, and answers the place behind it. Up to eight bytes behind it are overwritten.
+/// Writes sixteen units below 0x800 as UTF-8 at the offset `at`, and returns the offset in bytes after them. Up to
+/// eight
+/// bytes after them may be overwritten.
+///
+/// # Requires
+///
+/// The block has sixteen units, all below 0x800. `out` has at least 32 bytes from `at` on.
 #[inline(always)]
 pub fn put_narrow(block: &[u16], out: &mut [u8], at: usize) -> usize
     requires whole { length block.now ≡ 16 }

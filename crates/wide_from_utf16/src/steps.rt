@@ -1,22 +1,27 @@
-//! The text of units, one by one.
+//! Converts UTF-16 to UTF-8 (Unicode Standard, section 3.9, D91 and D92), one character in one step.
+//! Scalar code: the vectorized conversion uses it for the units that remain, and for units that are not paired.
 
 ghost use Rattle.std.specs.Prelude.{◌≡◌, ◌+◌, ◌*◌, ◌-◌, ◌/◌, ◌%◌, ◌≤◌, ◌<◌, ◌++◌, ◌∷◌, [], length, take, drop};
 ghost use Rattle.wide_unit.specs.Utf8.{utf8_bytes};
 ghost use Rattle.wide_from_utf16.specs.Encoded.{EncodedUnits, StopsBefore, high_word, low_word};
 
-/// How far encoding came: what it read, in units or in bytes as the function tells, the place behind the text in bytes, and
-/// the fault at which it stopped.
+/// How far a conversion came: how much it read, where the output ends, and the fault at which it stopped. Each function
+/// says whether it counts what it read in units or in bytes.
 #[derive(Clone, Copy, Debug)]
 pub struct Step {
-    /// How much was read.
+    /// How much was read, in units or in bytes.
     pub read: usize,
-    /// The place behind the text, in bytes.
+    /// The offset after the text that was written, in bytes.
     pub written: usize,
-    /// The fault at which it stopped.
+    /// The fault at which it stopped, or `None` if it stopped at no fault.
     pub fault: Option<u16>,
 }
 
-/// Writes the bytes of a unit that is a character, and answers the place behind them.
+/// Writes a unit that is a character as UTF-8 at the offset `at`, and returns the offset in bytes after it.
+///
+/// # Requires
+///
+/// `out` has at least 3 bytes from `at` on.
 #[inline(always)]
 pub fn put_unit(out: &mut [u8], at: usize, unit: u16) -> usize
     requires { at + 3 ≤ length out.old }
@@ -39,20 +44,24 @@ pub fn put_unit(out: &mut [u8], at: usize, unit: u16) -> usize
     }
 }
 
-/// Stores the four bytes of a number, low byte first.
+/// Writes the four bytes of a number at the offset `at`, low byte first.
+///
+/// # Requires
+///
+/// `out` has at least 4 bytes from `at` on.
 #[inline(always)]
 pub fn put_word(out: &mut [u8], at: usize, word: u32)
     requires { at + 4 ≤ length out.old }
     ensures { take (at + 4) out.new ≡ take at out.old ++ (word % 0x100) ∷ (word / 0x100 % 0x100) ∷ (word / 0x10000 % 0x100) ∷ (word / 0x1000000) ∷ [] }
 {
-    // `copy_from_slice` would ask whether the two overlap.
+    // `copy_from_slice` would check whether the two slices overlap.
     out[at] = (word % 0x100) as u8;
     out[at + 1] = (word / 0x100 % 0x100) as u8;
     out[at + 2] = (word / 0x10000 % 0x100) as u8;
     out[at + 3] = (word / 0x1000000) as u8;
 }
 
-/// Two halves as one number.
+/// Joins two 16-bit numbers into one of 32 bits: `front` is the lower half, and `back` the upper half.
 #[inline(always)]
 pub(crate) fn join(front: u16, back: u16) -> u32
     ensures { result ≡ front + back * 0x10000 }
@@ -60,17 +69,17 @@ pub(crate) fn join(front: u16, back: u16) -> u32
     u32::from(front) + u32::from(back) * 0x10000
 }
 
-/// The first two bytes of a pair, by its high surrogate, low byte first.
+/// Returns the first two UTF-8 bytes of a surrogate pair, low byte first. They depend on the high surrogate only.
 #[inline(always)]
 pub(crate) fn high_word_of(high: u16) -> u16
     ensures { result ≡ high_word high }
 {
-    // The sixteenth of the scalar value over 0x40.
+    // The scalar value divided by 0x400.
     let top = high % 0x400 + 0x40;
     0x80f0 + top / 0x100 + top / 4 % 0x40 * 0x100
 }
 
-/// The last two bytes of a pair, low byte first.
+/// Returns the last two UTF-8 bytes of a surrogate pair, low byte first.
 #[inline(always)]
 pub(crate) fn low_word_of(high: u16, low: u16) -> u16
     ensures { result ≡ low_word high low }
@@ -78,7 +87,11 @@ pub(crate) fn low_word_of(high: u16, low: u16) -> u16
     0x8080 + high % 4 * 0x10 + low / 0x40 % 0x10 + low % 0x40 * 0x100
 }
 
-/// Writes the bytes of the character of a pair, and answers the place behind them.
+/// Writes the character of a surrogate pair as UTF-8 at the offset `at`, and returns the offset in bytes after it.
+///
+/// # Requires
+///
+/// `high` is a high surrogate and `low` a low one. `out` has at least 4 bytes from `at` on.
 #[inline(always)]
 pub(crate) fn put_pair(out: &mut [u8], at: usize, high: u16, low: u16) -> usize
     requires room { at + 4 ≤ length out.old }
@@ -93,8 +106,14 @@ pub(crate) fn put_pair(out: &mut [u8], at: usize, high: u16, low: u16) -> usize
     at + 4
 }
 
-/// Writes the text of the characters that the units begin with behind the first `at` bytes of `out`, up to a fault or the end. Units
-/// are counted.
+/// Encodes the units as UTF-8 after the first `at` bytes of `out`. It stops before the first unpaired surrogate or at
+/// the
+/// end. A high surrogate that is the last unit is not read, and is not reported as a fault. `read` counts units, and
+/// `written` is an offset in bytes.
+///
+/// # Requires
+///
+/// `out` has at least `at + 3 * units.len() + 4` bytes.
 pub(crate) fn encode_plain(units: &[u16], out: &mut [u8], at: usize) -> Step
     requires { at + 3 * length units.now + 4 ≤ length out.old }
     ensures read { result.read ≤ length units.now }

@@ -1,4 +1,7 @@
-//! The text of units that are characters, of one to three bytes, by shuffles.
+//! Converts UTF-16 units that are characters, of one to three UTF-8 bytes (Unicode Standard, section 3.9, D92).
+//! Vectorized: SIMD lanes compute four bytes for each unit, and a look-up table of shuffles compresses them, four units
+//! at
+//! a time.
 
 ghost use Rattle.std.specs.Prelude.{◌≡◌, ◌+◌, ◌*◌, ◌≤◌, ◌<◌, ◌++◌, ℕ, slice_index, length, take};
 ghost use Rattle.wide_from_utf16.specs.Encoded.{EncodedUnits};
@@ -7,9 +10,12 @@ ghost use Rattle.wide_from_utf16.specs.Wide.{HoldsWord, Size, kept_bytes, laid, 
 use crate::fronts::{back_lanes, front_lanes};
 use std::simd::prelude::*;
 
-// By how many bytes each of four units has, two bits each from the lowest on, of which both are set for one byte, the second for two
-// bytes, and none for three: where the bytes of their text stand among four for each unit. What follows those is arbitrary. No unit sets its
-// first bit alone, so rows whose number does are arbitrary too, and not read.
+// For the lengths of four units, the byte indices of a shuffle that compresses their UTF-8, which takes up four bytes
+// for
+// each unit. The row number has two bits for each unit, from the lowest on: both are set for one byte, the second for
+// two
+// bytes, and none for three. The rest of each row is arbitrary. No unit sets its first bit alone, so the rows whose
+// numbers do are arbitrary too, and never read.
 const ROWS: [[u8; 16]; 256] = [
     [0, 1, 2, 4, 5, 6, 8, 9, 10, 12, 13, 14, 0, 0, 0, 0],
     [0, 0, 0, 0, 0, 0, 0, 0, 0, 0, 0, 0, 0, 0, 0, 0],
@@ -269,7 +275,7 @@ const ROWS: [[u8; 16]; 256] = [
     [0, 4, 8, 12, 0, 0, 0, 0, 0, 0, 0, 0, 0, 0, 0, 0],
 ];
 
-// How many bytes that text has; 0 in a row that is not read.
+// The length in bytes of the text that each row of `ROWS` yields, or 0 for a row that is never read.
 const ROW_LENS: [usize; 256] = [
     12, 0, 11, 10, 0, 0, 0, 0, 11, 0, 10, 9, 10, 0, 9, 8, 0, 0, 0, 0, 0, 0, 0, 0, 0, 0, 0, 0, 0, 0,
     0, 0, 11, 0, 10, 9, 0, 0, 0, 0, 10, 0, 9, 8, 9, 0, 8, 7, 10, 0, 9, 8, 0, 0, 0, 0, 9, 0, 8, 7,
@@ -282,8 +288,11 @@ const ROW_LENS: [usize; 256] = [
     0, 6, 5, 6, 0, 5, 4,
 ];
 
-// Two bits for each of eight units, in the upper bits of the two bytes of its lane: both are set if its text has one byte, and the second if
-// it has two. So one mask of all sixteen bytes has the rows of both fours.
+// Returns two bits for each of eight units, in the upper bits of the two bytes of its lane: both are set if the unit
+// has
+// one byte in UTF-8, and the second if it has two. So the upper bits of all sixteen bytes are the row numbers of the
+// first
+// four units and of the last four.
 #[inline(always)]
 fn marks_of(keys: u16x8) -> u16x8
     ensures { (k : ℕ) → k < 8 → slice_index result k ≡ mark_of (slice_index keys k) }
@@ -294,7 +303,7 @@ fn marks_of(keys: u16x8) -> u16x8
     is_ascii.select(u16x8::splat(0xffff), narrow)
 }
 
-// The rows of the first four of eight units and of the last four.
+// Returns the row numbers in `ROWS` of the first four of eight units and of the last four.
 #[inline(always)]
 fn rows_of(keys: u16x8) -> (usize, usize)
     ensures first { result.0 ≡ row_at keys 0 }
@@ -305,8 +314,9 @@ fn rows_of(keys: u16x8) -> (usize, usize)
     (bits % 0x100, bits / 0x100)
 }
 
-// Writes the text of four units whose bytes stand in four lanes each, by their row, and answers the place behind it. Up to twelve bytes
-// behind it are overwritten.
+// Writes the UTF-8 of four units at the offset `at`, given the number of their row in `ROWS`, and returns the offset
+// after
+// it. `words` holds four bytes for each unit. Up to twelve bytes after the text may be overwritten.
 #[inline(always)]
 fn put_row(words: u8x16, row: usize, out: &mut [u8], at: usize) -> usize
     requires below { row < 256 }
@@ -321,7 +331,9 @@ fn put_row(words: u8x16, row: usize, out: &mut [u8], at: usize) -> usize
     at + ROW_LENS[row]
 }
 
-// The bytes of the fronts and backs of eight units, four and four.
+// Returns four bytes for each of eight units, from the first two bytes in `fronts` and the third in `backs`: those of
+// the
+// first four units, and those of the last four.
 #[inline(always)]
 fn words_of(fronts: u16x8, backs: u16x8) -> (u8x16, u8x16)
     ensures low { (k : ℕ) → k < 4 → HoldsWord result.0 (4 * k) (slice_index fronts k) (slice_index backs k) }
@@ -332,8 +344,14 @@ fn words_of(fronts: u16x8, backs: u16x8) -> (u8x16, u8x16)
     (low.to_le_bytes(), high.to_le_bytes())
 }
 
-/// Writes the first bytes of eight fronts and backs, for each as many as the text of its key has, and answers the place behind them. Up to
-/// twelve bytes behind it are overwritten.
+/// Writes the first one to three of the bytes in `fronts` and `backs` for each of eight units, and returns the offset
+/// in
+/// bytes after them. The number is the UTF-8 length of the unit's key, as if that was a character. Up to twelve bytes
+/// after them may be overwritten.
+///
+/// # Requires
+///
+/// `out` has at least 28 bytes from `at` on.
 #[inline(always)]
 pub(crate) fn put_laid(keys: u16x8, fronts: u16x8, backs: u16x8, out: &mut [u8], at: usize) -> usize
     requires room { at + 28 ≤ length out.old }
@@ -346,7 +364,8 @@ pub(crate) fn put_laid(keys: u16x8, fronts: u16x8, backs: u16x8, out: &mut [u8],
     put_row(high, second, out, half)
 }
 
-// Writes the text of eight units, and answers the place behind it. Up to twelve bytes behind it are overwritten.
+// Writes eight units that are characters as UTF-8, and returns the offset in bytes after them. Up to twelve bytes after
+// them may be overwritten.
 #[inline(always)]
 fn put_eight_words(units: &[u16], out: &mut [u8], at: usize) -> usize
     requires whole { length units.now ≡ 8 }
@@ -359,7 +378,13 @@ fn put_eight_words(units: &[u16], out: &mut [u8], at: usize) -> usize
     put_laid(lanes, front_lanes(lanes), back_lanes(lanes), out, at)
 }
 
-/// Writes the text of sixteen units without surrogates, and answers the place behind it. Up to twelve bytes behind it are overwritten.
+/// Writes sixteen units without surrogates as UTF-8 at the offset `at`, and returns the offset in bytes after them. Up
+/// to
+/// twelve bytes after them may be overwritten.
+///
+/// # Requires
+///
+/// The block has sixteen units, none of them a surrogate. `out` has at least 52 bytes from `at` on.
 #[inline(always)]
 pub fn put_wide(block: &[u16], out: &mut [u8], at: usize) -> usize
     requires whole { length block.now ≡ 16 }
