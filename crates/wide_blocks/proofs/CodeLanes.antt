@@ -1,4 +1,4 @@
--- The codes of characters at neighbouring places, computed in lanes.
+-- The scalar values at adjacent bytes, computed in SIMD lanes.
 use Rattle.std.proofs.Common.{◌≡◌, ℕ, zero, suc, ◌+◌, ◌-◌, ◌*◌, ◌/◌, ◌%◌, ◌^◌, ◌<◌, ◌≤◌, Bool, cond, ltb, not, eqb, inl, inr, List, [], ◌∷◌, length, get_or, map, replicate, take, drop, bit_and, w8, refl, sym, ap, ◌∙◌, arith, length-take}
 use Rattle.std.proofs.lemmas.Bool.{cases_lt, lt-ltb, le-ltb}
 use Rattle.std.proofs.lemmas.Bool.Decides.{eqb_tells}
@@ -8,7 +8,7 @@ use lib.Lanes.{mask_l, sel_l, top, zip2}
 use Rattle.wide_blocks.specs.Mixed.{begins, code_of, codes_at, lead_bits}
 use Rattle.wide_blocks.proofs.MixedFronts.{begins-low, begins-lead, begins-trails}
 
--- ---- the codes
+-- ---- the scalar values
 
 abbrev below : ℕ → List ℕ → List ℕ → List Bool
 below n xs ys = map (top 15) (zip2 (λ a b. cond (ltb a b) (2 ^ 16 - 1) 0) xs ys)

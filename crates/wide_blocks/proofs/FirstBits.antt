@@ -1,4 +1,4 @@
--- Which of sixteen lanes is the first that passes a test, and what the lanes before it are.
+-- Which of sixteen SIMD lanes is the first that passes a test, and what holds for the lanes before it.
 use Rattle.std.proofs.Common.{◌≡◌, ◌≢◌, ℕ, ◌%◌, ◌/◌, ◌*◌, ◌^◌, ◌-◌, ◌<◌, ◌≤◌, Bool, true, false, cond, not, eqb, List, length, get_or, map, replicate, bit_and, sym, ap, ◌∙◌, subst, arith, w8, take, length-take, get_or-take}
 use Rattle.std.specs.List.{prefix_len}
 use Rattle.std.proofs.lemmas.Bool.{eqb-true, leb-false, leb-true, not-false, not-true}
@@ -11,7 +11,7 @@ use lib.Dec.{leb}
 use lib.Lanes.{mask_l, top, zip2}
 use Rattle.wide_blocks.specs.Decoded.{LeadsThree}
 
--- one bit for each lane that passes
+-- One bit for each lane, set if the lane passes.
 abbrev pub bits_of : (ℕ → ℕ → Bool) → List ℕ → List ℕ → ℕ
 bits_of test xs ys = mask_l (map (top 7) (zip2 (λ a b. cond (test a b) (2 ^ 8 - 1) 0) xs ys)) % 2 ^ 64
 
@@ -52,7 +52,7 @@ module _ (test : ℕ → ℕ → Bool) (xs ys : List ℕ) (long : length xs ≡ 
         let stops = not-false _ (prefix_len_stops (λ b. not b) (zip2 test xs ys) false (omega (arith, less, first-is, tests-long))) in
         sym (get_or-zip2 test xs ys place 0 0 false (omega (arith, long, less)) (omega (arith, as_long, less))) ∙ ap (λ k. get_or (zip2 test xs ys) k false) first-is ∙ stops
 
--- ---- bytes from a bound on
+-- ---- bytes that are not below a bound
 
 module _ (bound : ℕ) (bs : List ℕ) (k : ℕ) (within : k < 16) where
   bound-is : get_or (replicate 16 bound) k 0 ≡ bound

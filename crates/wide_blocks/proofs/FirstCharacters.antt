@@ -9,7 +9,7 @@ use Rattle.wide_unit.specs.Utf8.{utf8_bytes, trailing_byte}
 use Rattle.wide_unit.specs.Laws.Forms.{ranges}
 use Rattle.wide_unit.specs.Laws.Utf8.{one_byte, two_bytes, three_bytes, four_bytes, utf8_bytes-encode_utf8}
 
--- some bytes are a character's
+-- The bytes begin with those of a character.
 starts : (bs bytes rest : List ℕ) (c n : ℕ) → bs ≡ bytes ++ rest → bytes ≡ utf8_bytes c → n ≡ length bytes → 0 < n → IsUtf8 rest → StartsWithChar bs c n
 starts bs bytes rest c n joined is long some text =
     let behind : drop n bs ≡ rest = ap (λ m. drop m bs) long ∙ ap (drop (length bytes)) joined ∙ drop-append_seam bytes rest in
@@ -51,14 +51,14 @@ shape bs text some = by text.0 text.1.0 text.1.1
 abbrev pub Trails : ℕ → Type 0
 Trails b = (0x80 ≤ b) × (b < 0xC0)
 
--- no character begins with a continuation byte, and the other bytes of one are such
+-- No character begins with a continuation byte, and all its other bytes are continuation bytes.
 pub record FirstBytes (bs : List ℕ) : Type 0 where
   pub leads : 0x80 ≤ get_or bs 0 0 → 0xC0 ≤ get_or bs 0 0
   pub second : 0x80 ≤ get_or bs 0 0 → Trails (get_or bs 1 0)
   pub third : 0xE0 ≤ get_or bs 0 0 → Trails (get_or bs 2 0)
   pub low : get_or bs 0 0 < 0xF5
 
--- the scalar value is read off the bytes
+-- The scalar value is computed from the bytes.
 named : (bs : List ℕ) (c v n : ℕ) → IsScalar c → v ≡ c → StartsWithChar bs c n → IsScalar v × StartsWithChar bs v n
 named bs c v n scalar same first = subst (λ w. IsScalar w × StartsWithChar bs w n) (sym same) (scalar, first)
 
@@ -112,7 +112,7 @@ module _ (bs : List ℕ) (text : IsUtf8 bs) (some : 0 < length bs) where
       by (three c rest scalar tail from below same) = absurd (omega (arith, byte same 0, high, below))
       by (four c rest scalar tail from below same) = omega (arith, byte same 0, byte same 1, byte same 2, byte same 3, from, below)
 
-  -- how many bytes there are at least
+  -- The least number of bytes.
   pub wide : (0x80 ≤ get_or bs 0 0 → 1 < length bs) × (0xE0 ≤ get_or bs 0 0 → 2 < length bs) × (0xF0 ≤ get_or bs 0 0 → 3 < length bs)
   wide = by (shape bs text some)
     where
@@ -122,7 +122,7 @@ module _ (bs : List ℕ) (text : IsUtf8 bs) (some : 0 < length bs) where
       by (three c rest scalar tail from below same) = (λ high. omega (arith, ap length same), λ high. omega (arith, ap length same), λ high. absurd (omega (arith, byte same 0, high, below)))
       by (four c rest scalar tail from below same) = (λ high. omega (arith, ap length same), λ high. omega (arith, ap length same), λ high. omega (arith, ap length same))
 
-  -- what its bytes are
+  -- What holds for its bytes.
   pub parts : FirstBytes bs
   parts = by (shape bs text some)
     where

@@ -1,4 +1,4 @@
--- The character or ill-formed part that bytes begin with: the Standard's Table 3-7 and D93b.
+-- The character or fault that bytes begin with: the Standard's Table 3-7 and D93b.
 use Rattle.std.proofs.Common.{◌≡◌, ℕ, zero, suc, ◌+◌, ◌-◌, ◌*◌, ◌/◌, ◌%◌, ◌<◌, ◌≤◌, List, [], ◌∷◌, ◌++◌, Bool, true, false, ◌&&◌, length, get_or, take, drop, refl, sym, ap, ◌∙◌, subst, arith, ◌≢◌}
 use Rattle.std.specs.Char.{IsScalar}
 use Rattle.std.specs.Int.{is_in_range}
@@ -13,7 +13,7 @@ use Rattle.wide_unit.specs.Laws.Utf8.{one_byte}
 use Rattle.wide_blocks.specs.Parts.{AreUtf8Items, BeginsWith, character, part, utf8_items, utf8_items-divide, utf8_items-unique}
 use Rattle.wide_blocks.proofs.ValidFronts.{bytes-two, bytes-three, bytes-four}
 
--- Of any bytes
+-- For any bytes.
 begins-character : (bs : List ℕ) (c n : ℕ) → IsScalar c → take n bs ≡ utf8_bytes c → BeginsWith bs (Char c) n
 begins-character bs c n scalar is =
     let rest = drop n bs in
@@ -25,7 +25,7 @@ begins-part bs n some none is =
     let rest = drop (utf8_invalid_len bs) bs in
     utf8_items-unique bs _ _ (utf8_items-divide bs) (part bs (utf8_items rest) some none (utf8_items-divide rest)) ∙ ap (λ k. Fault (get_or bs 0 0) ∷ utf8_items (drop k bs)) is
 
--- a byte that may stand behind the first one, as std has it
+-- A byte that may follow the first one, as std defines it.
 abbrev pub may_follow : ℕ → ℕ → Bool
 may_follow x y = is_in_range 0xC2 0xF4 x && is_in_range (second_byte_min x) (second_byte_max x) y
 
@@ -43,7 +43,7 @@ follows x y may = record {
   four = (λ is. grind (arith, nat_tests), λ is. grind (arith, nat_tests));
 }
 
--- the first bytes, where the last of them is not the zero that stands for a byte behind the end
+-- The first bytes, if the last of them is not the zero that is read after the end.
 front-one : (bs : List ℕ) → 0 < length bs → take 1 bs ≡ get_or bs 0 0 ∷ []
 front-one [] some = absurd (omega arith)
 front-one (x ∷ bs) some = refl

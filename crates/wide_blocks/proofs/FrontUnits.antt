@@ -1,4 +1,4 @@
--- Text cut behind a front of its characters: the units of the front, and those of the rest.
+-- Text that is split after a prefix of its characters: the units of the prefix, and those of the rest.
 use Rattle.std.proofs.Common.{◌≡◌, ℕ, zero, suc, ◌+◌, ◌-◌, ◌*◌, ◌<◌, ◌≤◌, List, [], ◌∷◌, ◌++◌, length, get_or, take, drop, refl, sym, ap, ◌∙◌, subst, arith, append_assoc, get_or-take, length-append, length-drop, length-take}
 use Rattle.std.specs.Char.{IsScalar}
 use Rattle.std.specs.Str.{IsUtf8}
@@ -11,12 +11,12 @@ use Rattle.wide_blocks.specs.Decoded.{IsDecoded, LeadsThree, code_of_four, code_
 use Rattle.wide_blocks.proofs.StoredUnits.{one_unit-plain}
 use Rattle.wide_unit.specs.EncodingForm.{EncodingForm, code_units, encode}
 
--- the units of the text are those of a front of it and of the rest
+-- The units of the text are `us` and the units of the text from `place` on.
 pub record IsFrontUnits (form : EncodingForm) (bs : List ℕ) (place : ℕ) (us : List ℕ) : Type 0 where
   pub units : encode form (str_chars bs) ≡ us ++ encode form (str_chars (drop place bs))
   pub rest : IsUtf8 (drop place bs)
 
--- what is behind a front, as a slice of the whole
+-- What is after a prefix, as a slice of the whole.
 pub behind-is : {X : Type 0} (xs : List X) (n : ℕ) → take (length xs - n) (drop n xs) ≡ drop n xs
 behind-is xs n = take_all (length xs - n) (drop n xs) (omega (arith, length-drop n xs))
 
@@ -35,7 +35,7 @@ module _ (form : EncodingForm) where
   pub front_units-char : (bs : List ℕ) (c n : ℕ) → IsUtf8 bs → StartsWithChar bs c n → IsFrontUnits form bs n (code_units form c)
   front_units-char bs c n text first = record { units = ap (λ cs. encode form cs) (chars_past_char bs (drop n bs) c text first.0); rest = first.4 }
 
-  -- ASCII characters are their own units
+  -- ASCII characters are their own units.
   pub front_units-ascii : (n : ℕ) (bs : List ℕ) → IsUtf8 bs → n ≤ length bs → ((k : ℕ) → k < n → get_or bs k 0 < 0x80) → IsFrontUnits form bs n (take n bs)
   front_units-ascii zero bs text within ascii = front_units-none bs text
   front_units-ascii (suc n) [] text within ascii = absurd (omega arith)
@@ -45,7 +45,7 @@ module _ (form : EncodingForm) where
       let more = front_units-ascii n bs first.rest (omega arith) (λ k before. ascii (suc k) (omega arith)) in
       record { units = first.units ∙ ap (λ us. us ++ encode form (str_chars bs)) (one_unit-plain form b (omega arith)) ∙ ap (λ us. b ∷ us) more.units; rest = more.rest }
 
-  -- characters of three bytes each
+  -- Characters of three bytes each.
   pub front_units-threes : (m n : ℕ) (bs : List ℕ) → IsUtf8 bs → n ≡ 3 * m → ((k : ℕ) → k < m → LeadsThree (get_or bs (3 * k) 0)) → IsFrontUnits form bs n (take m (codes_of_three bs)) × ((k : ℕ) → k < m → IsScalar (get_or (codes_of_three bs) k 0))
   front_units-threes zero n bs text long leading = (subst (λ p. IsFrontUnits form bs p []) {x = 0} {y = n} (omega arith) (front_units-none bs text), λ k before. absurd (omega arith))
   front_units-threes (suc m) n [] text long leading = (let lead = leading 0 (omega arith) in absurd (omega (arith, lead.0)))
@@ -67,7 +67,7 @@ module _ (form : EncodingForm) where
       scalars v vs m first more zero before = first
       scalars v vs m first more (suc k) before = more k (omega arith)
 
-  -- what the units of a front make of the units before
+  -- What appending the units of a prefix does to the units before.
   pub joined : (bs before after us : List ℕ) (n : ℕ) → after ≡ before ++ us → IsFrontUnits form bs n us → IsDecoded form bs n before after
   joined bs before after us n more front =
       let rest = encode form (str_chars (drop n bs)) in
@@ -88,14 +88,14 @@ module _ (form : EncodingForm) where
         rest = subst (λ ds. IsUtf8 ds) rest back.rest;
       }
 
-  -- one character, and some ASCII characters
+  -- One character, and some ASCII characters.
   pub decoded-char : (bs before after : List ℕ) (c n : ℕ) → IsUtf8 bs → StartsWithChar bs c n → after ≡ before ++ code_units form c → IsDecoded form bs n before after
   decoded-char bs before after c n text first more = joined bs before after (code_units form c) n more (front_units-char bs c n text first)
 
   pub decoded-ascii : (bs before after : List ℕ) (n : ℕ) → IsUtf8 bs → n ≤ length bs → ((k : ℕ) → k < n → get_or bs k 0 < 0x80) → after ≡ before ++ take n bs → IsDecoded form bs n before after
   decoded-ascii bs before after n text within ascii more = joined bs before after (take n bs) n more (front_units-ascii n bs text within ascii)
 
--- behind the first characters of four bytes stands the next
+-- After the first characters of four bytes, the next one begins.
 module _ (bs : List ℕ) (k : ℕ) (within : k < 4) (long : 16 ≤ length bs) where
   abbrev rest : List ℕ
   rest = take (length bs - 4 * k) (drop (4 * k) bs)
@@ -116,7 +116,7 @@ module _ (bs : List ℕ) (k : ℕ) (within : k < 4) (long : 16 ≤ length bs) wh
       let read = in_four rest text some led in
       subst (λ v. IsScalar v × StartsWithChar rest v 4 × (0x1_0000 ≤ v)) same (read.0, read.1, four-from rest text some led)
 
--- behind a front there is room for the next character, where there is room for all
+-- After a prefix there is space for the next character, if there is space for all.
 pub decoded-next : (form : EncodingForm) (bs us rest : List ℕ) (n c m : ℕ) → IsDecoded form bs n [] us → rest ≡ drop n bs → IsUtf8 rest → StartsWithChar rest c m → length us + length (code_units form c) ≤ length (encode form (str_chars bs))
 decoded-next form bs us rest n c m front is text first =
     let behind = encode form (str_chars (drop n bs)) in

@@ -1,4 +1,4 @@
--- Lossy text of units, characters and the fault behind them at a time.
+-- Lossy text of units, split after some characters and the fault after them.
 use Rattle.std.proofs.Common.{◌≡◌, inl, inr, ℕ, ◌≤◌, List, [], ◌∷◌, ◌++◌, Bool, true, false, length, map, take, drop, refl, sym, ap, ◌∙◌, subst, arith, length-append}
 use Rattle.std.proofs.lemmas.Bool.{cases_lt}
 use Rattle.std.proofs.lemmas.List.{length-take-le, take-append-drop}
@@ -16,12 +16,12 @@ use Rattle.wide_unit.proofs.Faults.{first_fault-below, first_fault-first, first_
 use Rattle.wide_blocks.proofs.LossyItems.{ends-characters}
 
 module _ (form : EncodingForm) where
-  -- behind characters no fault is the last, where there are any
+  -- After characters, no fault was read last, if there are any.
   ends-units : (after : Bool) (cs front : List ℕ) → encode form cs ≡ front → (length front ≡ 0 → ends_in_fault after (map Char cs) ≡ after) × (1 ≤ length front → ends_in_fault after (map Char cs) ≡ false)
   ends-units after [] front is = (λ none. refl, λ some. absurd (omega (arith, some, ap length is)))
   ends-units after (c ∷ cs) front is = (λ none. absurd (omega (arith, none, ap length is, length-append (code_units form c) (encode form cs), some_units form c)), λ some. ends-characters cs)
 
-  -- behind the first fault stand the items of the units behind it
+  -- At the first fault, the items are the fault and the items of the units after it.
   behind-fault : (us : List ℕ) (n item u : ℕ) → IsFirstFault form us n item u → items form (drop n us) ≡ Fault u ∷ items form (drop 1 (drop n us))
   behind-fault us n item u fault =
       let (rest, first) = first_fault-first form us n item u fault in

@@ -1,4 +1,4 @@
--- Lossy text of units whose front is taken alone.
+-- Lossy text of units whose prefix is repaired separately.
 use Rattle.std.proofs.Common.{◌≡◌, List, ◌++◌, ℕ, sym, ◌∙◌, ap, map, take, drop}
 use Rattle.std.proofs.lemmas.List.{map-append, take-append-drop}
 use Rattle.wide_unit.specs.EncodingForm.{EncodingForm, encode}
@@ -16,14 +16,14 @@ module _ {C : Type 0} (form : EncodingForm) (number : C → ℕ) (units front ba
   parts : map number units ≡ map number front ++ map number back
   parts = ap (map number) (sym joined) ∙ map-append number front back
 
-  -- a sound front stays as it is
+  -- A well-formed prefix is not changed.
   pub sound_front : IsWellFormed form (map number front) → lossy (items form (map number units)) ≡ chars form (map number front) ++ lossy (items form (map number back))
   sound_front well =
       let rest = items form (map number back) in
       ap (λ us. lossy (items form us)) parts ∙ ap lossy (items-append_left form (map number front) (map number back) well)
       ∙ map-append lossy_char (items form (map number front)) rest ∙ ap (λ cs. cs ++ lossy rest) (lossy-well_formed form (map number front) well)
 
-  -- a front that cuts no pair is mended alone
+  -- A prefix that splits no pair can be repaired separately.
   module _ (mended : List ℕ) (is : mended ≡ encode form (lossy (items form (map number front)))) where
     pub mended_front : IsCut form (map number front) (map number back) → lossy (items form (map number units)) ≡ chars form mended ++ lossy (items form (map number back))
     mended_front cut =

@@ -1,4 +1,4 @@
--- Lossy text of bytes, an item after another.
+-- Lossy text of bytes, item by item.
 use Rattle.std.proofs.Common.{◌≡◌, inl, inr, ℕ, zero, suc, ◌+◌, ◌-◌, ◌<◌, ◌≤◌, List, [], ◌∷◌, ◌++◌, Bool, true, false, length, get_or, map, take, drop, refl, sym, ap, ◌∙◌, arith, append_assoc, length-append}
 use Rattle.std.specs.Char.{encode_utf8}
 use Rattle.std.specs.Str.{IsUtf8, encode_utf8_all}
@@ -18,7 +18,7 @@ use Rattle.wide_blocks.proofs.FrontUnits.{behind-is}
 use Rattle.wide_blocks.proofs.PartTexts.{utf8_items-front}
 use Rattle.wide_blocks.proofs.StoredUnits.{one_unit-plain}
 
--- ASCII characters are items and units of their own
+-- ASCII characters are their own items and units.
 items-ascii : (n : ℕ) (bs : List ℕ) → n ≤ length bs → ((k : ℕ) → k < n → get_or bs k 0 < 0x80) → utf8_items bs ≡ map Char (take n bs) ++ utf8_items (drop n bs)
 items-ascii zero bs within ascii = refl
 items-ascii (suc n) [] within ascii = absurd (omega arith)
@@ -61,7 +61,7 @@ module _ (form : EncodingForm) (policy : Policy) where
         flag = back.flag ∙ ap (λ f. ends_in_fault f back.front) front.flag ∙ sym (ends_in_fault-append a front.front back.front);
       }
 
-  -- what stands behind goes on as lossy text of its own
+  -- The lossy text of the rest can be computed separately.
   pub lossy-rest : (bs old new : List ℕ) (n : ℕ) (a b : Bool) → IsLossyFront form policy bs n a b old new → old ++ encode form (lossy_after policy a (utf8_items bs)) ≡ new ++ encode form (lossy_after policy b (utf8_items (drop n bs)))
   lossy-rest bs old new n a b front =
       let text = lossy_after policy a front.front in
@@ -102,7 +102,7 @@ module _ (form : EncodingForm) (policy : Policy) where
     flag = sym (ends-some after n bs some within);
   }
 
--- Lossy text of a text and what stands behind it
+-- Lossy text of UTF-8 and the bytes after it.
 ends-encoded : (after : Bool) (cs front : List ℕ) → encode_utf8_all cs ≡ front → (length front ≡ 0 → ends_in_fault after (map Char cs) ≡ after) × (1 ≤ length front → ends_in_fault after (map Char cs) ≡ false)
 ends-encoded after [] front is = (λ none. refl, λ some. absurd (omega (arith, some, ap length is)))
 ends-encoded after (c ∷ cs) front is =

@@ -1,4 +1,4 @@
--- Text of characters of one to three bytes, by the places where they begin.
+-- Text of characters of one to three bytes, from the scalar values at all bytes.
 use Rattle.std.proofs.Common.{◌≡◌, ℕ, zero, suc, ◌+◌, ◌-◌, ◌*◌, ◌/◌, ◌%◌, ◌^◌, ◌<◌, ◌≤◌, true, false, cond, ltb, inl, inr, List, [], ◌∷◌, ◌++◌, length, get_or, take, drop, refl, sym, ap, ◌∙◌, subst, arith, length-drop}
 use Rattle.std.specs.Char.{IsScalar}
 use Rattle.std.specs.Str.{IsUtf8}
@@ -34,7 +34,8 @@ begins-text : (bs : List ℕ) → IsUtf8 bs → begins (get_or bs 0 0) ≡ true
 begins-text [] text = refl
 begins-text (b ∷ bs) text = elim (cases_lt b 0x80) [ inl low ↦ begins-low b low | inr from ↦ begins-lead b ((parts (b ∷ bs) text (omega arith)).leads from) ]
 
--- what is left of the characters begun, where text begins, behind one continuation byte and behind two
+-- How many continuation bytes follow: none if the text begins with a character, and otherwise those of a character that
+-- began before.
 trailing-none : (bs : List ℕ) → IsUtf8 bs → trailing_len bs ≡ 0
 trailing-none bs text = ap (λ x. cond {A = ℕ} x 0 (cond (begins (get_or bs 1 0)) 1 2)) (begins-text bs text)
 
@@ -44,7 +45,7 @@ trailing-one b bs trails text = ap (λ x. cond {A = ℕ} x 0 (cond (begins (get_
 trailing-two : (b c : ℕ) (bs : List ℕ) → Trails b → Trails c → trailing_len (b ∷ c ∷ bs) ≡ 2
 trailing-two b c bs first second = ap (λ x. cond {A = ℕ} x 0 (cond (begins c) 1 2)) (begins-trails b first) ∙ ap (λ x. cond {A = ℕ} x 1 2) (begins-trails c second)
 
--- ---- their codes
+-- ---- their scalar values
 
 code-one : (a b c : ℕ) → a < 0x80 → code_of a b c ≡ a
 code-one a b c low = rw (lt-ltb a 0x80 low) refl
@@ -55,7 +56,7 @@ code-two a b c from low = rw (le-ltb a 0x80 from, lt-ltb a 0xE0 low) refl
 code-three : (a b c : ℕ) → 0xE0 ≤ a → code_of a b c ≡ code_of_three a b c
 code-three a b c from = rw (le-ltb a 0x80 (omega arith), le-ltb a 0xE0 from) refl
 
--- the codes of those that begin at the first places
+-- The scalar values of the characters that begin at the first bytes.
 abbrev pub begun : ℕ → List ℕ → List ℕ
 begun zero bs = []
 begun (suc n) [] = []
@@ -81,7 +82,7 @@ module _ (form : EncodingForm) where
   abbrev Front : ℕ → List ℕ → Type 0
   Front n bs = IsFrontUnits form bs (n + trailing_len (drop n bs)) (begun n bs)
 
-  -- no character of four bytes begins at the first places
+  -- No character of four bytes begins at the first bytes.
   abbrev Shorts : ℕ → List ℕ → Type 0
   Shorts n bs = (k : ℕ) → k < n → get_or bs k 0 < 0xF0
 
@@ -150,7 +151,7 @@ module _ (form : EncodingForm) where
       ∙ ap (λ us. v ∷ us) (begun-skip (suc n) c (d ∷ ds) (begins-trails c (bytes.second (omega arith))) ∙ begun-skip n d ds (begins-trails d (bytes.third from))) in
       moved all _ _ _ (suc (suc (suc n)) + trailing_len (drop n ds)) (omega arith) units front
 
-  -- by recursion over the characters, with fuel for the places that are left
+  -- By recursion over the characters. `fuel` bounds the number of bytes that are left.
   fronts : (fuel n : ℕ) (bs : List ℕ) → n ≤ fuel → IsUtf8 bs → n ≤ length bs → Shorts n bs → Front n bs
   fronts fuel zero bs few text within short = moved bs _ _ 0 (0 + trailing_len bs) (omega (arith, trailing-none bs text)) refl (front_units-none form bs text)
   fronts zero (suc n) bs few text within short = absurd (omega arith)
@@ -166,7 +167,7 @@ module _ (form : EncodingForm) where
   pub front_units-begun : (n : ℕ) (bs : List ℕ) → IsUtf8 bs → n ≤ length bs → ((k : ℕ) → k < n → get_or bs k 0 < 0xF0) → IsFrontUnits form bs (n + trailing_len (drop n bs)) (begun n bs)
   front_units-begun n bs text within short = fronts n n bs (omega arith) text within short
 
--- ---- the codes at all places
+-- ---- the scalar values at all bytes
 
 abbrev code-first : List ℕ → ℕ
 code-first bs = code_of (get_or bs 0 0) (get_or bs 1 0) (get_or bs 2 0)
@@ -180,7 +181,7 @@ codes-at (suc n) (suc k) (b ∷ bs) within inside = codes-at n k bs (omega arith
 low-scalar : (c : ℕ) → c < 0xD800 → IsScalar c
 low-scalar c low = scalar_from c (record { below = omega arith; no_surrogate = λ from. omega arith })
 
--- each is a scalar value, also where no character begins
+-- Each is a scalar value, even if no character begins at the byte.
 first-scalar : (bs : List ℕ) → (0xC0 ≤ get_or bs 0 0 → IsUtf8 bs × (0 < length bs)) → IsScalar (code-first bs)
 first-scalar bs text =
     let a : ℕ = get_or bs 0 0 in
@@ -220,7 +221,7 @@ length-codes_at zero bs within = refl
 length-codes_at (suc n) [] within = absurd (omega arith)
 length-codes_at (suc n) (b ∷ bs) within = omega (arith, length-codes_at n bs (omega arith))
 
--- ---- lanes that are kept by bits
+-- ---- lanes that bits select
 
 kept-set : (z y x : ℕ) (xs : List ℕ) → z % 2 ≡ 1 → z / 2 ≡ y → kept_lanes z (x ∷ xs) ≡ x ∷ kept_lanes y xs
 kept-set z y x xs odd half = ap (λ b. cond (ltb 0 b) (x ∷ kept_lanes (z / 2) xs) (kept_lanes (z / 2) xs)) odd ∙ ap (λ n. x ∷ kept_lanes n xs) half
@@ -232,7 +233,7 @@ kept-none : (xs : List ℕ) → kept_lanes 0 xs ≡ []
 kept-none [] = refl
 kept-none (x ∷ xs) = kept-none xs
 
--- the lowest bits, and those behind
+-- The lowest bits, and those above them.
 low-bit : (z n : ℕ) → (z % 2 ^ (n + 1) % 2 ≡ z % 2) × (z % 2 ^ (n + 1) / 2 ≡ z / 2 % 2 ^ n)
 low-bit z n =
     let split : z % 2 ^ (n + 1) ≡ (z / 2 ^ 1 % 2 ^ n) * 2 ^ 1 + z % 2 ^ 1 = mod-pow-add z n 1 in
@@ -266,7 +267,7 @@ kept-append (x ∷ xs) ys z =
       | inr none ↦ (let even : z % 2 ≡ 0 = omega arith in kept-clear z (z / 2) x (xs ++ ys) even refl ∙ rest ∙ ap (λ zs. zs ++ kept_lanes (z / 2 ^ suc n) ys) (sym (kept-clear z (z / 2) x xs even refl)))
     ]
 
--- both halves of sixteen lanes
+-- Both halves of sixteen lanes.
 kept-halves : (z : ℕ) (bs : List ℕ) → 16 ≤ length bs → kept_lanes (z % 256) (codes_at 8 bs) ++ kept_lanes (z / 256) (codes_at 8 (drop 8 bs)) ≡ kept_lanes z (codes_at 16 bs)
 kept-halves z bs long =
     let front = codes_at 8 bs in
@@ -276,7 +277,7 @@ kept-halves z bs long =
     let both : kept_lanes z (front ++ back) ≡ kept_lanes z front ++ kept_lanes (z / 256) back = kept-append front back z ∙ ap (λ n. kept_lanes z front ++ kept_lanes (z / 2 ^ n) back) eight in
     ap (λ vs. vs ++ kept_lanes (z / 256) back) low ∙ sym both ∙ ap (kept_lanes z) (sym (codes-drop 8 8 bs))
 
--- the lanes of characters that begin before a place
+-- The lanes of the characters that begin before an offset.
 kept-begun : (m n : ℕ) (bs : List ℕ) → n ≤ m → kept_lanes (lead_bits m bs % 2 ^ n) (codes_at m bs) ≡ begun n bs
 kept-begun m zero bs less = (let none : lead_bits m bs % 2 ^ 0 ≡ 0 = omega arith in ap (λ z. kept_lanes z (codes_at m bs)) none ∙ kept-none (codes_at m bs))
 kept-begun zero (suc n) bs less = absurd (omega arith)
@@ -299,7 +300,7 @@ kept-begun (suc m) (suc n) (b ∷ bs) less =
           kept-clear (z % 2 ^ (n + 1)) (y % 2 ^ n) v (codes_at m bs) (bit.0 ∙ omega (arith, is)) (bit.1 ∙ ap (λ x. x % 2 ^ n) half) ∙ rest ∙ sym (begun-skip n b bs goes_on))
     ]
 
--- ---- sixteen places
+-- ---- sixteen bytes
 
 lead_bits-low : (n : ℕ) (bs : List ℕ) → lead_bits n bs < 2 ^ n
 lead_bits-low zero bs = omega arith

@@ -1,4 +1,4 @@
--- The characters and ill-formed parts of text, and of text before an ill-formed part; and lossy text of both.
+-- The characters and faults of UTF-8, and of UTF-8 before a fault; and lossy text of both.
 use Rattle.std.proofs.Common.{◌≡◌, ℕ, zero, suc, ◌+◌, ◌<◌, inl, inr, List, [], ◌∷◌, ◌++◌, Bool, true, false, ◌&&◌, add-zero, length, map, take, drop, refl, sym, ap, ◌∙◌, subst, arith, append_assoc, length-drop}
 use Rattle.std.specs.Prelude.{slice_index, ◌==◌, if◌then◌else◌}
 use Rattle.std.specs.Char.{encode_utf8}
@@ -19,7 +19,7 @@ use Rattle.wide_unit.specs.declared.policy.Policy.TheVariants.{Each, Run, Skip}
 use Rattle.wide_blocks.specs.Parts.{AreUtf8Items, character, none, part, utf8_items, utf8_items-divide, utf8_items-unique}
 use Rattle.wide_blocks.specs.Laws.Parts.{below_more, no_char-behind, shorter-part, valid_len-front, valid_len-longest}
 
--- characters, and then other items
+-- Characters, and then other items.
 behind_chars : (cs bs : List ℕ) (is : List Item) → all_scalars cs ≡ true → AreUtf8Items bs is → AreUtf8Items (encode_utf8_all cs ++ bs) (map Char cs ++ is)
 behind_chars [] bs is scalars more = more
 behind_chars (c ∷ cs) bs is scalars more =
@@ -33,7 +33,7 @@ behind_text front bs is text more =
     let same = chars_from_encodes text.0 front text text.1.1 in
     subst (λ xs. AreUtf8Items (xs ++ bs) (map Char (str_chars front) ++ is)) text.1.1 (subst (λ cs. AreUtf8Items (encode_utf8_all text.0 ++ bs) (map Char cs ++ is)) same (behind_chars text.0 bs is text.1.0 more))
 
--- a front that is text, and then other bytes
+-- A prefix that is UTF-8, and then other bytes.
 pub utf8_items-front : (bs : List ℕ) (n : ℕ) → IsUtf8 (take n bs) → utf8_items bs ≡ map Char (str_chars (take n bs)) ++ utf8_items (drop n bs)
 utf8_items-front bs n text =
     let rest = drop n bs in
@@ -57,7 +57,7 @@ utf8_items-chunk bs n m front unread some is =
     let behind : last ≡ drop (n + m) bs = drop-drop (utf8_invalid_len rest) n bs ∙ ap (λ k. drop (n + k) bs) (sym is) in
     utf8_items-unique bs (utf8_items bs) _ (utf8_items-divide bs) whole ∙ ap (λ u. front_items ++ Fault u ∷ utf8_items last) first ∙ ap (λ xs. front_items ++ Fault (slice_index bs n) ∷ utf8_items xs) behind
 
--- the same where text stops
+-- A prefix after which the bytes stop being UTF-8.
 pub utf8_items-valid_up_to : (bs : List ℕ) (n m : ℕ) → IsValidUpTo bs n → m ≡ utf8_invalid_len (drop n bs) → utf8_items bs ≡ map Char (str_chars (take n bs)) ++ Fault (slice_index bs n) ∷ utf8_items (drop (n + m) bs)
 utf8_items-valid_up_to bs n m valid is = utf8_items-chunk bs n m valid.front (no_char-behind bs n valid.front (λ k more within. valid.longest k more)) (omega (arith, valid.short, length-drop n bs)) is
 
@@ -66,14 +66,14 @@ utf8_items-valid_len bs n m valid short is =
     let front : IsUtf8 (take n bs) = subst (λ k. IsUtf8 (take k bs)) (sym valid) (valid_len-front bs) in
     utf8_items-chunk bs n m front (no_char-behind bs n front (λ k more within text. omega (arith, valid, more, valid_len-longest bs k within text))) (omega (arith, short, length-drop n bs)) is
 
--- Lossy text of characters and a fault behind them
+-- Lossy text of characters and a fault after them.
 pub lossy_after-chunk_each : (after : Bool) (cs : List ℕ) (u : ℕ) (is : List Item) → lossy_after Each after (map Char cs ++ Fault u ∷ is) ≡ cs ++ 0xFFFD ∷ lossy_after Each true is
 lossy_after-chunk_each after cs u is = lossy_after-append Each after (map Char cs) (Fault u ∷ is) ∙ ap (λ ds. ds ++ 0xFFFD ∷ lossy is) (lossy_after-chars Each after cs)
 
 pub lossy_after-chunk_skip : (after : Bool) (cs : List ℕ) (u : ℕ) (is : List Item) → lossy_after Skip after (map Char cs ++ Fault u ∷ is) ≡ cs ++ lossy_after Skip true is
 lossy_after-chunk_skip after cs u is = lossy_after-append Skip after (map Char cs) (Fault u ∷ is) ∙ ap (λ ds. ds ++ lossy_after Skip true is) (lossy_after-chars Skip after cs)
 
--- behind a fault, with no character between, the fault gives no further U+FFFD
+-- If another fault precedes the fault directly, no further U+FFFD is added.
 pub lossy_after-chunk_run : (after : Bool) (cs : List ℕ) (u : ℕ) (is : List Item)
     → lossy_after Run after (map Char cs ++ Fault u ∷ is) ≡ cs ++ (if after && length cs == 0 then [] else 0xFFFD ∷ []) ++ lossy_after Run true is
 lossy_after-chunk_run true [] u is = refl
@@ -81,13 +81,13 @@ lossy_after-chunk_run false [] u is = runs-at_fault [] is u
 lossy_after-chunk_run true (c ∷ cs) u is = rw (eqb-suc-zero (length cs)) (ap (λ ds. c ∷ ds) (lossy_after-chunk_run false cs u is))
 lossy_after-chunk_run false (c ∷ cs) u is = ap (λ ds. c ∷ ds) (lossy_after-chunk_run false cs u is)
 
--- U+FFFD, and then other bytes
+-- U+FFFD, and then other bytes.
 replacement : (bs : List ℕ) → str_chars (replacement_bytes ++ bs) ≡ 0xFFFD ∷ str_chars bs
 unfolding chars
 replacement [] = refl
 replacement (b ∷ bs) = refl
 
--- The lossy text of bytes is std's.
+-- The lossy text of bytes is that of std.
 lossy-text : (bs : List ℕ) → IsUtf8 bs → lossy (utf8_items bs) ≡ str_chars (utf8_lossy bs)
 lossy-text bs text = ap lossy (utf8_items-text bs text) ∙ lossy-chars (str_chars bs) ∙ ap str_chars (sym (utf8_lossy-IsUtf8 bs text))
 

@@ -1,4 +1,4 @@
--- Well-formed units cut behind a front of them: the units of another width that the front is, and those of the rest.
+-- Well-formed units that are split after a prefix: the prefix in another encoding form, and the rest.
 use Rattle.std.proofs.Common.{◌≡◌, ℕ, ◌+◌, ◌-◌, ◌<◌, ◌≤◌, List, [], ◌∷◌, ◌++◌, length, get_or, map, take, drop, sym, ap, ◌∙◌, subst, arith, length-drop}
 use Rattle.std.proofs.lemmas.List.{append-nil, drop-drop, drop-map, get_or-map, length-map, length-take-le, take-map}
 use Rattle.std.proofs.lemmas.List.Concat.{flat_map-append}
@@ -9,13 +9,13 @@ use Rattle.wide_blocks.proofs.FrontUnits.{behind-is}
 use Rattle.wide_blocks.proofs.ScalarFronts.{IsFrontChars, front_chars-one, front_chars-then, front_chars-units}
 use Rattle.wide_blocks.proofs.ScalarTexts.{encode-narrow}
 
--- the number of a unit at a place
+-- The number of the unit at an index.
 pub number-at : {X : Type 0} (number : X → ℕ) (xs : List X) (k : ℕ) (x : X) → k < length xs → x ≡ get_or xs k x → number x ≡ get_or (map number xs) k 0
 number-at number xs k x within is = ap number is ∙ sym (get_or-map number xs k x 0 within)
 
--- units of type `X` in the form `from`, and the same text in the form `to`
+-- Units of type `X` in the form `from`, and the same text in the form `to`.
 module _ {X : Type 0} (number : X → ℕ) (from to : EncodingForm) where
-  -- all is what was made of a front, and what is made of the rest
+  -- `all` is what was converted of a prefix, and the conversion of the rest.
   pub record IsRecoded (all made : List ℕ) (rest : List X) : Type 0 where
     pub units : all ≡ made ++ encode to (chars from (map number rest))
     pub well_formed : IsWellFormed from (map number rest)
@@ -26,12 +26,12 @@ module _ {X : Type 0} (number : X → ℕ) (from to : EncodingForm) where
     well_formed = front.well_formed;
   }
 
-  -- behind one character
+  -- After one character.
   pub recoded-one : (all made after : List ℕ) (rest left : List X) (c : ℕ) → IsRecoded all made rest → items from (map number rest) ≡ Char c ∷ items from (map number left) → after ≡ made ++ code_units to c → IsRecoded all after left
   recoded-one all made after rest left c so_far first stored =
       recoded-then all made after (c ∷ []) rest left so_far (front_chars-one from (map number rest) (map number left) c so_far.well_formed first) (stored ∙ ap (λ us. made ++ us) (sym (append-nil (code_units to c))))
 
-  -- behind a block of sixteen units that are a character each
+  -- After a block of sixteen units that are a character each.
   pub recoded-block : (all made after : List ℕ) (xs : List X) (at n : ℕ) → IsRecoded all made (drop at xs) → at + 16 ≤ length xs → n ≡ 16 → ((k : ℕ) → k < 16 → get_or (map number (take n (drop at xs))) k 0 < 0x1_0000)
       → ((k : ℕ) → k < 16 → 0xd800 ≤ get_or (map number (take n (drop at xs))) k 0 → 0xe000 ≤ get_or (map number (take n (drop at xs))) k 0) → after ≡ made ++ map number (take n (drop at xs)) → IsRecoded all after (drop (at + 16) xs)
   recoded-block all made after xs at n so_far within sixteen below plain stored =
@@ -47,11 +47,11 @@ module _ {X : Type 0} (number : X → ℕ) (from to : EncodingForm) where
       let same : encode to (take n us) ≡ take n us = encode-narrow to (take n us) (λ k short. narrow k (omega (arith, length-take-le n us (omega (arith, long))))) in
       recoded-then all made after (take n us) (drop at xs) (drop (at + 16) xs) so_far front (stored ∙ ap (λ vs. made ++ vs) (sym (same ∙ block)))
 
-  -- what is behind a front, as a slice of the units
+  -- What is after a prefix, as a slice of the units.
   pub well_formed-behind : (xs : List X) (at : ℕ) → IsWellFormed from (map number (drop at xs)) → IsWellFormed from (map number (take (length xs - at) (drop at xs)))
   well_formed-behind xs at well = subst (λ ys. IsWellFormed from (map number ys)) (sym (behind-is xs at)) well
 
-  -- behind a front of those
+  -- After a prefix of that slice.
   pub recoded-behind : (all made after : List ℕ) (xs : List X) (at n : ℕ) → all ≡ made ++ encode to (chars from (map number (drop at xs)))
       → IsRecoded (made ++ encode to (chars from (map number (take (length xs - at) (drop at xs))))) after (drop n (take (length xs - at) (drop at xs))) → IsRecoded all after (drop (at + n) xs)
   recoded-behind all made after xs at n so_far front =

@@ -1,4 +1,4 @@
--- Well-formed units cut behind a front of them: the characters of the front, and those of the rest.
+-- Well-formed units that are split after a prefix: the characters of the prefix, and those of the rest.
 use Rattle.std.proofs.Common.{◌≡◌, ℕ, suc, ◌+◌, ◌-◌, ◌<◌, ◌≤◌, List, [], ◌∷◌, ◌++◌, length, get_or, map, take, drop, refl, sym, ap, ◌∙◌, subst, arith, append_assoc, take-append-drop}
 use Rattle.std.specs.Char.{IsScalar}
 use Rattle.std.specs.List.{All}
@@ -12,17 +12,17 @@ use Rattle.wide_unit.specs.Laws.Forms.{Ranges, scalar_from}
 use Rattle.wide_unit.specs.Laws.WellFormed.{well_formed-rest}
 use Rattle.wide_blocks.proofs.ScalarTexts.{encode-narrow}
 
--- the characters of the units are these, and those of the rest
+-- The characters of the units are `cs` and those of the rest.
 pub record IsFrontChars (form : EncodingForm) (us rest cs : List ℕ) : Type 0 where
   pub text : chars form us ≡ cs ++ chars form rest
   pub well_formed : IsWellFormed form rest
 
 module _ (form : EncodingForm) where
-  -- behind one character
+  -- After one character.
   pub front_chars-one : (us rest : List ℕ) (c : ℕ) → IsWellFormed form us → items form us ≡ Char c ∷ items form rest → IsFrontChars form us rest (c ∷ [])
   front_chars-one us rest c well e = record { text = ap characters e; well_formed = well_formed-rest form us rest well c e }
 
-  -- behind the units of characters
+  -- After the units of characters.
   front_chars-encode : (rest cs : List ℕ) → All IsScalar cs → IsWellFormed form (encode form cs ++ rest) → IsFrontChars form (encode form cs ++ rest) rest cs
   front_chars-encode rest [] scalars well = record { text = refl; well_formed = well }
   front_chars-encode rest (c ∷ cs) scalars well =
@@ -31,7 +31,7 @@ module _ (form : EncodingForm) where
       let more = front_chars-encode rest cs (λ k d within. scalars (suc k) d (omega (arith, within))) (well_formed-rest form (encode form (c ∷ cs) ++ rest) (encode form cs ++ rest) well c first) in
       record { text = ap characters first ∙ ap (λ ds. c ∷ ds) more.text; well_formed = more.well_formed }
 
-  -- behind units that are a character each
+  -- After units that are a character each.
   pub front_chars-units : (us : List ℕ) (n : ℕ) → IsWellFormed form us → n ≤ length us → ((k : ℕ) → k < n → get_or (take n us) k 0 < 0x1_0000)
       → ((k : ℕ) → k < n → 0xd800 ≤ get_or (take n us) k 0 → 0xe000 ≤ get_or (take n us) k 0) → IsFrontChars form us (drop n us) (take n us)
   front_chars-units us n well within below plain =
@@ -47,16 +47,16 @@ module _ (form : EncodingForm) where
           let read : get_or (take n us) k d ≡ get_or (take n us) k 0 = get_or_default_zero (take n us) k d (omega (arith, length-take-le n us within)) in
           record { below = omega (arith, read, below k short); no_surrogate = λ from. omega (arith, read, plain k short (omega (arith, read))) }
 
-  -- behind some and a further front, by what is made of characters part by part
+  -- After two adjacent prefixes, for a function of characters that can be computed chunk by chunk.
   pub front_chars-then : (make : List ℕ → List ℕ) → ((cs ds : List ℕ) → make (cs ++ ds) ≡ make cs ++ make ds) → (rest left all done more : List ℕ) → all ≡ done ++ make (chars form rest) → IsFrontChars form rest left more → all ≡ (done ++ make more) ++ make (chars form left)
   front_chars-then make parts rest left all done more so_far front =
       so_far ∙ ap (λ cs. done ++ make cs) front.text ∙ ap (λ us. done ++ us) (parts more (chars form left)) ∙ sym (append_assoc done (make more) (make (chars form left)))
 
--- the first item of units, which are their own numbers
+-- The first item of units that are their own numbers.
 pub item-first : (us rest : List ℕ) (item : Item) → items Utf16 (map (λ (u : ℕ). u) us) ≡ item ∷ items Utf16 (map (λ (u : ℕ). u) rest) → items Utf16 us ≡ item ∷ items Utf16 rest
 item-first us rest item e = ap (items Utf16) (sym (map-id us)) ∙ e ∙ ap (λ vs. item ∷ items Utf16 vs) (map-id rest)
 
--- what is left of units, by its length
+-- The rest of the units, by its length.
 pub left-behind : {X : Type 0} (us rest left : List X) (n : ℕ) → length rest ≤ length us → rest ≡ drop (length us - length rest) us → left ≡ drop n rest → length left + n ≡ length rest → left ≡ drop (length us - length left) us
 left-behind us rest left n within is next shorter =
     let place : length us - length rest + n ≡ length us - length left = omega arith in

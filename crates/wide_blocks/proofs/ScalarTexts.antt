@@ -1,4 +1,4 @@
--- The text of scalar values: how it grows, and that of 16-bit units that are some.
+-- The UTF-8 of scalar values: how it grows, and that of scalar values that are 16-bit units.
 use Rattle.std.proofs.Common.{◌≡◌, ℕ, suc, inl, inr, ◌+◌, ◌/◌, ◌%◌, ◌^◌, ◌<◌, ◌≤◌, List, [], ◌∷◌, ◌++◌, length, get_or, take, drop, refl, sym, ap, ◌∙◌, subst, arith, append_assoc, drop-cons, take-add}
 use Rattle.std.specs.Char.{IsScalar}
 use Rattle.std.specs.List.{All}
@@ -37,7 +37,7 @@ word-of_unit c word len below w l = record {
   three = λ from. (omega (arith, w.three from below), l.three from below);
 }
 
--- four bytes are stored, of which the first are kept
+-- Four bytes are stored, of which the first are used.
 pub scalar-stored : (xs zs : List ℕ) (at c word len : ℕ) → at ≤ length xs → c < 0x11_0000 → IsScalarWord c word → IsScalarLen c len
     → take (at + 4) zs ≡ take at xs ++ (word % 0x100) ∷ (word / 0x100 % 0x100) ∷ (word / 0x10000 % 0x100) ∷ (word / 0x1000000) ∷ [] → take (at + len) zs ≡ take at xs ++ utf8_bytes c
 scalar-stored xs zs at c word len room below w l stored = elim (cases_lt c 0x1_0000) [
@@ -57,7 +57,7 @@ scalar-len {c} l = elim (cases_lt c 0x80) [
 pub text-none : (before : List ℕ) (cs : List ℕ) → before ≡ before ++ utf8 (take 0 cs)
 text-none before cs = sym (append-nil before)
 
--- the text of some more
+-- The UTF-8 of some more scalar values.
 pub text-more : (cs s : List ℕ) (i n : ℕ) {t v : List ℕ} → t ≡ s ++ utf8 (take i cs) → v ≡ t ++ utf8 (take n (drop i cs)) → v ≡ s ++ utf8 (take (i + n) cs)
 text-more cs s i n so_far more =
     let a = take i cs in
@@ -78,14 +78,14 @@ pub encode-narrow : (form : EncodingForm) (cs : List ℕ) → ((k : ℕ) → k <
 encode-narrow form [] narrow = refl
 encode-narrow form (c ∷ cs) narrow = ap (λ us. us ++ encode form cs) (one_unit-plain form c (narrow 0 (omega arith))) ∙ ap (λ us. c ∷ us) (encode-narrow form cs (λ k within. narrow (suc k) (omega arith)))
 
--- what was encoded of 16-bit units that are scalar values is their text
+-- The encoding of 16-bit units that are scalar values is the UTF-8 of these.
 pub text-units : (cs us s : List ℕ) {t : List ℕ} → us ≡ cs → All IsScalar cs → ((k : ℕ) → k < length cs → get_or cs k 0 < 0x1_0000) → EncodedUnits us s t → t ≡ s ++ utf8 cs
 text-units cs us s same scalars narrow e =
     let units : encode Utf16 e.cs ≡ encode Utf16 cs = sym e.units ∙ same ∙ sym (encode-narrow Utf16 cs narrow) in
     let is : e.cs ≡ cs = sym (chars-encode Utf16 e.cs e.scalars) ∙ ap (chars Utf16) units ∙ chars-encode Utf16 cs scalars in
     e.text ∙ ap (λ ds. s ++ utf8 ds) is
 
--- ASCII characters are their own text
+-- ASCII characters are their own UTF-8.
 pub text-ascii : (cs us s : List ℕ) {t : List ℕ} → us ≡ cs → All IsScalar cs → ((k : ℕ) → k < length cs → get_or cs k 0 < 0x80) → t ≡ s ++ us → t ≡ s ++ utf8 cs
 text-ascii cs us s same scalars ascii text =
     text ∙ ap (λ bs. s ++ bs) same ∙ text-units cs cs s refl scalars (λ k within. (let low = ascii k within in omega arith)) (encoded-ascii cs s ascii)

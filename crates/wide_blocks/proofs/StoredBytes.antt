@@ -1,4 +1,4 @@
--- What the bytes of a unit, stored behind those of the units before it, make of a list.
+-- What storing the bytes of a unit after those of the units before it does to a list.
 use Rattle.std.proofs.Common.{◌≡◌, ℕ, suc, ◌+◌, ◌*◌, ◌<◌, ◌≤◌, List, [], ◌∷◌, ◌++◌, length, get_or, take, drop, set, sym, ap, ◌∙◌, arith}
 use Rattle.std.proofs.Math.Seq.{take-suc}
 use Rattle.std.proofs.lemmas.List.{append-nil, drop-set-lt, drop-drop, take_all}
@@ -6,12 +6,12 @@ use Rattle.std.proofs.lemmas.List.Concat.{flat_map-append}
 use Rattle.std.specs.List.{flat_map}
 use Rattle.wide_from_utf16.proofs.Stores.{stored_two, stored_four}
 
--- the bytes of the first units are stored, and what is behind them is as it was
+-- The bytes of the first units are stored, and the bytes after them are unchanged.
 pub record AreStored (f : ℕ → List ℕ) (width : ℕ) (us old new : List ℕ) (k : ℕ) : Type 0 where
   pub front : take (width * k) new ≡ flat_map f (take k us)
   pub behind : drop (width * k) new ≡ drop (width * k) old
 
--- those of one unit more
+-- The bytes of one more unit.
 next-unit : (f : ℕ → List ℕ) (width : ℕ) (us old xs ys bytes : List ℕ) (k : ℕ) → k < length us → AreStored f width us old xs k → bytes ≡ f (get_or us k 0)
     → take (width * k + width) ys ≡ take (width * k) xs ++ bytes → drop (width * k + width) ys ≡ drop (width * k + width) xs → AreStored f width us old ys (k + 1)
 next-unit f width us old xs ys bytes k some before is stored kept =
@@ -43,6 +43,6 @@ module _ (f : ℕ → List ℕ) (us old xs : List ℕ) (k : ℕ) (some : k < len
       let kept = drop-set-lt (at + 4) three (at + 3) e (omega arith) ∙ drop-set-lt (at + 4) two (at + 2) d (omega arith) ∙ drop-set-lt (at + 4) one (at + 1) b (omega arith) ∙ drop-set-lt (at + 4) xs at a (omega arith) in
       next-unit f 4 us old xs (set three (at + 3) e) (a ∷ b ∷ d ∷ e ∷ []) k some before is (stored_four xs at a b d e (omega arith)) kept
 
--- once all are stored
+-- The bytes of all units.
 pub all-stored : (f : ℕ → List ℕ) (width : ℕ) (us old new : List ℕ) (n : ℕ) → n ≡ length us → AreStored f width us old new n → take (width * n) new ≡ flat_map f us
 all-stored f width us old new n all stored = stored.front ∙ ap (flat_map f) (take_all n us (omega arith))

@@ -1,4 +1,4 @@
--- Units that are stored one behind another, of any type.
+-- Units of any type that are stored one after another.
 use Rattle.std.proofs.Common.{◌≡◌, ℕ, suc, zero, ◌+◌, ◌*◌, ◌<◌, ◌≤◌, List, [], ◌∷◌, ◌++◌, Option, Some, None, length, get_or, map, set, take, refl, sym, ap, ◌∙◌, arith, append_assoc, get_or-take}
 use Rattle.std.proofs.lemmas.List.{length-map, map-append, take-map, take-take, take_more_set}
 use Rattle.wide_unit.specs.EncodingForm.{EncodingForm, Utf16, Utf32, code_units}
@@ -8,7 +8,7 @@ use Rattle.wide_blocks.specs.Decoded.{code_of_three, codes_of_three}
 use Rattle.wide_from_utf16.proofs.Stores.{kept-front}
 use Rattle.wide_from_utf16.proofs.UnitEncodings.{take-one}
 
--- a character below 0x1_0000 is its own unit
+-- A character below 0x1_0000 is its own unit.
 pub one_unit-plain : (form : EncodingForm) (c : ℕ) → c < 0x1_0000 → code_units form c ≡ c ∷ []
 one_unit-plain Utf16 c below = one_unit c below
 one_unit-plain Utf32 c below = refl
@@ -26,7 +26,7 @@ module _ {X : Type 0} (number : X → ℕ) where
       ap (λ n. map number (take n (set xs (at + k) u))) next ∙ ap (map number) (take_more_set xs (at + k) u room) ∙ map-append number (take (at + k) xs) (u ∷ [])
       ∙ ap (λ us. us ++ number u ∷ []) so_far ∙ append_assoc before (take k cs) (number u ∷ []) ∙ ap (λ us. before ++ us) (ap (λ v. take k cs ++ v ∷ []) is ∙ sym (take-one cs k within))
 
-  -- of what was stored the first are kept
+  -- Of the units that were stored, the first are used.
   pub stored-front : (xs zs : List X) (cs : List ℕ) (at full m : ℕ) → at ≤ length xs → m ≤ full → map number (take (at + full) zs) ≡ map number (take at xs) ++ take full cs → map number (take (at + m) zs) ≡ map number (take at xs) ++ take m cs
   stored-front xs zs cs at full m room short stored =
       let ours = map number xs in
@@ -35,7 +35,7 @@ module _ {X : Type 0} (number : X → ℕ) where
       sym (take-map number (at + m) zs) ∙ kept-front ours theirs (take full cs) at full m (omega (arith, room, length-map xs number)) short all ∙ ap (λ us. take at ours ++ us) (take-take m full cs short)
       ∙ ap (λ us. us ++ take m cs) (take-map number at xs)
 
--- ---- the scalar values of bytes three by three
+-- ---- the scalar values of bytes, three by three
 
 pub codes-three : (bs : List ℕ) (k : ℕ) → 3 * k + 2 < length bs → get_or (codes_of_three bs) k 0 ≡ code_of_three (get_or bs (3 * k) 0) (get_or bs (3 * k + 1) 0) (get_or bs (3 * k + 2) 0)
 codes-three [] k within = absurd (omega arith)
@@ -57,7 +57,7 @@ length-codes_of_three (a ∷ []) (suc k) within = absurd (omega arith)
 length-codes_of_three (a ∷ b ∷ []) (suc k) within = absurd (omega arith)
 length-codes_of_three (a ∷ b ∷ c ∷ bs) (suc k) within = omega (arith, length-codes_of_three bs k (omega arith))
 
--- the three bytes at a place, of the first sixteen
+-- The three bytes at an index, among the first sixteen.
 pub three-at : (bs : List ℕ) (k : ℕ) → k < 5 → 16 ≤ length bs → code_of_three (get_or (take 16 bs) (3 * k) 0) (get_or (take 16 bs) (3 * k + 1) 0) (get_or (take 16 bs) (3 * k + 2) 0) ≡ get_or (codes_of_three bs) k 0
 three-at bs k within long =
     ap (λ a. code_of_three a (get_or (take 16 bs) (3 * k + 1) 0) (get_or (take 16 bs) (3 * k + 2) 0)) (get_or-take 16 bs (3 * k) 0 (omega arith))

@@ -1,4 +1,4 @@
--- The UTF-8 of scalar values is text.
+-- The encoding of scalar values is UTF-8.
 use Rattle.std.proofs.Common.{◌≡◌, ℕ, List, [], ◌∷◌, true, suc, refl, sym, ap, arith, length, map}
 use Rattle.std.specs.Char.{IsScalar}
 use Rattle.std.specs.Cmp.Derive.{both_true}
@@ -17,7 +17,7 @@ all_scalars-of_All (c ∷ cs) all = both_true (all 0 c (omega arith)) (all_scala
 pub IsUtf8-utf8 : (cs : List ℕ) → All IsScalar cs → IsUtf8 (utf8 cs)
 IsUtf8-utf8 cs all = (cs, (all_scalars-of_All cs all, sym (utf8-encode_utf8_all cs)))
 
--- no units are no text
+-- No units have no text.
 pub no_text : {C : Type 0} (form : EncodingForm) (number : C → ℕ) (us : List C) → length us ≡ 0 → utf8 (chars form (map number us)) ≡ []
 no_text form number [] none = ap (λ is. utf8 (characters is)) (items-nil form)
 no_text form number (u ∷ us) none = absurd (omega arith)

@@ -1,4 +1,5 @@
--- Bytes that may each stand behind the three before are well-formed UTF-8, up to the last whole character: the Standard's Table 3-7.
+-- Bytes each of which may follow the three before it are well-formed UTF-8, up to the last complete character: the
+-- Standard's Table 3-7.
 use Rattle.std.proofs.Common.{◌≡◌, inl, inr, ℕ, zero, suc, ◌+◌, ◌-◌, ◌*◌, ◌/◌, ◌%◌, ◌^◌, ◌<◌, ◌≤◌, List, [], ◌∷◌, ◌++◌, length, get_or, take, drop, refl, sym, ap, ◌∙◌, subst, arith, append_assoc, length-drop, Option}
 use Rattle.std.specs.Char.{encode_utf8}
 use Rattle.std.specs.Option.{unwrap_or}
@@ -13,22 +14,22 @@ use Rattle.wide_unit.specs.Laws.Forms.{scalar_from}
 use Rattle.wide_unit.specs.Laws.Utf8.{one_byte, two_bytes, three_bytes, four_bytes, utf8_bytes-encode_utf8}
 use Rattle.wide_blocks.specs.Following.{CanFollow, IsWholeBehind, IsWholeUpTo}
 
--- each of the first bytes may stand where it does, behind three others
+-- Each of the first bytes may follow the three before it, of which a, b and c precede all.
 abbrev pub Followed : ℕ → ℕ → ℕ → List ℕ → ℕ → Type 0
 Followed a b c bs n = (k : ℕ) → k < n → CanFollow (get_or (a ∷ b ∷ c ∷ bs) k 0) (get_or (a ∷ b ∷ c ∷ bs) (suc k) 0) (get_or (a ∷ b ∷ c ∷ bs) (suc (suc k)) 0) (get_or (a ∷ b ∷ c ∷ bs) (suc (suc (suc k))) 0)
 
--- no character is cut behind the first bytes
+-- No character is incomplete after the first bytes.
 abbrev Ends : ℕ → ℕ → ℕ → List ℕ → ℕ → Type 0
 Ends a b c bs n = IsWholeBehind (get_or (a ∷ b ∷ c ∷ bs) n 0) (get_or (a ∷ b ∷ c ∷ bs) (suc n) 0) (get_or (a ∷ b ∷ c ∷ bs) (suc (suc n)) 0)
 
--- the bytes of one character
+-- The bytes of one character.
 is_text : (c : ℕ) (bs : List ℕ) → c < 0x11_0000 → (0xD800 ≤ c → 0xE000 ≤ c) → utf8_bytes c ≡ bs → IsUtf8 bs
 is_text c bs below no_surrogate is = subst (λ xs. IsUtf8 xs) (sym (utf8_bytes-encode_utf8 c) ∙ is) (IsUtf8-encode c (scalar_from c (record { below = below; no_surrogate = no_surrogate })))
 
 one : (d : ℕ) → d < 0x80 → IsUtf8 (d ∷ [])
 one d low = is_text d (d ∷ []) (omega arith) (λ from. omega arith) (one_byte d low)
 
--- the bytes of a scalar value that is read off them (Table 3-6)
+-- The UTF-8 of a scalar value that was computed from the bytes (Table 3-6).
 pub bytes-two : (d e : ℕ) → 0xC2 ≤ d → d < 0xE0 → 0x80 ≤ e → e < 0xC0 → utf8_bytes (d % 0x20 * 0x40 + e % 0x40) ≡ d ∷ e ∷ []
 bytes-two d e from to from_e to_e =
     let v = d % 0x20 * 0x40 + e % 0x40 in
@@ -65,7 +66,7 @@ four : (d e f g : ℕ) → 0xF0 ≤ d → d < 0xF5 → 0x80 ≤ e → e < 0xC0 �
 four d e f g from to from_e to_e from_f to_f from_g to_g low high =
     is_text (d % 8 * 0x4_0000 + e % 0x40 * 0x1000 + f % 0x40 * 0x40 + g % 0x40) (d ∷ e ∷ f ∷ g ∷ []) (grind (arith, high)) (λ surrogate. grind (arith, low)) (bytes-four d e f g from to from_e to_e from_f to_f from_g to_g low)
 
--- the same of a front, by as many steps as it has characters at most
+-- A prefix is UTF-8, by induction on a bound of its length.
 abbrev Fronts : ℕ → Type 0
 Fronts steps = (n a b c : ℕ) (bs : List ℕ) → n ≤ steps → IsWholeBehind a b c → n ≤ length bs → Followed a b c bs n → Ends a b c bs n → IsUtf8 (take n bs)
 
@@ -117,23 +118,23 @@ front_by (suc steps) (suc n) a b c (d ∷ bs) fits whole within ok ends =
       ]
     ]
 
--- the same of a text, before which nothing stands
+-- Each of the first bytes may follow the three before it, with zeros before the beginning.
 abbrev pub AllFollow : List ℕ → ℕ → Type 0
 AllFollow bs n = Followed 0 0 0 bs n
 
--- what a block tells of its bytes
+-- What the check of a block says about its bytes.
 abbrev pub BlockFollows : List ℕ → Type 0
 BlockFollows block = (k : ℕ) → k < 64 → CanFollow (get_or block k 0) (get_or block (k + 1) 0) (get_or block (k + 2) 0) (get_or block (k + 3) 0)
 
--- the same of the first bytes behind three others
+-- Each byte after the first three, up to a number, may follow the three before it.
 abbrev pub Following : ℕ → List ℕ → Type 0
 Following n bs = (k : ℕ) → k < n → CanFollow (get_or bs k 0) (get_or bs (k + 1) 0) (get_or bs (k + 2) 0) (get_or bs (k + 3) 0)
 
--- the same by equal bytes
+-- It holds for equal bytes.
 follow_as : (a b c d x y z w : ℕ) → a ≡ x → b ≡ y → c ≡ z → d ≡ w → CanFollow a b c d → CanFollow x y z w
 follow_as a b c d x y z w ax by cz dw ok = subst (λ p. CanFollow p y z w) ax (subst (λ p. CanFollow a p z w) by (subst (λ p. CanFollow a b p w) cz (subst (λ p. CanFollow a b c p) dw ok)))
 
--- a place behind three others
+-- An index after three others.
 past_three : (bs : List ℕ) (m j : ℕ) → m ≡ suc (suc (suc j)) → get_or (0 ∷ 0 ∷ 0 ∷ bs) m 0 ≡ get_or bs j 0
 past_three bs m j is = ap (λ k. get_or (0 ∷ 0 ∷ 0 ∷ bs) k 0) is
 
@@ -150,7 +151,7 @@ ascii_follow block ascii k within =
       four = (λ is. absurd (omega (arith, first)), λ is. absurd (omega (arith, first)));
     }
 
--- the first block stands behind three zeros
+-- The first block, after three zeros.
 pub first_follow : (bs xs : List ℕ) → xs ≡ take 64 bs → BlockFollows (0 ∷ 0 ∷ 0 ∷ xs) → AllFollow bs 64
 first_follow bs xs is ok k before = follow_as _ _ _ _ _ _ _ _ (byte k k (omega arith) refl) (byte (k + 1) (suc k) (omega arith) (omega arith)) (byte (k + 2) (suc (suc k)) (omega arith) (omega arith)) (byte (k + 3) (suc (suc (suc k))) (omega arith) (omega arith)) (ok k before)
   where
@@ -163,7 +164,7 @@ first_follow bs xs is ok k before = follow_as _ _ _ _ _ _ _ _ (byte k k (omega a
     byte : (i m : ℕ) → i < 67 → m ≡ i → get_or (0 ∷ 0 ∷ 0 ∷ xs) i 0 ≡ get_or (0 ∷ 0 ∷ 0 ∷ bs) m 0
     byte i m few at = same i few ∙ ap (λ j. get_or (0 ∷ 0 ∷ 0 ∷ bs) j 0) (sym at)
 
--- a block more, read with the three bytes before it
+-- One more block, read with the three bytes before it.
 pub more_follow : (bs : List ℕ) (end n more : ℕ) → more + 3 ≤ n → 3 ≤ end → AllFollow bs end → Following more (take n (drop (end - 3) bs)) → AllFollow bs (end + more)
 more_follow bs end n more whole some before ok k within = elim (cases_lt k end) [ inl early ↦ before k early | inr late ↦ at late ]
   where
@@ -175,7 +176,7 @@ more_follow bs end n more whole some before ok k within = elim (cases_lt k end) 
         let j = k - end in
         follow_as _ _ _ _ _ _ _ _ (byte j k (omega arith) (omega arith)) (byte (j + 1) (suc k) (omega arith) (omega arith)) (byte (j + 2) (suc (suc k)) (omega arith) (omega arith)) (byte (j + 3) (suc (suc (suc k))) (omega arith) (omega arith)) (ok j (omega arith))
 
--- the whole characters of a front are well formed
+-- The complete characters of a prefix are well formed.
 pub whole_front : (bs : List ℕ) (end place : ℕ) → 3 ≤ end → end ≤ length bs → AllFollow bs end → IsWholeUpTo bs end place → IsUtf8 (take place bs)
 whole_front bs end place some within ok (inl whole) =
     let ends : Ends 0 0 0 bs end = (
@@ -192,7 +193,7 @@ whole_front bs end place some within ok (inr cut) =
     let first : get_or zs (suc (suc place)) 0 < 0xC0 = elim (cases_lt (get_or zs (suc (suc place)) 0) 0xC0) [ inl low ↦ low | inr high ↦ absurd (omega (arith, cut.1, (here.trails (inr (inr high))).1)) ] in
     front_by place place 0 0 0 bs (omega arith) (omega arith, omega arith, omega arith) (omega (arith, cut.0, within)) (λ k before. ok k (omega (arith, cut.0))) (third, second, first)
 
--- ASCII stands behind ASCII
+-- ASCII may follow ASCII.
 ascii_follows : (a b c d : ℕ) → a < 0x80 → b < 0x80 → c < 0x80 → d < 0x80 → CanFollow a b c d
 ascii_follows a b c d la lb lc ld = record {
   begins = λ whole. inl ld;
@@ -228,7 +229,7 @@ pub block_following : (bs : List ℕ) → BlockFollows (take 67 bs) → Followin
 block_following bs ok k within =
     follow_as _ _ _ _ _ _ _ _ (get_or-take 67 bs k 0 (omega arith)) (get_or-take 67 bs (k + 1) 0 (omega arith)) (get_or-take 67 bs (k + 2) 0 (omega arith)) (get_or-take 67 bs (k + 3) 0 (omega arith)) (ok k within)
 
--- text behind text
+-- If UTF-8 begins with characters, the rest is UTF-8.
 text_behind : (cs bs rest : List ℕ) → IsUtf8 bs → bs ≡ encode_utf8_all cs ++ rest → IsUtf8 rest
 text_behind [] bs rest text is = subst (λ xs. IsUtf8 xs) is text
 text_behind (c ∷ cs) bs rest text is = text_behind cs (encode_utf8_all cs ++ rest) rest (IsUtf8-past_char bs (encode_utf8_all cs ++ rest) c text (is ∙ append_assoc (encode_utf8 c) (encode_utf8_all cs) rest)) refl
@@ -237,11 +238,11 @@ behind_front : (bs : List ℕ) (n m : ℕ) → IsUtf8 (take n bs) → IsUtf8 (ta
 behind_front bs n m front text =
     text_behind front.0 (take (n + m) bs) (take m (drop n bs)) text (take-add n m bs ∙ ap (λ xs. xs ++ take m (drop n bs)) (sym front.1.1))
 
--- what stands behind a front, as a slice of it
+-- What is after a prefix, as a slice of the whole.
 abbrev Behind : List ℕ → ℕ → List ℕ
 Behind bs n = take (length bs - n) (drop n bs)
 
--- behind a front that is text, the bytes stop being text where those behind it do
+-- After a prefix that is UTF-8, the bytes stop being UTF-8 at the offset at which the rest does.
 pub valid-behind : (bs : List ℕ) (n v m : ℕ) → v ≡ m → n ≤ length bs → IsUtf8 (take n bs) → IsValidUpTo (Behind bs n) m → IsValidUpTo bs (n + v)
 valid-behind bs n v m is within front back =
     let valid : IsValidUpTo (drop n bs) v = subst (λ xs. IsValidUpTo xs v) (take_rest bs n) (subst (λ k. IsValidUpTo (Behind bs n) k) (sym is) back) in
@@ -257,7 +258,7 @@ text-behind bs n front back = subst (λ xs. IsUtf8 xs) (take-append-drop n bs) (
 pub text-all : (bs : List ℕ) → IsUtf8 bs → IsUtf8 (take (length bs) bs)
 text-all bs text = subst (λ xs. IsUtf8 xs) (sym (take_all (length bs) bs (omega arith))) text
 
--- how long the ill-formed part is, by std's answer behind the front
+-- The length of the fault, from what std returns for the bytes after the prefix.
 pub part_len : (bs : List ℕ) (n v m r : ℕ) (e f : Option ℕ) → v ≡ m → r ≡ unwrap_or e (length bs - (n + v)) → e ≡ f → f ≡ utf8_error_len (drop m (Behind bs n)) → r ≡ utf8_invalid_len (drop (n + v) bs)
 part_len bs n v m r e f is r_is e_is f_is =
     let read : e ≡ utf8_error_len (drop (n + v) bs) = e_is ∙ f_is ∙ ap (λ k. utf8_error_len (drop k (Behind bs n))) (sym is) ∙ ap utf8_error_len (ap (drop v) (take_rest bs n) ∙ drop-drop v n bs) in

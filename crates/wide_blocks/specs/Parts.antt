@@ -1,4 +1,5 @@
--- Bytes as characters and ill-formed parts: the Standard's D93b and, in its section 3.9, "U+FFFD Substitution of Maximal Subparts".
+-- Bytes as characters and faults: the Standard's D93b and, in its section 3.9, "U+FFFD Substitution of Maximal
+-- Subparts".
 use Rattle.std.proofs.Common.{◌≡◌, ℕ, zero, suc, ◌+◌, ◌<◌, List, [], ◌∷◌, ◌++◌, length, map, take, drop, refl, sym, ap, ◌∙◌, arith}
 use Rattle.std.specs.Prelude.{Bool, slice_index}
 use Rattle.std.specs.Char.{IsScalar}
@@ -14,14 +15,14 @@ use Rattle.wide_unit.specs.Utf8.{utf8_bytes}
 use Rattle.wide_unit.specs.Laws.Utf8.{utf8_bytes-encode_utf8}
 use Rattle.wide_blocks.specs.Laws.Parts.{First, nothing, char, no_char, first, shorter-char, shorter-part, below_more, below_next, below_none}
 
--- The items are the bytes' characters and ill-formed parts, in order. A part is the bytes that one U+FFFD stands for, and is told by its
--- first byte.
+-- The items are the characters and the faults of the bytes, in order. A fault is an ill-formed sequence of bytes that
+-- one U+FFFD replaces. Its item holds its first byte.
 pub data AreUtf8Items : List ℕ → List Item → Type 0 where
   none : AreUtf8Items [] []
   character : (c : ℕ) (bs : List ℕ) (is : List Item) → IsScalar c → AreUtf8Items bs is → AreUtf8Items (utf8_bytes c ++ bs) (Char c ∷ is)
   part : (bs : List ℕ) (is : List Item) → 0 < length bs → StartsWithNoChar bs → AreUtf8Items (drop (utf8_invalid_len bs) bs) is → AreUtf8Items bs (Fault (slice_index bs 0) ∷ is)
 
--- bytes have such items
+-- The bytes have such a list of items.
 abbrev ItemsFor : List ℕ → Type 0
 ItemsFor bs = (is : List Item) × AreUtf8Items bs is
 
@@ -38,7 +39,7 @@ items_by : (steps : ℕ) (bs : List ℕ) → length bs < steps → ItemsFor bs
 items_by zero bs within = absurd (below_none (length bs) within)
 items_by (suc steps) bs within = with_first bs (λ ds less. items_by steps ds (below_more (length ds) (length bs) steps less within)) (first bs)
 
--- The one such list. Opaque: nothing is known of it but `utf8_items-divide`, and that there is no other.
+-- The only such list. It is opaque: all that is known about it is `utf8_items-divide`, and that there is no other.
 pub utf8_items : List ℕ → List Item
 utf8_items bs = (items_by (suc (length bs)) bs (below_next (length bs))).0
 
@@ -46,7 +47,7 @@ pub utf8_items-divide : (bs : List ℕ) → AreUtf8Items bs (utf8_items bs)
 unfolding utf8_items
 utf8_items-divide bs = (items_by (suc (length bs)) bs (below_next (length bs))).1
 
--- there is no other
+-- There is no other such list.
 same_items : (bs ds : List ℕ) (is js : List Item) → bs ≡ ds → AreUtf8Items bs is → AreUtf8Items ds js → is ≡ js
 same_items bs ds is js e none none = refl
 same_items bs ds is js e none (character d rest js' scalar more) = absurd (omega (arith, ap length e, shorter-char d rest))
@@ -66,16 +67,16 @@ same_items bs ds is js e (part bs' is' some unread more) (part ds' js' some' unr
 pub utf8_items-unique : (bs : List ℕ) (is js : List Item) → AreUtf8Items bs is → AreUtf8Items bs js → is ≡ js
 utf8_items-unique bs is js a b = same_items bs bs is js refl a b
 
--- The first bytes are text, and behind them stand so many that are the first ill-formed part.
+-- The first `place` bytes are UTF-8, and the next `len` bytes are the first fault.
 abbrev pub HasFirstPart : List ℕ → ℕ → ℕ → Type 0
 HasFirstPart bs place len = utf8_items bs ≡ map Char (str_chars (take place bs)) ++ Fault (slice_index bs place) ∷ utf8_items (drop (place + len) bs)
 
--- The bytes begin with an item, which has so many bytes.
+-- The bytes begin with an item of `len` bytes.
 abbrev pub BeginsWith : List ℕ → Item → ℕ → Type 0
 BeginsWith bs item len = utf8_items bs ≡ item ∷ utf8_items (drop len bs)
 
--- The bytes before a place are some of the items, and with the units of their lossy text the units before have become those after. The flags
--- tell whether an ill-formed part stands last, of what stands before the bytes and before the place.
+-- The bytes before an offset are some of the items, and `new` is `old` with the units of their lossy text appended.
+-- `before` says whether a fault directly precedes the bytes, and `after` whether a fault directly precedes the offset.
 pub record IsLossyFront (form : EncodingForm) (policy : Policy) (bs : List ℕ) (place : ℕ) (before after : Bool) (old new : List ℕ) : Type 0 where
   pub front : List Item
   pub items : utf8_items bs ≡ front ++ utf8_items (drop place bs)

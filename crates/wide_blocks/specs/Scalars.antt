@@ -1,4 +1,4 @@
--- The bytes of a scalar value in UTF-8 as one number, low byte first, and how many they are.
+-- The UTF-8 of a scalar value as one number, low byte first, and its length in bytes.
 use Rattle.std.specs.Prelude.{◌≡◌, ℕ, ◌+◌, ◌*◌, ◌/◌, ◌%◌, ◌<◌, ◌≤◌}
 
 pub record IsScalarWord (c word : ℕ) : Type 0 where

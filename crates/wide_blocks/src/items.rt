@@ -1,4 +1,7 @@
-//! The characters and ill-formed parts of any bytes, one after another.
+//! Decodes any bytes as lossy text, character by character and fault by fault.
+//! It follows the Unicode Standard, section 3.9, Table 3-7 and "U+FFFD Substitution of Maximal Subparts". Scalar code,
+//! except
+//! for ASCII, which it reads sixteen bytes at a time.
 
 ghost use Rattle.std.specs.Prelude.{◌≡◌, ◌+◌, ◌<◌, ◌≤◌, ℕ, ◌&&◌, [], IfNone, IfSome, length, map, slice_index, take, drop};
 ghost use Rattle.std.specs.Int.{is_in_range};
@@ -10,10 +13,10 @@ use crate::units::{char_of, low_len, put_bytes, put_char};
 use wide_from_utf16::is_marked;
 use wide_unit::{Policy, Unit};
 
-// Behind so many bytes without a fault they are read by blocks again.
+// After so many bytes without a fault, the caller goes on with the vectorized conversion.
 const SOUND: usize = 64;
 
-// The byte at a place, or zero, which continues no character, behind the end.
+// Returns the byte at an offset, or zero after the end. Zero continues no character.
 #[inline(always)]
 fn byte_at(text: &[u8], at: usize) -> u8
     ensures { result ≡ slice_index text.now at }
@@ -21,7 +24,7 @@ fn byte_at(text: &[u8], at: usize) -> u8
     if at < text.len() { text[at] } else { 0 }
 }
 
-// Whether a byte may stand behind the first of a character (Unicode Standard, Table 3-7).
+// Returns whether two bytes can begin a character of several bytes (Unicode Standard, Table 3-7).
 #[inline(always)]
 fn may_follow(first: u8, second: u8) -> bool
     ensures { result ≡ (is_in_range 0xC2 0xF4 first && is_in_range (second_byte_min first) (second_byte_max first) second) }
@@ -36,8 +39,10 @@ fn may_follow(first: u8, second: u8) -> bool
     0xc2 <= first && first <= 0xf4 && least <= second && second <= greatest
 }
 
-// The character that bytes begin with, or none where an ill-formed part does (Unicode Standard, section 3.9, "U+FFFD Substitution of
-// Maximal Subparts"), and how many bytes it has.
+// Returns the first character of some bytes, or `None` if they begin with a fault, an ill-formed sequence (Unicode
+// Standard, section 3.9, "U+FFFD Substitution of Maximal Subparts"). Also returns the length of the character or the
+// fault
+// in bytes.
 #[inline(always)]
 fn first_item(text: &[u8]) -> (Option<char>, usize)
     requires { 0 < length text.now }
@@ -77,8 +82,8 @@ fn first_item(text: &[u8]) -> (Option<char>, usize)
     (Some(char_of(code)), 4)
 }
 
-// Writes the lossy text of the ASCII characters that bytes begin with, or of the one item. Answers how many bytes they have and how many
-// units were written, and whether an ill-formed part is their last.
+// Writes the lossy text of the ASCII characters at the beginning of some bytes, or otherwise of the first item. Returns
+// how many bytes were read, how many units were written, and whether a fault was read last.
 #[inline(always)]
 fn put_front<C: Unit>(
     text: &[u8],
@@ -113,11 +118,17 @@ fn put_front<C: Unit>(
     (len, behind - at, true)
 }
 
-/// Writes the lossy text of a front of any bytes under a policy to the front of `units`, in the encoding form of `C` (Unicode Standard,
-/// D90, D91; section 3.9, "U+FFFD Substitution of Maximal Subparts"). The flag tells whether an ill-formed part stands right before the
-/// bytes. Answers how many bytes it read, at least one where there are some, how many units it wrote, and the flag behind what it read.
-/// It stops where it has met no ill-formed part for a while: text is read faster by `decode_utf8_front`. Units behind those may be
-/// overwritten.
+/// Decodes a prefix of any bytes as lossy text under a policy (Unicode Standard, section 3.9, "U+FFFD Substitution of
+/// Maximal Subparts"), and writes it in the encoding form of `C` (D90, D91) at the beginning of `units`. `after` says
+/// whether a fault directly precedes the bytes. Returns how many bytes were read, how many units were written, and
+/// whether
+/// a fault was read last. It reads at least one byte if there is any. It stops after a run of bytes without a fault,
+/// which
+/// `decode_utf8_front` decodes faster. The units after those written may be overwritten.
+///
+/// # Requires
+///
+/// `units` has at least 16 units.
 pub fn lossy_utf8_front<C: Unit>(
     text: &[u8],
     policy: Policy,

@@ -1,4 +1,5 @@
-//! The length of text in UTF-8.
+//! Computes the length of well-formed UTF-16 or UTF-32 in UTF-8 bytes (Unicode Standard, section 3.9, Table 3-6).
+//! Vectorized by the compiler: each unit adds a number of bytes that depends on this unit only.
 
 ghost use Rattle.std.specs.Prelude.{◌≡◌, ℕ, ◌+◌, ◌*◌, ◌-◌, ◌^◌, ◌≤◌, length, map, min};
 ghost use Rattle.std.specs.List.{sum_by};
@@ -8,17 +9,17 @@ ghost use Rattle.wide_blocks.specs.Lengths.{more_of_16, more_of_32};
 
 use wide_unit::{AnyUnits, Unit};
 
-// As many units as are counted by one counter that can't overflow.
+// How many units are counted before the count is added to the length, so that a counter of 16 bits cannot overflow.
 const BLOCK: usize = 4096;
 
-// A unit whose text in UTF-8 may be longer than a byte.
+// A unit whose UTF-8 may be longer than a byte.
 trait Weighed: Copy {
     ghost use Rattle.std.specs.Prelude.{ℕ};
 
-    // How many bytes more than one the unit has.
+    // How many bytes more than one the unit has in UTF-8.
     ghost more: { Self → ℕ };
 
-    // How many more the units have.
+    // Returns the sum of these numbers over the units.
     fn more_bytes(units: &[Self]) -> usize
         requires { length units.now ≤ 4096 }
         ensures { result ≡ sum_by more units.now };
@@ -27,7 +28,7 @@ trait Weighed: Copy {
 impl Weighed for u16 {
     ghost more = { more_of_16 };
 
-    // A counter as wide as a unit is compiled to lanes.
+    // The counter has the width of a unit, so the compiler vectorizes the loop.
     #[inline(always)]
     fn more_bytes(units: &[u16]) -> usize {
         let mut more = 0u16;
@@ -53,7 +54,7 @@ impl Weighed for u32 {
     }
 }
 
-// How many bytes the units have, or the greatest number where they are more.
+// Returns the length of the units in UTF-8 bytes, or `usize::MAX` if it is greater.
 fn len_of<C: Weighed>(units: &[C]) -> usize
     ensures { result ≡ min (length units.now + sum_by C.more units.now) (2 ^ 64 - 1) }
 {
@@ -66,8 +67,13 @@ fn len_of<C: Weighed>(units: &[C]) -> usize
     len.saturating_add(C::more_bytes(&units[at..]))
 }
 
-/// How many bytes the text of well-formed units has in UTF-8 (Unicode Standard, D92), or the greatest number where they are more. The
-/// units are read by blocks.
+/// Returns the length of well-formed units in UTF-8 bytes (Unicode Standard, D92), or `usize::MAX` if it is greater. It
+/// is
+/// vectorized.
+///
+/// # Requires
+///
+/// The units are well formed.
 pub fn utf8_len<C: Unit>(units: &[C]) -> usize
     requires { IsWellFormed C.form (map C.number units.now) }
     ensures { result ≡ min (length (utf8 (chars C.form (map C.number units.now)))) (2 ^ 64 - 1) }

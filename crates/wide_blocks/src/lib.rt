@@ -1,4 +1,5 @@
-//! Text of units in UTF-8, text from UTF-8, units of another width, bytes of units, and lossy text, sixteen units or bytes in one step.
+//! Converts between UTF-8, UTF-16, UTF-32, bytes and lossy text (Unicode Standard, section 3.9, D90 to D100).
+//! Vectorized: sixteen units or bytes in one step, in SIMD lanes.
 #![tactic(auto)]
 
 mod items;

@@ -1,4 +1,7 @@
-//! Lossy text of units, a front of it after another, as well-formed units.
+//! Repairs ill-formed UTF-16 or UTF-32, prefix by prefix, with U+FFFD in place of each fault.
+//! It follows the Unicode Standard, section 3.9, "U+FFFD Substitution of Maximal Subparts". Checking and repairing
+//! units is
+//! vectorized.
 
 ghost use Rattle.std.specs.Prelude.{◌≡◌, ℕ, ◌++◌, ◌<◌, ◌≤◌, false, length, map, take, drop};
 ghost use Rattle.wide_unit.specs.Items.{IsFirstFault, IsWellFormed, chars, items};
@@ -7,10 +10,12 @@ ghost use Rattle.wide_unit.specs.Laws.Items.{IsCut};
 
 use wide_unit::{Unit, check};
 
-// Fewer sound units than these are mended along with what follows them.
+// If fewer well-formed units precede a fault, they are repaired together with the units after them.
 const FEW: usize = 64;
 
-/// How many units stand before the first fault: all, where the units are well formed (Unicode Standard, D85). They are read by blocks.
+/// Returns how many units precede the first fault, or their total number if they are well formed (Unicode Standard,
+/// D85).
+/// The check is vectorized.
 pub fn sound_len<C: Unit>(units: &[C]) -> usize
     ensures within { result ≤ length units.now }
     ensures sound { IsWellFormed C.form (map C.number (take result units.now)) }
@@ -22,7 +27,9 @@ pub fn sound_len<C: Unit>(units: &[C]) -> usize
     }
 }
 
-// How many units at the front are mended alone: so many, or one fewer where the last of those is half of a pair.
+// Returns how many units at the beginning can be repaired separately: at most `most`, and one fewer if that would split
+// a
+// surrogate pair.
 fn mended_len<C: Unit>(units: &[C], most: usize) -> usize
     requires { 2 ≤ most }
     ensures within { result ≤ length units.now }
@@ -39,10 +46,17 @@ fn mended_len<C: Unit>(units: &[C], most: usize) -> usize
     }
 }
 
-/// A front of the units as lossy text has it, with U+FFFD in the place of each unit that belongs to no character (Unicode Standard,
-/// section 3.9, "U+FFFD Substitution of Maximal Subparts"), and the units behind that front.
+/// Repairs a prefix of the units: replaces each unit that belongs to no character by U+FFFD (Unicode Standard, section
+/// 3.9,
+/// "U+FFFD Substitution of Maximal Subparts"). Returns the repaired prefix and the units after it.
 ///
-/// Units without a fault are handed on as they are. Others are put into `spare`, at most as many as it holds.
+/// If the prefix has no fault, it is returned without copying. Otherwise it is written into `spare`, at most as many
+/// units
+/// as `spare` holds.
+///
+/// # Requires
+///
+/// `spare` has at least two units.
 pub fn lossy_front<'u: 'm, 'm, C: Unit>(units: &'u [C], spare: &'m mut [C]) -> (&'m [C], &'u [C])
     requires { 2 ≤ length spare.old }
     ensures well_formed { IsWellFormed C.form (map C.number result.0.now) }
@@ -60,7 +74,9 @@ pub fn lossy_front<'u: 'm, 'm, C: Unit>(units: &'u [C], spare: &'m mut [C]) -> (
     (&spare[..len], rest)
 }
 
-/// Whether a fault is the last of what was read, behind so many units or bytes of characters: where there are none, as before.
+/// Returns whether a fault was read last, after `len` more units or bytes of characters were read: `after_fault` if
+/// there
+/// are none, and otherwise false.
 #[inline(always)]
 pub fn is_after_fault(after_fault: bool, len: usize) -> bool
     ensures same { len ≡ 0 → result ≡ after_fault }

@@ -1,4 +1,6 @@
-//! The units of text that mixes characters of one to three bytes, by the places where they begin.
+//! Converts UTF-8 that mixes characters of one to three bytes to units (Unicode Standard, section 3.9, Table 3-6).
+//! Vectorized: SIMD lanes compute a scalar value at each byte, as if a character began there, and a look-up table of
+//! shuffles retains the lanes of the bytes that begin a character.
 
 ghost use Rattle.std.specs.Prelude.{◌≡◌, ◌++◌, ◌+◌, ◌*◌, ◌<◌, ◌≤◌, ℕ, length, map, slice_index, take};
 ghost use Rattle.std.specs.Str.{IsUtf8};
@@ -10,7 +12,7 @@ use crate::units::low_len;
 use std::simd::prelude::*;
 use wide_unit::Unit;
 
-// The scalar values that characters of one to three bytes have that begin at the first eight places.
+// Returns the scalar values at the first eight bytes, as if a character of one to three bytes began at each.
 #[inline(always)]
 fn codes_of(text: &[u8]) -> u16x8
     requires { 10 ≤ length text.now }
@@ -20,13 +22,13 @@ fn codes_of(text: &[u8]) -> u16x8
     let second = u8x8::from_slice(&text[1..]).cast::<u16>() % u16x8::splat(0x40);
     let third = u8x8::from_slice(&text[2..]).cast::<u16>() % u16x8::splat(0x40);
     let two = first % u16x8::splat(0x20) * u16x8::splat(0x40) + second;
-    // What of the first byte goes beyond sixteen bits is dropped.
+    // The multiplication drops the bits of the first byte that exceed sixteen bits.
     let three = first * u16x8::splat(0x1000) + second * u16x8::splat(0x40) + third;
     let short = first.simd_lt(u16x8::splat(0x80)).select(first, two);
     first.simd_lt(u16x8::splat(0xe0)).select(short, three)
 }
 
-// One bit for each of the first sixteen bytes that begins a character, from the lowest on.
+// Returns a bit mask of the first sixteen bytes: bit k is set if byte k begins a character.
 #[inline(always)]
 fn leads_of(text: &[u8]) -> usize
     requires { 16 ≤ length text.now }
@@ -36,7 +38,7 @@ fn leads_of(text: &[u8]) -> usize
     high.simd_ne(u8x16::splat(0x80)).to_bitmask() as usize
 }
 
-// How many of the first two bytes are the rest of a character that was begun before.
+// Returns how many of the first two bytes continue a character that began before them.
 #[inline(always)]
 fn rest_len(text: &[u8]) -> usize
     requires { 2 ≤ length text.now }
@@ -52,8 +54,15 @@ fn rest_len(text: &[u8]) -> usize
     }
 }
 
-/// Writes the units of the characters that begin in the first sixteen bytes of text, up to the first of four bytes, and answers how many
-/// bytes they have and how many units. The units up to sixteen places on may be overwritten.
+/// Writes the units of the characters that begin in the first sixteen bytes of text, up to the first character of four
+/// bytes. Returns how many bytes were read and how many units were written. The sixteen units from `at` on may be
+/// overwritten.
+///
+/// # Requires
+///
+/// The text is well-formed UTF-8 of at least 18 bytes. Its first character has at most three bytes. `units` has at
+/// least
+/// 16 units from `at` on.
 #[inline(always)]
 pub(crate) fn put_mixed<C: Unit>(text: &[u8], units: &mut [C], at: usize) -> (usize, usize)
     requires text { IsUtf8 text.now }

@@ -1,4 +1,7 @@
-//! Fronts of well-formed units in units of another width, sixteen units in one step.
+//! Converts between well-formed UTF-16 and UTF-32 (Unicode Standard, section 3.9, D90 and D91).
+//! Vectorized by the compiler: sixteen units in one step if each is a character below 0x1_0000. Other units are
+//! converted
+//! character by character.
 
 ghost use Rattle.std.specs.Prelude.{◌≡◌, ◌++◌, ◌+◌, ◌*◌, ◌<◌, ◌≤◌, ℕ, IsTrue, drop, length, map, slice_index, take};
 ghost use Rattle.wide_unit.specs.EncodingForm.{encode};
@@ -7,7 +10,7 @@ ghost use Rattle.wide_unit.specs.Items.{IsWellFormed, chars};
 use crate::units::{char_of, put_char};
 use wide_unit::{Unit, split_first};
 
-// Whether each of sixteen units is a character below 0x1_0000.
+// Returns whether each of sixteen units is a character below 0x1_0000.
 #[inline(always)]
 fn are_plain<C: Unit>(block: &[C]) -> bool
     requires { length block.now ≡ 16 }
@@ -23,7 +26,7 @@ fn are_plain<C: Unit>(block: &[C]) -> bool
     plain
 }
 
-// Stores sixteen such units, each as one unit.
+// Stores sixteen units, each of which is a character below 0x1_0000, as one unit each.
 #[inline(always)]
 fn put_plain<C: Unit, D: Unit>(block: &[C], out: &mut [D], at: usize)
     requires whole { length block.now ≡ 16 }
@@ -32,7 +35,7 @@ fn put_plain<C: Unit, D: Unit>(block: &[C], out: &mut [D], at: usize)
     requires characters { (k : ℕ) → k < 16 → 0xd800 ≤ slice_index (map C.number block.now) k → 0xe000 ≤ slice_index (map C.number block.now) k }
     ensures { map D.number (take (at + 16) out.new) ≡ map D.number (take at out.old) ++ map C.number block.now }
 {
-    // An own array can't overlap the block, so that this is compiled to vectors.
+    // A local array cannot overlap the block, so the compiler vectorizes this loop.
     let mut own = [D::NUL; 16];
     for k in 0..16 {
         let (unit, _) = D::encode_char(char_of(block[k].code()));
@@ -41,8 +44,9 @@ fn put_plain<C: Unit, D: Unit>(block: &[C], out: &mut [D], at: usize)
     out[at..at + 16].copy_from_slice(&own);
 }
 
-// Writes characters of up to sixteen units, one by one, behind the first `at` units of `out`. Answers how many units it read and the
-// place behind those that it wrote.
+// Converts the first characters of the units one by one and writes them after the first `at` units of `out`, up to
+// sixteen
+// units. Returns how many units were read, and the index after those written.
 fn put_ones<C: Unit, D: Unit>(units: &[C], out: &mut [D], at: usize) -> (usize, usize)
     requires well_formed { IsWellFormed C.form (map C.number units.now) }
     requires room { at + 16 ≤ length out.old }
@@ -59,7 +63,9 @@ fn put_ones<C: Unit, D: Unit>(units: &[C], out: &mut [D], at: usize) -> (usize, 
         let Some((item, others)) = split_first(rest) else {
             break 'ones;
         };
-        // Each item is a character. Units that another thread changes meanwhile must not stop the program.
+        // Each item is a character, since the units are well formed. The replacement is for units that another thread
+        // changes
+        // meanwhile: the program must not panic.
         let c = item.unwrap_or(char::REPLACEMENT_CHARACTER);
         written = put_char(out, written, c);
         rest = others;
@@ -67,8 +73,15 @@ fn put_ones<C: Unit, D: Unit>(units: &[C], out: &mut [D], at: usize) -> (usize, 
     (units.len() - rest.len(), written)
 }
 
-/// Writes a front of well-formed units of one width in units of another (Unicode Standard, D90, D91) to the front of `out`, and answers
-/// how many units it read and how many it wrote: at least one, where any is there. Units behind those may be overwritten.
+/// Converts a prefix of well-formed units of one encoding form to another (Unicode Standard, D90, D91), at the
+/// beginning
+/// of `out`. Returns how many units were read and how many were written. It reads at least one unit if there is any.
+/// The
+/// units after those written may be overwritten.
+///
+/// # Requires
+///
+/// The units are well formed. `out` has at least 16 units.
 pub fn recode_front<C: Unit, D: Unit>(units: &[C], out: &mut [D]) -> (usize, usize)
     requires well_formed { IsWellFormed C.form (map C.number units.now) }
     requires room { 16 ≤ length out.old }

@@ -1,4 +1,5 @@
-//! The scalar values of fronts of well-formed 16-bit units, sixteen units in one step.
+//! Decodes well-formed UTF-16 to scalar values (Unicode Standard, section 3.9, D76 and D91).
+//! Vectorized: sixteen units in one step if none is a surrogate. Other units are decoded character by character.
 
 ghost use Rattle.std.specs.Prelude.{◌≡◌, ◌++◌, ◌+◌, ◌<◌, ◌≤◌, drop, length, take};
 ghost use Rattle.wide_unit.specs.EncodingForm.{Utf16};
@@ -8,14 +9,14 @@ use std::simd::prelude::*;
 use wide_from_utf16::has_surrogate;
 use wide_unit::split_first;
 
-// Writes sixteen units, in 32 bits each.
+// Writes sixteen units as 32-bit values.
 #[inline(always)]
 fn widen(block: &[u16], scalars: &mut [u32], at: usize)
     requires whole { length block.now ≡ 16 }
     requires room { at + 16 ≤ length scalars.old }
     ensures { take (at + 16) scalars.new ≡ take at scalars.old ++ block.now }
 {
-    // An own array can't overlap the block, so that this is compiled to vectors.
+    // A local array cannot overlap the block, so the compiler vectorizes this loop.
     let mut wide = [0u32; 16];
     for k in 0..16 {
         wide[k] = u32::from(block[k]);
@@ -23,7 +24,9 @@ fn widen(block: &[u16], scalars: &mut [u32], at: usize)
     u32x16::from_slice(&wide).copy_to_slice(&mut scalars[at..at + 16]);
 }
 
-// Writes up to sixteen characters behind the first `at` scalar values. Answers how many units they are and the place behind them.
+// Decodes up to sixteen characters and writes them after the first `at` scalar values. Returns how many units were
+// read,
+// and the index after the values written.
 fn decode_ones(units: &[u16], scalars: &mut [u32], at: usize) -> (usize, usize)
     requires well_formed { IsWellFormed Utf16 units.now }
     requires room { at + 16 ≤ length scalars.old }
@@ -48,9 +51,14 @@ fn decode_ones(units: &[u16], scalars: &mut [u32], at: usize) -> (usize, usize)
     (units.len() - rest.len(), written)
 }
 
-/// Writes the scalar values of a front of well-formed 16-bit units (Unicode Standard, D91: UTF-16) to the front of `scalars`, and
-/// answers how many units it read and how many scalar values it wrote: where any unit is there, at least one is read. Values behind
-/// those may be overwritten.
+/// Decodes a prefix of well-formed 16-bit units (Unicode Standard, D91: UTF-16) to scalar values at the beginning of
+/// `scalars`. Returns how many units were read and how many scalar values were written. It reads at least one unit if
+/// there
+/// is any. The values after those written may be overwritten.
+///
+/// # Requires
+///
+/// The units are well formed. `scalars` has at least 16 elements.
 pub fn decode_front(units: &[u16], scalars: &mut [u32]) -> (usize, usize)
     requires well_formed { IsWellFormed Utf16 units.now }
     requires room { 16 ≤ length scalars.old }

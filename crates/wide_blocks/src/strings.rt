@@ -1,4 +1,5 @@
-//! The text of well-formed units in UTF-8, as a string.
+//! Converts well-formed UTF-16 or UTF-32 to a string in UTF-8 (Unicode Standard, section 3.9, D92).
+//! It encodes chunks into an array on the stack by the vectorized conversion, and appends each chunk to the string.
 
 ghost use Rattle.std.specs.Prelude.{◌≡◌, ℕ, List, ◌++◌, ◌+◌, ◌<◌, ◌≤◌, [], map, length, IsOk, IfOk, OnErr, OnOk, string_bytes, vec_capacity, vec_len};
 ghost use Rattle.wide_unit.specs.Items.{IsWellFormed, chars};
@@ -10,7 +11,9 @@ use crate::text::encode_front;
 use std::alloc::{AllocError, Allocator};
 use wide_unit::Unit;
 
-// The text of a few units is put into a small array before it is appended, that of others into a large one.
+// The array on the stack has `SMALL` bytes for at most `FEW` units, `MIDDLE` bytes for at most `MANY` units, and
+// `LARGE`
+// bytes for more. A small array takes less time to clear.
 const FEW: usize = 32;
 
 const SMALL: usize = 100;
@@ -21,7 +24,7 @@ const MIDDLE: usize = 772;
 
 const LARGE: usize = 3100;
 
-// Appends the text, a piece after another.
+// Appends the text, chunk by chunk.
 fn push_pieces<C: Unit, A: Allocator>(
     text: &mut Vec<u8, A>,
     units: &[C],
@@ -45,9 +48,14 @@ fn push_pieces<C: Unit, A: Allocator>(
 
 /// Appends the text of well-formed units in UTF-8 (Unicode Standard, D92).
 ///
+/// # Requires
+///
+/// The units are well formed.
+///
 /// # Errors
 ///
-/// Out of memory: what was appended is a prefix of the text. There is no error if the capacity suffices.
+/// [`AllocError`] if the allocation fails. A prefix of the text may have been appended. It never fails if the spare
+/// capacity suffices.
 pub fn push_utf8<C: Unit, A: Allocator>(
     text: &mut Vec<u8, A>,
     units: &[C],
@@ -67,12 +75,17 @@ pub fn push_utf8<C: Unit, A: Allocator>(
     }
 }
 
-/// The text of well-formed units in UTF-8 (Unicode Standard, D92). It asks for memory once, for as many bytes as the text has: none where
-/// there are no units.
+/// Returns the text of well-formed units as a string in UTF-8 (Unicode Standard, D92). It allocates once, for as many
+/// bytes
+/// as the text has, and not at all if there are no units.
+///
+/// # Requires
+///
+/// The units are well formed.
 ///
 /// # Errors
 ///
-/// The allocation was refused.
+/// [`AllocError`] if the allocation fails. It never fails if there are no units.
 pub fn utf8_string<C: Unit, A: Allocator>(alloc: A, units: &[C]) -> Result<String<A>, AllocError>
     requires { IsWellFormed C.form (map C.number units.now) }
     ensures text { IfOk result (λ text. string_bytes text ≡ utf8 (chars C.form (map C.number units.now))) }
@@ -80,6 +93,6 @@ pub fn utf8_string<C: Unit, A: Allocator>(alloc: A, units: &[C]) -> Result<Strin
 {
     let mut text = Vec::with_capacity(alloc, utf8_len(units))?;
     push_utf8(&mut text, units)?;
-    // It was written as UTF-8, so that it needs no check.
+    // The bytes were written as UTF-8, so they need no check.
     Ok(unsafe { String::from_utf8_unchecked(text) })
 }

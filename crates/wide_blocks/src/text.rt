@@ -1,4 +1,7 @@
-//! The text of fronts of well-formed units, of either width.
+//! Converts prefixes of well-formed UTF-16 or UTF-32 to UTF-8 (Unicode Standard, section 3.9, D90 to D92).
+//! Vectorized: sixteen units in one step. UTF-32 below 0x1_0000 is encoded as UTF-16, with its look-up tables of
+//! shuffles.
+//! Other UTF-32 computes the bytes and the length of each scalar value in a SIMD lane.
 
 ghost use Rattle.std.specs.Prelude.{◌≡◌, ◌++◌, ◌+◌, ◌*◌, ◌<◌, ◌≤◌, ℕ, drop, length, map, slice_index, take};
 ghost use Rattle.std.specs.Char.{IsScalar};
@@ -11,7 +14,9 @@ ghost use Rattle.wide_blocks.specs.Scalars.{IsScalarLen, IsScalarWord};
 use wide_from_utf16::{encode, put_ascii, put_narrow, put_wide, put_word};
 use wide_unit::{AnyUnits, Unit};
 
-// As `encode_front`, of 16-bit units: as many as surely have room.
+// Encodes a prefix of 16-bit units: as many as certainly fit into `text`, at three bytes for each. Returns how many
+// units
+// were read and how many bytes were written.
 fn encode_front_16(units: &[u16], text: &mut [u8]) -> (usize, usize)
     requires well_formed { IsWellFormed Utf16 units.now }
     requires room { 64 ≤ length text.old }
@@ -31,7 +36,7 @@ fn encode_front_16(units: &[u16], text: &mut [u8]) -> (usize, usize)
     (step.read, step.written)
 }
 
-// The bits of sixteen units, joined: no unit is above them.
+// Returns the bitwise or of sixteen units. No unit is greater than it.
 #[inline(always)]
 fn bits_of(block: &[u32]) -> u32
     requires { length block.now ≡ 16 }
@@ -44,7 +49,7 @@ fn bits_of(block: &[u32]) -> u32
     bits
 }
 
-// Sixteen units below 0x1_0000, in 16 bits each.
+// Converts sixteen units below 0x1_0000 to 16 bits each.
 #[inline(always)]
 fn narrow(block: &[u32], units: &mut [u16])
     requires whole { length block.now ≡ 16 }
@@ -57,12 +62,14 @@ fn narrow(block: &[u32], units: &mut [u16])
     }
 }
 
-// The bytes of a scalar value as a number, low byte first. All are computed and one is taken, as lanes do it.
+// Returns the UTF-8 of a scalar value as a number, low byte first. It computes the bytes for each length and selects
+// one
+// result, so that the compiler can vectorize a loop of calls.
 #[inline(always)]
 fn word_of(code: u32) -> u32
     ensures { IsScalarWord code result }
 {
-    // Six bits a byte, the highest first.
+    // Six bits for each byte, the highest six bits in the lowest byte.
     let parts = code / 0x4_0000
         + code / 0x1000 % 0x40 * 0x100
         + code / 0x40 % 0x40 * 0x1_0000
@@ -75,7 +82,7 @@ fn word_of(code: u32) -> u32
     if code < 0x1_0000 { plain } else { four }
 }
 
-// How many bytes a scalar value has.
+// Returns the length of a scalar value in UTF-8 bytes.
 #[inline(always)]
 fn len_of(code: u32) -> u32
     ensures { IsScalarLen code result }
@@ -83,7 +90,7 @@ fn len_of(code: u32) -> u32
     1 + u32::from(0x80 <= code) + u32::from(0x800 <= code) + u32::from(0x1_0000 <= code)
 }
 
-// Writes the bytes of a scalar value, and answers the place behind them.
+// Writes a scalar value as UTF-8, and returns the offset in bytes after it.
 #[inline(always)]
 fn put_scalar(out: &mut [u8], at: usize, code: u32) -> usize
     requires room { at + 4 ≤ length out.old }
@@ -117,7 +124,7 @@ fn lens_of(block: &[u32], lens: &mut [u32])
     }
 }
 
-// A function of its own, so that both arrays are compiled to vectors.
+// A separate function, so that the compiler vectorizes the loops over both arrays.
 #[inline(never)]
 fn lanes_of(block: &[u32], words: &mut [u32], lens: &mut [u32])
     requires whole { length block.now ≡ 16 }
@@ -130,7 +137,9 @@ fn lanes_of(block: &[u32], words: &mut [u32], lens: &mut [u32])
     lens_of(block, lens);
 }
 
-// Writes the text of sixteen scalar values, and answers the place behind it. Up to three bytes behind it are overwritten.
+// Writes sixteen scalar values as UTF-8, and returns the offset in bytes after them. Up to three bytes after them may
+// be
+// overwritten.
 #[inline(always)]
 fn put_scalars(block: &[u32], out: &mut [u8], at: usize) -> usize
     requires whole { length block.now ≡ 16 }
@@ -150,8 +159,9 @@ fn put_scalars(block: &[u32], out: &mut [u8], at: usize) -> usize
     written
 }
 
-// Writes the text of sixteen scalar values that are 16-bit units, none of them above `bits`, and answers the place behind it. Up to
-// twelve bytes behind it are overwritten. A function of its own: within the loop the array was filled in pieces, for which loads wait.
+// Writes sixteen scalar values below 0x1_0000, none of them greater than `bits`, as UTF-8. Returns the offset in bytes
+// after them. Up to twelve bytes after them may be overwritten. It is a separate function because the compiler would
+// otherwise fill the array in several stores, for which the vector loads have to wait.
 #[inline(never)]
 fn put_units(block: &[u32], bits: u32, out: &mut [u8], at: usize) -> usize
     requires whole { length block.now ≡ 16 }
@@ -171,7 +181,8 @@ fn put_units(block: &[u32], bits: u32, out: &mut [u8], at: usize) -> usize
     }
 }
 
-// As `put_scalars`, by 16-bit units where all are below 0x1_0000; then up to twelve bytes behind the text are overwritten.
+// Writes sixteen scalar values as UTF-8, and returns the offset in bytes after them. It encodes them as UTF-16 units if
+// all are below 0x1_0000. Up to twelve bytes after the text may be overwritten.
 #[inline(always)]
 fn put_block(block: &[u32], out: &mut [u8], at: usize) -> usize
     requires whole { length block.now ≡ 16 }
@@ -193,7 +204,9 @@ fn put_block(block: &[u32], out: &mut [u8], at: usize) -> usize
     }
 }
 
-// As `encode_front`, of 32-bit units: sixteen in one step, and the last ones, or those at the end of the room, one by one.
+// Encodes a prefix of 32-bit units: sixteen in one step, and one by one if fewer than sixteen units or fewer than 64
+// bytes
+// of space are left. Returns how many units were read and how many bytes were written.
 fn encode_front_32(units: &[u32], text: &mut [u8]) -> (usize, usize)
     requires well_formed { IsWellFormed Utf32 units.now }
     requires room { 64 ≤ length text.old }
@@ -216,8 +229,14 @@ fn encode_front_32(units: &[u32], text: &mut [u8]) -> (usize, usize)
     (read, written)
 }
 
-/// Writes the text of a front of well-formed units in UTF-8 (Unicode Standard, D92) to the front of `text`, and answers how many units
-/// it read and how many bytes it wrote: where any unit is there, at least one is read. Bytes behind those may be overwritten.
+/// Encodes a prefix of well-formed units as UTF-8 (Unicode Standard, D92) at the beginning of `text`, and returns how
+/// many
+/// units were read and how many bytes were written. It reads at least one unit if there is any. The bytes after those
+/// written may be overwritten.
+///
+/// # Requires
+///
+/// The units are well formed. `text` has at least 64 bytes.
 pub fn encode_front<C: Unit>(units: &[C], text: &mut [u8]) -> (usize, usize)
     requires well_formed { IsWellFormed C.form (map C.number units.now) }
     requires room { 64 ≤ length text.old }

@@ -1,4 +1,7 @@
-//! Units as bytes, in either order.
+//! Serializes UTF-16 and UTF-32 units as bytes, in little-endian or big-endian order.
+//! It follows the encoding schemes UTF-16BE, UTF-16LE, UTF-32BE and UTF-32LE (Unicode Standard, section 3.10, D96 to
+//! D100).
+//! The loops are simple, so that the compiler can vectorize them.
 
 ghost use Rattle.std.specs.Prelude.{◌≡◌, ◌*◌, ◌^◌, ◌<◌, ◌≤◌, length, map, take, drop};
 ghost use Rattle.wide_unit.specs.EncodingForm.{Utf16, Utf32};
@@ -6,7 +9,7 @@ ghost use Rattle.wide_unit.specs.UnitBytes.{unit_width, little_bytes, little_byt
 
 use wide_unit::{AnyUnits, Unit};
 
-// Stores the bytes of 16-bit units, the low one first.
+// Stores the bytes of 16-bit units, the low byte of each first.
 fn put_little_16(units: &[u16], bytes: &mut [u8])
     requires { 2 * length units.now ≤ length bytes.old }
     ensures front { take (2 * length units.now) bytes.new ≡ little_bytes_of Utf16 units.now }
@@ -18,7 +21,7 @@ fn put_little_16(units: &[u16], bytes: &mut [u8])
     }
 }
 
-// Stores the bytes of 16-bit units, the high one first.
+// Stores the bytes of 16-bit units, the high byte of each first.
 fn put_big_16(units: &[u16], bytes: &mut [u8])
     requires { 2 * length units.now ≤ length bytes.old }
     ensures front { take (2 * length units.now) bytes.new ≡ big_bytes_of Utf16 units.now }
@@ -30,7 +33,7 @@ fn put_big_16(units: &[u16], bytes: &mut [u8])
     }
 }
 
-// Stores the bytes of 32-bit units, the low one first.
+// Stores the bytes of 32-bit units, the low byte of each first.
 fn put_little_32(units: &[u32], bytes: &mut [u8])
     requires { 4 * length units.now ≤ length bytes.old }
     ensures front { take (4 * length units.now) bytes.new ≡ little_bytes_of Utf32 units.now }
@@ -44,7 +47,7 @@ fn put_little_32(units: &[u32], bytes: &mut [u8])
     }
 }
 
-// Stores the bytes of 32-bit units, the high one first.
+// Stores the bytes of 32-bit units, the high byte of each first.
 fn put_big_32(units: &[u32], bytes: &mut [u8])
     requires { 4 * length units.now ≤ length bytes.old }
     ensures front { take (4 * length units.now) bytes.new ≡ big_bytes_of Utf32 units.now }
@@ -58,7 +61,7 @@ fn put_big_32(units: &[u32], bytes: &mut [u8])
     }
 }
 
-/// How many bytes a unit has: two, if it has 16 bits, four, if it has 32.
+/// Returns the number of bytes in a unit: two for a unit of 16 bits, four for one of 32.
 pub fn byte_width<C: Unit>() -> usize
     ensures { result ≡ unit_width C.form }
 {
@@ -68,8 +71,12 @@ pub fn byte_width<C: Unit>() -> usize
     }
 }
 
-/// Stores the bytes of a byte order mark (Unicode Standard, section 23.8) at the front of `bytes`, the low byte first: `FF FE`, or in
-/// UTF-32 `FF FE 00 00`. What lies behind them stays as it was.
+/// Stores a little-endian BOM (Unicode Standard, section 23.8) at the beginning of `bytes`: `FF FE`, or in UTF-32
+/// `FF FE 00 00`. The bytes after it are unchanged.
+///
+/// # Requires
+///
+/// `bytes` has space for one unit.
 pub fn put_le_mark<C: Unit>(bytes: &mut [u8])
     requires { unit_width C.form ≤ length bytes.old }
     ensures front { take (unit_width C.form) bytes.new ≡ little_bytes C.form byte_order_mark }
@@ -81,7 +88,12 @@ pub fn put_le_mark<C: Unit>(bytes: &mut [u8])
     }
 }
 
-/// As [`put_le_mark`], the high byte first: `FE FF`, or in UTF-32 `00 00 FE FF`.
+/// Stores a big-endian BOM (Unicode Standard, section 23.8) at the beginning of `bytes`: `FE FF`, or in UTF-32
+/// `00 00 FE FF`. The bytes after it are unchanged.
+///
+/// # Requires
+///
+/// `bytes` has space for one unit.
 pub fn put_be_mark<C: Unit>(bytes: &mut [u8])
     requires { unit_width C.form ≤ length bytes.old }
     ensures front { take (unit_width C.form) bytes.new ≡ big_bytes C.form byte_order_mark }
@@ -93,7 +105,7 @@ pub fn put_be_mark<C: Unit>(bytes: &mut [u8])
     }
 }
 
-/// How many bytes the units have: two for a unit of 16 bits, four for one of 32.
+/// Returns the number of bytes in the units: two for each unit of 16 bits, four for each of 32.
 pub fn byte_len<C: Unit>(units: &[C]) -> usize
     ensures len { result ≡ unit_width C.form * length units.now }
     ensures bound { result < 2 ^ 63 }
@@ -104,8 +116,13 @@ pub fn byte_len<C: Unit>(units: &[C]) -> usize
     }
 }
 
-/// Stores the bytes of the units at the front of `bytes`, the low byte of each first (Unicode Standard, D97 and D100): two for a unit
-/// of 16 bits, four for one of 32. What lies behind them stays as it was.
+/// Stores the bytes of the units at the beginning of `bytes`, the low byte of each unit first (Unicode Standard, D97
+/// and
+/// D100): two for each unit of 16 bits, four for each of 32. The bytes after them are unchanged.
+///
+/// # Requires
+///
+/// `bytes` is at least as long as [`byte_len`] returns for the units.
 pub fn put_le_bytes<C: Unit>(units: &[C], bytes: &mut [u8])
     requires { unit_width C.form * length units.now ≤ length bytes.old }
     ensures front { take (unit_width C.form * length units.now) bytes.new ≡ little_bytes_of C.form (map C.number units.now) }
@@ -117,7 +134,13 @@ pub fn put_le_bytes<C: Unit>(units: &[C], bytes: &mut [u8])
     }
 }
 
-/// As [`put_le_bytes`], the high byte of each unit first (Unicode Standard, D96 and D99).
+/// Stores the bytes of the units at the beginning of `bytes`, the high byte of each unit first (Unicode Standard, D96
+/// and
+/// D99): two for each unit of 16 bits, four for each of 32. The bytes after them are unchanged.
+///
+/// # Requires
+///
+/// `bytes` is at least as long as [`byte_len`] returns for the units.
 pub fn put_be_bytes<C: Unit>(units: &[C], bytes: &mut [u8])
     requires { unit_width C.form * length units.now ≤ length bytes.old }
     ensures front { take (unit_width C.form * length units.now) bytes.new ≡ big_bytes_of C.form (map C.number units.now) }

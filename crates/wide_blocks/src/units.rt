@@ -1,4 +1,7 @@
-//! The units of text, a front after another.
+//! Converts a prefix of UTF-8 to UTF-16 or UTF-32 (Unicode Standard, section 3.9, D90 to D92, Table 3-6).
+//! Vectorized: sixteen bytes in one step. There are separate methods for ASCII, for runs of characters of three and of
+//! four
+//! bytes, and for text that mixes characters of one to three bytes.
 
 ghost use Rattle.std.specs.Prelude.{◌≡◌, ◌++◌, ◌+◌, ◌*◌, ◌<◌, ◌≤◌, ℕ, IsTrue, length, map, bit_and, slice_index, take, drop};
 ghost use Rattle.std.specs.Char.{IsScalar};
@@ -11,7 +14,11 @@ use crate::mixed::put_mixed;
 use std::simd::prelude::*;
 use wide_unit::Unit;
 
-/// A character whose scalar value is known to be one.
+/// Returns the character of a scalar value, without a check.
+///
+/// # Requires
+///
+/// `code` is a scalar value.
 #[inline(always)]
 pub(crate) fn char_of(code: u32) -> char
     requires { IsScalar code }
@@ -20,7 +27,7 @@ pub(crate) fn char_of(code: u32) -> char
     unsafe { char::from_u32_unchecked(code) }
 }
 
-// The first character of text, by its leading byte (Unicode Standard, Table 3-6), and how many bytes it has.
+// Returns the first character of text, by its leading byte (Unicode Standard, Table 3-6), and its length in bytes.
 #[inline(always)]
 fn first_char(text: &[u8]) -> (char, usize)
     requires text { IsUtf8 text.now }
@@ -45,7 +52,11 @@ fn first_char(text: &[u8]) -> (char, usize)
     (char_of(code), 4)
 }
 
-/// Stores the units of a character, and answers the place behind them.
+/// Writes the units of a character, and returns the index after them.
+///
+/// # Requires
+///
+/// `units` has space for the character from `at` on.
 #[inline(always)]
 pub(crate) fn put_char<C: Unit>(units: &mut [C], at: usize, c: char) -> usize
     requires { at + length (code_units C.form c) ≤ length units.old }
@@ -64,14 +75,18 @@ pub(crate) fn put_char<C: Unit>(units: &mut [C], at: usize, c: char) -> usize
     }
 }
 
-/// Stores the sixteen bytes that text begins with, each as a character.
+/// Stores the first sixteen bytes of text, each as a character.
+///
+/// # Requires
+///
+/// `text` has at least 16 bytes, and `units` at least 16 units from `at` on.
 #[inline(always)]
 pub(crate) fn put_bytes<C: Unit>(text: &[u8], units: &mut [C], at: usize)
     requires whole { 16 ≤ length text.now }
     requires room { at + 16 ≤ length units.old }
     ensures { map C.number (take (at + 16) units.new) ≡ map C.number (take at units.old) ++ take 16 text.now }
 {
-    // An own array can't overlap the units, so that this is compiled to vectors.
+    // A local array cannot overlap the units, so the compiler vectorizes this loop.
     let bytes = u8x16::from_slice(text).to_array();
     for k in 0..16 {
         let (unit, _) = C::encode_char(char::from(bytes[k]));
@@ -79,7 +94,13 @@ pub(crate) fn put_bytes<C: Unit>(text: &[u8], units: &mut [C], at: usize)
     }
 }
 
-/// How many of the sixteen bytes that text begins with stand before the first from a bound on.
+/// Returns how many of the first sixteen bytes of text precede the first byte that is not below the bound: 16 if all
+/// are
+/// below it.
+///
+/// # Requires
+///
+/// `text` has at least 16 bytes.
 #[inline(always)]
 pub(crate) fn low_len(text: &[u8], bound: u8) -> usize
     requires { 16 ≤ length text.now }
@@ -97,7 +118,9 @@ pub(crate) fn low_len(text: &[u8], bound: u8) -> usize
     }
 }
 
-// Stores the blocks of sixteen ASCII characters at the front of text, as far as there is room, and answers how many characters they are.
+// Stores the blocks of sixteen ASCII characters at the beginning of text, as many as fit, and returns how many
+// characters
+// were stored.
 #[inline(always)]
 fn put_ascii_blocks<C: Unit>(text: &[u8], units: &mut [C], at: usize) -> usize
     requires text { IsUtf8 text.now }
@@ -117,7 +140,9 @@ fn put_ascii_blocks<C: Unit>(text: &[u8], units: &mut [C], at: usize) -> usize
     count
 }
 
-// How many of those sixteen stand before the first whose masked bits differ from those that are wanted.
+// Returns how many of the first sixteen bytes precede the first byte whose masked bits differ from the wanted ones: 16
+// if
+// none differs.
 #[inline(always)]
 fn alike_len(text: &[u8], masks: &[u8; 16], wanted: &[u8; 16]) -> usize
     requires { 16 ≤ length text.now }
@@ -133,7 +158,7 @@ fn alike_len(text: &[u8], masks: &[u8; 16], wanted: &[u8; 16]) -> usize
     }
 }
 
-// The bits by which a leading byte of three is known, at each third place (Unicode Standard, Table 3-6).
+// The bits that identify a leading byte of three, at each third byte (Unicode Standard, Table 3-6).
 const THREE_MASKS: [u8; 16] = [
     0xf0, 0, 0, 0xf0, 0, 0, 0xf0, 0, 0, 0xf0, 0, 0, 0xf0, 0, 0, 0,
 ];
@@ -142,7 +167,7 @@ const THREE_BITS: [u8; 16] = [
     0xe0, 0, 0, 0xe0, 0, 0, 0xe0, 0, 0, 0xe0, 0, 0, 0xe0, 0, 0, 0,
 ];
 
-// Whether five characters of three bytes stand side by side at the front of text.
+// Returns whether the text begins with five characters of three bytes each.
 #[inline(always)]
 fn are_threes(text: &[u8]) -> bool
     requires { 16 ≤ length text.now }
@@ -176,10 +201,10 @@ fn put_threes<C: Unit>(text: &[u8], units: &mut [C], at: usize)
     }
 }
 
-// The same of four bytes, at each fourth place.
+// The bits that identify a leading byte of four, at each fourth byte (Unicode Standard, Table 3-6).
 const FOUR_BITS: [u8; 16] = [0xf0, 0, 0, 0, 0xf0, 0, 0, 0, 0xf0, 0, 0, 0, 0xf0, 0, 0, 0];
 
-// Whether four characters of four bytes stand side by side at the front of text.
+// Returns whether the text begins with four characters of four bytes each.
 #[inline(always)]
 fn are_fours(text: &[u8]) -> bool
     requires { 16 ≤ length text.now }
@@ -196,11 +221,11 @@ fn char_of_four(first: u8, second: u8, third: u8, fourth: u8) -> char
 {
     let front = u32::from(first) % 8 * 0x4_0000 + u32::from(second) % 0x40 * 0x1000;
     let code = front + u32::from(third) % 0x40 * 0x40 + u32::from(fourth) % 0x40;
-    // The maximum is for the compiler, which then knows that a pair is due.
+    // The maximum tells the compiler that the character is a surrogate pair in UTF-16.
     char_of(code.max(0x1_0000))
 }
 
-// Writes the units of four characters of four bytes, and answers the place behind them.
+// Writes the units of four characters of four bytes, and returns the index after them.
 #[inline(always)]
 fn put_fours<C: Unit>(text: &[u8], units: &mut [C], at: usize) -> usize
     requires text { IsUtf8 text.now }
@@ -221,7 +246,7 @@ fn put_fours<C: Unit>(text: &[u8], units: &mut [C], at: usize) -> usize
     behind
 }
 
-// Writes the units of the first character of text, and answers how many bytes it has and how many units.
+// Writes the units of the first character of text, and returns its length in bytes and in units.
 #[inline(always)]
 fn put_first<C: Unit>(text: &[u8], units: &mut [C], at: usize) -> (usize, usize)
     requires text { IsUtf8 text.now }
@@ -238,7 +263,9 @@ fn put_first<C: Unit>(text: &[u8], units: &mut [C], at: usize) -> (usize, usize)
     (len, behind - at)
 }
 
-// Writes the units of some characters that text begins with, and answers how many bytes they have and how many units.
+// Writes the units of some characters at the beginning of text. Returns how many bytes were read and how many units
+// were
+// written.
 #[inline(always)]
 fn put_block<C: Unit>(text: &[u8], units: &mut [C], at: usize) -> (usize, usize)
     requires text { IsUtf8 text.now }
@@ -269,9 +296,14 @@ fn put_block<C: Unit>(text: &[u8], units: &mut [C], at: usize) -> (usize, usize)
     put_mixed(text, units, at)
 }
 
-/// Writes the units of a front of text in UTF-8 (Unicode Standard, D92) in the encoding form of `C` (D90, D91) to the front of `units`,
-/// and answers how many bytes it read and how many units it wrote: all, where there is room for the units of all, and at least one, where
-/// there is room for two. Units behind those may be overwritten.
+/// Decodes a prefix of text in UTF-8 (Unicode Standard, D92) to the encoding form of `C` (D90, D91) at the beginning of
+/// `units`. Returns how many bytes were read and how many units were written. It reads all the text if `units` has
+/// space
+/// for all its units, and at least one character if it has two units. The units after those written may be overwritten.
+///
+/// # Requires
+///
+/// The text is well-formed UTF-8.
 pub fn decode_utf8_front<C: Unit>(text: &[u8], units: &mut [C]) -> (usize, usize)
     requires text { IsUtf8 text.now }
     ensures read { result.0 ≤ length text.now }

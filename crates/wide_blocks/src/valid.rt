@@ -1,4 +1,6 @@
-//! Where bytes stop being well-formed UTF-8, by lanes: whether each byte may stand behind the three before it.
+//! Finds the first ill-formed sequence in UTF-8 (Unicode Standard, section 3.9, D92, D93b and Table 3-7).
+//! Vectorized by the compiler: for each byte, it checks against the three bytes before whether this byte may follow
+//! them.
 
 ghost use Rattle.std.specs.Prelude.{◌≡◌, ◌+◌, ◌-◌, ◌<◌, ◌≤◌, ℕ, IsTrue, drop, length, map, slice_index, take};
 ghost use Rattle.std.specs.Str.{IsUtf8, IsValidUpTo, chars as str_chars};
@@ -9,10 +11,11 @@ ghost use Rattle.wide_blocks.specs.Parts.{HasFirstPart, utf8_items};
 
 use std::str;
 
-// How many bytes are looked at in one step.
+// How many bytes are checked in one step.
 const BLOCK: usize = 64;
 
-// How many rules a byte breaks behind three others, the nearest last. All are computed, as lanes do it.
+// Returns how many rules of Table 3-7 a byte breaks after three others, of which `first` is the nearest. It checks all
+// rules without branches, so that the compiler can vectorize a loop of calls.
 #[inline(always)]
 fn broken_rules(third: u8, second: u8, first: u8, byte: u8) -> u8
     ensures { result ≡ 0 → CanFollow third second first byte }
@@ -30,7 +33,7 @@ fn broken_rules(third: u8, second: u8, first: u8, byte: u8) -> u8
         + u8::from(below_90 < u8::from(first == 0xf4))
 }
 
-// Whether all bytes of a block, and the three before it, are ASCII.
+// Returns whether all bytes of a block, and the three before it, are ASCII.
 #[inline(always)]
 fn is_ascii(block: &[u8]) -> bool
     requires { length block.now ≡ 67 }
@@ -43,7 +46,7 @@ fn is_ascii(block: &[u8]) -> bool
     bits < 0x80
 }
 
-// Whether all of 128 bytes are ASCII.
+// Returns whether all of 128 bytes are ASCII.
 #[inline(always)]
 fn are_ascii(bytes: &[u8]) -> bool
     requires { length bytes.now ≡ 128 }
@@ -56,7 +59,8 @@ fn are_ascii(bytes: &[u8]) -> bool
     bits < 0x80
 }
 
-// How many ASCII bytes stand at the front, two blocks at a time, which vectors join with no byte left over.
+// Returns the length of a prefix that is ASCII, in bytes, a multiple of 128. It ends before the first block of 128 bytes
+// that is not all ASCII or not complete. A block consists of whole vectors, with no byte left over.
 #[inline(always)]
 fn ascii_len(text: &[u8]) -> usize
     ensures within { result ≤ length text.now }
@@ -69,7 +73,7 @@ fn ascii_len(text: &[u8]) -> usize
     len
 }
 
-// Whether each byte of a block, behind three before it, may stand there.
+// Returns whether each byte of a block may follow the three bytes before it.
 #[inline(always)]
 fn follow(block: &[u8]) -> bool
     requires { length block.now ≡ 67 }
@@ -82,7 +86,9 @@ fn follow(block: &[u8]) -> bool
     broken == 0
 }
 
-// The same, sooner where all is ASCII.
+// Returns whether each byte of a block may follow the three bytes before it. It checks first whether all are ASCII,
+// which
+// is faster.
 #[inline(always)]
 fn is_sound(block: &[u8]) -> bool
     requires { length block.now ≡ 67 }
@@ -91,8 +97,9 @@ fn is_sound(block: &[u8]) -> bool
     is_ascii(block) || follow(block)
 }
 
-// How many bytes behind three others may stand where they do: those of a block, and where these are ASCII, of blocks of ASCII behind it.
-// There are none where one of the first block may not.
+// Returns the length of a run of bytes, each of which may follow the three bytes before it: a block, and if that is
+// ASCII,
+// also the ASCII after it. Returns 0 if a byte of the block may not.
 #[inline(always)]
 fn followed_len(text: &[u8]) -> usize
     requires { 67 ≤ length text.now }
@@ -105,7 +112,7 @@ fn followed_len(text: &[u8]) -> usize
     if follow(&text[..BLOCK + 3]) { BLOCK } else { 0 }
 }
 
-// The place of the last character before another place, where that character isn't whole there, and else that place.
+// Returns the offset of the last character before `end` if that character is incomplete at `end`, and otherwise `end`.
 #[inline(always)]
 fn whole_len(text: &[u8], end: usize) -> usize
     requires some { 3 ≤ end }
@@ -123,7 +130,7 @@ fn whole_len(text: &[u8], end: usize) -> usize
     }
 }
 
-// The length of a front that is well formed, which ends less than two blocks before the first fault or the end.
+// Returns the length of a well-formed prefix, in bytes.
 fn checked_len(text: &[u8]) -> usize
     ensures within { result ≤ length text.now }
     ensures text { IsUtf8 (take result text.now) }
@@ -147,8 +154,11 @@ fn checked_len(text: &[u8]) -> usize
     whole_len(text, end)
 }
 
-/// How many bytes at the front are well-formed UTF-8 (Unicode Standard, D92), and how many behind them are the first ill-formed part, which
-/// one U+FFFD stands for (D93b, as std's `Utf8Chunks`): all and none, where the bytes are well formed. They are read by blocks.
+/// Returns the length of the longest prefix that is well-formed UTF-8 (Unicode Standard, D92), and the length of the
+/// fault
+/// after it, an ill-formed sequence that one U+FFFD replaces (D93b, as std's `Utf8Chunks`). Both are counted in bytes.
+/// If
+/// all bytes are well formed, it returns their number and 0. The check is vectorized.
 pub fn first_chunk(text: &[u8]) -> (usize, usize)
     ensures within { result.0 + result.1 ≤ length text.now }
     ensures len { result.0 ≡ utf8_valid_len text.now }

@@ -1,4 +1,4 @@
--- How far bytes are text, and that a character or an ill-formed part begins them.
+-- How long the longest prefix of bytes is that is UTF-8, and that bytes begin with a character or a fault.
 use Rattle.std.proofs.Common.{◌≡◌, ℕ, zero, suc, ◌+◌, ◌<◌, ◌≤◌, inl, inr, List, [], ◌∷◌, ◌++◌, true, length, take, drop, sym, ap, ◌∙◌, subst, arith, append_assoc, length-append, length-drop, length-take}
 use Rattle.std.specs.Char.{IsScalar, encode_utf8}
 use Rattle.std.specs.Str.{IsUtf8, StartsWithNoChar, all_scalars, encode_utf8_all, is_utf8}
@@ -11,7 +11,7 @@ use Rattle.std.proofs.lemmas.Str.{IsUtf8-append, IsUtf8-encode, IsUtf8-from_is_u
 use Rattle.wide_unit.specs.Utf8.{utf8_bytes}
 use Rattle.wide_unit.specs.Laws.Utf8.{utf8_bytes-encode_utf8}
 
--- The longest front that is text
+-- The longest prefix that is UTF-8.
 up_to-front : (bs : List ℕ) (n : ℕ) → IsUtf8 (take (valid_len_up_to bs n) bs)
 up_to-front bs zero = IsUtf8-nil
 up_to-front bs (suc n) = elim (cases_Bool (is_utf8 (take (suc n) bs))) [
@@ -37,7 +37,7 @@ pub valid_len-longest : (bs : List ℕ) (n : ℕ) → n ≤ length bs → IsUtf8
 unfolding utf8_valid_len
 valid_len-longest bs n within text = up_to-longest bs (length bs) n within text
 
--- behind the longest front that is text no character begins
+-- No character begins after the longest prefix that is UTF-8.
 pub no_char-behind : (bs : List ℕ) (n : ℕ) → IsUtf8 (take n bs) → ((m : ℕ) → n < m → m ≤ length bs → ¬ (IsUtf8 (take m bs))) → StartsWithNoChar (drop n bs)
 no_char-behind bs n front longest c rest scalar is =
     let char = encode_utf8 c in
@@ -45,7 +45,7 @@ no_char-behind bs n front longest c rest scalar is =
     let joined : take n bs ++ char ≡ take (n + length char) bs = ap (λ xs. take n bs ++ xs) (sym (take-append_seam char rest) ∙ ap (take (length char)) (sym is)) ∙ sym (take-add n (length char) bs) in
     longest (n + length char) (omega arith) (omega (arith, some, ap length is, length-append char rest, length-drop n bs)) (subst (λ xs. IsUtf8 xs) joined (IsUtf8-append (take n bs) char front (IsUtf8-encode c scalar)))
 
--- What begins bytes: nothing, a character, or an ill-formed part, each with fewer bytes behind it
+-- What bytes begin with: nothing, a character, or a fault. Fewer bytes follow it.
 pub data First : List ℕ → Type 0 where
   nothing : First []
   char : (c : ℕ) (rest : List ℕ) → IsScalar c → First (utf8_bytes c ++ rest)
@@ -54,7 +54,7 @@ pub data First : List ℕ → Type 0 where
 pub shorter-char : (c : ℕ) (rest : List ℕ) → length rest < length (utf8_bytes c ++ rest)
 shorter-char c rest = omega (arith, length-append (utf8_bytes c) rest, ap length (utf8_bytes-encode_utf8 c), length-encode c, (len_utf8_bounds c).0)
 
--- an ill-formed part has a byte
+-- A fault has at least one byte.
 part-some : (bs : List ℕ) → 0 < length bs → 0 < utf8_invalid_len bs
 unfolding utf8_error_len
 part-some bs some = grind (arith, nat_tests)
@@ -82,7 +82,7 @@ first (b ∷ bs) = elim (cases_lt 0 (utf8_valid_len (b ∷ bs))) [
   | inr none ↦ no_char (b ∷ bs) (omega arith) (no_char-behind (b ∷ bs) 0 IsUtf8-nil (λ m more within text. omega (arith, none, more, valid_len-longest (b ∷ bs) m within text)))
 ]
 
--- bounds on lengths
+-- Bounds on lengths.
 pub below_more : (m n steps : ℕ) → m < n → n < suc steps → m < steps
 below_more m n steps less within = omega arith
 

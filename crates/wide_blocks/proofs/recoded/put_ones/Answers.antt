@@ -8,7 +8,7 @@ use Rattle.wide_blocks.proofs.RecodedFronts.{IsRecoded, recoded-one}
 use Rattle.wide_blocks.proofs.ScalarFronts.{left-behind}
 use Rattle.wide_blocks.proofs.recoded.put_ones.Goals as goal
 
--- the first item of well-formed units is a character, so that no other one is taken in its place
+-- The first item of well-formed units is a character, so it is not replaced.
 first-character : {C : Type 0} (form : EncodingForm) (number : C → ℕ) (us rest : List ℕ) (other : ℕ) (r : Result ℕ C) → IsWellFormed form us → items form us ≡ item_of number r ∷ items form rest → r ≡ Ok (result_unwrap_or r other)
 first-character form number us rest other (Ok c) well first = refl
 first-character form number us rest other (Err u) well first = absurd (no_first_fault form us rest well (number u) first)
