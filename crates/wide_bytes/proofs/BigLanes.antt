@@ -1,4 +1,4 @@
--- Big-endian units in lanes.
+-- Big-endian units in SIMD lanes.
 use Rattle.std.proofs.Common.{◌≡◌, ℕ, zero, suc, ◌+◌, ◌*◌, ◌<◌, ◌≤◌, List, [], ◌∷◌, ◌++◌, length, get_or, take, drop, refl, sym, ◌∙◌, subst, arith, length-take-le}
 use Rattle.std.proofs.lemmas.List.{get_or_append_left, get_or-take}
 use Rattle.std.proofs.lemmas.Simd.{get_or_wider}
@@ -17,7 +17,7 @@ eight-places P a b c d e f g h (suc (suc (suc (suc (suc (suc zero)))))) within =
 eight-places P a b c d e f g h (suc (suc (suc (suc (suc (suc (suc zero))))))) within = h
 eight-places P a b c d e f g h (suc (suc (suc (suc (suc (suc (suc (suc k)))))))) within = absurd (omega arith)
 
--- the first sixteen bytes, each two of them swapped
+-- The first sixteen bytes, with the two bytes of each pair swapped.
 abbrev swapped : List ℕ → List ℕ
 swapped bytes =
     let both = take 16 bytes ++ take 16 bytes in

@@ -1,4 +1,4 @@
--- The units of a piece that are certain, and their text with each fault mended.
+-- The units of a chunk that can be encoded whatever follows, and their lossy text.
 use Rattle.std.proofs.Common.{◌≡◌, ◌≢◌, ℕ, zero, suc, ◌+◌, ◌-◌, ◌*◌, ◌/◌, ◌%◌, ◌<◌, ◌≤◌, ◌⊎◌, inl, inr, Bool, true, false, List, [], ◌∷◌, ◌++◌, Option, Some, None, Result, Ok, Err, length, get_or, take, drop, refl, sym, ap, ◌∙◌, subst, arith, length-drop, length-take-le, drop-cons}
 use Rattle.std.proofs.Math.Seq.{take-suc}
 use Rattle.std.proofs.lemmas.List.{map-id}
@@ -54,13 +54,13 @@ held-high order (a ∷ b ∷ []) tail u short e high = inl (subst (λ v. IsHighS
 held-high order (a ∷ b ∷ c ∷ []) tail u short e high = subst (λ v. IsHighSurrogate Utf16 v) (sym (first-unit order a b u (c ∷ []) tail e).0) high
 held-high order (a ∷ b ∷ c ∷ d ∷ rest) tail u short e high = absurd (omega arith)
 
--- what follows some bytes doesn't change their first unit
+-- What follows some bytes does not change their first unit.
 same-first : (order : BoM) (rest more tail back : List ℕ) (u l : ℕ) → 2 ≤ length rest → units_in order rest ≡ u ∷ tail → units_in order (rest ++ more) ≡ l ∷ back → u ≡ l
 same-first order [] more tail back u l long e f = absurd (omega arith)
 same-first order (a ∷ []) more tail back u l long e f = absurd (omega arith)
 same-first order (a ∷ b ∷ rest) more tail back u l long e f = sym (first-unit order a b u rest tail e).0 ∙ (first-unit order a b l (rest ++ more) back f).0
 
--- no pair is cut before a unit that is no low surrogate
+-- No pair is split before a unit that is no low surrogate.
 cut-before : (order : BoM) (passed rest more tail : List ℕ) (u : ℕ) → 2 ≤ length rest → units_in order rest ≡ u ∷ tail → ¬ (IsLowSurrogate Utf16 u) → IsCut Utf16 passed (units_in order (rest ++ more))
 cut-before order passed rest more tail u long e not_low front back h l ends begins pair =
     not_low (subst (λ v. IsLowSurrogate Utf16 v) (sym (same-first order rest more tail back u l long e begins)) (IsPair-parts Utf16 h l pair).1)
@@ -79,7 +79,7 @@ module _ (order : BoM) (bytes us : List ℕ) (q : ℕ) (same : us ≡ units_in o
 pub some-left : (bytes : List ℕ) (n : ℕ) → n < length bytes → drop n bytes ≡ [] → ⊥
 some-left bytes n within none = omega (arith, ap length none, length-drop n bytes)
 
--- ---- all is certain but a zero unit
+-- ---- all units can be encoded except a zero unit
 
 held-half : (order : BoM) (rest : List ℕ) → length rest < 2 → IsHeld order rest
 held-half order [] short = tt
@@ -106,7 +106,7 @@ module _ (order : BoM) (bytes us : List ℕ) (n : ℕ) (same : us ≡ units_in o
     | inr some ↦ held-zero order (drop (2 * (n / 2)) bytes) (zero-left some)
   ]
 
-  -- the last unit that is ready, where nothing is left but half a unit, is no high surrogate
+  -- If at most half a unit is left, the last unit that can be encoded is no high surrogate.
   module _ (plain : 0 < n / 2 → length bytes - 2 * (n / 2) < 2 → get_or us (n / 2 - 1) 0 / 0x400 ≢ 54) where
     last-ready : (r : ℕ) → r ≤ length us → (front : List ℕ) (h : ℕ) → take r us ≡ front ++ h ∷ [] → (0 < r) × (get_or us (r - 1) 0 ≡ h)
     last-ready zero within [] h e = absurd cc
@@ -148,7 +148,7 @@ chain-past [] chain = tt
 chain-past (Char c ∷ is) chain = chain
 chain-past (Fault u ∷ is) chain = chain-past is chain.2
 
--- lossy text is text, behind a fault too
+-- Lossy text consists of scalar values, also after a fault.
 scalars-after : (policy : Policy) (was : Bool) (us : List ℕ) → All IsScalar (lossy_after policy was (items Utf16 us))
 scalars-after Each was us = scalars-lossy_by Each Utf16 us
 scalars-after Skip was us = scalars-lossy_by Skip Utf16 us
@@ -157,7 +157,7 @@ scalars-after Run true us =
     let past = past_faults (items Utf16 us) in
     subst (λ is. All IsScalar (lossy_by Run is)) (items-of_chain Utf16 past (chain-past (items Utf16 us) (items-chain Utf16 us))) (scalars-lossy_by Run Utf16 (units_of Utf16 past))
 
--- it is well formed, so that it is written
+-- It is well formed, so it is written.
 pub kept-text : (policy : Policy) (was : Bool) (us front text : List ℕ) (r : Option ℕ) (n : ℕ) → front ≡ encode Utf16 (lossy_after policy was (items Utf16 us)) → IfNone r (IsWellFormed Utf16 front → ⊥) → IfSome r (λ len. take len text ≡ utf8 (chars Utf16 front)) → n ≡ unwrap_or r 0
     → take n text ≡ lossy_text policy was us
 kept-text policy was us front text None n e none some is = absurd (none (subst (λ xs. IsWellFormed Utf16 xs) (sym e) (IsWellFormed-encode Utf16 (lossy_after policy was (items Utf16 us)) (scalars-after policy was us))))

@@ -1,4 +1,4 @@
--- Bytes that begin with two known ones, by what stands behind the mark.
+-- Bytes that begin with two known ones, by what follows the BOM.
 use Rattle.std.proofs.Common.{◌≡◌, ℕ, ◌-◌, ◌%◌, ◌<◌, ◌≤◌, ◌⊎◌, Bool, true, false, eqb, cond, inl, inr, List, [], ◌∷◌, ◌++◌, Option, Some, None, length, drop, refl, sym, ap, ◌∙◌, subst, arith, length-append, length-drop, append_assoc}
 use Rattle.std.specs.Prelude.{Result, Ok, Err, is_some, unwrap_or}
 use Rattle.wide_unit.specs.EncodingForm.{Utf16}
@@ -18,7 +18,7 @@ use Rattle.wide_bytes.proofs.Pairs.{units_in-short}
 use Rattle.wide_error.specs.declared.error.TranscodeError.{TranscodeError}
 use Rattle.wide_error.specs.declared.error.TranscodeError.TheVariants.{Utf16 as Utf16Fault, OutOfMemory, OddLength, Read, Write}
 
--- what is behind the mark
+-- What follows the BOM.
 pub mark-shorter : (bytes : List ℕ) → length (without_mark bytes) ≤ length bytes
 mark-shorter bytes = elim (is_some (mark_of bytes)) as (λ t. length (cond t (drop 2 bytes) bytes) ≤ length bytes) [ true ↦ omega (arith, length-drop 2 bytes) | false ↦ omega arith ]
 

@@ -1,4 +1,4 @@
--- What has been transcoded so far, of bytes behind the mark.
+-- What has been transcoded so far, of the bytes after the BOM.
 use Rattle.std.proofs.Common.{◌≡◌, ◌≢◌, ℕ, zero, suc, ◌+◌, ◌-◌, ◌*◌, ◌/◌, ◌%◌, ◌<◌, ◌≤◌, ◌⊎◌, inl, inr, true, false, Bool, eqb, cond, List, [], ◌∷◌, ◌++◌, Some, None, length, get_or, take, drop, refl, sym, ap, ◌∙◌, subst, arith, length-append, length-drop, length-take-le, append_assoc, ne_eqb}
 use Rattle.std.proofs.lemmas.List.{append-nil, take-append-drop, take_all}
 use Rattle.std.proofs.lemmas.List.Concat.{flat_map-append}
@@ -23,15 +23,15 @@ use Rattle.wide_bytes.specs.declared.order.BoM.{BoM}
 use Rattle.wide_bytes.proofs.Pairs.{units_in-append, units_in-short, length-units_in, ends_in_zero, ends_in_zeros, zero_unit, last_two, before_back, units_in-pair}
 use Rattle.wide_bytes.proofs.Encodings.{encoded-none, encoded-then, characters-none, characters-then}
 
--- of all the bytes these are left, `written` is the text of those before them, `place` is the number of their units, and `number` that
--- of their characters
+-- Of all bytes, `rest` is left. `written` is the text of those before it, `place` is the number of their units, and
+-- `number` that of their characters.
 pub record Sofar (order : BoM) (all rest written : List ℕ) (place number : ℕ) : Type 0 where
   pub passed : List ℕ
   pub split : all ≡ passed ++ rest
   pub encoded : Encoded order passed [] written
   pub counted : 2 * place ≡ length passed
   pub numbered : number ≡ length encoded.cs
-  -- the last unit is passed only where it isn't zero
+  -- The last unit is read only if it is not zero.
   pub no_zero : rest ≡ [] → ends_with nat_eq (units_in order passed) (0 ∷ []) ≡ false
 
 -- ---- characters, and what follows them
@@ -50,9 +50,9 @@ module _ {order : BoM} {passed before after : List ℕ} (e : Encoded order passe
       let alone = items-encode Utf16 e.cs e.scalars in
       items-append_left Utf16 (encode Utf16 e.cs) us (IsWellFormed-of_chars Utf16 (encode Utf16 e.cs) e.cs alone) ∙ ap (λ is. is ++ items Utf16 us) alone
 
--- ---- a last zero
+-- ---- a zero unit at the end
 
--- without its last zero, a list that has this front and then some units keeps the front
+-- A list that begins with a prefix and more units still begins with it without its last zero.
 pub snoc : (us : List ℕ) → (us ≡ []) ⊎ ((init : List ℕ) × (l : ℕ) × (us ≡ init ++ l ∷ []))
 snoc [] = inl refl
 snoc (u ∷ us) = elim (snoc us) [
@@ -67,7 +67,7 @@ dropped-zero init l =
 pub kept : (us : List ℕ) → ends_with nat_eq us (0 ∷ []) ≡ false → without_last_zero us ≡ us
 kept us none = ap (λ t. cond t (take (length us - 1) us) us) none
 
--- the tail of a list without its last zero is a front of the tail
+-- The tail of a list without its last zero is a prefix of the tail.
 pub record Shortened (front : List ℕ) (tail whole : List ℕ) : Type 0 where
   pub left : List ℕ
   pub dropped : List ℕ
@@ -101,7 +101,7 @@ shortened front tail none = elim (snoc tail) [
     by_last front tail init l true split test e = record { left = init; dropped = l ∷ []; is = e; front_of = split; zero = inr (ap (λ x. x ∷ []) (test refl)) }
     by_last front tail init l false split test e = record { zero = inl refl; left = tail; dropped = []; is = e ∙ append_assoc front init (l ∷ []) ∙ ap (λ us. front ++ us) (sym split); front_of = sym (append-nil tail) }
 
--- the units that the bytes mean, by those of their front
+-- The units that the bytes mean, from those of a prefix.
 behind : (order : BoM) (passed rest : List ℕ) → length passed % 2 ≡ 0 → (rest ≡ [] → ends_with nat_eq (units_in order passed) (0 ∷ []) ≡ false)
     → Shortened (units_in order passed) (units_in order rest) (units_behind order (passed ++ rest))
 behind order passed rest even none =
@@ -134,7 +134,7 @@ behind order passed rest even none =
     no_units (a ∷ []) even e = absurd (omega arith)
     no_units (a ∷ b ∷ rest) even e = let long = length-units_in order (a ∷ b ∷ rest) in absurd (omega (arith, long, ap length e))
 
--- ---- what is written so far, in what the bytes become
+-- ---- what has been written so far, as a prefix of what the bytes become
 
 pub nil-left : (xs ys : List ℕ) → xs ++ ys ≡ [] → xs ≡ []
 nil-left [] ys e = refl
@@ -175,7 +175,7 @@ module _ {order : BoM} {all rest written : List ℕ} {place number : ℕ} (s : S
   count : length (encode Utf16 s.encoded.cs) ≡ place
   count = let long = length-units_in order s.passed in omega (arith, long, ap length s.encoded.units, s.counted)
 
-  -- no text has more characters than units
+  -- A text never has more characters than units.
   pub number-within : number ≤ place
   number-within = omega (arith, s.numbered, count, low-encode s.encoded.cs s.encoded.scalars)
 
@@ -249,7 +249,7 @@ module _ {order : BoM} {all rest written : List ℕ} {place number : ℕ} (s : S
   pub many : place ≤ length (units_behind order all)
   many = let sh = units_so_far in omega (arith, ap length sh.is, length-append (encode Utf16 s.encoded.cs) sh.left, count)
 
--- ---- how far
+-- ---- how far the run came
 
 unfolded : (order : BoM) → ends_with nat_eq (units_in order []) (0 ∷ []) ≡ false
 unfolding units_in
@@ -275,7 +275,7 @@ rebased-characters : {order : BoM} {bytes text : List ℕ} (before : List ℕ) (
 unfolding rebased
 rebased-characters before e = refl
 
--- units that don't end in two zero bytes don't end in a zero unit
+-- Units that do not end in two zero bytes do not end in a zero unit.
 pub no-zero-units : (order : BoM) (passed bytes : List ℕ) → length passed % 2 ≡ 0 → length bytes % 2 ≡ 0 → 2 ≤ length bytes → ends_with nat_eq bytes (0 ∷ 0 ∷ []) ≡ false → ends_with nat_eq (units_in order (passed ++ bytes)) (0 ∷ []) ≡ false
 no-zero-units order passed bytes even_p even some none =
     let n = length bytes - 2 in

@@ -10,7 +10,7 @@ use Rattle.wide_bytes.specs.declared.order.BoM.{BoM}
 use Rattle.wide_bytes.specs.declared.order.BoM.TheVariants.{Big}
 use Rattle.wide_bytes.proofs.Encodings.{certain-low, certain-high}
 
--- ---- fronts and rests of the units
+-- ---- prefixes of the units, and the rest
 
 pub units_in-take : (order : BoM) (n : ℕ) (bytes : List ℕ) → units_in order (take (2 * n) bytes) ≡ take n (units_in order bytes)
 unfolding units_in
@@ -30,7 +30,7 @@ units_in-drop order (suc n) (a ∷ b ∷ bytes) =
     let next : 2 * suc n ≡ suc (suc (2 * n)) = omega arith in
     ap (λ m. units_in order (drop m (a ∷ b ∷ bytes))) next ∙ units_in-drop order n bytes
 
--- half a unit at the end changes no unit
+-- Half a unit at the end changes no unit.
 pub units_in-half : (order : BoM) (n : ℕ) (bytes : List ℕ) → take (n / 2) (units_in order bytes) ≡ units_in order (take n bytes)
 unfolding units_in
 units_in-half order n bytes = halves (n / 2) n bytes (grind arith)
@@ -67,7 +67,7 @@ encoded-bytes order bytes r n {s} {t} low high e = record {
     shorter (suc i) (suc j) [] h = refl
     shorter (suc i) (suc j) (u ∷ us) h = ap (λ vs. u ∷ vs) (shorter i j us (omega arith))
 
--- ---- where they stop
+-- ---- where encoding stops
 
 cut-bytes : (order : BoM) (bytes : List ℕ) → AreCutShort (units_in order bytes) → IsCutShort order bytes
 unfolding units_in
@@ -96,7 +96,7 @@ pub stops-bytes : (order : BoM) (bytes : List ℕ) (r n : ℕ) (fault : Option �
 stops-bytes order bytes r n None stop = cut-bytes order _ (subst AreCutShort (ap (drop r) (units_in-half order n bytes) ∙ sym (units_in-drop order r (take n bytes))) stop)
 stops-bytes order bytes r n (Some u) stop = fault-bytes order _ u (subst (λ us. BeginsWithFault us u) (ap (drop r) (units_in-half order n bytes) ∙ sym (units_in-drop order r (take n bytes))) stop)
 
--- ---- units stored
+-- ---- units that are stored
 
 abbrev pub AreUnitsOf : BoM → List ℕ → List ℕ → ℕ → Type 0
 AreUnitsOf order bytes us n = (j : ℕ) → j < n → get_or us j 0 ≡ unit_in order (get_or bytes (2 * j) 0) (get_or bytes (2 * j + 1) 0)
@@ -121,7 +121,7 @@ filled order (suc n) (a ∷ b ∷ bytes) (u ∷ us) half room same =
 pub units-filled : (order : BoM) (bytes us : List ℕ) (n : ℕ) → length bytes / 2 ≤ n → length bytes / 2 ≤ length us → AreUnitsOf order bytes us n → take (length bytes / 2) us ≡ units_in order bytes
 units-filled order bytes us n over room same = filled order (length bytes / 2) bytes us refl room (λ j within. same j (omega arith))
 
--- eight more, of the bytes behind those that are read
+-- Eight more units, from the bytes after those that were read.
 pub eight-more : (bytes us vs ys : List ℕ) (done left : ℕ) → 16 ≤ left → done + 8 ≤ length us → length ys ≡ 8 → take (done + 8) vs ≡ take done us ++ ys → AreUnitsOf Big bytes us done
     → ((k : ℕ) → k < 8 → get_or ys k 0 ≡ unit_in Big (get_or (take left (drop (2 * done) bytes)) (2 * k) 0) (get_or (take left (drop (2 * done) bytes)) (2 * k + 1) 0)) → AreUnitsOf Big bytes vs (done + 8)
 eight-more bytes us vs ys done left enough room long stored before units j below =

@@ -1,4 +1,4 @@
--- Bytes, their code units and the byte left behind those.
+-- Bytes, their code units, and the byte after these.
 use Rattle.std.proofs.Common.{◌≡◌, ◌↔◌, ◌⊎◌, inl, inr, ℕ, suc, ◌+◌, ◌-◌, ◌*◌, ◌/◌, ◌%◌, ◌<◌, Bool, true, false, eqb, cond, List, [], ◌∷◌, ◌++◌, Option, None, Some, length, get_or, drop, refl, sym, ap, ◌∙◌, subst, arith, append_assoc, w8, Fits}
 use Rattle.std.specs.Prelude.{◌&&◌, IsSome, IsTrue, is_some, option_to_list, unwrap_or}
 use Rattle.std.proofs.lemmas.Bool.{eqb-true}
@@ -12,7 +12,7 @@ use Rattle.wide_bytes.specs.declared.whole.Utf16OfBytes.{Utf16OfBytes}
 use Rattle.wide_bytes.specs.declared.order.BoM.{BoM}
 use Rattle.wide_bytes.specs.declared.order.BoM.TheVariants.{Little, Big}
 
--- each is a byte
+-- Each element is a byte.
 abbrev pub AreBytes : List ℕ → Type 0
 AreBytes bytes = (i : ℕ) → Fits w8 (get_or bytes i 0)
 
@@ -30,7 +30,7 @@ none-of : (order : BoM) → bytes_in order [] ≡ []
 none-of Little = refl
 none-of Big = refl
 
--- bytes are those of their units, and the byte left
+-- Bytes are those of their units, and the byte that is left.
 pub whole-bytes : (order : BoM) (bytes : List ℕ) → AreBytes bytes → bytes_in order (units_in order bytes) ++ half_of bytes ≡ bytes
 unfolding units_in half_of
 whole-bytes order [] fits = ap (λ bs. bs ++ []) (none-of order)
@@ -38,7 +38,7 @@ whole-bytes order (a ∷ []) fits = ap (λ bs. bs ++ a ∷ []) (none-of order)
 whole-bytes order (a ∷ b ∷ bytes) fits =
     ap (λ bs. bs ++ half_of bytes) (pair order a b (units_in order bytes) (fits 0).fits (fits 1).fits) ∙ ap (λ bs. a ∷ b ∷ bs) (whole-bytes order bytes (λ i. fits (suc (suc i))))
 
--- units are those of their bytes
+-- Units are those of their bytes.
 pub whole-units : (order : BoM) (units : List ℕ) → units_in order (bytes_in order units) ≡ units
 unfolding units_in
 whole-units Little [] = refl
@@ -53,7 +53,7 @@ none-left Little (u ∷ units) = none-left Little units
 none-left Big [] = refl
 none-left Big (u ∷ units) = none-left Big units
 
--- ---- the byte left
+-- ---- the byte that is left
 
 pub half-even : (bytes : List ℕ) → length bytes % 2 ≡ 0 → half_of bytes ≡ []
 unfolding half_of
@@ -82,7 +82,7 @@ half-some bytes (Some x) is = (λ some. elim (parity (length bytes)) [ inl even 
     apart : half_of bytes ≡ [] → ⊥
     apart e = let no : x ∷ [] ≡ [] = is ∙ e in cc
 
--- ---- the mark
+-- ---- the BOM
 
 both : (x y a b : ℕ) → (eqb x a && (eqb y b && true)) ≡ true → (x ≡ a) × (y ≡ b)
 both x y a b is = elim (eqb_tells x a) [
@@ -99,7 +99,7 @@ no-mark a = elim (eqb 0xfe a) as (λ t. cond (t && false) (Some Big) (cond (eqb 
   | false ↦ elim (eqb 0xff a) as (λ t. cond (t && false) (Some Little) None ≡ None) [ true ↦ refl | false ↦ refl ]
 ]
 
--- what a mark tells, and the bytes behind it, are all the bytes
+-- The bytes of the BOM and those after it are all the bytes.
 abbrev WithMark : Option BoM → List ℕ → List ℕ → Type 0
 WithMark mark behind bytes = cond (is_some mark) (bytes_in (unwrap_or mark Little) (byte_order_mark ∷ [])) [] ++ cond (is_some mark) behind bytes ≡ bytes
 
@@ -119,7 +119,7 @@ half-behind [] = refl
 half-behind (a ∷ []) = ap (λ m. half_of (cond (is_some m) [] (a ∷ []))) (no-mark a)
 half-behind (a ∷ b ∷ bytes) = elim (is_some (mark_of (a ∷ b ∷ bytes))) as (λ t. half_of (cond t bytes (a ∷ b ∷ bytes)) ≡ half_of bytes) [ true ↦ refl | false ↦ refl ]
 
--- ---- the parts
+-- ---- the fields
 
 bytes-behind : (bytes : List ℕ) → AreBytes bytes → AreBytes (without_mark bytes)
 bytes-behind bytes fits = elim (is_some (mark_of bytes)) as (λ t. AreBytes (cond t (drop 2 bytes) bytes)) [ true ↦ (λ i. subst (λ x. Fits w8 x) (sym (get_or-drop 2 bytes i 0)) (fits (2 + i))) | false ↦ fits ]

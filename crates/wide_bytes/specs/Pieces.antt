@@ -1,4 +1,4 @@
--- What transcoding in pieces does, behind the mark and in a known byte order.
+-- What transcoding chunk by chunk does, after the BOM and in a known byte order.
 use Rattle.std.specs.Prelude.{◌≡◌, ℕ, ◌<◌, ◌≤◌, ◌^◌, ◌⊎◌, Bool, true, false, List, [], ◌∷◌, length, take, Option, Some, None, Result, Ok, Err, if◌then◌else◌}
 use Rattle.std.specs.Io.KnownBytes.{IsAtEnd}
 use Rattle.wide_unit.specs.EncodingForm.{Utf16, IsHighSurrogate}
@@ -13,13 +13,13 @@ use Rattle.wide_bytes.specs.declared.order.BoM.{BoM}
 use Rattle.wide_error.specs.declared.error.TranscodeError.{TranscodeError}
 use Rattle.wide_error.specs.declared.error.TranscodeError.TheVariants.{Utf16 as Utf16Fault, OutOfMemory, OddLength, Read, Write}
 
--- the code units that the bytes behind the mark mean
+-- The code units of the bytes after the BOM.
 abbrev pub units_behind : BoM → List ℕ → List ℕ
 units_behind order bytes =
     let units = units_in order bytes in
     if is_odd bytes then units else without_last_zero units
 
--- what the bytes behind the mark become, by a policy, or strictly where there is none
+-- What the bytes after the BOM become, under a policy, or strictly if there is none.
 abbrev pub transcoded_behind : BoM → Option Policy → List ℕ → Transcoded
 transcoded_behind order None bytes =
     let is = items Utf16 (units_behind order bytes) in
@@ -28,11 +28,11 @@ transcoded_behind order (Some policy) bytes =
     let is = items Utf16 (units_behind order bytes) in
     record { text = utf8 (lossy_by policy is); ending = ending_of None (is_odd bytes) }
 
--- a fault behind the mark is the answer before another read
+-- A fault after the BOM is reported before another read.
 abbrev pub ReportsBehind : {T : Type 0} → Result T TranscodeError → Bool → BoM → Option Policy → List ℕ → Type 0
 ReportsBehind r ended order policy bytes = ReportsFault r ended (transcoded_behind order policy bytes).ending (units_in order bytes)
 
--- want of room is answered only where the index of a unit would not fit 64 bits
+-- Out of memory is reported only if the index of a unit would not fit into 64 bits.
 abbrev pub WantsRoom : {T : Type 0} → Result T TranscodeError → List ℕ → Type 0
 WantsRoom (Ok u) units = Unit {0}
 WantsRoom (Err OutOfMemory) units = 2 ^ 64 < length units
@@ -41,7 +41,8 @@ WantsRoom (Err OddLength) units = Unit {0}
 WantsRoom (Err Read) units = Unit {0}
 WantsRoom (Err Write) units = Unit {0}
 
--- the first takes, of these bytes: at Ok all of them stand at the front of the piece, two or more, or fewer at the end
+-- The result of the first takes, for these bytes: at Ok all of them are at the beginning of the chunk, two or more, or
+-- fewer at the end of the input.
 abbrev pub Starts : Result ℕ TranscodeError → List ℕ → List ℕ → Option (List ℕ) → Bool → Bool → Type 0
 Starts (Ok n) bytes piece left failed ended =
     (n ≤ length piece) × (bytes ≡ take n piece) × (failed ≡ false) × (((2 ≤ n) × (ended ≡ false)) ⊎ ((n < 2) × (ended ≡ true) × IsAtEnd left))
@@ -51,7 +52,7 @@ Starts (Err (Utf16Fault index item unit)) bytes piece left failed ended = ⊥
 Starts (Err OddLength) bytes piece left failed ended = ⊥
 Starts (Err Write) bytes piece left failed ended = ⊥
 
--- the end of the input behind these bytes, before which `place` units stand, and `number` characters
+-- The result at the end of the input, where `rest` was not encoded, after `place` units, which are `number` characters.
 abbrev pub Finishes : {T : Type 0} → Result T TranscodeError → BoM → List ℕ → ℕ → ℕ → Type 0
 Finishes (Ok u) order rest place number = (rest ≡ []) ⊎ ((length rest ≡ 2) × (units_in order rest ≡ 0 ∷ []))
 Finishes (Err OddLength) order rest place number = length rest ≡ 1
@@ -60,7 +61,7 @@ Finishes (Err OutOfMemory) order rest place number = (2 ^ 64 ≤ place) × (u : 
 Finishes (Err Read) order rest place number = ⊥
 Finishes (Err Write) order rest place number = ⊥
 
--- a fault behind `place` units, which are `number` characters
+-- The error for a fault after `place` units, which are `number` characters.
 abbrev pub IsFaultAt : TranscodeError → ℕ → ℕ → ℕ → Type 0
 IsFaultAt (Utf16Fault index item unit) place number u = (index ≡ place) × (item ≡ number) × (unit ≡ u)
 IsFaultAt OutOfMemory place number u = 2 ^ 64 ≤ place

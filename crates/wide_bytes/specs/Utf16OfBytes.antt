@@ -1,14 +1,14 @@
--- The bytes that the parts of UTF-16 in bytes stand for.
+-- The bytes that the fields of `Utf16OfBytes` represent.
 use Rattle.std.specs.Prelude.{ℕ, List, [], ◌∷◌, ◌++◌, if◌then◌else◌, option_to_list}
 use Rattle.wide_unit.specs.UnitBytes.{byte_order_mark}
 use Rattle.wide_bytes.specs.Bytes.{bytes_in}
 use Rattle.wide_bytes.specs.UnitsOfBytes.{units_left}
 use Rattle.wide_bytes.specs.declared.whole.Utf16OfBytes.{Utf16OfBytes}
 
--- those of the byte order mark, if one told the order (section 23.8, U+FEFF)
+-- The bytes of the BOM, if there was one (section 23.8, U+FEFF).
 abbrev pub mark_bytes : Utf16OfBytes → List ℕ
 mark_bytes parts = if parts.is_marked then bytes_in parts.order (byte_order_mark ∷ []) else []
 
--- all: the mark, the code units, and half of a unit
+-- All bytes: those of the BOM, of the code units, and half of a unit.
 abbrev pub whole_bytes : Utf16OfBytes → List ℕ
 whole_bytes parts = mark_bytes parts ++ bytes_in parts.order (units_left parts.units) ++ option_to_list parts.half

@@ -1,4 +1,7 @@
-//! The code unit of two bytes, and those of many, stored.
+//! Converts UTF-16 bytes to code units in either byte order (Unicode Standard, section 3.10, D96 and D97).
+//! Vectorized: a shuffle swaps the bytes of eight big-endian units in one step. Little-endian units are copied, which
+//! the
+//! compiler vectorizes.
 
 ghost use Rattle.std.specs.Prelude.{◌≡◌, ◌≤◌, ◌<◌, ◌+◌, ◌*◌, ◌/◌, ℕ, slice_index, length, take};
 ghost use Rattle.wide_bytes.specs.Bytes.{unit_in, units_in};
@@ -7,7 +10,7 @@ ghost use Rattle.wide_bytes.specs.declared.order.BoM.TheVariants.{Big, Little};
 use super::order::BoM;
 use std::simd::prelude::*;
 
-/// The code unit of two bytes (Unicode Standard, D96 and D97).
+/// Returns the code unit of two bytes (Unicode Standard, D96 and D97).
 #[inline(always)]
 pub fn unit_in(order: BoM, first: u8, second: u8) -> u16
     ensures { result ≡ unit_in order first second }
@@ -19,7 +22,7 @@ pub fn unit_in(order: BoM, first: u8, second: u8) -> u16
     }
 }
 
-// Stores little-endian units, whose bytes are copied as they are.
+// Stores little-endian units, whose bytes are copied unchanged.
 fn fill_little(bytes: &[u8], units: &mut [u16])
     requires { length bytes.now / 2 ≤ length units.old }
     ensures long { length units.new ≡ length units.old }
@@ -30,7 +33,7 @@ fn fill_little(bytes: &[u8], units: &mut [u16])
     }
 }
 
-// Eight big-endian units.
+// Returns eight big-endian units.
 #[inline(always)]
 fn big_lanes(bytes: &[u8]) -> u16x8
     requires { 16 ≤ length bytes.now }
@@ -59,8 +62,12 @@ fn fill_big(bytes: &[u8], units: &mut [u16])
     }
 }
 
-/// Stores the code units of the whole pairs of bytes (Unicode Standard, D96 and D97) at the front of `units`. What stands behind them may be
-/// overwritten.
+/// Stores the code units of the whole pairs of bytes (Unicode Standard, D96 and D97) at the beginning of `units`. The
+/// units after them may be overwritten.
+///
+/// # Requires
+///
+/// `units` is at least half as long as `bytes`, rounded down.
 pub fn fill_units(order: BoM, bytes: &[u8], units: &mut [u16])
     requires { length bytes.now / 2 ≤ length units.old }
     ensures { take (length bytes.now / 2) units.new ≡ units_in order bytes.now }

@@ -1,4 +1,6 @@
-//! The text of a piece, behind which more bytes may come: what may still become a character or be dropped is held back.
+//! Encodes a chunk of UTF-16 bytes as UTF-8, if more bytes may follow (Unicode Standard, section 3.9, D91 and D92).
+//! Units that may still become part of a pair, or be dropped at the end, are left for the next chunk. The encoder is
+//! vectorized.
 
 ghost use Rattle.std.specs.Prelude.{◌≡◌, ◌+◌, ◌*◌, ◌%◌, ◌≤◌, ◌<◌, ◌∷◌, [], false, nat_eq, length, take, drop};
 ghost use Rattle.std.specs.List.{ends_with};
@@ -9,7 +11,7 @@ use crate::filled::unit_in;
 use crate::order::BoM;
 use wide_from_utf16::{Step, encode};
 
-// The fault that what is left of a piece begins with: a high surrogate before a zero unit.
+// Returns the fault with which the rest of a chunk begins, if it does: a high surrogate before a zero unit.
 fn fault_before_zero(order: BoM, rest: &[u8]) -> Option<u16>
     requires { IsHeldOr order rest.now }
     ensures { HoldsAt order rest.now result }
@@ -20,7 +22,7 @@ fn fault_before_zero(order: BoM, rest: &[u8]) -> Option<u16>
     None
 }
 
-/// How many bytes stand before a zero unit that may be the last.
+/// Returns how many bytes precede a zero unit at the end that may be the last of the input: all bytes if there is none.
 pub(crate) fn len_before_zero(bytes: &[u8]) -> usize
     ensures within { result ≤ length bytes.now }
     ensures all { result ≡ length bytes.now → length bytes.now % 2 ≡ 0 → ends_with nat_eq bytes.now (0 ∷ 0 ∷ []) ≡ false }
@@ -33,8 +35,13 @@ pub(crate) fn len_before_zero(bytes: &[u8]) -> usize
     }
 }
 
-/// Writes the text of the characters that the bytes of a piece begin with to the front of `out`, up to a fault or the end. A zero unit
-/// at the end is left, and so is what may still become a character. `units` are those of the bytes; bytes are counted.
+/// Encodes the characters at the beginning of a chunk as UTF-8 at the beginning of `out`, up to a fault or the end. It
+/// does not read a zero unit at the end, nor a high surrogate that a low one may still follow. `units` are the units of
+/// `bytes`. `read` and `written` count bytes.
+///
+/// # Requires
+///
+/// `units` are the units of `bytes`. `out` has at least `(3 * bytes.len() + 8) / 2` bytes, rounded up.
 pub(crate) fn encode_piece(order: BoM, bytes: &[u8], units: &[u16], out: &mut [u8]) -> Step
     requires units { units.now ≡ units_in order bytes.now }
     requires room { 3 * length bytes.now + 8 ≤ 2 * length out.old }

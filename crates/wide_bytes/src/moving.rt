@@ -1,4 +1,5 @@
-//! Takes bytes of a source, and puts all bytes into a sink.
+//! Takes bytes from a source, and puts all bytes into a sink.
+//! The bytes are those of UTF-16 (Unicode Standard, section 3.10) and of UTF-8, but nothing here depends on it.
 
 ghost use Rattle.std.specs.Prelude.{◌≡◌, ◌<◌, ◌≤◌, ◌+◌, ◌-◌, ◌||◌, false, length, take, drop, IfOk, OnErr};
 ghost use Rattle.std.specs.Io.KnownBytes.{Consumes, IsAtEnd, Keeps};
@@ -9,7 +10,7 @@ use super::devices::{ByteSink, ByteSource};
 use std::io;
 use wide_error::TranscodeError;
 
-// One take into the part of `bytes` behind the first `filled`.
+// Takes bytes from the source once, into `bytes` after its first `filled` bytes, and returns how many were taken.
 pub(crate) fn take_behind<S: ByteSource>(
     source: &mut S,
     bytes: &mut [u8],
@@ -29,10 +30,17 @@ pub(crate) fn take_behind<S: ByteSource>(
     source.take(&mut bytes[filled..])
 }
 
-/// Puts all of the bytes into the sink, by as many calls as it needs.
+/// Puts all the bytes into the sink, by as many calls as it needs. A call that fails is not repeated.
 ///
-/// The sink must not have failed. A call that fails is not tried again: the answer is then
-/// [`TranscodeError::Write`], and a beginning of the bytes was put. There is no other error.
+/// # Requires
+///
+/// The sink has not failed.
+///
+/// # Errors
+///
+/// [`TranscodeError::Write`] if a call fails, or if it takes none of some bytes. A prefix of the bytes was put. There
+/// is no
+/// other error.
 pub fn put_all<K: ByteSink>(sink: &mut K, text: &[u8]) -> Result<(), TranscodeError>
     requires { K.has_failed sink.old ≡ false }
     ensures { PutOf (K.held sink.old) (K.held sink.new) (K.has_failed sink.new) result text.now }

@@ -1,4 +1,4 @@
-//! UTF-16 bytes in, UTF-8 bytes out.
+//! Transcodes UTF-16 bytes to UTF-8 bytes (Unicode Standard, section 3.9, D91 and D92, and section 3.10, D98).
 
 ghost use Rattle.std.specs.Prelude.{◌≡◌, ℕ, List, false};
 ghost use Rattle.wide_bytes.specs.Bytes.{units_of_bytes};
@@ -14,7 +14,7 @@ use crate::units::without_mark;
 use wide_error::TranscodeError;
 use wide_unit::Policy;
 
-// The text by the policy, or strictly where there is none.
+// Transcodes under the policy, or strictly if there is none.
 fn transcode_under<S: ByteSource, K: ByteSink>(
     source: &mut S,
     sink: &mut K,
@@ -48,30 +48,41 @@ fn transcode_under<S: ByteSource, K: ByteSink>(
     transcode_behind(order, source, sink, &mut piece, len, policy)
 }
 
-/// Reads UTF-16 bytes from the source to its end and writes their text into the sink, in UTF-8
-/// (Unicode Standard, D91, D92 and D98).
+/// Reads UTF-16 bytes from the source to its end, and writes their text as UTF-8 into the sink (Unicode Standard, D91,
+/// D92
+/// and D98).
 ///
-/// A byte order mark at the front tells the byte order and is dropped; without one the order is little endian. One
-/// zero unit at the end is dropped, where the number of bytes is even; both are the Rust crate's rules for files. In
-/// [`Mode::Strict`] the characters before the first fault are written, in [`Mode::Lossy`] all of them, with U+FFFD in the place of
-/// each fault.
+/// A BOM at the beginning gives the byte order and is dropped; without one the order is little-endian. If the number of
+/// bytes is even, one zero unit at the end is dropped. Both are the rules of the Rust crate for files. In
+/// [`Mode::Strict`] the characters before the first fault are written. In [`Mode::Lossy`] all characters are written,
+/// with
+/// U+FFFD in place of each fault.
 ///
-/// The source is read in pieces of at most 4,096 bytes, and no memory is asked for. A fault is told as soon as it is certain by whole
-/// units, before another read. The text of a piece is written before the next one is read; what may still become another character,
-/// and a zero unit that may be the last, waits for it.
+/// The source is read in chunks of at most 4,096 bytes, and nothing is allocated. A fault is reported before the next
+/// read,
+/// as soon as the whole units that were read prove it. The text of a chunk is written before the next chunk is read,
+/// except
+/// for a high surrogate that a low one may still follow, and for a zero unit that may be the last: these wait for the
+/// next
+/// chunk.
 ///
-/// The source must not have failed or ended, and the sink must not have failed. No read or write that failed is tried
-/// again, and the sink isn't flushed.
+/// A read or write that failed is not repeated, and the sink is not flushed.
+///
+/// # Requires
+///
+/// The source has neither failed nor ended, and the sink has not failed.
 ///
 /// # Errors
 ///
-/// - [`TranscodeError::Utf16`]: in [`Mode::Strict`] the first fault, its index counted in units and its item number in
-///   characters, both after the mark. The text before it is written. It comes before `OddLength`.
-/// - [`TranscodeError::OddLength`]: the number of bytes is odd. The text of the whole units is written.
-/// - [`TranscodeError::Read`]: the source failed in this call. The text of the bytes that were read is written, as if they were all,
-///   but in [`Mode::Lossy`] no U+FFFD for a high surrogate at their end, behind which a low one might have come.
-/// - [`TranscodeError::Write`]: the sink failed in this call. What was written is a beginning of the text of the bytes that were read.
-/// - [`TranscodeError::OutOfMemory`]: there are more units than have an index; what was written is a beginning of the text.
+/// - [`TranscodeError::Utf16`]: in [`Mode::Strict`], the first fault. Its index is counted in units and its item number
+///   in characters, both after the BOM. The text before it was written. It takes precedence over `OddLength`.
+/// - [`TranscodeError::OddLength`]: the number of bytes is odd. The text of the whole units was written.
+/// - [`TranscodeError::Read`]: the source failed in this call. The text of the bytes that were read was written, as if
+///   they were all the input, except that [`Mode::Lossy`] writes no U+FFFD for a high surrogate at their end, because a
+///   low one might have followed.
+/// - [`TranscodeError::Write`]: the sink failed in this call. A prefix of the text of the bytes that were read was
+///   written.
+/// - [`TranscodeError::OutOfMemory`]: there are more units than an index can count. A prefix of the text was written.
 pub fn transcode<S: ByteSource, K: ByteSink>(
     source: &mut S,
     sink: &mut K,
@@ -81,7 +92,7 @@ pub fn transcode<S: ByteSource, K: ByteSink>(
     requires source_open { S.has_ended source.old ≡ false }
     requires sink_sound { K.has_failed sink.old ≡ false }
 
-    // The bytes that went in, those that came out, how it ended, and that a fault was reported before another read.
+    // The bytes that were read and written, how the call ended, and that a fault is reported before another read.
     ensures run { (bytes written : List ℕ)
         × Moves (S.left source.old) (S.left source.new) (K.held sink.old) (K.held sink.new) bytes written
         × Ends result (S.has_ended source.new) (transcoded mode) bytes written
@@ -89,7 +100,7 @@ pub fn transcode<S: ByteSource, K: ByteSink>(
         × ReportsAtOnce result (S.has_ended source.new) (transcoded mode) bytes }
     ensures at_end { AtEnd result (S.left source.new) }
 
-    // A device has failed exactly where its fault is the answer.
+    // A device failed exactly if its failure is the error that is returned.
     ensures source_failed { S.has_failed source.new ≡ fails_to_read result }
     ensures sink_failed { K.has_failed sink.new ≡ fails_to_write result }
 {
@@ -99,18 +110,24 @@ pub fn transcode<S: ByteSource, K: ByteSink>(
     }
 }
 
-/// As [`transcode`] in [`Mode::Lossy`], where the policy tells what is written for faults: all of the text is written, and no fault is
-/// the answer.
+/// Transcodes like [`transcode`] in [`Mode::Lossy`], but writes what the policy yields for faults. All the text is
+/// written, and no fault is an error.
 ///
-/// A row of faults is one wherever the pieces and the calls of the source part it.
+/// A run of faults counts as one run, even if it spans chunks or calls of the source.
+///
+/// # Requires
+///
+/// The source has neither failed nor ended, and the sink has not failed.
 ///
 /// # Errors
 ///
-/// - [`TranscodeError::OddLength`]: the number of bytes is odd. The text of the whole units is written.
-/// - [`TranscodeError::Read`]: the source failed in this call. The text of the bytes that were read is written, as if they were all,
-///   but no U+FFFD for a high surrogate at their end, behind which a low one might have come.
-/// - [`TranscodeError::Write`]: the sink failed in this call. What was written is a beginning of the text of the bytes that were read.
-/// - [`TranscodeError::OutOfMemory`]: there are more units than have an index; what was written is a beginning of the text.
+/// - [`TranscodeError::OddLength`]: the number of bytes is odd. The text of the whole units was written.
+/// - [`TranscodeError::Read`]: the source failed in this call. The text of the bytes that were read was written, as if
+///   they were all the input, except that no U+FFFD is written for a high surrogate at their end, because a low one
+///   might have followed.
+/// - [`TranscodeError::Write`]: the sink failed in this call. A prefix of the text of the bytes that were read was
+///   written.
+/// - [`TranscodeError::OutOfMemory`]: there are more units than an index can count. A prefix of the text was written.
 pub fn transcode_with<S: ByteSource, K: ByteSink>(
     source: &mut S,
     sink: &mut K,
@@ -120,7 +137,7 @@ pub fn transcode_with<S: ByteSource, K: ByteSink>(
     requires source_open { S.has_ended source.old ≡ false }
     requires sink_sound { K.has_failed sink.old ≡ false }
 
-    // The bytes that went in, those that came out, how it ended, and that a fault was reported before another read.
+    // The bytes that were read and written, how the call ended, and that a fault is reported before another read.
     ensures run { (bytes written : List ℕ)
         × Moves (S.left source.old) (S.left source.new) (K.held sink.old) (K.held sink.new) bytes written
         × Ends result (S.has_ended source.new) (transcoded_by policy) bytes written
@@ -128,7 +145,7 @@ pub fn transcode_with<S: ByteSource, K: ByteSink>(
         × ReportsAtOnce result (S.has_ended source.new) (transcoded_by policy) bytes }
     ensures at_end { AtEnd result (S.left source.new) }
 
-    // A device has failed exactly where its fault is the answer.
+    // A device failed exactly if its failure is the error that is returned.
     ensures source_failed { S.has_failed source.new ≡ fails_to_read result }
     ensures sink_failed { K.has_failed sink.new ≡ fails_to_write result }
 {

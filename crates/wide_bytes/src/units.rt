@@ -1,4 +1,4 @@
-//! The UTF-16 code units of bytes, read one by one.
+//! Reads the UTF-16 code units of bytes one by one (Unicode Standard, section 3.10, D96 to D98).
 
 ghost use Rattle.std.specs.Prelude.{◌≡◌, ◌-◌, [], ◌∷◌, length, take, nat_eq, IfSome, if◌then◌else◌};
 ghost use Rattle.std.specs.List.{ends_with};
@@ -8,7 +8,8 @@ ghost use Rattle.wide_bytes.specs.UnitsOfBytes.{units_left};
 use super::filled::unit_in;
 use super::order::{BoM, byte_order};
 
-/// The code units of bytes that are not read yet, from the front. Made by [`units_of_bytes`]; this port's own.
+/// An iterator over the code units of bytes that are not read yet. [`units_of_bytes`] creates it. The Rust crate has no
+/// such type.
 #[derive(Clone, Copy, Debug)]
 pub struct UnitsOfBytes<'a> {
     order: BoM,
@@ -46,7 +47,7 @@ impl Iterator for UnitsOfBytes<'_> {
     }
 }
 
-// The bytes behind the mark.
+// Returns the bytes after the BOM, or all bytes if there is none.
 pub(crate) fn without_mark(bytes: &[u8]) -> &[u8]
     ensures { result.now ≡ without_mark bytes.now }
 {
@@ -57,7 +58,7 @@ pub(crate) fn without_mark(bytes: &[u8]) -> &[u8]
     }
 }
 
-// The bytes before two last zeros.
+// Returns the bytes without two zero bytes at the end, or all bytes if they do not end in two zeros.
 fn without_zero_pair(bytes: &[u8]) -> &[u8]
     ensures { result.now ≡ (if ends_with nat_eq bytes.now (0 ∷ 0 ∷ []) then take (length bytes.now - 2) bytes.now else bytes.now) }
 {
@@ -68,16 +69,19 @@ fn without_zero_pair(bytes: &[u8]) -> &[u8]
     }
 }
 
-/// The code units of the whole pairs of bytes.
+/// Returns an iterator over the code units of the whole pairs of bytes.
 pub(crate) fn units_in(order: BoM, bytes: &[u8]) -> UnitsOfBytes<'_>
     ensures { units_left result ≡ units_in order bytes.now }
 {
     UnitsOfBytes { order, bytes }
 }
 
-/// The code units that the bytes of a file of UTF-16 mean (Unicode Standard, D98): those of their whole pairs in the order of the
-/// byte order mark at the front, which is dropped, or little endian without one; and where the number of bytes is even, without one
-/// last zero unit. No memory is taken. The call is this port's own.
+/// Returns an iterator over the code units of the bytes of a UTF-16 file (Unicode Standard, D98). A BOM at the
+/// beginning
+/// gives the byte order and is dropped; without one the order is little-endian. If the number of bytes is even, one
+/// zero
+/// unit at the end is dropped. A byte after the last whole pair is ignored. It does not allocate. The Rust crate has no
+/// such call.
 pub fn units_of_bytes(bytes: &[u8]) -> UnitsOfBytes<'_>
     ensures { units_left result ≡ units_of_bytes bytes.now }
 {

@@ -1,4 +1,4 @@
-//! UTF-16 in bytes, of which nothing is lost.
+//! Splits the bytes of UTF-16 into BOM, code units and a half unit, without loss (Unicode Standard, section 3.10, D98).
 ghost use Rattle.std.specs.Prelude.{◌≡◌, ◌↔◌, IsSome, IsTrue, is_some, option_to_list};
 ghost use Rattle.wide_bytes.specs.Bytes.{half_of, is_odd, mark_of, order_of, units_in, without_mark};
 ghost use Rattle.wide_bytes.specs.UnitsOfBytes.{units_left};
@@ -7,20 +7,22 @@ ghost use Rattle.wide_bytes.specs.Utf16OfBytes.{whole_bytes};
 use crate::order::{BoM, byte_order};
 use crate::units::{UnitsOfBytes, units_in, without_mark};
 
-/// The parts of UTF-16 in bytes. Made by [`utf16_of_bytes`]; this port's own.
+/// The BOM, the code units and the half unit of UTF-16 in bytes. [`utf16_of_bytes`] creates it. The Rust crate has no
+/// such
+/// type.
 #[derive(Clone, Copy, Debug)]
 pub struct Utf16OfBytes<'a> {
     /// The order of the two bytes of each unit.
     pub order: BoM,
-    /// Whether a byte order mark at the front told it. The mark is none of the units.
+    /// Whether a BOM at the beginning indicated the order. The BOM is not one of the units.
     pub is_marked: bool,
-    /// The code units of all whole pairs of bytes behind the mark, a last zero among them.
+    /// The code units of all whole pairs of bytes after the BOM, including a zero unit at the end.
     pub units: UnitsOfBytes<'a>,
-    /// The byte behind the pairs, if half of a unit was left.
+    /// The byte after the last whole pair, if there is one: half of a unit.
     pub half: Option<u8>,
 }
 
-// The byte behind the whole pairs.
+// Returns the byte after the last whole pair, if there is one.
 fn half_of(bytes: &[u8]) -> Option<u8>
     ensures { option_to_list result ≡ half_of bytes.now }
 {
@@ -31,9 +33,11 @@ fn half_of(bytes: &[u8]) -> Option<u8>
     }
 }
 
-/// The parts of UTF-16 in bytes (Unicode Standard, D98): its code units in the order of the byte order mark at the front, or little
-/// endian without one, as [`units_of_bytes`](crate::units_of_bytes) has it. Nothing is lost: the mark's bytes, those of the units, and
-/// half of a unit are all the bytes. No memory is taken. The call is this port's own.
+/// Splits the bytes of UTF-16 (Unicode Standard, D98). A BOM at the beginning gives the byte order; without one the
+/// order
+/// is little-endian, like in [`units_of_bytes`](crate::units_of_bytes). Nothing is lost: the bytes of the BOM, of the
+/// units
+/// and of the half unit are all the bytes. It does not allocate. The Rust crate has no such call.
 pub fn utf16_of_bytes(bytes: &[u8]) -> Utf16OfBytes<'_>
     ensures order { result.order ≡ order_of bytes.now }
     ensures marked { result.is_marked ≡ is_some (mark_of bytes.now) }
