@@ -1,7 +1,6 @@
-//! Decodes any bytes as lossy text, character by character and fault by fault.
-//! It follows the Unicode Standard, section 3.9, Table 3-7 and "U+FFFD Substitution of Maximal Subparts". Scalar code,
-//! except
-//! for ASCII, which it reads sixteen bytes at a time.
+//! Decodes any bytes as lossy text, character by character and fault by fault. It follows the Unicode Standard, section
+//! 3.9, Table 3-7 and "U+FFFD Substitution of Maximal Subparts". Scalar code, except for ASCII, which it reads sixteen
+//! bytes at a time.
 
 ghost use Rattle.std.specs.Prelude.{◌≡◌, ◌+◌, ◌<◌, ◌≤◌, ℕ, ◌&&◌, [], IfNone, IfSome, length, map, slice_index, take, drop};
 ghost use Rattle.std.specs.Int.{is_in_range};
@@ -41,8 +40,7 @@ fn may_follow(first: u8, second: u8) -> bool
 
 // Returns the first character of some bytes, or `None` if they begin with a fault, an ill-formed sequence (Unicode
 // Standard, section 3.9, "U+FFFD Substitution of Maximal Subparts"). Also returns the length of the character or the
-// fault
-// in bytes.
+// fault in bytes.
 #[inline(always)]
 fn first_item(text: &[u8]) -> (Option<char>, usize)
     requires { 0 < length text.now }
@@ -121,10 +119,8 @@ fn put_front<C: Unit>(
 /// Decodes a prefix of any bytes as lossy text under a policy (Unicode Standard, section 3.9, "U+FFFD Substitution of
 /// Maximal Subparts"), and writes it in the encoding form of `C` (D90, D91) at the beginning of `units`. `after` says
 /// whether a fault directly precedes the bytes. Returns how many bytes were read, how many units were written, and
-/// whether
-/// a fault was read last. It reads at least one byte if there is any. It stops after a run of bytes without a fault,
-/// which
-/// `decode_utf8_front` decodes faster. The units after those written may be overwritten.
+/// whether a fault was read last. It reads at least one byte if there is any. It stops after a run of bytes without a
+/// fault, which `decode_utf8_front` decodes faster. The units after those written may be overwritten.
 ///
 /// # Requires
 ///

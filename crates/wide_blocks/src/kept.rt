@@ -1,5 +1,5 @@
-//! Compresses SIMD lanes that hold characters, and stores them as units (Unicode Standard, section 3.9, D90 and D91).
-//! A look-up table of shuffles moves the selected lanes to the beginning.
+//! Compresses SIMD lanes that hold characters, and stores them as units (Unicode Standard, section 3.9, D90 and D91). A
+//! look-up table of shuffles moves the selected lanes to the beginning.
 
 ghost use Rattle.std.specs.Prelude.{◌≡◌, ◌++◌, ◌+◌, ◌<◌, ◌≤◌, ℕ, length, map, slice_index, take};
 ghost use Rattle.std.specs.Char.{IsScalar};
@@ -26,8 +26,7 @@ fn put_lanes<C: Unit>(lanes: u16x8, units: &mut [C], at: usize)
 }
 
 /// Stores the lanes whose bits are set, each as a character of one unit, and returns the index after them. The eight
-/// units
-/// from `at` on are overwritten.
+/// units from `at` on are overwritten.
 ///
 /// # Requires
 ///

@@ -68,8 +68,7 @@ fn len_of<C: Weighed>(units: &[C]) -> usize
 }
 
 /// Returns the length of well-formed units in UTF-8 bytes (Unicode Standard, D92), or `usize::MAX` if it is greater. It
-/// is
-/// vectorized.
+/// is vectorized.
 ///
 /// # Requires
 ///

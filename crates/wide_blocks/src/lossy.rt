@@ -1,7 +1,5 @@
-//! Repairs ill-formed UTF-16 or UTF-32, prefix by prefix, with U+FFFD in place of each fault.
-//! It follows the Unicode Standard, section 3.9, "U+FFFD Substitution of Maximal Subparts". Checking and repairing
-//! units is
-//! vectorized.
+//! Repairs ill-formed UTF-16 or UTF-32, prefix by prefix, with U+FFFD in place of each fault. It follows the Unicode
+//! Standard, section 3.9, "U+FFFD Substitution of Maximal Subparts". Checking and repairing units is vectorized.
 
 ghost use Rattle.std.specs.Prelude.{◌≡◌, ℕ, ◌++◌, ◌<◌, ◌≤◌, false, length, map, take, drop};
 ghost use Rattle.wide_unit.specs.Items.{IsFirstFault, IsWellFormed, chars, items};
@@ -14,8 +12,7 @@ use wide_unit::{Unit, check};
 const FEW: usize = 64;
 
 /// Returns how many units precede the first fault, or their total number if they are well formed (Unicode Standard,
-/// D85).
-/// The check is vectorized.
+/// D85). The check is vectorized.
 pub fn sound_len<C: Unit>(units: &[C]) -> usize
     ensures within { result ≤ length units.now }
     ensures sound { IsWellFormed C.form (map C.number (take result units.now)) }
@@ -28,8 +25,7 @@ pub fn sound_len<C: Unit>(units: &[C]) -> usize
 }
 
 // Returns how many units at the beginning can be repaired separately: at most `most`, and one fewer if that would split
-// a
-// surrogate pair.
+// a surrogate pair.
 fn mended_len<C: Unit>(units: &[C], most: usize) -> usize
     requires { 2 ≤ most }
     ensures within { result ≤ length units.now }
@@ -47,12 +43,10 @@ fn mended_len<C: Unit>(units: &[C], most: usize) -> usize
 }
 
 /// Repairs a prefix of the units: replaces each unit that belongs to no character by U+FFFD (Unicode Standard, section
-/// 3.9,
-/// "U+FFFD Substitution of Maximal Subparts"). Returns the repaired prefix and the units after it.
+/// 3.9, "U+FFFD Substitution of Maximal Subparts"). Returns the repaired prefix and the units after it.
 ///
 /// If the prefix has no fault, it is returned without copying. Otherwise it is written into `spare`, at most as many
-/// units
-/// as `spare` holds.
+/// units as `spare` holds.
 ///
 /// # Requires
 ///
@@ -75,8 +69,7 @@ pub fn lossy_front<'u: 'm, 'm, C: Unit>(units: &'u [C], spare: &'m mut [C]) -> (
 }
 
 /// Returns whether a fault was read last, after `len` more units or bytes of characters were read: `after_fault` if
-/// there
-/// are none, and otherwise false.
+/// there are none, and otherwise false.
 #[inline(always)]
 pub fn is_after_fault(after_fault: bool, len: usize) -> bool
     ensures same { len ≡ 0 → result ≡ after_fault }

@@ -61,8 +61,7 @@ fn rest_len(text: &[u8]) -> usize
 /// # Requires
 ///
 /// The text is well-formed UTF-8 of at least 18 bytes. Its first character has at most three bytes. `units` has at
-/// least
-/// 16 units from `at` on.
+/// least 16 units from `at` on.
 #[inline(always)]
 pub(crate) fn put_mixed<C: Unit>(text: &[u8], units: &mut [C], at: usize) -> (usize, usize)
     requires text { IsUtf8 text.now }

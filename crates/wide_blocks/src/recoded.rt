@@ -1,7 +1,6 @@
-//! Converts between well-formed UTF-16 and UTF-32 (Unicode Standard, section 3.9, D90 and D91).
-//! Vectorized by the compiler: sixteen units in one step if each is a character below 0x1_0000. Other units are
-//! converted
-//! character by character.
+//! Converts between well-formed UTF-16 and UTF-32 (Unicode Standard, section 3.9, D90 and D91). Vectorized by the
+//! compiler: sixteen units in one step if each is a character below 0x1_0000. Other units are converted character by
+//! character.
 
 ghost use Rattle.std.specs.Prelude.{◌≡◌, ◌++◌, ◌+◌, ◌*◌, ◌<◌, ◌≤◌, ℕ, IsTrue, drop, length, map, slice_index, take};
 ghost use Rattle.wide_unit.specs.EncodingForm.{encode};
@@ -45,8 +44,7 @@ fn put_plain<C: Unit, D: Unit>(block: &[C], out: &mut [D], at: usize)
 }
 
 // Converts the first characters of the units one by one and writes them after the first `at` units of `out`, up to
-// sixteen
-// units. Returns how many units were read, and the index after those written.
+// sixteen units. Returns how many units were read, and the index after those written.
 fn put_ones<C: Unit, D: Unit>(units: &[C], out: &mut [D], at: usize) -> (usize, usize)
     requires well_formed { IsWellFormed C.form (map C.number units.now) }
     requires room { at + 16 ≤ length out.old }
@@ -64,8 +62,7 @@ fn put_ones<C: Unit, D: Unit>(units: &[C], out: &mut [D], at: usize) -> (usize, 
             break 'ones;
         };
         // Each item is a character, since the units are well formed. The replacement is for units that another thread
-        // changes
-        // meanwhile: the program must not panic.
+        // changes meanwhile: the program must not panic.
         let c = item.unwrap_or(char::REPLACEMENT_CHARACTER);
         written = put_char(out, written, c);
         rest = others;
@@ -74,10 +71,8 @@ fn put_ones<C: Unit, D: Unit>(units: &[C], out: &mut [D], at: usize) -> (usize, 
 }
 
 /// Converts a prefix of well-formed units of one encoding form to another (Unicode Standard, D90, D91), at the
-/// beginning
-/// of `out`. Returns how many units were read and how many were written. It reads at least one unit if there is any.
-/// The
-/// units after those written may be overwritten.
+/// beginning of `out`. Returns how many units were read and how many were written. It reads at least one unit if there
+/// is any. The units after those written may be overwritten.
 ///
 /// # Requires
 ///

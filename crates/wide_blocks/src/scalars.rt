@@ -1,5 +1,5 @@
-//! Decodes well-formed UTF-16 to scalar values (Unicode Standard, section 3.9, D76 and D91).
-//! Vectorized: sixteen units in one step if none is a surrogate. Other units are decoded character by character.
+//! Decodes well-formed UTF-16 to scalar values (Unicode Standard, section 3.9, D76 and D91). Vectorized: sixteen units
+//! in one step if none is a surrogate. Other units are decoded character by character.
 
 ghost use Rattle.std.specs.Prelude.{◌≡◌, ◌++◌, ◌+◌, ◌<◌, ◌≤◌, drop, length, take};
 ghost use Rattle.wide_unit.specs.EncodingForm.{Utf16};
@@ -25,8 +25,7 @@ fn widen(block: &[u16], scalars: &mut [u32], at: usize)
 }
 
 // Decodes up to sixteen characters and writes them after the first `at` scalar values. Returns how many units were
-// read,
-// and the index after the values written.
+// read, and the index after the values written.
 fn decode_ones(units: &[u16], scalars: &mut [u32], at: usize) -> (usize, usize)
     requires well_formed { IsWellFormed Utf16 units.now }
     requires room { at + 16 ≤ length scalars.old }
@@ -53,8 +52,7 @@ fn decode_ones(units: &[u16], scalars: &mut [u32], at: usize) -> (usize, usize)
 
 /// Decodes a prefix of well-formed 16-bit units (Unicode Standard, D91: UTF-16) to scalar values at the beginning of
 /// `scalars`. Returns how many units were read and how many scalar values were written. It reads at least one unit if
-/// there
-/// is any. The values after those written may be overwritten.
+/// there is any. The values after those written may be overwritten.
 ///
 /// # Requires
 ///

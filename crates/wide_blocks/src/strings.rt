@@ -1,5 +1,5 @@
-//! Converts well-formed UTF-16 or UTF-32 to a string in UTF-8 (Unicode Standard, section 3.9, D92).
-//! It encodes chunks into an array on the stack by the vectorized conversion, and appends each chunk to the string.
+//! Converts well-formed UTF-16 or UTF-32 to a string in UTF-8 (Unicode Standard, section 3.9, D92). It encodes chunks
+//! into an array on the stack by the vectorized conversion, and appends each chunk to the string.
 
 ghost use Rattle.std.specs.Prelude.{◌≡◌, ℕ, List, ◌++◌, ◌+◌, ◌<◌, ◌≤◌, [], map, length, IsOk, IfOk, OnErr, OnOk, string_bytes, vec_capacity, vec_len};
 ghost use Rattle.wide_unit.specs.Items.{IsWellFormed, chars};
@@ -12,8 +12,7 @@ use std::alloc::{AllocError, Allocator};
 use wide_unit::Unit;
 
 // The array on the stack has `SMALL` bytes for at most `FEW` units, `MIDDLE` bytes for at most `MANY` units, and
-// `LARGE`
-// bytes for more. A small array takes less time to clear.
+// `LARGE` bytes for more. A small array takes less time to clear.
 const FEW: usize = 32;
 
 const SMALL: usize = 100;
@@ -76,8 +75,7 @@ pub fn push_utf8<C: Unit, A: Allocator>(
 }
 
 /// Returns the text of well-formed units as a string in UTF-8 (Unicode Standard, D92). It allocates once, for as many
-/// bytes
-/// as the text has, and not at all if there are no units.
+/// bytes as the text has, and not at all if there are no units.
 ///
 /// # Requires
 ///

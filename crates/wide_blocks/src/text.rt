@@ -1,7 +1,6 @@
-//! Converts prefixes of well-formed UTF-16 or UTF-32 to UTF-8 (Unicode Standard, section 3.9, D90 to D92).
-//! Vectorized: sixteen units in one step. UTF-32 below 0x1_0000 is encoded as UTF-16, with its look-up tables of
-//! shuffles.
-//! Other UTF-32 computes the bytes and the length of each scalar value in a SIMD lane.
+//! Converts prefixes of well-formed UTF-16 or UTF-32 to UTF-8 (Unicode Standard, section 3.9, D90 to D92). Vectorized:
+//! sixteen units in one step. UTF-32 below 0x1_0000 is encoded as UTF-16, with its look-up tables of shuffles. Other
+//! UTF-32 computes the bytes and the length of each scalar value in a SIMD lane.
 
 ghost use Rattle.std.specs.Prelude.{◌≡◌, ◌++◌, ◌+◌, ◌*◌, ◌<◌, ◌≤◌, ℕ, drop, length, map, slice_index, take};
 ghost use Rattle.std.specs.Char.{IsScalar};
@@ -15,8 +14,7 @@ use wide_from_utf16::{encode, put_ascii, put_narrow, put_wide, put_word};
 use wide_unit::{AnyUnits, Unit};
 
 // Encodes a prefix of 16-bit units: as many as certainly fit into `text`, at three bytes for each. Returns how many
-// units
-// were read and how many bytes were written.
+// units were read and how many bytes were written.
 fn encode_front_16(units: &[u16], text: &mut [u8]) -> (usize, usize)
     requires well_formed { IsWellFormed Utf16 units.now }
     requires room { 64 ≤ length text.old }
@@ -63,8 +61,7 @@ fn narrow(block: &[u32], units: &mut [u16])
 }
 
 // Returns the UTF-8 of a scalar value as a number, low byte first. It computes the bytes for each length and selects
-// one
-// result, so that the compiler can vectorize a loop of calls.
+// one result, so that the compiler can vectorize a loop of calls.
 #[inline(always)]
 fn word_of(code: u32) -> u32
     ensures { IsScalarWord code result }
@@ -138,8 +135,7 @@ fn lanes_of(block: &[u32], words: &mut [u32], lens: &mut [u32])
 }
 
 // Writes sixteen scalar values as UTF-8, and returns the offset in bytes after them. Up to three bytes after them may
-// be
-// overwritten.
+// be overwritten.
 #[inline(always)]
 fn put_scalars(block: &[u32], out: &mut [u8], at: usize) -> usize
     requires whole { length block.now ≡ 16 }
@@ -205,8 +201,7 @@ fn put_block(block: &[u32], out: &mut [u8], at: usize) -> usize
 }
 
 // Encodes a prefix of 32-bit units: sixteen in one step, and one by one if fewer than sixteen units or fewer than 64
-// bytes
-// of space are left. Returns how many units were read and how many bytes were written.
+// bytes of space are left. Returns how many units were read and how many bytes were written.
 fn encode_front_32(units: &[u32], text: &mut [u8]) -> (usize, usize)
     requires well_formed { IsWellFormed Utf32 units.now }
     requires room { 64 ≤ length text.old }
@@ -230,9 +225,8 @@ fn encode_front_32(units: &[u32], text: &mut [u8]) -> (usize, usize)
 }
 
 /// Encodes a prefix of well-formed units as UTF-8 (Unicode Standard, D92) at the beginning of `text`, and returns how
-/// many
-/// units were read and how many bytes were written. It reads at least one unit if there is any. The bytes after those
-/// written may be overwritten.
+/// many units were read and how many bytes were written. It reads at least one unit if there is any. The bytes after
+/// those written may be overwritten.
 ///
 /// # Requires
 ///

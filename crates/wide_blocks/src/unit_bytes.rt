@@ -1,7 +1,6 @@
-//! Serializes UTF-16 and UTF-32 units as bytes, in little-endian or big-endian order.
-//! It follows the encoding schemes UTF-16BE, UTF-16LE, UTF-32BE and UTF-32LE (Unicode Standard, section 3.10, D96 to
-//! D100).
-//! The loops are simple, so that the compiler can vectorize them.
+//! Serializes UTF-16 and UTF-32 units as bytes, in little-endian or big-endian order. It follows the encoding schemes
+//! UTF-16BE, UTF-16LE, UTF-32BE and UTF-32LE (Unicode Standard, section 3.10, D96 to D100). The loops are simple, so
+//! that the compiler can vectorize them.
 
 ghost use Rattle.std.specs.Prelude.{◌≡◌, ◌*◌, ◌^◌, ◌<◌, ◌≤◌, length, map, take, drop};
 ghost use Rattle.wide_unit.specs.EncodingForm.{Utf16, Utf32};
@@ -71,8 +70,8 @@ pub fn byte_width<C: Unit>() -> usize
     }
 }
 
-/// Stores a little-endian BOM (Unicode Standard, section 23.8) at the beginning of `bytes`: `FF FE`, or in UTF-32
-/// `FF FE 00 00`. The bytes after it are unchanged.
+/// Stores a little-endian BOM (Unicode Standard, section 23.8) at the beginning of `bytes`: `FF FE`, or in UTF-32 `FF
+/// FE 00 00`. The bytes after it are unchanged.
 ///
 /// # Requires
 ///
@@ -88,8 +87,8 @@ pub fn put_le_mark<C: Unit>(bytes: &mut [u8])
     }
 }
 
-/// Stores a big-endian BOM (Unicode Standard, section 23.8) at the beginning of `bytes`: `FE FF`, or in UTF-32
-/// `00 00 FE FF`. The bytes after it are unchanged.
+/// Stores a big-endian BOM (Unicode Standard, section 23.8) at the beginning of `bytes`: `FE FF`, or in UTF-32 `00 00
+/// FE FF`. The bytes after it are unchanged.
 ///
 /// # Requires
 ///
@@ -117,8 +116,7 @@ pub fn byte_len<C: Unit>(units: &[C]) -> usize
 }
 
 /// Stores the bytes of the units at the beginning of `bytes`, the low byte of each unit first (Unicode Standard, D97
-/// and
-/// D100): two for each unit of 16 bits, four for each of 32. The bytes after them are unchanged.
+/// and D100): two for each unit of 16 bits, four for each of 32. The bytes after them are unchanged.
 ///
 /// # Requires
 ///
@@ -135,8 +133,7 @@ pub fn put_le_bytes<C: Unit>(units: &[C], bytes: &mut [u8])
 }
 
 /// Stores the bytes of the units at the beginning of `bytes`, the high byte of each unit first (Unicode Standard, D96
-/// and
-/// D99): two for each unit of 16 bits, four for each of 32. The bytes after them are unchanged.
+/// and D99): two for each unit of 16 bits, four for each of 32. The bytes after them are unchanged.
 ///
 /// # Requires
 ///

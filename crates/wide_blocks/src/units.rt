@@ -1,7 +1,6 @@
-//! Converts a prefix of UTF-8 to UTF-16 or UTF-32 (Unicode Standard, section 3.9, D90 to D92, Table 3-6).
-//! Vectorized: sixteen bytes in one step. There are separate methods for ASCII, for runs of characters of three and of
-//! four
-//! bytes, and for text that mixes characters of one to three bytes.
+//! Converts a prefix of UTF-8 to UTF-16 or UTF-32 (Unicode Standard, section 3.9, D90 to D92, Table 3-6). Vectorized:
+//! sixteen bytes in one step. There are separate methods for ASCII, for runs of characters of three and of four bytes,
+//! and for text that mixes characters of one to three bytes.
 
 ghost use Rattle.std.specs.Prelude.{◌≡◌, ◌++◌, ◌+◌, ◌*◌, ◌<◌, ◌≤◌, ℕ, IsTrue, length, map, bit_and, slice_index, take, drop};
 ghost use Rattle.std.specs.Char.{IsScalar};
@@ -95,8 +94,7 @@ pub(crate) fn put_bytes<C: Unit>(text: &[u8], units: &mut [C], at: usize)
 }
 
 /// Returns how many of the first sixteen bytes of text precede the first byte that is not below the bound: 16 if all
-/// are
-/// below it.
+/// are below it.
 ///
 /// # Requires
 ///
@@ -119,8 +117,7 @@ pub(crate) fn low_len(text: &[u8], bound: u8) -> usize
 }
 
 // Stores the blocks of sixteen ASCII characters at the beginning of text, as many as fit, and returns how many
-// characters
-// were stored.
+// characters were stored.
 #[inline(always)]
 fn put_ascii_blocks<C: Unit>(text: &[u8], units: &mut [C], at: usize) -> usize
     requires text { IsUtf8 text.now }
@@ -141,8 +138,7 @@ fn put_ascii_blocks<C: Unit>(text: &[u8], units: &mut [C], at: usize) -> usize
 }
 
 // Returns how many of the first sixteen bytes precede the first byte whose masked bits differ from the wanted ones: 16
-// if
-// none differs.
+// if none differs.
 #[inline(always)]
 fn alike_len(text: &[u8], masks: &[u8; 16], wanted: &[u8; 16]) -> usize
     requires { 16 ≤ length text.now }
@@ -264,8 +260,7 @@ fn put_first<C: Unit>(text: &[u8], units: &mut [C], at: usize) -> (usize, usize)
 }
 
 // Writes the units of some characters at the beginning of text. Returns how many bytes were read and how many units
-// were
-// written.
+// were written.
 #[inline(always)]
 fn put_block<C: Unit>(text: &[u8], units: &mut [C], at: usize) -> (usize, usize)
     requires text { IsUtf8 text.now }
@@ -298,8 +293,8 @@ fn put_block<C: Unit>(text: &[u8], units: &mut [C], at: usize) -> (usize, usize)
 
 /// Decodes a prefix of text in UTF-8 (Unicode Standard, D92) to the encoding form of `C` (D90, D91) at the beginning of
 /// `units`. Returns how many bytes were read and how many units were written. It reads all the text if `units` has
-/// space
-/// for all its units, and at least one character if it has two units. The units after those written may be overwritten.
+/// space for all its units, and at least one character if it has two units. The units after those written may be
+/// overwritten.
 ///
 /// # Requires
 ///

@@ -1,6 +1,5 @@
-//! Finds the first ill-formed sequence in UTF-8 (Unicode Standard, section 3.9, D92, D93b and Table 3-7).
-//! Vectorized by the compiler: for each byte, it checks against the three bytes before whether this byte may follow
-//! them.
+//! Finds the first ill-formed sequence in UTF-8 (Unicode Standard, section 3.9, D92, D93b and Table 3-7). Vectorized by
+//! the compiler: for each byte, it checks against the three bytes before whether this byte may follow them.
 
 ghost use Rattle.std.specs.Prelude.{◌≡◌, ◌+◌, ◌-◌, ◌<◌, ◌≤◌, ℕ, IsTrue, drop, length, map, slice_index, take};
 ghost use Rattle.std.specs.Str.{IsUtf8, IsValidUpTo, chars as str_chars};
@@ -59,8 +58,8 @@ fn are_ascii(bytes: &[u8]) -> bool
     bits < 0x80
 }
 
-// Returns the length of a prefix that is ASCII, in bytes, a multiple of 128. It ends before the first block of 128 bytes
-// that is not all ASCII or not complete. A block consists of whole vectors, with no byte left over.
+// Returns the length of a prefix that is ASCII, in bytes, a multiple of 128. It ends before the first block of 128
+// bytes that is not all ASCII or not complete. A block consists of whole vectors, with no byte left over.
 #[inline(always)]
 fn ascii_len(text: &[u8]) -> usize
     ensures within { result ≤ length text.now }
@@ -87,8 +86,7 @@ fn follow(block: &[u8]) -> bool
 }
 
 // Returns whether each byte of a block may follow the three bytes before it. It checks first whether all are ASCII,
-// which
-// is faster.
+// which is faster.
 #[inline(always)]
 fn is_sound(block: &[u8]) -> bool
     requires { length block.now ≡ 67 }
@@ -98,8 +96,7 @@ fn is_sound(block: &[u8]) -> bool
 }
 
 // Returns the length of a run of bytes, each of which may follow the three bytes before it: a block, and if that is
-// ASCII,
-// also the ASCII after it. Returns 0 if a byte of the block may not.
+// ASCII, also the ASCII after it. Returns 0 if a byte of the block may not.
 #[inline(always)]
 fn followed_len(text: &[u8]) -> usize
     requires { 67 ≤ length text.now }
@@ -155,10 +152,8 @@ fn checked_len(text: &[u8]) -> usize
 }
 
 /// Returns the length of the longest prefix that is well-formed UTF-8 (Unicode Standard, D92), and the length of the
-/// fault
-/// after it, an ill-formed sequence that one U+FFFD replaces (D93b, as std's `Utf8Chunks`). Both are counted in bytes.
-/// If
-/// all bytes are well formed, it returns their number and 0. The check is vectorized.
+/// fault after it, an ill-formed sequence that one U+FFFD replaces (D93b, as std's `Utf8Chunks`). Both are counted in
+/// bytes. If all bytes are well formed, it returns their number and 0. The check is vectorized.
 pub fn first_chunk(text: &[u8]) -> (usize, usize)
     ensures within { result.0 + result.1 ≤ length text.now }
     ensures len { result.0 ≡ utf8_valid_len text.now }

@@ -1,7 +1,6 @@
-//! Converts UTF-16 bytes to code units in either byte order (Unicode Standard, section 3.10, D96 and D97).
-//! Vectorized: a shuffle swaps the bytes of eight big-endian units in one step. Little-endian units are copied, which
-//! the
-//! compiler vectorizes.
+//! Converts UTF-16 bytes to code units in either byte order (Unicode Standard, section 3.10, D96 and D97). Vectorized:
+//! a shuffle swaps the bytes of eight big-endian units in one step. Little-endian units are copied, which the compiler
+//! vectorizes.
 
 ghost use Rattle.std.specs.Prelude.{◌≡◌, ◌≤◌, ◌<◌, ◌+◌, ◌*◌, ◌/◌, ℕ, slice_index, length, take};
 ghost use Rattle.wide_bytes.specs.Bytes.{unit_in, units_in};

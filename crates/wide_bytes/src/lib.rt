@@ -1,6 +1,6 @@
 //! UTF-16 in bytes (Unicode Standard, section 3.10, D96 to D98): byte order and BOM, devices that give and take bytes,
-//! and
-//! [`transcode`], which writes the UTF-8 of a source of UTF-16 into a sink. Byte swapping and encoding are vectorized.
+//! and [`transcode`], which writes the UTF-8 of a source of UTF-16 into a sink. Byte swapping and encoding are
+//! vectorized.
 #![tactic(auto)]
 
 mod devices;

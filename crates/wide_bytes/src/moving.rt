@@ -1,5 +1,5 @@
-//! Takes bytes from a source, and puts all bytes into a sink.
-//! The bytes are those of UTF-16 (Unicode Standard, section 3.10) and of UTF-8, but nothing here depends on it.
+//! Takes bytes from a source, and puts all bytes into a sink. The bytes are those of UTF-16 (Unicode Standard, section
+//! 3.10) and of UTF-8, but nothing here depends on it.
 
 ghost use Rattle.std.specs.Prelude.{◌≡◌, ◌<◌, ◌≤◌, ◌+◌, ◌-◌, ◌||◌, false, length, take, drop, IfOk, OnErr};
 ghost use Rattle.std.specs.Io.KnownBytes.{Consumes, IsAtEnd, Keeps};
@@ -39,8 +39,7 @@ pub(crate) fn take_behind<S: ByteSource>(
 /// # Errors
 ///
 /// [`TranscodeError::Write`] if a call fails, or if it takes none of some bytes. A prefix of the bytes was put. There
-/// is no
-/// other error.
+/// is no other error.
 pub fn put_all<K: ByteSink>(sink: &mut K, text: &[u8]) -> Result<(), TranscodeError>
     requires { K.has_failed sink.old ≡ false }
     ensures { PutOf (K.held sink.old) (K.held sink.new) (K.has_failed sink.new) result text.now }

@@ -49,22 +49,17 @@ fn transcode_under<S: ByteSource, K: ByteSink>(
 }
 
 /// Reads UTF-16 bytes from the source to its end, and writes their text as UTF-8 into the sink (Unicode Standard, D91,
-/// D92
-/// and D98).
+/// D92 and D98).
 ///
 /// A BOM at the beginning gives the byte order and is dropped; without one the order is little-endian. If the number of
 /// bytes is even, one zero unit at the end is dropped. Both are the rules of the Rust crate for files. In
 /// [`Mode::Strict`] the characters before the first fault are written. In [`Mode::Lossy`] all characters are written,
-/// with
-/// U+FFFD in place of each fault.
+/// with U+FFFD in place of each fault.
 ///
 /// The source is read in chunks of at most 4,096 bytes, and nothing is allocated. A fault is reported before the next
-/// read,
-/// as soon as the whole units that were read prove it. The text of a chunk is written before the next chunk is read,
-/// except
-/// for a high surrogate that a low one may still follow, and for a zero unit that may be the last: these wait for the
-/// next
-/// chunk.
+/// read, as soon as the whole units that were read prove it. The text of a chunk is written before the next chunk is
+/// read, except for a high surrogate that a low one may still follow, and for a zero unit that may be the last: these
+/// wait for the next chunk.
 ///
 /// A read or write that failed is not repeated, and the sink is not flushed.
 ///

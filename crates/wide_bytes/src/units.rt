@@ -77,11 +77,9 @@ pub(crate) fn units_in(order: BoM, bytes: &[u8]) -> UnitsOfBytes<'_>
 }
 
 /// Returns an iterator over the code units of the bytes of a UTF-16 file (Unicode Standard, D98). A BOM at the
-/// beginning
-/// gives the byte order and is dropped; without one the order is little-endian. If the number of bytes is even, one
-/// zero
-/// unit at the end is dropped. A byte after the last whole pair is ignored. It does not allocate. The Rust crate has no
-/// such call.
+/// beginning gives the byte order and is dropped; without one the order is little-endian. If the number of bytes is
+/// even, one zero unit at the end is dropped. A byte after the last whole pair is ignored. It does not allocate. The
+/// Rust crate has no such call.
 pub fn units_of_bytes(bytes: &[u8]) -> UnitsOfBytes<'_>
     ensures { units_left result ≡ units_of_bytes bytes.now }
 {

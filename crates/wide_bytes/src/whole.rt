@@ -8,8 +8,7 @@ use crate::order::{BoM, byte_order};
 use crate::units::{UnitsOfBytes, units_in, without_mark};
 
 /// The BOM, the code units and the half unit of UTF-16 in bytes. [`utf16_of_bytes`] creates it. The Rust crate has no
-/// such
-/// type.
+/// such type.
 #[derive(Clone, Copy, Debug)]
 pub struct Utf16OfBytes<'a> {
     /// The order of the two bytes of each unit.
@@ -34,10 +33,8 @@ fn half_of(bytes: &[u8]) -> Option<u8>
 }
 
 /// Splits the bytes of UTF-16 (Unicode Standard, D98). A BOM at the beginning gives the byte order; without one the
-/// order
-/// is little-endian, like in [`units_of_bytes`](crate::units_of_bytes). Nothing is lost: the bytes of the BOM, of the
-/// units
-/// and of the half unit are all the bytes. It does not allocate. The Rust crate has no such call.
+/// order is little-endian, like in [`units_of_bytes`](crate::units_of_bytes). Nothing is lost: the bytes of the BOM, of
+/// the units and of the half unit are all the bytes. It does not allocate. The Rust crate has no such call.
 pub fn utf16_of_bytes(bytes: &[u8]) -> Utf16OfBytes<'_>
     ensures order { result.order ≡ order_of bytes.now }
     ensures marked { result.is_marked ≡ is_some (mark_of bytes.now) }

@@ -1,6 +1,6 @@
-//! Converts UTF-16 to UTF-8 (Unicode Standard, section 3.9, D91 and D92), sixteen units in one step.
-//! Vectorized: each block of units is classified in SIMD lanes, as ASCII, as units below 0x800, as units without
-//! surrogates, or as units with surrogates, and encoded by the method for its class.
+//! Converts UTF-16 to UTF-8 (Unicode Standard, section 3.9, D91 and D92), sixteen units in one step. Vectorized: each
+//! block of units is classified in SIMD lanes, as ASCII, as units below 0x800, as units without surrogates, or as units
+//! with surrogates, and encoded by the method for its class.
 
 ghost use Rattle.std.specs.Prelude.{◌≡◌, ◌+◌, ◌*◌, ◌/◌, ◌%◌, ◌-◌, ◌≤◌, ◌<◌, ◌++◌, ◌∷◌, [], false, ℕ, slice_index, IsTrue, length, take, drop, is_some, true, IfNone, IfSome};
 ghost use Rattle.wide_unit.specs.EncodingForm.{Utf16};
@@ -113,10 +113,9 @@ fn put_pairs(block: &[u16], out: &mut [u8], at: usize) -> usize
     at + 32
 }
 
-// Writes some of the sixteen units from `from` on as UTF-8. They are paired. The unit before them,
-// if there is one, is read too.
-// Returns how many units were encoded, and the offset in bytes after the text. Up to fourteen bytes after the text may
-// be overwritten.
+// Writes some of the sixteen units from `from` on as UTF-8. They are paired. The unit before them, if there is one, is
+// read too. Returns how many units were encoded, and the offset in bytes after the text. Up to fourteen bytes after the
+// text may be overwritten.
 #[inline(always)]
 fn put_paired(units: &[u16], from: usize, out: &mut [u8], at: usize) -> (usize, usize)
     requires whole { from + 17 ≤ length units.now }
@@ -168,9 +167,8 @@ fn encode_surrogates(units: &[u16], from: usize, out: &mut [u8], at: usize) -> S
 }
 
 /// Encodes the units as UTF-8 after the first `at` bytes of `out`. It stops before the first unpaired surrogate or at
-/// the
-/// end. A high surrogate that is the last unit is not read, and is not reported as a fault. `read` counts units, and
-/// `written` is an offset in bytes. Any byte of `out` after the text may be overwritten.
+/// the end. A high surrogate that is the last unit is not read, and is not reported as a fault. `read` counts units,
+/// and `written` is an offset in bytes. Any byte of `out` after the text may be overwritten.
 ///
 /// # Requires
 ///
@@ -220,8 +218,7 @@ pub fn encode(units: &[u16], out: &mut [u8], at: usize) -> Step
 
 /// Encodes 16-bit units as UTF-8 (Unicode Standard, D92) at the beginning of `text`, and returns the length in bytes.
 /// Returns `None` if the units are ill-formed (D85). The units are read once. Bytes after the text may be overwritten,
-/// and
-/// any byte if the units are ill-formed.
+/// and any byte if the units are ill-formed.
 ///
 /// # Requires
 ///

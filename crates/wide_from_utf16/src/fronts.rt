@@ -17,8 +17,7 @@ pub(crate) fn lanes_below(lanes: u16x8, bound: u16) -> usize
 }
 
 /// Returns the first two UTF-8 bytes of each of eight units that is below 0x800, low byte first. The second byte is 0
-/// if
-/// the unit is ASCII.
+/// if the unit is ASCII.
 #[inline(always)]
 pub(crate) fn narrow_front_lanes(units: u16x8) -> u16x8
     ensures { (k : ℕ) → k < 8 → slice_index units k < 0x800 → IsFront (slice_index units k) (slice_index result k) }
@@ -29,8 +28,7 @@ pub(crate) fn narrow_front_lanes(units: u16x8) -> u16x8
 }
 
 /// Returns the first two UTF-8 bytes of each of eight units that are characters, low byte first. The second byte is 0
-/// if
-/// the unit is ASCII.
+/// if the unit is ASCII.
 #[inline(always)]
 pub(crate) fn front_lanes(units: u16x8) -> u16x8
     ensures { (k : ℕ) → k < 8 → IsFront (slice_index units k) (slice_index result k) }

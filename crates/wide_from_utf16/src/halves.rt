@@ -1,8 +1,6 @@
 //! Converts UTF-16 with surrogate pairs to UTF-8 (Unicode Standard, section 3.9, D91 and D92), sixteen units in one
-//! step.
-//! Vectorized: each surrogate of a pair yields two of the four bytes, so one SIMD lane for each unit suffices. A
-//! look-up
-//! table of shuffles then compresses the bytes.
+//! step. Vectorized: each surrogate of a pair yields two of the four bytes, so one SIMD lane for each unit suffices. A
+//! look-up table of shuffles then compresses the bytes.
 
 ghost use Rattle.std.specs.Prelude.{◌≡◌, ◌+◌, ◌*◌, ◌/◌, ◌%◌, ◌≤◌, ◌<◌, ◌++◌, ℕ, slice_index, length, take, drop};
 ghost use Rattle.wide_from_utf16.specs.Encoded.{ArePaired, EncodedUnits};
@@ -13,8 +11,7 @@ use crate::wide::put_laid;
 use std::simd::prelude::*;
 
 // Returns the first two UTF-8 bytes of each of eight units, low byte first, given the unit before each. A high
-// surrogate
-// yields the first two bytes of its pair, and a low surrogate the last two.
+// surrogate yields the first two bytes of its pair, and a low surrogate the last two.
 #[inline(always)]
 fn half_fronts_of(befores: u16x8, units: u16x8) -> u16x8
     ensures { (k : ℕ) → k < 8 → IsHalfFront (slice_index befores k) (slice_index units k) (slice_index result k) }
@@ -63,16 +60,13 @@ fn put_eight_halves(window: &[u16], out: &mut [u8], at: usize) -> usize
 }
 
 /// Writes the last sixteen units of the window as UTF-8, or the fifteen before the last one if that is a high
-/// surrogate.
-/// Returns how many units were encoded, and the offset in bytes after the text. Up to fourteen bytes after the text may
-/// be
-/// overwritten.
+/// surrogate. Returns how many units were encoded, and the offset in bytes after the text. Up to fourteen bytes after
+/// the text may be overwritten.
 ///
 /// # Requires
 ///
 /// The window has seventeen units. The surrogates from the second unit on are paired, except that the last unit may be
-/// a
-/// high surrogate. `out` has at least 52 bytes from `at` on.
+/// a high surrogate. `out` has at least 52 bytes from `at` on.
 #[inline(never)]
 pub(crate) fn put_halves(window: &[u16], out: &mut [u8], at: usize) -> (usize, usize)
     requires whole { length window.now ≡ 17 }

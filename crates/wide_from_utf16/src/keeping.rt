@@ -1,6 +1,5 @@
-//! Writes lossy UTF-16 under a policy (Unicode Standard, section 3.9, "U+FFFD Substitution of Maximal Subparts").
-//! It retains only some replacement characters of text that has one for each fault. Vectorized: eight units in one
-//! step,
+//! Writes lossy UTF-16 under a policy (Unicode Standard, section 3.9, "U+FFFD Substitution of Maximal Subparts"). It
+//! retains only some replacement characters of text that has one for each fault. Vectorized: eight units in one step,
 //! compressed by a look-up table of shuffles.
 
 ghost use Rattle.std.specs.Prelude.{◌≡◌, ◌++◌, ◌∷◌, [], ◌+◌, ◌<◌, ◌≤◌, ℕ, length, slice_index, take, drop, if◌then◌else◌};
@@ -85,8 +84,7 @@ fn put_one(stays: bool, mended: u16, kept: &mut [u16], at: usize) -> usize
 }
 
 // Writes the repaired units that are retained, and returns how many there are: one replacement character for each run
-// of
-// faults if `marks` is true, and otherwise none. If `after_fault` is true, a fault precedes the units.
+// of faults if `marks` is true, and otherwise none. If `after_fault` is true, a fault precedes the units.
 fn keep_behind(
     marks: bool,
     after_fault: bool,
@@ -127,10 +125,8 @@ fn keep_behind(
 }
 
 /// Writes the lossy text of units (Unicode Standard, section 3.9, "U+FFFD Substitution of Maximal Subparts") under a
-/// policy
-/// to the beginning of `kept`, and returns its length in units. If `after_fault` is true, a fault precedes the units.
-/// The
-/// units of `kept` after the text may be overwritten.
+/// policy to the beginning of `kept`, and returns its length in units. If `after_fault` is true, a fault precedes the
+/// units. The units of `kept` after the text may be overwritten.
 ///
 /// # Requires
 ///
@@ -158,8 +154,7 @@ pub fn lossy_units(
 }
 
 /// Returns whether lossy text under this policy has a U+FFFD for a fault. If `after_fault` is true, another fault
-/// directly
-/// precedes it.
+/// directly precedes it.
 #[inline(always)]
 pub fn is_marked(policy: Policy, after_fault: bool) -> bool
     ensures { (unit : ℕ) → lossy_after policy after_fault (Fault unit ∷ []) ≡ (if result then 0xFFFD ∷ [] else []) }

@@ -1,5 +1,5 @@
-//! Compresses SIMD lanes: moves the selected lanes of eight to the beginning, by a shuffle from a look-up table.
-//! Part of the conversion of UTF-16 (Unicode Standard, section 3.9).
+//! Compresses SIMD lanes: moves the selected lanes of eight to the beginning, by a shuffle from a look-up table. Part
+//! of the conversion of UTF-16 (Unicode Standard, section 3.9).
 
 ghost use Rattle.std.specs.Prelude.{◌≡◌, ◌<◌, ℕ, slice_index, take};
 ghost use Rattle.std.specs.Int.RustNames.{count_ones};
@@ -8,8 +8,7 @@ ghost use Rattle.wide_from_utf16.specs.Kept.{kept_lanes};
 use std::simd::prelude::*;
 
 // For each bit mask of eight lanes, the byte indices of a shuffle that moves the selected lanes to the beginning, two
-// bytes
-// for each lane. The rest of each row is filled with the bytes of the first lane.
+// bytes for each lane. The rest of each row is filled with the bytes of the first lane.
 const KEPT_PLACES: [[u8; 16]; 256] = [
     [0, 1, 0, 1, 0, 1, 0, 1, 0, 1, 0, 1, 0, 1, 0, 1],
     [0, 1, 0, 1, 0, 1, 0, 1, 0, 1, 0, 1, 0, 1, 0, 1],

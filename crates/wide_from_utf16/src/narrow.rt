@@ -309,8 +309,7 @@ fn put_eight(units: &[u16], out: &mut [u8], at: usize) -> usize
 }
 
 /// Writes sixteen units below 0x800 as UTF-8 at the offset `at`, and returns the offset in bytes after them. Up to
-/// eight
-/// bytes after them may be overwritten.
+/// eight bytes after them may be overwritten.
 ///
 /// # Requires
 ///

@@ -1,5 +1,5 @@
-//! Converts UTF-16 to UTF-8 (Unicode Standard, section 3.9, D91 and D92), one character in one step.
-//! Scalar code: the vectorized conversion uses it for the units that remain, and for units that are not paired.
+//! Converts UTF-16 to UTF-8 (Unicode Standard, section 3.9, D91 and D92), one character in one step. Scalar code: the
+//! vectorized conversion uses it for the units that remain, and for units that are not paired.
 
 ghost use Rattle.std.specs.Prelude.{◌≡◌, ◌+◌, ◌*◌, ◌-◌, ◌/◌, ◌%◌, ◌≤◌, ◌<◌, ◌++◌, ◌∷◌, [], length, take, drop};
 ghost use Rattle.wide_unit.specs.Utf8.{utf8_bytes};
@@ -107,9 +107,8 @@ pub(crate) fn put_pair(out: &mut [u8], at: usize, high: u16, low: u16) -> usize
 }
 
 /// Encodes the units as UTF-8 after the first `at` bytes of `out`. It stops before the first unpaired surrogate or at
-/// the
-/// end. A high surrogate that is the last unit is not read, and is not reported as a fault. `read` counts units, and
-/// `written` is an offset in bytes.
+/// the end. A high surrogate that is the last unit is not read, and is not reported as a fault. `read` counts units,
+/// and `written` is an offset in bytes.
 ///
 /// # Requires
 ///

@@ -1,7 +1,6 @@
 //! Converts UTF-16 units that are characters, of one to three UTF-8 bytes (Unicode Standard, section 3.9, D92).
 //! Vectorized: SIMD lanes compute four bytes for each unit, and a look-up table of shuffles compresses them, four units
-//! at
-//! a time.
+//! at a time.
 
 ghost use Rattle.std.specs.Prelude.{◌≡◌, ◌+◌, ◌*◌, ◌≤◌, ◌<◌, ◌++◌, ℕ, slice_index, length, take};
 ghost use Rattle.wide_from_utf16.specs.Encoded.{EncodedUnits};
@@ -11,11 +10,9 @@ use crate::fronts::{back_lanes, front_lanes};
 use std::simd::prelude::*;
 
 // For the lengths of four units, the byte indices of a shuffle that compresses their UTF-8, which takes up four bytes
-// for
-// each unit. The row number has two bits for each unit, from the lowest on: both are set for one byte, the second for
-// two
-// bytes, and none for three. The rest of each row is arbitrary. No unit sets its first bit alone, so the rows whose
-// numbers do are arbitrary too, and never read.
+// for each unit. The row number has two bits for each unit, from the lowest on: both are set for one byte, the second
+// for two bytes, and none for three. The rest of each row is arbitrary. No unit sets its first bit alone, so the rows
+// whose numbers do are arbitrary too, and never read.
 const ROWS: [[u8; 16]; 256] = [
     [0, 1, 2, 4, 5, 6, 8, 9, 10, 12, 13, 14, 0, 0, 0, 0],
     [0, 0, 0, 0, 0, 0, 0, 0, 0, 0, 0, 0, 0, 0, 0, 0],
@@ -289,10 +286,8 @@ const ROW_LENS: [usize; 256] = [
 ];
 
 // Returns two bits for each of eight units, in the upper bits of the two bytes of its lane: both are set if the unit
-// has
-// one byte in UTF-8, and the second if it has two. So the upper bits of all sixteen bytes are the row numbers of the
-// first
-// four units and of the last four.
+// has one byte in UTF-8, and the second if it has two. So the upper bits of all sixteen bytes are the row numbers of
+// the first four units and of the last four.
 #[inline(always)]
 fn marks_of(keys: u16x8) -> u16x8
     ensures { (k : ℕ) → k < 8 → slice_index result k ≡ mark_of (slice_index keys k) }
@@ -315,8 +310,7 @@ fn rows_of(keys: u16x8) -> (usize, usize)
 }
 
 // Writes the UTF-8 of four units at the offset `at`, given the number of their row in `ROWS`, and returns the offset
-// after
-// it. `words` holds four bytes for each unit. Up to twelve bytes after the text may be overwritten.
+// after it. `words` holds four bytes for each unit. Up to twelve bytes after the text may be overwritten.
 #[inline(always)]
 fn put_row(words: u8x16, row: usize, out: &mut [u8], at: usize) -> usize
     requires below { row < 256 }
@@ -332,8 +326,7 @@ fn put_row(words: u8x16, row: usize, out: &mut [u8], at: usize) -> usize
 }
 
 // Returns four bytes for each of eight units, from the first two bytes in `fronts` and the third in `backs`: those of
-// the
-// first four units, and those of the last four.
+// the first four units, and those of the last four.
 #[inline(always)]
 fn words_of(fronts: u16x8, backs: u16x8) -> (u8x16, u8x16)
     ensures low { (k : ℕ) → k < 4 → HoldsWord result.0 (4 * k) (slice_index fronts k) (slice_index backs k) }
@@ -345,9 +338,8 @@ fn words_of(fronts: u16x8, backs: u16x8) -> (u8x16, u8x16)
 }
 
 /// Writes the first one to three of the bytes in `fronts` and `backs` for each of eight units, and returns the offset
-/// in
-/// bytes after them. The number is the UTF-8 length of the unit's key, as if that was a character. Up to twelve bytes
-/// after them may be overwritten.
+/// in bytes after them. The number is the UTF-8 length of the unit's key, as if that was a character. Up to twelve
+/// bytes after them may be overwritten.
 ///
 /// # Requires
 ///
@@ -379,8 +371,7 @@ fn put_eight_words(units: &[u16], out: &mut [u8], at: usize) -> usize
 }
 
 /// Writes sixteen units without surrogates as UTF-8 at the offset `at`, and returns the offset in bytes after them. Up
-/// to
-/// twelve bytes after them may be overwritten.
+/// to twelve bytes after them may be overwritten.
 ///
 /// # Requires
 ///
