@@ -1,4 +1,4 @@
--- Units that alone are characters.
+-- Units that encode a character each.
 use Rattle.std.proofs.Common.{◌≡◌, ◌≢◌, ℕ, suc, zero, ◌^◌, ◌<◌, ◌≤◌, Bool, true, false, List, [], ◌∷◌, ◌++◌, inl, inr, refl, sym, ◌∙◌, ap, arith, ◌-◌, length, get_or, take, drop, length-drop, length-take, append_assoc, subst, w16, Fits}
 use Rattle.std.specs.Prelude.{map, not}
 use Rattle.std.specs.Char.{IsScalar}
@@ -13,7 +13,7 @@ use Rattle.wide_unit.specs.Laws.Forms.{unit-cases, IsFault-surrogate, surrogate-
 use Rattle.wide_unit.specs.Laws.Ends.{items-first_char}
 use Rattle.wide_unit.proofs.Masks.{NoneBefore, none_to_place, place_here, place_in}
 
--- ---- the place of the first of a kind
+-- ---- the index of the first unit of a kind
 
 pub kind-place : (p : ℕ → Bool) (Kind : ℕ → Type 0) (us : List ℕ) (r : ℕ)
     → ((u k : ℕ) → u ≡ get_or us k 0 → p u ≡ true → Kind u) → ((u k : ℕ) → u ≡ get_or us k 0 → p u ≡ false → ¬ (Kind u)) → r ≡ first_place p us → IsFirstPlace Kind (map (λ (u : ℕ). u) us) r
@@ -42,7 +42,7 @@ no_scalar-not u e = grind (arith, e)
 pub no_scalar-place : (us : List ℕ) (r : ℕ) → r ≡ first_place is_no_scalar us → IsFirstPlace (IsFault Utf32) (map (λ (u : ℕ). u) us) r
 no_scalar-place us r e = kind-place is_no_scalar (IsFault Utf32) us r (λ u k is t. IsFault-no_scalar u (no_scalar-yes u t)) (λ u k is t fault. no_scalar-of_fault u fault (no_scalar-not u t)) e
 
--- ---- the place of the first unit of a number
+-- ---- the index of the first unit of a number
 
 is_unit-not : (v u : ℕ) → is_unit v u ≡ false → ¬ (u ≡ v)
 is_unit-not v u e same = grind (arith, e, same)
@@ -76,7 +76,7 @@ module _ {X : Type 0} (number : X → ℕ) (v : ℕ) where
         let same : get_or (map number xs) (first_place (is_unit v) (map number xs)) 0 ≡ v = grind (arith, here) in
         subst (λ n. get_or (map number xs) n 0 ≡ v) (sym e) same
 
--- no 16-bit unit has a greater number than FFFF
+-- No 16-bit unit is greater than FFFF.
 pub past_units : (us : List ℕ) (code : ℕ) → ((k : ℕ) → Fits w16 (get_or us k 0)) → 0xffff < code → length us ≡ first_place (is_unit code) (map (λ (u : ℕ). u) us)
 past_units us code fits above =
     let none : (k : ℕ) → k < length us → not (is_unit code (get_or us k 0)) ≡ true = λ k l. past-unit (get_or us k 0) code (omega (arith, (fits k).fits, above)) in
@@ -97,7 +97,7 @@ pub chars-then : (form : EncodingForm) (us rest tail : List ℕ) → BeginsWithC
 chars-then form us rest tail a b =
     (a.0 ++ b.0, a.1 ∙ ap (λ is. map Char a.0 ++ is) b.1 ∙ sym (append_assoc (map Char a.0) (map Char b.0) (items form tail)) ∙ ap (λ is. is ++ items form tail) (sym (map-append Char a.0 b.0)))
 
--- what a slice from a place on leaves
+-- What a slice from an index on leaves.
 pub behind-alone : {X : Type 0} (form : EncodingForm) (number : X → ℕ) (xs : List X) (r n : ℕ) → IsFirstPlace (IsFault form) (map number xs) r → n ≡ length xs - r → BeginsWithChars form (map number xs) (map number (take n (drop r xs)))
 behind-alone form number xs r n place all =
     let whole : take n (drop r xs) ≡ drop r xs = take_all n (drop r xs) (omega (arith, length-drop r xs, all)) in

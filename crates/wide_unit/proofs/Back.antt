@@ -8,7 +8,7 @@ use Rattle.wide_unit.specs.Segmentation.{Char, Fault}
 use Rattle.wide_unit.specs.Items.{items}
 use Rattle.wide_unit.specs.Laws.Ends.{items-back_char, items-back_fault}
 
--- a slice's last element and the rest, as a pattern takes them
+-- The last element of a slice and the rest, as a pattern matches them.
 pub last_rest : {X : Type 0} (xs : List X) (x : X) → 1 ≤ length xs → x ≡ get_or xs (length xs - 1) x → xs ≡ take (length xs - 1) xs ++ x ∷ []
 last_rest xs x some e =
     let n : ℕ = length xs - 1 in

@@ -1,4 +1,4 @@
--- Places as the unit there shows them, and boundaries.
+-- Character boundaries, by the unit at an offset, and boundaries between items.
 use Rattle.std.proofs.Common.{◌≡◌, ℕ, zero, suc, List, inl, inr, subst, arith, length}
 use Rattle.std.specs.Prelude.{◌↔◌, ◌⊎◌}
 use Rattle.std.proofs.lemmas.Bool.{cases_lt}
@@ -8,7 +8,7 @@ use Rattle.wide_unit.specs.Places.{IsTextRange, IsCharBoundary, IsCharRange}
 use Rattle.wide_unit.specs.Laws.Boundaries.{IsBoundary-at, IsBoundary-end, no-low_at_boundary}
 use Rattle.wide_unit.specs.Laws.Places.{IsBoundary-start, IsBoundary-within}
 
--- these hold of any units
+-- These hold for any units.
 pub IsBoundary-of_char : (form : EncodingForm) (us : List ℕ) (place : ℕ) → IsCharBoundary form us place → IsBoundary form us place
 IsBoundary-of_char form us zero here = IsBoundary-start form us
 IsBoundary-of_char form us (suc n) here = elim (cases_lt (suc n) (length us)) [
@@ -23,7 +23,7 @@ pub past_or_boundary : {P : Type 0} (form : EncodingForm) (us : List ℕ) (place
 past_or_boundary form us place (inl past) = inl past
 past_or_boundary form us place (inr here) = inr (IsBoundary-of_char form us place here)
 
--- these of well-formed ones
+-- These hold for well-formed units.
 module _ (form : EncodingForm) (us : List ℕ) where
   pub IsCharBoundary-of : (place : ℕ) → IsWellFormed form us → IsBoundary form us place → IsCharBoundary form us place
   IsCharBoundary-of place well at = (IsBoundary-within form us place at, λ some below. no-low_at_boundary form us place well below at)
@@ -31,7 +31,7 @@ module _ (form : EncodingForm) (us : List ℕ) where
   pub IsCharRange-of_text : (from to : ℕ) → IsWellFormed form us → IsTextRange form us from to → IsCharRange form us from to
   IsCharRange-of_text from to well part = record { within = part.within; start = IsCharBoundary-of from well part.start; end = IsCharBoundary-of to well part.end }
 
-  -- what tells one tells the other
+  -- What is equivalent to one is equivalent to the other.
   pub tells_char_boundary : {T : Type 0} (place : ℕ) → IsWellFormed form us → T ↔ IsBoundary form us place → T ↔ IsCharBoundary form us place
   tells_char_boundary place well tells = (λ t. IsCharBoundary-of place well (tells.0 t), λ here. tells.1 (IsBoundary-of_char form us place here))
 

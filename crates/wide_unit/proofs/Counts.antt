@@ -1,4 +1,4 @@
--- How many characters well-formed units are.
+-- The number of characters in well-formed units.
 use Rattle.std.proofs.Common.{◌≡◌, ℕ, ◌+◌, ◌-◌, ◌*◌, ◌/◌, ◌<◌, ◌≤◌, Bool, true, false, List, [], ◌∷◌, inl, inr, refl, sym, ◌∙◌, ap, subst, arith, suc, cond, get_or, take, drop, length, length-append, count_by, sum_by}
 use Rattle.std.specs.Char.{IsScalar}
 use Rattle.std.proofs.lemmas.Bool.{cases_lt}
@@ -16,7 +16,7 @@ use Rattle.wide_unit.proofs.Masks.{block_at}
 abbrev weight : ℕ → ℕ
 weight u = cond (is_low u) 1 0
 
--- each character has one unit that is no low surrogate
+-- Each character has one unit that is no low surrogate.
 weight-character : (c : ℕ) → IsScalar c → sum_by weight (code_units Utf16 c) + 1 ≡ length (code_units Utf16 c)
 weight-character c scalar = elim (cases_lt c 0x1_0000) [
   | inl below ↦ (let none : is_low c ≡ false = not_low c (ranges c scalar).no_surrogate in rw (one_unit c below, none) refl)

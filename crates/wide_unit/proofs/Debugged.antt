@@ -1,4 +1,4 @@
--- The text that `{:?}` prints, item after item.
+-- The text that `{:?}` prints, item by item.
 use Rattle.std.proofs.Common.{◌≡◌, ℕ, zero, suc, ◌<◌, Bool, true, false, cond, List, [], ◌∷◌, ◌++◌, Some, None, Result, refl, sym, ◌∙◌, ap, arith, eqb, encode_utf8_all, append_assoc}
 use Rattle.std.proofs.lemmas.Bool.{eqb-true, ltb-true, eqb-false, and_parts}
 use Rattle.std.specs.Char.Escape.{backslash, escape_default, IsEscapeDebug}
@@ -12,7 +12,7 @@ use Rattle.wide_unit.specs.Laws.Utf8.{utf8-encode_utf8_all}
 use Rattle.wide_unit.specs.Texts.{debug_item, is_plain, quoted, quoted_output}
 use Rattle.wide_unit.proofs.Printed.{HasPrinted, printed-none, printed-more, printed-all}
 
--- a text that is promised under a condition
+-- A text that is promised under a condition.
 writes-where : {W : Type 0} (took : W → List ℕ → W → Type 0) (f g : Formatter W) (r : Result (Unit {0}) Error) (text : List ℕ) (b : Bool) → (b ≡ true → WritesOnOk took f r text g) → DisplaysOnOk took f r (cond b (Some text) None) g
 writes-where took f g r text true writes = writes refl
 writes-where took f g r text false writes = tt
@@ -31,15 +31,15 @@ escaped c xs false some below is = is.1 (positive c (eqb-false c 0 some)) below
     positive zero other = absurd (other refl)
     positive (suc n) other = omega arith
 
--- an escape of an ASCII character is written as its bytes
+-- An escape of an ASCII character is written as its bytes.
 pub escape-bytes : (c : ℕ) (xs : List ℕ) → is_plain (Char c) ≡ true → IsEscapeDebug c xs → encode_utf8_all xs ≡ debug_item (Char c)
 escape-bytes c xs plain is = sym (utf8-encode_utf8_all xs) ∙ ap utf8 (escaped c xs (eqb c 0) refl (ltb-true c 0x80 plain) is)
 
--- what is left is the first item's text, and what is left after it
+-- What has to be printed is the text of the first item, and that of the rest.
 left-more : (i : Item) (is js : List Item) → is ≡ i ∷ js → flat_map debug_item is ++ 34 ∷ [] ≡ debug_item i ++ (flat_map debug_item js ++ 34 ∷ [])
 left-more i is js e = ap (λ ks. flat_map debug_item ks ++ 34 ∷ []) e ∙ append_assoc (debug_item i) (flat_map debug_item js) (34 ∷ [])
 
--- What a loop over items keeps between the quotes: where all is ASCII, what is left is, and has still to be printed.
+-- The invariant of a loop over items between the quotes: if all are ASCII, the rest is, and has to be printed.
 pub record HasQuoted {W : Type 0} (took : W → List ℕ → W → Type 0) (f : Formatter W) (all left : List Item) (g : Formatter W) : Type 0 where
   pub so_far : list_all is_plain all ≡ true → IsPlainFormatter f → (list_all is_plain left ≡ true) × HasPrinted took f (quoted all) (flat_map debug_item left ++ 34 ∷ []) g
 

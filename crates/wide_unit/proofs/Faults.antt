@@ -37,7 +37,7 @@ leading-split [] u e = absurd cc
 leading-split (Char c ∷ is) u e = let tail = leading-split is u e in (tail.0, ap (λ js. Char c ∷ js) tail.1)
 leading-split (Fault v ∷ is) u e = let same : v ≡ u = cc in (is, ap (λ w. Fault w ∷ is) same)
 
--- the parts of what an option has
+-- The fields of what an option has.
 index_in : Option (ℕ × ℕ × ℕ) → ℕ
 index_in None = 0
 index_in (Some p) = p.0
@@ -59,7 +59,7 @@ none-told : (o : Option ℕ) (n m : ℕ) → option_map {U = ℕ × ℕ × ℕ} 
 none-told None n m e = refl
 none-told (Some v) n m e = absurd cc
 
--- a first fault stands behind characters alone
+-- Only characters precede a first fault.
 pub first_fault-split : (form : EncodingForm) (us : List ℕ) (index item u : ℕ) → IsFirstFault form us index item u
     → (front : List ℕ) × (rest : List Item) × (items form us ≡ map Char front ++ Fault u ∷ rest) × (length (encode form front) ≡ index) × (length front ≡ item)
 first_fault-split form us index item u e =
@@ -73,7 +73,7 @@ pub IsFirstFault-of : (form : EncodingForm) (us front : List ℕ) (rest : List I
 IsFirstFault-of form us front rest index item u split at number =
     ap (first_fault form) split ∙ first_fault-behind form front u rest ∙ ap (λ n. Some (n, length front, u)) at ∙ ap (λ n. Some (index, n, u)) number
 
--- the units are those of the characters before it, the fault, and others
+-- The units are those of the characters before the fault, the fault, and others.
 fault-joined : (form : EncodingForm) (us front : List ℕ) (u : ℕ) (rest : List Item) → items form us ≡ map Char front ++ Fault u ∷ rest → us ≡ encode form front ++ u ∷ units_of form rest
 fault-joined form us front u rest split =
     sym (units_of-items form us) ∙ ap (units_of form) split ∙ units_of-append form (map Char front) (Fault u ∷ rest) ∙ ap (λ xs. xs ++ u ∷ units_of form rest) (units_of-chars form front)
@@ -82,39 +82,39 @@ front-taken : (form : EncodingForm) (us front : List ℕ) (u : ℕ) (rest : List
 front-taken form us front u rest index split at =
     ap (λ n. take n us) (sym at) ∙ ap (take (length (encode form front))) (fault-joined form us front u rest split) ∙ take-append_seam (encode form front) (u ∷ units_of form rest)
 
--- its index is one of the units
+-- The index of the fault is less than the length.
 pub first_fault-below : (form : EncodingForm) (us : List ℕ) (index item u : ℕ) → IsFirstFault form us index item u → index < length us
 first_fault-below form us index item u e =
     let (front, rest, split, at, number) = first_fault-split form us index item u e in
     omega (arith, ap length (fault-joined form us front u rest split), length-append (encode form front) (u ∷ units_of form rest), at)
 
--- characters that items begin with are scalar values
+-- Characters at the beginning of items are scalar values.
 front-scalars : (form : EncodingForm) (cs : List ℕ) (is : List Item) → Chain form (map Char cs ++ is) → All IsScalar cs
 front-scalars form [] is chain k d within = absurd (omega (arith, within))
 front-scalars form (c ∷ cs) is chain zero d within = chain.0
 front-scalars form (c ∷ cs) is chain (suc k) d within = front-scalars form cs is chain.2 k d (omega (arith, within))
 
--- the units before it are well formed
+-- The units before the fault are well formed.
 pub first_fault-front : (form : EncodingForm) (us : List ℕ) (index item u : ℕ) → IsFirstFault form us index item u → IsWellFormed form (take index us)
 first_fault-front form us index item u e =
     let (front, rest, split, at, number) = first_fault-split form us index item u e in
     let scalars : All IsScalar front = front-scalars form front (Fault u ∷ rest) (subst (Chain form) split (items-chain form us)) in
     subst (IsWellFormed form) (sym (front-taken form us front u rest index split at)) (IsWellFormed-encode form front scalars)
 
--- and they are as many characters as its item number
+-- The number of characters before the fault is its item number.
 pub first_fault-item : (form : EncodingForm) (us : List ℕ) (index item u : ℕ) → IsFirstFault form us index item u → item ≡ chars_before form us index
 first_fault-item form us index item u e =
     let (front, rest, split, at, number) = first_fault-split form us index item u e in
     let scalars : All IsScalar front = front-scalars form front (Fault u ∷ rest) (subst (Chain form) split (items-chain form us)) in
     sym number ∙ ap length (sym (chars-encode form front scalars)) ∙ ap (λ vs. length (chars form vs)) (sym (front-taken form us front u rest index split at))
 
--- and stay as they are in the lossy text
+-- The units before the fault are unchanged in the lossy text.
 pub lossy-behind_front : (form : EncodingForm) (us : List ℕ) (index item u : ℕ) → IsFirstFault form us index item u
     → encode form (lossy (items form us)) ≡ take index us ++ encode form (lossy (items form (drop index us)))
 lossy-behind_front form us index item u e =
     ap (λ xs. encode form (lossy (items form xs))) (sym (take-append-drop index us)) ∙ lossy-after form (take index us) (drop index us) (first_fault-front form us index item u e)
 
--- behind them it stands first
+-- The fault is the first item from its index on.
 pub first_fault-first : (form : EncodingForm) (us : List ℕ) (index item u : ℕ) → IsFirstFault form us index item u → (rest : List Item) × (items form (drop index us) ≡ Fault u ∷ rest)
 first_fault-first form us index item u e =
     let (front, rest, split, at, number) = first_fault-split form us index item u e in
@@ -133,7 +133,7 @@ first_fault-not_well_formed form us index item u e well =
     let (front, rest, split, at, number) = first_fault-split form us index item u e in
     well.no_fault u (subst (λ is. Contains is (Fault u)) (sym split) (contains_after (map Char front) rest (Fault u)))
 
--- without a fault the items are characters
+-- If there is no fault, the items are characters.
 no_unit-chars : (is : List Item) → first_fault_unit is ≡ None → is ≡ map Char (leading_characters is)
 no_unit-chars [] e = refl
 no_unit-chars (Char c ∷ is) e = ap (λ js. Char c ∷ js) (no_unit-chars is e)

@@ -9,7 +9,7 @@ use Rattle.wide_unit.specs.Items.{items}
 use Rattle.wide_unit.specs.Laws.Items.{items-nil}
 use Rattle.wide_unit.specs.Laws.Ends.{items-front_char, items-front_fault}
 
--- a slice's first element and the rest, as a pattern takes them
+-- The first element of a slice and the rest, as a pattern matches them.
 pub first_rest : {X : Type 0} (xs : List X) (x : X) → 1 ≤ length xs → x ≡ get_or xs 0 x → xs ≡ x ∷ take (length xs - 1) (drop 1 xs)
 first_rest [] x some e = absurd (omega arith)
 first_rest (y ∷ ys) x some e =

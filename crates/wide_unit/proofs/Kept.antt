@@ -1,4 +1,4 @@
--- The text without U+FFFD, character after character.
+-- The text without U+FFFD, character by character.
 use Rattle.std.proofs.Common.{◌≡◌, ℕ, List, ◌∷◌, ap, cond}
 use Rattle.std.specs.Prelude.{not}
 use Rattle.std.specs.List.{filter}

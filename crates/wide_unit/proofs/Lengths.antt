@@ -1,4 +1,4 @@
--- The length of a text in code units, by its bytes.
+-- The length of a text in code units, from its bytes.
 use Rattle.std.proofs.Common.{◌≡◌, ◌<◌, ◌≤◌, ◌+◌, ◌/◌, ◌%◌, ◌^◌, ℕ, List, [], ◌∷◌, length, true, suc, inl, inr, refl, ap, sym, ◌∙◌, arith, ◌-◌, take, drop}
 use Rattle.std.specs.Char.{IsScalar}
 use Rattle.std.specs.List.{sum_by}
@@ -28,7 +28,7 @@ begun-trailing : (bits : ℕ) → units_begun (trailing_byte bits) ≡ 0
 begun-trailing bits = let m : bits % 2 ^ 6 < 64 = omega arith in grind (arith, nat_tests)
 
 module _ (weight : ℕ → ℕ) (none : weight 0 ≡ 0) where
-  -- of each character the first byte alone has a weight, where a byte's is by the units that begin there
+  -- Only the first byte of each character has a weight, which depends on the number of units that begin there.
   abbrev pub byte_weight : ℕ → ℕ
   byte_weight b = weight (units_begun b)
 
@@ -73,11 +73,11 @@ module _ (weight : ℕ → ℕ) (none : weight 0 ≡ 0) where
   weight-text bs text =
       ap (λ xs. sum_by byte_weight xs) (sym (utf8-encode_utf8_all (chars bs) ∙ encodes-chars bs text)) ∙ weight-characters (chars bs) (scalars-chars bs text)
 
--- a text is as long in UTF-16 as the units that begin at its bytes
+-- The length of a text in UTF-16 is the number of units that begin at its bytes.
 pub length-utf16 : (bs : List ℕ) → IsUtf8 bs → sum_by units_begun bs ≡ length (encode Utf16 (chars bs))
 length-utf16 bs text = weight-text (λ n. n) refl bs text ∙ sym (length-flat_map (code_units Utf16) (chars bs))
 
--- and has as many characters as bytes at which some begin
+-- A text has as many characters as bytes at which units begin.
 count-all : (cs : List ℕ) → sum_by (λ c. begins (length (code_units Utf16 c))) cs ≡ length cs
 count-all [] = refl
 count-all (c ∷ cs) =
@@ -91,7 +91,7 @@ pub length-encode_utf32 : (cs : List ℕ) → length (encode Utf32 cs) ≡ lengt
 length-encode_utf32 [] = refl
 length-encode_utf32 (c ∷ cs) = ap suc (length-encode_utf32 cs)
 
--- what is counted of a list before a place, and behind it
+-- What is counted in a list before an index, and after it.
 module _ {C : Type 0} (weight : C → ℕ) (xs : List C) where
   pub counted-on : (at n : ℕ) → sum_by weight (take (at + n) xs) ≡ sum_by weight (take at xs) + sum_by weight (take n (drop at xs))
   counted-on at n = ap (sum_by weight) (take-add at n xs) ∙ sum_by-append weight (take at xs) (take n (drop at xs))

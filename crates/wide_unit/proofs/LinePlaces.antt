@@ -1,4 +1,4 @@
--- How many lines a text has at most, and that each begins between two items.
+-- The greatest number of lines in a text, and that each begins between two items.
 use Rattle.std.proofs.Common.{◌≡◌, ℕ, ◌+◌, ◌≤◌, Bool, true, false, List, [], ◌∷◌, ◌++◌, refl, sym, ◌∙◌, ap, subst, arith, length, length-append, append_assoc, cond}
 use Rattle.std.specs.Prelude.{map}
 use Rattle.std.specs.List.{All, slice_split, onto_first}
@@ -16,17 +16,17 @@ use Rattle.wide_unit.specs.Laws.Forms.{some_units}
 use Rattle.wide_unit.specs.Laws.Lines.{one_feed, pieces-some}
 use Rattle.wide_unit.proofs.CharBoundaries.{IsCharBoundary-of}
 
--- the pieces with a line feed between them
+-- The fragments with a line feed between them.
 abbrev joined : List (List Item) → List Item
 joined [] = []
 joined (p ∷ []) = p
 joined (p ∷ q ∷ ps) = p ++ Char line_feed ∷ joined (q ∷ ps)
 
--- a place at which an item of the list begins, or the end
+-- An offset at which an item of the list begins, or the end.
 abbrev Begins : EncodingForm → List Item → ℕ → Type 0
 Begins form is place = (front back : List Item) × (is ≡ front ++ back) × (length (units_of form front) ≡ place)
 
--- ---- the pieces are those items
+-- ---- the fragments are those items
 
 joined-first : (i : Item) (ps : List (List Item)) (is : List Item) → (ps ≡ [] → ⊥) → joined ps ≡ is → joined (onto_first i ps) ≡ i ∷ is
 joined-first i [] is some e = absurd (some refl)
@@ -83,7 +83,7 @@ module _ {C : Type 0} (form : EncodingForm) (number : C → ℕ) (us : List C) w
       let is = items form (map number us) in
       omega (arith, all_items, placed-within form place (slice_split is_line_feed is), ap length (joined-split is))
 
--- ---- places
+-- ---- offsets
 
 behind_feed : (form : EncodingForm) (front p : List Item) → length (units_of form (front ++ (p ++ Char line_feed ∷ []))) ≡ length (units_of form front) + (length (units_of form p) + 1)
 behind_feed form front p =
@@ -114,7 +114,7 @@ begins form whole front (p ∷ q ∷ ps) e =
 pub IsBoundary-lines : (form : EncodingForm) (us : List ℕ) → All (λ line. IsBoundary form us line.0) (placed_lines form 0 (items form us))
 IsBoundary-lines form us = begins form (items form us) [] (slice_split is_line_feed (items form us)) (sym (joined-split (items form us)))
 
--- of well-formed units, as the unit there shows it
+-- In well-formed units, by the unit at the offset.
 each-char_boundary : (form : EncodingForm) (us : List ℕ) → IsWellFormed form us → (lines : List (ℕ × List Item)) → All (λ line. IsBoundary form us line.0) lines → All (λ line. IsCharBoundary form us line.0) lines
 each-char_boundary form us well [] all = All-nil (λ line. IsCharBoundary form us line.0)
 each-char_boundary form us well (line ∷ lines) all =

@@ -1,4 +1,4 @@
--- `IsSegmentation` on lists of code units is what the standard says of each form.
+-- On lists of code units, `IsSegmentation` is what the Standard says of each form.
 use Rattle.std.proofs.Common.{◌≡◌, ℕ, suc, zero, ◌<◌, List, [], ◌∷◌, ◌++◌, refl, sym, arith, length, get_or, subst}
 use Rattle.std.specs.Char.{IsScalar}
 use Rattle.std.specs.List.{All, Contains}
@@ -6,7 +6,7 @@ use Rattle.wide_unit.specs.EncodingForm.{EncodingForm, Utf16, Utf32, IsFault, Is
 use Rattle.wide_unit.specs.Segmentation.{Item, Char, Fault, item_units, units_of, IsItem, IsSegmentation, IsSegmentation16, IsSegmentation32}
 use Rattle.wide_unit.specs.Laws.Forms.{IsPair-from, IsPair-parts, IsFault-surrogate, surrogate-of_fault, IsFault-no_scalar, no_scalar-of_fault, no_pair32}
 
--- a fault among the items is one of the units
+-- A fault among the items is one of the units.
 get-append_right : (xs ys : List ℕ) (P : ℕ → Type 0) → All P (xs ++ ys) → All P ys
 get-append_right [] ys P all = all
 get-append_right (x ∷ xs) ys P all = get-append_right xs ys P (λ k d within. all (suc k) d (omega arith))
@@ -17,7 +17,7 @@ fault-is_unit form (Char c ∷ items) P all u zero d within e = absurd cc
 fault-is_unit form (Fault v ∷ items) P all u zero d within e = let same : v ≡ u = cc in subst P same (all 0 v (omega arith))
 fault-is_unit form (i ∷ items) P all u (suc k) d within e = fault-is_unit form items P (get-append_right (item_units form i) (units_of form items) P all) u k d (omega arith) e
 
--- the items by what each is
+-- The items by their kind.
 item-by_kind : (form : EncodingForm) (items : List Item) (i : Item) → All (IsItem form) items → Contains items i → IsItem form i
 item-by_kind form items i proper at = subst (λ j. IsItem form j) at.2 (proper at.0 i at.1)
 

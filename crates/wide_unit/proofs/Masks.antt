@@ -1,4 +1,4 @@
--- What the lanes' tests say of a unit, and what the blocks of a list say of the list.
+-- What the SIMD tests say of a unit, and what the blocks of a list say of the list.
 use Rattle.std.proofs.Common.{◌≡◌, ◌≢◌, ℕ, suc, zero, ◌+◌, ◌-◌, ◌*◌, ◌/◌, ◌%◌, ◌^◌, ◌<◌, ◌≤◌, Bool, true, false, not, cond, eqb, List, [], ◌∷◌, ◌++◌, length, get_or, map, take, drop, replicate, bit_and, refl, sym, ap, ◌∙◌, subst, arith, w16, w32, Fits}
 use Rattle.std.proofs.lemmas.List.{take_all}
 use Rattle.std.proofs.lemmas.Bool.{cases_lt}
@@ -26,7 +26,7 @@ not_false : (b : Bool) → not b ≡ false → b ≡ true
 not_false true h = refl
 not_false false h = cc
 
--- block i of the first n blocks
+-- Block i of the first n blocks.
 pub block_at : {X : Type 0} (n : ℕ) (k i : ℕ) (xs : List X) (d : List X) → i < k → get_or (first_chunks n k xs) i d ≡ take n (drop (i * n) xs)
 block_at n zero i xs d l = absurd (omega arith)
 block_at n (suc k) zero xs d l = rw zero-mul refl
@@ -36,7 +36,7 @@ block_at n (suc k) (suc i) xs d l =
     h ∙ ap (take n) e
 
 module _ (p : ℕ → Bool) where
-  -- none of the first m units passes the test
+  -- None of the first m units passes the test.
   abbrev pub NoneBefore : List ℕ → ℕ → Type 0
   NoneBefore us m = (k : ℕ) → k < m → p (get_or us k 0) ≡ false
 
@@ -52,18 +52,18 @@ module _ (p : ℕ → Bool) where
   pub place_in : (us : List ℕ) → first_place p us ≤ length us
   place_in us = prefix_len-le-length (λ u. not (p u)) us
 
-  -- in a part of the list, from m on, the first n units have none
+  -- None of the first n units from m on passes.
   pub none_further : (us : List ℕ) (m n : ℕ) → NoneBefore us m → NoneBefore (drop m us) n → NoneBefore us (m + n)
   none_further us m n low high k l = ⊎_elim (λ a. low k a) (λ b.
       let e : m + (k - m) ≡ k = omega arith in
       let h = high (k - m) (omega arith) in
       subst (λ j. p (get_or us j 0) ≡ false) e (subst (λ x. p x ≡ false) (get_or-drop m us (k - m) 0) h)) (cases_lt k m)
 
-  -- one unit more
+  -- One more unit.
   pub none_more : (us : List ℕ) (m : ℕ) → NoneBefore us m → p (get_or us m 0) ≡ false → NoneBefore us (m + 1)
   none_more us m before here k l = ⊎_elim (λ a. before k a) (λ b. let e : k ≡ m = omega arith in subst (λ j. p (get_or us j 0) ≡ false) (sym e) here) (cases_lt k m)
 
-  -- the place of the first in a list is that in its part from m on, where none is before m
+  -- If none passes before m, the index of the first in a list is that in the rest from m on.
   pub place_from : (us : List ℕ) (m : ℕ) → m ≤ length us → NoneBefore us m → m + first_place p (drop m us) ≡ first_place p us
   place_from us m le before =
       let rest = drop m us in
@@ -73,7 +73,7 @@ module _ (p : ℕ → Bool) where
       (none_further us m (first_place p rest) before (none_to_place rest))
       (λ l. subst (λ x. p x ≡ true) (get_or-drop m us (first_place p rest) 0) (place_here rest (omega (arith, e))))
 
-  -- a list with none has an empty mask
+  -- The mask is empty if none passes.
   empty_mask : (us : List ℕ) → NoneBefore us (length us) → mask_l (map p us) ≡ 0
   empty_mask [] none = refl
   empty_mask (u ∷ us) none =
@@ -81,7 +81,7 @@ module _ (p : ℕ → Bool) where
       let rest : mask_l (map p us) ≡ 0 = empty_mask us (λ k l. none (suc k) (omega arith)) in
       ap (λ b. cond b 1 0 + 2 * mask_l (map p us)) first ∙ omega (arith, rest)
 
-  -- where the first n units have one, the list's first is theirs
+  -- If one of the first n units passes, the first in the list is among them.
   place_of_front : (n : ℕ) (us : List ℕ) → first_place p (take n us) < length (take n us) → first_place p (take n us) ≡ first_place p us
   place_of_front n us below =
       let q = λ (u : ℕ). not (p u) in
@@ -100,18 +100,18 @@ module _ (p : ℕ → Bool) where
     none_in_block : (us : List ℕ) (m : ℕ) → NoneBefore (take n (drop m us)) n → NoneBefore (drop m us) n
     none_in_block us m h k l = subst (λ x. p x ≡ false) (get_or-take n (drop m us) k 0 l) (h k l)
 
-    -- an empty mask
+    -- An empty mask.
     block_passed : (us : List ℕ) (m : ℕ) → m + n ≤ length us → NoneBefore us m → mask_l (map p (take n (drop m us))) ≡ 0 → NoneBefore us (m + n)
     block_passed us m room before zero_mask =
         let block = take n (drop m us) in
         let all : first_place p block ≡ n = leading_from_mask_l p block zero_mask ∙ block_long us m room in
         none_further us m n before (none_in_block us m (λ k l. none_to_place block k (omega (arith, all))))
 
-    -- a mask that isn't empty: did no lane pass, its mask would be empty
+    -- A mask that is not empty: if no lane passed, its mask would be empty.
     place_below : (block : List ℕ) → length block ≡ n → 0 < mask_l (map p block) → first_place p block < n
     place_below block long some = ⊎_elim (λ l. l) (λ ge. absurd (omega (arith, some, empty_mask block (λ k l. none_to_place block k (omega (arith, ge, l, long)))))) (cases_lt (first_place p block) n)
 
-    -- the lowest bit of a mask
+    -- The lowest bit of a mask.
     block_stops : (us : List ℕ) (m : ℕ) → m + n ≤ length us → NoneBefore us m → 0 < mask_l (map p (take n (drop m us)))
         → m + count_trailing_zeros 64 (mask_l (map p (take n (drop m us)))) ≡ first_place p us
     block_stops us m room before some =
@@ -144,7 +144,7 @@ same_tests : (P : ℕ → Type 0) (t p : ℕ → Bool) → ((u : ℕ) → P u �
 same_tests P t p same [] h = refl
 same_tests P t p same (u ∷ us) h = rw (same u h.0, same_tests P t p same us h.1) refl
 
--- a surrogate of 16 bits
+-- A surrogate of 16 bits.
 surrogate_test : (u : ℕ) → u < 2 ^ 16 → eqb (bit_and u 0xf800) 0xd800 ≡ is_surrogate u
 surrogate_test u l = let e : bit_and u 0xf800 ≡ u / 2 ^ 11 * 2 ^ 11 = and_high_mask 16 11 (omega arith) u l in rw e (grind arith)
 
@@ -164,7 +164,7 @@ surrogate_block us long fits =
     ap (λ (vs : List ℕ). mask_l (map (top 15) (zip2 (λ a b. cond (eqb a b) (2 ^ 16 - 1) 0) (zip2 bit_and vs (replicate 16 0xf800)) (replicate 16 0xd800))) % 2 ^ 64) whole
     ∙ bits16 us long (Each1-from_get_or (λ u. u < 2 ^ 16) us 0 (λ i _. (fits i).fits))
 
--- no scalar value
+-- No scalar value.
 abbrev pub surrogate32 : ℕ → Bool
 surrogate32 u = eqb (bit_and u 0xffff_f800) 0xd800
 
@@ -207,7 +207,7 @@ no_scalar_block us long fits =
     let whole : take 8 us ≡ us = take_all 8 us (omega arith) in
     ap bits32 whole ∙ bits32-are us long (Each1-from_get_or (λ u. u < 2 ^ 32) us 0 (λ i _. (fits i).fits))
 
--- one unit alone
+-- One unit only.
 pub same_block16 : (v : ℕ) (us : List ℕ) → length us ≡ 16 → mask_l (map (top 15) (zip2 (λ a b. cond (eqb a b) (2 ^ 16 - 1) 0) (take 16 us) (replicate 16 v))) % 2 ^ 64 ≡ mask_l (map (is_unit v) us)
 same_block16 v us long =
     let whole : take 16 us ≡ us = take_all 16 us (omega arith) in
@@ -218,7 +218,7 @@ same_block32 v us long =
     let whole : take 8 us ≡ us = take_all 8 us (omega arith) in
     ap (λ vs. mask_l (map (top 31) (zip2 (λ a b. cond (eqb a b) (2 ^ 32 - 1) 0) vs (replicate 8 v))) % 2 ^ 64) whole ∙ bitmask_splat w32 eqb us 8 v long (omega arith)
 
--- the halves of pairs
+-- The surrogates of pairs.
 masked_bits16 : (c : ℕ) (p : ℕ → Bool) → ((u : ℕ) → u < 2 ^ 16 → eqb (bit_and u 0xfc00) c ≡ p u) → (us : List ℕ) → length us ≡ 16 → Each1 (λ u. u < 2 ^ 16) us
     → mask_l (map (top 15) (zip2 (λ a b. cond (eqb a b) (2 ^ 16 - 1) 0) (zip2 bit_and us (replicate 16 0xfc00)) (replicate 16 c))) % 2 ^ 64 ≡ mask_l (map p us)
 masked_bits16 c p same us long below =
@@ -249,7 +249,7 @@ pub low_block : (us : List ℕ) → length us ≡ 16 → ((k : ℕ) → Fits w16
     → mask_l (map (top 15) (zip2 (λ a b. cond (eqb a b) (2 ^ 16 - 1) 0) (zip2 bit_and (take 16 us) (replicate 16 0xfc00)) (replicate 16 0xdc00))) % 2 ^ 64 ≡ mask_l (map is_low us)
 low_block = masked_block16 0xdc00 is_low low_test
 
--- equal masks are equal lanes
+-- Equal masks are equal lanes.
 pub same_lanes : (p q : ℕ → Bool) (us vs : List ℕ) → length us ≡ length vs → mask_l (map p us) ≡ mask_l (map q vs) → (k : ℕ) → k < length us → p (get_or us k 0) ≡ q (get_or vs k 0)
 same_lanes p q [] vs long e k l = absurd (omega arith)
 same_lanes p q (u ∷ us) [] long e k l = absurd (omega arith)

@@ -1,4 +1,4 @@
--- Units that are mended by their neighbours are those of lossy text.
+-- Units that are repaired by their neighbours are those of lossy text.
 use Rattle.std.proofs.Common.{◌≡◌, ℕ, zero, suc, map, ◌-◌, ◌<◌, ◌≤◌, List, [], ◌∷◌, ◌++◌, length, get_or, take, inl, inr, refl, sym, ap, ◌∙◌, arith}
 use Rattle.std.specs.Char.{IsScalar}
 use Rattle.std.proofs.Math.ListN.{get_or-eq_default}
@@ -19,7 +19,7 @@ use Rattle.wide_unit.specs.Laws.Items.{items-chain, units_of-items, items-nil}
 use Rattle.wide_unit.specs.Laws.Utf32.{encode32, items32-char, items32-fault}
 use Rattle.wide_unit.specs.Mended.{mended_unit, mended_at, mended_scalar}
 
--- ---- places
+-- ---- indices
 
 pub unit_behind_first : (u : ℕ) (us : List ℕ) (n : ℕ) → 1 ≤ n → get_or (u ∷ us) n 0 ≡ get_or us (n - 1) 0
 unit_behind_first u us zero some = absurd (omega arith)
@@ -39,7 +39,7 @@ kept-high b u v from to low high = grind (arith, nat_tests)
 kept-low : (b u v : ℕ) → 0xDC00 ≤ u → u < 0xE000 → 0xD800 ≤ b → b < 0xDC00 → mended_unit b u v ≡ u
 kept-low b u v from to low high = grind (arith, nat_tests)
 
--- no high surrogate stands right before a low one
+-- No high surrogate directly precedes a low one.
 record IsApart (b v : ℕ) : Type 0 where
   apart : 0xD800 ≤ b → b < 0xDC00 → 0xDC00 ≤ v → 0xE000 ≤ v
 
@@ -49,7 +49,7 @@ lone-high b u v from to far = grind (arith, nat_tests)
 lone-low : (b u v : ℕ) → 0xDC00 ≤ u → u < 0xE000 → (0xD800 ≤ b → 0xDC00 ≤ b) → mended_unit b u v ≡ 0xFFFD
 lone-low b u v from to far = grind (arith, nat_tests)
 
--- ---- all units behind one
+-- ---- all units after one
 
 mended_behind : ℕ → List ℕ → List ℕ
 mended_behind before [] = []
@@ -156,7 +156,7 @@ mended-all us each =
     let all : AreUnits (units_of Utf16 is) = rw same (record { each = each }) in
     ap (mended_behind 0) (sym same) ∙ mended-items 0 is (items-chain Utf16 us) all (record { apart = λ from to low. absurd (omega arith) })
 
--- units, each of which is the mended one of its place, are those of lossy text
+-- Units that are the repaired units at their indices are those of lossy text.
 pub mended-lossy : (us vs : List ℕ) → ((k : ℕ) → get_or us k 0 < 0x10000) → length vs ≡ length us → ((k : ℕ) → k < length us → get_or vs k 0 ≡ mended_at us k) → vs ≡ encode Utf16 (lossy (items Utf16 us))
 mended-lossy us vs each long same =
     same_number_lists vs (mended_behind 0 us) (long ∙ sym (length-mended 0 us)) (λ k within. same k (omega arith) ∙ sym (at-next us k (omega arith)))
@@ -182,7 +182,7 @@ mended32-lossy us vs long same =
     same_number_lists vs (map mended_scalar us) (long ∙ sym (length-map us mended_scalar)) (λ k within. same k (omega arith) ∙ sym (get_or-map mended_scalar us k 0 0 (omega arith)))
     ∙ sym (mended32 us)
 
--- ---- over a front
+-- ---- over a prefix
 
 pub front_is : (n : ℕ) (xs ys : List ℕ) → length ys ≡ n → take n (put_mid 0 n xs ys) ≡ ys
 front_is n xs ys long = take-put_mid 0 n xs ys n (omega arith) (omega arith)

@@ -17,7 +17,7 @@ module _ {X : Type 0} (number : X → ℕ) (xs : List X) where
       let inside : earlier < length (take place us) = omega (arith, lt, nul.0, length-take place us) in
       All-get_or (λ u. u ≢ 0) (take place us) earlier 0 inside front (get_or-take place us earlier 0 lt ∙ nul.1)
 
-  -- the first unit of the number 0 is the first NUL
+  -- The first unit whose number is 0 is the first NUL.
   pub first_nul_of : (place : Option ℕ)
       → IfNone place (All (λ x. number x ≢ 0) xs)
       → IfSome place (λ p. All (λ x. number x ≢ 0) (take p xs))

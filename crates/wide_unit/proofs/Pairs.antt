@@ -1,4 +1,4 @@
--- Blocks of units in pairs.
+-- Blocks of units in surrogate pairs.
 use Rattle.std.proofs.Common.{◌≡◌, ℕ, suc, zero, ◌+◌, ◌^◌, ◌<◌, ◌≤◌, ◌⊎◌, Bool, true, false, List, ◌∷◌, inl, inr, refl, sym, ◌∙◌, ap, arith, length, get_or, take, drop, drop-cons, get_or-take, get_or-drop, length-drop, length-take, subst, w16, Fits}
 use Rattle.std.specs.Simd.Lanes.{mask_l}
 use Rattle.std.specs.Prelude.{map}
@@ -29,11 +29,11 @@ neither u from to a b = grind (arith, from, to, a, b)
 alone : (u : ℕ) → u < 2 ^ 16 → is_high u ≡ false → is_low u ≡ false → ¬ (IsFault Utf16 u)
 alone u below a b fault = let at = surrogate-of_fault u below fault in neither u at.0 at.1 a b
 
--- the units up to here are those of characters
+-- The units before the index belong to characters.
 abbrev pub TextTo : List ℕ → ℕ → Type 0
 TextTo us n = BeginsWithChars Utf16 us (drop n us)
 
--- those up to here, or up to here and with the low surrogate that stands here
+-- The units before the index belong to characters, or they do with the low surrogate at the index.
 abbrev pub PairsTo : List ℕ → ℕ → Type 0
 PairsTo us n = ((is_low (get_or us n 0) ≡ false) × TextTo us n) ⊎ ((is_low (get_or us n 0) ≡ true) × TextTo us (suc n))
 
@@ -72,7 +72,7 @@ module _ (us : List ℕ) (fits : (k : ℕ) → Fits w16 (get_or us k 0)) where
       let e : suc (m + j) ≡ m + suc j = omega arith in
       subst UpTo e (more (m + j) (omega arith) (same j (omega arith)) (steps m j (omega arith) (λ k l. same k (omega arith)) up))
 
-  -- equal masks of a block and of the block one unit behind it
+  -- Equal masks of a block and of the block one unit after it.
   pub paired : (m i j : ℕ) → i ≡ 16 → j ≡ 16 → m + 17 ≤ length us → mask_l (map is_high (take i (drop m us))) ≡ mask_l (map is_low (take j (drop (m + 1) us)))
       → (k : ℕ) → k < 16 → is_high (get_or us (m + k) 0) ≡ is_low (get_or us (suc (m + k)) 0)
   paired m i j ei ej room e k l =

@@ -1,11 +1,11 @@
--- A text that is written to a formatter piece by piece.
+-- A text that is written to a formatter chunk by chunk.
 use Rattle.std.proofs.Common.{◌≡◌, ℕ, List, [], ◌++◌, sym, ◌∙◌, ap, subst, append_assoc}
 use Rattle.std.proofs.lemmas.List.{append-nil}
 use Rattle.std.proofs.Output.{writes_in_calls_nil, has_written_append, has_written_of_eq, has_written_styled_nil, has_written_styled_append, has_written_styled_of_eq}
 use Rattle.std.specs.Fmt.{HasWritten, HasWrittenStyled, IsPlainFormatter, IsFlush, IsDefaultSpec}
 use Rattle.std.specs.declared.fmt.Formatter.{Formatter}
 
--- g is f after a front of the text, and what is left is the rest of it
+-- g is f after a prefix of the text was written, and `left` is the rest of it.
 pub record HasPrinted {W : Type 0} (took : W → List ℕ → W → Type 0) (f : Formatter W) (text left : List ℕ) (g : Formatter W) : Type 0 where
   pub done : List ℕ
   pub wrote : HasWritten took f done g
@@ -22,14 +22,14 @@ module _ {W : Type 0} {took : W → List ℕ → W → Type 0} where
     joined = append_assoc so_far.done bs rest ∙ ap (λ xs. so_far.done ++ xs) (sym e) ∙ so_far.joined;
   }
 
-  -- a piece that is passed over
+  -- A step that writes nothing.
   pub printed-same : {f g : Formatter W} {text left : List ℕ} (rest : List ℕ) → HasPrinted took f text left g → left ≡ rest → HasPrinted took f text rest g
   printed-same rest so_far e = record { done = so_far.done; wrote = so_far.wrote; joined = ap (λ xs. so_far.done ++ xs) (sym e) ∙ so_far.joined }
 
   pub printed-all : {f g : Formatter W} {text left : List ℕ} → HasPrinted took f text left g → left ≡ [] → HasWritten took f text g
   printed-all so_far e = has_written_of_eq _ _ _ _ _ (sym (append-nil so_far.done) ∙ ap (λ xs. so_far.done ++ xs) (sym e) ∙ so_far.joined) so_far.wrote
 
--- the same whatever options f has
+-- A text that is written chunk by chunk, whatever options f has.
 pub record HasPrintedStyled {W : Type 0} (took : W → List ℕ → W → Type 0) (f : Formatter W) (text left : List ℕ) (g : Formatter W) : Type 0 where
   pub done : List ℕ
   pub wrote : HasWrittenStyled took f done g
@@ -52,6 +52,6 @@ module _ {W : Type 0} {took : W → List ℕ → W → Type 0} where
   pub styled-all : {f g : Formatter W} {text left : List ℕ} → HasPrintedStyled took f text left g → left ≡ [] → HasWrittenStyled took f text g
   styled-all so_far e = has_written_styled_of_eq _ _ _ _ _ (sym (append-nil so_far.done) ∙ ap (λ xs. so_far.done ++ xs) (sym e) ∙ so_far.joined) so_far.wrote
 
-  -- what holds whatever options f has holds where it has none
+  -- What holds for any options of f holds without options.
   pub plain-of_styled : {f g : Formatter W} {bs : List ℕ} → IsPlainFormatter f → HasWrittenStyled took f bs g → HasWritten took f bs g
   plain-of_styled plain so = record { wrote = so.wrote; plain = record { bare = subst IsDefaultSpec (sym so.spec) plain.bare; flush = so.flush } }

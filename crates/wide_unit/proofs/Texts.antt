@@ -1,4 +1,4 @@
--- The characters that a text's iterator has left.
+-- The characters that the iterator of a text will yield.
 use Rattle.std.proofs.Common.{ℕ, [], ◌∷◌, ◌++◌, Option, Some, None, sym, ap, ◌∙◌}
 use Rattle.std.specs.Prelude.{IfSome}
 use Rattle.std.specs.Char.{IsScalar, encode_utf8}

@@ -1,11 +1,12 @@
--- The code point that bytes begin with, whether or not they are UTF-8: the bits of its bytes, the highest first.
+-- The code point at the beginning of some bytes, whether or not they are UTF-8: the bits of its bytes, the highest
+-- first.
 use Rattle.std.specs.Prelude.{ℕ, ◌+◌, ◌*◌, ◌%◌, ◌^◌, nat_lt, nat_le, ◌&&◌, if◌then◌else◌, List, [], ◌∷◌, Option, Some, None}
 
--- bits with those of one more byte, its six lowest
+-- The bits, and the lowest six bits of one more byte.
 abbrev pub with_byte : ℕ → ℕ → ℕ
 with_byte bits byte = bits * 2 ^ 6 + byte % 2 ^ 6
 
--- the bits that a first byte has and those of the one, two or three bytes after it, and what follows these
+-- The bits of a first byte and of the one, two or three bytes after it, and the bytes that follow.
 abbrev pub with_one : ℕ → List ℕ → Option (ℕ × List ℕ)
 with_one bits (b ∷ rest) = Some (with_byte bits b, rest)
 with_one bits [] = None
@@ -18,7 +19,8 @@ abbrev pub with_three : ℕ → List ℕ → Option (ℕ × List ℕ)
 with_three bits (b ∷ c ∷ d ∷ rest) = Some (with_byte (with_byte (with_byte bits b) c) d, rest)
 with_three bits bytes = None
 
--- The first byte tells how many follow it: none below 80, one from C0 to DF, two from E0 to EF, and else three.
+-- The first byte determines how many bytes follow it: none below 80, one from C0 to DF, two from E0 to EF, and
+-- otherwise three.
 abbrev pub code_point_at : List ℕ → Option (ℕ × List ℕ)
 code_point_at [] = None
 code_point_at (a ∷ rest) =

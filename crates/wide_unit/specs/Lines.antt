@@ -15,25 +15,26 @@ abbrev pub is_line_feed : Item → Bool
 is_line_feed (Char c) = c == line_feed
 is_line_feed (Fault u) = false
 
--- the piece without one carriage return at its end, where one is there
+-- The items without one carriage return at the end, if there is one.
 abbrev pub without_return : List Item → List Item
 without_return [] = []
 without_return (Char c ∷ []) = if c == carriage_return then [] else Char c ∷ []
 without_return (Fault u ∷ []) = Fault u ∷ []
 without_return (i ∷ j ∷ is) = i ∷ without_return (j ∷ is)
 
--- the last piece is no line where it is empty, and each other one loses a carriage return at its end
+-- The last fragment is no line if it is empty. Each other fragment loses a carriage return at its end.
 abbrev pub lines_of_pieces : List (List Item) → List (List Item)
 lines_of_pieces [] = []
 lines_of_pieces ([] ∷ []) = []
 lines_of_pieces ((i ∷ is) ∷ []) = (i ∷ is) ∷ []
 lines_of_pieces (p ∷ q ∷ ps) = without_return p ∷ lines_of_pieces (q ∷ ps)
 
--- the items are cut at each line feed, which belongs to no piece
+-- The items are split at each line feed, which belongs to no fragment.
 abbrev pub lines_of : List Item → List (List Item)
 lines_of is = lines_of_pieces (slice_split is_line_feed is)
 
--- the same lines, each with the place, in units, at which it begins: `place` for the first, and one unit behind the units of the piece before
+-- The lines, each with the offset, in units, at which it begins: the first at `place`, and each next one a unit after
+-- the units of the fragment before.
 abbrev pub placed_pieces : EncodingForm → ℕ → List (List Item) → List (ℕ × List Item)
 placed_pieces form place [] = []
 placed_pieces form place ([] ∷ []) = []
@@ -43,13 +44,13 @@ placed_pieces form place (p ∷ q ∷ ps) = (place, without_return p) ∷ placed
 abbrev pub placed_lines : EncodingForm → ℕ → List Item → List (ℕ × List Item)
 placed_lines form place is = placed_pieces form place (slice_split is_line_feed is)
 
--- the first line of the items, and those behind it, for which so many units were taken
+-- The first line of the items, and the items of the lines after it. `taken` is the number of units that were read.
 abbrev pub TakesLine : EncodingForm → List Item → List Item → List Item → ℕ → Type 0
 TakesLine form is line rest taken = (place : ℕ) → placed_lines form place is ≡ (place, line) ∷ placed_lines form (place + taken) rest
 
--- the first line of the units, and the units after it; they are well formed where all are
+-- The first line of the units, and the units after it. Both are well formed if all units are.
 pub record IsFirstLine (form : EncodingForm) (units line rest : List ℕ) : Type 0 where
   pub lines : lines_of (items form units) ≡ items form line ∷ lines_of (items form rest)
   pub well_formed : IsWellFormed form units → IsWellFormed form line × IsWellFormed form rest
-  -- and so with their places
+  -- The lines with their offsets.
   pub placed : TakesLine form (items form units) (items form line) (items form rest) (length units - length rest)

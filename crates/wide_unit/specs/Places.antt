@@ -1,4 +1,4 @@
--- Places in well-formed units, by the characters before them.
+-- Offsets in well-formed units, by the characters before them.
 use Rattle.std.specs.Prelude.{◌≡◌, ◌<◌, ◌≤◌, ℕ, List, length, map, take, drop, slice_index}
 use Rattle.std.specs.List.{splice}
 use Rattle.std.specs.Range.Bound.{start_index, end_index}
@@ -7,58 +7,58 @@ use Rattle.wide_unit.specs.EncodingForm.{EncodingForm, encode, IsLowSurrogate}
 use Rattle.wide_unit.specs.Items.{chars, IsBoundary}
 use Rattle.wide_unit.specs.Range.{IsWithin}
 
--- the place, in units, at which character number `index` begins, or the end where it is their number
+-- The offset, in units, at which character number `index` begins, or the end if `index` is the number of characters.
 pub record IsPlaceOf (form : EncodingForm) (units : List ℕ) (index place : ℕ) : Type 0 where
   pub boundary : IsBoundary form units place
-  -- the characters before it, and those from it on
+  -- The characters before it, and those from it on.
   pub front : chars form (take place units) ≡ take index (chars form units)
   pub rest : chars form (drop place units) ≡ drop index (chars form units)
-  -- the units before it are the encoding of those characters
+  -- The units before it are the encoding of those characters.
   pub encoded : take place units ≡ encode form (take index (chars form units))
 
--- how many characters stand before the place
+-- The number of characters before the offset.
 abbrev pub chars_before : EncodingForm → List ℕ → ℕ → ℕ
 chars_before form units place = length (chars form (take place units))
 
--- the range runs forward and ends within the units, and both its ends are boundaries
+-- The range starts at or before its end, lies within the units, and both its ends are boundaries.
 pub record IsTextRange (form : EncodingForm) (units : List ℕ) (from to : ℕ) : Type 0 where
   pub within : IsWithin from to (length units)
   pub start : IsBoundary form units from
   pub end : IsBoundary form units to
 
--- The same as the unit at a place shows it. In well-formed units these are the boundaries, and arithmetic decides them at the
--- ends, and everywhere in UTF-32.
+-- The following definitions look at the unit at an offset only. In well-formed units they agree with boundaries, and
+-- arithmetic decides them at the ends, and everywhere in UTF-32.
 
--- the place is an end, or no low surrogate stands there
+-- The offset is the beginning or the end, or the unit at it is no low surrogate.
 abbrev pub IsCharBoundary : EncodingForm → List ℕ → ℕ → Type 0
 IsCharBoundary form units place = (place ≤ length units) × (0 < place → place < length units → ¬ (IsLowSurrogate form (slice_index units place)))
 
--- the range runs forward and ends within the units, and both its ends are such places
+-- The range starts at or before its end, lies within the units, and both its ends are character boundaries.
 pub record IsCharRange (form : EncodingForm) (units : List ℕ) (from to : ℕ) : Type 0 where
   pub within : IsWithin from to (length units)
   pub start : IsCharBoundary form units from
   pub end : IsCharBoundary form units to
 
--- The characters of units of any width, which `number` tells the numbers of.
+-- The characters of units of any width, whose numbers `number` returns.
 module _ {C : Type 0} (form : EncodingForm) (number : C → ℕ) where
   abbrev pub text_of : List C → List ℕ
   text_of us = chars form (map number us)
 
-  -- how many characters stand before a place
+  -- The number of characters before an offset.
   abbrev pub text_before : List C → ℕ → ℕ
   text_before us place = chars_before form (map number us) place
 
-  -- the characters with others in the place of those between two places
+  -- The characters, with others in place of those between two offsets.
   abbrev pub text_spliced : List C → ℕ → ℕ → List ℕ → List ℕ
   text_spliced us from to put = splice (text_of us) (text_before us from) (text_before us to) put
 
-  -- the bounds of a range stand in order and within the units, and at boundaries
+  -- The bounds of a range are in order, within the units, and at boundaries.
   abbrev pub IsTextPart : List C → Bound ℕ → Bound ℕ → Type 0
   IsTextPart us start end = IsTextRange form (map number us) (start_index start) (end_index end (length us))
 
   abbrev pub IsCharPart : List C → Bound ℕ → Bound ℕ → Type 0
   IsCharPart us start end = IsCharRange form (map number us) (start_index start) (end_index end (length us))
 
-  -- the characters with others in the place of those of a range
+  -- The characters, with others in place of those of a range.
   abbrev pub text_replaced : List C → Bound ℕ → Bound ℕ → List ℕ → List ℕ
   text_replaced us start end put = text_spliced us (start_index start) (end_index end (length us)) put

@@ -1,24 +1,24 @@
--- Ranges of places in a list.
+-- Ranges of indices in a list.
 use Rattle.std.specs.Prelude.{ℕ, ◌≤◌, List, length, slice_range}
 use Rattle.std.specs.List.{splice}
 use Rattle.std.specs.Range.Bound.{start_index, end_index}
 use Rattle.std.specs.declared.ops.Bound.{Bound}
 
--- the range runs forward and ends within a list of this length
+-- The range starts at or before its end, and ends within a list of this length.
 pub record IsWithin (from to len : ℕ) : Type 0 where
   pub forward : from ≤ to
   pub within : to ≤ len
 
 -- What the bounds of a range mean in a list.
 module _ {X : Type 0} (xs : List X) (start end : Bound ℕ) where
-  -- they stand in order and within it
+  -- The bounds are in order and within the list.
   abbrev pub IsInRange : Type 0
   IsInRange = IsWithin (start_index start) (end_index end (length xs)) (length xs)
 
-  -- the part between them
+  -- The slice between them.
   abbrev pub part_of : List X
   part_of = slice_range xs (start_index start) (end_index end (length xs))
 
-  -- the list with another in the place of that part
+  -- The list with another list in place of that slice.
   abbrev pub part_replaced : List X → List X
   part_replaced put = splice xs (start_index start) (end_index end (length xs)) put

@@ -1,8 +1,8 @@
--- Places in a list of units, by a test of each unit alone.
+-- Indices in a list of units, by a test of each unit.
 use Rattle.std.specs.Prelude.{◌≤◌, ◌<◌, length, slice_index, ℕ, Bool, not, ◌&&◌, ◌||◌, nat_le, nat_lt, nat_eq, List}
 use Rattle.std.specs.List.{prefix_len}
 
--- a surrogate, D800 to DFFF (section 3.8)
+-- A surrogate, D800 to DFFF (section 3.8).
 abbrev pub is_surrogate : ℕ → Bool
 is_surrogate u = nat_le 0xd800 u && nat_le u 0xdfff
 
@@ -12,19 +12,19 @@ is_high u = nat_le 0xd800 u && nat_le u 0xdbff
 abbrev pub is_low : ℕ → Bool
 is_low u = nat_le 0xdc00 u && nat_le u 0xdfff
 
--- no Unicode scalar value
+-- No Unicode scalar value.
 abbrev pub is_no_scalar : ℕ → Bool
 is_no_scalar u = is_surrogate u || nat_lt 0x10_ffff u
 
--- the unit of this number
+-- The unit of this number.
 abbrev pub is_unit : ℕ → ℕ → Bool
 is_unit number u = nat_eq u number
 
--- how many units stand before the first that passes the test: all, where none does
+-- The index of the first unit that passes the test, or the length if none does.
 abbrev pub first_place : (ℕ → Bool) → List ℕ → ℕ
 first_place test us = prefix_len (λ u. not (test u)) us
 
--- the same of a kind of units: none stands before the place, and it is the length or one stands there
+-- The index is that of the first unit of a kind, or the length if there is none.
 pub record IsFirstPlace (Kind : ℕ → Type 0) (us : List ℕ) (place : ℕ) : Type 0 where
   pub within : place ≤ length us
   pub before : (earlier : ℕ) → earlier < place → ¬ (Kind (slice_index us earlier))

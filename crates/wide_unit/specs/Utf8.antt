@@ -2,11 +2,11 @@
 use Rattle.std.specs.Prelude.{ℕ, ◌+◌, ◌/◌, ◌%◌, ◌^◌, nat_lt, if◌then◌else◌, List, [], ◌∷◌}
 use Rattle.std.specs.List.{flat_map}
 
--- the byte 10xxxxxx of the six lowest bits
+-- The byte 10xxxxxx of the lowest six bits.
 abbrev pub trailing_byte : ℕ → ℕ
 trailing_byte bits = 0b1000_0000 + bits % 2 ^ 6
 
--- the bytes of a scalar value: its bits, the highest first
+-- The bytes of a scalar value: its bits, the highest first.
 unfoldable pub utf8_bytes : ℕ → List ℕ
 utf8_bytes c =
     if nat_lt c 0x80 then c ∷ []
@@ -14,6 +14,6 @@ utf8_bytes c =
     else if nat_lt c 0x1_0000 then (0b1110_0000 + c / 2 ^ 12) ∷ trailing_byte (c / 2 ^ 6) ∷ trailing_byte c ∷ []
     else (0b1111_0000 + c / 2 ^ 18) ∷ trailing_byte (c / 2 ^ 12) ∷ trailing_byte (c / 2 ^ 6) ∷ trailing_byte c ∷ []
 
--- the bytes of a list of scalar values
+-- The bytes of a list of scalar values.
 abbrev pub utf8 : List ℕ → List ℕ
 utf8 cs = flat_map utf8_bytes cs

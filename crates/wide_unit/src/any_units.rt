@@ -1,6 +1,6 @@
 //! Units of either width.
 
-/// Units of either width. Made by [`Unit::as_any`](crate::Unit::as_any); this port's own.
+/// Units of either width. [`Unit::as_any`](crate::Unit::as_any) creates it. The Rust crate has no such type.
 #[derive(Clone, Copy, Debug)]
 pub enum AnyUnits<'a> {
     /// Units of 16 bits.

@@ -1,4 +1,4 @@
-//! Slices of units compared.
+//! Compares slices of units.
 ghost use Rattle.std.specs.Prelude.{◌≡◌, ◌↔◌, map, IsTrue};
 ghost use Rattle.std.specs.Ordering.{nat_cmp};
 ghost use Rattle.std.specs.Cmp.Lexicographic.{slice_cmp};
@@ -6,7 +6,8 @@ ghost use Rattle.std.specs.Cmp.Lexicographic.{slice_cmp};
 use crate::unit::Unit;
 use std::cmp::Ordering;
 
-/// Whether the units are the same, in the same order. It stops at the first that differ. The call is this port's own.
+/// Returns whether two slices have the same units in the same order. It stops at the first difference. The Rust crate
+/// has no such call.
 pub fn same_units<C: Unit>(left: &[C], right: &[C]) -> bool
     ensures { IsTrue result ↔ (left.now ≡ right.now) }
 {
@@ -21,9 +22,9 @@ pub fn same_units<C: Unit>(left: &[C], right: &[C]) -> bool
     true
 }
 
-/// The order of the units by their numbers, as that of words in a lexicon: the first units that differ decide, and where there
-/// are none the shorter list is the less. It stops there. In UTF-16 this is not the order of the characters, since surrogates
-/// are less than U+E000 to U+FFFF. The call is this port's own.
+/// Compares two slices lexicographically by the numbers of their units, and stops at the first difference. If one slice
+/// is a prefix of the other, the shorter one is less. In UTF-16 this is not the order of the characters, since
+/// surrogates are less than U+E000 to U+FFFF. The Rust crate has no such call.
 pub fn order_of_units<C: Unit>(left: &[C], right: &[C]) -> Ordering
     ensures { result ≡ slice_cmp nat_cmp (map C.number left.now) (map C.number right.now) }
 {

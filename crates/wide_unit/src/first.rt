@@ -1,12 +1,13 @@
-//! Where the first unit of a number stands.
+//! Finds the first unit of a given number.
 ghost use Rattle.std.specs.Prelude.{◌≡◌, ◌≢◌, ◌<◌, length, map, take, slice_index, IfNone, IfSome};
 ghost use Rattle.std.specs.List.{All};
 
 use crate::unit::Unit;
 
-/// The place of the first unit of the number: how many units stand before it. None where there is none.
+/// Returns the index of the first unit whose number is `number`, or `None` if there is none.
 ///
-/// Units are read by blocks of sixteen, or of eight in UTF-32, so some behind it may be. The call is this port's own.
+/// The search reads blocks of sixteen units, or of eight in UTF-32, so it may read units after the one it finds. The
+/// Rust crate has no such call.
 pub fn first_of<C: Unit>(units: &[C], number: u32) -> Option<usize>
     ensures none { IfNone result (All (λ u. C.number u ≢ number) units.now) }
     ensures before { IfSome result (λ place. All (λ u. C.number u ≢ number) (take place units.now)) }

@@ -1,4 +1,4 @@
-//! Searches in a slice of units by lanes: sixteen 16-bit units, or eight 32-bit units, in one step.
+//! Searches and counts in a slice of units in SIMD lanes: sixteen 16-bit units, or eight 32-bit units, in one step.
 ghost use Rattle.std.specs.Prelude.{◌≡◌, ◌≤◌, ◌<◌, ◌^◌, ℕ, length, map, drop};
 ghost use Rattle.std.specs.List.{count_by};
 ghost use Rattle.std.specs.Simd.Lanes.{mask_l};
@@ -9,24 +9,24 @@ ghost use Rattle.wide_unit.specs.Items.{BeginsWithChars};
 
 use std::simd::prelude::*;
 
-// A test of units: of one alone, and of a block of `N` in one step.
+// A test of units: of one unit, and of a block of `N` units in one step.
 trait Test<C: Copy, const N: usize>: Copy {
     ghost use Rattle.std.specs.Prelude.{Bool, ℕ};
 
     // Whether a unit passes.
     ghost passes: { Self → C → Bool };
 
-    // Whether the unit passes.
+    // Returns whether the unit passes.
     fn accepts(self, unit: C) -> bool
         ensures { result ≡ passes self unit };
 
-    // Bit k is set where unit k passes.
+    // Returns a bit mask: bit k is set if unit k passes.
     fn bits(self, block: &[C]) -> u64
         requires { length block.now ≡ N }
         ensures { result ≡ mask_l (map (passes self) block.now) };
 }
 
-// The place of the first unit that passes, or the length where there is none.
+// Returns the index of the first 16-bit unit that passes, or the length if there is none.
 #[inline(always)]
 fn first_of_16<T: Test<u16, 16>>(units: &[u16], test: T) -> usize
     ensures { result ≡ first_place (T.passes test) units.now }
@@ -46,7 +46,7 @@ fn first_of_16<T: Test<u16, 16>>(units: &[u16], test: T) -> usize
     units.len()
 }
 
-// As `first_of_16`, of 32-bit units.
+// Returns the index of the first 32-bit unit that passes, or the length if there is none.
 #[inline(always)]
 fn first_of_32<T: Test<u32, 8>>(units: &[u32], test: T) -> usize
     ensures { result ≡ first_place (T.passes test) units.now }
@@ -66,7 +66,7 @@ fn first_of_32<T: Test<u32, 8>>(units: &[u32], test: T) -> usize
     units.len()
 }
 
-// A surrogate, D800 to DFFF.
+// Passes surrogates, D800 to DFFF.
 #[derive(Clone, Copy)]
 struct Surrogate;
 
@@ -85,7 +85,7 @@ impl Test<u16, 16> for Surrogate {
     }
 }
 
-// A unit that is no Unicode scalar value: a surrogate, or greater than 10FFFF.
+// Passes units that are no Unicode scalar value: surrogates, and units greater than 10FFFF.
 #[derive(Clone, Copy)]
 struct NoScalar;
 
@@ -97,7 +97,7 @@ impl Test<u32, 8> for NoScalar {
         (0xd800 <= unit && unit <= 0xdfff) || 0x10_ffff < unit
     }
 
-    // A surrogate is raised to the greatest number, and then one comparison finds both kinds.
+    // Surrogates are replaced by the greatest number, so that one comparison finds both kinds.
     #[inline(always)]
     fn bits(self, block: &[u32]) -> u64 {
         let units = u32x8::from_slice(block);
@@ -109,7 +109,7 @@ impl Test<u32, 8> for NoScalar {
     }
 }
 
-// One unit alone.
+// Passes one unit only.
 #[derive(Clone, Copy)]
 struct Same<C> {
     unit: C,
@@ -147,28 +147,28 @@ impl Test<u32, 8> for Same<u32> {
     }
 }
 
-/// The place of the first surrogate, or the length where there is none.
+/// Returns the index of the first surrogate, or the length if there is none.
 pub fn first_surrogate(units: &[u16]) -> usize
     ensures { result ≡ first_place is_surrogate units.now }
 {
     first_of_16(units, Surrogate)
 }
 
-/// The place of the first unit that is no Unicode scalar value, or the length where there is none.
+/// Returns the index of the first unit that is no Unicode scalar value, or the length if there is none.
 pub fn first_no_scalar(units: &[u32]) -> usize
     ensures { result ≡ first_place is_no_scalar units.now }
 {
     first_of_32(units, NoScalar)
 }
 
-/// The place of the first unit that is this one, or the length where there is none.
+/// Returns the index of the first 16-bit unit that equals `unit`, or the length if there is none.
 pub(crate) fn first_same_16(units: &[u16], unit: u16) -> usize
     ensures { result ≡ first_place (is_unit unit) units.now }
 {
     first_of_16(units, Same { unit })
 }
 
-/// As [`first_same_16`], of 32-bit units.
+/// Returns the index of the first 32-bit unit that equals `unit`, or the length if there is none.
 pub(crate) fn first_same_32(units: &[u32], unit: u32) -> usize
     ensures { result ≡ first_place (is_unit unit) units.now }
 {
@@ -181,7 +181,7 @@ fn is_low_surrogate(unit: u16) -> bool
     0xdc00 <= unit && unit <= 0xdfff
 }
 
-// Bit k is set where unit k is a high surrogate.
+// Returns a bit mask: bit k is set if unit k is a high surrogate.
 #[inline(always)]
 fn high_bits(block: &[u16]) -> u64
     requires { length block.now ≡ 16 }
@@ -191,7 +191,7 @@ fn high_bits(block: &[u16]) -> u64
     lanes.simd_eq(u16x16::splat(0xd800)).to_bitmask()
 }
 
-// Bit k is set where unit k is a low surrogate.
+// Returns a bit mask: bit k is set if unit k is a low surrogate.
 #[inline(always)]
 fn low_bits(block: &[u16]) -> u64
     requires { length block.now ≡ 16 }
@@ -201,7 +201,8 @@ fn low_bits(block: &[u16]) -> u64
     lanes.simd_eq(u16x16::splat(0xdc00)).to_bitmask()
 }
 
-// How many of fewer than 65,536 units are low surrogates. A counter as wide as a unit is compiled to lanes.
+// Returns the number of low surrogates among fewer than 65,536 units. The counter has the width of a unit, so the
+// compiler vectorizes the loop.
 #[inline(always)]
 fn count_low_of(units: &[u16]) -> u16
     requires { length units.now < 2 ^ 16 }
@@ -214,7 +215,7 @@ fn count_low_of(units: &[u16]) -> u16
     count
 }
 
-/// How many units are low surrogates.
+/// Returns the number of low surrogates.
 pub(crate) fn count_low(units: &[u16]) -> usize
     ensures { result ≡ count_by is_low units.now }
 {
@@ -226,10 +227,11 @@ pub(crate) fn count_low(units: &[u16]) -> usize
     count + usize::from(count_low_of(rest))
 }
 
-/// How many units at the front are passed by blocks, all of them units of characters, surrogate pairs among them.
+/// Returns how many units at the beginning a vectorized check passes. All of them belong to characters, also to
+/// surrogate pairs.
 ///
-/// The lanes of a block are compared with those one unit on: where the high surrogates of the first are just the low ones of the
-/// second, each high one has its low one behind it, and each low one but the first a high one before it.
+/// The high surrogates of a block are compared with the low surrogates of the block one unit later. If they are at the
+/// same positions, a low surrogate follows each high one, and a high one precedes each low one except the first unit.
 pub(crate) fn leading_pairs(units: &[u16]) -> usize
     ensures within { result ≤ length units.now }
     ensures text { BeginsWithChars Utf16 units.now (drop result units.now) }

@@ -1,8 +1,8 @@
 //! Code units of UTF-16 and UTF-32, and what a list of them means.
 //!
-//! `specs/` has the definitions of the Unicode Standard, chapter 3, that the whole library speaks of: encoding
-//! forms, the one segmentation of a list of units into characters and faults, well-formed units. The functions of
-//! [`laws`] have the laws of these definitions as their contracts.
+//! `specs/` has the definitions of the Unicode Standard, chapter 3, that the whole library uses: encoding forms, the
+//! unique segmentation of a list of units into characters and faults, and well-formed units. The contracts of the
+//! functions in [`laws`] are the laws of these definitions.
 #![tactic(auto)]
 
 mod any_units;

@@ -1,4 +1,4 @@
-//! The lines of a slice of units.
+//! Splits the first line off a slice of units.
 ghost use Rattle.std.specs.Prelude.{◌≡◌, ◌-◌, ◌<◌, ◌↔◌, [], length, map, take, drop, IsNone, IfNone, IfSome};
 ghost use Rattle.wide_unit.specs.Items.{items};
 ghost use Rattle.wide_unit.specs.Lines.{lines_of, IsFirstLine};
@@ -6,13 +6,13 @@ ghost use Rattle.wide_unit.specs.Lines.{lines_of, IsFirstLine};
 use crate::first::first_of;
 use crate::unit::Unit;
 
-/// The first line of the units, and the units after it. A line feed (U+000A) ends the line, and with it one carriage return
-/// (U+000D) right before it; neither belongs to a line. Without a line feed all units are the line, a carriage return at the
-/// end among them. None where there are no units.
+/// Returns the first line of the units, and the units after it. A line feed (U+000A) ends the line, together with one
+/// carriage return (U+000D) directly before it; neither belongs to the line. If there is no line feed, all units are
+/// the line, including a carriage return at the end. Returns `None` if there are no units.
 ///
-/// Both parts are slices of the units, which are read by blocks of sixteen, or of eight in UTF-32, up to the one that holds the
-/// line feed. In both forms a line feed is one unit, and no
-/// other character has such a unit, so that units are enough to find it. The call is this port's own.
+/// Both results are slices of the units. The search reads blocks of sixteen units, or of eight in UTF-32, up to the
+/// block with the line feed. In both forms a line feed is one unit, and no other character has this unit, so it is
+/// found without decoding. The Rust crate has no such call.
 pub fn split_line<C: Unit>(units: &[C]) -> Option<(&[C], &[C])>
     ensures none { IsNone result ↔ (units.now ≡ []) }
     ensures no_lines { IfNone result (lines_of (items C.form (map C.number units.now)) ≡ []) }

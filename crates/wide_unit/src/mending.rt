@@ -1,5 +1,5 @@
-//! Units with U+FFFD in the place of each that belongs to no character (Unicode Standard, section 3.9, "U+FFFD Substitution of
-//! Maximal Subparts"), by lanes.
+//! Replaces each unit that belongs to no character by U+FFFD (Unicode Standard, section 3.9, "U+FFFD Substitution of
+//! Maximal Subparts"), in SIMD lanes.
 ghost use Rattle.std.specs.Prelude.{◌≡◌, ◌+◌, ◌≤◌, ◌<◌, ◌∷◌, ℕ, slice_index, length, take, drop};
 ghost use Rattle.wide_unit.specs.EncodingForm.{Utf16, Utf32, encode};
 ghost use Rattle.wide_unit.specs.Items.{items};
@@ -9,7 +9,7 @@ ghost use Rattle.wide_unit.specs.Mended.{mended_at, mended_unit, mended_scalar};
 // U+FFFD REPLACEMENT CHARACTER.
 const REPLACEMENT: u16 = 0xfffd;
 
-// The unit, or U+FFFD where it belongs to no character with its neighbours.
+// Returns the unit, or U+FFFD if it is an unpaired surrogate between its neighbours.
 #[inline(always)]
 fn mended_unit(before: u16, unit: u16, after: u16) -> u16
     ensures { result ≡ mended_unit before unit after }
@@ -23,7 +23,7 @@ fn mended_unit(before: u16, unit: u16, after: u16) -> u16
     }
 }
 
-// The sixteen units between the first and the last of eighteen.
+// Repairs the sixteen units between the first and the last of eighteen.
 #[inline(always)]
 fn mended_lanes(units: &[u16], mended: &mut [u16])
     requires whole { length units.now ≡ 18 }
@@ -35,7 +35,7 @@ fn mended_lanes(units: &[u16], mended: &mut [u16])
     }
 }
 
-// The unit before a place, 0 before the first.
+// Returns the unit before an index, or 0 at the beginning.
 #[inline(always)]
 #[tactic(auto, using(crate::proofs::Mendings::unit_behind_first))]
 fn unit_before(units: &[u16], at: usize) -> u16
@@ -45,7 +45,7 @@ fn unit_before(units: &[u16], at: usize) -> u16
     if at == 0 { 0 } else { units[at - 1] }
 }
 
-// The unit behind a place, 0 behind the last.
+// Returns the unit after an index, or 0 at the end.
 #[inline(always)]
 #[tactic(auto, using(crate::proofs::Mendings::none_behind_last))]
 fn unit_after(units: &[u16], at: usize) -> u16
@@ -59,7 +59,8 @@ fn unit_after(units: &[u16], at: usize) -> u16
     }
 }
 
-// Writes the mended units over exactly as many. The first stands alone, since a step of lanes reads the unit before its own.
+// Writes the repaired units over a slice of the same length. The first unit is repaired separately, since a vectorized
+// step reads the unit before its own.
 fn mend_whole(units: &[u16], mended: &mut [u16])
     requires { length mended.old ≡ length units.now }
     ensures each { (k : ℕ) → k < length units.now → slice_index mended.new k ≡ mended_at units.now k }
@@ -86,7 +87,11 @@ fn mend_whole(units: &[u16], mended: &mut [u16])
     }
 }
 
-/// The mended units of UTF-16, at the front of `mended`.
+/// Writes the repaired units of UTF-16 to the beginning of `mended`. The elements after them are unchanged.
+///
+/// # Requires
+///
+/// `mended` is at least as long as `units`.
 pub(crate) fn mend_16(units: &[u16], mended: &mut [u16])
     requires { length units.now ≤ length mended.old }
     ensures units { take (length units.now) mended.new ≡ encode Utf16 (lossy (items Utf16 units.now)) }
@@ -95,7 +100,7 @@ pub(crate) fn mend_16(units: &[u16], mended: &mut [u16])
     mend_whole(units, &mut mended[..units.len()]);
 }
 
-// The unit, or U+FFFD where it is no Unicode scalar value.
+// Returns the unit, or U+FFFD if it is no Unicode scalar value.
 #[inline(always)]
 fn mended_scalar(unit: u32) -> u32
     ensures { result ≡ mended_scalar unit }
@@ -107,7 +112,7 @@ fn mended_scalar(unit: u32) -> u32
     }
 }
 
-// Writes the mended units over exactly as many.
+// Writes the repaired units over a slice of the same length.
 fn mend_scalars(units: &[u32], mended: &mut [u32])
     requires { length mended.old ≡ length units.now }
     ensures each { (k : ℕ) → k < length units.now → slice_index mended.new k ≡ mended_scalar (slice_index units.now k) }
@@ -118,7 +123,11 @@ fn mend_scalars(units: &[u32], mended: &mut [u32])
     }
 }
 
-/// The mended units of UTF-32, at the front of `mended`.
+/// Writes the repaired units of UTF-32 to the beginning of `mended`. The elements after them are unchanged.
+///
+/// # Requires
+///
+/// `mended` is at least as long as `units`.
 pub(crate) fn mend_32(units: &[u32], mended: &mut [u32])
     requires { length units.now ≤ length mended.old }
     ensures units { take (length units.now) mended.new ≡ encode Utf32 (lossy (items Utf32 units.now)) }

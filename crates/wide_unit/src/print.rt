@@ -1,4 +1,4 @@
-//! What every printing of text writes.
+//! Writes escaped characters to a formatter.
 ghost use Rattle.std.specs.Prelude.{◌≤◌, encode_utf8_all};
 ghost use Rattle.std.specs.Char.Iter.{escape_rest, escape_end};
 ghost use Rattle.std.specs.Fmt.{WritesOnOk, WritesStyledOnOk};
@@ -6,14 +6,18 @@ ghost use Rattle.std.specs.Fmt.{WritesOnOk, WritesStyledOnOk};
 use std::char::EscapeDebug;
 use std::fmt;
 
-/// Writes the characters that are left of a character's escape, whatever width and fill the formatter has: std has one type
-/// for its three escapes. An error of the sink is handed on at once, and nothing more is written.
+/// Writes the rest of a character's escape to the formatter, and ignores the width and fill of the formatter. It stops
+/// at the first error.
 ///
-/// The function is this port's own: every call that prints units escapes their characters by it. It takes no memory.
+/// Every call that prints escaped units uses this function. It does not allocate. The Rust crate has no such call.
+///
+/// # Requires
+///
+/// The rest of the escape is at most 10 characters long.
 ///
 /// # Errors
 ///
-/// The sink's.
+/// The error of the formatter's sink.
 pub fn write_escape<W: fmt::Write>(f: &mut fmt::Formatter<W>, escape: EscapeDebug) -> fmt::Result
     requires { escape_end escape ≤ 10 }
     ensures writes { WritesOnOk W.write_str_gives f.old result (encode_utf8_all (escape_rest escape)) f.new }

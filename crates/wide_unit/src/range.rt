@@ -1,15 +1,15 @@
-//! Ranges of places.
+//! Checks ranges of indices.
 ghost use Rattle.std.specs.Prelude.{◌≡◌, ◌↔◌, IsSome, IfSome};
 ghost use Rattle.std.specs.Range.Bound.{start_index, end_index};
 ghost use Rattle.wide_unit.specs.Range.{IsWithin};
 
 use std::ops::{Bound, Range, RangeBounds};
 
-/// The places that the range has in a list of this length, where it runs forward and stays within: none where it starts
-/// behind its end or ends behind the list, also where a bound would pass the greatest `usize`. It takes no memory.
+/// Returns the range of indices that `range` means in a list of `len` elements. Returns `None` if the range starts
+/// after its end, ends after the list, or has a bound greater than `usize::MAX`. It does not allocate.
 ///
-/// Places that are answered are always in order and within. Which ones they are is told of a range that has bounds: that is
-/// each one but an inclusive range that was read to its end.
+/// A range that is returned always starts at or before its end, and lies within the list. The contract says which range
+/// it is if `range` has bounds: all ranges have, except an inclusive range that was iterated to its end.
 pub fn range_check<R: RangeBounds<usize>>(range: R, len: usize) -> Option<Range<usize>>
     ensures within { IfSome result (λ part. IsWithin part.start part.end len) }
     ensures some { R.has_bounds range → IsSome result ↔ IsWithin (start_index (R.start_bound range)) (end_index (R.end_bound range) len) len }

@@ -1,4 +1,4 @@
-//! The first and the last item of a slice of units.
+//! Splits the first or the last item off a slice of units.
 ghost use Rattle.std.specs.Prelude.{◌≡◌, ◌+◌, ◌<◌, ◌++◌, ◌∷◌, ◌↔◌, [], length, map, take, drop, IsNone, IfNone, IfSome};
 ghost use Rattle.wide_unit.specs.Segmentation.{item_units};
 ghost use Rattle.wide_unit.specs.Items.{items};
@@ -6,8 +6,9 @@ ghost use Rattle.wide_unit.specs.Unit.{item_of};
 
 use crate::unit::Unit;
 
-/// The first item of the units, and the units after it: a character, or as an `Err` the unit that belongs to none
-/// (Unicode Standard, D84a and D85a). None where there are no units. It reads at most two units.
+/// Returns the first item of the units, and the units after it. The item is a character, or `Err` with a unit that
+/// belongs to no character (Unicode Standard, D84a and D85a). Returns `None` if there are no units. It reads at most
+/// two units.
 #[inline]
 pub fn split_first<C: Unit>(units: &[C]) -> Option<(Result<char, C>, &[C])>
     ensures none { IsNone result ↔ (units.now ≡ []) }
@@ -33,7 +34,9 @@ pub fn split_first<C: Unit>(units: &[C]) -> Option<(Result<char, C>, &[C])>
     }
 }
 
-/// The last item of the units, and the units before it, as [`split_first`].
+/// Returns the last item of the units, and the units before it. The item is a character, or `Err` with a unit that
+/// belongs to no character (Unicode Standard, D84a and D85a). Returns `None` if there are no units. It reads at most
+/// two units.
 #[inline]
 pub fn split_last<C: Unit>(units: &[C]) -> Option<(&[C], Result<char, C>)>
     ensures none { IsNone result ↔ (units.now ≡ []) }

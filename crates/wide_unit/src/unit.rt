@@ -22,9 +22,9 @@ use crate::utf8::{length_as_utf16, length_as_utf32};
 
 /// A code unit: `u16` for UTF-16, `u32` for UTF-32 (Unicode Standard, D77).
 ///
-/// The trait is this port's own. No call takes memory or fails.
+/// The Rust crate has no such trait. No call allocates or fails.
 pub trait Unit: Copy {
-    // The encoding form whose units these are.
+    // The encoding form of the units.
     ghost form: { EncodingForm };
 
     // The number that a unit is.
@@ -37,80 +37,92 @@ pub trait Unit: Copy {
 
     ghost MAX_CHAR_LEN: { ℕ };
 
-    /// The most units that a character takes: 2 in UTF-16, 1 in UTF-32.
+    /// The greatest length of a character in units: 2 in UTF-16, 1 in UTF-32.
     const MAX_CHAR_LEN: usize;
 
-    /// How many units the character takes: 1 or 2 in UTF-16, 1 in UTF-32.
+    /// Returns the length of a character in units: 1 or 2 in UTF-16, 1 in UTF-32.
     fn char_len(c: char) -> usize
         ensures value { result ≡ length (code_units form c) }
         ensures bound { result ≤ MAX_CHAR_LEN };
 
-    /// How many units the text takes: its length in UTF-16, or in UTF-32.
+    /// Returns the length of a text in units of UTF-16 or UTF-32.
     fn text_len(text: &str) -> usize
         ensures { result ≡ length (encode form (chars text.now)) };
 
-    /// The character's first unit, and its second where it has one.
+    /// Returns the first unit of a character, and the second if there is one.
     fn encode_char(c: char) -> (Self, Option<Self>)
         ensures { numbers_of number result.0 result.1 ≡ code_units form c };
 
-    /// Whether the unit is a high surrogate, D800 to DBFF. No 32-bit unit is.
+    /// Returns whether the unit is a high surrogate, D800 to DBFF. No 32-bit unit is one.
     fn is_high(self) -> bool
         ensures { IsTrue result ↔ IsHighSurrogate form (number self) };
 
-    /// Whether the unit is a low surrogate, DC00 to DFFF. No 32-bit unit is.
+    /// Returns whether the unit is a low surrogate, DC00 to DFFF. No 32-bit unit is one.
     fn is_low(self) -> bool
         ensures { IsTrue result ↔ IsLowSurrogate form (number self) };
 
-    /// The character that the unit alone is, where there is one.
+    /// Returns the character that the unit encodes by itself, or `None` if it encodes none.
     fn as_scalar(self) -> Option<char>
         ensures { MatchOption result (IsFault form (number self)) (λ c. IsScalar c × (code_units form c ≡ number self ∷ [])) };
 
-    /// The character that the unit and the one after it are, where they are a surrogate pair.
+    /// Returns the character that the unit and the one after it encode as a surrogate pair, or `None` if they are no
+    /// pair.
     fn pair_scalar(self, low: Self) -> Option<char>
         ensures { MatchOption result (¬ (IsPair form (number self) (number low))) (λ c. IsScalar c × (code_units form c ≡ number self ∷ number low ∷ [])) };
 
-    /// The number that the unit is.
+    /// Returns the number that the unit is.
     fn code(self) -> u32
         ensures { result ≡ number self };
 
-    /// How many units stand before the first that alone is no character, a surrogate in UTF-16: all, where there is none. They
-    /// are read by blocks.
+    /// Returns how many units precede the first one that encodes no character by itself, such as a surrogate in UTF-16,
+    /// or the length if there is none. The search is vectorized.
     fn leading_scalars(units: &[Self]) -> usize
         ensures { IsFirstPlace (IsFault form) (map number units.now) result };
 
-    /// How many units at the front are passed by blocks, all of them units of characters, surrogate pairs among them. None in
-    /// UTF-32.
+    /// Returns how many units at the beginning a vectorized check passes. All of them belong to characters, also to
+    /// surrogate pairs. It returns 0 in UTF-32.
     fn leading_pairs(units: &[Self]) -> usize
         ensures within { result ≤ length units.now }
         ensures text { BeginsWithChars form (map number units.now) (map number (drop result units.now)) };
 
-    /// How many characters well-formed units are. They are read by blocks, and in UTF-32 not at all.
+    /// Returns the number of characters. The count is vectorized in UTF-16, and does not read the units in UTF-32.
+    ///
+    /// # Requires
+    ///
+    /// The units are well formed.
     fn char_count(units: &[Self]) -> usize
         requires { IsWellFormed form (map number units.now) }
         ensures { result ≡ length (characters (items form (map number units.now))) };
 
-    /// How many units stand before the first of this number: all, where there is none. They are read by blocks.
+    /// Returns the index of the first unit whose number is `code`, or the length if there is none. The search is
+    /// vectorized.
     fn place_of(code: u32, units: &[Self]) -> usize
         ensures { result ≡ first_place (is_unit code) (map number units.now) };
 
-    /// Writes the units to the front of `mended`, with U+FFFD in the place of each that belongs to no character (Unicode Standard,
-    /// section 3.9, "U+FFFD Substitution of Maximal Subparts"). They are read by blocks.
+    /// Writes the units to the beginning of `mended`, with U+FFFD in place of each one that belongs to no character
+    /// (Unicode Standard, section 3.9, "U+FFFD Substitution of Maximal Subparts"). The elements after them are
+    /// unchanged. It is vectorized.
+    ///
+    /// # Requires
+    ///
+    /// `mended` is at least as long as `units`.
     fn mend(units: &[Self], mended: &mut [Self])
         requires { length units.now ≤ length mended.old }
         ensures units { map number (take (length units.now) mended.new) ≡ encode form (lossy (items form (map number units.now))) }
         ensures behind { drop (length units.now) mended.new ≡ drop (length units.now) mended.old };
 
-    /// The units as those of their width, for code that each width has of its own.
+    /// Returns the units as those of their width, for code that differs by width.
     fn as_any(units: &[Self]) -> AnyUnits<'_>
         ensures form { any_form result ≡ form }
         ensures numbers { any_numbers result ≡ map number units.now };
 
-    /// True of every unit: calling it tells a contract that the number is at most FFFF, or FFFFFFFF in UTF-32.
+    /// Returns true for every unit. A call tells the verifier that the number is at most FFFF in UTF-16, or FFFFFFFF in
+    /// UTF-32.
     fn in_range(self) -> bool
         ensures answer { IsTrue result }
         ensures range { IsCodeUnit form (number self) };
 
-    // Each character takes a unit, and some character takes the most.
+    // Each character has at least one unit, and some character has the greatest number of units.
     ghost takes_units: { 0 < MAX_CHAR_LEN };
 
     ghost some_takes_all: { (c : ℕ) × IsScalar c × (length (code_units form c) ≡ MAX_CHAR_LEN) };
@@ -121,10 +133,10 @@ pub trait Unit: Copy {
     // Equal numbers are equal units.
     ghost same: { (x y : Self) → number x ≡ number y → x ≡ y };
 
-    // A character's units read back as that character alone.
+    // Decoding the units of a character yields this character only.
     ghost reads_back: { (c : ℕ) → IsScalar c → items form (code_units form c) ≡ Char c ∷ [] };
 
-    // A list of units has one segmentation.
+    // A list of units has only one segmentation.
     ghost one_segmentation: { (is js : List Item) (us : List ℕ) → IsSegmentation form is us → IsSegmentation form js us → is ≡ js };
 
     // No character begins with a low surrogate.
@@ -217,12 +229,12 @@ impl Unit for u16 {
         leading_pairs(units)
     }
 
-    // Each character has one unit that is no low surrogate.
+    // Each character has exactly one unit that is not a low surrogate.
     fn char_count(units: &[u16]) -> usize {
         units.len() - count_low(units)
     }
 
-    // No 16-bit unit has a greater number.
+    // No 16-bit unit is greater than FFFF.
     fn place_of(code: u32, units: &[u16]) -> usize {
         if code <= 0xFFFF {
             first_same_16(units, code as u16)

@@ -1,4 +1,4 @@
-//! What is read from the bytes of UTF-8.
+//! Reads code points, and counts characters and UTF-16 units, from UTF-8 bytes.
 ghost use Rattle.std.specs.Prelude.{◌≡◌, ◌<◌, ◌≤◌, ◌+◌, ◌*◌, ◌^◌, ◌%◌, length};
 ghost use Rattle.std.specs.Option.{option_map};
 ghost use Rattle.std.specs.Str.{chars};
@@ -7,7 +7,7 @@ ghost use Rattle.wide_unit.specs.CodePoint.{code_point_at};
 ghost use Rattle.wide_unit.specs.LeadingByte.{begins, units_begun};
 ghost use Rattle.std.specs.List.{sum_by};
 
-// The bits of a code point with those of one more byte, its six lowest.
+// Appends the lowest six bits of one more byte to the bits of a code point.
 #[inline]
 fn with_byte(bits: u32, byte: u8) -> u32
     requires { bits < 2 ^ 26 }
@@ -16,13 +16,13 @@ fn with_byte(bits: u32, byte: u8) -> u32
     bits * 0x40 + u32::from(byte % 0x40)
 }
 
-/// The code point that the bytes begin with, and the bytes after its own: by the layout of UTF-8 (Unicode Standard,
-/// D92, Table 3-6), which is not tested.
+/// Returns the code point at the beginning of the bytes, and the bytes after it, by the layout of UTF-8 (Unicode
+/// Standard, D92, Table 3-6). It does not check that the bytes are well formed.
 ///
-/// The first byte tells how many follow it: none below 80, one from C0 to DF, two from E0 to EF, and else three. The
-/// highest bits of the first byte and the two highest of each that follows are passed over. So on the bytes of a text
-/// this is its first character and the rest; on others it can be a number that is no character. It is `None` where there
-/// is no byte, or too few follow the first.
+/// The first byte determines how many bytes follow it: none below 80, one from C0 to DF, two from E0 to EF, and
+/// otherwise three. The highest bits of the first byte and the two highest bits of each other byte are ignored. So for
+/// the bytes of a text, it returns the first character and the rest. For other bytes, it can return a number that is no
+/// character. It returns `None` if there are no bytes, or too few after the first.
 #[inline]
 pub fn next_code_point(bytes: &[u8]) -> Option<(u32, &[u8])>
     ensures { option_map (λ r. (r.0, r.1.now)) result ≡ code_point_at bytes.now }
@@ -46,7 +46,7 @@ pub fn next_code_point(bytes: &[u8]) -> Option<(u32, &[u8])>
     Some((with_byte(with_byte(bits, *third), *fourth), rest))
 }
 
-// How many code units of UTF-16 the character has of which this is the first byte, and 0 where the byte is a later one.
+// Returns the number of UTF-16 units of the character that begins with this byte, or 0 for a continuation byte.
 #[inline(always)]
 fn units_begun(byte: u8) -> u8
     ensures value { result ≡ units_begun byte }
@@ -55,24 +55,24 @@ fn units_begun(byte: u8) -> u8
     u8::from(byte < 0x80 || 0xC0 <= byte) + u8::from(0xF0 <= byte)
 }
 
-// As many bytes as are counted in one step.
+// How many bytes are counted in one step.
 const BLOCK: usize = 64;
 
-// What a text has more of than bytes: a count of each byte alone. A counter as wide as a byte is compiled to lanes.
+// What is counted in a text, byte by byte. The counter has the width of a byte, so the compiler vectorizes the loop.
 trait Count {
     ghost use Rattle.std.specs.Prelude.{ℕ};
 
     // How many begin at a byte.
     ghost begun: { ℕ → ℕ };
 
-    // How many begin at some bytes.
+    // Returns how many begin at some bytes.
     fn count(bytes: &[u8]) -> u8
         requires { length bytes.now ≤ 64 }
         ensures value { result ≡ sum_by begun bytes.now }
         ensures bound { result ≤ 2 * length bytes.now };
 }
 
-// Units of UTF-16.
+// Counts units of UTF-16.
 struct Units;
 
 impl Count for Units {
@@ -88,7 +88,7 @@ impl Count for Units {
     }
 }
 
-// Characters.
+// Counts characters.
 struct Characters;
 
 impl Count for Characters {
@@ -104,7 +104,7 @@ impl Count for Characters {
     }
 }
 
-// How many begin at all of the bytes.
+// Returns how many begin at all the bytes.
 fn count_all<T: Count>(bytes: &[u8]) -> usize
     ensures { result ≡ sum_by T.begun bytes.now }
 {
@@ -117,19 +117,18 @@ fn count_all<T: Count>(bytes: &[u8]) -> usize
     count + usize::from(T::count(&bytes[at..]))
 }
 
-/// The length of the text in UTF-16, in units of 16 bits (Unicode Standard, D91).
+/// Returns the length of a text in units of UTF-16 (Unicode Standard, D91).
 ///
-/// It goes once over the bytes of the text, by blocks, and takes no memory.
+/// It reads the bytes once, in vectorized steps, and does not allocate.
 pub fn length_as_utf16(text: &str) -> usize
     ensures { result ≡ length (encode Utf16 (chars text.now)) }
 {
     count_all::<Units>(text.as_bytes())
 }
 
-/// The length of the text in UTF-32, in units of 32 bits, which is its number of characters (Unicode Standard,
-/// D90).
+/// Returns the length of a text in units of UTF-32, which is its number of characters (Unicode Standard, D90).
 ///
-/// It goes once over the bytes of the text, by blocks, and takes no memory.
+/// It reads the bytes once, in vectorized steps, and does not allocate.
 pub fn length_as_utf32(text: &str) -> usize
     ensures units { result ≡ length (encode Utf32 (chars text.now)) }
     ensures characters { result ≡ length (chars text.now) }

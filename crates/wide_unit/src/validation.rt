@@ -1,4 +1,4 @@
-//! Whether units are well formed.
+//! Checks whether units are well formed.
 ghost use Rattle.std.specs.Prelude.{◌<◌, ◌≤◌, ◌↔◌, length, map, IsNone, IfSome, IsOk, OnOk, IfErr};
 ghost use Rattle.wide_unit.specs.Items.{IsWellFormed, IsFirstFault, BeginsWithChars};
 ghost use Rattle.wide_unit.specs.Places.{text_before};
@@ -6,7 +6,7 @@ ghost use Rattle.wide_unit.specs.Places.{text_before};
 use crate::split::split_first;
 use crate::unit::Unit;
 
-// The units behind those at the front that alone are characters.
+// Returns the units after those at the beginning that encode a character each.
 #[inline(always)]
 fn behind_scalars<C: Unit>(units: &[C]) -> &[C]
     ensures within { length result.now ≤ length units.now }
@@ -15,7 +15,7 @@ fn behind_scalars<C: Unit>(units: &[C]) -> &[C]
     &units[C::leading_scalars(units)..]
 }
 
-// The units behind the blocks at the front that have surrogate pairs and no fault.
+// Returns the units after the blocks at the beginning that contain surrogate pairs and no fault.
 #[inline(always)]
 fn behind_pairs<C: Unit>(units: &[C]) -> &[C]
     ensures within { length result.now ≤ length units.now }
@@ -24,7 +24,7 @@ fn behind_pairs<C: Unit>(units: &[C]) -> &[C]
     &units[C::leading_pairs(units)..]
 }
 
-// The units behind those at the front that are passed by blocks, all of them characters.
+// Returns the units after those at the beginning that the vectorized checks pass. All of these belong to characters.
 #[inline(always)]
 fn behind_blocks<C: Unit>(units: &[C]) -> &[C]
     ensures within { length result.now ≤ length units.now }
@@ -33,19 +33,19 @@ fn behind_blocks<C: Unit>(units: &[C]) -> &[C]
     behind_pairs(behind_scalars(units))
 }
 
-/// The first fault of units that are not well formed (Unicode Standard, D84).
+/// The first fault of ill-formed units (Unicode Standard, D84).
 #[derive(Clone, Copy, Debug, PartialEq, Eq)]
 pub struct FirstFault<C> {
-    /// Its index: how many units stand before it.
+    /// Its index: the number of units before it.
     pub index: usize,
-    /// Its item number: how many characters those units are.
+    /// Its item number: the number of characters before it.
     pub item: usize,
     /// The unit itself.
     pub unit: C,
 }
 
-// The first fault: its index, in units, and its unit. Units without surrogates and units of surrogate pairs are passed by blocks, the
-// rest one item after the other.
+// Returns the index of the first fault, in units, and its unit. Units without surrogates and surrogate pairs are
+// checked in vectorized steps, and the rest item by item.
 fn find_fault<C: Unit>(units: &[C]) -> Option<(usize, C)>
     ensures some { IfSome result (λ fault. IsFirstFault C.form (map C.number units.now) fault.0 (text_before C.form C.number units.now fault.0) (C.number fault.1)) }
     ensures within { IfSome result (λ fault. fault.0 < length units.now) }
@@ -61,8 +61,12 @@ fn find_fault<C: Unit>(units: &[C]) -> Option<(usize, C)>
     None
 }
 
-/// Whether the units are well formed (Unicode Standard, D85). The error is the first fault. They are read once; where there is a
-/// fault, the units before it are read once more, to count their characters.
+/// Checks whether the units are well formed (Unicode Standard, D85). It reads them once. If there is a fault, it reads
+/// the units before it again to count their characters.
+///
+/// # Errors
+///
+/// The first fault. Its index is counted in units, its item number in characters.
 pub fn check<C: Unit>(units: &[C]) -> Result<(), FirstFault<C>>
     ensures ok { OnOk result (IsWellFormed C.form (map C.number units.now)) }
     ensures err { IfErr result (λ fault. IsFirstFault C.form (map C.number units.now) fault.index fault.item (C.number fault.unit)) }

@@ -1,4 +1,4 @@
--- Boundaries: in well-formed units they are the places where no low surrogate stands, and the end.
+-- Boundaries: in well-formed units they are the offsets of units that are no low surrogate, and the end.
 use Rattle.std.proofs.Common.{◌≡◌, ℕ, ◌+◌, ◌<◌, ◌≤◌, List, [], ◌∷◌, ◌++◌, refl, sym, ◌∙◌, ap, arith, length, get_or, length-append, take, drop}
 use Rattle.std.specs.Prelude.{map}
 use Rattle.std.proofs.lemmas.List.{append-nil, take-append-drop, length-take-le, get_or-drop, get_or_at}
@@ -10,14 +10,14 @@ use Rattle.wide_unit.specs.Laws.Forms.{low-begins_nothing, IsPair-parts, IsTrail
 use Rattle.wide_unit.specs.Laws.Chains.{Chain}
 use Rattle.wide_unit.specs.Laws.Items.{IsCut, items-append, items-chain, units_of-items, chars-of_well_formed}
 
--- A place where no pair lies across is a boundary.
+-- An offset that splits no pair is a boundary.
 pub IsBoundary-of_cut : (form : EncodingForm) (a b : List ℕ) → IsCut form a b → IsBoundary form (a ++ b) (length a)
 IsBoundary-of_cut form a b cut = (items form a, items form b, items-append form a b cut, ap length (units_of-items form a))
 
 pub units_of-append : (form : EncodingForm) (is js : List Item) → units_of form (is ++ js) ≡ units_of form is ++ units_of form js
 units_of-append form is js = flat_map-append (item_units form) is js
 
--- In well-formed units a place below the end is a boundary exactly where the unit there is no low surrogate.
+-- In well-formed units an offset before the end is a boundary exactly if the unit at it is no low surrogate.
 IsCut-at : (form : EncodingForm) (us : List ℕ) (place : ℕ) → (IsLowSurrogate form (get_or us place 0) → ⊥) → IsCut form (take place us) (drop place us)
 IsCut-at form us place none front back h l e f pair =
     let at : get_or us place 0 ≡ l = ap (λ n. get_or us n 0) {x = place} {y = place + 0} (omega arith) ∙ sym (get_or-drop place us 0 0) ∙ ap (λ xs. get_or xs 0 0) f in

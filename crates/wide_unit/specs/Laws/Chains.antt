@@ -7,19 +7,19 @@ use Rattle.wide_unit.specs.EncodingForm.{EncodingForm, code_units, IsFault, IsPa
 use Rattle.wide_unit.specs.Segmentation.{Item, Char, Fault, item_units, units_of, IsItem, IsSegmentation}
 use Rattle.wide_unit.specs.Laws.Forms.{code_units-cases, code_units-prefix, low-begins_nothing, unit-cases, pair-cases}
 
--- what may stand before these items
+-- What may precede these items.
 abbrev pub MayPrecede : EncodingForm → Item → List Item → Type 0
 MayPrecede form (Char c) items = Unit {0}
 MayPrecede form (Fault h) [] = Unit {0}
 MayPrecede form (Fault h) (Char c ∷ items) = Unit {0}
 MayPrecede form (Fault h) (Fault l ∷ items) = ¬ (IsPair form h l)
 
--- what `IsSegmentation` says of the items alone
+-- What `IsSegmentation` says of the items only.
 abbrev pub Chain : EncodingForm → List Item → Type 0
 Chain form [] = Unit {0}
 Chain form (i ∷ items) = IsItem form i × MayPrecede form i items × Chain form items
 
--- a segmentation is a chain, and a chain is one of its units
+-- A segmentation is a chain, and a chain is a segmentation of its units.
 abbrev Proper : EncodingForm → List Item → Type 0
 Proper form items = All (IsItem form) items
 
@@ -60,7 +60,7 @@ chain_of form items units seg = chain-from form items seg.proper seg.unpaired
 pub IsSegmentation-of_chain : (form : EncodingForm) (items : List Item) (units : List ℕ) → Chain form items → units_of form items ≡ units → IsSegmentation form items units
 IsSegmentation-of_chain form items units chain joined = record { joined = joined; proper = proper-from form items chain; unpaired = λ front back h l e. unpaired-from form items front back h l chain e }
 
--- one item has units
+-- An item has at least one unit.
 pub nonempty : (form : EncodingForm) (i : Item) (xs : List ℕ) → item_units form i ++ xs ≡ [] → ⊥
 nonempty form (Char c) xs e = elim (code_units-cases form c) [
   | inl one ↦ (let f : one.0 ∷ xs ≡ [] = rw one.1 at e in cc)
@@ -68,7 +68,7 @@ nonempty form (Char c) xs e = elim (code_units-cases form c) [
 ]
 nonempty form (Fault u) xs e = cc
 
--- after the first unit of a pair no chain that may stand there begins with the second
+-- After the first unit of a pair, no chain that may follow begins with the second.
 pub second-begins_nothing : (form : EncodingForm) (h l : ℕ) (items : List Item) (xs : List ℕ) → IsPair form h l → MayPrecede form (Fault h) items → Chain form items → units_of form items ≡ l ∷ xs → ⊥
 second-begins_nothing form h l [] xs pair may chain e = cc
 second-begins_nothing form h l (Char d ∷ items) xs pair may chain e = low-begins_nothing form h l d xs (units_of form items) pair chain.0 e
@@ -76,7 +76,7 @@ second-begins_nothing form h l (Fault u ∷ items) xs pair may chain e =
     let same : u ≡ l = cc in
     may (rw same pair)
 
--- a character and a fault never begin the same units
+-- A character and a fault never begin the same units.
 char-or_fault : (form : EncodingForm) (c u : ℕ) (items : List Item) (xs : List ℕ) → IsScalar c → IsFault form u → MayPrecede form (Fault u) items → Chain form items
     → code_units form c ++ xs ≡ u ∷ units_of form items → ⊥
 char-or_fault form c u items xs hc hu may chain e = elim (code_units-cases form c) [
@@ -106,7 +106,7 @@ chain-unique form (Fault u ∷ is) (Fault v ∷ js) ci cj e =
     let rest = chain-unique form is js ci.2 cj.2 f in
     cc
 
--- each list of units has a chain, built from its back
+-- Each list of units has a chain, built from the end.
 abbrev ChainFor : EncodingForm → List ℕ → Type 0
 ChainFor form units = (items : List Item) × Chain form items × (units_of form items ≡ units)
 

@@ -1,4 +1,4 @@
--- The units of characters that are cut, and spliced with others.
+-- The units of characters that are split, and spliced with others.
 use Rattle.std.proofs.Common.{◌≡◌, ℕ, ◌≤◌, List, ◌++◌, sym, ◌∙◌, ap, arith, length, length-append, take, drop}
 use Rattle.std.specs.List.{splice}
 use Rattle.std.proofs.lemmas.List.{take-append-drop, take-take}
@@ -7,7 +7,7 @@ use Rattle.std.proofs.Math.Seq.{take-append_seam, drop-append_seam}
 use Rattle.wide_unit.specs.EncodingForm.{EncodingForm, code_units, encode}
 
 module _ (form : EncodingForm) (cs : List ℕ) where
-  -- the unit length of the first characters
+  -- The length in units of the first characters.
   abbrev place : ℕ → ℕ
   place i = length (encode form (take i cs))
 
@@ -25,7 +25,7 @@ module _ (form : EncodingForm) (cs : List ℕ) where
       flat_map-append (code_units form) (take i cs) (new ++ drop j cs) ∙ ap (λ us. encode form (take i cs) ++ us) (flat_map-append (code_units form) new (drop j cs))
       ∙ ap (λ us. us ++ (encode form new ++ encode form (drop j cs))) (encode-take i) ∙ ap (λ us. take (place i) (encode form cs) ++ (encode form new ++ us)) (encode-drop j)
 
--- a part of the first characters comes before the rest of them
+-- A prefix of the first characters is followed by the rest of them.
 pub places-grow : (form : EncodingForm) (cs : List ℕ) (i j : ℕ) → i ≤ j → length (encode form (take i cs)) ≤ length (encode form (take j cs))
 places-grow form cs i j less =
     let first = encode form (take i (take j cs)) in

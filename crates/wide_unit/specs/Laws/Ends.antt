@@ -1,4 +1,4 @@
--- The items at the ends of a list of units: what a decoder takes from the front, and what it takes from the back.
+-- The items at the ends of a list of units: what a decoder reads from the front, and what it reads from the back.
 use Rattle.std.proofs.Common.{◌≡◌, ℕ, List, [], ◌∷◌, ◌++◌, inl, inr, refl, sym, ◌∙◌, ap, subst}
 use Rattle.std.specs.Prelude.{map}
 use Rattle.std.specs.Char.{IsScalar}
@@ -10,7 +10,7 @@ use Rattle.wide_unit.specs.Laws.Forms.{code_units-cases, code_units-prefix, low-
 use Rattle.wide_unit.specs.Laws.Chains.{Chain, nonempty}
 use Rattle.wide_unit.specs.Laws.Items.{IsCut, items-append, items-chain, items-code_units, items-fault, units_of-items, chars-of_well_formed, IsWellFormed-of_chars}
 
--- where a chain's units end in the first unit of a pair, it ends in that fault
+-- If the units of a chain end in the first unit of a pair, the chain ends in that fault.
 pub ends-after : (xs ys front : List ℕ) (h : ℕ) → (ys ≡ [] → ⊥) → xs ++ ys ≡ front ++ h ∷ [] → (rest : List ℕ) × (ys ≡ rest ++ h ∷ [])
 ends-after [] ys front h some e = (front, e)
 ends-after (x ∷ xs) [] front h some e = absurd (some refl)
@@ -54,7 +54,7 @@ chain-ends form (i ∷ j ∷ is) h l front chain pair e =
     let rest = chain-ends form (j ∷ is) h l at.0 chain.2 pair at.1 in
     (i ∷ rest.0, ap (λ xs. i ∷ xs) rest.1)
 
--- after characters, and before characters, no pair lies across
+-- After characters and before characters, no pair is split.
 chars-no_fault : (cs : List ℕ) (js : List Item) (h : ℕ) → map Char cs ≡ js ++ Fault h ∷ [] → ⊥
 chars-no_fault [] [] h e = cc
 chars-no_fault [] (j ∷ js) h e = cc
@@ -77,14 +77,14 @@ IsCut-before form a b well front back h l e f pair =
     let chain : Chain form (map Char (chars form b)) = subst (λ is. Chain form is) plain (items-chain form b) in
     first-no_low form (chars form b) h l back chain pair g
 
--- The items of joined lists are the joined items, where one of the two is well formed.
+-- The items of concatenated lists are the concatenated items, if one of the two is well formed.
 pub items-append_left : (form : EncodingForm) (a b : List ℕ) → IsWellFormed form a → items form (a ++ b) ≡ items form a ++ items form b
 items-append_left form a b well = items-append form a b (IsCut-after form a b well)
 
 pub items-append_right : (form : EncodingForm) (a b : List ℕ) → IsWellFormed form b → items form (a ++ b) ≡ items form a ++ items form b
 items-append_right form a b well = items-append form a b (IsCut-before form a b well)
 
--- A decoder from the front: a character comes off, or a fault that the next unit doesn't pair with.
+-- A decoder from the front: it reads a character, or a fault that is no pair with the next unit.
 pub IsWellFormed-code_units : (form : EncodingForm) (c : ℕ) → IsScalar c → IsWellFormed form (code_units form c)
 IsWellFormed-code_units form c hc = IsWellFormed-of_chars form (code_units form c) (c ∷ []) (items-code_units form c hc)
 
@@ -114,14 +114,14 @@ items-front_low form u us low = items-front_fault form u us (IsFault-low form u 
 pub items-front_high : (form : EncodingForm) (u : ℕ) (us : List ℕ) → IsHighSurrogate form u → ((l : ℕ) (back : List ℕ) → us ≡ l ∷ back → ¬ (IsLowSurrogate form l)) → items form (u ∷ us) ≡ Fault u ∷ items form us
 items-front_high form u us high apart = items-front_fault form u us (IsFault-high form u high) (λ l back e pair. apart l back e (IsPair-parts form u l pair).1)
 
--- By the last unit: a high surrogate, and a low one that no high one precedes.
+-- By the last unit: a high surrogate, and a low one that no high one precedes, are faults.
 pub items-back_high : (form : EncodingForm) (us : List ℕ) (u : ℕ) → IsHighSurrogate form u → items form (us ++ u ∷ []) ≡ items form us ++ Fault u ∷ []
 items-back_high form us u high = items-back_fault form us u (IsFault-high form u high) (λ front h e pair. high-no_low form u high (IsPair-parts form h u pair).1)
 
 pub items-back_low : (form : EncodingForm) (us : List ℕ) (u : ℕ) → IsLowSurrogate form u → ((front : List ℕ) (h : ℕ) → us ≡ front ++ h ∷ [] → ¬ (IsHighSurrogate form h)) → items form (us ++ u ∷ []) ≡ items form us ++ Fault u ∷ []
 items-back_low form us u low apart = items-back_fault form us u (IsFault-low form u low) (λ front h e pair. apart front h e (IsPair-parts form h u pair).0)
 
--- What a decoder takes, by the first one or two units to come, or by the last: the items of `us` by those of the `rest`.
+-- What a decoder reads, by the first one or two units, or by the last: the items of `us` from those of the `rest`.
 module _ (form : EncodingForm) (us rest : List ℕ) where
   pub items-first_char : (u c : ℕ) → us ≡ u ∷ rest → IsScalar c → code_units form c ≡ u ∷ [] → items form us ≡ Char c ∷ items form rest
   items-first_char u c split hc e = ap (λ xs. items form xs) (split ∙ ap (λ xs. xs ++ rest) (sym e)) ∙ items-front_char form c rest hc

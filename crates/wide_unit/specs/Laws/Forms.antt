@@ -1,4 +1,4 @@
--- What the laws of segmentation rest on, for each encoding form.
+-- What the laws of segmentation depend on, for each encoding form.
 use Rattle.std.proofs.Common.{◌≡◌, ◌≢◌, ℕ, ◌+◌, ◌-◌, ◌*◌, ◌/◌, ◌%◌, ◌<◌, ◌≤◌, ◌^◌, true, List, [], ◌∷◌, ◌++◌, ◌⊎◌, inl, inr, refl, ◌∙◌, ap, arith, length, lit≤}
 use Rattle.std.specs.Char.{IsScalar}
 use Rattle.std.proofs.Math.Utf8.{scalar, scalar_cases, low_scalar}
@@ -6,7 +6,7 @@ use Rattle.std.proofs.lemmas.Bool.{cases_lt, cases_Bool, lt-ltb, le-ltb, le-leb}
 use Rattle.std.proofs.lemmas.List.{append-nil}
 use Rattle.wide_unit.specs.EncodingForm.{EncodingForm, Utf16, Utf32, code_units, IsFault, IsPair, IsHighSurrogate, IsLowSurrogate}
 
--- a scalar value is below 11_0000, and no surrogate
+-- A scalar value is below 11_0000, and no surrogate.
 pub record Ranges (c : ℕ) : Type 0 where
   pub below : c < 0x11_0000
   pub no_surrogate : 0xD800 ≤ c → 0xE000 ≤ c
@@ -18,7 +18,7 @@ pub scalar_from : (c : ℕ) → Ranges c → IsScalar c
 scalar_from c h =
     elim (cases_lt c 0xD800) [ inl low ↦ low_scalar c low | inr from ↦ rw (le-ltb c 0xD800 from, le-leb 0xE000 c (h.no_surrogate from), lt-ltb c 0x11_0000 h.below) refl ]
 
--- the units of a pair in UTF-16
+-- The units of a pair in UTF-16.
 abbrev pub high_of : ℕ → ℕ
 high_of c = 0xD800 + (c - 0x1_0000) / 0x400
 
@@ -41,7 +41,7 @@ some_units form c = elim (code_units-cases form c) [
   | inr two ↦ rw two.2 (omega arith)
 ]
 
--- no code unit sequence begins another
+-- No code unit sequence is a prefix of another.
 same_pair : (c d : ℕ) → 0x1_0000 ≤ c → 0x1_0000 ≤ d → high_of c ≡ high_of d → low_of c ≡ low_of d → c ≡ d
 same_pair c d from_c from_d high low = omega arith
 
@@ -61,7 +61,7 @@ code_units-prefix Utf16 c d xs ys hc hd e =
     ]
 code_units-prefix Utf32 c d xs ys hc hd e = cc
 
--- the second unit of a pair begins no code unit sequence
+-- The second unit of a pair begins no code unit sequence.
 pub low-begins_nothing : (form : EncodingForm) (h l d : ℕ) (xs ys : List ℕ) → IsPair form h l → IsScalar d → code_units form d ++ ys ≡ l ∷ xs → ⊥
 low-begins_nothing Utf16 h l d xs ys pair hd e =
     let rc = ranges pair.0 pair.1 in
@@ -78,7 +78,7 @@ low-begins_nothing Utf16 h l d xs ys pair hd e =
     ]
 low-begins_nothing Utf32 h l d xs ys pair hd e = cc
 
--- the surrogate code units
+-- The surrogate code units.
 pub record IsHigh (u : ℕ) : Type 0 where
   pub from : 0xD800 ≤ u
   pub to : u < 0xDC00
@@ -109,7 +109,7 @@ pair16-parts h l pair =
 pub no_pair32 : (h l : ℕ) → ¬ (IsPair Utf32 h l)
 no_pair32 h l pair = cc
 
--- a unit below 1_0000 that is no surrogate is a character's
+-- A unit below 1_0000 that is no surrogate encodes a character.
 pub one_unit-is : (c u : ℕ) → code_units Utf16 c ≡ u ∷ [] → (c ≡ u) × (u < 0x1_0000)
 one_unit-is c u e =
     elim (cases_lt c 0x1_0000) [
@@ -124,7 +124,7 @@ fault16 u none c hc e =
     let ru : Ranges u = record { below = omega arith; no_surrogate = λ from. omega arith } in
     omega (arith, none ru)
 
--- a unit is a character's or a fault
+-- A unit encodes a character or is a fault.
 pub unit-cases : (form : EncodingForm) (u : ℕ) → ((c : ℕ) × IsScalar c × (code_units form c ≡ u ∷ [])) ⊎ IsFault form u
 unit-cases Utf16 u =
     elim (cases_lt u 0x1_0000) [
@@ -160,7 +160,7 @@ pair-cases Utf16 h l =
     ]
 pair-cases Utf32 h l = inr (no_pair32 h l)
 
--- the pairs are a high surrogate and a low one
+-- The pairs are a high surrogate and a low one.
 pub IsPair-from : (form : EncodingForm) (h l : ℕ) → IsHighSurrogate form h → IsLowSurrogate form l → IsPair form h l
 IsPair-from Utf16 h l high low = pair16 h l (record { from = high.0; to = omega arith }) (record { from = low.0; to = omega arith })
 IsPair-from Utf32 h l high low = absurd high
@@ -171,7 +171,7 @@ IsPair-parts Utf16 h l pair =
     ((parts.0.from, omega (arith, parts.0.to)), (parts.1.from, omega (arith, parts.1.to)))
 IsPair-parts Utf32 h l pair = absurd (no_pair32 h l pair)
 
--- the faults among the code units: the surrogates in UTF-16, and what is no scalar value in UTF-32
+-- The faults among the code units: the surrogates in UTF-16, and what is no scalar value in UTF-32.
 pub IsFault-surrogate : (u : ℕ) → 0xD800 ≤ u → u ≤ 0xDFFF → IsFault Utf16 u
 IsFault-surrogate u from to = fault16 u (λ r. omega (arith, r.no_surrogate from))
 
@@ -191,7 +191,7 @@ IsFault-no_scalar u none c hc e = let same : c ≡ u = cc in none (rw same at hc
 pub no_scalar-of_fault : (u : ℕ) → IsFault Utf32 u → ¬ (IsScalar u)
 no_scalar-of_fault u fault hu = fault u hu refl
 
--- a surrogate is a fault, and a unit of one character isn't one
+-- A surrogate is a fault, and a unit that encodes a character is none.
 pub IsFault-high : (form : EncodingForm) (u : ℕ) → IsHighSurrogate form u → IsFault form u
 IsFault-high Utf16 u high = IsFault-surrogate u high.0 (omega arith)
 IsFault-high Utf32 u high = absurd high
@@ -200,7 +200,7 @@ pub IsFault-low : (form : EncodingForm) (u : ℕ) → IsLowSurrogate form u → 
 IsFault-low Utf16 u low = IsFault-surrogate u (omega arith) low.1
 IsFault-low Utf32 u low = absurd low
 
--- a low surrogate is the second unit of some pair
+-- A low surrogate is the second unit of some pair.
 pub IsTrailing-from : (form : EncodingForm) (l : ℕ) → IsLowSurrogate form l → (h : ℕ) × IsPair form h l
 IsTrailing-from Utf16 l low = (0xD800, IsPair-from Utf16 0xD800 l (lit≤ tt, lit≤ tt) low)
 IsTrailing-from Utf32 l low = absurd low
@@ -209,7 +209,7 @@ pub high-no_low : (form : EncodingForm) (u : ℕ) → IsHighSurrogate form u →
 high-no_low Utf16 u high low = omega arith
 high-no_low Utf32 u high low = high
 
--- no character begins with a low surrogate unit
+-- No character begins with a low surrogate.
 pub code_units-no_low_first : (form : EncodingForm) (c l : ℕ) (rest : List ℕ) → IsScalar c → IsLowSurrogate form l → code_units form c ≢ l ∷ rest
 code_units-no_low_first form c l rest hc low e =
     let t = IsTrailing-from form l low in

@@ -1,4 +1,4 @@
--- The laws of items: there is one segmentation, joined lists, characters and their encoding.
+-- The laws of items: there is only one segmentation; concatenated lists; characters and their encoding.
 use Rattle.std.proofs.Common.{◌≡◌, ℕ, suc, zero, ◌*◌, ◌<◌, ◌≤◌, List, [], ◌∷◌, ◌++◌, inl, inr, refl, sym, ◌∙◌, ap, arith, length, get_or, append_assoc, length-append, subst}
 use Rattle.std.specs.Prelude.{map}
 use Rattle.std.specs.Char.{IsScalar}
@@ -12,7 +12,7 @@ use Rattle.wide_unit.specs.Items.{items, items-segment, IsWellFormed, characters
 use Rattle.wide_unit.specs.Laws.Forms.{one_unit, two_units}
 use Rattle.wide_unit.specs.Laws.Chains.{MayPrecede, Chain, chain_of, IsSegmentation-of_chain, chain-unique}
 
--- no pair lies across the place between the two lists
+-- Splitting between the two lists splits no pair.
 abbrev pub IsCut : EncodingForm → List ℕ → List ℕ → Type 0
 IsCut form a b = (front back : List ℕ) (h l : ℕ) → a ≡ front ++ h ∷ [] → b ≡ l ∷ back → ¬ (IsPair form h l)
 
@@ -32,7 +32,7 @@ items-of_chain form is chain = items-unique form is (units_of form is) (IsSegmen
 pub units_of-items : (form : EncodingForm) (units : List ℕ) → units_of form (items form units) ≡ units
 units_of-items form units = (items-segment form units).joined
 
--- two chains make one where no pair lies across
+-- Two chains make one if no pair is split between them.
 precedes_across : (form : EncodingForm) (i : Item) (b : List Item) → IsCut form (item_units form i) (units_of form b) → MayPrecede form i b
 precedes_across form (Char c) b cut = tt
 precedes_across form (Fault h) [] cut = tt
@@ -51,7 +51,7 @@ chain-append form (i ∷ j ∷ a) b ca cb cut =
     may_precede-append form (Fault h) (Char c) a b may = tt
     may_precede-append form (Fault h) (Fault l) a b may = may
 
--- The items of joined lists are the joined items, where no pair lies across.
+-- The items of concatenated lists are the concatenated items, if no pair is split between them.
 pub items-append : (form : EncodingForm) (a b : List ℕ) → IsCut form a b → items form (a ++ b) ≡ items form a ++ items form b
 items-append form a b cut =
     let ja = units_of-items form a in
@@ -60,7 +60,7 @@ items-append form a b cut =
     let joined : units_of form (items form a ++ items form b) ≡ a ++ b = flat_map-append (item_units form) (items form a) (items form b) ∙ ap (λ xs. xs ++ units_of form (items form b)) ja ∙ ap (λ xs. a ++ xs) jb in
     items-unique form (items form a ++ items form b) (a ++ b) (IsSegmentation-of_chain form (items form a ++ items form b) (a ++ b) chain joined)
 
--- Well-formed units are characters alone.
+-- Well-formed units consist of characters only.
 no_fault-chars : (is : List Item) → ((u : ℕ) → ¬ (Contains is (Fault u))) → is ≡ map Char (characters is)
 no_fault-chars [] none = refl
 no_fault-chars (Char c ∷ is) none = ap (λ js. Char c ∷ js) (no_fault-chars is (λ u at. none u (suc at.0, omega (arith, at.1), at.2)))
@@ -77,7 +77,7 @@ chars-of_well_formed form us well = no_fault-chars (items form us) well.no_fault
 pub IsWellFormed-of_chars : (form : EncodingForm) (us cs : List ℕ) → items form us ≡ map Char cs → IsWellFormed form us
 IsWellFormed-of_chars form us cs e = record { no_fault = λ u at. let f = subst (λ is. Contains is (Fault u)) e at in chars-no_contained cs u f.0 f.1 f.2 }
 
--- one item
+-- One item.
 pub items-nil : (form : EncodingForm) → items form [] ≡ []
 items-nil form = items-of_chain form [] tt
 
@@ -111,7 +111,7 @@ scalars-of_chain form (c ∷ cs) chain (suc k) d within = scalars-of_chain form 
 pub scalars-of_items : (form : EncodingForm) (cs us : List ℕ) → items form us ≡ map Char cs → All IsScalar cs
 scalars-of_items form cs us e = scalars-of_chain form cs (rw e at (items-chain form us))
 
--- Equal characters are equal units, and the other way round.
+-- Units are equal exactly if their characters are.
 pub same_units : (form : EncodingForm) (us vs cs ds : List ℕ) → items form us ≡ map Char cs → items form vs ≡ map Char ds → cs ≡ ds → us ≡ vs
 same_units form us vs cs ds a b e = sym (encode-of_items form cs us a) ∙ ap (λ x. encode form x) e ∙ encode-of_items form ds vs b
 

@@ -21,7 +21,7 @@ one_piece : (is : List Item) → is ≢ [] → lines_of_pieces (is ∷ []) ≡ i
 one_piece [] some = absurd (some refl)
 one_piece (i ∷ is) some = refl
 
--- a text with no line feed is one line
+-- A text without a line feed is one line.
 pub lines-unended : (is : List Item) → is ≢ [] → All (λ i. is_line_feed i ≡ false) is → lines_of is ≡ is ∷ []
 lines-unended is some none = ap lines_of_pieces (slice_split_none is_line_feed is none) ∙ one_piece is some
 
@@ -49,7 +49,7 @@ pub pieces-some : (is : List Item) → slice_split is_line_feed is ≡ [] → �
 pieces-some [] e = cc
 pieces-some (i ∷ is) e = cond-some (is_line_feed i) ([] ∷ slice_split is_line_feed is) (onto_first i (slice_split is_line_feed is)) (λ f. cc) (onto-some i (slice_split is_line_feed is)) e
 
--- the first line feed ends the first line
+-- The first line feed ends the first line.
 pub lines-ended : (is rest : List Item) → All (λ i. is_line_feed i ≡ false) is → lines_of (is ++ Char line_feed ∷ rest) ≡ without_return is ∷ lines_of rest
 lines-ended is rest none =
     ap lines_of_pieces (slice_split_at is_line_feed is (Char line_feed) rest none refl) ∙ two_pieces is (slice_split is_line_feed rest) (pieces-some rest)
@@ -60,7 +60,7 @@ none_placed form place ([] ∷ []) e = refl
 none_placed form place ((i ∷ is) ∷ []) e = cc
 none_placed form place (p ∷ q ∷ ps) e = cc
 
--- where there are no lines there are none with places
+-- If there are no lines, there are none with offsets.
 pub placed-none : (form : EncodingForm) (place : ℕ) (is : List Item) → lines_of is ≡ [] → placed_lines form place is ≡ []
 placed-none form place is e = none_placed form place (slice_split is_line_feed is) e
 
@@ -85,7 +85,7 @@ without-none (Char c ∷ []) other = keeps c (eqb c carriage_return) refl (λ e.
 without-none (Fault u ∷ []) other = refl
 without-none (i ∷ j ∷ is) other = ap (λ js. i ∷ js) (without-none (j ∷ is) (λ front e. other (i ∷ front) (ap (λ js. i ∷ js) e)))
 
--- A line feed in a list of units is an item of its own.
+-- A line feed in a list of units is a separate item.
 pub one_feed : (form : EncodingForm) → code_units form line_feed ≡ line_feed ∷ []
 one_feed Utf16 = refl
 one_feed Utf32 = refl
@@ -111,7 +111,7 @@ All-right : (P : ℕ → Type 0) (xs ys : List ℕ) → All P (xs ++ ys) → All
 All-right P [] ys all = all
 All-right P (x ∷ xs) ys all = All-right P xs ys (All-tail P x (xs ++ ys) all)
 
--- units with none have no item that is one
+-- Units without a line feed have no item that is one.
 feed-item : (form : EncodingForm) (is : List Item) → All (λ u. u ≢ line_feed) (units_of form is) → All (λ i. is_line_feed i ≡ false) is
 feed-item form [] none = All-nil (λ i. is_line_feed i ≡ false)
 feed-item form (Char c ∷ is) none = All-cons (λ i. is_line_feed i ≡ false) (Char c) is (decide (eqb c line_feed) refl) (feed-item form is (All-right (λ u. u ≢ line_feed) (code_units form c) (units_of form is) none))
@@ -131,11 +131,11 @@ pub items-no_return : (form : EncodingForm) (us : List ℕ) → ((front : List �
 items-no_return form us other front e =
     other (units_of form front) (sym (units_of-items form us) ∙ ap (λ is. units_of form is) e ∙ units_of-append form front (Char carriage_return ∷ []) ∙ ap (λ vs. units_of form front ++ vs) (append-nil (code_units form carriage_return) ∙ one_return form))
 
--- units that there are have items
+-- A list of at least one unit has at least one item.
 pub some_items : (form : EncodingForm) (us : List ℕ) → us ≢ [] → items form us ≢ []
 some_items form us some e = some (sym (units_of-items form us) ∙ ap (λ js. units_of form js) e)
 
--- the lines of units behind whose first ones a line feed stands
+-- The lines of units whose first line feed follows the units `front`.
 pub lines-at_feed : (form : EncodingForm) (front back : List ℕ) → All (λ u. u ≢ line_feed) front
     → lines_of (items form (front ++ line_feed ∷ back)) ≡ without_return (items form front) ∷ lines_of (items form back)
 lines-at_feed form front back none =

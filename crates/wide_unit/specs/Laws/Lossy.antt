@@ -1,4 +1,4 @@
--- Lossy text is text, as long as the units, and that of well-formed units is their own.
+-- Lossy text is well formed, is as long as the units, and for well-formed units is the units themselves.
 use Rattle.std.proofs.Common.{◌≡◌, ℕ, suc, zero, List, [], ◌∷◌, ◌++◌, refl, ◌∙◌, ap, arith, length, length-append}
 use Rattle.std.specs.Prelude.{map}
 use Rattle.std.specs.Char.{IsScalar}
@@ -37,11 +37,11 @@ scalars-lossy form us = lossy-scalars form (items form us) (items-chain form us)
 pub well_formed-lossy : (form : EncodingForm) (us : List ℕ) → IsWellFormed form (encode form (lossy (items form us)))
 well_formed-lossy form us = IsWellFormed-encode form (lossy (items form us)) (scalars-lossy form us)
 
--- doing it twice is doing it once
+-- Repairing twice is the same as repairing once.
 pub lossy-twice : (form : EncodingForm) (us : List ℕ) → encode form (lossy (items form (encode form (lossy (items form us))))) ≡ encode form (lossy (items form us))
 lossy-twice form us = encode-lossy form (encode form (lossy (items form us))) (well_formed-lossy form us)
 
--- U+FFFD takes one unit, as a fault does
+-- U+FFFD has one unit, as a fault has.
 one_replacement : (form : EncodingForm) → length (code_units form 0xFFFD) ≡ 1
 one_replacement Utf16 = refl
 one_replacement Utf32 = refl
@@ -54,7 +54,7 @@ lengths form (Fault u ∷ is) = omega (arith, length-append (code_units form 0xF
 pub length-lossy : (form : EncodingForm) (us : List ℕ) → length (encode form (lossy (items form us))) ≡ length us
 length-lossy form us = lengths form (items form us) ∙ ap length (units_of-items form us)
 
--- behind well-formed units, which stay as they are
+-- After well-formed units, which are unchanged.
 pub lossy-after : (form : EncodingForm) (a b : List ℕ) → IsWellFormed form a → encode form (lossy (items form (a ++ b))) ≡ a ++ encode form (lossy (items form b))
 lossy-after form a b well =
     let xs = lossy (items form a) in

@@ -1,4 +1,5 @@
--- Well-formed units cut at a boundary: the parts are well formed, and their characters are those before it and after it.
+-- Well-formed units that are split at a boundary: both slices are well formed, and their characters are those before it
+-- and after it.
 use Rattle.std.proofs.Common.{◌≡◌, ℕ, ◌≤◌, List, [], ◌∷◌, ◌++◌, refl, sym, ◌∙◌, ap, subst, arith, length, length-append, length-take, take, drop}
 use Rattle.std.specs.Prelude.{map}
 use Rattle.std.specs.Char.{IsScalar}
@@ -33,7 +34,7 @@ pub IsBoundary-start : (form : EncodingForm) (us : List ℕ) → IsBoundary form
 IsBoundary-start form us = ([], items form us, refl, refl)
 
 module _ (form : EncodingForm) (us : List ℕ) (well : IsWellFormed form us) where
-  -- the units of the first characters, and of the others
+  -- The units of the first characters, and of the others.
   abbrev front_of : ℕ → List ℕ
   front_of index = encode form (take index (chars form us))
 
@@ -71,7 +72,7 @@ module _ (form : EncodingForm) (us : List ℕ) (well : IsWellFormed form us) whe
         ap length (units_of-chars form (take index cs)),
       )
 
-  -- Each character has a place.
+  -- Each character has an offset.
   pub IsPlaceOf-front : (index : ℕ) → IsPlaceOf form us index (length (encode form (take index (chars form us))))
   IsPlaceOf-front index = record {
     boundary = boundary-front index;
@@ -80,12 +81,12 @@ module _ (form : EncodingForm) (us : List ℕ) (well : IsWellFormed form us) whe
     encoded = take-front index;
   }
 
-  -- It has no other.
+  -- A character has no other offset.
   pub place-IsPlaceOf : (index place : ℕ) → IsPlaceOf form us index place → place ≡ length (encode form (take index (chars form us)))
   place-IsPlaceOf index place at = sym (length-take-le place us (IsBoundary-within form us place at.boundary)) ∙ ap length at.encoded
 
   module _ (place : ℕ) (at : IsBoundary form us place) where
-    -- Each boundary is the place of a character, or the end.
+    -- Each boundary is the offset of a character, or the end.
     abbrev items_before : List Item
     items_before = at.0
 
@@ -109,7 +110,7 @@ module _ (form : EncodingForm) (us : List ℕ) (well : IsWellFormed form us) whe
     pub chars_before-within : chars_before form us place ≤ length (chars form us)
     chars_before-within = omega (arith, ap length place-items_before.front, length-take (length items_before) (chars form us))
 
-    -- Both parts are well formed.
+    -- Both slices are well formed.
     pub IsWellFormed-take : IsWellFormed form (take place us)
     IsWellFormed-take = subst (λ vs. IsWellFormed form vs) (sym place-items_before.encoded) (IsWellFormed-encode form (take (length items_before) (chars form us)) (front_scalars (length items_before)))
 

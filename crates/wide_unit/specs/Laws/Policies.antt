@@ -1,4 +1,4 @@
--- Lossy text under a policy: of joined lists, at both ends, and of text.
+-- Lossy text under a policy: of concatenated lists, at both ends, and of well-formed text.
 use Rattle.std.proofs.Common.{◌≡◌, ℕ, ◌≤◌, suc, zero, length, length-append, List, [], ◌∷◌, ◌++◌, refl, sym, ◌∙◌, ap, arith}
 use Rattle.std.specs.Prelude.{map, Bool, true, false}
 use Rattle.std.specs.Char.{IsScalar}
@@ -17,7 +17,7 @@ use Rattle.wide_unit.specs.Laws.Lossy.{lossy-chars, scalars-lossy}
 use Rattle.wide_unit.specs.declared.policy.Policy.{Policy}
 use Rattle.wide_unit.specs.declared.policy.Policy.TheVariants.{Each, Run, Skip}
 
--- Joined lists
+-- Concatenated lists.
 pub characters-append : (a b : List Item) → characters (a ++ b) ≡ characters a ++ characters b
 characters-append [] b = refl
 characters-append (Char c ∷ a) b = ap (λ l. c ∷ l) (characters-append a b)
@@ -30,13 +30,13 @@ runs-at_char (Fault u ∷ []) b c = refl
 runs-at_char (Fault u ∷ Char d ∷ a) b c = ap (λ l. 0xFFFD ∷ l) (runs-at_char (Char d ∷ a) b c)
 runs-at_char (Fault u ∷ Fault v ∷ a) b c = runs-at_char (Fault v ∷ a) b c
 
--- a character parts the text, whatever stands on both sides
+-- A character separates the text, whatever is on both sides.
 pub lossy_by-at_char : (policy : Policy) (a b : List Item) (c : ℕ) → lossy_by policy (a ++ Char c ∷ b) ≡ lossy_by policy a ++ c ∷ lossy_by policy b
 lossy_by-at_char Each a b c = map-append lossy_char a (Char c ∷ b)
 lossy_by-at_char Run a b c = runs-at_char a b c
 lossy_by-at_char Skip a b c = characters-append a (Char c ∷ b)
 
--- behind a fault the faults that follow give no further U+FFFD
+-- The faults that directly follow a fault yield no further U+FFFD.
 runs-from_fault : (b : List Item) (u : ℕ) → lossy_runs (Fault u ∷ b) ≡ 0xFFFD ∷ lossy_runs (past_faults b)
 runs-from_fault [] u = refl
 runs-from_fault (Char c ∷ b) u = refl
@@ -49,7 +49,7 @@ runs-at_fault (Fault v ∷ []) b u = runs-from_fault b u
 runs-at_fault (Fault v ∷ Char d ∷ a) b u = ap (λ l. 0xFFFD ∷ l) (runs-at_fault (Char d ∷ a) b u)
 runs-at_fault (Fault v ∷ Fault w ∷ a) b u = runs-at_fault (Fault w ∷ a) b u
 
--- Behind other items
+-- After other items.
 pub lossy_after-none : (policy : Policy) (is : List Item) → lossy_after policy false is ≡ lossy_by policy is
 lossy_after-none Each is = refl
 lossy_after-none Run is = refl
@@ -75,7 +75,7 @@ ends_in_fault-append after [] b = refl
 ends_in_fault-append after (Char c ∷ a) b = ends_in_fault-append false a b
 ends_in_fault-append after (Fault u ∷ a) b = ends_in_fault-append true a b
 
--- A row of faults alone
+-- A run of faults only.
 pub runs-of_row : (u : ℕ) (us : List ℕ) → lossy_runs (map Fault (u ∷ us)) ≡ 0xFFFD ∷ []
 runs-of_row u [] = refl
 runs-of_row u (v ∷ us) = runs-of_row v us
@@ -84,7 +84,7 @@ pub characters-of_row : (us : List ℕ) → characters (map Fault us) ≡ []
 characters-of_row [] = refl
 characters-of_row (u ∷ us) = characters-of_row us
 
--- Text
+-- Well-formed text.
 pub lossy_by-chars : (policy : Policy) (cs : List ℕ) → lossy_by policy (map Char cs) ≡ cs
 lossy_by-chars Each cs = lossy-chars cs
 lossy_by-chars Run [] = refl
@@ -113,7 +113,7 @@ scalars-lossy_by Each form us = scalars-lossy form us
 scalars-lossy_by Run form us = runs-scalars form (items form us) (items-chain form us)
 scalars-lossy_by Skip form us = characters-scalars form (items form us) (items-chain form us)
 
--- lossy text of well-formed units is their characters, and encodes to the units
+-- Lossy text of well-formed units is their characters, and encodes to the units.
 pub lossy_by-well_formed : (policy : Policy) (form : EncodingForm) (us : List ℕ) → IsWellFormed form us → lossy_by policy (items form us) ≡ chars form us
 lossy_by-well_formed policy form us well = ap (lossy_by policy) (chars-of_well_formed form us well) ∙ lossy_by-chars policy (chars form us)
 
@@ -123,7 +123,7 @@ encode-lossy_by policy form us well = ap (λ cs. encode form cs) (lossy_by-well_
 pub well_formed-lossy_by : (policy : Policy) (form : EncodingForm) (us : List ℕ) → IsWellFormed form (encode form (lossy_by policy (items form us)))
 well_formed-lossy_by policy form us = IsWellFormed-encode form (lossy_by policy (items form us)) (scalars-lossy_by policy form us)
 
--- behind characters, which stay as they are
+-- After characters, which are unchanged.
 pub behind-chars : (policy : Policy) (cs : List ℕ) (is : List Item) → lossy_by policy (map Char cs ++ is) ≡ cs ++ lossy_by policy is
 behind-chars policy [] is = refl
 behind-chars Each (c ∷ cs) is = ap (λ l. c ∷ l) (behind-chars Each cs is)
@@ -137,7 +137,7 @@ lossy_after-chars Run true (c ∷ cs) = lossy_by-chars Run (c ∷ cs)
 lossy_after-chars Run false cs = lossy_by-chars Run cs
 lossy_after-chars Skip after cs = lossy_by-chars Skip cs
 
--- the lossy text of units by their numbers, of which the first are well formed and stay as they are
+-- The lossy text of units by their numbers, whose first units are well formed and are unchanged.
 pub lossy_by-split : {C : Type 0} (policy : Policy) (form : EncodingForm) (number : C → ℕ) (units front back : List C) → front ++ back ≡ units → IsWellFormed form (map number front)
     → map number front ++ encode form (lossy_by policy (items form (map number back))) ≡ encode form (lossy_by policy (items form (map number units)))
 lossy_by-split policy form number units front back e well =
@@ -151,13 +151,13 @@ lossy_by-split policy form number units front back e well =
     sym (ap (λ is. encode form (lossy_by policy is)) joined ∙ ap (encode form) (behind-chars policy cs (items form b)) ∙ flat_map-append (code_units form) cs left
     ∙ ap (λ us. us ++ encode form left) (encode-of_items form cs a (chars-of_well_formed form a well)))
 
--- twice is once
+-- Lossy text of lossy text is the same.
 pub lossy_by-twice : (policy : Policy) (form : EncodingForm) (us : List ℕ) → lossy_by policy (items form (encode form (lossy_by policy (items form us)))) ≡ lossy_by policy (items form us)
 lossy_by-twice policy form us =
     let text = lossy_by policy (items form us) in
     ap (lossy_by policy) (items-encode form text (scalars-lossy_by policy form us)) ∙ lossy_by-chars policy text
 
--- lossy text has no more units than what it stands for
+-- Lossy text is never longer in units than the original.
 one_unit : (form : EncodingForm) → length (code_units form 0xFFFD) ≡ 1
 one_unit Utf16 = refl
 one_unit Utf32 = refl

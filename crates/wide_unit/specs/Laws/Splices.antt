@@ -1,4 +1,5 @@
--- Well-formed units joined, cut out and spliced: the result is well formed, and its characters are joined, cut out and spliced likewise.
+-- Well-formed units that are concatenated, sliced and spliced: the result is well formed, and its characters are
+-- concatenated, sliced and spliced correspondingly.
 use Rattle.std.proofs.Common.{◌≡◌, ℕ, suc, zero, ◌-◌, ◌≤◌, List, [], ◌∷◌, ◌++◌, refl, sym, ◌∙◌, ap, subst, arith, length, length-append, length-drop, take, drop}
 use Rattle.std.specs.Prelude.{map, slice_range}
 use Rattle.std.specs.Char.{IsScalar}
@@ -43,14 +44,14 @@ module _ (form : EncodingForm) (us vs : List ℕ) where
       (items-append_left form us vs left ∙ ap (λ is. is ++ items form vs) (chars-of_well_formed form us left) ∙ ap (λ is. map Char (chars form us) ++ is) (chars-of_well_formed form vs right)
       ∙ sym (map-append Char (chars form us) (chars form vs)))
 
-  -- what stands before well-formed units in well-formed ones
+  -- What precedes well-formed units within well-formed ones.
   pub IsWellFormed-before : IsWellFormed form (us ++ vs) → IsWellFormed form vs → IsWellFormed form us
   IsWellFormed-before whole right = record {
     no_fault = λ u at. whole.no_fault u (subst (λ is. Contains is (Fault u)) (sym (items-append_right form us vs right)) (contains-append (items form us) (items form vs) (Fault u) at));
   }
 
 module _ (form : EncodingForm) (us : List ℕ) (from to : ℕ) (well : IsWellFormed form us) (at_from : IsBoundary form us from) (at_to : IsBoundary form us to) where
-  -- The part between two boundaries.
+  -- The slice between two boundaries.
   pub IsWellFormed-part : from ≤ to → IsWellFormed form (slice_range us from to)
   IsWellFormed-part forward =
       IsWellFormed-before form (slice_range us from to) (drop to us)
@@ -86,7 +87,7 @@ module _ (form : EncodingForm) (us : List ℕ) (from to : ℕ) (well : IsWellFor
         chars-append form (take from us) (new ++ drop to us) (IsWellFormed-take form us well from at_from) ∙ ap (λ cs. cs ++ chars form (new ++ drop to us)) front
         ∙ ap (λ cs. take (chars_before form us from) (chars form us) ++ cs) (chars-append form new (drop to us) inserted ∙ ap (λ cs. chars form new ++ cs) rest)
 
--- Parts and splices of a list, element by element.
+-- Slices and splices of a list, element by element.
 module _ {X Y : Type 0} (f : X → Y) (xs : List X) (from to : ℕ) where
   map-slice_range : slice_range (map f xs) from to ≡ map f (slice_range xs from to)
   map-slice_range = ap (take (to - from)) (drop-map f from xs) ∙ take-map f (to - from) (drop from xs)
@@ -96,7 +97,7 @@ module _ {X Y : Type 0} (f : X → Y) (xs : List X) (from to : ℕ) where
       ap (λ us. take from (map f xs) ++ (map f ys ++ us)) (drop-map f to xs) ∙ ap (λ us. us ++ (map f ys ++ map f (drop to xs))) (take-map f from xs)
       ∙ ap (λ us. map f (take from xs) ++ us) (sym (map-append f ys (drop to xs))) ∙ sym (map-append f (take from xs) (ys ++ drop to xs))
 
--- The same over the units of any type.
+-- For units of any type.
 module _ {X : Type 0} (form : EncodingForm) (number : X → ℕ) (xs : List X) where
   module _ (well : IsWellFormed form (map number xs)) where
     pub IsWellFormed-map_take : (place : ℕ) → IsBoundary form (map number xs) place → IsWellFormed form (map number (take place xs))

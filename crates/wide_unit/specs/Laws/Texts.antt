@@ -1,4 +1,5 @@
--- The characters of a `str` are scalar values, and so are those that are picked from well-formed units: their encoding is well formed.
+-- The characters of a `str` are scalar values, and so are those that are selected from well-formed units: their
+-- encoding is well formed.
 use Rattle.std.proofs.Common.{◌≡◌, ℕ, suc, zero, List, [], ◌∷◌, true, ap, ◌∙◌, subst, arith}
 use Rattle.std.specs.Char.{IsScalar}
 use Rattle.std.specs.List.{All, Contains}
@@ -30,7 +31,7 @@ module _ (form : EncodingForm) (bs : List ℕ) (text : IsUtf8 bs) where
   pub chars-text : chars form (encode form (str_chars bs)) ≡ str_chars bs
   chars-text = chars-encode form (str_chars bs) (scalars-text bs text)
 
-  -- put into units and read back, it is the text
+  -- Encoding the text in units and decoding them yields the text.
   pub text-back : utf8 (chars form (encode form (str_chars bs))) ≡ bs
   text-back = ap utf8 chars-text ∙ utf8-encode_utf8_all (str_chars bs) ∙ encodes-chars bs text
 

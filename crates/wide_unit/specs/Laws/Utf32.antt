@@ -1,4 +1,4 @@
--- In UTF-32 each unit is an item, whatever stands beside it.
+-- In UTF-32 each unit is an item, whatever its neighbours.
 use Rattle.std.proofs.Common.{◌≡◌, ℕ, suc, List, [], ◌∷◌, ◌++◌, inl, inr, refl, sym, ◌∙◌, ap, length}
 use Rattle.std.specs.Char.{IsScalar}
 use Rattle.std.proofs.lemmas.List.{map-id}
@@ -29,7 +29,7 @@ pub length-items32 : (us : List ℕ) → length (items Utf32 us) ≡ length us
 length-items32 [] = ap length (items-nil Utf32)
 length-items32 (u ∷ us) = let at = one_item32 u us in ap length at.1 ∙ ap suc (length-items32 us)
 
--- a character is its own unit
+-- A character is its own unit.
 pub encode32 : (cs : List ℕ) → encode Utf32 cs ≡ cs
 encode32 cs = flat_map_single (λ (c : ℕ). c) cs ∙ map-id cs
 
