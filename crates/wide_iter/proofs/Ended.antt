@@ -1,4 +1,4 @@
--- A source that stays ended, over each function that tells what the source itself has left.
+-- A fused source, for each function that returns what the source itself has left.
 use Rattle.std.proofs.Common.{◌≡◌, true, false, Bool, cond, List, [], ◌∷◌, ◌++◌, Option, Some, None, ◌⊎◌, inl, inr, refl, sym, ap, ◌∙◌}
 use Rattle.std.specs.Prelude.{is_none, IfSome, MatchOption}
 use Rattle.std.specs.Iterator.{YieldsFirst, YieldsLast}
@@ -8,7 +8,7 @@ use Rattle.wide_iter.specs.Over.{GivesFirst, GivesLast}
 use Rattle.wide_iter.specs.Source.{unasked, source_steps}
 
 module _ {A : Type 0} (whole us ts : List A) (b : Bool) (e : whole ≡ us) where
-  -- `whole` is what was left, and the source has ended after a call that gave none
+  -- `whole` is what was left, and the source has ended after a call that returned `None`.
   asked_first : (r : Option A) → b ≡ is_none r → MatchOption r ((us ≡ []) × (ts ≡ [])) (λ x. us ≡ x ∷ ts) → MatchOption r ((whole ≡ []) × (cond b [] ts ≡ [])) (λ x. whole ≡ x ∷ cond b [] ts)
   asked_first None f h = (e ∙ h.0, ap (λ d. cond d [] ts) f)
   asked_first (Some x) f h = e ∙ h ∙ ap (λ d. x ∷ cond d [] ts) (sym f)

@@ -1,4 +1,4 @@
--- A unit that is put back into a hand is to come again.
+-- A unit that is put back into the lookahead will be read again.
 use Rattle.std.proofs.Common.{◌≡◌, ℕ, List, [], ◌∷◌, ◌++◌, Some, None, sym, ap, ◌∙◌}
 use Rattle.std.specs.Option.{option_to_list}
 use Rattle.std.proofs.lemmas.List.{append-nil}

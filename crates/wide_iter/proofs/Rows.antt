@@ -1,4 +1,4 @@
--- Lossy decoders under a policy: the items of a decoder that stays ended, rows of faults, and what a call gives.
+-- Lossy decoders under a policy: the items of a fused decoder, runs of faults, and what a call yields.
 use Rattle.std.proofs.Common.{◌≡◌, ℕ, true, false, Bool, cond, List, [], ◌∷◌, ◌++◌, Option, Some, None, Result, Ok, Err, inl, inr, refl, sym, ap, ◌∙◌, append_assoc}
 use Rattle.std.specs.Prelude.{is_none, map, MatchOption}
 use Rattle.std.specs.Option.{option_to_list}
@@ -16,7 +16,7 @@ use Rattle.wide_iter.specs.LossyWith.{GivesFirstItem, GivesLastItem, TakesFirstC
 use Rattle.wide_iter.proofs.Ended.{by_end, left_where}
 
 module _ {A B : Type 0} (view : A → B) (whole us ts : List B) (b : Bool) (e : whole ≡ us) where
-  -- `whole` is what was left, and the source has ended after a call that gave none
+  -- `whole` is what was left, and the source has ended after a call that returned `None`.
   asked_first : (r : Option A) → b ≡ is_none r → MatchOption r ((us ≡ []) × (ts ≡ [])) (λ x. us ≡ view x ∷ ts) → MatchOption r ((whole ≡ []) × (cond b [] ts ≡ [])) (λ x. whole ≡ view x ∷ cond b [] ts)
   asked_first None f h = (e ∙ h.0, ap (λ d. cond d [] ts) f)
   asked_first (Some x) f h = e ∙ h ∙ ap (λ d. view x ∷ cond d [] ts) (sym f)
@@ -39,7 +39,7 @@ module _ {D E : Type 0} {steps : D → Option (Result ℕ E) → D → Type 0} w
   ]
 
 module _ {D E : Type 0} (steps : D → Option (Result ℕ E) → D → Type 0) (s t : Source D) where
-  -- a row of faults was read, from the front or the back
+  -- A run of faults was read, from the front or the back.
   pub record PassedFirst : Type 0 where
     pub at : (number : E → ℕ) (rest : D → List Item) → GivesFirstItem steps number rest → (row : List ℕ) × (unasked rest s ≡ map Fault row ++ unasked rest t)
 
@@ -91,7 +91,8 @@ module _ {D E : Type 0} {steps : D → Option (Result ℕ E) → D → Type 0} (
         (q.0, (q.1 ∙ ap (λ l. l ++ map Fault q.0) none.0, none.1));
   }
 
--- What is to come: the character in the front hand, the lossy text of the items, the character in the back hand.
+-- What will be yielded: the character in the lookahead at the front, the lossy text of the items, and the character in
+-- the lookahead at the back.
 abbrev left : Option ℕ → Policy → List Item → Option ℕ → List ℕ
 left f p is b = option_to_list f ++ lossy_by p is ++ option_to_list b
 
@@ -117,14 +118,14 @@ characters-row_end : (us : List ℕ) (u : ℕ) → lossy_by Skip (map Fault us +
 characters-row_end [] u = refl
 characters-row_end (v ∷ us) u = characters-row_end us u
 
--- a row of faults up to a character, or to the end
+-- A run of faults up to a character, or to the end.
 abbrev FirstRow : List Item → Option ℕ → List Item → Type 0
 FirstRow mid r js = (row : List ℕ) × MatchOption r ((mid ≡ map Fault row) × (js ≡ [])) (λ c. mid ≡ map Fault row ++ Char c ∷ js)
 
 abbrev LastRow : List Item → Option ℕ → List Item → Type 0
 LastRow mid r js = (row : List ℕ) × MatchOption r ((mid ≡ map Fault row) × (js ≡ [])) (λ c. mid ≡ js ++ Char c ∷ map Fault row)
 
--- from the front
+-- From the front.
 end_first : (X Y : List ℕ) → X ≡ [] → Y ≡ [] → (b : Option ℕ) → MatchOption b ((X ++ option_to_list b ≡ []) × (Y ++ [] ≡ [])) (λ x. X ++ option_to_list b ≡ x ∷ (Y ++ []))
 end_first X Y e f None = (ap (λ l. l ++ []) e, ap (λ l. l ++ []) f)
 end_first X Y e f (Some x) = ap (λ l. l ++ x ∷ []) e ∙ ap (λ l. x ∷ (l ++ [])) (sym f)
@@ -159,7 +160,7 @@ module _ (p : Policy) (is mid js : List Item) (b : Option ℕ) where
   pub at_end : is ≡ [] → js ≡ [] → MatchOption b ((left None p is b ≡ []) × (left None p js None ≡ [])) (λ x. left None p is b ≡ x ∷ left None p js None)
   at_end e f = end_first (lossy_by p is) (lossy_by p js) (ap (lossy_by p) e ∙ by-nil p) (ap (lossy_by p) f ∙ by-nil p) b
 
--- from the back
+-- From the back.
 module _ (p : Policy) (is mid js : List Item) (f : Option ℕ) where
   placed : (X Z : List ℕ) (c : ℕ) → X ≡ Z ++ c ∷ [] → (option_to_list f ++ X) ++ [] ≡ (option_to_list f ++ Z) ++ c ∷ []
   placed X Z c e = append-nil (option_to_list f ++ X) ∙ ap (λ l. option_to_list f ++ l) e ∙ sym (append_assoc (option_to_list f) Z (c ∷ []))

@@ -1,4 +1,4 @@
--- What a decoder gives, by the units that it took: `all` were to come before the call, `rest` are after it.
+-- What a decoder yields, by the units that it read: `all` were left before the call, `rest` are left after it.
 use Rattle.std.proofs.Common.{◌≡◌, ℕ, List, [], ◌∷◌, ◌++◌, sym, ◌∙◌, ap, append_assoc}
 use Rattle.std.specs.Char.{IsScalar}
 use Rattle.std.proofs.lemmas.List.{same_from_push}
@@ -14,7 +14,7 @@ module _ (form : EncodingForm) (all rest : List ℕ) where
   pub none_left : all ≡ [] → rest ≡ [] → (items form all ≡ []) × (items form rest ≡ [])
   none_left e f = (ap (λ us. items form us) e ∙ items-nil form, ap (λ us. items form us) f ∙ items-nil form)
 
-  -- from the front: `mid` are to come once the first unit is taken
+  -- From the front: `mid` are left after the first unit was read.
   pub first_char : (u c : ℕ) → all ≡ u ∷ rest → IsScalar c × (code_units form c ≡ u ∷ []) → items form all ≡ Char c ∷ items form rest
   first_char u c e made = items-first_char form all rest u c e made.0 made.1
 
@@ -35,7 +35,7 @@ module _ (form : EncodingForm) (all rest : List ℕ) where
       let split : all ≡ u ∷ rest = e ∙ ap (λ us. u ∷ us) (f ∙ sym g) in
       items-first_fault form all rest u split fault (λ l back h pair. let at : l ≡ v = cc in apart (rw at at pair)) ∙ ap (λ w. Fault w ∷ items form rest) (sym same)
 
-  -- from the back
+  -- From the back.
   pub last_char : (u c : ℕ) → all ≡ rest ++ u ∷ [] → IsScalar c × (code_units form c ≡ u ∷ []) → items form all ≡ items form rest ++ Char c ∷ []
   last_char u c e made = items-last_char form all rest u c e made.0 made.1
 
@@ -64,7 +64,7 @@ module _ (form : EncodingForm) (all rest : List ℕ) where
       same_end : (xs ys : List ℕ) (x y : ℕ) → xs ++ x ∷ [] ≡ ys ++ y ∷ [] → x ≡ y
       same_end xs ys x y k = (same_from_push xs ys x y k).1
 
--- in UTF-32, by the item that the unit taken is
+-- In UTF-32, by the item of the unit that was read.
 module _ (all rest : List ℕ) (u : ℕ) (i : Item) (alone : items Utf32 (u ∷ []) ≡ i ∷ []) where
   pub first_unit32 : all ≡ u ∷ rest → items Utf32 all ≡ i ∷ items Utf32 rest
   first_unit32 e = ap (λ us. items Utf32 us) e ∙ items32-append (u ∷ []) rest ∙ ap (λ is. is ++ items Utf32 rest) alone

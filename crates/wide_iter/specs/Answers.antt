@@ -1,9 +1,10 @@
--- What calls from both ends of a list are answered.
+-- The results of calls from both ends of a list.
 use Rattle.std.specs.Prelude.{ℕ, ◌+◌, ◌-◌, nat_lt, List, [], ◌∷◌, length, slice_get, Option, None, if◌then◌else◌}
 use Rattle.wide_iter.specs.declared.ends.End.{End}
 use Rattle.wide_iter.specs.declared.ends.End.TheVariants.{Front, Back}
 
--- After `f` calls from the front and `k` from the back: a call that as many or more calls precede as the list is long is answered none.
+-- After `f` calls from the front and `k` from the back: a call returns `None` if at least as many calls precede it as
+-- the list is long.
 abbrev pub answers_after : {A : Type 0} → List A → ℕ → ℕ → List End → List (Option A)
 answers_after l f k [] = []
 answers_after l f k (Front ∷ ends) = (if nat_lt (f + k) (length l) then slice_get l f else None) ∷ answers_after l (f + 1) k ends

@@ -1,4 +1,4 @@
--- What is left of a decoder of UTF-16.
+-- What a decoder of UTF-16 will yield.
 use Rattle.std.specs.Prelude.{◌≡◌, ℕ, ◌+◌, ◌^◌, nat_lt, true, false, List, ◌++◌, Option, Some, None, if◌then◌else◌}
 use Rattle.std.specs.Option.{option_to_list, option_len}
 use Rattle.std.specs.Iterator.{Count, count_map}
@@ -10,7 +10,7 @@ use Rattle.wide_iter.specs.declared.source.Source.{Source}
 use Rattle.wide_iter.specs.declared.decode16.DecodeUtf16.{DecodeUtf16}
 
 module _ {I : Type 0} where
-  -- the source, and the unit in hand at each end
+  -- The source, and the unit in the lookahead at each end.
   abbrev pub source_of : DecodeUtf16 I → Source I
   source_of s = s.source
 
@@ -20,39 +20,40 @@ module _ {I : Type 0} where
   abbrev pub back_hand : DecodeUtf16 I → Option ℕ
   back_hand s = s.back
 
-  -- the units to come: the one in the front hand, those of the source, the one in the back hand
+  -- The units that are left: the one in the lookahead at the front, those of the source, and the one in the lookahead
+  -- at the back.
   abbrev pub units_left : (I → List ℕ) → DecodeUtf16 I → List ℕ
   units_left rest s = option_to_list (front_hand s) ++ unasked rest (source_of s) ++ option_to_list (back_hand s)
 
-  -- the items to come
+  -- The items that will be yielded.
   abbrev pub items_left : (I → List ℕ) → DecodeUtf16 I → List Item
   items_left rest s = items Utf16 (units_left rest s)
 
-  -- the source may be called, unless it has ended
+  -- The source may be called, unless it has ended.
   abbrev pub CanDecode : (I → Type 0) → DecodeUtf16 I → Type 0
   CanDecode can s = CanAsk can (source_of s)
 
-  -- how many units are in hand
+  -- The number of units in the lookahead.
   abbrev pub held : DecodeUtf16 I → ℕ
   held s = option_len (front_hand s) + option_len (back_hand s)
 
-  -- no more items come than units are left
+  -- At most as many items will be yielded as units are left.
   abbrev pub decoder_count : (I → Count) → DecodeUtf16 I → Count
   decoder_count count s = count_map (λ n. n + held s) (source_count count (source_of s))
 
-  -- nothing is to come, in hand or from the source
+  -- Nothing is left, in the lookahead or the source.
   pub record IsSpent (s : DecodeUtf16 I) : Type 0 where
     pub ended : has_ended (source_of s) ≡ true
     pub front : front_hand s ≡ None
     pub back : back_hand s ≡ None
 
-  -- nothing is in hand, and the source may be asked
+  -- The lookahead is empty, and the source may be called.
   pub record IsNew (s : DecodeUtf16 I) : Type 0 where
     pub asked : has_ended (source_of s) ≡ false
     pub front : front_hand s ≡ None
     pub back : back_hand s ≡ None
 
--- an upper bound with `more`, where the sum fits a `usize`
+-- The sum of an upper bound and `more`, if it fits into a `usize`.
 abbrev pub upper_with : Option ℕ → ℕ → Option ℕ
 upper_with None more = None
 upper_with (Some upper) more = if nat_lt (upper + more) (2 ^ 64) then Some (upper + more) else None

@@ -1,4 +1,4 @@
--- What is left of an encoder to UTF-16.
+-- What an encoder to UTF-16 will yield.
 use Rattle.std.specs.Prelude.{◌≡◌, ℕ, ◌+◌, ◌*◌, false, List, ◌++◌, Option, None}
 use Rattle.std.specs.Option.{option_to_list, option_len}
 use Rattle.std.specs.Iterator.{Count, count_map}
@@ -8,26 +8,26 @@ use Rattle.wide_iter.specs.declared.source.Source.{Source}
 use Rattle.wide_iter.specs.declared.encode16.EncodeUtf16.{EncodeUtf16}
 
 module _ {I : Type 0} where
-  -- the source, and the second unit of a pair that is in hand
+  -- The source, and the pending unit of a pair.
   abbrev pub source_of : EncodeUtf16 I → Source I
   source_of s = s.source
 
   abbrev pub unit_in_hand : EncodeUtf16 I → Option ℕ
   unit_in_hand s = s.second
 
-  -- the units to come: the one in hand, and those of the characters to come
+  -- The units that will be yielded: the pending one, and those of the characters that are left.
   abbrev pub units_left : (I → List ℕ) → EncodeUtf16 I → List ℕ
   units_left rest s = option_to_list (unit_in_hand s) ++ encode Utf16 (unasked rest (source_of s))
 
-  -- the source may be called, unless it has ended
+  -- The source may be called, unless it has ended.
   abbrev pub CanEncode : (I → Type 0) → EncodeUtf16 I → Type 0
   CanEncode can s = CanAsk can (source_of s)
 
-  -- no more units come than two for each character
+  -- At most two units will be yielded for each character, and the pending one.
   abbrev pub encoder_count : (I → Count) → EncodeUtf16 I → Count
   encoder_count count s = count_map (λ n. n * 2 + option_len (unit_in_hand s)) (source_count count (source_of s))
 
-  -- nothing is in hand, and the source may be asked
+  -- No unit is pending, and the source may be called.
   pub record IsNew (s : EncodeUtf16 I) : Type 0 where
     pub asked : has_ended (source_of s) ≡ false
     pub hand : unit_in_hand s ≡ None

@@ -1,4 +1,4 @@
--- What is left of an encoder to UTF-32.
+-- What an encoder to UTF-32 will yield.
 use Rattle.std.specs.Prelude.{◌≡◌, ℕ, false, List}
 use Rattle.std.specs.Iterator.{Count}
 use Rattle.wide_unit.specs.EncodingForm.{Utf32, encode}
@@ -10,18 +10,18 @@ module _ {I : Type 0} where
   abbrev pub source_of : EncodeUtf32 I → Source I
   source_of s = s.source
 
-  -- the units of the characters to come
+  -- The units of the characters that are left.
   abbrev pub units_left : (I → List ℕ) → EncodeUtf32 I → List ℕ
   units_left rest s = encode Utf32 (unasked rest (source_of s))
 
-  -- the source may be called, unless it has ended
+  -- The source may be called, unless it has ended.
   abbrev pub CanEncode : (I → Type 0) → EncodeUtf32 I → Type 0
   CanEncode can s = CanAsk can (source_of s)
 
-  -- no more units come than characters
+  -- As many units will be yielded as characters are left.
   abbrev pub encoder_count : (I → Count) → EncodeUtf32 I → Count
   encoder_count count s = source_count count (source_of s)
 
-  -- the source may be asked
+  -- The source may be called.
   pub record IsNew (s : EncodeUtf32 I) : Type 0 where
     pub asked : has_ended (source_of s) ≡ false

@@ -1,4 +1,4 @@
--- What is left of lossy decoders: the lossy characters of a strict one's items to come.
+-- What lossy decoders will yield: the lossy characters of the items that a strict decoder will yield.
 use Rattle.std.specs.Prelude.{ℕ, List, Result, Ok, Err}
 use Rattle.wide_unit.specs.Lossy.{lossy}
 use Rattle.wide_iter.specs.Decoder16.{items_left}
@@ -8,20 +8,20 @@ use Rattle.wide_iter.specs.declared.decode32.DecodeUtf32.{DecodeUtf32}
 use Rattle.wide_iter.specs.declared.lossy.DecodeUtf16Lossy.{DecodeUtf16Lossy}
 use Rattle.wide_iter.specs.declared.lossy.DecodeUtf32Lossy.{DecodeUtf32Lossy}
 
--- the character of a strict answer, or U+FFFD
+-- The character of a strict decoder's result, or U+FFFD.
 abbrev pub lossy_answer : {E : Type 0} → Result ℕ E → ℕ
 lossy_answer (Ok c) = c
 lossy_answer (Err e) = 0xFFFD
 
 module _ {I : Type 0} where
-  -- the strict decoder whose items are made lossy
+  -- The strict decoder whose items are made lossy.
   abbrev pub strict16_of : DecodeUtf16Lossy I → DecodeUtf16 I
   strict16_of s = s.utf16
 
   abbrev pub strict32_of : DecodeUtf32Lossy I → DecodeUtf32 I
   strict32_of s = s.utf32
 
-  -- the characters to come
+  -- The characters that will be yielded.
   abbrev pub lossy16_left : (I → List ℕ) → DecodeUtf16Lossy I → List ℕ
   lossy16_left rest s = lossy (items_left rest (strict16_of s))
 

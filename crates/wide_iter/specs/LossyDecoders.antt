@@ -1,4 +1,4 @@
--- What is left of lossy decoders of UTF-16 and UTF-32 under a policy.
+-- What lossy decoders of UTF-16 and UTF-32 under a policy will yield.
 use Rattle.std.specs.Prelude.{◌≡◌, ℕ, false, List}
 use Rattle.std.specs.Iterator.{Count}
 use Rattle.wide_iter.specs.Source.{inner_of, has_ended}
@@ -18,21 +18,21 @@ module _ {I : Type 0} where
   abbrev pub chars32_of : DecodeUtf32LossyWith I → LossyWith (DecodeUtf32 I)
   chars32_of s = s.chars
 
-  -- the source of units
+  -- The source of units.
   abbrev pub units16_of : DecodeUtf16LossyWith I → I
   units16_of s = inner_of (source_of (inner_of (lossy_source (chars16_of s))))
 
   abbrev pub units32_of : DecodeUtf32LossyWith I → I
   units32_of s = inner_of (source32_of (inner_of (lossy_source (chars32_of s))))
 
-  -- the characters to come
+  -- The characters that will be yielded.
   abbrev pub lossy16_with_left : (I → List ℕ) → DecodeUtf16LossyWith I → List ℕ
   lossy16_with_left rest s = lossy_with_left (items_left rest) (chars16_of s)
 
   abbrev pub lossy32_with_left : (I → List ℕ) → DecodeUtf32LossyWith I → List ℕ
   lossy32_with_left rest s = lossy_with_left (items32_left rest) (chars32_of s)
 
-  -- the source may be called, unless it has ended, and ends
+  -- The source may be called, unless it has ended, and it is finite.
   abbrev pub CanDecode16With : (I → Type 0) → (I → Count) → DecodeUtf16LossyWith I → Type 0
   CanDecode16With can count s = CanAskAll (CanDecode can) (decoder_count count) (lossy_source (chars16_of s))
 
@@ -45,7 +45,7 @@ module _ {I : Type 0} where
   abbrev pub lossy32_with_count : (I → Count) → DecodeUtf32LossyWith I → Count
   lossy32_with_count count s = lossy_with_count (decoder32_count count) (chars32_of s)
 
-  -- nothing was read yet
+  -- Nothing was read yet.
   abbrev pub IsNew16With : DecodeUtf16LossyWith I → Type 0
   IsNew16With s = IsUnread (chars16_of s) × IsNew (inner_of (lossy_source (chars16_of s)))
 

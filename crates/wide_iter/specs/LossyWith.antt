@@ -1,4 +1,4 @@
--- What is left of lossy decoders under a policy, over any decoder of which a function tells the items that it has left.
+-- What lossy decoders under a policy will yield, over any decoder for which a function returns the items that are left.
 use Rattle.std.specs.Prelude.{◌≡◌, ℕ, ◌+◌, false, List, [], ◌∷◌, ◌++◌, map, Option, None, Result, MatchOption}
 use Rattle.std.specs.Option.{option_to_list, option_len}
 use Rattle.std.specs.Iterator.{Count, count_map, IsFinite, YieldsFirst, YieldsLast, YieldsFirstBy, YieldsLastBy}
@@ -11,7 +11,7 @@ use Rattle.wide_iter.specs.declared.source.Source.{Source}
 use Rattle.wide_iter.specs.declared.lossy_with.LossyWith.{LossyWith}
 
 module _ {D : Type 0} where
-  -- it may be called until it ends, and it ends
+  -- The source may be called until it ends, and it is finite.
   pub record CanAskAll (can : D → Type 0) (count : D → Count) (s : Source D) : Type 0 where
     pub asks : CanAsk can s
     pub ends : IsFinite (source_count count s)
@@ -22,29 +22,31 @@ module _ {D : Type 0} where
   abbrev pub policy_of : LossyWith D → Policy
   policy_of s = s.policy
 
-  -- the characters to come: the one in the front hand, the lossy text of the items to come, the one in the back hand
+  -- The characters that will be yielded: the one in the lookahead at the front, the lossy text of the items that are
+  -- left, and the one in the lookahead at the back.
   abbrev pub lossy_with_left : (D → List Item) → LossyWith D → List ℕ
   lossy_with_left rest s = option_to_list s.front ++ lossy_by s.policy (unasked rest s.items) ++ option_to_list s.back
 
-  -- nothing is in hand, and the decoder may be asked
+  -- The lookahead is empty, and the decoder may be called.
   pub record IsUnread (s : LossyWith D) : Type 0 where
     pub asked : has_ended s.items ≡ false
     pub front : s.front ≡ None
     pub back : s.back ≡ None
 
-  -- no more characters come than items are left, and characters in hand
+  -- At most as many characters will be yielded as items are left, and characters in the lookahead.
   abbrev pub lossy_with_count : (D → Count) → LossyWith D → Count
   lossy_with_count count s = count_map (λ n. n + (option_len s.front + option_len s.back)) (source_count count s.items)
 
 module _ {D E : Type 0} (steps : D → Option (Result ℕ E) → D → Type 0) where
-  -- each call of a decoder gives the first of the items that `rest` tells, or the last, a fault being told by its `number`
+  -- Each call of a decoder yields the first, or the last, of the items that `rest` returns. `number` returns the unit
+  -- of a fault.
   pub record GivesFirstItem (number : E → ℕ) (rest : D → List Item) : Type 0 where
     pub at : (s : D) (r : Option (Result ℕ E)) (t : D) → steps s r t → YieldsFirstBy (item_of number) rest s r t
 
   pub record GivesLastItem (number : E → ℕ) (rest : D → List Item) : Type 0 where
     pub at : (s : D) (r : Option (Result ℕ E)) (t : D) → steps s r t → YieldsLastBy (item_of number) rest s r t
 
-  -- a row of faults was at the front, or the back, and then the character that was given, or nothing
+  -- A run of faults was read from the front, or the back, and then the character that was returned, or nothing.
   pub record TakesFirstCharacter (s : Source D) (r : Option ℕ) (t : Source D) : Type 0 where
     pub at : (number : E → ℕ) (rest : D → List Item) → GivesFirstItem number rest
         → (row : List ℕ) × MatchOption r ((unasked rest s ≡ map Fault row) × (unasked rest t ≡ [])) (λ c. unasked rest s ≡ map Fault row ++ Char c ∷ unasked rest t)
@@ -53,7 +55,8 @@ module _ {D E : Type 0} (steps : D → Option (Result ℕ E) → D → Type 0) w
     pub at : (number : E → ℕ) (rest : D → List Item) → GivesLastItem number rest
         → (row : List ℕ) × MatchOption r ((unasked rest s ≡ map Fault row) × (unasked rest t ≡ [])) (λ c. unasked rest s ≡ unasked rest t ++ Char c ∷ map Fault row)
 
-  -- over each decoder that a function tells, a call gave the first of the characters to come, or the last
+  -- For each function that returns the items of the decoder, a call yielded the first, or the last, of the characters
+  -- that were left.
   pub record LossyFirst (s : LossyWith D) (r : Option ℕ) (t : LossyWith D) : Type 0 where
     pub at : (number : E → ℕ) (rest : D → List Item) → GivesFirstItem number rest → YieldsFirst (lossy_with_left rest) s r t
 

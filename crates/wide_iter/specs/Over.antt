@@ -1,11 +1,11 @@
--- An iterator over a source, of which a function tells the list that it has left.
+-- An iterator over a source, for which a function returns the list that is left.
 use Rattle.std.specs.Prelude.{List, Option, IfSome}
 use Rattle.std.specs.Iterator.{YieldsFirst, YieldsLast, YieldsFirstBy, YieldsLastBy}
 
--- `Fits` is what is known of each item of a source by its type alone: of units `IsCodeUnit`, of characters `IsScalar`.
+-- `Fits` is what is known of each item of a source by its type: `IsCodeUnit` for units, `IsScalar` for characters.
 
 module _ {I A : Type 0} (Fits : A → Type 0) (steps : I → Option A → I → Type 0) (rest : I → List A) where
-  -- each call of the source gives the first of what `rest` tells, or the last
+  -- Each call of the source yields the first, or the last, of the list that `rest` returns.
   pub record GivesFirst : Type 0 where
     pub at : (s : I) (r : Option A) (t : I) → IfSome r Fits → steps s r t → YieldsFirst rest s r t
 
@@ -13,7 +13,7 @@ module _ {I A : Type 0} (Fits : A → Type 0) (steps : I → Option A → I → 
     pub at : (s : I) (r : Option A) (t : I) → IfSome r Fits → steps s r t → YieldsLast rest s r t
 
 module _ {I A S B C : Type 0} (Fits : A → Type 0) (steps : I → Option A → I → Type 0) (view : B → C) (left : (I → List A) → S → List C) (s : S) (r : Option B) (t : S) where
-  -- over each source that a function tells, a call gave the first of what was left, or the last
+  -- For each function that returns the list of the source, a call yielded the first, or the last, of what was left.
   pub record FirstOver : Type 0 where
     pub at : (rest : I → List A) → GivesFirst Fits steps rest → YieldsFirstBy view (left rest) s r t
 

@@ -1,28 +1,28 @@
--- What a source that stays ended has left.
+-- What a fused source will yield.
 use Rattle.std.specs.Prelude.{◌≡◌, false, Bool, List, [], Option, None, is_none, if◌then◌else◌}
 use Rattle.std.specs.Bool.{MatchBool}
 use Rattle.std.specs.Iterator.{Count, count_unless}
 use Rattle.wide_iter.specs.declared.source.Source.{Source}
 
 module _ {I : Type 0} where
-  -- the source itself, and whether it has answered its end
+  -- The source itself, and whether it has returned `None`.
   abbrev pub inner_of : Source I → I
   inner_of s = s.inner
 
   abbrev pub has_ended : Source I → Bool
   has_ended s = s.ended
 
-  -- what it has left, where a function tells what the source itself has
+  -- What is left, for a function that returns what the source itself has left.
   abbrev pub unasked : {A : Type 0} → (I → List A) → Source I → List A
   unasked rest s = if has_ended s then [] else rest (inner_of s)
 
-  -- it may be called, unless it has ended
+  -- The source may be called, unless it has ended.
   abbrev pub CanAsk : (I → Type 0) → Source I → Type 0
   CanAsk can s = has_ended s ≡ false → can (inner_of s)
 
   abbrev pub source_count : (I → Count) → Source I → Count
   source_count count s = count_unless (has_ended s) (count (inner_of s))
 
-  -- a call answers none once it has ended, and else what the source itself does
+  -- A call returns `None` after the source has ended, and otherwise what the source itself returns.
   abbrev pub source_steps : {A : Type 0} → (I → Option A → I → Type 0) → Source I → Option A → Source I → Type 0
   source_steps steps s r t = MatchBool (has_ended s) ((r ≡ None) × (t ≡ s)) (steps (inner_of s) r (inner_of t) × (has_ended t ≡ is_none r))

@@ -1,4 +1,4 @@
--- What sources of std have left.
+-- What sources of std will yield.
 use Rattle.std.specs.Prelude.{ℕ, List}
 use Rattle.std.specs.Str.{chars}
 use Rattle.std.specs.Str.Iter.{chars_rest}
@@ -8,10 +8,10 @@ use Rattle.std.specs.declared.iter.Copied.{Copied}
 use Rattle.std.specs.declared.slice.Iter.{Iter}
 use Rattle.std.specs.declared.str.Chars.{Chars}
 
--- a slice's `iter().copied()`
+-- The `iter().copied()` of a slice.
 abbrev pub copied_rest : {A : Type 0} → Copied (Iter A) → List A
 copied_rest s = iter_rest (copied_source s)
 
--- the `chars()` of a text
+-- The `chars()` of a text.
 abbrev pub text_rest : Chars → List ℕ
 text_rest s = chars (chars_rest s)

@@ -16,21 +16,21 @@ use std::slice::Iter;
 use wide_error::DecodeUtf16Error;
 use wide_unit::Unit;
 
-/// An iterator over the characters of UTF-16 units, and over the units that belong to none
-/// (Unicode Standard, D91).
+/// An iterator over the characters of UTF-16 units, and over the units that belong to no character (Unicode Standard,
+/// D91).
 ///
-/// It gives each character of the source as `Ok`, and each unpaired surrogate as an `Err` that has the unit, from
-/// both ends where the source has both. It stays ended, and asks a source that has ended no more. It takes no memory.
-/// Made by [`decode_utf16`].
+/// It yields each character of the source as `Ok`, and each unpaired surrogate as an `Err` that holds the unit. It
+/// iterates from both ends if the source does. It is fused, and does not call a source again after its end. It does not
+/// allocate. [`decode_utf16`] creates it.
 #[derive(Debug, Drop)]
 pub struct DecodeUtf16<I> {
     source: Source<I>,
-    // A unit that was read to look past a surrogate, at each end.
+    // The lookahead at each end: a unit that was read after, or before, a surrogate.
     front: Option<u16>,
     back: Option<u16>,
 }
 
-/// A decoder of the units that `units` gives.
+/// Creates a decoder of the units that `units` yields.
 pub fn decode_utf16<U: IntoIterator<Item = u16>>(units: U) -> DecodeUtf16<U::IntoIter>
     ensures source { U.into_iter_gives units (inner_of (source_of result)) }
     ensures new { IsNew result }
@@ -46,8 +46,8 @@ pub fn decode_utf16<U: IntoIterator<Item = u16>>(units: U) -> DecodeUtf16<U::Int
     }
 }
 
-/// The hint of a decoder of UTF-16, by the hint of its source and the number of units in hand: at least an item for two
-/// of the source's units, and at most one for each unit, where that number fits.
+/// Returns the size hint of a decoder of UTF-16, from the hint of its source and the number of units in the lookahead:
+/// at least one item for two units of the source, and at most one for each unit, if that number does not overflow.
 fn decoded_hint(source: (usize, Option<usize>), held: usize) -> (usize, Option<usize>)
     ensures lower { result.0 ≡ source.0 / 2 }
     ensures upper { result.1 ≡ upper_with source.1 held }
@@ -60,7 +60,7 @@ fn decoded_hint(source: (usize, Option<usize>), held: usize) -> (usize, Option<u
 }
 
 impl<I> DecodeUtf16<I> {
-    // How many units are in hand.
+    // Returns the number of units in the lookahead.
     fn held(&self) -> usize
         ensures value { result ≡ held self.now }
         ensures bound { result ≤ 2 }
@@ -70,7 +70,7 @@ impl<I> DecodeUtf16<I> {
 }
 
 impl<I: Iterator<Item = u16>> DecodeUtf16<I> {
-    // The first unit to come.
+    // Returns the next unit: from the lookahead at the front, from the source, or from the lookahead at the back.
     fn take_front(&mut self) -> Option<u16>
         requires { CanDecode I.can_next self.old }
         ensures steps { FirstOver (IsCodeUnit Utf16) I.next_gives (λ u. u) units_left self.old result self.new }
@@ -90,7 +90,7 @@ impl<I: Iterator<Item = u16>> DecodeUtf16<I> {
 }
 
 impl<I: DoubleEndedIterator<Item = u16>> DecodeUtf16<I> {
-    // The last unit to come.
+    // Returns the last unit: from the lookahead at the back, from the source, or from the lookahead at the front.
     fn take_back(&mut self) -> Option<u16>
         requires { CanDecode I.can_next_back self.old }
         ensures steps { LastOver (IsCodeUnit Utf16) I.next_back_gives (λ u. u) units_left self.old result self.new }
@@ -158,7 +158,7 @@ impl<I: DoubleEndedIterator<Item = u16>> DoubleEndedIterator for DecodeUtf16<I> 
         if let Some(c) = last.as_scalar() {
             return Some(Ok(c));
         }
-        // A high surrogate is a fault whatever stands before it.
+        // A high surrogate is a fault whatever precedes it.
         if !last.is_low() {
             return Some(Err(DecodeUtf16Error::new(last)));
         }
@@ -174,8 +174,9 @@ impl<I: DoubleEndedIterator<Item = u16>> DoubleEndedIterator for DecodeUtf16<I> 
 }
 
 impl DecodeUtf16<Copied<Iter<'_, u16>>> {
-    /// Bounds on the number of items, by the slice's own length: at least one for two units that weren't asked for yet,
-    /// and at most one for each of them and each in hand. Generic code sees the trait's `size_hint`, which promises less.
+    /// Returns bounds on the number of items, from the length of the slice: at least one for two units that were not
+    /// read yet, and at most one for each of these and each in the lookahead. Generic code uses the trait's
+    /// `size_hint`, whose contract says less.
     pub fn size_hint(&self) -> (usize, Option<usize>)
         ensures lower { result.0 ≡ length (unasked copied_rest (source_of self.now)) / 2 }
         ensures upper { result.1 ≡ upper_with (Some (length (unasked copied_rest (source_of self.now)))) (held self.now) }

@@ -13,18 +13,18 @@ use std::iter::FusedIterator;
 use wide_error::DecodeUtf32Error;
 use wide_unit::Unit;
 
-/// An iterator over the characters of UTF-32 units, and over the units that are none (Unicode Standard, D90).
+/// An iterator over the characters of UTF-32 units, and over the units that are no character (Unicode Standard, D90).
 ///
-/// It gives each unit of the source that is a scalar value as `Ok`, and each other one as an `Err` that has its number:
-/// two surrogates are two faults, never a pair. It gives them from both ends where the source has both, and knows their
-/// number where the source does. It stays ended, and asks a source that has ended no more. It takes no memory. Made by
-/// [`decode_utf32`].
+/// It yields each unit of the source that is a scalar value as `Ok`, and each other unit as an `Err` that holds its
+/// number: two surrogates are two faults, never a pair. It iterates from both ends if the source does, and is an
+/// `ExactSizeIterator` if the source is one. It is fused, and does not call a source again after its end. It does not
+/// allocate. [`decode_utf32`] creates it.
 #[derive(Debug, Drop)]
 pub struct DecodeUtf32<I> {
     source: Source<I>,
 }
 
-/// A decoder of the units that `units` gives.
+/// Creates a decoder of the units that `units` yields.
 pub fn decode_utf32<U: IntoIterator<Item = u32>>(units: U) -> DecodeUtf32<U::IntoIter>
     ensures source { U.into_iter_gives units (inner_of (source32_of result)) }
     ensures new { has_ended (source32_of result) ≡ false }
@@ -38,7 +38,7 @@ pub fn decode_utf32<U: IntoIterator<Item = u32>>(units: U) -> DecodeUtf32<U::Int
     }
 }
 
-// The item that a unit is, whatever stands beside it.
+// Decodes one unit, whatever its neighbours.
 fn decode_unit(unit: u32) -> Result<char, DecodeUtf32Error>
     ensures { items Utf32 (unit ∷ []) ≡ told_item result ∷ [] }
 {
@@ -87,7 +87,7 @@ impl<I: ExactSizeIterator<Item = u32>> ExactSizeIterator for DecodeUtf32<I> {
 }
 
 impl<I: ExactSizeIterator<Item = u32>> DecodeUtf32<I> {
-    /// The number of items, where the source knows how many units it has left, both as the lower and the upper bound.
+    /// Returns the number of items as both bounds, if the source knows how many units are left.
     pub fn size_hint(&self) -> (usize, Option<usize>)
         ensures lower { result.0 ≡ size (decoder32_count I.remaining self.now) }
         ensures upper { result.1 ≡ Some (size (decoder32_count I.remaining self.now)) }

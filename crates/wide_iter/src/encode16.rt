@@ -19,16 +19,16 @@ use wide_unit::Unit;
 
 /// An iterator over the UTF-16 units of characters (Unicode Standard, D91, Table 3-5).
 ///
-/// It gives the one or two units of each character of the source, in order, from the front. It stays ended, and asks a
-/// source that has ended no more. It takes no memory. Made by [`encode_utf16`].
+/// It yields the one or two units of each character of the source, in order, from the front only. It is fused, and does
+/// not call a source again after its end. It does not allocate. [`encode_utf16`] creates it.
 #[derive(Debug, Drop)]
 pub struct EncodeUtf16<I> {
     source: Source<I>,
-    // The second unit of a pair whose first was given.
+    // The pending unit: the second of a pair whose first unit was yielded.
     second: Option<u16>,
 }
 
-/// An encoder of the characters that `chars` gives to UTF-16.
+/// Creates an encoder to UTF-16 of the characters that `chars` yields.
 pub fn encode_utf16<C: IntoIterator<Item = char>>(chars: C) -> EncodeUtf16<C::IntoIter>
     ensures source { C.into_iter_gives chars (inner_of (source_of result)) }
     ensures new { IsNew result }
@@ -76,9 +76,9 @@ impl<I: Iterator<Item = char>> Iterator for EncodeUtf16<I> {
 }
 
 impl EncodeUtf16<Copied<Iter<'_, char>>> {
-    /// Bounds on the number of units, by the slice's own length: at least one for each character that wasn't asked for
-    /// yet, and at most two for each of them and one for a unit in hand. Generic code sees the trait's `size_hint`,
-    /// which promises less.
+    /// Returns bounds on the number of units, from the length of the slice: at least one for each character that was
+    /// not read yet, and at most two for each of these and one for a pending unit. Generic code uses the trait's
+    /// `size_hint`, whose contract says less.
     pub fn size_hint(&self) -> (usize, Option<usize>)
         ensures lower { result.0 ≡ length (unasked copied_rest (source_of self.now)) }
         ensures upper { result.1 ≡ upper_times (Some (length (unasked copied_rest (source_of self.now)))) 2 (option_len (unit_in_hand self.now)) }

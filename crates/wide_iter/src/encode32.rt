@@ -13,15 +13,15 @@ use std::slice::Iter;
 
 /// An iterator over the UTF-32 units of characters, one for each (Unicode Standard, D90).
 ///
-/// It gives the unit of each character of the source, from both ends where the source has both, and its length where the
-/// source has one. It stays ended, and asks a source that has ended no more. It takes no memory. Made by
-/// [`encode_utf32`].
+/// It yields the unit of each character of the source. It iterates from both ends if the source does, and is an
+/// `ExactSizeIterator` if the source is one. It is fused, and does not call a source again after its end. It does not
+/// allocate. [`encode_utf32`] creates it.
 #[derive(Debug, Drop)]
 pub struct EncodeUtf32<I> {
     source: Source<I>,
 }
 
-/// An encoder of the characters that `chars` gives to UTF-32.
+/// Creates an encoder to UTF-32 of the characters that `chars` yields.
 pub fn encode_utf32<C: IntoIterator<Item = char>>(chars: C) -> EncodeUtf32<C::IntoIter>
     ensures source { C.into_iter_gives chars (inner_of (source_of result)) }
     ensures new { IsNew result }
@@ -74,7 +74,8 @@ impl<I: ExactSizeIterator<Item = char>> ExactSizeIterator for EncodeUtf32<I> {
 }
 
 impl EncodeUtf32<Copied<Iter<'_, char>>> {
-    /// The exact number of units, over the characters of a slice: one for each that wasn't asked for yet.
+    /// Returns the number of units as both bounds, over the characters of a slice: one for each character that was not
+    /// read yet.
     pub fn size_hint(&self) -> (usize, Option<usize>)
         ensures lower { result.0 ≡ length (unasked copied_rest (source_of self.now)) }
         ensures upper { result.1 ≡ Some (length (unasked copied_rest (source_of self.now))) }

@@ -15,7 +15,7 @@ use crate::source::Source;
 use std::iter::{Copied, FusedIterator};
 use std::slice::Iter;
 
-/// The bytes of a character that are still to come, after its first.
+/// The pending bytes of a character, after its first byte.
 #[derive(Clone, Copy, Debug)]
 enum Held {
     Zero,
@@ -26,15 +26,15 @@ enum Held {
 
 /// An iterator over the UTF-8 bytes of characters (Unicode Standard, D92, Table 3-6).
 ///
-/// It gives the bytes of each character of the source, in order, from the front. It stays ended, and asks a source that
-/// has ended no more. It takes no memory. Made by [`encode_utf8`].
+/// It yields the bytes of each character of the source, in order, from the front only. It is fused, and does not call a
+/// source again after its end. It does not allocate. [`encode_utf8`] creates it.
 #[derive(Debug, Drop)]
 pub struct EncodeUtf8<I> {
     source: Source<I>,
     held: Held,
 }
 
-/// An encoder of the characters that `chars` gives to UTF-8.
+/// Creates an encoder to UTF-8 of the characters that `chars` yields.
 pub fn encode_utf8<C: IntoIterator<Item = char>>(chars: C) -> EncodeUtf8<C::IntoIter>
     ensures source { C.into_iter_gives chars (inner_of (source_of result)) }
     ensures new { IsNew result }
@@ -49,7 +49,7 @@ pub fn encode_utf8<C: IntoIterator<Item = char>>(chars: C) -> EncodeUtf8<C::Into
     }
 }
 
-// The byte of the six lowest bits, after a first one.
+// Returns the continuation byte of the lowest six bits.
 #[inline]
 fn trailing_byte(bits: u32) -> u8
     ensures { result ≡ trailing_byte bits }
@@ -57,7 +57,7 @@ fn trailing_byte(bits: u32) -> u8
     (0x80 + bits % 0x40) as u8
 }
 
-// The first byte of a character, and those after it.
+// Returns the first byte of a character, and the bytes after it.
 #[inline]
 #[tactic(auto, unfolding(wide_unit::specs::Utf8::utf8_bytes))]
 fn encoded(c: char) -> (u8, Held)
@@ -83,7 +83,7 @@ fn encoded(c: char) -> (u8, Held)
 }
 
 impl<I> EncodeUtf8<I> {
-    // How many bytes are in hand.
+    // Returns the number of pending bytes.
     fn held(&self) -> usize
         ensures value { result ≡ length (bytes_in_hand self.now) }
         ensures bound { result ≤ 3 }
@@ -139,9 +139,9 @@ impl<I: Iterator<Item = char>> Iterator for EncodeUtf8<I> {
 }
 
 impl EncodeUtf8<Copied<Iter<'_, char>>> {
-    /// Bounds on the number of bytes, by the slice's own length: at least one for each character that wasn't asked for
-    /// yet, and at most four for each of them and one for each byte in hand. Generic code sees the trait's `size_hint`,
-    /// which promises less.
+    /// Returns bounds on the number of bytes, from the length of the slice: at least one for each character that was
+    /// not read yet, and at most four for each of these and one for each pending byte. Generic code uses the trait's
+    /// `size_hint`, whose contract says less.
     pub fn size_hint(&self) -> (usize, Option<usize>)
         ensures lower { result.0 ≡ length (unasked copied_rest (source_of self.now)) }
         ensures upper { result.1 ≡ upper_times (Some (length (unasked copied_rest (source_of self.now)))) 4 (length (bytes_in_hand self.now)) }

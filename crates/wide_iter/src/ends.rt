@@ -1,4 +1,4 @@
-//! Reading from both ends, by a list of calls.
+//! Decodes slices by a list of calls, from both ends.
 ghost use Rattle.std.specs.Prelude.{◌≡◌, [], map, IfOk, IsOk};
 ghost use Rattle.std.specs.Option.{option_map};
 ghost use Rattle.wide_unit.specs.EncodingForm.{Utf16, Utf32};
@@ -11,7 +11,7 @@ use crate::decode32::decode_utf32;
 use std::alloc::Allocator;
 use wide_error::{DecodeUtf16Error, DecodeUtf32Error, OutOfMemory};
 
-/// An end of a list that an item is asked of.
+/// The end of a list from which an item is read.
 #[derive(Clone, Copy, Debug, PartialEq, Eq)]
 pub enum End {
     /// The first item that is left.
@@ -20,10 +20,12 @@ pub enum End {
     Back,
 }
 
-/// What a decoder of the 16-bit `units` answers to the calls of `ends`, one answer for each call, in order
-/// (Unicode Standard, D91).
+/// Returns what a decoder of the 16-bit `units` returns for the calls of `ends`, one result for each call, in order
+/// (Unicode Standard, D91). Allocates once, or not at all if there are no calls.
 ///
-/// Memory for the answers is asked for once, and none for no calls; where it is refused, the answer is [`OutOfMemory`].
+/// # Errors
+///
+/// [`OutOfMemory`] if the allocation fails. It never fails if there are no calls.
 pub fn read_ends16<A: Allocator>(
     alloc: A,
     units: &[u16],
@@ -44,10 +46,12 @@ pub fn read_ends16<A: Allocator>(
     Ok(given)
 }
 
-/// What a decoder of the 32-bit `units` answers to the calls of `ends`, one answer for each call, in order
-/// (Unicode Standard, D90).
+/// Returns what a decoder of the 32-bit `units` returns for the calls of `ends`, one result for each call, in order
+/// (Unicode Standard, D90). Allocates once, or not at all if there are no calls.
 ///
-/// Memory for the answers is asked for once, and none for no calls; where it is refused, the answer is [`OutOfMemory`].
+/// # Errors
+///
+/// [`OutOfMemory`] if the allocation fails. It never fails if there are no calls.
 pub fn read_ends32<A: Allocator>(
     alloc: A,
     units: &[u32],

@@ -1,9 +1,10 @@
-//! Bounds on what an encoder gives.
+//! Bounds on how many items an encoder yields.
 ghost use Rattle.std.specs.Prelude.{◌≡◌};
 ghost use Rattle.wide_iter.specs.Hints.{upper_times};
 
-/// The hint of an encoder, by that of its source of characters, the most items that a character takes and the number of
-/// items in hand: at least an item for each character, and at most so many for each, where that number fits.
+/// Returns the size hint of an encoder, from the hint of its source of characters, the greatest number of items of a
+/// character, and the number of pending items: at least one item for each character, and at most `most` for each, if
+/// that number does not overflow.
 pub(crate) fn encoded_hint(
     source: (usize, Option<usize>),
     most: usize,

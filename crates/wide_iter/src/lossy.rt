@@ -1,4 +1,4 @@
-//! Decoders that give U+FFFD in place of each fault.
+//! Decoders that yield U+FFFD in place of each fault.
 ghost use Rattle.std.specs.Prelude.{◌≡◌, ◌*◌, ◌/◌, ℕ, false, List, length, IfSome, Some};
 ghost use Rattle.std.specs.Option.{option_map};
 ghost use Rattle.std.specs.Iterator.{UpTo, size};
@@ -18,28 +18,28 @@ use crate::decode32::{DecodeUtf32, decode_utf32};
 use std::iter::{Copied, FusedIterator};
 use std::slice::Iter;
 
-/// An iterator over the characters of UTF-16 units, with U+FFFD in place of each unit that belongs to none (Unicode
-/// Standard, D93b).
+/// An iterator over the characters of UTF-16 units, with U+FFFD in place of each unit that belongs to no character
+/// (Unicode Standard, D93b).
 ///
-/// A run of such units gives as many U+FFFD as it is long. It gives the characters from both ends where the source has
-/// both, stays ended, and asks a source that has ended no more. It takes no memory. Made by [`decode_utf16_lossy`].
+/// A run of faults yields a U+FFFD for each. It iterates from both ends if the source does. It is fused, and does not
+/// call a source again after its end. It does not allocate. [`decode_utf16_lossy`] creates it.
 #[derive(Debug, Drop)]
 pub struct DecodeUtf16Lossy<I> {
     utf16: DecodeUtf16<I>,
 }
 
-/// An iterator over the characters of UTF-32 units, with U+FFFD in place of each unit that is none (Unicode Standard,
-/// D93b).
+/// An iterator over the characters of UTF-32 units, with U+FFFD in place of each unit that is no character (Unicode
+/// Standard, D93b).
 ///
-/// A run of such units gives as many U+FFFD as it is long. It gives the characters from both ends where the source has
-/// both, and knows their number where the source does. It stays ended, and asks a source that has ended no more. It takes
-/// no memory. Made by [`decode_utf32_lossy`].
+/// A run of faults yields a U+FFFD for each. It iterates from both ends if the source does, and is an
+/// `ExactSizeIterator` if the source is one. It is fused, and does not call a source again after its end. It does not
+/// allocate. [`decode_utf32_lossy`] creates it.
 #[derive(Debug, Drop)]
 pub struct DecodeUtf32Lossy<I> {
     utf32: DecodeUtf32<I>,
 }
 
-/// A lossy decoder of the 16-bit units that `units` gives.
+/// Creates a lossy decoder of the 16-bit units that `units` yields.
 pub fn decode_utf16_lossy<U: IntoIterator<Item = u16>>(units: U) -> DecodeUtf16Lossy<U::IntoIter>
     ensures source { U.into_iter_gives units (inner_of (source_of (strict16_of result))) }
     ensures new { IsNew (strict16_of result) }
@@ -50,7 +50,7 @@ pub fn decode_utf16_lossy<U: IntoIterator<Item = u16>>(units: U) -> DecodeUtf16L
     }
 }
 
-/// A lossy decoder of the 32-bit units that `units` gives.
+/// Creates a lossy decoder of the 32-bit units that `units` yields.
 pub fn decode_utf32_lossy<U: IntoIterator<Item = u32>>(units: U) -> DecodeUtf32Lossy<U::IntoIter>
     ensures source { U.into_iter_gives units (inner_of (source32_of (strict32_of result))) }
     ensures new { has_ended (source32_of (strict32_of result)) ≡ false }
@@ -61,7 +61,7 @@ pub fn decode_utf32_lossy<U: IntoIterator<Item = u32>>(units: U) -> DecodeUtf32L
     }
 }
 
-// The character of a strict answer, with U+FFFD in place of a fault.
+// Returns the character of a strict decoder's result, or U+FFFD if it is a fault.
 fn or_replacement<E: Drop>(answer: Option<Result<char, E>>) -> Option<char>
     ensures { result ≡ option_map lossy_answer answer }
 {
@@ -106,9 +106,9 @@ impl<I: DoubleEndedIterator<Item = u16>> DoubleEndedIterator for DecodeUtf16Loss
 }
 
 impl DecodeUtf16Lossy<Copied<Iter<'_, u16>>> {
-    /// Bounds on the number of characters, by the slice's own length: at least one for two units that weren't asked for
-    /// yet, and at most one for each of them and each in hand. Generic code sees the trait's `size_hint`, which promises
-    /// less.
+    /// Returns bounds on the number of characters, from the length of the slice: at least one for two units that were
+    /// not read yet, and at most one for each of these and each in the lookahead. Generic code uses the trait's
+    /// `size_hint`, whose contract says less.
     pub fn size_hint(&self) -> (usize, Option<usize>)
         ensures lower { result.0 ≡ length (unasked copied_rest (source_of (strict16_of self.now))) / 2 }
         ensures upper { result.1 ≡ upper_with (Some (length (unasked copied_rest (source_of (strict16_of self.now))))) (held (strict16_of self.now)) }
@@ -154,7 +154,7 @@ impl<I: ExactSizeIterator<Item = u32>> ExactSizeIterator for DecodeUtf32Lossy<I>
 }
 
 impl<I: ExactSizeIterator<Item = u32>> DecodeUtf32Lossy<I> {
-    /// The number of characters, where the source knows how many units it has left, both as the lower and the upper bound.
+    /// Returns the number of characters as both bounds, if the source knows how many units are left.
     pub fn size_hint(&self) -> (usize, Option<usize>)
         ensures lower { result.0 ≡ size (decoder32_count I.remaining (strict32_of self.now)) }
         ensures upper { result.1 ≡ Some (size (decoder32_count I.remaining (strict32_of self.now))) }

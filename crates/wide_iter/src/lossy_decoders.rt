@@ -14,19 +14,20 @@ use crate::lossy_with::LossyWith;
 use std::iter::FusedIterator;
 use wide_unit::Policy;
 
-/// An iterator over the characters of UTF-16 units, with what a policy says in place of each unit that belongs to none (Unicode Standard,
-/// D93b).
+/// An iterator over the characters of UTF-16 units, with what a policy yields in place of each unit that belongs to no
+/// character (Unicode Standard, D93b).
 ///
-/// It gives the characters from both ends where the source has both, stays ended, and asks a source that has ended no more.
-/// Under [`Policy::Run`] and [`Policy::Skip`] a row of faults is read whole by the call that reaches it first; under [`Policy::Each`]
-/// each call reads one. It takes no memory. Made by [`decode_utf16_lossy_with`].
+/// It iterates from both ends if the source does. It is fused, and does not call a source again after its end. Under
+/// [`Policy::Run`] and [`Policy::Skip`], the call that reaches a run of faults reads it to its end. Under
+/// [`Policy::Each`], each call reads one fault. It does not allocate. [`decode_utf16_lossy_with`] creates it.
 #[derive(Debug, Drop)]
 pub struct DecodeUtf16LossyWith<I> {
     chars: LossyWith<DecodeUtf16<I>>,
 }
 
-/// A lossy decoder, under a policy, of the 16-bit units that `units` gives. The source is one that can be asked to its end: under
-/// [`Policy::Run`] and [`Policy::Skip`] a call may read a row of faults of any length.
+/// Creates a lossy decoder, under a policy, of the 16-bit units that `units` yields. A call of the decoder may read a
+/// run of faults of any length under [`Policy::Run`] and [`Policy::Skip`], so it can only be called if the source is
+/// finite.
 pub fn decode_utf16_lossy_with<U: IntoIterator<Item = u16>>(
     units: U,
     policy: Policy,
@@ -54,7 +55,7 @@ impl<I: Iterator<Item = u16>> Iterator for DecodeUtf16LossyWith<I> {
         self.chars.next()
     }
 
-    /// No bounds: how many characters a row of faults gives is not known before it is read.
+    /// Returns no bounds: how many characters a run of faults yields is unknown before it is read.
     fn size_hint(&self) -> (usize, Option<usize>)
         ensures lower { IsWithinCount result.0 (lossy16_with_count I.remaining self.now) }
         ensures upper { IfSome result.1 (UpTo (lossy16_with_count I.remaining self.now)) }
@@ -77,19 +78,20 @@ impl<I: DoubleEndedIterator<Item = u16>> DoubleEndedIterator for DecodeUtf16Loss
 
 impl<I: Iterator<Item = u16>> FusedIterator for DecodeUtf16LossyWith<I> {}
 
-/// An iterator over the characters of UTF-32 units, with what a policy says in place of each unit that is none (Unicode Standard,
-/// D93b).
+/// An iterator over the characters of UTF-32 units, with what a policy yields in place of each unit that is no
+/// character (Unicode Standard, D93b).
 ///
-/// It gives the characters from both ends where the source has both, stays ended, and asks a source that has ended no more.
-/// Under [`Policy::Run`] and [`Policy::Skip`] a row of faults is read whole by the call that reaches it first; under [`Policy::Each`]
-/// each call reads one. It takes no memory. Made by [`decode_utf32_lossy_with`].
+/// It iterates from both ends if the source does. It is fused, and does not call a source again after its end. Under
+/// [`Policy::Run`] and [`Policy::Skip`], the call that reaches a run of faults reads it to its end. Under
+/// [`Policy::Each`], each call reads one fault. It does not allocate. [`decode_utf32_lossy_with`] creates it.
 #[derive(Debug, Drop)]
 pub struct DecodeUtf32LossyWith<I> {
     chars: LossyWith<DecodeUtf32<I>>,
 }
 
-/// A lossy decoder, under a policy, of the 32-bit units that `units` gives. The source is one that can be asked to its end: under
-/// [`Policy::Run`] and [`Policy::Skip`] a call may read a row of faults of any length.
+/// Creates a lossy decoder, under a policy, of the 32-bit units that `units` yields. A call of the decoder may read a
+/// run of faults of any length under [`Policy::Run`] and [`Policy::Skip`], so it can only be called if the source is
+/// finite.
 pub fn decode_utf32_lossy_with<U: IntoIterator<Item = u32>>(
     units: U,
     policy: Policy,
@@ -117,7 +119,7 @@ impl<I: Iterator<Item = u32>> Iterator for DecodeUtf32LossyWith<I> {
         self.chars.next()
     }
 
-    /// No bounds: how many characters a row of faults gives is not known before it is read.
+    /// Returns no bounds: how many characters a run of faults yields is unknown before it is read.
     fn size_hint(&self) -> (usize, Option<usize>)
         ensures lower { IsWithinCount result.0 (lossy32_with_count I.remaining self.now) }
         ensures upper { IfSome result.1 (UpTo (lossy32_with_count I.remaining self.now)) }

@@ -1,4 +1,4 @@
-//! Lossy reading from both ends, by a list of calls.
+//! Decodes slices as lossy text by a list of calls, from both ends.
 ghost use Rattle.std.specs.Prelude.{◌≡◌, [], IfOk, IsOk};
 ghost use Rattle.wide_unit.specs.EncodingForm.{Utf16, Utf32};
 ghost use Rattle.wide_unit.specs.Items.{items};
@@ -11,10 +11,12 @@ use std::alloc::Allocator;
 use wide_error::OutOfMemory;
 use wide_unit::Policy;
 
-/// What a lossy decoder of the 16-bit `units` answers, under a policy, to the calls of `ends`, one answer for each call, in
-/// order (Unicode Standard, D91 and D93b).
+/// Returns what a lossy decoder of the 16-bit `units` returns, under a policy, for the calls of `ends`, one result for
+/// each call, in order (Unicode Standard, D91 and D93b). Allocates once, or not at all if there are no calls.
 ///
-/// Memory for the answers is asked for once, and none for no calls; where it is refused, the answer is [`OutOfMemory`].
+/// # Errors
+///
+/// [`OutOfMemory`] if the allocation fails. It never fails if there are no calls.
 pub fn read_lossy_ends16<A: Allocator>(
     alloc: A,
     units: &[u16],
@@ -36,10 +38,12 @@ pub fn read_lossy_ends16<A: Allocator>(
     Ok(given)
 }
 
-/// What a lossy decoder of the 32-bit `units` answers, under a policy, to the calls of `ends`, one answer for each call, in
-/// order (Unicode Standard, D90 and D93b).
+/// Returns what a lossy decoder of the 32-bit `units` returns, under a policy, for the calls of `ends`, one result for
+/// each call, in order (Unicode Standard, D90 and D93b). Allocates once, or not at all if there are no calls.
 ///
-/// Memory for the answers is asked for once, and none for no calls; where it is refused, the answer is [`OutOfMemory`].
+/// # Errors
+///
+/// [`OutOfMemory`] if the allocation fails. It never fails if there are no calls.
 pub fn read_lossy_ends32<A: Allocator>(
     alloc: A,
     units: &[u32],

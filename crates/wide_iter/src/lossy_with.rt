@@ -1,4 +1,4 @@
-//! Decoders that give what a policy says in place of faults.
+//! Makes the items of a decoder lossy under a policy.
 ghost use Rattle.std.specs.Prelude.{◌≡◌, true, false, IfNone, IfSome, None};
 ghost use Rattle.std.specs.Iterator.{MakesProgress, UpTo};
 ghost use Rattle.std.specs.Iterator.SizeHint.{IsWithinCount};
@@ -8,21 +8,21 @@ ghost use Rattle.wide_iter.specs.LossyWith.{CanAskAll, TakesFirstCharacter, Take
 use crate::source::Source;
 use wide_unit::Policy;
 
-/// An iterator over the characters that `items` gives, with what a policy says in place of each fault.
+/// An iterator over the characters that `items` yields, with what a policy yields in place of each fault.
 ///
-/// It gives the characters from both ends where the decoder has both, stays ended, and asks a decoder that has ended no
-/// more. It takes no memory.
+/// It iterates from both ends if the decoder does. It is fused, and does not call a decoder again after its end. It
+/// does not allocate.
 #[derive(Debug, Drop)]
 pub(crate) struct LossyWith<D> {
     items: Source<D>,
     policy: Policy,
-    // A character that was read to look past a row of faults, at each end.
+    // The lookahead at each end: a character that was read after, or before, a run of faults.
     front: Option<char>,
     back: Option<char>,
 }
 
 impl<D> LossyWith<D> {
-    // The lossy characters of what `items` gives.
+    // Creates an iterator over the lossy characters of what `items` yields.
     pub(crate) fn new(items: D, policy: Policy) -> LossyWith<D>
         ensures items { inner_of (lossy_source result) ≡ items }
         ensures policy { policy_of result ≡ policy }
@@ -40,7 +40,7 @@ impl<D> LossyWith<D> {
     }
 }
 
-// The first character that is left, past the faults before it.
+// Returns the first character that is left, and skips the faults before it.
 fn first_character<E: Drop, D: Iterator<Item = Result<char, E>>>(
     items: &mut Source<D>,
 ) -> Option<char>
@@ -57,7 +57,7 @@ fn first_character<E: Drop, D: Iterator<Item = Result<char, E>>>(
     None
 }
 
-// The last character that is left, before the faults behind it.
+// Returns the last character that is left, and skips the faults after it.
 fn last_character<E: Drop, D: DoubleEndedIterator<Item = Result<char, E>>>(
     items: &mut Source<D>,
 ) -> Option<char>
@@ -104,7 +104,7 @@ impl<E: Drop, D: Iterator<Item = Result<char, E>>> Iterator for LossyWith<D> {
         }
     }
 
-    /// No bounds: how many characters a row of faults gives is not known before it is read.
+    /// Returns no bounds: how many characters a run of faults yields is unknown before it is read.
     fn size_hint(&self) -> (usize, Option<usize>)
         ensures lower { IsWithinCount result.0 (lossy_with_count D.remaining self.now) }
         ensures upper { IfSome result.1 (UpTo (lossy_with_count D.remaining self.now)) }

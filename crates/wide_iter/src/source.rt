@@ -1,10 +1,10 @@
-//! A source that stays ended.
+//! A fused source.
 ghost use Rattle.std.specs.Prelude.{◌≡◌, IfSome};
 ghost use Rattle.std.specs.Iterator.{IsFinite, MakesProgress, UpTo, size};
 ghost use Rattle.std.specs.Iterator.SizeHint.{IsWithinCount};
 ghost use Rattle.wide_iter.specs.Source.{CanAsk, source_count, source_steps};
 
-/// A source that is asked no more once it has answered its end.
+/// A source that is not called again after it returned `None`.
 #[derive(Debug, Drop)]
 pub(crate) struct Source<I> {
     pub(crate) inner: I,
@@ -12,7 +12,7 @@ pub(crate) struct Source<I> {
 }
 
 impl<I: Iterator> Source<I> {
-    // The first item to come.
+    // Returns the next item.
     pub(crate) fn next(&mut self) -> Option<I::Item>
         requires { CanAsk I.can_next self.old }
         ensures steps { source_steps I.next_gives self.old result self.new }
@@ -26,7 +26,8 @@ impl<I: Iterator> Source<I> {
         item
     }
 
-    // The bounds of the source, of which none is left where it has ended, whatever it promises.
+    // Returns the bounds of the source. The lower one is 0 after the source has ended, whatever the source itself
+    // returns.
     pub(crate) fn size_hint(&self) -> (usize, Option<usize>)
         ensures lower { IsWithinCount result.0 (source_count I.remaining self.now) }
         ensures upper { IfSome result.1 (UpTo (source_count I.remaining self.now)) }
@@ -37,7 +38,7 @@ impl<I: Iterator> Source<I> {
 }
 
 impl<I: DoubleEndedIterator> Source<I> {
-    // The last item to come.
+    // Returns the last item.
     pub(crate) fn next_back(&mut self) -> Option<I::Item>
         requires { CanAsk I.can_next_back self.old }
         ensures steps { source_steps I.next_back_gives self.old result self.new }
@@ -53,7 +54,7 @@ impl<I: DoubleEndedIterator> Source<I> {
 }
 
 impl<I: ExactSizeIterator> Source<I> {
-    // How many items are to come.
+    // Returns the number of items that are left.
     pub(crate) fn len(&self) -> usize
         ensures finite { IsFinite (source_count I.remaining self.now) }
         ensures value { result ≡ size (source_count I.remaining self.now) }
