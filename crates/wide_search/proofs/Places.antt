@@ -1,4 +1,4 @@
--- Where a part stands, as loops see it.
+-- Occurrences of a needle, in the form that loops need.
 use Rattle.std.proofs.Common.{◌≡◌, ◌≢◌, ℕ, zero, suc, ◌+◌, ◌-◌, ◌<◌, ◌≤◌, List, [], ◌∷◌, ◌++◌, inl, inr, refl, sym, ◌∙◌, ap, subst, arith, length, length-append, length-drop, get_or, take, drop, IfNone}
 use Rattle.std.specs.Prelude.{◌↔◌, ◌==◌, Option, Some, None, true, false}
 use Rattle.std.specs.List.{All}
@@ -24,7 +24,7 @@ module _ {A : Type 0} where
         is ∙ ap (λ n. drop n us) at ∙ ap (λ xs. drop (length ends.0) xs) ends.1 ∙ drop-append_seam ends.0 part),
   )
 
-  -- a longer part neither begins nor ends it
+  -- The units neither begin nor end with a longer pattern.
   pub longer-begins : (part us : List A) → length us < length part → ¬ (BeginsWith part us)
   longer-begins part us long begins = omega (arith, long, ap length begins.1, length-append part begins.0)
 
@@ -42,7 +42,7 @@ pub none-then : {X : Type 0} {P Q : Type 0} (r : Option X) → IfNone r P → (P
 none-then None given next = next given
 none-then (Some x) given next = given
 
--- ---- behind units that are not the part's first
+-- ---- after units that are not the first one of the needle
 
 module _ {X : Type 0} (number : X → ℕ) where
   head-of_front : (u : X) (rest xs : List X) (n k : ℕ) → k < n → StandsAt (u ∷ rest) xs k → (k < length (take n xs)) × (get_or (take n xs) k u ≡ u)
@@ -59,7 +59,7 @@ module _ {X : Type 0} (number : X → ℕ) where
       let head = head-of_front u rest (drop at us) n k l here in
       none k u head.0 (ap number head.1)
 
-  -- none at all where none of what is left is it
+  -- There is no occurrence if the first unit of the needle does not occur in what is left.
   pub none-left : (part us rest : List X) (u : X) (at : ℕ) → part ≡ u ∷ rest → All (λ x. number x ≢ number u) (drop at us) → ((earlier : ℕ) → earlier < at → ¬ (StandsAt part us earlier)) → StandsNowhere part us
   none-left part us rest u at e none before place stands = elim (cases_lt place at) [
     | inl earlier ↦ before place earlier stands
@@ -76,7 +76,7 @@ module _ {X : Type 0} (number : X → ℕ) where
         none-passed part us rest u at n (place - at) e none (omega (arith, l, later)) (subst (λ k. StandsAt part us k) same stands))
   ]
 
-  -- the same of what is left under a name of its own, and of a number
+  -- For a slice of what is left, and the number of the unit.
   module _ (part us tail left : List X) (u : X) (v at : ℕ) (e : part ≡ u ∷ tail) (code : v ≡ number u) (rest : left ≡ drop at us) (before : (earlier : ℕ) → earlier < at → ¬ (StandsAt part us earlier)) where
     pub none-told : All (λ x. number x ≢ v) left → StandsNowhere part us
     none-told all = none-left part us tail u at e (subst (λ n. All (λ x. number x ≢ n) (drop at us)) code (subst (All (λ x. number x ≢ v)) rest all)) before
@@ -84,7 +84,7 @@ module _ {X : Type 0} (number : X → ℕ) where
     pub before-told : (n : ℕ) → All (λ x. number x ≢ v) (take n left) → (place : ℕ) → place < at + n → ¬ (StandsAt part us place)
     before-told n all = none-before part us tail u at n e (subst (λ m. All (λ x. number x ≢ m) (take n (drop at us))) code (subst (λ xs. All (λ x. number x ≢ v) (take n xs)) rest all)) before
 
-  -- what stands behind two cuts stands behind both
+  -- An occurrence after two splits is one after both.
   pub stands-cut : (part us : List X) (at n : ℕ) → at + n ≤ length us → StandsAt part (drop n (drop at us)) 0 → StandsAt part us (at + n)
   stands-cut part us at n within stands =
       let once : StandsAt part (drop at us) (n + 0) = stands-behind part (drop at us) n 0 (omega (arith, within, length-drop at us)) stands in
@@ -103,7 +103,7 @@ module _ {X : Type 0} (number : X → ℕ) where
     | inr later ↦ (let same : place ≡ at + n = omega (arith, l, later) in here (subst (λ k. StandsAt part us k) same stands))
   ]
 
--- ---- whether a part has units
+-- ---- whether a needle has units
 
 pub no-units : {X : Type 0} (us : List X) → true ≡ (length us == 0) → us ≡ []
 no-units us e = nil_from_length us (grind (arith, e))

@@ -1,4 +1,4 @@
--- Where a well-formed part stands in well-formed units of any width: at a boundary, and so is the place behind it.
+-- A well-formed needle occurs in well-formed units of any width at a boundary, and the offset after it is a boundary.
 use Rattle.std.proofs.Common.{◌≡◌, ℕ, zero, suc, ◌+◌, ◌-◌, ◌<◌, List, [], ◌∷◌, ◌++◌, inl, inr, refl, sym, ◌∙◌, ap, subst, arith, length, length-append, take, drop}
 use Rattle.std.specs.Prelude.{map}
 use Rattle.std.specs.Char.{IsScalar}
@@ -17,7 +17,7 @@ use Rattle.wide_search.specs.Parts.{StandsAt, IsFirstAt, IsLastAt, BeginsWith, E
 use Rattle.wide_search.specs.Laws.Ends.{IsBoundary-part, IsBoundary-behind_part}
 use Rattle.wide_search.specs.Laws.Numbers.{stands-numbers}
 
--- an empty part stands first at the start, and last at the end
+-- An empty needle occurs first at the beginning, and last at the end.
 first-empty : {X : Type 0} (us : List X) (at : ℕ) → IsFirstAt [] us at → at ≡ 0
 first-empty us zero first = refl
 first-empty us (suc n) first = absurd (first.before 0 (omega arith) (record { within = omega arith; same = refl }))
@@ -29,7 +29,7 @@ last-empty us at last = elim (cases_lt at (length us)) [
 ]
 
 module _ {X : Type 0} (form : EncodingForm) (number : X → ℕ) where
-  -- the place and the one behind the part
+  -- The offset of the needle, and the offset after it.
   abbrev pub Ends : List X → List X → ℕ → Type 0
   Ends part us at = IsCharBoundary form (map number us) at × IsCharBoundary form (map number us) (at + length part)
 
@@ -57,7 +57,7 @@ module _ {X : Type 0} (form : EncodingForm) (number : X → ℕ) where
         ends-none at (subst (λ n. IsBoundary form (map number us) n) (length-map us number ∙ sym (last-empty us at last)) (IsBoundary-end form (map number us)))
     last-ends (x ∷ xs) at well_part last = ends-some (x ∷ xs) at well_part (omega arith) last.here
 
-    -- of a character
+    -- For a character.
     pub char-ends : (c at : ℕ) → IsScalar c → StandsAt (code_units form c) (map number us) at
         → IsCharBoundary form (map number us) at × IsCharBoundary form (map number us) (at + length (code_units form c))
     char-ends c at scalar stands =
@@ -66,7 +66,7 @@ module _ {X : Type 0} (form : EncodingForm) (number : X → ℕ) where
           seen (at + length (code_units form c)) (IsBoundary-behind_part form (code_units form c) (map number us) at well_part (some_units form c) stands),
         )
 
-    -- behind a part that the units begin with, and before one that they end with
+    -- After a pattern with which the units begin, and before one with which they end.
     stands-start : (part rest : List X) → us ≡ part ++ rest → StandsAt part us 0
     stands-start part rest e = record {
       within = omega (arith, ap length e, length-append part rest);

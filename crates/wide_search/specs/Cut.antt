@@ -1,10 +1,11 @@
--- The one list of pieces that a list of numbers is cut into.
+-- The only list of substrings into which a list of numbers is split.
 use Rattle.std.specs.Prelude.{◌≡◌, ℕ, ◌<◌, List, [], ◌∷◌, length}
 use Rattle.std.proofs.Common.{arith, refl}
 use Rattle.wide_search.specs.Pieces.{ArePieces}
 use Rattle.wide_search.specs.Laws.Stands.{pieces-exist}
 
--- Opaque: nothing is known of it but `pieces-are`, and that there are no others. At no part at all the list is whole.
+-- It is opaque: all that is known about it is `pieces-are`, and that there is no other. For an empty separator it is
+-- the whole list.
 pub pieces : List ℕ → List ℕ → List (List ℕ)
 pieces [] whole = whole ∷ []
 pieces (p ∷ part) whole = (pieces-exist p part whole).0

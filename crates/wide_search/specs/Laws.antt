@@ -1,4 +1,4 @@
--- Proofs that contracts and definitions of this crate cite, and the laws that crates above cite.
+-- Proofs that contracts and definitions of this crate cite, and the laws that dependent crates cite.
 pub mod Stands
 pub mod Numbers
 pub mod Ends

@@ -1,4 +1,4 @@
--- What is searched for.
+-- The units of a needle.
 use Rattle.std.specs.Prelude.{List, [], ◌∷◌, Option, Some, None}
 use Rattle.wide_search.specs.declared.part.Few.{Few}
 
@@ -6,6 +6,6 @@ abbrev pub first_and : {C : Type 0} → C → Option C → List C
 first_and u None = u ∷ []
 first_and u (Some v) = u ∷ v ∷ []
 
--- a unit, and the second where there is one
+-- A unit, and the second if there is one.
 abbrev pub units_of_few : {C : Type 0} → Few C → List C
 units_of_few few = first_and few.first few.second

@@ -7,8 +7,8 @@ use crate::part::Few;
 use crate::search::{find_in, rfind_in};
 use wide_unit::Unit;
 
-/// The first place at which the character stands in the units, of any values: how many stand before it. None where it stands
-/// nowhere. Half of a surrogate pair is no character, so it is never found.
+/// Returns the offset in units of the first occurrence of the character, or `None` if it does not occur. The units may
+/// be ill-formed. A surrogate of a pair is no character, so it is never found.
 pub fn find_char<C: Unit>(units: &[C], c: char) -> Option<usize>
     ensures first { IfSome result (IsFirstAt (code_units C.form c) (map C.number units.now)) }
     ensures none { IfNone result (StandsNowhere (code_units C.form c) (map C.number units.now)) }
@@ -17,7 +17,8 @@ pub fn find_char<C: Unit>(units: &[C], c: char) -> Option<usize>
     find_in(units, Few::of_char(c))
 }
 
-/// The last place at which the character stands, as [`find_char`] has the first.
+/// Returns the offset in units of the last occurrence of the character, or `None` if it does not occur. The units may
+/// be ill-formed.
 pub fn rfind_char<C: Unit>(units: &[C], c: char) -> Option<usize>
     ensures last { IfSome result (IsLastAt (code_units C.form c) (map C.number units.now)) }
     ensures none { IfNone result (StandsNowhere (code_units C.form c) (map C.number units.now)) }

@@ -1,14 +1,14 @@
-//! The laws of the definitions. Each function has one as its contract and does nothing.
+//! The laws of the definitions. Each law is a function that does nothing, and its contract is the law.
 ghost use Rattle.wide_search.specs.Statements.{FirstIsUnique, LastIsUnique, PiecesExist, PiecesAreUnique, PiecesJoin, WholeAtNoPart, PartsAreBetweenCharacters, PartsAreOfCharacters, FirstIsOfCharacters, LastIsOfCharacters};
 
-/// A part has at most one first place in a list, and at most one last.
+/// A needle has at most one first occurrence in a list, and at most one last one.
 pub fn one_place<T>()
     ensures first { FirstIsUnique T }
     ensures last { LastIsUnique T }
 {}
 
-/// A list is cut at a part that isn't empty into one list of pieces, and joined with the part between them they are the list. At an empty part
-/// it is the only piece.
+/// Splitting a list at a separator that is not empty yields exactly one list of substrings. Joining them with the
+/// separator yields the list. Splitting at an empty separator yields the list itself as the only substring.
 pub fn one_list_of_pieces()
     ensures some { PiecesExist }
     ensures unique { PiecesAreUnique }
@@ -16,10 +16,10 @@ pub fn one_list_of_pieces()
     ensures empty { WholeAtNoPart }
 {}
 
-/// A well-formed part that isn't empty stands in units of any values only between two items, or at an end: its place and the place behind it
-/// are boundaries, since no character begins with a low surrogate, and none ends with a high one (Unicode Standard, D75 and D85). In
-/// well-formed units it stands there as characters exactly where it stands as units, and its first place in the units is its first among the
-/// characters.
+/// A well-formed needle that is not empty occurs in any units only between two items, or at an end. Its offset and the
+/// offset after it are boundaries, since no character begins with a low surrogate, and none ends with a high one
+/// (Unicode Standard, D75 and D85). In well-formed units its characters occur at such an offset exactly if its units
+/// do, and its first occurrence in the units is its first one among the characters.
 pub fn parts_of_text()
     ensures between { PartsAreBetweenCharacters }
     ensures characters { PartsAreOfCharacters }

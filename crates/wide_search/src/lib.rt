@@ -1,7 +1,9 @@
-//! Searches in units of UTF-16 and UTF-32, well formed or not: where a part, a unit or a character stands in them. Places and
-//! lengths are counted in units. No call takes memory or fails. All are this port's own, with the names that `str` has, where it has one.
+//! Searches in units of UTF-16 and UTF-32, well formed or not, for units, a unit or a character. Offsets and lengths
+//! are counted in units. No call allocates or fails. The Rust crate has none of these calls; they have the names of the
+//! calls of `str`, if there are such.
 //!
-//! `specs/` has what a part, its places and the pieces between them are, and the functions of [`laws`] have their laws as contracts.
+//! `specs/` defines occurrences and the substrings between them. The contracts of the functions in [`laws`] are the
+//! laws of these definitions.
 #![tactic(auto)]
 
 mod chars;

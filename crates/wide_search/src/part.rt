@@ -1,4 +1,4 @@
-//! What is searched for: some units, or those of one character.
+//! Needles of a search: some units, or those of one character.
 ghost use Rattle.std.specs.Prelude.{◌≡◌, ◌↔◌, ◌∷◌, [], ℕ, List, length, map, IsTrue, MatchOption};
 ghost use Rattle.wide_unit.specs.EncodingForm.{code_units};
 ghost use Rattle.wide_search.specs.Parts.{StandsAt};
@@ -6,25 +6,25 @@ ghost use Rattle.wide_search.specs.Sought.{units_of_few};
 
 use wide_unit::{Unit, same_units};
 
-// Units that are searched for.
+// The units of a needle.
 pub(crate) trait Part<C: Unit>: Copy {
     // The units.
     ghost sought: { Self → List C };
 
-    // The first of them.
+    // Returns the first unit, or `None` if there is none.
     fn first(self) -> Option<C>
         ensures { MatchOption result (sought self ≡ []) (λ u. (rest : List C) × (sought self ≡ u ∷ rest)) };
 
-    // How many there are.
+    // Returns the number of units.
     fn len(self) -> usize
         ensures { result ≡ length (sought self) };
 
-    // Whether other units begin with them.
+    // Returns whether other units begin with these.
     fn begins(self, units: &[C]) -> bool
         ensures { IsTrue result ↔ StandsAt (sought self) units.now 0 };
 }
 
-// A slice.
+// A needle that is a slice.
 #[derive(Clone, Copy)]
 pub(crate) struct Slice<'a, C> {
     pub(crate) units: &'a [C],
@@ -50,7 +50,7 @@ impl<C: Unit> Part<C> for Slice<'_, C> {
     }
 }
 
-// One unit, and a second where there is one.
+// A needle of one unit or two.
 #[derive(Clone, Copy)]
 pub(crate) struct Few<C> {
     pub(crate) first: C,
@@ -58,7 +58,7 @@ pub(crate) struct Few<C> {
 }
 
 impl<C: Unit> Few<C> {
-    // The unit alone.
+    // Creates a needle of one unit.
     pub(crate) fn one(unit: C) -> Self
         ensures { units_of_few result ≡ unit ∷ [] }
     {
@@ -68,7 +68,7 @@ impl<C: Unit> Few<C> {
         }
     }
 
-    // The units of the character.
+    // Creates a needle of the units of a character.
     pub(crate) fn of_char(c: char) -> Self
         ensures { map C.number (units_of_few result) ≡ code_units C.form c }
     {

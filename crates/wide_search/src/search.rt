@@ -1,11 +1,11 @@
-//! The places of a part, from both ends.
+//! Searches for a needle from both ends.
 ghost use Rattle.std.specs.Prelude.{IfNone, IfSome};
 ghost use Rattle.wide_search.specs.Parts.{IsFirstAt, IsLastAt, StandsNowhere};
 
 use crate::part::Part;
 use wide_unit::{Unit, first_of};
 
-// The first place of the part. What stands before its first unit is passed by blocks.
+// Returns the offset of the first occurrence of the needle, or `None`. The search for its first unit is vectorized.
 pub(crate) fn find_in<C: Unit, P: Part<C>>(units: &[C], part: P) -> Option<usize>
     ensures first { IfSome result (IsFirstAt (P.sought part) units.now) }
     ensures none { IfNone result (StandsNowhere (P.sought part) units.now) }
@@ -28,7 +28,7 @@ pub(crate) fn find_in<C: Unit, P: Part<C>>(units: &[C], part: P) -> Option<usize
     None
 }
 
-// The last place of the part.
+// Returns the offset of the last occurrence of the needle, or `None`.
 pub(crate) fn rfind_in<C: Unit, P: Part<C>>(units: &[C], part: P) -> Option<usize>
     ensures last { IfSome result (IsLastAt (P.sought part) units.now) }
     ensures none { IfNone result (StandsNowhere (P.sought part) units.now) }

@@ -6,7 +6,7 @@ use crate::part::{Few, Slice};
 use crate::search::{find_in, rfind_in};
 use wide_unit::{Unit, same_units};
 
-/// Whether the units begin with those of the part. They do where it is empty.
+/// Returns whether the units begin with those of the pattern. They do if it is empty.
 pub fn starts_with<C: Unit>(units: &[C], part: &[C]) -> bool
     ensures { IsTrue result ↔ BeginsWith part.now units.now }
 {
@@ -17,7 +17,7 @@ pub fn starts_with<C: Unit>(units: &[C], part: &[C]) -> bool
     same_units(front, part)
 }
 
-/// Whether the units end with those of the part. They do where it is empty.
+/// Returns whether the units end with those of the pattern. They do if it is empty.
 pub fn ends_with<C: Unit>(units: &[C], part: &[C]) -> bool
     ensures { IsTrue result ↔ EndsWith part.now units.now }
 {
@@ -28,7 +28,7 @@ pub fn ends_with<C: Unit>(units: &[C], part: &[C]) -> bool
     same_units(end, part)
 }
 
-/// The units behind the part, where they begin with it, and else none.
+/// Returns the units after the pattern if they begin with it, and otherwise `None`.
 pub fn strip_prefix<'a, C: Unit>(units: &'a [C], part: &[C]) -> Option<&'a [C]>
     ensures some { IsSome result ↔ BeginsWith part.now units.now }
     ensures rest { IfSome result (λ rest. units.now ≡ part.now ++ rest.now) }
@@ -39,7 +39,7 @@ pub fn strip_prefix<'a, C: Unit>(units: &'a [C], part: &[C]) -> Option<&'a [C]>
     None
 }
 
-/// The units before the part, where they end with it, and else none.
+/// Returns the units before the pattern if they end with it, and otherwise `None`.
 pub fn strip_suffix<'a, C: Unit>(units: &'a [C], part: &[C]) -> Option<&'a [C]>
     ensures some { IsSome result ↔ EndsWith part.now units.now }
     ensures front { IfSome result (λ front. units.now ≡ front.now ++ part.now) }
@@ -50,11 +50,11 @@ pub fn strip_suffix<'a, C: Unit>(units: &'a [C], part: &[C]) -> Option<&'a [C]>
     None
 }
 
-/// The first place at which the part stands in the units: how many stand before it. None where it stands nowhere. An empty part
-/// stands at the start.
+/// Returns the offset in units of the first occurrence of the needle, or `None` if it does not occur. An empty needle
+/// occurs at the beginning.
 ///
-/// What stands before the part's first unit is passed by blocks, and from there on units are compared up to the first that differs.
-/// So the worst case, a part whose front stands nearly everywhere, is the product of both lengths.
+/// The search for the first unit of the needle is vectorized. From there on, units are compared up to the first
+/// difference. The worst case is the product of both lengths, if a long prefix of the needle occurs nearly everywhere.
 pub fn find<C: Unit>(units: &[C], part: &[C]) -> Option<usize>
     ensures first { IfSome result (IsFirstAt part.now units.now) }
     ensures none { IfNone result (StandsNowhere part.now units.now) }
@@ -63,9 +63,10 @@ pub fn find<C: Unit>(units: &[C], part: &[C]) -> Option<usize>
     find_in(units, Slice { units: part })
 }
 
-/// The last place at which the part stands in the units, as [`find`] has the first. An empty part stands at the end.
+/// Returns the offset in units of the last occurrence of the needle, or `None` if it does not occur. An empty needle
+/// occurs at the end.
 ///
-/// The units are gone over one by one from the back; the worst case is that of [`find`].
+/// It tries each offset from the back. The worst case is the product of both lengths.
 pub fn rfind<C: Unit>(units: &[C], part: &[C]) -> Option<usize>
     ensures last { IfSome result (IsLastAt part.now units.now) }
     ensures none { IfNone result (StandsNowhere part.now units.now) }
@@ -74,7 +75,8 @@ pub fn rfind<C: Unit>(units: &[C], part: &[C]) -> Option<usize>
     rfind_in(units, Slice { units: part })
 }
 
-/// The first place of the unit: how many stand before it. None where it is not among them. It may be half of a pair.
+/// Returns the offset of the first occurrence of the unit, or `None` if it does not occur. The unit may be a surrogate
+/// of a pair.
 pub fn find_unit<C: Unit>(units: &[C], unit: C) -> Option<usize>
     ensures first { IfSome result (IsFirstAt (unit ∷ []) units.now) }
     ensures none { IfNone result (StandsNowhere (unit ∷ []) units.now) }
@@ -83,7 +85,8 @@ pub fn find_unit<C: Unit>(units: &[C], unit: C) -> Option<usize>
     find_in(units, Few::one(unit))
 }
 
-/// The last place of the unit, as [`find_unit`] has the first.
+/// Returns the offset of the last occurrence of the unit, or `None` if it does not occur. The unit may be a surrogate
+/// of a pair.
 pub fn rfind_unit<C: Unit>(units: &[C], unit: C) -> Option<usize>
     ensures last { IfSome result (IsLastAt (unit ∷ []) units.now) }
     ensures none { IfNone result (StandsNowhere (unit ∷ []) units.now) }
@@ -92,7 +95,8 @@ pub fn rfind_unit<C: Unit>(units: &[C], unit: C) -> Option<usize>
     rfind_in(units, Few::one(unit))
 }
 
-/// The units before the part, and those behind it, at its first place. None where it stands nowhere.
+/// Splits the units at the first occurrence of the separator, and returns the units before it and those after it.
+/// Returns `None` if it does not occur.
 pub fn split_once<'a, C: Unit>(units: &'a [C], part: &[C]) -> Option<(&'a [C], &'a [C])>
     ensures first { IfSome result (λ r. IsFirstSplit part.now units.now r.0.now r.1.now) }
     ensures none { IfNone result (StandsNowhere part.now units.now) }
@@ -105,7 +109,8 @@ pub fn split_once<'a, C: Unit>(units: &'a [C], part: &[C]) -> Option<(&'a [C], &
     Some((front, rest))
 }
 
-/// The units before the part, and those behind it, at its last place. None where it stands nowhere.
+/// Splits the units at the last occurrence of the separator, and returns the units before it and those after it.
+/// Returns `None` if it does not occur.
 pub fn rsplit_once<'a, C: Unit>(units: &'a [C], part: &[C]) -> Option<(&'a [C], &'a [C])>
     ensures last { IfSome result (λ r. IsLastSplit part.now units.now r.0.now r.1.now) }
     ensures none { IfNone result (StandsNowhere part.now units.now) }

@@ -1,4 +1,4 @@
--- Places of parts in well-formed units, and in their characters.
+-- Occurrences in well-formed units, and among their characters.
 use Rattle.std.proofs.Common.{◌≡◌, ℕ, ◌+◌, ◌<◌, ◌≤◌, List, ◌++◌, inl, inr, sym, ◌∙◌, ap, subst, arith, length, length-append, length-drop, length-take, take, drop}
 use Rattle.std.proofs.lemmas.List.{take-append-drop, length-take-le, drop-drop}
 use Rattle.std.proofs.lemmas.Bool.{cases_eq}
@@ -13,7 +13,7 @@ use Rattle.wide_unit.specs.Laws.Places.{IsBoundary-within, IsPlaceOf-boundary, I
 use Rattle.wide_unit.specs.Laws.Policies.{characters-append}
 use Rattle.wide_search.specs.Parts.{StandsAt, IsFirstAt, IsLastAt}
 
--- a list that begins with a part, behind a place
+-- The rest of a list from an index on begins with the needle.
 stands-of_rest : {A : Type 0} (part whole rest : List A) (at : ℕ) → at ≤ length whole → drop at whole ≡ part ++ rest → StandsAt part whole at
 stands-of_rest part whole rest at within e = record {
   within = omega (arith, within, length-drop at whole, ap length e, length-append part rest);
@@ -32,7 +32,7 @@ module _ (form : EncodingForm) (part us : List ℕ) (well_part : IsWellFormed fo
     abbrev before : ℕ
     before = chars_before form us at
 
-    -- as units, so as characters
+    -- If the units occur, so do the characters.
     pub stands-chars : StandsAt part us at → StandsAt (chars form part) (chars form us) before
     stands-chars stands =
         let rest = drop (at + length part) us in
@@ -40,7 +40,7 @@ module _ (form : EncodingForm) (part us : List ℕ) (well_part : IsWellFormed fo
         ap (λ xs. chars form xs) (rest-of_stands part us at stands) ∙ ap characters (items-append_left form part rest well_part) ∙ characters-append (items form part) (items form rest) in
         stands-of_rest (chars form part) (chars form us) (chars form rest) before (chars_before-within form us well at boundary) (sym (IsPlaceOf-boundary form us well at boundary).rest ∙ split)
 
-  -- as characters, so as units, where that character begins
+  -- If the characters occur, so do the units, at the offset of the first character.
   stands-encoded : (n : ℕ) → StandsAt (chars form part) (chars form us) n → StandsAt part us (length (encode form (take n (chars form us))))
   stands-encoded n stands =
       let cs = chars form us in
@@ -60,7 +60,7 @@ module _ (form : EncodingForm) (part us : List ℕ) (well_part : IsWellFormed fo
     pub stands-units : StandsAt (chars form part) (chars form us) (before at boundary) → StandsAt part us at
     stands-units stands = subst (λ k. StandsAt part us k) place-is (stands-encoded (before at boundary) stands)
 
-    -- an earlier character begins at an earlier place
+    -- An earlier character has a smaller offset.
     earlier-below : (n : ℕ) → n < before at boundary → length (encode form (take n (chars form us))) < at
     earlier-below n less =
         let cs = chars form us in
@@ -77,7 +77,7 @@ module _ (form : EncodingForm) (part us : List ℕ) (well_part : IsWellFormed fo
       before = λ n less stands. first.before (length (encode form (take n (chars form us)))) (earlier-below n less) (stands-encoded n stands);
     }
 
-    -- a later character begins at a later place
+    -- A later character has a greater offset.
     later-above : (n : ℕ) → before at boundary < n → n ≤ length (chars form us) → at < length (encode form (take n (chars form us)))
     later-above n more within =
         let cs = chars form us in

@@ -1,4 +1,4 @@
--- The pieces by the first place of the part.
+-- The substrings, by the first occurrence of the separator.
 use Rattle.std.proofs.Common.{◌≡◌, ℕ, ◌+◌, ◌<◌, ◌≤◌, List, [], ◌∷◌, ◌++◌, refl, sym, ◌∙◌, ap, subst, arith, length, length-append, length-drop, take, drop, append_assoc}
 use Rattle.std.specs.Prelude.{map}
 use Rattle.std.proofs.lemmas.List.{length-map, map-append, take-map, drop-map, length-take-le}
@@ -9,12 +9,12 @@ use Rattle.wide_search.specs.Cut.{pieces, pieces-are, pieces-whole}
 use Rattle.wide_search.specs.Laws.Stands.{pieces-unique, parted}
 use Rattle.wide_search.specs.Laws.Numbers.{first-numbers, nowhere-numbers}
 
--- where it stands nowhere the list is the only piece
+-- If the separator does not occur, the list is the only substring.
 pub pieces-none : (part whole : List ℕ) → StandsNowhere part whole → pieces part whole ≡ whole ∷ []
 pieces-none [] whole nowhere = pieces-whole whole
 pieces-none (p ∷ part) whole nowhere = pieces-unique (p ∷ part) (pieces (p ∷ part) whole) (whole ∷ []) whole (pieces-are (p ∷ part) whole (omega arith)) (refl, nowhere)
 
--- a first piece, and those of what lies behind the part
+-- A first substring, and those of what follows the separator.
 are-before : (part whole front rest : List ℕ) (ps : List (List ℕ)) → IsFirstSplit part whole front rest → ArePieces part rest ps → ArePieces part whole (front ∷ ps)
 are-before part whole front rest [] split are = absurd are
 are-before part whole front rest (p ∷ ps) split are =
@@ -28,7 +28,7 @@ pub pieces-first : (part whole front rest : List ℕ) → 0 < length part → Is
 pieces-first part whole front rest some split =
     pieces-unique part (pieces part whole) (front ∷ pieces part rest) whole (pieces-are part whole some) (are-before part whole front rest (pieces part rest) split (pieces-are part rest some))
 
--- the same of units of any width, by their numbers
+-- For units of any width, by their numbers.
 module _ {X : Type 0} (number : X → ℕ) (same : (x y : X) → number x ≡ number y → x ≡ y) (part us : List X) where
   pub pieces-nowhere : StandsNowhere part us → pieces (map number part) (map number us) ≡ map number us ∷ []
   pieces-nowhere nowhere = pieces-none (map number part) (map number us) (nowhere-numbers number same part us nowhere)
@@ -48,7 +48,7 @@ module _ {X : Type 0} (number : X → ℕ) (same : (x y : X) → number x ≡ nu
 pub pieces-cut : {X : Type 0} (number : X → ℕ) (part us : List X) → 0 < length part → ArePieces (map number part) (map number us) (pieces (map number part) (map number us))
 pieces-cut number part us some = pieces-are (map number part) (map number us) (omega (arith, some, length-map part number))
 
--- a part of numbers at its first place among those of units, by the units before it and behind it
+-- Splitting at the first occurrence of a separator, given by its numbers, among those of units.
 pub split-at : {X : Type 0} (number : X → ℕ) (part : List ℕ) (us front rest : List X) (at n : ℕ) → n ≡ length part → IsFirstAt part (map number us) at → front ≡ take at us → rest ≡ drop (at + n) us
     → IsFirstSplit part (map number us) (map number front) (map number rest)
 split-at number part us front rest at n count first is_front is_rest =
@@ -61,7 +61,7 @@ split-at number part us front rest at n count first is_front is_rest =
       first = subst (λ k. IsFirstAt part (map number us) k) long first;
     }
 
--- there is at most one piece more than there are units
+-- There is at most one substring more than there are units.
 are-at_most : (part whole : List ℕ) (ps : List (List ℕ)) → 0 < length part → ArePieces part whole ps → length ps ≤ length whole + 1
 are-at_most part whole [] some are = absurd are
 are-at_most part whole (p ∷ []) some are = omega arith

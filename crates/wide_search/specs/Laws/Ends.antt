@@ -1,4 +1,4 @@
--- A well-formed part that isn't empty stands in units of any kind only at a boundary, and the place behind it is one.
+-- A well-formed needle that is not empty occurs in any units only at a boundary, and the offset after it is a boundary.
 use Rattle.std.proofs.Common.{◌≡◌, ℕ, ◌+◌, ◌<◌, List, [], ◌∷◌, ◌++◌, refl, sym, ◌∙◌, ap, subst, arith, length, length-append, append_assoc, take, drop}
 use Rattle.std.proofs.lemmas.List.{length-take-le}
 use Rattle.wide_unit.specs.EncodingForm.{EncodingForm}
@@ -9,7 +9,7 @@ use Rattle.wide_unit.specs.Laws.Ends.{IsCut-after, IsCut-before, ends-after}
 use Rattle.wide_search.specs.Parts.{StandsAt}
 use Rattle.wide_search.specs.Laws.Stands.{parted}
 
--- what lies before a part that isn't empty is cut from whatever begins with it
+-- If no pair is split before a needle that is not empty, none is split before what begins with it.
 cut-before_part : (form : EncodingForm) (front part rest : List ℕ) → 0 < length part → IsCut form front part → IsCut form front (part ++ rest)
 cut-before_part form front [] rest some cut = absurd (omega (arith, some))
 cut-before_part form front (x ∷ xs) rest some cut = λ before back h l e f. let same : l ≡ x = cc in rw same (cut before xs h x e refl)
@@ -18,7 +18,7 @@ not_nil : (part : List ℕ) → 0 < length part → part ≡ [] → ⊥
 not_nil [] some e = omega (arith, some)
 not_nil (x ∷ xs) some e = cc
 
--- and what ends with it from what lies behind
+-- If no pair is split after a needle that is not empty, none is split after what ends with it.
 cut-behind_part : (form : EncodingForm) (front part rest : List ℕ) → 0 < length part → IsCut form part rest → IsCut form (front ++ part) rest
 cut-behind_part form front part rest some cut = λ before back h l e f. let at = ends-after front part before h (not_nil part some) e in cut at.0 back h l at.1 f
 

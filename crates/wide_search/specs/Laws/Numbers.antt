@@ -1,11 +1,11 @@
--- Places of parts among units of any width, and among their numbers.
+-- Occurrences among units of any width, and among their numbers.
 use Rattle.std.proofs.Common.{◌≡◌, ℕ, List, [], ◌∷◌, sym, ◌∙◌, ap, arith, length, take, drop, refl}
 use Rattle.std.specs.Prelude.{map}
 use Rattle.std.proofs.lemmas.List.{length-map, take-map, drop-map}
 use Rattle.wide_search.specs.Parts.{StandsAt, StandsNowhere, IsFirstAt, IsLastAt}
 
 module _ {X : Type 0} (number : X → ℕ) where
-  -- the numbers of a part of units are the same part of their numbers
+  -- The numbers of a slice of units are the slice of their numbers.
   numbers-there : (part us : List X) (at : ℕ) → take (length (map number part)) (drop at (map number us)) ≡ map number (take (length part) (drop at us))
   numbers-there part us at =
       ap (λ n. take n (drop at (map number us))) (length-map part number) ∙ ap (λ xs. take (length part) xs) (drop-map number at us) ∙ take-map number (length part) (drop at us)
@@ -16,7 +16,7 @@ module _ {X : Type 0} (number : X → ℕ) where
     same = numbers-there part us at ∙ ap (λ xs. map number xs) stands.same;
   }
 
-  -- where equal numbers are equal units
+  -- If equal numbers are equal units.
   module _ (same : (x y : X) → number x ≡ number y → x ≡ y) where
     map-same : (xs ys : List X) → map number xs ≡ map number ys → xs ≡ ys
     map-same [] [] e = refl

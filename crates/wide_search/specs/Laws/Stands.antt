@@ -1,4 +1,4 @@
--- Places of parts: where the first one is, and the pieces that a list is cut into.
+-- Occurrences of needles: the first one, and the substrings into which a list is split.
 use Rattle.std.proofs.Common.{◌≡◌, ◌⊎◌, ℕ, zero, suc, ◌+◌, ◌<◌, ◌≤◌, List, [], ◌∷◌, ◌++◌, inl, inr, refl, sym, ◌∙◌, ap, subst, arith, length, take, drop, length-drop}
 use Rattle.std.proofs.lemmas.List.{take-append-drop, length-take-le, drop-drop}
 use Rattle.std.proofs.lemmas.Bool.{cases_eq, cases_lt}
@@ -6,7 +6,7 @@ use Rattle.wide_search.specs.Parts.{StandsAt, StandsNowhere, IsFirstAt, IsLastAt
 use Rattle.wide_search.specs.Pieces.{ArePieces, joined_with}
 
 module _ {A : Type 0} where
-  -- at most one place is the first, and at most one the last
+  -- At most one occurrence is the first, and at most one the last.
   pub first-unique : (part whole : List A) (one other : ℕ) → IsFirstAt part whole one → IsFirstAt part whole other → one ≡ other
   first-unique part whole one other a b = elim (cases_lt one other) [
     | inl below ↦ absurd (b.before one below a.here)
@@ -25,14 +25,14 @@ module _ {A : Type 0} where
     ]
   ]
 
-  -- one element on
+  -- One element more at the beginning.
   pub stands-on : (part : List A) (x : A) (xs : List A) (at : ℕ) → StandsAt part xs at → StandsAt part (x ∷ xs) (suc at)
   stands-on part x xs at stands = record { within = omega (arith, stands.within); same = stands.same }
 
   pub stands-back : (part : List A) (x : A) (xs : List A) (at : ℕ) → StandsAt part (x ∷ xs) (suc at) → StandsAt part xs at
   stands-back part x xs at stands = record { within = omega (arith, stands.within); same = stands.same }
 
-  -- in what is left behind a place
+  -- In what is left after an index.
   pub stands-behind : (part whole : List A) (n at : ℕ) → n ≤ length whole → StandsAt part (drop n whole) at → StandsAt part whole (n + at)
   stands-behind part whole zero at within stands = let e : at ≡ 0 + at = omega arith in subst (λ k. StandsAt part whole k) e stands
   stands-behind part [] (suc n) at within stands = absurd (omega (arith, within))
@@ -47,14 +47,14 @@ module _ {A : Type 0} where
       let e : suc n + at ≡ suc (n + at) = omega arith in
       stands-left part xs n at (stands-back part x xs (n + at) (subst (λ k. StandsAt part (x ∷ xs) k) e stands))
 
-  -- what stands at a place parts the list
+  -- An occurrence splits the list.
   pub parted : (part whole : List A) (at : ℕ) → StandsAt part whole at → whole ≡ take at whole ++ (part ++ drop (at + length part) whole)
   parted part whole at stands =
       let rest : drop at whole ≡ part ++ drop (length part) (drop at whole) =
       sym (take-append-drop (length part) (drop at whole)) ∙ ap (λ xs. xs ++ drop (length part) (drop at whole)) stands.same in
       sym (take-append-drop at whole) ∙ ap (λ xs. take at whole ++ xs) (rest ∙ ap (λ xs. part ++ xs) (drop-drop (length part) at whole))
 
-  -- the pieces joined are the list
+  -- The joined substrings are the list.
   pub pieces-joined : (part : List A) (pieces : List (List A)) (whole : List A) → ArePieces part whole pieces → joined_with part pieces ≡ whole
   pieces-joined part [] whole are = absurd are
   pieces-joined part (piece ∷ []) whole are = are.0
@@ -62,7 +62,7 @@ module _ {A : Type 0} where
       ap (λ xs. piece ++ (part ++ xs)) (pieces-joined part (next ∷ more) (drop (length piece + length part) whole) are.2)
       ∙ ap (λ xs. xs ++ (part ++ drop (length piece + length part) whole)) are.1 ∙ sym (parted part whole (length piece) are.0.here)
 
-  -- and no others are
+  -- There is no other such list of substrings.
   pub pieces-unique : (part : List A) (some others : List (List A)) (whole : List A) → ArePieces part whole some → ArePieces part whole others → some ≡ others
   pieces-unique part [] others whole a b = absurd a
   pieces-unique part (p ∷ ps) [] whole a b = absurd b
@@ -75,7 +75,7 @@ module _ {A : Type 0} where
       let rest : s ∷ ps ≡ r ∷ qs = pieces-unique part (s ∷ ps) (r ∷ qs) (drop (length q + length part) whole) (subst (λ n. ArePieces part (drop (n + length part) whole) (s ∷ ps)) long a.2) b.2 in
       ap (λ x. x ∷ s ∷ ps) same ∙ ap (λ xs. q ∷ xs) rest
 
--- ---- numbers: whether a part stands at the start, and where it stands first
+-- ---- numbers: whether a needle is at the beginning, and its first occurrence
 
 starts : (part whole : List ℕ) → StandsAt part whole 0 ⊎ (StandsAt part whole 0 → ⊥)
 starts [] whole = inl (record { within = omega arith; same = refl })
@@ -113,7 +113,7 @@ first-or_none part (x ∷ xs) = elim (starts part (x ∷ xs)) [
   ]
 ]
 
--- a first piece before the others
+-- A first substring before the others.
 pieces-before : (part whole : List ℕ) (at : ℕ) (rest : List (List ℕ)) → IsFirstAt part whole at → ArePieces part (drop (at + length part) whole) rest → ArePieces part whole (take at whole ∷ rest)
 pieces-before part whole at [] first are = absurd are
 pieces-before part whole at (piece ∷ more) first are =

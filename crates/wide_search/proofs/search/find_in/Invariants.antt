@@ -2,7 +2,7 @@ use Rattle.std.proofs.Common.{length, ℕ, ◌-◌, ◌<◌}
 use Rattle.wide_search.specs.Parts.{StandsAt}
 use Rattle.wide_search.proofs.search.find_in.Given as goal
 
--- the part stands at none of the places before it
+-- The needle occurs at none of the offsets before `at`.
 abbrev pub invariant-loop-at : goal.invariant-loop-at
 invariant-loop-at g l = (earlier : ℕ) → earlier < l.at → ¬ (StandsAt (g.P.Part.sought l.part) l.units earlier)
 

@@ -2,7 +2,7 @@ use Rattle.std.proofs.Common.{ℕ, ◌≤◌, length}
 use Rattle.wide_search.specs.Parts.{StandsAt}
 use Rattle.wide_search.proofs.search.rfind_in.Given as goal
 
--- the part stands at none of the places from it on
+-- The needle occurs at none of the offsets from `at` on.
 abbrev pub invariant-loop-at : goal.invariant-loop-at
 invariant-loop-at g l = (l.at ≤ length l.units) × ((later : ℕ) → l.at ≤ later → ¬ (StandsAt (g.P.Part.sought l.part) l.units later))
 
