@@ -1,4 +1,4 @@
--- What an error of units that are no C string holds and prints.
+-- What the error for units that are no C string holds and prints.
 use Rattle.std.specs.Prelude.{ℕ, List, Option, None}
 use Rattle.std.specs.declared.vec.Vec.{Vec}
 use Rattle.wide_error.specs.Nul.{position_of, vec_of}

@@ -1,4 +1,5 @@
--- What `{}` prints of each error: a unit or number in lower-case hexadecimal, an index and an item number in decimal, none padded.
+-- What `{}` prints for each error: a unit or number in lower-case hexadecimal, an index and an item number in decimal,
+-- without padding.
 use Rattle.std.specs.Prelude.{ℕ, List, ◌++◌, codes, false}
 use Rattle.std.specs.Fmt.{digits, decimal}
 use Rattle.wide_error.specs.declared.error.TranscodeError.{TranscodeError}
@@ -13,7 +14,7 @@ invalid_code_point_text code = codes "invalid UTF-32 code point: " ++ digits 16 
 abbrev pub out_of_memory_text : List ℕ
 out_of_memory_text = codes "out of memory"
 
--- where a first fault stands: its index and its item number
+-- The index and the item number of a first fault.
 abbrev pub place_text : ℕ → ℕ → List ℕ
 place_text index item = codes " at index " ++ (decimal index ++ (codes " (item " ++ (decimal item ++ codes ")")))
 

@@ -1,4 +1,4 @@
-//! What each error holds, prints, and is made from.
+//! Errors of decoding, allocation and transcoding: what they hold, print, and are converted from.
 
 ghost use Rattle.std.specs.Prelude.{◌≡◌};
 
@@ -7,7 +7,7 @@ use std::error::Error;
 use std::marker::Model;
 use std::{fmt, io};
 
-/// A surrogate that is not in a pair, found where UTF-16 was decoded.
+/// An unpaired surrogate in UTF-16.
 #[derive(Clone, Copy, Debug, PartialEq, Eq)]
 pub struct DecodeUtf16Error {
     unit: u16,
@@ -24,14 +24,14 @@ impl Model for DecodeUtf16Error {
 }
 
 impl DecodeUtf16Error {
-    /// The error for `unit`.
+    /// Creates the error for `unit`.
     pub fn new(unit: u16) -> Self
         ensures { result ≡ unit }
     {
         DecodeUtf16Error { unit }
     }
 
-    /// The unit that is not in a pair.
+    /// Returns the unpaired surrogate.
     pub fn unpaired_surrogate(&self) -> u16
         ensures { result ≡ self.now }
     {
@@ -56,7 +56,7 @@ impl fmt::Display for DecodeUtf16Error {
 
 impl Error for DecodeUtf16Error {}
 
-/// A number that is no Unicode scalar value, found where UTF-32 was decoded.
+/// A unit of UTF-32 that is no Unicode scalar value.
 #[derive(Clone, Copy, Debug, PartialEq, Eq)]
 pub struct DecodeUtf32Error {
     code: u32,
@@ -73,14 +73,14 @@ impl Model for DecodeUtf32Error {
 }
 
 impl DecodeUtf32Error {
-    /// The error for `code`.
+    /// Creates the error for `code`.
     pub fn new(code: u32) -> Self
         ensures { result ≡ code }
     {
         DecodeUtf32Error { code }
     }
 
-    /// The number that is no scalar value.
+    /// Returns the number that is no scalar value.
     pub fn invalid_code_point(&self) -> u32
         ensures { result ≡ self.now }
     {
@@ -105,7 +105,7 @@ impl fmt::Display for DecodeUtf32Error {
 
 impl Error for DecodeUtf32Error {}
 
-/// An allocation was refused.
+/// An allocation failed.
 #[derive(Clone, Copy, Debug, PartialEq, Eq, Hash)]
 pub struct OutOfMemory;
 
@@ -138,7 +138,7 @@ impl<T: Drop> From<AllocFailed<T>> for OutOfMemory {
     }
 }
 
-/// So that `?` takes it to an `io::Result`, such as that of `main`: an error of the kind `OutOfMemory`.
+/// Allows `?` to convert it to an `io::Error` of the kind `OutOfMemory`, such as in `main`.
 impl From<OutOfMemory> for io::Error {
     ghost use Rattle.std.specs.IoError.{error_kind};
     ghost use Rattle.std.specs.declared.io.ErrorKind.TheVariants.{OutOfMemory};
@@ -150,21 +150,21 @@ impl From<OutOfMemory> for io::Error {
     }
 }
 
-/// Why a file was not put into UTF-8.
+/// The error of transcoding UTF-16 to UTF-8.
 #[derive(Clone, Copy, Debug, PartialEq, Eq)]
 pub enum TranscodeError {
-    /// The unit at `index`, counted from 0, is a surrogate that is not in a pair.
+    /// The unit at `index`, counted from 0, is an unpaired surrogate.
     Utf16 {
-        /// How many units stand before it.
+        /// The number of units before it.
         index: usize,
-        /// How many characters those units are.
+        /// The number of characters before it.
         item: usize,
         /// The surrogate.
         unit: u16,
     },
-    /// An allocation was refused.
+    /// An allocation failed, or an index of a unit does not fit into a `usize`.
     OutOfMemory,
-    /// The last byte is half of a unit.
+    /// The number of bytes is odd: the last byte is half of a unit.
     OddLength,
     /// The input could not be read.
     Read,

@@ -1,10 +1,9 @@
 //! The errors of the wide string crates, and the text that each of them prints.
 //!
-//! A [`DecodeUtf16Error`] is what a decoder finds where a unit is half of a pair that has no other half,
-//! and a [`DecodeUtf32Error`] where a number is no Unicode scalar value.
-//! [`OutOfMemory`] is the one error of a call that fails only by memory.
-//! A [`NulError`] is why units are no C string, and a [`UCStringError`] why none was made of them.
-//! A [`TranscodeError`] is why a file was not put into UTF-8.
+//! A decoder reports a [`DecodeUtf16Error`] for an unpaired surrogate, and a [`DecodeUtf32Error`] for a number that is
+//! no Unicode scalar value. [`OutOfMemory`] is the error of calls that fail only if an allocation fails. A [`NulError`]
+//! says why units are no C string, and a [`UCStringError`] why no owned C string was made of them. A [`TranscodeError`]
+//! says why UTF-16 was not transcoded to UTF-8.
 #![tactic(auto)]
 
 pub mod error;

@@ -1,4 +1,4 @@
-//! NULs that stand where none may, and those that are missing.
+//! Errors of NULs at offsets where none is allowed, and of missing NULs.
 
 ghost use Rattle.std.specs.Prelude.{◌≡◌, None};
 ghost use Rattle.wide_error.specs.Nul.{position_of, vec_of};
@@ -8,7 +8,7 @@ use std::alloc::{AllocError, AllocFailed, Allocator, Global};
 use std::error::Error;
 use std::fmt;
 
-/// No NUL ends the units, or there are none; of a call that truncates: there is no NUL.
+/// The units do not end in NUL. The error of a call that truncates at a NUL means that there is no NUL at all.
 #[derive(Clone, Copy, Debug, PartialEq, Eq, Hash)]
 pub struct MissingNulTerminator;
 
@@ -25,9 +25,10 @@ impl fmt::Display for MissingNulTerminator {
 
 impl Error for MissingNulTerminator {}
 
-/// A NUL stands where none may: before the last unit, or, where every NUL is refused, anywhere.
+/// A NUL at an offset where none is allowed: before the last unit, or anywhere for a call that allows no NUL.
 ///
-/// A constructor of an owned string hands back the vector that it was given, or its copy; a view has none to hand back.
+/// The error of a constructor of an owned string holds the vector that was passed in, or its copy. The error for a view
+/// holds none.
 #[derive(Drop)]
 pub struct ContainsNul<C, A: Allocator = Global> {
     position: usize,
@@ -35,7 +36,7 @@ pub struct ContainsNul<C, A: Allocator = Global> {
 }
 
 impl<C, A: Allocator> ContainsNul<C, A> {
-    /// The error for the first NUL: its place, in units; and the vector to hand back.
+    /// Creates the error for the first NUL, at the offset `position` in units, with the vector to return.
     pub fn new(position: usize, vec: Option<Vec<C, A>>) -> Self
         ensures position { position_of result ≡ position }
         ensures vec { vec_of result ≡ vec }
@@ -43,14 +44,15 @@ impl<C, A: Allocator> ContainsNul<C, A> {
         ContainsNul { position, vec }
     }
 
-    /// The place of the first NUL: how many units stand before it.
+    /// Returns the offset of the first NUL, in units.
     pub fn nul_position(&self) -> usize
         ensures { result ≡ position_of self.now }
     {
         self.position
     }
 
-    /// The vector that was handed in, or the copy that was made of the units; none where a view was asked for.
+    /// Returns the vector that was passed in, or the copy that was made of the units, or `None` if the call was for a
+    /// view.
     pub fn into_vec(self) -> Option<Vec<C, A>>
         ensures { result ≡ vec_of self }
     {
@@ -77,20 +79,20 @@ impl<C, A: Allocator> fmt::Debug for ContainsNul<C, A> {
 
 impl<C: Drop, A: Allocator + Drop> Error for ContainsNul<C, A> {}
 
-/// Units that are no C string: they don't end in NUL, or have one before their last unit.
+/// The units are no C string: they do not end in NUL, or have a NUL before their last unit.
 #[derive(Drop)]
 pub enum NulError<C, A: Allocator = Global> {
-    /// No NUL ends the units, or there are none.
+    /// The units do not end in NUL.
     MissingNulTerminator(MissingNulTerminator),
-    /// A NUL stands before the last unit.
+    /// There is a NUL before the last unit.
     ContainsNul(ContainsNul<C, A>),
 }
 
 impl<C, A: Allocator> NulError<C, A> {
     ghost use Rattle.wide_error.specs.NulError.{handed_back};
 
-    /// The vector that was handed in, or the copy that was made of the units; none where a view was asked for, or no NUL
-    /// ends the units.
+    /// Returns the vector that was passed in, or the copy that was made of the units, or `None` if the call was for a
+    /// view or the units do not end in NUL.
     pub fn into_vec(self) -> Option<Vec<C, A>>
         ensures { result ≡ handed_back self }
     {
@@ -146,12 +148,12 @@ impl<C, A: Allocator> From<ContainsNul<C, A>> for NulError<C, A> {
     }
 }
 
-/// Why no C string was made: a NUL stands where none may, or an allocation was refused.
+/// No C string was made: there is a NUL at an offset where none is allowed, or an allocation failed.
 #[derive(Drop)]
 pub enum UCStringError<C, A: Allocator = Global> {
-    /// A NUL stands before the last unit, or, where every NUL is refused, anywhere.
+    /// There is a NUL before the last unit, or anywhere for a call that allows no NUL.
     ContainsNul(ContainsNul<C, A>),
-    /// An allocation was refused; with the vector, where one was handed in.
+    /// An allocation failed. It holds the vector if one was passed in.
     OutOfMemory(Option<Vec<C, A>>),
 }
 
