@@ -1,4 +1,4 @@
--- What an error of a conversion prints, and the fault that it tells of.
+-- What an error of a conversion prints, and the fault that it holds.
 use Rattle.std.specs.Prelude.{ℕ, List, Option, Some, None, codes}
 use Rattle.wide_error.specs.Texts.{utf16_error_text, utf32_error_text, out_of_memory_text}
 use Rattle.wide_utferror.specs.UtfError.{index_of, item_of, unit_of}
@@ -11,7 +11,7 @@ use Rattle.wide_utferror.specs.declared.convert.Utf16BytesError.{Utf16BytesError
 use Rattle.wide_utferror.specs.declared.convert.Utf16BytesError.TheVariants.{OddLength, Utf16 as BytesUtf16, OutOfMemory as NoMemoryBytes}
 
 module _ {A : Type 0} where
-  -- what `{}` prints: the text of the cause
+  -- What `{}` prints: the text of the cause.
   abbrev pub utf16_convert_error_text : Utf16ConvertError A → List ℕ
   utf16_convert_error_text (Utf16 e) = utf16_error_text (index_of e) (item_of e) (unit_of e)
   utf16_convert_error_text OutOfMemory = out_of_memory_text
@@ -25,7 +25,7 @@ module _ {A : Type 0} where
   utf16_bytes_error_text (BytesUtf16 e) = utf16_error_text (index_of e) (item_of e) (unit_of e)
   utf16_bytes_error_text NoMemoryBytes = out_of_memory_text
 
-  -- the units are not well formed, and this is why; none where memory was refused
+  -- The error of ill-formed units, or none if an allocation failed.
   abbrev pub utf16_fault : Utf16ConvertError A → Option (UtfError ℕ A)
   utf16_fault (Utf16 e) = Some e
   utf16_fault OutOfMemory = None

@@ -1,10 +1,10 @@
--- What an error of units that are not well formed holds.
+-- What an error of ill-formed units holds.
 use Rattle.std.specs.Prelude.{ℕ, Option}
 use Rattle.std.specs.declared.vec.Vec.{Vec}
 use Rattle.wide_utferror.specs.declared.error.UtfError.{UtfError}
 
 module _ {C A : Type 0} where
-  -- the index of the first fault, its item number, its unit, and the vector to hand back
+  -- The index of the first fault, its item number, its unit, and the vector to return.
   abbrev pub index_of : UtfError C A → ℕ
   index_of e = e.index
 

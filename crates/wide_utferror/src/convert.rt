@@ -1,4 +1,4 @@
-//! Why units, or bytes of them, were not converted.
+//! Errors of converting units, or bytes of units.
 
 ghost use Rattle.std.specs.Prelude.{◌≡◌};
 
@@ -8,14 +8,14 @@ use std::error::Error;
 use std::fmt;
 use wide_error::OutOfMemory;
 
-/// Why UTF-16 was not converted: it is not well formed, or an allocation was refused.
+/// The error of converting UTF-16: the units are ill-formed, or an allocation failed.
 ///
 /// It prints what its cause prints.
 #[derive(Drop)]
 pub enum Utf16ConvertError<A: Allocator = Global> {
-    /// The units are not well formed (Unicode Standard, D84).
+    /// The units are ill-formed (Unicode Standard, D84).
     Utf16(Utf16Error<A>),
-    /// An allocation was refused.
+    /// An allocation failed.
     OutOfMemory,
 }
 
@@ -84,14 +84,14 @@ impl<A: Allocator, T: Drop> From<AllocFailed<T>> for Utf16ConvertError<A> {
     }
 }
 
-/// Why UTF-32 was not converted: it is not well formed, or an allocation was refused.
+/// The error of converting UTF-32: the units are ill-formed, or an allocation failed.
 ///
 /// It prints what its cause prints.
 #[derive(Drop)]
 pub enum Utf32ConvertError<A: Allocator = Global> {
-    /// The units are not well formed (Unicode Standard, D84).
+    /// The units are ill-formed (Unicode Standard, D84).
     Utf32(Utf32Error<A>),
-    /// An allocation was refused.
+    /// An allocation failed.
     OutOfMemory,
 }
 
@@ -160,16 +160,16 @@ impl<A: Allocator, T: Drop> From<AllocFailed<T>> for Utf32ConvertError<A> {
     }
 }
 
-/// Why bytes of UTF-16 were not converted: a unit is cut in half, the units are not well formed, or an allocation was refused.
+/// The error of converting bytes of UTF-16: their number is odd, the units are ill-formed, or an allocation failed.
 ///
 /// It prints what its cause prints.
 #[derive(Drop)]
 pub enum Utf16BytesError<A: Allocator = Global> {
-    /// The last byte is half of a unit.
+    /// The number of bytes is odd: the last byte is half of a unit.
     OddLength,
-    /// The units of the bytes are not well formed (Unicode Standard, D84).
+    /// The units of the bytes are ill-formed (Unicode Standard, D84).
     Utf16(Utf16Error<A>),
-    /// An allocation was refused.
+    /// An allocation failed.
     OutOfMemory,
 }
 

@@ -1,4 +1,4 @@
-//! Units that are not well formed.
+//! Errors of ill-formed units.
 
 ghost use Rattle.std.specs.Prelude.{◌≡◌, ℕ, Option};
 ghost use Rattle.wide_utferror.specs.UtfError.{index_of, item_of, unit_of, vec_of};
@@ -9,17 +9,17 @@ use std::fmt;
 use wide_error::{DecodeUtf16Error, DecodeUtf32Error};
 use wide_unit::{FirstFault, Unit};
 
-/// A unit as the fault that a decoder finds in it: `u16` as a [`DecodeUtf16Error`], `u32` as a [`DecodeUtf32Error`].
+/// A unit for which a decoder can report a fault: `u16` as a [`DecodeUtf16Error`], `u32` as a [`DecodeUtf32Error`].
 ///
-/// The trait is this port's own.
+/// The Rust crate has no such trait.
 pub trait FaultUnit: Unit {
-    /// The fault.
+    /// The type of the fault.
     type Fault: Copy;
 
-    // The number of the unit that the fault has.
+    // The number of the unit that a fault holds.
     ghost told: { Self.Fault → ℕ };
 
-    /// The fault of this unit.
+    /// Returns the fault for this unit.
     fn fault(self) -> Self::Fault
         ensures { told result ≡ Self.number self };
 }
@@ -46,9 +46,10 @@ impl FaultUnit for u32 {
     }
 }
 
-/// Units that are not well formed (Unicode Standard, D84), by their first fault.
+/// The error of ill-formed units (Unicode Standard, D84), with their first fault.
 ///
-/// A constructor of an owned type hands back the vector that it was given, or its copy; a view has none to hand back.
+/// The error of a constructor of an owned type holds the vector that was passed in, or its copy. The error for a view
+/// holds none.
 #[derive(Drop)]
 pub struct UtfError<C, A: Allocator = Global> {
     index: usize,
@@ -57,14 +58,14 @@ pub struct UtfError<C, A: Allocator = Global> {
     vec: Option<Vec<C, A>>,
 }
 
-/// UTF-16 that is not well formed.
+/// The error of ill-formed UTF-16.
 pub type Utf16Error<A = Global> = UtfError<u16, A>;
 
-/// UTF-32 that is not well formed.
+/// The error of ill-formed UTF-32.
 pub type Utf32Error<A = Global> = UtfError<u32, A>;
 
 impl<C: FaultUnit, A: Allocator> UtfError<C, A> {
-    /// The error for the first fault, and the vector to hand back.
+    /// Creates the error for a first fault, with the vector to return.
     pub fn new(fault: FirstFault<C>, vec: Option<Vec<C, A>>) -> Self
         ensures index { index_of result ≡ fault.index }
         ensures item { item_of result ≡ fault.item }
@@ -79,28 +80,29 @@ impl<C: FaultUnit, A: Allocator> UtfError<C, A> {
         }
     }
 
-    /// The index of the first fault: how many units stand before it.
+    /// Returns the index of the first fault: the number of units before it.
     pub fn index(&self) -> usize
         ensures { result ≡ index_of self.now }
     {
         self.index
     }
 
-    /// The item number of the first fault: how many characters stand before it.
+    /// Returns the item number of the first fault: the number of characters before it.
     pub fn item(&self) -> usize
         ensures { result ≡ item_of self.now }
     {
         self.item
     }
 
-    /// The first fault itself.
+    /// Returns the first fault itself.
     pub fn cause(&self) -> C::Fault
         ensures { C.told result ≡ C.number (unit_of self.now) }
     {
         self.unit.fault()
     }
 
-    /// The vector that was handed in, or the copy that was made of the units; none where a view was asked for.
+    /// Returns the vector that was passed in, or the copy that was made of the units, or `None` if the call was for a
+    /// view.
     pub fn into_vec(self) -> Option<Vec<C, A>>
         ensures { result ≡ vec_of self }
     {

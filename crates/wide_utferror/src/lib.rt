@@ -1,6 +1,7 @@
-//! The errors of units that are not well formed and of conversions, and the fault that a decoder finds in a unit.
+//! The errors of ill-formed units and of conversions, and the fault that a decoder reports for a unit.
 //!
-//! They stand apart from the other errors, which know nothing of units, so that decoders need not wait for their proofs.
+//! They are in a separate crate because the other errors do not depend on units: decoders need not wait for the proofs
+//! of these.
 #![tactic(auto)]
 
 pub mod convert;
