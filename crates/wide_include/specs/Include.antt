@@ -1,4 +1,4 @@
--- Why a file of UTF-16 was made no string.
+-- Why no string was made of a UTF-16 file.
 use Rattle.std.specs.Prelude.{◌≡◌, ℕ, List, true, false, Some, Vec}
 use Rattle.wide_unit.specs.EncodingForm.{Utf16 as form16}
 use Rattle.wide_unit.specs.Items.{IsFirstFault}
@@ -7,7 +7,7 @@ use Rattle.wide_bytes.specs.Bytes.{units_of_bytes, is_odd}
 use Rattle.wide_utferror.specs.declared.convert.Utf16BytesError.{Utf16BytesError}
 use Rattle.wide_utferror.specs.declared.convert.Utf16BytesError.TheVariants.{OddLength, Utf16, OutOfMemory}
 
--- an odd length is told first, then want of memory, then the first fault, with the vector of the units
+-- An odd length takes precedence, then a failed allocation, and then the first fault, with the vector of the units.
 abbrev pub TellsOfBytes : {A : Type 0} → List ℕ → Utf16BytesError A → Type 0
 TellsOfBytes bytes OddLength = is_odd bytes ≡ true
 TellsOfBytes bytes OutOfMemory = is_odd bytes ≡ false

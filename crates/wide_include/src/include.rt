@@ -1,4 +1,4 @@
-//! A file of UTF-16 as a string.
+//! Converts the bytes of a UTF-16 file to a string.
 ghost use Rattle.std.specs.Prelude.{◌≡◌, false, IfOk, IfErr, OnOk};
 ghost use Rattle.wide_unit.specs.EncodingForm.{Utf16};
 ghost use Rattle.wide_unit.specs.Items.{IsWellFormed};
@@ -10,7 +10,7 @@ use wide_bytes::units_of_bytes;
 use wide_utferror::Utf16BytesError;
 use wide_utfstring::Utf16String;
 
-// The units that the bytes mean. Memory is asked for once.
+// Returns the units of the bytes as a vector. Allocates once.
 fn unit_vec<A: Allocator>(alloc: A, bytes: &[u8]) -> Result<Vec<u16, A>, AllocError>
     ensures { IfOk result (λ v. v.items ≡ units_of_bytes bytes.now) }
 {
@@ -23,15 +23,15 @@ fn unit_vec<A: Allocator>(alloc: A, bytes: &[u8]) -> Result<Vec<u16, A>, AllocEr
     Ok(found)
 }
 
-/// The text of a file of UTF-16: of the units that its bytes mean (Unicode Standard, D98), in the order of the byte order mark at
-/// the front, which is dropped, or little endian without one, and without one last zero unit. Memory is asked for once.
+/// Converts the bytes of a UTF-16 file (Unicode Standard, D98) to a string. A BOM at the beginning gives the byte order
+/// and is dropped; without one the order is little-endian. One zero unit at the end is dropped. Allocates once.
 ///
 /// # Errors
 ///
-/// - [`Utf16BytesError::OddLength`]: the number of bytes is odd. It comes before any memory is taken.
-/// - [`Utf16BytesError::OutOfMemory`]: an allocation was refused.
-/// - [`Utf16BytesError::Utf16`]: the first fault of the units, its index counted in units and its item number in characters,
-///   both without the mark, with the vector of these units.
+/// - [`Utf16BytesError::OddLength`]: the number of bytes is odd. This is checked before the allocation.
+/// - [`Utf16BytesError::OutOfMemory`]: the allocation failed.
+/// - [`Utf16BytesError::Utf16`]: the first fault of the units. Its index is counted in units and its item number in
+///   characters, both after the BOM. The error holds the vector of the units.
 pub fn include_utf16str<A: Allocator>(
     alloc: A,
     bytes: &[u8],

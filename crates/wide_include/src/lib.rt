@@ -1,6 +1,6 @@
-//! Files of UTF-16 as strings.
+//! Converts UTF-16 files to strings.
 //!
-//! It stands apart from the rest of `bytes`, which stands on no string.
+//! This is separate from the other code for UTF-16 in bytes, which does not depend on strings.
 #![tactic(auto)]
 
 mod include;
