@@ -1,4 +1,5 @@
--- The words that the contracts of the re-exported calls speak in. A crate that lists `widestring` alone cites them from here.
+-- The definitions that the contracts of the re-exported calls use. A crate that depends on `widestring` only cites them
+-- from here.
 pub use Rattle.wide_unit.specs.EncodingForm
 pub use Rattle.wide_unit.specs.Segmentation
 pub use Rattle.wide_unit.specs.Items

@@ -1,4 +1,5 @@
-//! UTF-16 in bytes: byte order and byte order mark, devices, what writes the text of one into another, and files as strings.
+//! UTF-16 in bytes: byte order and BOM, devices that give and take bytes, transcoding from one to another, and files as
+//! strings.
 
 pub use wide_bytes::{
     BoM, ByteSink, ByteSource, FromRead, FromWrite, Mode, UnitsOfBytes, Utf16OfBytes, byte_order,

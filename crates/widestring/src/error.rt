@@ -1,4 +1,4 @@
-//! Every error of the library, and the text that each of them prints.
+//! All errors of the library, and the text that each of them prints.
 
 pub use wide_error::{
     ContainsNul, DecodeUtf16Error, DecodeUtf32Error, MissingNulTerminator, NulError, OutOfMemory,

@@ -1,7 +1,7 @@
 //! Wide strings: text in units of 16 or 32 bits, UTF-16 and UTF-32, well formed or not.
 //!
-//! A port of Rust's crate of this name, under the same paths. Each module is a crate of its own, or is put together
-//! of two, which this one re-exports; it has no code.
+//! It is a port of the Rust crate of this name, with the same paths. Each module re-exports a separate crate, or the
+//! items of several crates. This crate has no code.
 #![tactic(auto)]
 
 pub mod bytes;

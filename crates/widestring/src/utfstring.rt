@@ -1,4 +1,4 @@
-//! Owned strings of well-formed text, and what strings of any units do with it.
+//! Owned strings of well-formed text, and operations of strings of any units on them.
 
 pub use wide_utfextend::{
     OfText, U16StringInUtfstring, U16StringOverUtfstrs, U32StringInUtfstring, U32StringOverUtfstrs,
