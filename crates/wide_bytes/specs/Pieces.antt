@@ -61,7 +61,8 @@ Finishes (Err OutOfMemory) order rest place number = (2 ^ 64 ≤ place) × (u : 
 Finishes (Err Read) order rest place number = ⊥
 Finishes (Err Write) order rest place number = ⊥
 
--- The error for a fault after `place` units, which are `number` characters.
+-- The error for a fault after `place` units, which are `number` characters, or `OutOfMemory` if the index does not fit
+-- into 64 bits.
 abbrev pub IsFaultAt : TranscodeError → ℕ → ℕ → ℕ → Type 0
 IsFaultAt (Utf16Fault index item unit) place number u = (index ≡ place) × (item ≡ number) × (unit ≡ u)
 IsFaultAt OutOfMemory place number u = 2 ^ 64 ≤ place

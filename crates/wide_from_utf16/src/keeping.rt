@@ -1,5 +1,5 @@
-//! Writes lossy UTF-16 under a policy (Unicode Standard, section 3.9, "U+FFFD Substitution of Maximal Subparts"). It
-//! retains only some replacement characters of text that has one for each fault. Vectorized: eight units in one step,
+//! Writes lossy UTF-16 under a policy (Unicode Standard, section 3.9, "U+FFFD Substitution of Maximal Subparts"). Of a
+//! text with U+FFFD for each fault, it retains those that the policy yields. Vectorized: eight units in one step,
 //! compressed by a look-up table of shuffles.
 
 ghost use Rattle.std.specs.Prelude.{◌≡◌, ◌++◌, ◌∷◌, [], ◌+◌, ◌<◌, ◌≤◌, ℕ, length, slice_index, take, drop, if◌then◌else◌};

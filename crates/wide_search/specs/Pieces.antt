@@ -4,7 +4,7 @@ use Rattle.wide_search.specs.Parts.{StandsNowhere, IsFirstAt}
 
 module _ {A : Type 0} where
   -- Each split is at the first occurrence of the separator in what is left after the split before, and it does not
-  -- occur in what is left after the last split. No list is defined for an empty separator.
+  -- occur in what is left after the last split. For an empty separator, no list satisfies it.
   abbrev pub ArePieces : List A → List A → List (List A) → Type 0
   ArePieces part whole [] = ⊥
   ArePieces part whole (piece ∷ []) = (piece ≡ whole) × StandsNowhere part whole

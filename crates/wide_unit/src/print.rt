@@ -13,7 +13,7 @@ use std::fmt;
 ///
 /// # Requires
 ///
-/// The rest of the escape is at most 10 characters long.
+/// The escape is at most 10 characters long, as those that [`char::escape_debug`] returns are.
 ///
 /// # Errors
 ///
