@@ -12,7 +12,7 @@ use crate::units::{char_of, low_len, put_bytes, put_char};
 use wide_from_utf16::is_marked;
 use wide_unit::{Policy, Unit};
 
-// After so many bytes without a fault, the caller goes on with the vectorized conversion.
+// After this many bytes without a fault, the caller goes on with the vectorized conversion.
 const SOUND: usize = 64;
 
 // Returns the byte at an offset, or zero after the end. Zero continues no character.

@@ -45,8 +45,8 @@ fn mended_len<C: Unit>(units: &[C], most: usize) -> usize
 /// Repairs a prefix of the units: replaces each unit that belongs to no character by U+FFFD (Unicode Standard, section
 /// 3.9, "U+FFFD Substitution of Maximal Subparts"). Returns the repaired prefix and the units after it.
 ///
-/// If the prefix has no fault, it is returned without copying. Otherwise it is written into `spare`, at most as many
-/// units as `spare` holds.
+/// If many well-formed units precede the first fault, or all units are well formed, these are the prefix and are
+/// returned without copying. Otherwise the prefix is written into `spare`, at most as many units as `spare` holds.
 ///
 /// # Requires
 ///

@@ -70,8 +70,8 @@ pub fn byte_width<C: Unit>() -> usize
     }
 }
 
-/// Stores a little-endian BOM (Unicode Standard, section 23.8) at the beginning of `bytes`: `FF FE`, or in UTF-32 `FF
-/// FE 00 00`. The bytes after it are unchanged.
+/// Stores a little-endian BOM (Unicode Standard, section 23.8) at the beginning of `bytes`. It is `FF FE`, or in UTF-32
+/// `FF FE 00 00`. The bytes after it are unchanged.
 ///
 /// # Requires
 ///
@@ -87,8 +87,8 @@ pub fn put_le_mark<C: Unit>(bytes: &mut [u8])
     }
 }
 
-/// Stores a big-endian BOM (Unicode Standard, section 23.8) at the beginning of `bytes`: `FE FF`, or in UTF-32 `00 00
-/// FE FF`. The bytes after it are unchanged.
+/// Stores a big-endian BOM (Unicode Standard, section 23.8) at the beginning of `bytes`. It is `FE FF`, or in UTF-32
+/// `00 00 FE FF`. The bytes after it are unchanged.
 ///
 /// # Requires
 ///
