@@ -1,5 +1,4 @@
-//! Takes bytes from a source, and puts all bytes into a sink. The bytes are those of UTF-16 (Unicode Standard, section
-//! 3.10) and of UTF-8, but nothing here depends on it.
+//! Takes bytes from a source, and puts all bytes into a sink, whatever their encoding.
 
 ghost use Rattle.std.specs.Prelude.{◌≡◌, ◌<◌, ◌≤◌, ◌+◌, ◌-◌, ◌||◌, false, length, take, drop, IfOk, OnErr};
 ghost use Rattle.std.specs.Io.KnownBytes.{Consumes, IsAtEnd, Keeps};
