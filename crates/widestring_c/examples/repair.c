@@ -1,11 +1,11 @@
-/* Reads units of UTF-16 in hexadecimal from the command line, names the first fault, and prints the repaired text as UTF-8. */
+/* Reads units of UTF-16 in hexadecimal from the command line, prints the first fault, and prints the repaired text as UTF-8. */
 #include "widestring.h"
 #include <stdio.h>
 #include <stdlib.h>
 
 #define MOST 64
 
-/* Prints the text of well-formed UTF-16, in a buffer of the length that is needed. */
+/* Prints well-formed UTF-16 as UTF-8, through a buffer of exactly the needed size. */
 static int print_text(const uint16_t *units, size_t length) {
     size_t needed = wide_utf16_to_utf8(units, length, NULL, 0);
     if (needed == WIDE_FAULT)

@@ -1,23 +1,24 @@
-//! The library from Rust: names the first fault of units of UTF-16 in hexadecimal, and prints their text as UTF-8, lossily.
+//! Calls the library from Rust: names the first fault in units of UTF-16, given in hexadecimal, and prints their lossy
+//! text as UTF-8.
 
 extern "C" {
     fn wide_utf16_first_fault(units: *const u16, length: usize) -> usize;
     fn wide_utf16_to_utf8_lossy(units: *const u16, length: usize, text: *mut u8, room: usize) -> usize;
 }
 
-/// The place of the first unit that belongs to no character, where there is one.
+/// Returns the offset of the first ill-formed unit, or `None` if there is none.
 fn first_fault(units: &[u16]) -> Option<usize> {
-    // A slice is memory that may be read, of this length.
+    // The slice is memory of this length that may be read.
     let place = unsafe { wide_utf16_first_fault(units.as_ptr(), units.len()) };
     (place < units.len()).then_some(place)
 }
 
-/// The text of the units in UTF-8, with U+FFFD for each fault.
+/// Converts the units to UTF-8, with U+FFFD for each ill-formed unit.
 fn to_utf8_lossy(units: &[u16]) -> Vec<u8> {
     let mut text = Vec::new();
     loop {
         text.resize(text.capacity(), 0);
-        // The vector is memory that may be written, of this length, and overlaps no slice that is handed in.
+        // The vector is memory of this length that may be written, and does not overlap the slice.
         let needed =
             unsafe { wide_utf16_to_utf8_lossy(units.as_ptr(), units.len(), text.as_mut_ptr(), text.len()) };
         if needed <= text.len() {

@@ -1,22 +1,24 @@
 /*
- * Wide strings for programs in C: UTF-16, UTF-32 and UTF-8 in buffers of the caller's.
+ * Conversions, checks and searches of UTF-16, UTF-32 and UTF-8 for C programs. The caller supplies all buffers.
  *
- * Each function is proved to do what is said of it here, for all units and bytes, well formed or not, if the caller keeps these rules,
- * which nothing checks:
+ * Each function is proved to do what its comment says, for all units and bytes, well formed or ill-formed, if the
+ * caller keeps these rules. The functions do not check the rules:
  *
- *  - A pointer and the length or capacity after it describe memory that may be read, or written if the pointer is not to `const`. If
- *    the length or capacity is 0, the pointer may be NULL.
+ *  - A pointer and the length or capacity after it describe memory that may be read, or written if the pointer is not
+ *    to `const`. If the length or capacity is 0, the pointer may be NULL.
  *  - The memory is aligned for its type.
- *  - Memory that is written overlaps no other memory that is handed in.
- *  - Nothing changes the text, and nothing else reads or writes the buffer, during a call: no other thread, and no signal handler.
+ *  - Memory that is written does not overlap any other memory that is passed.
+ *  - During a call nothing else changes the input, and nothing else reads or writes the output buffer: no other thread,
+ *    and no signal handler.
  *
- * Lengths, capacities and offsets are counted in elements of the array: units, or bytes of UTF-8. No function allocates memory, keeps a
- * pointer, stops the program or has a state, so each may be called in any thread. A call takes at most 9 KB of stack. The library runs on
- * x86-64 processors of level 2, which have SSE4.2 and POPCNT, under Linux.
+ * Lengths, capacities and offsets are counted in elements of the array: code units of UTF-16 or UTF-32, or bytes of
+ * UTF-8. No function allocates memory, keeps a pointer, terminates the program or has global state, so each may be
+ * called in any thread. A call takes at most 9 KB of stack. The library runs on x86-64 processors of level 2
+ * (x86-64-v2), which have SSE4.2 and POPCNT, under Linux.
  *
- * A unit or byte that belongs to no character is ill formed. The offset of an ill-formed sequence is that of its first unit or byte. Texts
- * are not terminated: a NUL is a character like others, and none is written after a result. A byte order mark is kept as the character
- * U+FEFF, also at the start of a text.
+ * A code unit or byte that belongs to no character is ill-formed. The offset of an ill-formed sequence is the offset of
+ * its first unit or byte. Texts are not NUL-terminated: a NUL is a character like any other, and no function writes one
+ * after a result. A byte order mark (BOM) is converted as the character U+FEFF, also at the start of a text.
  */
 #ifndef WIDESTRING_H
 #define WIDESTRING_H
@@ -28,32 +30,36 @@
 extern "C" {
 #endif
 
-/* The version of this header, as numbers, as text, and as one number: major * 0x10000 + minor * 0x100 + patch. */
+/* The version of this header, as numbers, as a string, and as one number: major * 0x10000 + minor * 0x100 + patch. */
 #define WIDESTRING_VERSION_MAJOR 0
 #define WIDESTRING_VERSION_MINOR 1
 #define WIDESTRING_VERSION_PATCH 0
 #define WIDESTRING_VERSION "0.1.0"
 #define WIDESTRING_VERSION_NUMBER UINT32_C(0x000100)
 
-/* Returns WIDESTRING_VERSION_NUMBER of the library that the program runs with. */
+/* Returns the WIDESTRING_VERSION_NUMBER of the library that the program runs with. */
 uint32_t wide_version(void);
 
 /*
- * What a conversion, a count or a length returns if the text is not well formed, or if a policy or an order is none of those below. No
- * text is so long.
+ * What a conversion, a count or a length returns if the text is ill-formed, or if a policy or an order is not one of
+ * those below. No text has this length.
  */
 #define WIDE_FAULT SIZE_MAX
 
-/* What a search returns if it finds nothing, and wide_utf16_first_fault_item if the text is well formed. No text is so long. */
+/*
+ * What a search returns if it finds nothing, and what wide_utf16_first_fault_item and wide_utf32_first_fault_item
+ * return if the text is well formed. No text has this length.
+ */
 #define WIDE_NOT_FOUND SIZE_MAX
 
 /*
- * Policies: what a lossy conversion writes for ill-formed sequences: U+FFFD for each, one U+FFFD for each longest run of neighbours, or
- * nothing. Without them text on both sides is joined: if a filter looks for a word before the conversion, what WIDE_SKIP leaves may
- * contain that word (Unicode Technical Report 36, section 3.5), so look for it after the conversion.
+ * Policies of lossy conversions: what is written for ill-formed sequences. WIDE_EACH writes U+FFFD for each one,
+ * WIDE_RUN writes one U+FFFD for each longest run of adjacent ones, and WIDE_SKIP writes nothing. WIDE_SKIP joins the
+ * text on both sides of a sequence. So the result may contain a word that a filter did not find before the conversion
+ * (Unicode Technical Report 36, section 3.5). Filter the result, not the input.
  *
- * A policy is passed as a number of 32 bits, since an enum of C has no certain width. For any other number the result is WIDE_FAULT, and
- * the buffer is unchanged.
+ * A policy is passed as a 32-bit number, since the width of an enum depends on the C implementation. For any other
+ * number the functions return WIDE_FAULT and leave the buffer unchanged.
  */
 enum WideLossy {
     WIDE_EACH = 0,
@@ -62,11 +68,11 @@ enum WideLossy {
 };
 
 /*
- * Byte orders of UTF-16 that comes as bytes: little endian, the low byte first, or big endian. WIDE_NO_MARK is no order: it is what
- * wide_bytes_order returns if no byte order mark tells one.
+ * Byte orders of UTF-16 in bytes: little endian, the low byte first, or big endian. WIDE_NO_MARK is not an order:
+ * wide_bytes_order returns it if there is no BOM.
  *
- * An order is passed as a number of 32 bits. For any other number, WIDE_NO_MARK too, wide_bytes_certain and wide_bytes_ends_in_fault
- * return 0, the other calls WIDE_FAULT, and the buffer is unchanged.
+ * An order is passed as a 32-bit number. For any other number, also for WIDE_NO_MARK, wide_bytes_certain and
+ * wide_bytes_ends_in_fault return 0, and the other functions return WIDE_FAULT. A buffer is unchanged then.
  */
 enum WideOrder {
     WIDE_LITTLE_ENDIAN = 0,
@@ -77,30 +83,32 @@ enum WideOrder {
 /* Returns the offset of the first ill-formed unit of UTF-16, or `length` if there is none. */
 size_t wide_utf16_first_fault(const uint16_t *units, size_t length);
 
-/* Returns the offset of the first unit of UTF-32 that is no scalar value, or `length` if there is none. */
+/* Returns the offset of the first unit of UTF-32 that is not a scalar value, or `length` if there is none. */
 size_t wide_utf32_first_fault(const uint32_t *units, size_t length);
 
-/* Returns the offset of the first byte of UTF-8 that belongs to no character, or `length` if there is none. */
+/* Returns the offset of the first byte of the first ill-formed sequence of UTF-8, or `length` if there is none. */
 size_t wide_utf8_first_fault(const uint8_t *text, size_t length);
 
 /*
- * Returns how many characters precede the first ill-formed unit, or WIDE_NOT_FOUND if the text is well formed. A decoder that yields an
- * item for each character and each ill-formed unit yields that unit as the item of this index.
+ * Returns how many characters precede the first ill-formed unit, or WIDE_NOT_FOUND if the text is well formed. A
+ * decoder that yields one item for each character and each ill-formed unit yields that unit as the item with this
+ * index.
  */
 size_t wide_utf16_first_fault_item(const uint16_t *units, size_t length);
 size_t wide_utf32_first_fault_item(const uint32_t *units, size_t length);
 
-/* Returns the number of characters, or WIDE_FAULT if the text is not well formed. */
+/* Returns the number of characters, or WIDE_FAULT if the text is ill-formed. */
 size_t wide_utf16_char_count(const uint16_t *units, size_t length);
 size_t wide_utf32_char_count(const uint32_t *units, size_t length);
 size_t wide_utf8_char_count(const uint8_t *text, size_t length);
 
 /*
- * Returns the length of the text in another encoding form, in bytes of UTF-8 or units of the other form: what the conversion returns. It
- * writes nothing. WIDE_FAULT if the text is not well formed.
+ * Returns the length of the text in another encoding form, in bytes of UTF-8 or in units of UTF-16 or UTF-32, or
+ * WIDE_FAULT if the text is ill-formed. This is the number that the strict conversion returns. It writes nothing.
  *
- * At most, a unit of UTF-16 becomes 3 bytes of UTF-8 or 1 unit of UTF-32; a unit of UTF-32 becomes 4 bytes of UTF-8 or 2 units of UTF-16; a
- * byte of UTF-8 becomes 1 unit of either. That is so of lossy conversions, too.
+ * A unit of UTF-16 becomes at most 3 bytes of UTF-8 or 1 unit of UTF-32. A unit of UTF-32 becomes at most 4 bytes of
+ * UTF-8 or 2 units of UTF-16. A byte of UTF-8 becomes at most 1 unit of UTF-16 or UTF-32. These bounds also hold for
+ * lossy conversions.
  */
 size_t wide_utf16_utf8_length(const uint16_t *units, size_t length);
 size_t wide_utf32_utf8_length(const uint32_t *units, size_t length);
@@ -118,111 +126,133 @@ size_t wide_utf16_find_unit(const uint16_t *units, size_t length, uint16_t unit)
 size_t wide_utf32_find_unit(const uint32_t *units, size_t length, uint32_t unit);
 
 /*
- * Returns the first offset at which the needle occurs, or WIDE_NOT_FOUND. An empty needle occurs at 0. Units before one that equals the
- * needle's first unit are passed by SIMD; the worst case, a needle whose prefix occurs nearly everywhere, takes the product of both lengths.
+ * Returns the offset of the first occurrence of the needle, or WIDE_NOT_FOUND if it does not occur. An empty needle
+ * occurs at offset 0. SIMD code finds the next unit that equals the needle's first unit. In the worst case, a needle
+ * whose prefix occurs nearly everywhere, the time grows with the product of both lengths.
  */
 size_t wide_utf16_find(const uint16_t *units, size_t length, const uint16_t *needle, size_t needle_length);
 size_t wide_utf32_find(const uint32_t *units, size_t length, const uint32_t *needle, size_t needle_length);
 
 /*
- * Each function below that takes a capacity returns the length of the result, whatever the capacity is, or WIDE_FAULT where it says so, which
- * leaves the buffer unchanged. If the capacity is at least that length, the result is written to the start of the buffer, and no element after
- * it is written. If it is smaller, the content of the buffer is unspecified, within the capacity: call again with more, and with the same
- * arguments otherwise. A capacity of 0 asks for the length alone.
+ * Each function below that takes a capacity returns the length of the whole result in elements, whatever the capacity
+ * is, or WIDE_FAULT if its comment says so. If it returns WIDE_FAULT, the buffer is unchanged. If the capacity is at
+ * least the returned length, the result is at the start of the buffer, and no element after the result is written. If
+ * the capacity is smaller, the content of the buffer is unspecified, and no element past the capacity is written: call
+ * again with a larger buffer and the same other arguments. With a capacity of 0 the call only computes the length.
  */
 
-/* Converts well-formed UTF-16 to UTF-8. WIDE_FAULT if the units are not well formed. */
+/* Converts well-formed UTF-16 to UTF-8. Returns WIDE_FAULT if the units are ill-formed. */
 size_t wide_utf16_to_utf8(const uint16_t *units, size_t length, uint8_t *text, size_t capacity);
 
-/* Converts any units of UTF-16 to UTF-8, with U+FFFD, three bytes, for each ill-formed unit. */
+/* Converts any units of UTF-16 to UTF-8, and writes U+FFFD, three bytes, for each ill-formed unit. */
 size_t wide_utf16_to_utf8_lossy(const uint16_t *units, size_t length, uint8_t *text, size_t capacity);
 
-/* Converts any units of UTF-16 to UTF-8, under a policy. WIDE_FAULT if the policy is none. */
+/*
+ * Converts any units of UTF-16 to UTF-8, and replaces ill-formed units by the policy. Returns WIDE_FAULT if the policy
+ * is invalid.
+ */
 size_t wide_utf16_to_utf8_lossy_with(const uint16_t *units, size_t length, uint32_t policy, uint8_t *text, size_t capacity);
 
 /*
- * UTF-16 that comes as bytes (Unicode Standard, D96 and D97). `length` is a number of bytes; bytes need no alignment. Only whole units are
- * read: half a unit at the end is none.
+ * UTF-16 in bytes (Unicode Standard, D96 and D97). `length` is in bytes. The bytes need no alignment. Only whole units
+ * are read: an odd last byte is ignored, unless a function says otherwise.
  *
- * A stream is converted piece by piece. WIDE_NO_MARK is no order: before the first piece, once two bytes are there, ask wide_bytes_order,
- * drop the two bytes of the byte order mark if there is one, and choose an order if there is none. The caller keeps that order, a number
- * `after_fault`, 0 at first, and a buffer that starts with the bytes left over from the piece before, none at first, followed by the bytes
- * of the next piece. For each piece:
+ * A stream is converted chunk by chunk. Once the first two bytes have been read, call wide_bytes_order. If there is a
+ * BOM, drop its two bytes. If it returns WIDE_NO_MARK, choose an order. The caller keeps three things: the order, a
+ * number `after_fault`, which is 0 at first, and a buffer. The buffer starts with the bytes left over from the previous
+ * chunk, none at first, and the bytes of the next chunk follow them. For each chunk:
  *
  *     certain = wide_bytes_certain(buffer, length, order);
  *     needed = wide_bytes_to_utf8_lossy_with(buffer, certain, order, policy, after_fault, text, capacity);
  *     after_fault = wide_bytes_ends_in_fault(buffer, certain, order, after_fault);
  *     memmove(buffer, buffer + certain, length - certain);
  *
- * If `needed` is more than the capacity, call the second line again with more, before the third: it takes the old `after_fault`. At the end of
- * the stream convert what is left, at most three bytes, all of it: the texts, one after another, are that of the whole stream. If its length
- * is odd then, the stream ends in half a unit.
+ * If `needed` is greater than the capacity, repeat the second line with a larger buffer before the third line: it takes
+ * the old `after_fault`. At the end of the stream convert all bytes that are left, at most three. The results, one
+ * after another, are the text of the whole stream. If an odd number of bytes is left, the stream ends in half a unit.
  *
- * Whether a piece had ill-formed units: wide_bytes_first_fault of its `certain` bytes, and at the end of what is left, is below their length / 2.
- * `after_fault` tells only of the last unit. A reader that accepts no ill-formed unit calls wide_bytes_to_utf8 instead of the lossy call, stops at
- * WIDE_FAULT, and needs no `after_fault`.
+ * A chunk had ill-formed units if wide_bytes_first_fault of its `certain` bytes is less than certain / 2. The same call
+ * finds ill-formed units in the bytes left at the end. `after_fault` reports only the last unit. A reader that rejects
+ * ill-formed units calls wide_bytes_to_utf8 instead of the lossy function, stops at WIDE_FAULT, and needs no
+ * `after_fault`.
  */
 
-/* Returns the order that the byte order mark at the start tells (Unicode Standard, section 23.8), or WIDE_NO_MARK. */
+/* Returns the order of the BOM at the start (Unicode Standard, section 23.8), or WIDE_NO_MARK if there is none. */
 uint32_t wide_bytes_order(const uint8_t *bytes, size_t length);
 
 /*
- * Returns how many bytes at the start are whole units whose meaning no later bytes can change: all whole units, except a last high
- * surrogate. At most three bytes follow them. 0 if the order is none.
+ * Returns how many bytes at the start are whole units whose meaning no later bytes can change: all whole units, except
+ * a last high surrogate. At most three bytes follow them. Returns 0 if the order is invalid.
  */
 size_t wide_bytes_certain(const uint8_t *bytes, size_t length, uint32_t order);
 
-/* Returns the offset, in units, of the first ill-formed unit, or length / 2 if there is none. WIDE_FAULT if the order is none. */
+/*
+ * Returns the offset, in units, of the first ill-formed unit, or length / 2 if there is none. Returns WIDE_FAULT if the
+ * order is invalid.
+ */
 size_t wide_bytes_first_fault(const uint8_t *bytes, size_t length, uint32_t order);
 
 /*
- * Returns 1 if the last unit is ill formed, else 0. If there are no units, the last unit is that of what precedes the bytes, as
- * `after_fault` tells it: 0 for well formed, any other number for ill formed. 0 if the order is none.
+ * Returns 1 if the last whole unit is ill-formed, and 0 if it is not. If there are no whole units, it returns 0 if
+ * `after_fault` is 0, and else 1. `after_fault` describes the unit before the bytes: 0 if it is well formed or there is
+ * none, any other number if it is ill-formed. Returns 0 if the order is invalid.
  */
 uint32_t wide_bytes_ends_in_fault(const uint8_t *bytes, size_t length, uint32_t order, uint32_t after_fault);
 
 /*
- * Converts bytes that are whole units of well-formed UTF-16 to UTF-8. WIDE_FAULT if half a unit is left, the units are not well formed, or
- * the order is none.
+ * Converts bytes of well-formed UTF-16 to UTF-8. Returns WIDE_FAULT if the number of bytes is odd, the units are
+ * ill-formed, or the order is invalid.
  */
 size_t wide_bytes_to_utf8(const uint8_t *bytes, size_t length, uint32_t order, uint8_t *text, size_t capacity);
 
 /*
- * Converts the whole units of any bytes to UTF-8, under a policy. `after_fault` tells whether the unit before the bytes is ill formed, as for
- * wide_bytes_ends_in_fault. WIDE_FAULT if the order or the policy is none.
+ * Converts the whole units of any bytes to UTF-8, and replaces ill-formed units by the policy. `after_fault` describes
+ * the unit before the bytes: 0 if it is well formed or there is none, any other number if it is ill-formed. Returns
+ * WIDE_FAULT if the order or the policy is invalid.
  */
 size_t wide_bytes_to_utf8_lossy_with(const uint8_t *bytes, size_t length, uint32_t order, uint32_t policy, uint32_t after_fault, uint8_t *text, size_t capacity);
 
-/* Converts well-formed UTF-32 to UTF-8. WIDE_FAULT if the units are not well formed. */
+/* Converts well-formed UTF-32 to UTF-8. Returns WIDE_FAULT if the units are ill-formed. */
 size_t wide_utf32_to_utf8(const uint32_t *units, size_t length, uint8_t *text, size_t capacity);
 
-/* Converts any units of UTF-32 to UTF-8, with U+FFFD for each unit that is no scalar value. */
+/* Converts any units of UTF-32 to UTF-8, and writes U+FFFD for each unit that is not a scalar value. */
 size_t wide_utf32_to_utf8_lossy(const uint32_t *units, size_t length, uint8_t *text, size_t capacity);
 
-/* Converts any units of UTF-32 to UTF-8, under a policy. WIDE_FAULT if the policy is none. */
+/*
+ * Converts any units of UTF-32 to UTF-8, and replaces ill-formed units by the policy. Returns WIDE_FAULT if the policy
+ * is invalid.
+ */
 size_t wide_utf32_to_utf8_lossy_with(const uint32_t *units, size_t length, uint32_t policy, uint8_t *text, size_t capacity);
 
-/* Converts well-formed UTF-8 to UTF-16 or to UTF-32. WIDE_FAULT if the bytes are not well formed. */
+/* Converts well-formed UTF-8 to UTF-16 or to UTF-32. Returns WIDE_FAULT if the bytes are ill-formed. */
 size_t wide_utf8_to_utf16(const uint8_t *text, size_t length, uint16_t *units, size_t capacity);
 size_t wide_utf8_to_utf32(const uint8_t *text, size_t length, uint32_t *units, size_t capacity);
 
-/* Converts well-formed UTF-16 to UTF-32, and well-formed UTF-32 to UTF-16. WIDE_FAULT if the units are not well formed. */
+/*
+ * Converts well-formed UTF-16 to UTF-32, and well-formed UTF-32 to UTF-16. Returns WIDE_FAULT if the units are
+ * ill-formed.
+ */
 size_t wide_utf16_to_utf32(const uint16_t *units, size_t length, uint32_t *scalars, size_t capacity);
 size_t wide_utf32_to_utf16(const uint32_t *scalars, size_t length, uint16_t *units, size_t capacity);
 
 /*
- * Converts any bytes to UTF-16 or to UTF-32, with U+FFFD for each maximal subpart of an ill-formed sequence of UTF-8: the longest prefix that
- * begins a character and does not go on as one, or a byte that begins none (Unicode Standard, section 3.9, "U+FFFD Substitution of Maximal
- * Subparts").
+ * Converts any bytes to UTF-16 or to UTF-32, and writes U+FFFD for each maximal subpart of an ill-formed sequence of
+ * UTF-8: the longest prefix that begins a character but does not continue as one, or a byte that begins none (Unicode
+ * Standard, section 3.9, "U+FFFD Substitution of Maximal Subparts").
  */
 size_t wide_utf8_to_utf16_lossy(const uint8_t *text, size_t length, uint16_t *units, size_t capacity);
 size_t wide_utf8_to_utf32_lossy(const uint8_t *text, size_t length, uint32_t *units, size_t capacity);
 
-/* Converts any bytes to UTF-16 or to UTF-32, with what a policy writes for those subparts. WIDE_FAULT if the policy is none. */
+/*
+ * Converts any bytes to UTF-16 or to UTF-32, and replaces these maximal subparts by the policy. Returns WIDE_FAULT if
+ * the policy is invalid.
+ */
 size_t wide_utf8_to_utf16_lossy_with(const uint8_t *text, size_t length, uint32_t policy, uint16_t *units, size_t capacity);
 size_t wide_utf8_to_utf32_lossy_with(const uint8_t *text, size_t length, uint32_t policy, uint32_t *units, size_t capacity);
 
-/* Copies the units, with U+FFFD in place of each ill-formed one: the result is well formed, and its length is `length`. */
+/*
+ * Copies the units, and replaces each ill-formed unit by U+FFFD. The result is well formed, and its length is `length`.
+ */
 size_t wide_utf16_repair(const uint16_t *units, size_t length, uint16_t *repaired, size_t capacity);
 size_t wide_utf32_repair(const uint32_t *units, size_t length, uint32_t *repaired, size_t capacity);
 

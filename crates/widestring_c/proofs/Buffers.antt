@@ -1,16 +1,16 @@
--- What is written of a list into a buffer, piece by piece, and counted whether it fits or not.
+-- Writing a list into a buffer, chunk by chunk. Elements are counted whether they fit or not.
 use Rattle.std.proofs.Common.{◌≡◌, ◌≤◌, ◌+◌, ◌-◌, ◌^◌, ◌++◌, ℕ, List, [], refl, ap, arith, sym, ◌∙◌, length, map, take, drop, subst, length-append, append-nil, append_assoc}
 use Rattle.std.proofs.lemmas.List.{drop-drop, length-map, map-append, take-map}
 use Rattle.std.specs.Prelude.{min}
 
--- of what is put behind the first `from` of `first`, so much is counted, what is left of it is known, and what is counted is written as
--- long as there is room
+-- state while `all` is put after the first `from` elements of `first`: `at` is the offset reached, `left` is the rest
+-- of `all`, and what was counted is written as long as it fits
 pub record Puts (first : List ℕ) (from : ℕ) (all : List ℕ) (at : ℕ) (out left : List ℕ) : Type 0 where
   pub most : at ≤ 2 ^ 64 - 1
   pub counted : min (at + length left) (2 ^ 64 - 1) ≡ min (from + length all) (2 ^ 64 - 1)
   pub written : at ≤ length out → take at out ++ left ≡ take from first ++ all
 
--- the same at the front
+-- state while a list is put at the start of a buffer
 abbrev pub Writing : List ℕ → ℕ → List ℕ → List ℕ → Type 0
 Writing all at out left = Puts [] 0 all at out left
 
@@ -35,7 +35,7 @@ module _ (first : List ℕ) (from : ℕ) (all : List ℕ) where
   pub written_all : (out : List ℕ) (at : ℕ) → Puts first from all at out [] → at ≤ length out → take at out ≡ take from first ++ all
   written_all out at w fits = sym (append-nil (take at out)) ∙ w.written fits
 
--- the same of items that are numbers by a function
+-- one more chunk of elements that stand for numbers
 module _ {X : Type 0} (number : X → ℕ) where
   pub one_more_by : (first : List ℕ) (from : ℕ) (all : List ℕ) (old new : List X) (bs rest : List ℕ) (at end : ℕ) → Puts first from all at (map number old) (bs ++ rest) → end ≡ min (at + length bs) (2 ^ 64 - 1) → (end ≤ length old → map number (take end new) ≡ map number (take at old) ++ bs) → length new ≡ length old → Puts first from all end (map number new) rest
   one_more_by first from all old new bs rest at end w place text room =
@@ -57,7 +57,7 @@ nothing_written all out = record { most = omega arith; counted = omega arith; wr
 pub counted_front : (all out : List ℕ) (at : ℕ) → Writing all at out [] → at ≡ min (length all) (2 ^ 64 - 1)
 counted_front all out at w = omega (arith, counted_all [] 0 all out at w)
 
--- what stands behind the place stays so, by how many more there are
+-- the elements after the offset are unchanged after one more chunk
 pub behind_more : {X : Type 0} (first old new : List X) (more at end : ℕ) → at ≤ 2 ^ 64 - 1 → end ≡ min (at + more) (2 ^ 64 - 1) → drop at old ≡ drop at first → drop end new ≡ drop end old → drop end new ≡ drop end first
 behind_more first old new more at end most place before put =
     let sum : at + (end - at) ≡ end = omega (arith, place, most) in

@@ -1,4 +1,5 @@
--- Lossy text of bytes, a text and the items behind it at a time; and of no units.
+-- Lossy text of bytes: a well-formed prefix and the items after it at a time; and the lossy text of no bytes and no
+-- units.
 use Rattle.std.proofs.Common.{◌≡◌, ℕ, ◌≤◌, List, [], ◌∷◌, ◌++◌, Bool, true, false, length, take, drop, refl, sym, ap, ◌∙◌, subst, arith}
 use Rattle.std.specs.Str.{IsUtf8, IsValidUpTo, chars}
 use Rattle.std.proofs.lemmas.List.{take_all}
@@ -13,7 +14,7 @@ use Rattle.wide_unit.specs.declared.policy.Policy.TheVariants.{Each, Run, Skip}
 use Rattle.wide_blocks.specs.Parts.{IsLossyFront, none, utf8_items, utf8_items-divide, utf8_items-unique}
 use Rattle.wide_blocks.proofs.LossyItems.{lossy-behind_text, lossy-rest}
 
--- the text at the front, the units of some items behind it, and what stands behind those
+-- the text of the prefix, the units of some items after it, and the text of the rest
 pub lossy_front : (form : EncodingForm) (policy : Policy) (bs us : List ℕ) (n m : ℕ) (after between next : Bool) → n ≤ length bs → IsUtf8 (take n bs) → (n ≡ 0 → between ≡ after) → (1 ≤ n → between ≡ false)
     → IsLossyFront form policy (drop n bs) m between next [] us
     → encode form (lossy_after policy after (utf8_items bs)) ≡ encode form (chars (take n bs)) ++ (us ++ encode form (lossy_after policy next (utf8_items (drop m (drop n bs)))))
@@ -22,7 +23,7 @@ lossy_front form policy bs us n m after between next within text same other item
     let rest = lossy_after policy between (utf8_items (drop n bs)) in
     ap (encode form) (lossy-behind_text policy bs n after between within text same other) ∙ flat_map-append (code_units form) cs rest ∙ ap (λ vs. encode form cs ++ vs) (lossy-rest form policy (drop n bs) [] us m between next items)
 
--- no bytes have none
+-- no bytes have no lossy text
 pub no_text : (policy : Policy) (after : Bool) → lossy_after policy after [] ≡ []
 no_text Each after = refl
 no_text Run true = refl
@@ -33,12 +34,12 @@ pub lossy_end : (form : EncodingForm) (policy : Policy) (after : Bool) (bs : Lis
 lossy_end form policy after [] empty = ap (λ is. encode form (lossy_after policy after is)) (utf8_items-unique [] _ _ (utf8_items-divide []) none) ∙ ap (encode form) (no_text policy after)
 lossy_end form policy after (b ∷ bs) empty = absurd (omega arith)
 
--- nor have no units
+-- no units have no lossy text
 pub lossy_units_end : (form : EncodingForm) (policy : Policy) (after : Bool) (us : List ℕ) → length us ≡ 0 → utf8 (lossy_after policy after (items form us)) ≡ []
 lossy_units_end form policy after [] empty = ap (λ is. utf8 (lossy_after policy after is)) (items-nil form) ∙ ap utf8 (no_text policy after)
 lossy_units_end form policy after (u ∷ us) empty = absurd (omega arith)
 
--- text in three parts
+-- the UTF-8 of three texts
 pub three_texts : (a b c : List ℕ) → utf8 (a ++ (b ++ c)) ≡ utf8 a ++ (utf8 b ++ utf8 c)
 three_texts a b c = flat_map-append utf8_bytes a (b ++ c) ∙ ap (λ bs. utf8 a ++ bs) (flat_map-append utf8_bytes b c)
 
@@ -46,6 +47,6 @@ pub replacement : utf8 (0xFFFD ∷ []) ≡ 0xEF ∷ 0xBF ∷ 0xBD ∷ []
 unfolding utf8_bytes
 replacement = refl
 
--- bytes with an ill-formed part are no text
+-- bytes with an ill-formed sequence are not UTF-8
 pub not_text : (bs : List ℕ) (n : ℕ) → IsValidUpTo bs n → IsUtf8 bs → ⊥
 not_text bs n valid text = valid.longest (length bs) valid.short (subst (λ xs. IsUtf8 xs) (sym (take_all (length bs) bs (omega arith))) text)

@@ -1,4 +1,4 @@
--- Places in bytes at which no pair of units is cut.
+-- Offsets in bytes that do not split a surrogate pair.
 use Rattle.std.proofs.Common.{◌≡◌, ◌≢◌, ℕ, zero, suc, ◌+◌, ◌-◌, ◌*◌, ◌/◌, ◌%◌, ◌<◌, ◌≤◌, List, [], ◌∷◌, ◌++◌, length, get_or, take, drop, refl, sym, ap, ◌∙◌, subst, arith, length-append, length-drop, length-take-le}
 use Rattle.std.proofs.lemmas.List.{get_or-append-add, get_or-drop, get_or-take}
 use Rattle.wide_unit.specs.EncodingForm.{Utf16, IsHighSurrogate}
@@ -11,7 +11,7 @@ use Rattle.wide_bytes.proofs.Certain.{high-cut}
 use Rattle.wide_bytes.proofs.Pairs.{length-units_in}
 use Rattle.wide_bytes.proofs.UnitsHeld.{units_in-take}
 
--- a unit by its two bytes
+-- a unit and its two bytes
 unit-at : (order : BoM) (q : ℕ) (bytes : List ℕ) → 2 * q + 2 ≤ length bytes → get_or (units_in order bytes) q 0 ≡ unit_in order (get_or bytes (2 * q) 0) (get_or bytes (2 * q + 1) 0)
 unfolding units_in
 unit-at order q [] long = absurd (omega arith)
@@ -30,7 +30,7 @@ unit-of order n bytes even long =
 pub is-high : (u : ℕ) → u / 0x400 ≡ 54 → IsHighSurrogate Utf16 u
 is-high u e = (omega arith, omega arith)
 
--- before a high surrogate, whatever follows
+-- no pair is split before a high surrogate, whatever follows
 pub cut-before_high : (order : BoM) (bytes : List ℕ) (n u : ℕ) → n % 2 ≡ 0 → n + 2 ≤ length bytes → u ≡ unit_in order (get_or bytes n 0) (get_or bytes (n + 1) 0) → u / 0x400 ≡ 54
     → (more : List ℕ) → IsCut Utf16 (units_in order (take n bytes)) (units_in order (drop n bytes ++ more))
 cut-before_high order bytes n u even long is high more =
@@ -38,7 +38,7 @@ cut-before_high order bytes n u even long is high more =
     let first : get_or (units_in order bytes) (n / 2) 0 / 0x400 ≡ 54 = ap (λ v. v / 0x400) (unit-of order n bytes even long ∙ sym is) ∙ high in
     subst (λ m. IsCut Utf16 (units_in order (take m bytes)) (units_in order (drop m bytes ++ more))) twice (high-cut order bytes (units_in order bytes) (n / 2) refl (omega (arith, twice, long)) first more)
 
--- behind a unit that is no high surrogate
+-- no pair is split after a unit that is not a high surrogate
 behind-plain : (us vs : List ℕ) (q : ℕ) → length us ≡ suc q → get_or us q 0 / 0x400 ≢ 54 → IsCut Utf16 us vs
 behind-plain us vs q long plain front back h l ends begins pair =
     let at : length front ≡ q = omega (arith, long, ap length ends, length-append front (h ∷ [])) in
@@ -70,7 +70,7 @@ cut-behind_plain order bytes n u even some within is plain vs =
     in
     behind-plain front vs q long (λ e. plain (ap (λ v. v / 0x400) (sym last) ∙ e))
 
--- ---- what is left behind such a place
+-- ---- what is left after such an offset
 
 cut-short : (order : BoM) (rest : List ℕ) → length rest < 4 → (2 ≤ length rest → IsHighSurrogate Utf16 (unit_in order (get_or rest 0 0) (get_or rest 1 0))) → IsCutShort order rest
 cut-short order [] short high = tt

@@ -1,4 +1,4 @@
--- A slice has fewer than 2 ^ 63 bytes, so that no text is as long as the number that stands for a fault.
+-- A slice has fewer than 2 ^ 63 bytes, so no text is as long as `usize::MAX`, which is returned for a fault.
 use Rattle.std.proofs.Common.{◌≡◌, ℕ, ◌+◌, ◌*◌, ◌-◌, ◌^◌, ◌≤◌, ◌<◌, inl, inr, List, [], ◌∷◌, ◌++◌, length, length-append, min, Bool, true, false, sym, ap, ◌∙◌, arith}
 use Rattle.std.specs.Str.{IsUtf8, chars as str_chars}
 use Rattle.std.proofs.lemmas.Bool.{cases_lt}
@@ -33,7 +33,7 @@ units-of_text_in : (form : EncodingForm) (cs : List ℕ) → length (encode form
 units-of_text_in form [] = omega arith
 units-of_text_in form (c ∷ cs) = omega (arith, units_of form c, units-of_text_in form cs, length-append (utf8_bytes c) (utf8 cs), length-append (code_units form c) (encode form cs))
 
--- a replacement character is one unit
+-- the replacement character is one unit
 one_replacement : (form : EncodingForm) → length (code_units form 0xFFFD) ≤ 1
 one_replacement Utf16 = omega arith
 one_replacement Utf32 = omega arith
@@ -68,7 +68,7 @@ module _ (form : EncodingForm) where
   by-short Run is = runs-short is
   by-short Skip is = characters-short is
 
-  -- text of units in UTF-8 has at most four bytes for each unit
+  -- the UTF-8 of units has at most four bytes for each unit
   pub bytes-well_formed : (us : List ℕ) → IsWellFormed form us → length (utf8 (chars form us)) ≤ 4 * length us
   bytes-well_formed us well = omega (arith, bytes_of form (chars form us), ap length (encode-chars form us well))
 
@@ -81,7 +81,7 @@ module _ (form : EncodingForm) where
   pub bytes-lossy_after : (policy : Policy) (after : Bool) (us : List ℕ) → length (utf8 (lossy_after policy after (items form us))) ≤ 4 * length us
   bytes-lossy_after policy after us = omega (arith, bytes_of form (lossy_after policy after (items form us)), after-short policy after (items form us), length-lossy form us)
 
-  -- text of bytes has at most a unit for each byte
+  -- the units of UTF-8 are at most one for each byte
   pub units-text : (bs : List ℕ) → IsUtf8 bs → length (encode form (str_chars bs)) ≤ length bs
   units-text bs text = omega (arith, units-of_text_in form (str_chars bs), ap length (utf8-encode_utf8_all (str_chars bs) ∙ encodes-chars bs text))
 
@@ -95,6 +95,6 @@ module _ (form : EncodingForm) where
   pub units-lossy_by : (policy : Policy) (bs : List ℕ) → length (encode form (lossy_by policy (utf8_items bs))) ≤ length bs
   units-lossy_by policy bs = omega (arith, by-short policy (utf8_items bs), units-of_parts bs (utf8_items bs) (utf8_items-divide bs))
 
-  -- text of units in another width is no longer than four times theirs
+  -- units converted to another width are at most four times as many
   pub units-between : (other : EncodingForm) (us : List ℕ) → IsWellFormed form us → length (encode other (chars form us)) ≤ 4 * length us
   units-between other us well = omega (arith, units-of_text_in other (chars form us), bytes-well_formed us well)

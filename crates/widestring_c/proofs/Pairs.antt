@@ -1,4 +1,4 @@
--- How many units scalar values have in UTF-16: two beyond U+FFFF.
+-- The length of scalar values in UTF-16: two units for each one above U+FFFF.
 use Rattle.std.proofs.Common.{◌≡◌, ℕ, ◌+◌, ◌<◌, cond, inl, inr, List, [], ◌∷◌, length, nat_le, refl, sym, ap, ◌∙◌, arith}
 use Rattle.std.specs.List.{count_by}
 use Rattle.std.proofs.lemmas.List.Recursion.{is_count_by}

@@ -1,4 +1,4 @@
--- What the units of bytes are, a piece of them after another.
+-- The units of bytes that are read chunk by chunk.
 use Rattle.std.proofs.Common.{◌≡◌, ℕ, ◌+◌, ◌%◌, ◌<◌, ◌≤◌, Bool, List, [], ◌∷◌, ◌++◌, length, map, take, drop, refl, sym, ap, ◌∙◌, subst, arith, append_assoc, append-nil, length-append, length-drop, length-take-le}
 use Rattle.std.proofs.lemmas.List.{map-append, take-append-drop}
 use Rattle.std.proofs.lemmas.List.Concat.{flat_map-append}
@@ -18,14 +18,14 @@ use Rattle.wide_bytes.proofs.Pairs.{length-units_in, units_in-append, units_in-s
 use Rattle.widestring_c.specs.Bytes.{IsWellFormedIn, text_in}
 use Rattle.widestring_c.proofs.Chunks.{no_text}
 
--- half a unit alone has no units, so that no pair is cut before it
+-- half a unit has no units, so no pair is split before it
 pub cut-before_half : (order : BoM) (us bytes : List ℕ) → length bytes < 2 → IsCut Utf16 us (units_in order bytes)
 cut-before_half order us bytes short front back h l ends begins pair = let none : [] ≡ l ∷ back = sym (units_in-short order bytes short) ∙ begins in absurd cc
 
 pub cut-before_none : (order : BoM) (us bytes : List ℕ) → IsCut Utf16 us (units_in order (bytes ++ [])) → IsCut Utf16 us (units_in order bytes)
 cut-before_none order us bytes cut = subst (λ bs. IsCut Utf16 us (units_in order bs)) (append-nil bytes) cut
 
--- the items of a piece, and of what is behind it
+-- the items of a chunk and of the bytes after it
 items-joined : (order : BoM) (front back : List ℕ) → length front % 2 ≡ 0 → IsCut Utf16 (units_in order front) (units_in order back)
     → items Utf16 (units_in order (front ++ back)) ≡ items Utf16 (units_in order front) ++ items Utf16 (units_in order back)
 items-joined order front back even cut = ap (items Utf16) (units_in-append order front back even) ∙ items-append Utf16 (units_in order front) (units_in order back) cut
@@ -58,7 +58,7 @@ module _ (policy : Policy) (after : Bool) where
   no_text-left order bytes short =
       ap (λ us. lossy_text policy after us) (units_in-short order bytes short) ∙ ap (λ is. utf8 (lossy_after policy after is)) (items-nil Utf16) ∙ ap utf8 (no_text policy after)
 
--- ---- whether a fault is the last
+-- ---- whether the last unit is ill-formed
 
 pub last-joined : (after : Bool) (order : BoM) (front back : List ℕ) → length front % 2 ≡ 0 → IsCut Utf16 (units_in order front) (units_in order back)
     → faulty after (units_in order (front ++ back)) ≡ faulty (faulty after (units_in order front)) (units_in order back)
@@ -83,7 +83,7 @@ none-last after order bytes short = sym (ap (λ us. faulty after us) (units_in-s
 
 -- ---- the first fault
 
--- so many units at the front are those of characters, and what is left of them are the units of these bytes
+-- the first `passed` units are well formed, and the remaining units are those of `left`
 pub record Passed (us : List ℕ) (passed : ℕ) (left : List ℕ) : Type 0 where
   pub cs : List ℕ
   pub parted : items Utf16 us ≡ map Char cs ++ items Utf16 left
@@ -119,13 +119,13 @@ module _ (us : List ℕ) (passed : ℕ) (left : List ℕ) (p : Passed us passed 
       in
       IsFirstFault-of Utf16 us (p.cs ++ ds) (rest ++ items Utf16 back) (passed + n) (length p.cs + item) u joined counted (length-append p.cs ds ∙ ap (λ m. length p.cs + m) number)
 
--- where no unit is left, all are well formed
+-- if no unit is left, all units are well formed
 pub all-passed : (order : BoM) (bytes us : List ℕ) (passed : ℕ) → length bytes < 2 → Passed us passed (units_in order bytes) → IsWellFormed Utf16 us
 all-passed order bytes us passed short p =
     let none : items Utf16 (units_in order bytes) ≡ [] = ap (items Utf16) (units_in-short order bytes short) ∙ items-nil Utf16 in
     IsWellFormed-of_chars Utf16 us p.cs (p.parted ∙ ap (λ is. map Char p.cs ++ is) none ∙ append-nil (map Char p.cs))
 
--- ---- well-formed bytes, a piece of them after another
+-- ---- well-formed bytes, chunk by chunk
 
 char-split : (a b : List Item) (cs : List ℕ) → map Char cs ≡ a ++ b → (ds es : List ℕ) × (a ≡ map Char ds) × (b ≡ map Char es)
 char-split [] b cs e = ([], cs, refl, sym e)

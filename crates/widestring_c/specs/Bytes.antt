@@ -1,4 +1,4 @@
--- What stands in C for the order of bytes, for its mark, and for what is so or not; and the text of bytes.
+-- Definitions for UTF-16 in bytes: the numbers that C programs pass for byte orders and flags, and the text of bytes.
 use Rattle.std.specs.Prelude.{◌≡◌, ◌%◌, ℕ, Bool, true, false, List, Option, Some, None, ◌==◌, if◌then◌else◌, length}
 use Rattle.wide_unit.specs.EncodingForm.{Utf16}
 use Rattle.wide_unit.specs.Items.{IsWellFormed, chars}
@@ -10,11 +10,11 @@ use Rattle.wide_bytes.specs.declared.order.BoM.{BoM}
 use Rattle.wide_bytes.specs.declared.order.BoM.TheVariants.{Little, Big}
 use Rattle.widestring_c.specs.Policies.{policy_of}
 
--- the order that a number names
+-- the byte order with a number
 abbrev pub order_named : ℕ → Option BoM
 order_named n = if n == 0 then Some Little else if n == 1 then Some Big else None
 
--- the number of the order that a mark tells, and of no mark
+-- the number of the byte order of a BOM, or 2 for no BOM
 abbrev pub number_of_mark : Option BoM → ℕ
 number_of_mark (Some Little) = 0
 number_of_mark (Some Big) = 1
@@ -26,34 +26,35 @@ both (Some a) (Some b) = Some (a, b)
 both (Some a) None = None
 both None b = None
 
--- what a number tells as a flag
+-- the flag that a number stands for
 abbrev pub is_set : ℕ → Bool
 is_set n = if n == 0 then false else true
 
--- the number that tells a flag
+-- the number for a flag
 abbrev pub number_of_flag : Bool → ℕ
 number_of_flag true = 1
 number_of_flag false = 0
 
--- the text of the units of bytes, behind a fault or not, and whether a fault is the last of that and them
+-- the lossy text of the units in bytes, and whether the last unit is ill-formed; `after` says whether the unit before
+-- the bytes is ill-formed
 abbrev pub bytes_text : BoM → Policy → Bool → List ℕ → List ℕ
 bytes_text order policy after bytes = lossy_text policy after (units_in order bytes)
 
 abbrev pub bytes_faulty : BoM → Bool → List ℕ → Bool
 bytes_faulty order after bytes = faulty after (units_in order bytes)
 
--- bytes in an order are well-formed UTF-16: whole units, none of them ill formed (the Standard's D91, D96 and D97)
+-- bytes in an order are well-formed UTF-16: whole units, and all of them well formed (the Standard's D91, D96 and D97)
 abbrev pub IsWellFormedIn : BoM → List ℕ → Type 0
 IsWellFormedIn order bytes = (length bytes % 2 ≡ 0) × IsWellFormed Utf16 (units_in order bytes)
 
--- they are in the order that a number names
+-- bytes are well-formed UTF-16 in the order with a number
 abbrev pub IsWellFormedBy : ℕ → List ℕ → Type 0
 IsWellFormedBy number bytes = (order : BoM) × (order_named number ≡ Some order) × IsWellFormedIn order bytes
 
--- the text in UTF-8 of bytes that are
+-- the UTF-8 of bytes of well-formed UTF-16
 abbrev pub text_in : BoM → List ℕ → List ℕ
 text_in order bytes = utf8 (chars Utf16 (units_in order bytes))
 
--- the order and the policy that two numbers name
+-- the order and the policy with two numbers
 abbrev pub order_and_policy : ℕ → ℕ → Option (BoM × Policy)
 order_and_policy order policy = both (order_named order) (policy_of policy)

@@ -1,4 +1,4 @@
-//! Units of one width in units of the other, in a buffer of the caller's.
+//! Conversions between UTF-16 and UTF-32, into a buffer of the caller.
 ghost use Rattle.std.specs.Prelude.{◌≡◌, ◌*◌, ◌<◌, ◌≤◌, ◌-◌, ◌^◌, IfNone, IfSome, length, map, min, take, drop};
 ghost use Rattle.wide_unit.specs.EncodingForm.{Utf16, Utf32, encode};
 ghost use Rattle.wide_unit.specs.Items.{IsWellFormed, chars};
@@ -7,13 +7,14 @@ use crate::rooms::put_items;
 use wide_blocks::recode_front;
 use wide_unit::{Unit, check};
 
-// Few units are put into a small array before they are copied, others into a larger one.
+// Sizes of the array, in units, that converted units are copied from: small for a short input, so that less of it is
+// cleared.
 const FEW: usize = 32;
 
 const MANY: usize = 772;
 
-// Puts well-formed units of one width in units of another at the front, a piece after another. Answers how many they are, or the greatest
-// number where they are more.
+// Converts well-formed units to units of another width, chunk by chunk, at the start of the buffer. Returns how many
+// units the result has, or `usize::MAX` if it has more.
 fn put_recoded<C: Unit, D: Unit>(units: &[C], room: &mut [D], piece: &mut [D]) -> usize
     requires well_formed { IsWellFormed C.form (map C.number units.now) }
     requires room { length room.old < 2 ^ 64 - 1 }
@@ -32,7 +33,8 @@ fn put_recoded<C: Unit, D: Unit>(units: &[C], room: &mut [D], piece: &mut [D]) -
     at
 }
 
-// The same of any units, if they are well formed.
+// Converts units to units of another width if they are well formed. Returns how many units the result has, or `None` if
+// the input is ill-formed.
 fn put_sound<C: Unit, D: Unit>(units: &[C], room: &mut [D], piece: &mut [D]) -> Option<usize>
     requires units { 4 * length units.now < 2 ^ 64 - 1 }
     requires room { length room.old < 2 ^ 64 - 1 }
@@ -51,7 +53,7 @@ fn put_sound<C: Unit, D: Unit>(units: &[C], room: &mut [D], piece: &mut [D]) -> 
     }
 }
 
-// The same of UTF-16 in UTF-32. Answers the greatest number where the units are not well formed.
+// Converts UTF-16 to UTF-32. Returns how many units the result has, or `usize::MAX` if the input is ill-formed.
 fn put_scalars(units: &[u16], scalars: &mut [u32], piece: &mut [u32]) -> usize
     requires { 16 ≤ length piece.old }
     ensures len { IsWellFormed Utf16 units.now → result ≡ length (chars Utf16 units.now) }
@@ -67,9 +69,9 @@ fn put_scalars(units: &[u16], scalars: &mut [u32], piece: &mut [u32]) -> usize
     }
 }
 
-/// Writes the scalar values of well-formed UTF-16 (Unicode Standard, D91), which are its text in UTF-32 (D90), to the start of `scalars` if
-/// its length suffices, and returns how many they are. If the units are not well formed, it returns the greatest number, and leaves `scalars`
-/// unchanged.
+/// Converts well-formed UTF-16 (Unicode Standard, D91) to UTF-32 (D90). Returns how many units the result has. If
+/// `scalars` is at least that long, the result is at its start, and the units after the result are unchanged. If the
+/// UTF-16 is ill-formed, it returns `usize::MAX` and leaves `scalars` unchanged.
 #[unsafe(no_mangle)]
 pub extern "C" fn wide_utf16_to_utf32(units: &[u16], scalars: &mut [u32]) -> usize
     ensures len { IsWellFormed Utf16 units.now → result ≡ length (chars Utf16 units.now) }
@@ -86,8 +88,9 @@ pub extern "C" fn wide_utf16_to_utf32(units: &[u16], scalars: &mut [u32]) -> usi
     }
 }
 
-/// Writes the text of well-formed UTF-32 (Unicode Standard, D90) in UTF-16 (D91) to the start of `units` if its length suffices, and returns
-/// how many units it has. If the scalar values are not well formed, it returns the greatest number, and leaves `units` unchanged.
+/// Converts well-formed UTF-32 (Unicode Standard, D90) to UTF-16 (D91). Returns how many units the result has. If
+/// `units` is at least that long, the result is at its start, and the units after the result are unchanged. If the
+/// UTF-32 is ill-formed, it returns `usize::MAX` and leaves `units` unchanged.
 #[unsafe(no_mangle)]
 pub extern "C" fn wide_utf32_to_utf16(scalars: &[u32], units: &mut [u16]) -> usize
     ensures len { IsWellFormed Utf32 scalars.now → result ≡ length (encode Utf16 (chars Utf32 scalars.now)) }

@@ -1,4 +1,4 @@
-//! UTF-16 that comes as bytes of either order, also in pieces, whose state is the caller's.
+//! UTF-16 in bytes of either byte order, also chunk by chunk. The caller keeps the state between chunks.
 ghost use Rattle.std.specs.Prelude.{◌≡◌, ◌*◌, ◌<◌, ◌≤◌, ◌+◌, ◌-◌, ◌/◌, ◌%◌, ◌^◌, ◌++◌, ◌↔◌, ℕ, List, IfNone, IfSome, slice_index, length, min, take, drop};
 ghost use Rattle.wide_unit.specs.EncodingForm.{Utf16, IsHighSurrogate};
 ghost use Rattle.wide_unit.specs.Items.{IsFirstFault, IsWellFormed, chars};
@@ -15,10 +15,10 @@ use wide_blocks::sound_len;
 use wide_bytes::{BoM, byte_order, ends_in_fault, fill_units, unit_in};
 use wide_unit::Policy;
 
-// So many units are read at a time.
+// How many units are read at a time.
 const PIECE: usize = 1024;
 
-// The order that a number names.
+// Returns the byte order with this number, or `None` if there is none.
 fn order_named(number: u32) -> Option<BoM>
     ensures { result ≡ order_named number }
 {
@@ -29,14 +29,15 @@ fn order_named(number: u32) -> Option<BoM>
     }
 }
 
-// What a number tells as a flag.
+// Converts a number to a flag: 0 is false, any other number is true.
 fn is_set(flag: u32) -> bool
     ensures { result ≡ is_set flag }
 {
     flag != 0
 }
 
-// How many bytes at a front of whole units stay before what follows it: all, but a last high surrogate, which may begin a pair.
+// Returns how many of the first `front` bytes may be converted before the bytes after them are known: all, except a
+// last high surrogate, which may begin a pair.
 fn uncut_len(order: BoM, bytes: &[u8], front: usize) -> usize
     requires within { front ≤ length bytes.now }
     requires even { front % 2 ≡ 0 }
@@ -53,7 +54,7 @@ fn uncut_len(order: BoM, bytes: &[u8], front: usize) -> usize
     }
 }
 
-// How many bytes at the front are whole units that nothing behind the bytes changes.
+// Returns how many bytes at the start are whole units whose meaning no later bytes can change.
 fn certain_len(order: BoM, bytes: &[u8]) -> usize
     ensures within { result ≤ length bytes.now }
     ensures even { result % 2 ≡ 0 }
@@ -63,7 +64,8 @@ fn certain_len(order: BoM, bytes: &[u8]) -> usize
     uncut_len(order, bytes, bytes.len() / 2 * 2)
 }
 
-// How many bytes are read next: all whole units where they are few, or else so many that no pair is cut behind them.
+// Returns how many bytes to read next: all whole units if they fit into `PIECE` units, or else as many as fit without
+// splitting a surrogate pair.
 fn piece_len(order: BoM, bytes: &[u8]) -> usize
     requires { 2 ≤ length bytes.now }
     ensures some { 2 ≤ result }
@@ -79,8 +81,8 @@ fn piece_len(order: BoM, bytes: &[u8]) -> usize
     }
 }
 
-// Puts the text of the units of bytes at the front, by what a policy gives for faults, piece by piece, by arrays for units and for text.
-// The flag tells whether a fault is the last of what stands before the bytes.
+// Converts the units in bytes to UTF-8, chunk by chunk, at the start of `text`, and replaces ill-formed units by the
+// policy. `after_fault` says whether the unit before the bytes is ill-formed. `units` and `piece` are scratch arrays.
 fn put_bytes_by(
     order: BoM,
     bytes: &[u8],
@@ -110,7 +112,7 @@ fn put_bytes_by(
     at
 }
 
-// Puts the text of bytes as `put_bytes_by`, by arrays of its own.
+// Calls `put_bytes_by` with scratch arrays on the stack.
 fn put_bytes(order: BoM, bytes: &[u8], policy: Policy, after_fault: bool, text: &mut [u8]) -> usize
     ensures len { result ≡ length (bytes_text order policy after_fault bytes.now) }
     ensures fits { result < 2 ^ 64 - 1 }
@@ -130,7 +132,8 @@ fn put_bytes(order: BoM, bytes: &[u8], policy: Policy, after_fault: bool, text: 
     )
 }
 
-// How many units of bytes stand before the first fault, piece by piece, by an array for units.
+// Returns how many units precede the first fault, or how many whole units there are if there is no fault. `units` is a
+// scratch array.
 fn sound_units(order: BoM, bytes: &[u8], units: &mut [u16]) -> usize
     requires { 1024 ≤ length units.old }
     ensures well_formed { (result ≡ length bytes.now / 2) ↔ IsWellFormed Utf16 (units_in order bytes.now) }
@@ -153,7 +156,8 @@ fn sound_units(order: BoM, bytes: &[u8], units: &mut [u16]) -> usize
     passed
 }
 
-// Writes the text of well-formed bytes to the start of the buffer, and returns its length, if they are that.
+// Converts bytes of well-formed UTF-16 to UTF-8 at the start of `text`, and returns the length of the result in bytes.
+// Returns `None` if half a unit is left or the units are ill-formed.
 fn put_sound_bytes(order: BoM, bytes: &[u8], text: &mut [u8]) -> Option<usize>
     ensures sound { IfSome result (λ len. IsWellFormedIn order bytes.now) }
     ensures fault { IfNone result (IsWellFormedIn order bytes.now → ⊥) }
@@ -164,14 +168,15 @@ fn put_sound_bytes(order: BoM, bytes: &[u8], text: &mut [u8]) -> Option<usize>
     ensures behind { IfSome result (λ len. drop len text.new ≡ drop len text.old) }
 {
     if bytes.len() % 2 == 0 && sound_units(order, bytes, &mut [0; PIECE]) == bytes.len() / 2 {
-        // Well-formed units have nothing that a policy replaces.
+        // In well-formed units there is nothing for a policy to replace.
         Some(put_bytes(order, bytes, Policy::Each, false, text))
     } else {
         None
     }
 }
 
-// Whether a fault is the last of the units of bytes, or of what stands before them where they have none. The last item is read alone.
+// Returns whether the last whole unit is ill-formed, or `after_fault` if there are no whole units. It reads only the
+// last one or two units.
 fn ends_bytes(order: BoM, bytes: &[u8], after_fault: bool) -> bool
     ensures { result ≡ bytes_faulty order after_fault bytes.now }
 {
@@ -184,8 +189,8 @@ fn ends_bytes(order: BoM, bytes: &[u8], after_fault: bool) -> bool
     ends_in_fault(&units[..last.len() / 2], after_fault)
 }
 
-/// The order of the bytes of UTF-16 that the byte order mark at their front tells (Unicode Standard, section 23.8): 0 for little endian, 1
-/// for big endian, and 2 where no mark stands there. The two bytes of the mark are no part of the text.
+/// Returns the byte order of the BOM at the start (Unicode Standard, section 23.8): 0 for little endian, 1 for big
+/// endian, 2 if there is no BOM. The caller drops the two bytes of the BOM: they do not belong to the text.
 #[unsafe(no_mangle)]
 pub extern "C" fn wide_bytes_order(bytes: &[u8]) -> u32
     ensures { result ≡ number_of_mark (mark_of bytes.now) }
@@ -197,9 +202,9 @@ pub extern "C" fn wide_bytes_order(bytes: &[u8]) -> u32
     }
 }
 
-/// Returns how many bytes at the start are whole units of UTF-16 (Unicode Standard, D96 and D97) whose meaning no later bytes can change:
-/// all whole units, except a last high surrogate. The order of the bytes is 0 for little endian and 1 for big endian; for any other number
-/// the result is 0, so that a caller who goes on from there stays within the bytes.
+/// Returns how many bytes at the start are whole units of UTF-16 (Unicode Standard, D96 and D97) whose meaning no later
+/// bytes can change: all whole units, except a last high surrogate. The order is 0 for little endian and 1 for big
+/// endian. For any other number it returns 0, so that a caller who continues from there stays within the bytes.
 #[unsafe(no_mangle)]
 pub extern "C" fn wide_bytes_certain(bytes: &[u8], order: u32) -> usize
     ensures within { result ≤ length bytes.now }
@@ -214,11 +219,14 @@ pub extern "C" fn wide_bytes_certain(bytes: &[u8], order: u32) -> usize
     }
 }
 
-/// The text in UTF-8 of the whole units of UTF-16 in bytes (Unicode Standard, D96 and D97), in front of `text` where there is room for it,
-/// with what a policy gives for units that belong to no character; half a unit at the end is not read. `after_fault` is 0, or another
-/// number where such a unit is the last of what stands before the bytes. Order and policy are numbers, as for `wide_bytes_certain` and
-/// `wide_utf16_to_utf8_lossy_with`. Returns how many bytes the text has. For another order or policy it returns the greatest number, and
-/// leaves `text` unchanged.
+/// Converts the whole units of UTF-16 in bytes (Unicode Standard, D96 and D97) to UTF-8, and replaces ill-formed units
+/// by the policy: 0 writes U+FFFD for each, 1 writes one U+FFFD for each longest run of them, 2 writes nothing. An odd
+/// last byte is ignored. The order is 0 for little endian and 1 for big endian. `after_fault` is 0 if the unit before
+/// the bytes is well formed or there is none, and another number if it is ill-formed.
+///
+/// Returns the length of the result in bytes. If `text` is at least that long, the result is at its start, and the
+/// bytes after the result are unchanged. For any other order or policy it returns `usize::MAX` and leaves `text`
+/// unchanged.
 #[unsafe(no_mangle)]
 pub extern "C" fn wide_bytes_to_utf8_lossy_with(
     bytes: &[u8],
@@ -240,9 +248,9 @@ pub extern "C" fn wide_bytes_to_utf8_lossy_with(
     }
 }
 
-/// Whether a unit that belongs to no character is the last of the whole units of bytes, or of what stands before them where they have
-/// none: 1 where it is, and else 0. `after_fault` tells it of what stands before, as for `wide_bytes_to_utf8_lossy_with`. The answer is 0
-/// where the order is no number of one, too.
+/// Returns 1 if the last whole unit is ill-formed, and 0 if it is not. If there are no whole units, it returns 0 if
+/// `after_fault` is 0, and else 1. `after_fault` is 0 if the unit before the bytes is well formed or there is none, and
+/// another number if it is ill-formed. If the order is neither 0 nor 1, it returns 0.
 #[unsafe(no_mangle)]
 pub extern "C" fn wide_bytes_ends_in_fault(bytes: &[u8], order: u32, after_fault: u32) -> u32
     ensures last { IfSome (order_named order) (λ o. result ≡ number_of_flag (bytes_faulty o (is_set after_fault) bytes.now)) }
@@ -254,9 +262,10 @@ pub extern "C" fn wide_bytes_ends_in_fault(bytes: &[u8], order: u32, after_fault
     }
 }
 
-/// Writes the text in UTF-8 of bytes that are well-formed UTF-16 (Unicode Standard, D91, D96 and D97) to the start of `text` if its length
-/// suffices, and returns how many bytes it has. If half a unit is left, the units are not well formed or the order is no number of one, it
-/// returns the greatest number, and leaves `text` unchanged.
+/// Converts bytes of well-formed UTF-16 (Unicode Standard, D91, D96 and D97) to UTF-8. Returns the length of the result
+/// in bytes. If `text` is at least that long, the result is at its start, and the bytes after the result are unchanged.
+/// If half a unit is left, the units are ill-formed, or the order is neither 0 nor 1, it returns `usize::MAX` and
+/// leaves `text` unchanged.
 #[unsafe(no_mangle)]
 pub extern "C" fn wide_bytes_to_utf8(bytes: &[u8], order: u32, text: &mut [u8]) -> usize
     ensures len { IfSome (order_named order) (λ o. IsWellFormedIn o bytes.now → result ≡ length (text_in o bytes.now)) }
@@ -272,8 +281,9 @@ pub extern "C" fn wide_bytes_to_utf8(bytes: &[u8], order: u32, text: &mut [u8]) 
     }
 }
 
-/// The place, in units, of the first unit that belongs to no character among the whole units of UTF-16 in bytes (Unicode Standard, D91,
-/// D96 and D97), or how many those are where there is none. Where the order is no number of one, the answer is the greatest number.
+/// Returns the offset, in units, of the first ill-formed unit among the whole units of UTF-16 in bytes (Unicode
+/// Standard, D91, D96 and D97), or the number of whole units if there is none. If the order is neither 0 nor 1, it
+/// returns `usize::MAX`.
 #[unsafe(no_mangle)]
 pub extern "C" fn wide_bytes_first_fault(bytes: &[u8], order: u32) -> usize
     ensures well_formed { IfSome (order_named order) (λ o. (result ≡ length bytes.now / 2) ↔ IsWellFormed Utf16 (units_in o bytes.now)) }

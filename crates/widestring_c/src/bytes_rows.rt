@@ -1,5 +1,6 @@
-//! UTF-16 in bytes of either order: each kind of character and of fault, at each offset of short texts and about the ends of the pieces that
-//! are read at a time; whole, and as a caller reads a stream. What is wanted is made by the standard library.
+//! Tests of UTF-16 in bytes of both byte orders: each kind of character and of fault, at each offset of short texts and
+//! around the ends of chunks. They convert the bytes as a whole, and as a caller reads a stream. The standard library
+//! makes the expected results.
 use crate::bytes::{
     wide_bytes_certain, wide_bytes_ends_in_fault, wide_bytes_first_fault, wide_bytes_order,
     wide_bytes_to_utf8, wide_bytes_to_utf8_lossy_with,
@@ -7,8 +8,9 @@ use crate::bytes::{
 use crate::room_rows::{Case, KINDS16, Target, Targets, Way, all_hold, first_failure, none_fails};
 use std::alloc::{AllocError, Global};
 
-// Lengths of texts in units, each as the least and as the greatest, and the first and the last offset at which something is put: all of short
-// ones, and those about the ends of pieces of 1024 units. Those of 18 and 64 units end as those of 1026 and 2101 do.
+// Groups of cases: the least and the greatest length of texts in units, and the first and the last offset at which a
+// kind is put. Short texts have all offsets, longer ones those around the ends of chunks of 1024 units. Texts of 18 and
+// 64 units end as those of 1026 and 2101 units do.
 static LENGTHS: [(usize, usize, usize, usize); 7] = [
     (0, 0, 0, 0),
     (1, 1, 0, 1),
@@ -19,11 +21,12 @@ static LENGTHS: [(usize, usize, usize, usize); 7] = [
     (2101, 2101, 2043, 2050),
 ];
 
-// The sizes of a stream's pieces, and how long a text is at most that comes in them, in bytes. A stream of letters in pieces of 1, 2, 3 or 7
-// bytes is at each 42 bytes as it was at its start, so that 1008 units fewer of letters before a fault, or 2037, leave no call unasked.
+// Chunk sizes of streams, and the greatest length of a text that is read in chunks of the size, in bytes. A stream of
+// letters in chunks of 1, 2, 3 or 7 bytes is in its first state again after 42 bytes. So texts with 1008 or 2037 fewer
+// letters before a fault reach the same calls.
 static SIZES: [(usize, usize); 5] = [(1, 129), (2, 129), (3, 129), (7, 129), (1000, usize::MAX)];
 
-// The bytes of units in the order that a number names, and half a unit behind them.
+// Returns the bytes of units in the byte order with this number, and an odd byte after them.
 fn bytes_of(alloc: Global, units: &[u16], order: u32) -> Result<Vec<u8>, AllocError> {
     let mut bytes = Vec::new(alloc);
     for unit in units {
@@ -38,7 +41,7 @@ fn bytes_of(alloc: Global, units: &[u16], order: u32) -> Result<Vec<u8>, AllocEr
     Ok(bytes)
 }
 
-// The offset of the first fault, or how many units there are.
+// Returns the offset of the first fault, or the number of units if there is none.
 fn first_fault_of(case: &Case) -> usize {
     let mut offset = case.before;
     for item in case.items {
@@ -50,8 +53,9 @@ fn first_fault_of(case: &Case) -> usize {
     offset.saturating_add(case.after)
 }
 
-// What stands in a text behind that of a piece of bytes, where it begins with that. A piece has at most 1003 bytes, the greatest size and what
-// is held back, and its text at most half as many again, so that the room is enough.
+// Returns the rest of a text after the text of a chunk of bytes, or `None` if it does not start with that. A chunk has
+// at most 1003 bytes, the greatest size plus the bytes left over, and its text at most half as many again, so the
+// buffer suffices.
 fn behind<'a>(
     text: &'a [u8],
     piece: &[u8],
@@ -68,9 +72,9 @@ fn behind<'a>(
     text.strip_prefix(&room[..len])
 }
 
-// Whether bytes that come in pieces of a size give this text, as a caller reads a stream.
+// Returns whether bytes read in chunks of a size, as a caller reads a stream, give this text.
 fn streams(bytes: &[u8], order: u32, policy: u32, size: usize, text: &[u8]) -> bool {
-    // Of what is held, the bytes that were not put yet, a front has come.
+    // `held` are the bytes that were not converted yet. The first `come` of them have been read.
     let (mut rest, mut held, mut after_fault) = (text, bytes, 0);
     let mut come: usize = 0;
     for piece in bytes.chunks(size.max(1)) {
@@ -91,7 +95,7 @@ fn streams(bytes: &[u8], order: u32, policy: u32, size: usize, text: &[u8]) -> b
     }
 }
 
-// Whether the call of a way gives what is wanted of bytes, where it is to give any.
+// Returns whether the call gives the expected result for bytes: the wanted text, or the error if `is_put` is false.
 fn gives(target: &mut Target<u8>, bytes: &[u8], order: u32, way: Way, is_put: bool) -> bool {
     let call = |text: &mut [u8]| {
         match way {
@@ -103,7 +107,7 @@ fn gives(target: &mut Target<u8>, bytes: &[u8], order: u32, way: Way, is_put: bo
     target.is_filled(call, is_put)
 }
 
-// Whether streams of bytes give a text, in pieces of each size.
+// Returns whether streams of bytes in chunks of each size give a text.
 fn streams_each(bytes: &[u8], order: u32, policy: u32, text: &[u8]) -> bool {
     let mut well = true;
     for (size, most) in SIZES.iter() {
@@ -112,17 +116,18 @@ fn streams_each(bytes: &[u8], order: u32, policy: u32, text: &[u8]) -> bool {
     well
 }
 
-// Whether each way gives what is wanted of bytes with half a unit behind them, and of those without it.
+// Returns whether each call gives the expected result for bytes with an odd byte after them, and for the bytes without
+// it.
 fn both_give(targets: &mut Targets, odd: &[u8], order: u32, case: &Case) -> bool {
     let even = &odd[..odd.len().saturating_sub(1)];
     let mut well = true;
     for way in case.ways {
-        // Bytes have no call that is lossy and takes no policy.
+        // There is no lossy call on bytes without a policy.
         if let Way::Lossy = way {
             continue;
         }
         let is_put = way.is_put(case.is_text());
-        // No unit is whole that half of one is left of.
+        // The strict call rejects half a unit.
         let is_odd_put = is_put && !matches!(way, Way::Strict);
         well &= gives(&mut targets.bytes, even, order, *way, is_put);
         well &= gives(&mut targets.bytes, odd, order, *way, is_odd_put);
@@ -134,14 +139,15 @@ fn both_give(targets: &mut Targets, odd: &[u8], order: u32, case: &Case) -> bool
     well
 }
 
-// Whether the first fault and the last are told of bytes with half a unit behind these characters.
+// Returns whether the calls report the right first fault and last fault of bytes with an odd byte after them.
 fn tells_faults(odd: &[u8], order: u32, case: &Case) -> bool {
     let ends = case.after == 0 && case.items.last() == Some(&None);
     let is_last = wide_bytes_ends_in_fault(odd, order, 0) == u32::from(ends);
     is_last & (wide_bytes_first_fault(odd, order) == first_fault_of(case))
 }
 
-// Whether all calls do so with the bytes of these units in an order, and with half a unit behind them.
+// Returns whether all calls give the expected results for the bytes of these units in a byte order, with and without an
+// odd byte after them.
 fn holds(alloc: Global, targets: &mut Targets, units: &[u16], order: u32, case: &Case) -> bool {
     match bytes_of(alloc, units, order) {
         Ok(odd) => both_give(targets, &odd, order, case) && tells_faults(&odd, order, case),

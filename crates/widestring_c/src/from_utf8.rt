@@ -1,4 +1,4 @@
-//! Text in UTF-8 as units, in a buffer of the caller's.
+//! Conversions of UTF-8 to UTF-16 and UTF-32, into a buffer of the caller.
 ghost use Rattle.std.specs.Prelude.{◌≡◌, ◌<◌, ◌≤◌, ◌↔◌, ◌+◌, ◌-◌, ◌^◌, ◌++◌, IfNone, IfSome, length, map, min, take, drop};
 ghost use Rattle.std.specs.Str.{IsUtf8, IsValidUpTo, chars as str_chars};
 ghost use Rattle.std.specs.Str.Lossy.{utf8_lossy};
@@ -12,16 +12,18 @@ use crate::rooms::put_items;
 use wide_blocks::{decode_utf8_front, first_chunk, is_after_fault, lossy_utf8_front};
 use wide_unit::{Policy, Unit};
 
-// The units of a few bytes are put into a small array before they are copied, those of others into a larger one.
+// Sizes of the array, in units, that converted units are copied from: small for a short input, so that less of it is
+// cleared.
 const FEW: usize = 32;
 
 const MANY: usize = 772;
 
-// Units go straight into the buffer while at least so many of them are still to come.
+// Units are decoded directly into the buffer while the rest of the text yields at least this many units.
 const WINDOW: usize = 256;
 
-// Puts the units of a text behind a place, as `put_items` does, a piece after another. Behind what it answers, decoding may overwrite units,
-// so that it is given a part of the buffer only where the rest of the text fills it: four bytes have a unit at least.
+// Decodes text to the offset `at` of the buffer, chunk by chunk, and returns the offset after it, as `put_items` does.
+// Decoding may overwrite units after those that it reports. So it writes directly to the buffer only where the rest of
+// the text will overwrite them: four bytes yield at least one unit.
 fn put_text<C: Unit>(text: &[u8], units: &mut [C], at: usize, piece: &mut [C]) -> usize
     requires text { IsUtf8 text.now }
     requires room { length units.old < 2 ^ 64 - 1 }
@@ -47,7 +49,8 @@ fn put_text<C: Unit>(text: &[u8], units: &mut [C], at: usize, piece: &mut [C]) -
     at
 }
 
-// How many bytes at the front are text and are read by blocks: none where there are few.
+// Returns the length in bytes of the longest well-formed prefix, or 0 for a short input, which is not worth the
+// vectorized check.
 fn text_len(text: &[u8]) -> usize
     ensures within { result ≤ length text.now }
     ensures text { IsUtf8 (take result text.now) }
@@ -58,7 +61,8 @@ fn text_len(text: &[u8]) -> usize
     first_chunk(text).0
 }
 
-// Puts the lossy text of any bytes at the front, by what a policy gives for ill-formed parts. Answers how many units it has.
+// Converts any bytes at the start of the buffer, and replaces maximal subparts of ill-formed sequences by the policy.
+// Returns how many units the result has.
 fn put_lossy<C: Unit>(text: &[u8], policy: Policy, units: &mut [C], piece: &mut [C]) -> usize
     requires room { length units.old < 2 ^ 64 - 1 }
     requires piece { 16 ≤ length piece.old }
@@ -83,7 +87,7 @@ fn put_lossy<C: Unit>(text: &[u8], policy: Policy, units: &mut [C], piece: &mut 
     at
 }
 
-// The same in UTF-16, and in UTF-32, by an array of the size that fits.
+// Calls `put_lossy` for UTF-16, and for UTF-32, with an array whose size fits the input.
 fn put_lossy_16(text: &[u8], policy: Policy, units: &mut [u16]) -> usize
     ensures len { result ≡ length (encode Utf16 (lossy_by policy (utf8_items text.now))) }
     ensures fits { result < 2 ^ 64 - 1 }
@@ -110,8 +114,8 @@ fn put_lossy_32(text: &[u8], policy: Policy, units: &mut [u32]) -> usize
     }
 }
 
-/// The place of the first byte that belongs to no character of UTF-8 (Unicode Standard, D92), or the length where the bytes are well
-/// formed.
+/// Returns the offset of the first byte of the first ill-formed sequence of UTF-8 (Unicode Standard, D92), or the
+/// length if the bytes are well formed.
 #[unsafe(no_mangle)]
 pub extern "C" fn wide_utf8_first_fault(text: &[u8]) -> usize
     ensures well_formed { (result ≡ length text.now) ↔ IsUtf8 text.now }
@@ -121,8 +125,9 @@ pub extern "C" fn wide_utf8_first_fault(text: &[u8]) -> usize
     first_chunk(text).0
 }
 
-/// Writes the text of well-formed UTF-8 in UTF-16 to the start of `units` if its length suffices, and returns how many units it has. If the
-/// bytes are not well formed, it returns the greatest number, and leaves `units` unchanged.
+/// Converts well-formed UTF-8 to UTF-16. Returns how many units the result has. If `units` is at least that long, the
+/// result is at its start, and the units after the result are unchanged. If the bytes are ill-formed, it returns
+/// `usize::MAX` and leaves `units` unchanged.
 #[unsafe(no_mangle)]
 pub extern "C" fn wide_utf8_to_utf16(text: &[u8], units: &mut [u16]) -> usize
     ensures len { IsUtf8 text.now → result ≡ length (encode Utf16 (str_chars text.now)) }
@@ -142,7 +147,9 @@ pub extern "C" fn wide_utf8_to_utf16(text: &[u8], units: &mut [u16]) -> usize
     }
 }
 
-/// The text of well-formed UTF-8 in UTF-32, as `wide_utf8_to_utf16`.
+/// Converts well-formed UTF-8 to UTF-32. Returns how many units the result has. If `units` is at least that long, the
+/// result is at its start, and the units after the result are unchanged. If the bytes are ill-formed, it returns
+/// `usize::MAX` and leaves `units` unchanged.
 #[unsafe(no_mangle)]
 pub extern "C" fn wide_utf8_to_utf32(text: &[u8], units: &mut [u32]) -> usize
     ensures len { IsUtf8 text.now → result ≡ length (str_chars text.now) }
@@ -162,8 +169,12 @@ pub extern "C" fn wide_utf8_to_utf32(text: &[u8], units: &mut [u32]) -> usize
     }
 }
 
-/// The text of any bytes in UTF-16, with U+FFFD for each longest part that begins a character of UTF-8 and doesn't go on as one, or for a
-/// byte that begins none (Unicode Standard, section 3.9, "U+FFFD Substitution of Maximal Subparts"), as std's `from_utf8_lossy`.
+/// Converts any bytes to UTF-16. It writes U+FFFD for each maximal subpart of an ill-formed sequence: the longest
+/// prefix that begins a character of UTF-8 but does not continue as one, or a byte that begins none (Unicode Standard,
+/// section 3.9, "U+FFFD Substitution of Maximal Subparts"). std's `from_utf8_lossy` does the same.
+///
+/// Returns how many units the result has. If `units` is at least that long, the result is at its start, and the units
+/// after the result are unchanged.
 #[unsafe(no_mangle)]
 pub extern "C" fn wide_utf8_to_utf16_lossy(text: &[u8], units: &mut [u16]) -> usize
     ensures len { result ≡ length (encode Utf16 (str_chars (utf8_lossy text.now))) }
@@ -174,7 +185,11 @@ pub extern "C" fn wide_utf8_to_utf16_lossy(text: &[u8], units: &mut [u16]) -> us
     put_lossy_16(text, Policy::Each, units)
 }
 
-/// The text of any bytes in UTF-32, as `wide_utf8_to_utf16_lossy`.
+/// Converts any bytes to UTF-32. It writes U+FFFD for each maximal subpart of an ill-formed sequence, like
+/// `wide_utf8_to_utf16_lossy`.
+///
+/// Returns how many units the result has. If `units` is at least that long, the result is at its start, and the units
+/// after the result are unchanged.
 #[unsafe(no_mangle)]
 pub extern "C" fn wide_utf8_to_utf32_lossy(text: &[u8], units: &mut [u32]) -> usize
     ensures len { result ≡ length (str_chars (utf8_lossy text.now)) }
@@ -185,9 +200,11 @@ pub extern "C" fn wide_utf8_to_utf32_lossy(text: &[u8], units: &mut [u32]) -> us
     put_lossy_32(text, Policy::Each, units)
 }
 
-/// The text of any bytes in UTF-16, with what a policy gives for the parts that `wide_utf8_to_utf16_lossy` gives U+FFFD for: 0 is U+FFFD
-/// for each, 1 is one for each longest run of them, 2 is nothing. For any other policy it returns the greatest number, and leaves `units`
-/// unchanged.
+/// Converts any bytes to UTF-16, and replaces the maximal subparts of ill-formed sequences by the policy: 0 writes
+/// U+FFFD for each, 1 writes one U+FFFD for each longest run of them, 2 writes nothing.
+///
+/// Returns how many units the result has. If `units` is at least that long, the result is at its start, and the units
+/// after the result are unchanged. For any other policy it returns `usize::MAX` and leaves `units` unchanged.
 #[unsafe(no_mangle)]
 pub extern "C" fn wide_utf8_to_utf16_lossy_with(
     text: &[u8],
@@ -207,7 +224,11 @@ pub extern "C" fn wide_utf8_to_utf16_lossy_with(
     }
 }
 
-/// The text of any bytes in UTF-32 under a policy, as `wide_utf8_to_utf16_lossy_with`.
+/// Converts any bytes to UTF-32, and replaces the maximal subparts of ill-formed sequences by the policy: 0 writes
+/// U+FFFD for each, 1 writes one U+FFFD for each longest run of them, 2 writes nothing.
+///
+/// Returns how many units the result has. If `units` is at least that long, the result is at its start, and the units
+/// after the result are unchanged. For any other policy it returns `usize::MAX` and leaves `units` unchanged.
 #[unsafe(no_mangle)]
 pub extern "C" fn wide_utf8_to_utf32_lossy_with(
     text: &[u8],

@@ -1,4 +1,5 @@
-//! What a stream of UTF-16 in bytes is of its pieces. Each is a function that does nothing, whose contract is the law.
+//! Laws of streams of UTF-16 in bytes: how the text of a stream follows from its chunks. Each law is a function that
+//! does nothing, and its contract states the law.
 ghost use Rattle.std.specs.Prelude.{◌≡◌, ◌↔◌, ◌%◌, ◌++◌, length};
 ghost use Rattle.wide_unit.specs.EncodingForm.{Utf16};
 ghost use Rattle.wide_unit.specs.Laws.Items.{IsCut};
@@ -8,8 +9,9 @@ ghost use Rattle.widestring_c.specs.Bytes.{IsWellFormedIn, bytes_faulty, bytes_t
 use wide_bytes::BoM;
 use wide_unit::Policy;
 
-/// The text of a stream behind a fault or not is that of a front behind which no pair is cut, and then that of what comes behind it, by
-/// the flag that tells whether a fault is the last of the front; and so is what is last of the whole.
+/// The lossy text of a stream is that of a prefix followed by that of the rest. The prefix ends between two units and
+/// does not split a surrogate pair. The rest is converted with the flag that says whether the last unit of the prefix
+/// is ill-formed. The flag after the rest is the flag after the whole stream.
 pub fn text_of_a_stream(order: BoM, policy: Policy, after_fault: bool, front: &[u8], back: &[u8])
     requires whole { length front.now % 2 ≡ 0 }
     requires cut { IsCut Utf16 (units_in order front.now) (units_in order back.now) }
@@ -17,8 +19,9 @@ pub fn text_of_a_stream(order: BoM, policy: Policy, after_fault: bool, front: &[
     ensures last { bytes_faulty order after_fault (front.now ++ back.now) ≡ bytes_faulty order (bytes_faulty order after_fault front.now) back.now }
 {}
 
-/// A stream is well formed if a prefix that ends between two units, and not within a surrogate pair, and what follows it both are; its text
-/// is then the text of both. So a strict reader may convert it piece by piece (Unicode Standard, D91, D96 and D97).
+/// A stream is well formed if and only if a prefix and the rest are both well formed. The prefix ends between two units
+/// and does not split a surrogate pair. The text of the stream is then the text of the prefix followed by that of the
+/// rest. So a strict reader may convert a stream chunk by chunk (Unicode Standard, D91, D96 and D97).
 pub fn strict_text_of_a_stream(order: BoM, front: &[u8], back: &[u8])
     requires whole { length front.now % 2 ≡ 0 }
     requires cut { IsCut Utf16 (units_in order front.now) (units_in order back.now) }

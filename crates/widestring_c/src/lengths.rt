@@ -1,4 +1,4 @@
-//! How long a text is in other units, and how many characters it has, with no buffer.
+//! Lengths of text in another encoding form, and counts of characters. No buffer is needed.
 ghost use Rattle.std.specs.Prelude.{◌≡◌, ◌<◌, ◌-◌, ◌^◌, length, min, nat_le};
 ghost use Rattle.std.specs.List.{count_by};
 ghost use Rattle.std.specs.Str.{IsUtf8, chars as str_chars};
@@ -10,8 +10,8 @@ use std::str;
 use wide_blocks::{first_chunk, utf8_len};
 use wide_unit::{Unit, check, length_as_utf16, length_as_utf32};
 
-/// Returns how many bytes the text of well-formed UTF-16 (Unicode Standard, D91) has in UTF-8 (D92), or the greatest number if the units are
-/// not well formed. The units are read by SIMD.
+/// Returns the length in bytes of well-formed UTF-16 (Unicode Standard, D91) in UTF-8 (D92), or `usize::MAX` if the
+/// units are ill-formed. It is vectorized.
 #[unsafe(no_mangle)]
 pub extern "C" fn wide_utf16_utf8_length(units: &[u16]) -> usize
     ensures len { IsWellFormed Utf16 units.now → result ≡ length (utf8 (chars Utf16 units.now)) }
@@ -24,7 +24,8 @@ pub extern "C" fn wide_utf16_utf8_length(units: &[u16]) -> usize
     }
 }
 
-/// The same of UTF-32 (Unicode Standard, D90).
+/// Returns the length in bytes of well-formed UTF-32 (Unicode Standard, D90) in UTF-8 (D92), or `usize::MAX` if the
+/// units are ill-formed.
 #[unsafe(no_mangle)]
 pub extern "C" fn wide_utf32_utf8_length(units: &[u32]) -> usize
     ensures len { IsWellFormed Utf32 units.now → result ≡ length (utf8 (chars Utf32 units.now)) }
@@ -37,8 +38,8 @@ pub extern "C" fn wide_utf32_utf8_length(units: &[u32]) -> usize
     }
 }
 
-/// How many units the text of well-formed UTF-8 has in UTF-16, or the greatest number where the bytes are not well formed. The bytes are
-/// read by blocks.
+/// Returns the length in units of well-formed UTF-8 in UTF-16, or `usize::MAX` if the bytes are ill-formed. It is
+/// vectorized.
 #[unsafe(no_mangle)]
 pub extern "C" fn wide_utf8_utf16_length(text: &[u8]) -> usize
     ensures len { IsUtf8 text.now → result ≡ length (encode Utf16 (str_chars text.now)) }
@@ -49,11 +50,12 @@ pub extern "C" fn wide_utf8_utf16_length(text: &[u8]) -> usize
     if broken > 0 {
         return usize::MAX;
     }
-    // No part of the bytes is ill formed.
+    // The bytes were checked above.
     length_as_utf16(unsafe { str::from_utf8_unchecked(text) })
 }
 
-/// How many characters well-formed UTF-8 has, which is its length in UTF-32, or the greatest number where the bytes are not well formed.
+/// Returns how many characters well-formed UTF-8 has, or `usize::MAX` if the bytes are ill-formed. This is also the
+/// length in UTF-32.
 #[unsafe(no_mangle)]
 pub extern "C" fn wide_utf8_char_count(text: &[u8]) -> usize
     ensures len { IsUtf8 text.now → result ≡ length (str_chars text.now) }
@@ -64,11 +66,12 @@ pub extern "C" fn wide_utf8_char_count(text: &[u8]) -> usize
     if broken > 0 {
         return usize::MAX;
     }
-    // No part of the bytes is ill formed.
+    // The bytes were checked above.
     length_as_utf32(unsafe { str::from_utf8_unchecked(text) })
 }
 
-/// How many units the text of well-formed UTF-8 has in UTF-32: one for each character.
+/// Returns the length in units of well-formed UTF-8 in UTF-32, which is one unit for each character, or `usize::MAX` if
+/// the bytes are ill-formed.
 #[unsafe(no_mangle)]
 pub extern "C" fn wide_utf8_utf32_length(text: &[u8]) -> usize
     ensures len { IsUtf8 text.now → result ≡ length (str_chars text.now) }
@@ -78,7 +81,8 @@ pub extern "C" fn wide_utf8_utf32_length(text: &[u8]) -> usize
     wide_utf8_char_count(text)
 }
 
-/// How many characters well-formed UTF-16 has, which is its length in UTF-32, or the greatest number where the units are not well formed.
+/// Returns how many characters well-formed UTF-16 has, or `usize::MAX` if the units are ill-formed. This is also the
+/// length in UTF-32.
 #[unsafe(no_mangle)]
 pub extern "C" fn wide_utf16_char_count(units: &[u16]) -> usize
     ensures len { IsWellFormed Utf16 units.now → result ≡ length (chars Utf16 units.now) }
@@ -91,7 +95,8 @@ pub extern "C" fn wide_utf16_char_count(units: &[u16]) -> usize
     }
 }
 
-/// The same of UTF-32, where each unit is a character.
+/// Returns how many characters well-formed UTF-32 has, or `usize::MAX` if the units are ill-formed. Each unit is a
+/// character.
 #[unsafe(no_mangle)]
 pub extern "C" fn wide_utf32_char_count(units: &[u32]) -> usize
     ensures len { IsWellFormed Utf32 units.now → result ≡ length (chars Utf32 units.now) }
@@ -104,7 +109,8 @@ pub extern "C" fn wide_utf32_char_count(units: &[u32]) -> usize
     }
 }
 
-/// How many units the text of well-formed UTF-16 has in UTF-32: one for each character.
+/// Returns the length in units of well-formed UTF-16 in UTF-32, which is one unit for each character, or `usize::MAX`
+/// if the units are ill-formed.
 #[unsafe(no_mangle)]
 pub extern "C" fn wide_utf16_utf32_length(units: &[u16]) -> usize
     ensures len { IsWellFormed Utf16 units.now → result ≡ length (chars Utf16 units.now) }
@@ -114,7 +120,7 @@ pub extern "C" fn wide_utf16_utf32_length(units: &[u16]) -> usize
     wide_utf16_char_count(units)
 }
 
-// How many scalar values have two units in UTF-16.
+// Returns how many of the scalar values take two units of UTF-16.
 fn count_pairs(scalars: &[u32]) -> usize
     ensures { result ≡ count_by (nat_le 0x1_0000) scalars.now }
 {
@@ -125,8 +131,8 @@ fn count_pairs(scalars: &[u32]) -> usize
     count
 }
 
-/// Returns how many units the text of well-formed UTF-32 (Unicode Standard, D90) has in UTF-16 (D91), or the greatest number if the units are
-/// not well formed.
+/// Returns the length in units of well-formed UTF-32 (Unicode Standard, D90) in UTF-16 (D91), or `usize::MAX` if the
+/// units are ill-formed.
 #[unsafe(no_mangle)]
 pub extern "C" fn wide_utf32_utf16_length(units: &[u32]) -> usize
     ensures len { IsWellFormed Utf32 units.now → result ≡ length (encode Utf16 (chars Utf32 units.now)) }

@@ -1,4 +1,5 @@
-//! The version, and lengths and counts, of text with characters of each length and of text with a fault behind it.
+//! Tests of the version, and of lengths and counts for a text with characters of each length, and for a text that ends
+//! in a fault.
 use crate::lengths::{
     wide_utf8_char_count, wide_utf8_utf16_length, wide_utf8_utf32_length, wide_utf16_char_count,
     wide_utf16_utf8_length, wide_utf16_utf32_length, wide_utf32_char_count, wide_utf32_utf8_length,
@@ -7,7 +8,7 @@ use crate::lengths::{
 use crate::room_rows::all_hold;
 use crate::version::wide_version;
 
-// A text with characters of each length among letters.
+// A text with characters of each length among letters, in UTF-16, UTF-32 and UTF-8.
 fn units() -> [u16; 79] {
     let mut units = [0x61; 79];
     units[70..74].copy_from_slice(&[0xdf, 0x8a9e, 0xd83d, 0xde00]);

@@ -1,8 +1,8 @@
-//! Wide strings for programs in C and what calls C, as a static library. `include/widestring.h` has each function's rules in words.
+//! The C interface of the library, built as a static library. The rules of each function are in `include/widestring.h`.
 //!
-//! Of its caller each function trusts that a pointer and a length are those of memory that may be read, or written where the
-//! pointer is to memory that is not `const`, and that what is written overlaps nothing else that is handed in. A pointer to no elements
-//! may be NULL.
+//! The functions trust their caller: each pointer and length describe memory that may be read, or written if the
+//! pointer is not to `const`, and memory that is written does not overlap any other memory that is passed. A pointer to
+//! no elements may be NULL.
 #![tactic(auto)]
 
 mod between;

@@ -1,10 +1,10 @@
-//! Policies as numbers.
+//! Policies, which C programs pass as numbers.
 ghost use Rattle.std.specs.Prelude.{◌≡◌};
 ghost use Rattle.widestring_c.specs.Policies.{policy_of};
 
 use wide_unit::Policy;
 
-// The policy that a number names.
+// Returns the policy with this number, or `None` if there is none.
 pub(crate) fn policy_of(number: u32) -> Option<Policy>
     ensures { result ≡ policy_of number }
 {

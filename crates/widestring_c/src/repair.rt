@@ -1,4 +1,4 @@
-//! Units with U+FFFD for faults, in a buffer of the caller's.
+//! Copies of units in which U+FFFD replaces each fault, in a buffer of the caller.
 ghost use Rattle.std.specs.Prelude.{◌≡◌, ◌≤◌, length, take, drop};
 ghost use Rattle.wide_unit.specs.EncodingForm.{Utf16, Utf32, encode};
 ghost use Rattle.wide_unit.specs.Items.{items};
@@ -6,8 +6,9 @@ ghost use Rattle.wide_unit.specs.Lossy.{lossy};
 
 use wide_unit::Unit;
 
-/// Writes the units, with U+FFFD in place of each that belongs to no character, to the start of `repaired` if its length suffices, and
-/// returns how many they are.
+/// Copies UTF-16, and replaces each ill-formed unit by U+FFFD. Returns the length, which is that of the input in units.
+/// If `repaired` is at least that long, the result is at its start, and the units after the result are unchanged.
+///
 #[unsafe(no_mangle)]
 pub extern "C" fn wide_utf16_repair(units: &[u16], repaired: &mut [u16]) -> usize
     ensures len { result ≡ length units.now }
@@ -20,7 +21,9 @@ pub extern "C" fn wide_utf16_repair(units: &[u16], repaired: &mut [u16]) -> usiz
     units.len()
 }
 
-/// The same of units of UTF-32 (Unicode Standard, D90).
+/// Copies UTF-32 (Unicode Standard, D90), and replaces each unit that is not a scalar value by U+FFFD. Returns the
+/// length, which is that of the input in units. If `repaired` is at least that long, the result is at its start, and
+/// the units after the result are unchanged.
 #[unsafe(no_mangle)]
 pub extern "C" fn wide_utf32_repair(units: &[u32], repaired: &mut [u32]) -> usize
     ensures len { result ≡ length units.now }

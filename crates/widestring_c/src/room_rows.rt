@@ -1,5 +1,6 @@
-//! Conversions into buffers that are exact, too short and too long: each kind of character and of fault, at each offset of texts of each
-//! length. The standard library makes what is wanted of a kind; before and behind it stand letters, whose text is their own.
+//! Tests of conversions into buffers that fit exactly, are too short or too long: each kind of character and of fault,
+//! at each offset of texts of each length. The standard library makes the expected result for a kind. The letters
+//! before and after it convert to themselves.
 use crate::between::{wide_utf16_to_utf32, wide_utf32_to_utf16};
 use crate::from_utf8::{
     wide_utf8_first_fault, wide_utf8_to_utf16, wide_utf8_to_utf16_lossy,
@@ -22,15 +23,17 @@ const LETTERS: usize = 2101;
 
 const SIZE: usize = 2432;
 
-// The least and the greatest length of texts, and the first and the last offset at which something is put, where the text is that long: all
-// that few blocks take, those about the ends of blocks of 64 bytes, and about the end of a piece of 256 units.
+// Groups of cases: the least and the greatest length of texts, and the first and the last offset at which a kind is
+// put. They are all lengths of a few blocks, those around the ends of blocks of 64 bytes, and those around the end of a
+// chunk of 256 units.
 static LENGTHS: [(usize, usize, usize, usize); 3] = [
     (0, 70, 0, 70),
     (127, 131, 60, 131),
     (255, 258, 250, 258),
 ];
 
-// What is put at an offset, as far as it fits: a character of each length in UTF-8, and faults. Half a pair is a fault too.
+// What is put at an offset, cut off at the end of the text: a character of each length in UTF-8, and faults. Half a
+// pair is also a fault.
 pub(crate) static KINDS16: [&[u16]; 8] = [
     &[0x7a],
     &[0xdf],
@@ -53,7 +56,7 @@ static KINDS32: [&[u32]; 8] = [
     &[0xd83d, 0xde00, 0xffff_ffff],
 ];
 
-// Ill-formed parts of one to three bytes, a surrogate, and values beyond the last.
+// Characters of each length, ill-formed sequences of one to three bytes, a surrogate, and a value above U+10FFFF.
 static KINDS8: [&[u8]; 12] = [
     &[0x7a],
     &[0xc3, 0x9f],
@@ -69,7 +72,8 @@ static KINDS8: [&[u8]; 12] = [
     &[0xff, 0xef, 0xbf, 0xbd, 0xe8, 0xaa, 0xff],
 ];
 
-// How a conversion is called: one that is strict, one that gives U+FFFD for each fault, one with the number of a policy, and with one of none.
+// How a conversion is called: the strict one, the one that writes U+FFFD for each fault, the one with the number of a
+// policy, and with a number that is not a policy.
 #[derive(Clone, Copy)]
 pub(crate) enum Way {
     Strict,
@@ -79,7 +83,7 @@ pub(crate) enum Way {
 }
 
 impl Way {
-    // Whether it gives any text of units, which a fault is among or not.
+    // Returns whether the call returns a text. `is_text` says whether the units are well formed.
     pub(crate) fn is_put(self, is_text: bool) -> bool {
         match self {
             Way::Strict => is_text,
@@ -89,7 +93,7 @@ impl Way {
     }
 }
 
-// Each policy with the ways that follow it.
+// Each policy with the calls that follow it.
 static POLICIES: [(Policy, &[Way]); 3] = [
     (
         Policy::Each,
@@ -99,7 +103,7 @@ static POLICIES: [(Policy, &[Way]); 3] = [
     (Policy::Skip, &[Way::By(2)]),
 ];
 
-// A text in each form.
+// A text in UTF-8, UTF-16 and UTF-32.
 #[derive(Drop)]
 pub(crate) struct Forms {
     text: String,
@@ -107,7 +111,7 @@ pub(crate) struct Forms {
     scalars: Vec<u32>,
 }
 
-// The forms of characters, with what a policy gives for faults.
+// Encodes characters in the three forms, and replaces each fault, which is `None`, by the policy.
 fn forms_of(alloc: Global, items: &[Option<char>], policy: Policy) -> Result<Forms, AllocError> {
     let mut text = String::new(alloc);
     let mut after = false;
@@ -128,7 +132,8 @@ fn forms_of(alloc: Global, items: &[Option<char>], policy: Policy) -> Result<For
     })
 }
 
-// Units of a width: those of letters, the characters that some are, with none for each fault, and whether two blocks of 64 are the same.
+// Units of a width: the letters in it, a decoder that returns `None` for each fault, and a comparison of two blocks of
+// 64 units.
 pub(crate) trait Form: Copy {
     fn letters(forms: &Forms) -> &[Self];
 
@@ -202,7 +207,7 @@ impl Form for u32 {
     }
 }
 
-// Whether two slices of whole blocks have the same units. A comparison by `==` takes a call for each unit.
+// Returns whether two slices of whole blocks are equal. A comparison by `==` would call a function for each unit.
 fn are_all_same<T: Form>(left: &[T], right: &[T]) -> bool {
     let mut are_same = left.len() == right.len() && left.len() >= 64;
     for block in 0..left.len() / 64 {
@@ -213,7 +218,7 @@ fn are_all_same<T: Form>(left: &[T], right: &[T]) -> bool {
     are_same
 }
 
-// Puts units at an offset, where they fit, and returns the offset behind them.
+// Copies units to an offset if they fit, and returns the offset after them.
 fn put<T: Copy>(buffer: &mut [T], at: usize, units: &[T]) -> usize {
     if let Some(rest) = buffer.get_mut(at..) {
         if let Some(part) = rest.get_mut(..units.len()) {
@@ -223,7 +228,7 @@ fn put<T: Copy>(buffer: &mut [T], at: usize, units: &[T]) -> usize {
     at.saturating_add(units.len())
 }
 
-// A buffer to convert into, what is wanted at its start and how many units that is, and what it holds before the call.
+// A buffer to convert into, the expected result and its length, and what the buffer holds before the call.
 #[derive(Drop)]
 pub(crate) struct Target<T> {
     buffer: Vec<T>,
@@ -242,7 +247,7 @@ impl<T: Form> Target<T> {
         })
     }
 
-    // Wants so many units of letters, a middle, and units of letters again.
+    // Sets the expected result: letters, a middle, and letters again.
     fn want(&mut self, letters: &[T], before: usize, middle: &[T], after: usize) {
         let at = put(
             &mut self.wanted,
@@ -263,8 +268,9 @@ impl<T: Form> Target<T> {
         self.wanted.as_slice().get(..self.len).unwrap_or_default()
     }
 
-    // Whether a call with a buffer of a capacity returns how long the text is and puts it at the start, where it fits, or returns the greatest
-    // number and puts nothing. All behind stays.
+    // Returns whether a call with a buffer of this capacity returns the length of the text and writes it to the start
+    // if it fits, or, if `is_put` is false, returns `usize::MAX` and writes nothing. All elements after the result must
+    // be unchanged.
     fn is_filled_at<F: Fn(&mut [T]) -> usize>(
         &mut self,
         call: &F,
@@ -273,7 +279,7 @@ impl<T: Form> Target<T> {
     ) -> bool
         requires { F.IsAlwaysCallable call.now }
     {
-        // Blocks of 64 units, of which the last is behind the capacity.
+        // Whole blocks of 64 units, the last of which is after the capacity.
         let end = self.len.saturating_add(133) / 64 * 64;
         put(
             &mut self.buffer,
@@ -288,7 +294,7 @@ impl<T: Form> Target<T> {
         let is_put_so = if !is_put {
             self.has(&self.fillers, 0, end)
         } else if capacity < self.len {
-            // Of text that does not fit, as much is put as does.
+            // If the text does not fit, only the units after the capacity are compared.
             self.has(&self.fillers, capacity, capacity.saturating_add(64))
         } else {
             self.has(&self.wanted, 0, end)
@@ -296,7 +302,7 @@ impl<T: Form> Target<T> {
         is_len && is_put_so
     }
 
-    // Whether the buffer has these units from an offset to another.
+    // Returns whether the buffer has these units from one offset to another.
     fn has(&self, units: &[T], first: usize, end: usize) -> bool {
         let buffer = self.buffer.as_slice().get(first..end);
         are_all_same(
@@ -305,7 +311,8 @@ impl<T: Form> Target<T> {
         )
     }
 
-    // Whether it does so with a buffer that is exact, one that is one shorter and one that is five longer.
+    // Returns whether a call gives the expected result with a buffer that fits exactly, one that is one element
+    // shorter, and one that is five elements longer.
     pub(crate) fn is_filled<F: Fn(&mut [T]) -> usize>(&mut self, call: F, is_put: bool) -> bool
         requires { F.IsAlwaysCallable call }
     {
@@ -316,7 +323,7 @@ impl<T: Form> Target<T> {
     }
 }
 
-// The letters that texts are of, how many bytes one has, and a buffer for each form.
+// The letters of the texts, how many bytes one has, and a buffer for each form.
 #[derive(Drop)]
 pub(crate) struct Targets {
     letters: Forms,
@@ -337,7 +344,7 @@ impl Targets {
         })
     }
 
-    // Wants the text of a case by a policy.
+    // Sets the expected results for a case by a policy.
     fn want(&mut self, alloc: Global, case: &Case, policy: Policy) -> Result<(), AllocError> {
         let middle = forms_of(alloc, case.items, policy)?;
         let (before, after) = (case.before, case.after);
@@ -353,7 +360,7 @@ impl Targets {
     }
 }
 
-// A text's characters between so many letters before and behind them, with none for each fault, and the ways that give what is wanted.
+// A text: characters, `None` for each fault, between this many letters before and after them; and the calls to make.
 #[derive(Clone, Copy)]
 pub(crate) struct Case<'a> {
     pub(crate) before: usize,
@@ -367,13 +374,13 @@ impl<'a> Case<'a> {
         !self.items.contains(&None)
     }
 
-    // Whether these ways are those of the policy that gives U+FFFD for each fault.
+    // Returns whether these are the calls of the policy that writes U+FFFD for each fault.
     fn is_each(&self) -> bool {
         self.ways.len() > 1
     }
 }
 
-// Whether each function does so with these units.
+// Returns whether each function gives the expected result for these units.
 fn holds16(_alloc: Global, targets: &mut Targets, units: &[u16], case: &Case) -> bool {
     let is_text = case.is_text();
     let mut well = true;
@@ -464,7 +471,7 @@ fn puts_scalars(target: &mut Target<u32>, bytes: &[u8], way: Way, is_put: bool) 
     target.is_filled(call, is_put)
 }
 
-// Whether the standard library itself reads bytes so, and the first fault stands where it says.
+// Returns whether the standard library reads the bytes in the same way, and reports the same first fault.
 fn is_read_so(alloc: Global, bytes: &[u8], wanted: &[u8], is_text: bool) -> bool {
     let fault = match str::from_utf8(bytes) {
         Ok(_text) => bytes.len(),
@@ -478,7 +485,7 @@ fn is_read_so(alloc: Global, bytes: &[u8], wanted: &[u8], is_text: bool) -> bool
     is_lossy & is_whole & (wide_utf8_first_fault(bytes) == fault)
 }
 
-// Whether this holds by each policy of letters with a middle at an offset.
+// Returns whether `holds` is true by each policy for letters with a middle at an offset.
 fn holds_with<T: Form, F: Fn(Global, &mut Targets, &[T], &Case) -> bool>(
     alloc: Global,
     targets: &mut Targets,
@@ -501,7 +508,7 @@ fn holds_with<T: Form, F: Fn(Global, &mut Targets, &[T], &Case) -> bool>(
             after,
             ways: *ways,
         };
-        // Without faults the text is the same by each policy, and is made once.
+        // Without faults the text is the same by each policy, so it is made once.
         if case.is_each() || !case.is_text() {
             well &= targets.want(alloc, &case, *policy) == Ok(());
         }
@@ -510,7 +517,7 @@ fn holds_with<T: Form, F: Fn(Global, &mut Targets, &[T], &Case) -> bool>(
     Ok(well)
 }
 
-// Whether it holds with each kind at an offset, as far as it fits.
+// Returns whether `holds` is true for each kind at an offset, cut off at the end of the text.
 fn holds_at<T: Form, F: Fn(Global, &mut Targets, &[T], &Case) -> bool>(
     alloc: Global,
     targets: &mut Targets,
@@ -523,7 +530,7 @@ fn holds_at<T: Form, F: Fn(Global, &mut Targets, &[T], &Case) -> bool>(
 {
     let space = len.saturating_sub(offset);
     let mut well = true;
-    // Where nothing fits, all kinds give the same text.
+    // At the end of the text nothing fits, and all kinds give the same text.
     let count = if space == 0 { 1 } else { kinds.len() };
     for kind in kinds.iter().take(count) {
         let middle = kind.get(..space).unwrap_or(*kind);
@@ -532,7 +539,7 @@ fn holds_at<T: Form, F: Fn(Global, &mut Targets, &[T], &Case) -> bool>(
     well
 }
 
-// The first length of texts of letters of which this does not hold.
+// Returns the first length for which `holds` is false for a text of these letters.
 pub(crate) fn first_failure<T: Form, F: Fn(Global, &mut Targets, &[T], &Case) -> bool>(
     alloc: Global,
     letter: char,
@@ -555,7 +562,7 @@ pub(crate) fn first_failure<T: Form, F: Fn(Global, &mut Targets, &[T], &Case) ->
     Ok(None)
 }
 
-// Fails where texts of a length do not do so, and names the length, and the letter that they are of.
+// Fails if a length failed, and prints it and the letter of the texts.
 pub(crate) fn none_fails(
     rt: &impl Abort,
     letter: char,
@@ -564,7 +571,7 @@ pub(crate) fn none_fails(
     assert_eq!(rt; failing, Ok(None), "among {letter}");
 }
 
-// Fails where a row does not hold, and names the first that does not by its place, counted from 0.
+// Fails if a case is false, and prints the index of the first one.
 pub(crate) fn all_hold(rt: &impl Abort, rows: &[bool]) {
     for (place, holds) in rows.iter().enumerate() {
         assert!(rt; *holds, "row {place} does not hold");

@@ -1,7 +1,8 @@
-//! Items in a buffer of the caller's, as far as there is room.
+//! Copies elements into a buffer of the caller if they fit.
 ghost use Rattle.std.specs.Prelude.{◌≡◌, ◌<◌, ◌≤◌, ◌+◌, ◌-◌, ◌^◌, ◌++◌, length, min, take, drop};
 
-// Puts items behind a place, where there is room, and answers the place behind them, or the greatest number.
+// Copies the items to the offset `at` of the buffer if they fit. Returns the offset after them, whether they fit or
+// not, or `usize::MAX` if it is greater than that.
 #[inline(always)]
 pub(crate) fn put_items<T: Copy>(room: &mut [T], at: usize, items: &[T]) -> usize
     requires { length room.old < 2 ^ 64 - 1 }

@@ -1,4 +1,4 @@
-//! Where the first fault, the first NUL, a unit or a part stands.
+//! Searches for the first fault, the first NUL, a unit, or a needle.
 ghost use Rattle.std.specs.Prelude.{◌≡◌, ◌<◌, ◌≤◌, ◌-◌, ◌^◌, ◌∷◌, [], ◌↔◌, ℕ, length};
 ghost use Rattle.wide_unit.specs.EncodingForm.{Utf16, Utf32};
 ghost use Rattle.wide_unit.specs.Items.{IsFirstFault, IsWellFormed};
@@ -8,7 +8,7 @@ ghost use Rattle.wide_search.specs.Parts.{IsFirstAt, StandsNowhere};
 use wide_search::{find, find_unit};
 use wide_unit::{check, first_nul};
 
-/// The place of the first fault of UTF-16 (Unicode Standard, D91), or the length where the units are well formed.
+/// Returns the offset of the first fault of UTF-16 (Unicode Standard, D91), or the length if the units are well formed.
 #[unsafe(no_mangle)]
 pub extern "C" fn wide_utf16_first_fault(units: &[u16]) -> usize
     ensures well_formed { (result ≡ length units.now) ↔ IsWellFormed Utf16 units.now }
@@ -21,7 +21,7 @@ pub extern "C" fn wide_utf16_first_fault(units: &[u16]) -> usize
     }
 }
 
-/// The place of the first fault of UTF-32 (Unicode Standard, D90), or the length where the units are well formed.
+/// Returns the offset of the first fault of UTF-32 (Unicode Standard, D90), or the length if the units are well formed.
 #[unsafe(no_mangle)]
 pub extern "C" fn wide_utf32_first_fault(units: &[u32]) -> usize
     ensures well_formed { (result ≡ length units.now) ↔ IsWellFormed Utf32 units.now }
@@ -34,8 +34,8 @@ pub extern "C" fn wide_utf32_first_fault(units: &[u32]) -> usize
     }
 }
 
-/// How many characters stand before the first fault of UTF-16 (Unicode Standard, D91), or the greatest number where the units are well
-/// formed.
+/// Returns how many characters precede the first fault of UTF-16 (Unicode Standard, D91), or `usize::MAX` if the units
+/// are well formed.
 #[unsafe(no_mangle)]
 pub extern "C" fn wide_utf16_first_fault_item(units: &[u16]) -> usize
     ensures well_formed { IsWellFormed Utf16 units.now → result ≡ 2 ^ 64 - 1 }
@@ -47,8 +47,8 @@ pub extern "C" fn wide_utf16_first_fault_item(units: &[u16]) -> usize
     }
 }
 
-/// How many characters, each a unit, stand before the first fault of UTF-32 (Unicode Standard, D90), or the greatest number where the
-/// units are well formed.
+/// Returns how many characters, each one unit, precede the first fault of UTF-32 (Unicode Standard, D90), or
+/// `usize::MAX` if the units are well formed.
 #[unsafe(no_mangle)]
 pub extern "C" fn wide_utf32_first_fault_item(units: &[u32]) -> usize
     ensures well_formed { IsWellFormed Utf32 units.now → result ≡ 2 ^ 64 - 1 }
@@ -60,7 +60,7 @@ pub extern "C" fn wide_utf32_first_fault_item(units: &[u32]) -> usize
     }
 }
 
-/// The place of the first NUL, or the length where there is none.
+/// Returns the offset of the first NUL of UTF-16, or the length if there is none.
 #[unsafe(no_mangle)]
 pub extern "C" fn wide_utf16_first_nul(units: &[u16]) -> usize
     ensures none { (result ≡ length units.now) ↔ HasNoNul units.now }
@@ -70,7 +70,7 @@ pub extern "C" fn wide_utf16_first_nul(units: &[u16]) -> usize
     first_nul(units).unwrap_or(units.len())
 }
 
-/// The place of the first NUL, or the length where there is none.
+/// Returns the offset of the first NUL of UTF-32, or the length if there is none.
 #[unsafe(no_mangle)]
 pub extern "C" fn wide_utf32_first_nul(units: &[u32]) -> usize
     ensures none { (result ≡ length units.now) ↔ HasNoNul units.now }
@@ -80,7 +80,7 @@ pub extern "C" fn wide_utf32_first_nul(units: &[u32]) -> usize
     first_nul(units).unwrap_or(units.len())
 }
 
-/// The place of the first unit that is this one, or the length where none is.
+/// Returns the offset of the first unit of UTF-16 that equals this one, or the length if there is none.
 #[unsafe(no_mangle)]
 pub extern "C" fn wide_utf16_find_unit(units: &[u16], unit: u16) -> usize
     ensures first { result < length units.now → IsFirstAt (unit ∷ []) units.now result }
@@ -90,7 +90,8 @@ pub extern "C" fn wide_utf16_find_unit(units: &[u16], unit: u16) -> usize
     find_unit(units, unit).unwrap_or(units.len())
 }
 
-/// The first place of the part, or the greatest number where it stands nowhere. An empty part stands at 0.
+/// Returns the offset of the first occurrence of the needle in UTF-16, or `usize::MAX` if it does not occur. An empty
+/// needle occurs at offset 0.
 #[unsafe(no_mangle)]
 pub extern "C" fn wide_utf16_find(units: &[u16], part: &[u16]) -> usize
     ensures first { result < 2 ^ 64 - 1 → IsFirstAt part.now units.now result }
@@ -99,7 +100,7 @@ pub extern "C" fn wide_utf16_find(units: &[u16], part: &[u16]) -> usize
     find(units, part).unwrap_or(usize::MAX)
 }
 
-/// The place of the first unit that is this one, or the length where none is.
+/// Returns the offset of the first unit of UTF-32 that equals this one, or the length if there is none.
 #[unsafe(no_mangle)]
 pub extern "C" fn wide_utf32_find_unit(units: &[u32], unit: u32) -> usize
     ensures first { result < length units.now → IsFirstAt (unit ∷ []) units.now result }
@@ -109,7 +110,8 @@ pub extern "C" fn wide_utf32_find_unit(units: &[u32], unit: u32) -> usize
     find_unit(units, unit).unwrap_or(units.len())
 }
 
-/// The first place of the part, or the greatest number where it stands nowhere. An empty part stands at 0.
+/// Returns the offset of the first occurrence of the needle in UTF-32, or `usize::MAX` if it does not occur. An empty
+/// needle occurs at offset 0.
 #[unsafe(no_mangle)]
 pub extern "C" fn wide_utf32_find(units: &[u32], part: &[u32]) -> usize
     ensures first { result < 2 ^ 64 - 1 → IsFirstAt part.now units.now result }

@@ -1,4 +1,4 @@
-//! Searches, each called once where something is found and once where nothing is.
+//! Tests of the searches: each is called once on units that have what it searches for, and once on units that do not.
 use crate::room_rows::all_hold;
 use crate::search::{
     wide_utf16_find, wide_utf16_find_unit, wide_utf16_first_fault, wide_utf16_first_fault_item,

@@ -1,4 +1,4 @@
-//! Text of units in UTF-8, in a buffer of the caller's.
+//! Conversions of UTF-16 and UTF-32 to UTF-8, into a buffer of the caller.
 ghost use Rattle.std.specs.Prelude.{◌≡◌, ◌<◌, ◌≤◌, ◌+◌, ◌-◌, ◌^◌, ◌++◌, ◌*◌, IfNone, IfSome, length, map, min, take, drop};
 ghost use Rattle.wide_unit.specs.EncodingForm.{Utf16, Utf32};
 ghost use Rattle.wide_unit.specs.Items.{IsWellFormed, chars, items};
@@ -12,7 +12,8 @@ use wide_blocks::{encode_front, is_after_fault, lossy_front, sound_len};
 use wide_from_utf16::{encode_whole, is_marked};
 use wide_unit::{Policy, Unit, check};
 
-// The text of a few units is put into a small array before it is copied, that of others into a larger one.
+// Inputs of up to `FEW` and `MANY` units are converted in arrays of `SMALL` and `MIDDLE` bytes, longer ones in one of
+// `LARGE`, before the result is copied to the buffer. A small array takes less time to clear.
 const FEW: usize = 32;
 
 const SMALL: usize = 100;
@@ -26,7 +27,8 @@ pub(crate) const LARGE: usize = 3100;
 // U+FFFD REPLACEMENT CHARACTER in UTF-8.
 const REPLACEMENT: [u8; 3] = [0xef, 0xbf, 0xbd];
 
-// Puts the text of well-formed units behind a place, as `put_items` does, a piece after another.
+// Converts well-formed units to UTF-8 at the offset `at` of the buffer, chunk by chunk, and returns the offset after
+// the result, as `put_items` does.
 fn put_pieces<C: Unit>(units: &[C], text: &mut [u8], at: usize, piece: &mut [u8]) -> usize
     requires well_formed { IsWellFormed C.form (map C.number units.now) }
     requires piece { 64 ≤ length piece.old }
@@ -45,8 +47,9 @@ fn put_pieces<C: Unit>(units: &[C], text: &mut [u8], at: usize, piece: &mut [u8]
     at
 }
 
-// Puts the text of units at the front, if they are well formed, and answers how many bytes it has. A slice of units is not so long that these
-// are more than a number holds.
+// Checks units, converts them to UTF-8 at the start of the buffer if they are well formed, and returns the length of
+// the result in bytes. Returns `None` if they are ill-formed. The requirement holds for all slices, and the length fits
+// into a `usize` then.
 fn put_checked<C: Unit>(units: &[C], text: &mut [u8]) -> Option<usize>
     requires { 4 * length units.now < 2 ^ 64 - 1 }
     ensures sound { IfSome result (λ len. IsWellFormed C.form (map C.number units.now)) }
@@ -69,7 +72,7 @@ fn put_checked<C: Unit>(units: &[C], text: &mut [u8]) -> Option<usize>
     }
 }
 
-// The same of a few units of 16 bits, which are read once.
+// Checks and converts a short run of UTF-16 in one pass. The array must hold the result.
 fn put_whole(units: &[u16], text: &mut [u8], piece: &mut [u8]) -> Option<usize>
     requires { 3 * length units.now + 4 ≤ length piece.old }
     ensures sound { IfSome result (λ len. IsWellFormed Utf16 units.now) }
@@ -86,7 +89,8 @@ fn put_whole(units: &[u16], text: &mut [u8], piece: &mut [u8]) -> Option<usize>
     }
 }
 
-// The same of any units of 16 bits: a few are encoded as they are checked, by a piece of the size that fits, and more are checked before.
+// Checks and converts UTF-16. A short input is checked and converted in one pass, in an array whose size fits. A longer
+// one is checked first.
 fn put_sound(units: &[u16], text: &mut [u8]) -> Option<usize>
     ensures sound { IfSome result (λ len. IsWellFormed Utf16 units.now) }
     ensures fault { IfNone result (IsWellFormed Utf16 units.now → ⊥) }
@@ -105,7 +109,8 @@ fn put_sound(units: &[u16], text: &mut [u8]) -> Option<usize>
     put_checked(units, text)
 }
 
-// Puts the text of any units at the front, with U+FFFD for each unit that belongs to no character, by arrays for units and for bytes.
+// Converts any UTF-16 to UTF-8 at the start of the buffer, with U+FFFD for each ill-formed unit. `spare` and `piece`
+// are scratch arrays.
 fn put_fronts(units: &[u16], text: &mut [u8], spare: &mut [u16], piece: &mut [u8]) -> usize
     requires spare { 2 ≤ length spare.old }
     requires piece { 64 ≤ length piece.old }
@@ -123,7 +128,7 @@ fn put_fronts(units: &[u16], text: &mut [u8], spare: &mut [u16], piece: &mut [u8
     at
 }
 
-// The same of a few units, which are mended at once.
+// Converts at most 32 units of any UTF-16, with U+FFFD for each ill-formed unit. It repairs all units at once.
 fn put_mended(units: &[u16], text: &mut [u8]) -> usize
     requires { length units.now ≤ 32 }
     ensures len { result ≡ min (length (utf8 (lossy (items Utf16 units.now)))) (2 ^ 64 - 1) }
@@ -135,7 +140,7 @@ fn put_mended(units: &[u16], text: &mut [u8]) -> usize
     put_pieces(&mended[..units.len()], text, 0, &mut [0; SMALL])
 }
 
-// The same of any units, by arrays of the size that fits.
+// Converts any UTF-16 to UTF-8, with U+FFFD for each ill-formed unit, with arrays whose sizes fit the input.
 fn put_lossy(units: &[u16], text: &mut [u8]) -> usize
     ensures len { result ≡ length (utf8 (lossy (items Utf16 units.now))) }
     ensures fits { result < 2 ^ 64 - 1 }
@@ -149,8 +154,9 @@ fn put_lossy(units: &[u16], text: &mut [u8]) -> usize
     }
 }
 
-// Puts the text of any units behind a place, as `put_items` does, by what a policy gives for faults, with the text between them copied
-// whole. The flag tells whether a fault is the last of what stands before the units.
+// Converts any units to UTF-8 at the offset `at` of the buffer, replaces faults by the policy, and returns the offset
+// after the result, as `put_items` does. Well-formed units between faults are converted together. `after_fault` says
+// whether the unit before these is ill-formed.
 pub(crate) fn put_lossy_behind<C: Unit>(
     units: &[C],
     policy: Policy,
@@ -184,7 +190,7 @@ pub(crate) fn put_lossy_behind<C: Unit>(
     at
 }
 
-// The same at the front.
+// Converts any units to UTF-8 at the start of the buffer, and replaces faults by the policy.
 fn put_lossy_by<C: Unit>(units: &[C], policy: Policy, text: &mut [u8]) -> usize
     requires { 4 * length units.now < 2 ^ 64 - 1 }
     ensures len { result ≡ length (utf8 (lossy_by policy (items C.form (map C.number units.now)))) }
@@ -195,8 +201,9 @@ fn put_lossy_by<C: Unit>(units: &[C], policy: Policy, text: &mut [u8]) -> usize
     put_lossy_behind(units, policy, false, text, 0, &mut [0; LARGE])
 }
 
-/// Writes the text of well-formed UTF-16 (Unicode Standard, D91) in UTF-8 (D92) to the start of `text` if its length suffices, and returns
-/// how many bytes it has. If the units are not well formed, it returns the greatest number, and leaves `text` unchanged.
+/// Converts well-formed UTF-16 (Unicode Standard, D91) to UTF-8 (D92). Returns the length of the result in bytes. If
+/// `text` is at least that long, the result is at its start, and the bytes after the result are unchanged. If the units
+/// are ill-formed, it returns `usize::MAX` and leaves `text` unchanged.
 #[unsafe(no_mangle)]
 pub extern "C" fn wide_utf16_to_utf8(units: &[u16], text: &mut [u8]) -> usize
     ensures len { IsWellFormed Utf16 units.now → result ≡ length (utf8 (chars Utf16 units.now)) }
@@ -209,8 +216,8 @@ pub extern "C" fn wide_utf16_to_utf8(units: &[u16], text: &mut [u8]) -> usize
     put_sound(units, text).unwrap_or(usize::MAX)
 }
 
-/// Writes the text of any units of UTF-16 in UTF-8 to the start of `text` if its length suffices, with U+FFFD for each unit that belongs to
-/// no character, and returns how many bytes it has.
+/// Converts any UTF-16 to UTF-8, and writes U+FFFD for each ill-formed unit. Returns the length of the result in bytes.
+/// If `text` is at least that long, the result is at its start, and the bytes after the result are unchanged.
 #[unsafe(no_mangle)]
 pub extern "C" fn wide_utf16_to_utf8_lossy(units: &[u16], text: &mut [u8]) -> usize
     ensures len { result ≡ length (utf8 (lossy (items Utf16 units.now))) }
@@ -224,9 +231,11 @@ pub extern "C" fn wide_utf16_to_utf8_lossy(units: &[u16], text: &mut [u8]) -> us
     }
 }
 
-/// Writes the text of any units of UTF-16 in UTF-8 to the start of `text` if its length suffices, with what a policy writes for units that
-/// belong to no character: 0 is U+FFFD for each, 1 is one for each longest run of them, 2 is nothing. Returns how many bytes the text has.
-/// For any other policy it returns the greatest number, and leaves `text` unchanged.
+/// Converts any UTF-16 to UTF-8, and replaces ill-formed units by the policy: 0 writes U+FFFD for each, 1 writes one
+/// U+FFFD for each longest run of them, 2 writes nothing.
+///
+/// Returns the length of the result in bytes. If `text` is at least that long, the result is at its start, and the
+/// bytes after the result are unchanged. For any other policy it returns `usize::MAX` and leaves `text` unchanged.
 #[unsafe(no_mangle)]
 pub extern "C" fn wide_utf16_to_utf8_lossy_with(
     units: &[u16],
@@ -247,7 +256,9 @@ pub extern "C" fn wide_utf16_to_utf8_lossy_with(
     }
 }
 
-/// The text of well-formed UTF-32 (Unicode Standard, D90) in UTF-8, as `wide_utf16_to_utf8`.
+/// Converts well-formed UTF-32 (Unicode Standard, D90) to UTF-8 (D92). Returns the length of the result in bytes. If
+/// `text` is at least that long, the result is at its start, and the bytes after the result are unchanged. If the units
+/// are ill-formed, it returns `usize::MAX` and leaves `text` unchanged.
 #[unsafe(no_mangle)]
 pub extern "C" fn wide_utf32_to_utf8(units: &[u32], text: &mut [u8]) -> usize
     ensures len { IsWellFormed Utf32 units.now → result ≡ length (utf8 (chars Utf32 units.now)) }
@@ -260,7 +271,9 @@ pub extern "C" fn wide_utf32_to_utf8(units: &[u32], text: &mut [u8]) -> usize
     put_checked(units, text).unwrap_or(usize::MAX)
 }
 
-/// The text of any UTF-32 in UTF-8, with U+FFFD for each unit that is no scalar value.
+/// Converts any UTF-32 to UTF-8, and writes U+FFFD for each unit that is not a scalar value. Returns the length of the
+/// result in bytes. If `text` is at least that long, the result is at its start, and the bytes after the result are
+/// unchanged.
 #[unsafe(no_mangle)]
 pub extern "C" fn wide_utf32_to_utf8_lossy(units: &[u32], text: &mut [u8]) -> usize
     ensures len { result ≡ length (utf8 (lossy (items Utf32 units.now))) }
@@ -271,7 +284,11 @@ pub extern "C" fn wide_utf32_to_utf8_lossy(units: &[u32], text: &mut [u8]) -> us
     put_lossy_by(units, Policy::Each, text)
 }
 
-/// The same under a policy, as `wide_utf16_to_utf8_lossy_with`.
+/// Converts any UTF-32 to UTF-8, and replaces units that are not scalar values by the policy: 0 writes U+FFFD for each,
+/// 1 writes one U+FFFD for each longest run of them, 2 writes nothing.
+///
+/// Returns the length of the result in bytes. If `text` is at least that long, the result is at its start, and the
+/// bytes after the result are unchanged. For any other policy it returns `usize::MAX` and leaves `text` unchanged.
 #[unsafe(no_mangle)]
 pub extern "C" fn wide_utf32_to_utf8_lossy_with(
     units: &[u32],

@@ -11,7 +11,7 @@ use Rattle.widestring_c.proofs.to_utf8.put_lossy_behind.Given.{Over}
 use Rattle.widestring_c.proofs.to_utf8.put_lossy_behind.Goals as goal
 use Rattle.widestring_c.proofs.to_utf8.put_lossy_behind.Goals.{then-is_marked, else-is_marked}
 
--- what is written where no fault is left
+-- what is written if no fault is left
 ended : (g : Over) (c : goal.Then-is_empty g) → Puts c.args.text.now c.args.at (utf8 (lossy_after c.args.policy c.args.after_fault (items g.C.Unit.form (map g.C.Unit.number c.args.units.now)))) c.put_pieces-at.result c.put_pieces-at.new.text []
 ended g c =
     let form = g.C.Unit.form in

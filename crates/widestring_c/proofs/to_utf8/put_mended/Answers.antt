@@ -8,7 +8,7 @@ use Rattle.wide_unit.specs.Laws.Lossy.{scalars-lossy, well_formed-lossy}
 use Rattle.wide_unit.specs.Laws.Places.{chars-encode}
 use Rattle.widestring_c.proofs.to_utf8.put_mended.Goals as goal
 
--- units that are those of the lossy text
+-- repaired units are the units of the lossy text
 module _ (us mended : List ℕ) (is : mended ≡ encode Utf16 (lossy (items Utf16 us))) where
   mended_sound : IsWellFormed Utf16 mended
   mended_sound = subst (λ vs. IsWellFormed Utf16 vs) (sym is) (well_formed-lossy Utf16 us)
