@@ -1,6 +1,6 @@
 /*
- * Converts texts between UTF-16 and UTF-32 while another thread changes them, which the header forbids: results are then unspecified, but the
- * calls have to return, within what the longest result takes. `changing [ROUNDS]`.
+ * Converts texts between UTF-16 and UTF-32 while another thread changes them, which the header forbids. The results are
+ * unspecified then, but the functions must return, and report at most the greatest length. `changing [ROUNDS]`.
  */
 #include <pthread.h>
 #include <stdatomic.h>
@@ -15,7 +15,7 @@ static volatile uint16_t units[LENGTH];
 static volatile uint32_t scalars[LENGTH];
 static atomic_int is_done;
 
-/* Makes an element in the middle a character and a surrogate in turn. */
+/* Sets elements in the middle to a surrogate and to a character in turn. */
 static void *change(void *nothing) {
     for (unsigned turn = 0; !atomic_load_explicit(&is_done, memory_order_relaxed); turn++) {
         units[LENGTH / 2 + turn / 2 % 8] = turn % 2 == 0 ? 0xd800 : 0x61;

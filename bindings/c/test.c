@@ -1,7 +1,8 @@
 /*
- * Judges every call of the library by decoders and encoders written here: `test COUNT SEED`. COUNT texts are made at random of each kind of
- * units and of bytes, well formed or not. Each is handed in at the end of readable memory, and each room lies at the end of writable memory
- * or has marked elements behind it, so that a call which reads or writes outside stops the program or is told.
+ * Tests every function of the library against decoders and encoders written here: `test COUNT SEED`. COUNT random texts
+ * are made for each kind of units and of bytes, well formed or ill-formed. Each text is at the end of readable memory,
+ * and each buffer is at the end of writable memory or has marked elements after it. So a function that reads or writes
+ * out of bounds stops the program or is reported.
  */
 #define _GNU_SOURCE
 #include <stdio.h>
@@ -16,7 +17,7 @@
 #define FAULT UINT32_MAX
 #define REPLACEMENT 0xfffdu
 
-/* Text as characters, with FAULT for what belongs to none, and the place at which each begins. */
+/* Text as characters, with FAULT for each ill-formed sequence, and the offset at which each begins. */
 struct items {
     uint32_t item[MOST];
     size_t place[MOST + 1];
@@ -30,7 +31,7 @@ struct text {
     uint32_t element[ROOM];
 };
 
-/* What a call is to answer, and to leave in front of a room. */
+/* What a function should return, and leave at the start of a buffer. */
 struct wanted {
     size_t answer;
     struct text text;
@@ -39,7 +40,7 @@ struct wanted {
 static uint64_t state;
 static const char *seen_call = "";
 
-/* The order of bytes that calls are handed, and whether a fault stands before them. */
+/* The byte order and the flag `after_fault` that functions get. */
 static uint32_t order, fault_before;
 
 static uint32_t random_below(uint32_t bound) {
@@ -54,7 +55,7 @@ static void fail(const char *why) {
     exit(1);
 }
 
-/* Memory that ends where nothing may be read or written. */
+/* Memory after whose end nothing may be read or written. */
 static unsigned char *edge(void) {
     size_t page = (size_t)sysconf(_SC_PAGESIZE), size = (4 * ROOM / page + 1) * page;
     unsigned char *memory = mmap(NULL, size + page, PROT_READ | PROT_WRITE, MAP_PRIVATE | MAP_ANONYMOUS, -1, 0);
@@ -78,7 +79,7 @@ static uint32_t load(const void *from, int width, size_t at) {
     return width == 2 ? ((const uint16_t *)from)[at] : ((const uint32_t *)from)[at];
 }
 
-/* The text right in front of the edge, or NULL where it is empty. */
+/* The text directly before the edge, or NULL if it is empty. */
 static void *at_edge(unsigned char *end, const struct text *text) {
     unsigned char *memory = end - text->length * (size_t)text->width;
     for (size_t at = 0; at < text->length; at++)
@@ -108,7 +109,10 @@ static void encode(struct text *text, uint32_t c) {
     }
 }
 
-/* How many bytes the character that begins at a byte has, if those behind its first go on as one, or else minus the length of the part. */
+/*
+ * The length in bytes of the character that begins at a byte, or minus the length of the maximal subpart if it does not
+ * continue as one.
+ */
 static int part_of(const struct text *text, size_t at, uint32_t *c) {
     uint32_t first = text->element[at], least = 0x80, greatest = 0xbf;
     int length = first < 0x80 ? 1 : first < 0xc2 ? 0 : first < 0xe0 ? 2 : first < 0xf0 ? 3 : first < 0xf5 ? 4 : 0;
@@ -149,7 +153,7 @@ static void decode(const struct text *text, struct items *items) {
     items->place[items->count] = at;
 }
 
-/* The number of the first fault among the items, or that of the items. */
+/* The index of the first fault among the items, or their number. */
 static size_t fault_of(const struct items *items) {
     size_t at = 0;
     while (at < items->count && items->item[at] != FAULT)
@@ -157,7 +161,9 @@ static size_t fault_of(const struct items *items) {
     return at;
 }
 
-/* The text of the items in another width; faults as the policy says, or all of it refused where there is none. */
+/*
+ * The text of the items in another width, with faults replaced by the policy. Without a policy, a fault means an error.
+ */
 static void convert(const struct items *items, int width, int policy, struct wanted *wanted) {
     wanted->text.width = width;
     wanted->text.length = 0;
@@ -209,7 +215,7 @@ static size_t call_bytes_to_utf8_lossy_with(const void *from, size_t length, uin
     return wide_bytes_to_utf8_lossy_with((const uint8_t *)from, length, order, policy, fault_before, (uint8_t *)room, size);
 }
 
-/* Each conversion, the widths from which and to which, and the policies that it is asked for: none, which is -1, or a range of them. */
+/* Each conversion, its input and output widths, and the policies to test: none, which is -1, or a range of them. */
 static const struct conversion {
     const char *name;
     Call call;
@@ -233,11 +239,14 @@ static const struct conversion {
     {"wide_utf8_to_utf32_lossy_with", call_utf8_to_utf32_lossy_with, 1, 4, WIDE_EACH, WIDE_SKIP + 1},
 };
 
-/* The same of UTF-16 that comes as bytes. */
+/* The conversions of UTF-16 in bytes. */
 static const struct conversion strict_bytes = {"wide_bytes_to_utf8", call_bytes_to_utf8, 2, 1, -1, -1};
 static const struct conversion lossy_bytes = {"wide_bytes_to_utf8_lossy_with", call_bytes_to_utf8_lossy_with, 2, 1, WIDE_EACH, WIDE_SKIP + 1};
 
-/* A room of this size, with `behind` more elements in front of the edge, which the call is not told of. */
+/*
+ * Calls a function with a buffer of this size. `behind` more elements follow it before the edge, and the call must not
+ * touch them.
+ */
 static void check_room(const struct conversion *it, const void *from, size_t length, int policy, const struct wanted *wanted,
                        unsigned char *end, size_t size, size_t behind) {
     const uint32_t mark = 0xa5a5a5a5u >> 8 * (4 - it->to);
@@ -277,7 +286,7 @@ static void equal(const char *call, size_t answer, size_t wanted) {
         fail("another answer");
 }
 
-/* Lengths and counts, and where the first fault stands. */
+/* Lengths and counts, and the offset of the first fault. */
 static void check_counts(const void *from, const struct text *text, const struct items *items) {
     static struct wanted to[3];
     size_t n = text->length, fault = fault_of(items), is_sound = fault == items->count;
@@ -304,7 +313,7 @@ static void check_counts(const void *from, const struct text *text, const struct
     }
 }
 
-/* The first place at which elements stand in a text, or SIZE_MAX. */
+/* The first offset at which the needle occurs in a text, or SIZE_MAX. */
 static size_t place_of(const struct text *text, const struct text *part) {
     for (size_t at = 0; at + part->length <= text->length; at++)
         if (memcmp(&text->element[at], part->element, part->length * sizeof part->element[0]) == 0)
@@ -312,7 +321,7 @@ static size_t place_of(const struct text *text, const struct text *part) {
     return SIZE_MAX;
 }
 
-/* A part that stands in the text, or one unit changed of it. */
+/* A needle cut out of the text, or one with one unit changed. */
 static void cut_part(const struct text *text, struct text *part) {
     size_t first = random_below((uint32_t)text->length + 1), left = text->length - first;
     part->width = text->width;
@@ -341,7 +350,7 @@ static void check_searches(const void *from, const struct text *text, unsigned c
     }
 }
 
-/* UTF-16 as bytes, with half a unit behind them or not, right in front of the edge, or NULL where there are none. */
+/* UTF-16 as bytes, with or without half a unit after them, directly before the edge, or NULL if there are none. */
 static const uint8_t *bytes_at_edge(unsigned char *end, const struct text *text, size_t half) {
     size_t length = 2 * text->length + half;
     unsigned char *memory = end - length;
@@ -354,7 +363,7 @@ static const uint8_t *bytes_at_edge(unsigned char *end, const struct text *text,
     return length == 0 ? NULL : memory;
 }
 
-/* Bytes that come in pieces of any sizes, read as the header tells it. */
+/* Bytes in chunks of random sizes, read as the header describes it. */
 static void check_stream(const uint8_t *from, size_t length, uint32_t policy, const struct items *items) {
     static struct wanted wanted;
     static uint8_t held[2 * MOST + 2], text[ROOM];
@@ -379,7 +388,7 @@ static void check_stream(const uint8_t *from, size_t length, uint32_t policy, co
             fail("another text");
 }
 
-/* UTF-16 that comes as bytes of either order, behind a fault or not. */
+/* UTF-16 in bytes of either order, after a fault or not. */
 static void check_bytes(const struct text *text, const struct items *items, unsigned char *ends[3]) {
     uint8_t mark[2] = {(uint8_t)(0xfd + random_below(3)), (uint8_t)(0xfd + random_below(3))};
     uint32_t told = mark[0] == 0xff && mark[1] == 0xfe ? WIDE_LITTLE_ENDIAN : mark[0] == 0xfe && mark[1] == 0xff ? WIDE_BIG_ENDIAN : WIDE_NO_MARK;
@@ -402,7 +411,7 @@ static void check_bytes(const struct text *text, const struct items *items, unsi
             equal("wide_bytes_to_utf8", wide_bytes_to_utf8(from, length, order, NULL, 0), WIDE_FAULT);
         check_stream(from, length, random_below(3), items);
     }
-    /* A reader that goes on with WIDE_NO_MARK stays within its buffer. */
+    /* A reader that continues with WIDE_NO_MARK stays within its buffer. */
     equal("wide_bytes_certain", wide_bytes_certain(mark, 2, order), 0);
     equal("wide_bytes_first_fault", wide_bytes_first_fault(mark, 2, order), WIDE_FAULT);
     equal("wide_bytes_ends_in_fault", wide_bytes_ends_in_fault(mark, 2, order, 1), 0);
@@ -410,7 +419,7 @@ static void check_bytes(const struct text *text, const struct items *items, unsi
     equal("wide_bytes_to_utf8_lossy_with", wide_bytes_to_utf8_lossy_with(mark, 2, order, WIDE_EACH, 0, NULL, 0), WIDE_FAULT);
 }
 
-/* A character: of ASCII mostly, and of each length of UTF-8. */
+/* A random character: mostly ASCII, and of each length in UTF-8. */
 static uint32_t random_character(uint32_t kinds) {
     static const uint32_t first[] = {0x20, 0x20, 0, 0x80, 0x800, 0xe000, 0x10000};
     static const uint32_t behind[] = {0x7f, 0x7f, 0x80, 0x800, 0xd800, 0x10000, 0x110000};
@@ -418,7 +427,7 @@ static uint32_t random_character(uint32_t kinds) {
     return first[kind] + random_below(behind[kind] - first[kind]);
 }
 
-/* An element of any value, among them those that no text has. */
+/* A random element of any value, also one that no well-formed text has. */
 static uint32_t random_element(int width) {
     if (width == 1)
         return random_below(2) == 0 ? 0x80 + random_below(0x80) : random_below(0x100);

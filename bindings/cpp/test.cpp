@@ -1,4 +1,5 @@
-// Judges widestring.hpp by decoders and encoders written here: `test COUNT SEED`, with COUNT texts of each kind made at random.
+// Tests widestring.hpp against decoders and encoders written here: `test COUNT SEED`, with COUNT random texts of each
+// kind.
 #include <cstdlib>
 #include <iostream>
 #include <random>
@@ -7,7 +8,7 @@
 
 namespace {
 
-// Characters, and a fault where something belongs to none.
+// Characters, and a fault in place of each ill-formed sequence.
 constexpr std::uint32_t fault = UINT32_MAX;
 
 struct Items {
@@ -32,7 +33,7 @@ bool is_scalar(std::uint32_t number) {
     return number < 0xd800 || (number > 0xdfff && number < 0x110000);
 }
 
-// The shortest form of a character, by the number of its bits.
+// Appends a character in its shortest form, by the number of its bits.
 void put(std::string &text, std::uint32_t c) {
     const int more = c < 0x80 ? 0 : c < 0x800 ? 1 : c < 0x10000 ? 2 : 3;
     static const std::uint32_t lead[] = {0, 0xc0, 0xe0, 0xf0};
@@ -58,7 +59,8 @@ void put(std::wstring &text, std::uint32_t c) {
     text.push_back(static_cast<wchar_t>(c));
 }
 
-// The length of the item that the rest begins with, which is told: the character whose shortest form stands there, or a fault.
+// Returns the length of the first item, and sets the item: the character whose shortest form is at the start, or a
+// fault.
 std::size_t first_item(std::string_view rest, std::uint32_t &item) {
     const auto byte = [&](std::size_t at) { return at < rest.size() ? static_cast<unsigned char>(rest[at]) : 0u; };
     const unsigned lead = byte(0);
@@ -141,7 +143,7 @@ template <class String> std::optional<std::size_t> length_of(const std::optional
     return text ? std::optional(text->size()) : std::nullopt;
 }
 
-// Every call answers of numbers what it answers of the view whose elements they are.
+// Every function must return the same for numbers as for the view of the same elements.
 template <class Numbers> void compare(std::string_view text, const Numbers &numbers) {
     must(widestring::first_fault(numbers) == widestring::first_fault(text), "first_fault of numbers");
     must(widestring::valid(numbers) == widestring::valid(text), "valid of numbers");
@@ -197,7 +199,7 @@ template <class Numbers> void compare(std::u32string_view text, const Numbers &n
     must(widestring::to_utf16(numbers) == widestring::to_utf16(text), "to_utf16 of numbers");
 }
 
-// A pointer with a length, and since C++20 spans, and what converts to one, of each eighth text.
+// For every eighth text: a pointer with a length, and since C++20 spans, and what converts to one.
 template <class Number, class View> void check_numbers(View text) {
     if (below(8) != 0)
         return;
@@ -275,7 +277,8 @@ std::string bytes_of(std::u16string_view text, widestring::Order order) {
     return bytes;
 }
 
-// Units as bytes, with half of a unit behind them or not, in one piece and in two, the second of which has what the first left.
+// Units as bytes, with or without half a unit after them, in one chunk and in two, the second of which starts with what
+// the first left.
 void check_bytes(std::u16string_view text) {
     const Items items = items_of(text);
     const auto order = below(2) == 0 ? widestring::Order::little : widestring::Order::big;
@@ -316,11 +319,11 @@ void check(std::wstring_view text) {
     must(widestring::utf16_length(text) == length_of(text_of<std::u16string>(items)), "utf16_length of wchar_t");
 }
 
-// Where a text is as long as what is converted at once, and about there.
+// Lengths at and around those at which the conversions split a text.
 const std::size_t lengths[] = {507,  508,  509,  510,  511,  512,   513,   4091,  4092,  4093,  4094,  4095,
                                4096, 4097, 5000, 20000, 65527, 65533, 65534, 65535, 65536, 65537, 70000};
 
-// Texts of several pieces, which begin as they don't go on: with faults alone, and with shorter characters.
+// Texts of several chunks whose rest differs from their beginning: with only faults, and with shorter characters.
 void check_longer() {
     for (const std::size_t length : lengths) {
         check(std::string(length, '\x80') + "a");
@@ -337,13 +340,13 @@ void check_longer() {
     }
 }
 
-// A character, of ASCII or below a bound.
+// Returns a random character, of ASCII or below a bound.
 std::uint32_t random_character(std::uint32_t bound) {
     const std::uint32_t c = below(4) == 0 ? below(bound) : below(0x80);
     return is_scalar(c) ? c : 0x7a;
 }
 
-// An element of any value.
+// Appends an element of any value.
 template <class String> void put_any(String &text) {
     const std::uint32_t wild = below(3) == 0 ? 0xd800 + below(0x800) : below(2) == 0 ? below(0x120000) : static_cast<std::uint32_t>(numbers());
     text.push_back(static_cast<typename String::value_type>(wild));
@@ -360,7 +363,7 @@ template <class String> String random_text() {
     return text;
 }
 
-// Texts of each type that a call takes, with no conversion of the caller's.
+// Texts of each type that a function takes, without a conversion by the caller.
 void check_types() {
     const std::uint16_t units[] = {0x61, 0xd83d, 0xde00};
     const std::uint32_t wide[] = {0x61, 0x1f600};
@@ -387,7 +390,7 @@ void check_types() {
 }
 
 #ifdef __cpp_lib_span
-// No view of characters refers to numbers of 16 or of 32 bits, which its reader would read by another type.
+// No view of characters refers to numbers of 16 or of 32 bits: its reader would read them by another type.
 template <class Numbers, class = void> struct HasView : std::false_type {};
 template <class Numbers> struct HasView<Numbers, std::void_t<decltype(widestring::view(std::declval<Numbers>()))>> : std::true_type {};
 static_assert(!HasView<const std::vector<std::uint16_t> &>::value && !HasView<const std::vector<std::uint32_t> &>::value);
@@ -395,7 +398,8 @@ static_assert(!HasView<const std::vector<std::uint16_t> &>::value && !HasView<co
 template <class Text> constexpr bool is_text = std::is_constructible_v<widestring::Utf16Units, Text> || std::is_constructible_v<widestring::Utf32Units, Text>;
 static_assert(!is_text<const std::vector<std::int16_t> &> && !is_text<const std::vector<float> &> && !is_text<std::string> && !is_text<int>);
 
-// What is written through a pointer to numbers between two calls is read by the second, within the first piece of a text and where pieces meet.
+// What is written through a pointer to numbers between two calls must be read by the second, within the first chunk of
+// a text and where chunks meet.
 template <class Text> std::uint32_t seen_twice(std::uint16_t *to, const Text &text) {
     to[0] = 7;
     const std::uint32_t first = widestring::to_utf32(text).value().front();
@@ -437,7 +441,7 @@ int main(int count, char **words) {
     must(widestring::version() == WIDESTRING_VERSION_NUMBER, "version");
     check_types();
     check_writes();
-    // Views of nothing have no memory behind them.
+    // Empty views have no memory.
     check(std::string_view());
     check(std::u16string_view());
     check(std::u32string_view());

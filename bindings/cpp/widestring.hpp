@@ -1,10 +1,15 @@
 /*
- * The library for C++17 and later: UTF-8, UTF-16 and UTF-32 as views, strings and spans in, and strings of std out, by calls of widestring.h,
- * which are proved for all units, well formed or not. What needs no string neither throws nor asks for memory. What makes one asks for its
- * memory once or twice, or as a string that grows where it can't be written without being filled, and throws what the string throws where memory
- * is refused. With WIDESTRING_STD_ONLY it uses nothing but what std says of strings.
+ * The library for C++17 and later: UTF-8, UTF-16 and UTF-32. Arguments are string views, strings and spans, results are
+ * strings of the standard library. It calls the functions of widestring.h, which are proved for all units, well formed
+ * or ill-formed.
  *
- * Offsets and lengths are counted in elements: units, or bytes of UTF-8. Text that is not well formed is no value where a call is strict.
+ * Functions that return no string neither throw nor allocate. Functions that return a string allocate once or twice, or
+ * as a growing string does if the standard library cannot write to a string without filling it first. If the allocation
+ * fails, they throw what the string throws. With WIDESTRING_STD_ONLY the header uses only the standard members of
+ * strings.
+ *
+ * Offsets and lengths are counted in elements: code units, or bytes of UTF-8. Strict functions return std::nullopt for
+ * ill-formed text.
  */
 #ifndef WIDESTRING_HPP
 #define WIDESTRING_HPP
@@ -35,27 +40,32 @@ namespace widestring {
 static_assert(sizeof(wchar_t) == 4, "wchar_t is a unit of UTF-32 on the machines that the library is built for");
 
 /*
- * What lossy text has for what belongs to no character: U+FFFD for each, one for each longest run of neighbours, or nothing. Of a number that
- * is none of these, a call throws std::bad_optional_access.
+ * Policies of lossy conversions: what is written for ill-formed sequences. `each` writes U+FFFD for each one, `run`
+ * writes one U+FFFD for each longest run of adjacent ones, `skip` writes nothing. With any other number a function
+ * throws std::bad_optional_access.
  */
 enum class Lossy : std::uint32_t { each = WIDE_EACH, run = WIDE_RUN, skip = WIDE_SKIP };
 
-/* Which of the two bytes of a unit of UTF-16 comes first. No other number may be given to a call that answers an offset or a length. */
+/*
+ * Which of the two bytes of a unit of UTF-16 comes first. Functions that return an offset or a length must not get
+ * another number.
+ */
 enum class Order : std::uint32_t { little = WIDE_LITTLE_ENDIAN, big = WIDE_BIG_ENDIAN };
 
-/* WIDESTRING_VERSION_NUMBER of the library that the program runs with. */
+/* Returns the WIDESTRING_VERSION_NUMBER of the library that the program runs with. */
 inline std::uint32_t version() noexcept {
     return wide_version();
 }
 
 /*
- * How a string gets so many elements of which a call writes the first, and tells how many those are. std has strings that are not filled before
- * they are written since C++23. Before, libraries have calls of their own. Until release 13 libstdc++ has a private
- * one that sets a length within the memory of a string, which an explicit instantiation may name. Those of libc++ come and go, so that they are
- * used where they are found. Where there is none, or with WIDESTRING_STD_ONLY, strings are filled first.
+ * How a string gets a number of elements of which a function writes the first ones and returns how many it wrote. Since
+ * C++23 the standard library can write to a string without filling it first. Before, libraries have their own
+ * functions. Up to release 13, libstdc++ has a private member that sets a length within the capacity of a string, and
+ * an explicit instantiation may name it. The members of libc++ change from version to version, so they are used if they
+ * are found. If there is none, or with WIDESTRING_STD_ONLY, strings are filled first.
  *
- * All that follows stands in a namespace of its own for each way, and for what texts there are, so that files of one program may be compiled
- * differently.
+ * Everything below is in a namespace for each of these ways, and for each set of argument types, so that files of one
+ * program may be compiled differently.
  */
 #if defined(__cpp_lib_string_resize_and_overwrite)
 #define WIDESTRING_STRINGS by_std
@@ -82,7 +92,7 @@ namespace detail {
 inline constexpr bool is_filled = false;
 
 template <class String, class Write> void overwrite(String &string, std::size_t length, Write write) {
-    /* Some versions of std tell a greater length than there was asked for. */
+    /* Some versions of the standard library pass a greater length than the requested one. */
     string.resize_and_overwrite(length, [&](typename String::value_type *to, std::size_t) { return write(to); });
 }
 
@@ -100,7 +110,10 @@ void set_length(std::string &string, std::size_t length);
 void set_length(std::wstring &string, std::size_t length);
 void set_length(std::u16string &string, std::size_t length);
 void set_length(std::u32string &string, std::size_t length);
-/* Declarations, since a program may define an instantiation once alone. The friend is no member, and each file defines it as it is inline. */
+/*
+ * Only declarations, since a program may define an instantiation only once. The friend is not a member, and each file
+ * defines it, as it is inline.
+ */
 extern template struct SetLength<std::string, &std::string::_M_set_length>;
 extern template struct SetLength<std::wstring, &std::wstring::_M_set_length>;
 extern template struct SetLength<std::u16string, &std::u16string::_M_set_length>;
@@ -143,17 +156,19 @@ template <class String, class Write> void overwrite(String &string, std::size_t 
 #endif
 
 /*
- * So many elements go by an array on the stack where strings are filled before they are written: what they are and what is written of them
- * stays in cache. Where they are not, only the first piece goes by it, and tells the likely length.
+ * How many elements go through an array on the stack. If strings are filled before they are written, all chunks go
+ * through it, and a chunk and its result stay in the cache. If they are not, only the first chunk goes through it, and
+ * its result predicts the length.
  */
 inline constexpr std::size_t piece = is_filled ? 4096 : 512;
 
-/* Up to so many elements, a string is made as long as its text where no element becomes two. */
+/* Up to this many elements, a string is made as long as the input if no element becomes two. */
 inline constexpr std::size_t middle = 65536;
 
 /*
- * Code units at a pointer of the type that the calls of C take. Their own type may be another of the same width, as char16_t is. No compiler
- * sees the library's code beside this, so that it may read and write them by its type; code here may not, and copies them by memcpy.
+ * Code units at a pointer of the type that the C functions take. Their own type may be another one of the same width,
+ * like char16_t. The compiler does not see the code of the C library, so that may access the units by its type. Code in
+ * this header must not: it copies them by memcpy.
  */
 template <class Unit> struct Units {
     const Unit *data = nullptr;
@@ -168,7 +183,7 @@ template <class Unit> struct Units {
     }
 };
 
-/* What the elements of a string are to the calls of C, which write them. */
+/* The elements of a string as the C functions write them. */
 inline std::uint8_t *elements(char *text) noexcept {
     return reinterpret_cast<std::uint8_t *>(text);
 }
@@ -185,7 +200,7 @@ inline std::uint32_t *elements(wchar_t *text) noexcept {
     return reinterpret_cast<std::uint32_t *>(text);
 }
 
-/* The type by which elements of this type are viewed: numbers that are no characters have spans alone. */
+/* The type that views elements of this type. Numbers that are not characters only have spans. */
 template <class Char> struct ViewOf {
     using Type = std::basic_string_view<Char>;
 };
@@ -205,7 +220,7 @@ template <> struct ViewOf<std::uint8_t> : SpanOf<std::uint8_t> {};
 template <> struct ViewOf<std::uint16_t> : SpanOf<std::uint16_t> {};
 template <> struct ViewOf<std::uint32_t> : SpanOf<std::uint32_t> {};
 
-/* The view to which a text converts, by the first type of elements that has one, or void. */
+/* The view that a text converts to, for the first element type that has one, or void. */
 template <class Text, class... Chars> struct TextView {
     using Type = void;
 };
@@ -216,8 +231,9 @@ struct TextView<Text, Char, Chars...>
 } // namespace detail
 
 /*
- * A text that a call reads: what converts to a view of std of one of these types of characters, as strings and literals do; since C++20, what
- * converts to a span of units; or a pointer to one of these types, and a length. It refers to its elements, and is as a parameter is.
+ * The text that a function reads. It is made from anything that converts to a standard view of one of these character
+ * types, like strings and literals; since C++20, from anything that converts to a span of units; or from a pointer to
+ * one of these types and a length. It does not own its elements, and is meant to be used as a parameter only.
  */
 template <class Unit, class... Chars> class CodeUnits : public detail::Units<Unit> {
   public:
@@ -248,12 +264,14 @@ using Utf32Units = CodeUnits<std::uint32_t, char32_t, wchar_t>;
 
 namespace detail {
 
-/* A number, or none where the library answers the one that stands for it. */
+/* Returns the answer, or std::nullopt if it is the number that stands for none. */
 inline std::optional<std::size_t> unless(std::size_t none, std::size_t answer) noexcept {
     return answer == none ? std::nullopt : std::optional<std::size_t>(answer);
 }
 
-/* The length of a prefix that ends between two characters, or behind what is none. A pair is not parted. */
+/*
+ * Returns the length of a prefix that ends between two characters or after a fault. It does not split a surrogate pair.
+ */
 inline std::size_t first_piece(Units<std::uint16_t> units) noexcept {
     if (units.size <= piece)
         return units.size;
@@ -268,8 +286,9 @@ inline std::size_t first_piece(Units<std::uint32_t> units) noexcept {
 }
 
 /*
- * No more than three bytes go on with a character, so that one which begins before four of them ends before the last. Bytes may be read as such,
- * whatever their own type is.
+ * Returns the length of a prefix that splits no character: it ends before a byte that does not continue one. If each of
+ * four adjacent bytes continues one, the last of them belongs to no character, since at most three bytes do. Bytes may
+ * be read as such, whatever their own type is.
  */
 inline std::size_t first_piece(Units<std::uint8_t> text) noexcept {
     if (text.size <= piece)
@@ -280,7 +299,10 @@ inline std::size_t first_piece(Units<std::uint8_t> text) noexcept {
     return piece;
 }
 
-/* What a conversion writes of a text of which no element becomes two. Memory is given back where the half would do. */
+/*
+ * Converts a text each of whose elements becomes at most one element. Returns std::nullopt for a fault. Releases memory
+ * if less than half is used.
+ */
 template <class String, class Unit, class Put> std::optional<String> within(Units<Unit> text, Put put) {
     String string;
     bool is_fault = false;
@@ -297,8 +319,8 @@ template <class String, class Unit, class Put> std::optional<String> within(Unit
 }
 
 /*
- * What a conversion writes of the rest of a text, behind what it wrote of the first piece in an array, as a string of a likely length: straight
- * into it, and once more where that is too short. Memory is given back where the half would do.
+ * Converts the rest of a text after the result of the first chunk, directly into a string of the likely length, and
+ * once more if that is too short. Returns std::nullopt for a fault. Releases memory if less than half is used.
  */
 template <class String, class Unit, class Put>
 std::optional<String> joined(const typename String::value_type *begun, std::size_t length, Units<Unit> rest, std::size_t likely, Put put) {
@@ -322,7 +344,10 @@ std::optional<String> joined(const typename String::value_type *begun, std::size
     return std::optional<String>(std::move(string));
 }
 
-/* What a conversion writes of the rest of a text, piece by piece, each by the array in which that of the first piece stands. */
+/*
+ * Converts the rest of a text chunk by chunk, through the array that the result of the first chunk is in. Returns
+ * std::nullopt for a fault.
+ */
 template <class String, class Unit, class Put, std::size_t Size>
 std::optional<String> appended(typename String::value_type (&buffer)[Size], std::size_t length, Units<Unit> rest, std::size_t likely, Put put) {
     String string;
@@ -339,9 +364,12 @@ std::optional<String> appended(typename String::value_type (&buffer)[Size], std:
     return std::optional<String>(std::move(string));
 }
 
-/* The text that a conversion writes, or none where it answers a fault. Of a longer text, the first piece tells the likely length. */
+/*
+ * Converts a text. Returns std::nullopt if the conversion returns a fault. For a longer text, the result of the first
+ * chunk predicts the length.
+ */
 template <class String, class Unit, class Put> std::optional<String> converted(Units<Unit> text, Put put) {
-    /* An element becomes four bytes at most in each form. */
+    /* An element becomes at most four bytes in each form. */
     constexpr std::size_t size = 4 * piece / sizeof(typename String::value_type);
     constexpr bool is_within = !is_filled && sizeof(typename String::value_type) >= sizeof(Unit);
     if (is_within && text.size > piece && text.size <= middle)
@@ -361,7 +389,10 @@ template <class String, class Unit, class Put> std::optional<String> converted(U
         return joined<String>(buffer, length, rest, likely, put);
 }
 
-/* Lossy text. A run of faults may go across pieces, so that under the policy of runs a text with faults is converted as a whole. */
+/*
+ * Converts a text lossily. A run of faults may cross chunks, so under the policy `run` a text with faults is converted
+ * as a whole.
+ */
 template <class String, class Unit, class Put, class PutLossy> String lossy(Units<Unit> text, Lossy policy, Put put, PutLossy put_lossy) {
     const auto number = static_cast<std::uint32_t>(policy);
     const auto put_with = [&](auto *from, std::size_t size, auto *to, std::size_t capacity) { return put_lossy(from, size, number, to, capacity); };
@@ -375,7 +406,10 @@ template <class String, class Unit, class Put, class PutLossy> String lossy(Unit
     return string;
 }
 
-/* What a conversion writes of bytes, which is asked for the length first, or none where it answers a fault. */
+/*
+ * Converts bytes by two calls, the first of which only returns the length. Returns std::nullopt if the conversion
+ * returns a fault.
+ */
 template <class Put> std::optional<std::string> asked_twice(Units<std::uint8_t> bytes, Put put) {
     const std::size_t length = put(bytes.data, bytes.size, static_cast<std::uint8_t *>(nullptr), 0);
     if (length == WIDE_FAULT)
@@ -387,7 +421,10 @@ template <class Put> std::optional<std::string> asked_twice(Units<std::uint8_t> 
 
 } // namespace detail
 
-/* Bytes of other types as a view of char, which may refer to elements of any type. Numbers of 16 and of 32 bits are read as spans alone. */
+/*
+ * Returns bytes of other types as a view of char, which may refer to elements of any type. Numbers of 16 and 32 bits
+ * are only read as spans.
+ */
 #ifdef __cpp_lib_span
 inline std::string_view view(std::span<const std::uint8_t> text) noexcept {
     return {reinterpret_cast<const char *>(text.data()), text.size()};
@@ -400,7 +437,9 @@ inline std::string_view view(std::u8string_view text) noexcept {
 }
 #endif
 
-/* The offset of the first element that belongs to no character, or none where all is well formed. */
+/*
+ * Returns the offset of the first element of the first ill-formed sequence, or std::nullopt if the text is well formed.
+ */
 inline std::optional<std::size_t> first_fault(Utf8Units text) noexcept {
     return detail::unless(text.size, wide_utf8_first_fault(text.data, text.size));
 }
@@ -413,7 +452,7 @@ inline std::optional<std::size_t> first_fault(Utf32Units units) noexcept {
     return detail::unless(units.size, wide_utf32_first_fault(units.data, units.size));
 }
 
-/* How many characters stand before that element. */
+/* Returns how many characters precede the first ill-formed unit, or std::nullopt if the text is well formed. */
 inline std::optional<std::size_t> first_fault_item(Utf16Units units) noexcept {
     return detail::unless(SIZE_MAX, wide_utf16_first_fault_item(units.data, units.size));
 }
@@ -422,12 +461,12 @@ inline std::optional<std::size_t> first_fault_item(Utf32Units units) noexcept {
     return detail::unless(SIZE_MAX, wide_utf32_first_fault_item(units.data, units.size));
 }
 
-/* Whether all is well formed. */
+/* Returns whether the text is well formed. */
 template <class View> bool valid(const View &text) noexcept(noexcept(first_fault(text))) {
     return !first_fault(text).has_value();
 }
 
-/* How many characters well-formed text has. */
+/* Returns how many characters a text has, or std::nullopt if it is ill-formed. */
 inline std::optional<std::size_t> char_count(Utf8Units text) noexcept {
     return detail::unless(WIDE_FAULT, wide_utf8_char_count(text.data, text.size));
 }
@@ -440,7 +479,10 @@ inline std::optional<std::size_t> char_count(Utf32Units units) noexcept {
     return detail::unless(WIDE_FAULT, wide_utf32_char_count(units.data, units.size));
 }
 
-/* How long well-formed text is in another encoding form. */
+/*
+ * Returns the length of a text in another encoding form, in bytes of UTF-8 or in units, or std::nullopt if it is
+ * ill-formed.
+ */
 inline std::optional<std::size_t> utf8_length(Utf16Units units) noexcept {
     return detail::unless(WIDE_FAULT, wide_utf16_utf8_length(units.data, units.size));
 }
@@ -465,7 +507,7 @@ inline std::optional<std::size_t> utf32_length(Utf16Units units) noexcept {
     return detail::unless(WIDE_FAULT, wide_utf16_utf32_length(units.data, units.size));
 }
 
-/* The offset of the first unit that is 0. */
+/* Returns the offset of the first NUL, or std::nullopt if there is none. */
 inline std::optional<std::size_t> first_nul(Utf16Units units) noexcept {
     return detail::unless(units.size, wide_utf16_first_nul(units.data, units.size));
 }
@@ -474,7 +516,10 @@ inline std::optional<std::size_t> first_nul(Utf32Units units) noexcept {
     return detail::unless(units.size, wide_utf32_first_nul(units.data, units.size));
 }
 
-/* The first offset of a unit, or of a part, which stands at 0 where it is empty. */
+/*
+ * Returns the offset of the first unit that equals this one, or the first offset of a needle, or std::nullopt if there
+ * is none. An empty needle occurs at offset 0.
+ */
 inline std::optional<std::size_t> find(Utf16Units units, char16_t unit) noexcept {
     return detail::unless(units.size, wide_utf16_find_unit(units.data, units.size, unit));
 }
@@ -491,7 +536,7 @@ inline std::optional<std::size_t> find(Utf32Units units, Utf32Units part) noexce
     return detail::unless(SIZE_MAX, wide_utf32_find(units.data, units.size, part.data, part.size));
 }
 
-/* The text of well-formed units or bytes in UTF-8, UTF-16 or UTF-32, or none where they are not well formed. */
+/* Converts well-formed units or bytes to UTF-8, UTF-16 or UTF-32. Returns std::nullopt if they are ill-formed. */
 inline std::optional<std::string> to_utf8(Utf16Units units) {
     return detail::converted<std::string>(units, wide_utf16_to_utf8);
 }
@@ -516,7 +561,10 @@ inline std::optional<std::u32string> to_utf32(Utf16Units units) {
     return detail::converted<std::u32string>(units, wide_utf16_to_utf32);
 }
 
-/* UTF-32 as a string of wchar_t. */
+/*
+ * Converts well-formed UTF-8 or UTF-16 to UTF-32 as a string of wchar_t. Returns std::nullopt if the input is
+ * ill-formed.
+ */
 inline std::optional<std::wstring> to_wstring(Utf8Units text) {
     return detail::converted<std::wstring>(text, wide_utf8_to_utf32);
 }
@@ -525,7 +573,7 @@ inline std::optional<std::wstring> to_wstring(Utf16Units units) {
     return detail::converted<std::wstring>(units, wide_utf16_to_utf32);
 }
 
-/* The text of any units in UTF-8, with what a policy gives for each unit that belongs to no character. */
+/* Converts any units to UTF-8, and replaces ill-formed units by the policy. */
 inline std::string to_utf8_lossy(Utf16Units units, Lossy policy = Lossy::each) {
     return detail::lossy<std::string>(units, policy, wide_utf16_to_utf8, wide_utf16_to_utf8_lossy_with);
 }
@@ -535,8 +583,8 @@ inline std::string to_utf8_lossy(Utf32Units units, Lossy policy = Lossy::each) {
 }
 
 /*
- * The text of any bytes in UTF-16, or in UTF-32, with what a policy gives for each longest part that begins a character of UTF-8 and does not
- * go on as one, and for each byte that begins none.
+ * Converts any bytes to UTF-16 or UTF-32, and replaces maximal subparts of ill-formed sequences by the policy: the
+ * longest prefix that begins a character of UTF-8 but does not continue as one, or a byte that begins none.
  */
 inline std::u16string to_utf16_lossy(Utf8Units text, Lossy policy = Lossy::each) {
     return detail::lossy<std::u16string>(text, policy, wide_utf8_to_utf16, wide_utf8_to_utf16_lossy_with);
@@ -550,7 +598,10 @@ inline std::wstring to_wstring_lossy(Utf8Units text, Lossy policy = Lossy::each)
     return detail::lossy<std::wstring>(text, policy, wide_utf8_to_utf32, wide_utf8_to_utf32_lossy_with);
 }
 
-/* The text of any UTF-16 as a string of wchar_t, with what a policy gives for each unit that belongs to no character: faults go by UTF-8. */
+/*
+ * Converts any UTF-16 to UTF-32 as a string of wchar_t, and replaces ill-formed units by the policy. If there are any,
+ * it converts by way of UTF-8.
+ */
 inline std::wstring to_wstring_lossy(Utf16Units units, Lossy policy = Lossy::each) {
     if (policy <= Lossy::skip)
         if (auto wide = to_wstring(units))
@@ -558,30 +609,42 @@ inline std::wstring to_wstring_lossy(Utf16Units units, Lossy policy = Lossy::eac
     return to_wstring(to_utf8_lossy(units, policy)).value();
 }
 
-/* The order that the byte order mark at the beginning of UTF-16 in bytes tells. The two bytes of the mark are no part of the text. */
+/*
+ * Returns the byte order of the BOM at the start of UTF-16 in bytes, or std::nullopt if there is none. The two bytes of
+ * the BOM do not belong to the text.
+ */
 inline std::optional<Order> byte_order(Utf8Units bytes) noexcept {
     const std::uint32_t number = wide_bytes_order(bytes.data, bytes.size);
     return number == WIDE_NO_MARK ? std::nullopt : std::optional<Order>(static_cast<Order>(number));
 }
 
-/* The length of the prefix, in bytes, that no bytes behind it change: all whole units, but a high surrogate that has no whole unit behind it. */
+/*
+ * Returns how many bytes at the start are whole units whose meaning no later bytes can change: all whole units, except
+ * a last high surrogate.
+ */
 inline std::size_t certain(Utf8Units bytes, Order order) noexcept {
     return wide_bytes_certain(bytes.data, bytes.size, static_cast<std::uint32_t>(order));
 }
 
-/* The offset, in units, of the first unit among the bytes that belongs to no character. */
+/* Returns the offset, in units, of the first ill-formed unit in the bytes, or std::nullopt if there is none. */
 inline std::optional<std::size_t> first_fault(Utf8Units bytes, Order order) noexcept {
     const auto number = static_cast<std::uint32_t>(order);
     return detail::unless(bytes.size / 2, wide_bytes_first_fault(bytes.data, bytes.size, number));
 }
 
-/* Whether the last unit belongs to no character; where there is no unit, what the flag tells of the text before the bytes. */
+/*
+ * Returns whether the last whole unit is ill-formed. If there are no whole units, it returns `after_fault`, which says
+ * whether the unit before the bytes is ill-formed.
+ */
 inline bool ends_in_fault(Utf8Units bytes, Order order, bool after_fault = false) noexcept {
     const auto number = static_cast<std::uint32_t>(order);
     return wide_bytes_ends_in_fault(bytes.data, bytes.size, number, after_fault) != 0;
 }
 
-/* The text in UTF-8 of bytes that are whole units of well-formed UTF-16, or none where they are not. */
+/*
+ * Converts bytes of well-formed UTF-16 to UTF-8. Returns std::nullopt if the number of bytes is odd or the units are
+ * ill-formed.
+ */
 inline std::optional<std::string> to_utf8(Utf8Units bytes, Order order) {
     const auto put = [number = static_cast<std::uint32_t>(order)](auto *from, std::size_t size, auto *room, std::size_t room_size) {
         return wide_bytes_to_utf8(from, size, number, room, room_size);
@@ -590,8 +653,8 @@ inline std::optional<std::string> to_utf8(Utf8Units bytes, Order order) {
 }
 
 /*
- * The text in UTF-8 of the whole units of any bytes, with what a policy gives for each unit that belongs to no character. The flag tells whether
- * the last unit of the text before the bytes is such a unit. The header of C tells how a stream is read.
+ * Converts the whole units of any bytes to UTF-8, and replaces ill-formed units by the policy. `after_fault` says
+ * whether the unit before the bytes is ill-formed. widestring.h describes how to read a stream.
  */
 inline std::string to_utf8_lossy(Utf8Units bytes, Order order, Lossy policy = Lossy::each, bool after_fault = false) {
     const auto put = [=](auto *from, std::size_t size, auto *room, std::size_t room_size) {
@@ -601,7 +664,10 @@ inline std::string to_utf8_lossy(Utf8Units bytes, Order order, Lossy policy = Lo
     return detail::asked_twice(bytes, put).value();
 }
 
-/* The units with U+FFFD instead of each that belongs to no character. A string has the type of its text's elements. */
+/*
+ * Copies the units, and replaces each ill-formed unit by U+FFFD. The elements of the result have the type of the
+ * argument's elements.
+ */
 inline std::u16string repair(Utf16Units units) {
     return detail::converted<std::u16string>(units, wide_utf16_repair).value();
 }

@@ -1,4 +1,4 @@
-"""Names the first fault of a text in UTF-16, and prints the text in UTF-8 under each policy."""
+"""Prints the offset of the first fault of a text in UTF-16, and the text in UTF-8 under each policy."""
 
 import widestring
 

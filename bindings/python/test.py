@@ -1,5 +1,5 @@
-"""Judges widestring.py by Python's own codecs: `test.py COUNT SEED [LIBRARY..]`, with COUNT texts of each kind made at random. The module must
-refuse each LIBRARY."""
+"""Tests widestring.py against Python's own codecs: `test.py COUNT SEED [LIBRARY..]`, with COUNT random texts of each
+kind. The module must reject each LIBRARY."""
 
 import array
 import codecs
@@ -14,7 +14,7 @@ import sys
 import widestring
 from widestring import Lossy, Order
 
-# What stands for a fault in a text of the judge's: a surrogate, which no text has.
+# What stands for a fault in a text of this test: a surrogate, which no well-formed text has.
 MARK = "\udfff"
 codecs.register_error("mark", lambda error: (MARK, error.end))
 
@@ -39,7 +39,7 @@ def equal(call, answer, wanted):
 
 
 def check_strict(call, data, text, name, place):
-    """A strict conversion: the text in another encoding, or the fault's place."""
+    """A strict conversion: the text in another encoding, or the offset of the fault."""
     try:
         answer, told = call(data), None
     except widestring.Fault as fault:
@@ -78,7 +78,7 @@ def check_utf8(data):
 
 
 def place_of(units, part):
-    """The first place of a part in a list of units."""
+    """The first offset of a needle in a list of units."""
     spans = range(len(units) - len(part) + 1)
     return next((at for at in spans if units[at : at + len(part)] == part), None)
 
@@ -109,7 +109,8 @@ def check_utf16(data):
 
 
 def check_bytes(units):
-    """Units in either order, with half of a unit behind them or not, in one piece and in two, the second of which has what the first left."""
+    """Units in either byte order, with or without half a unit after them, in one chunk and in two, the second of
+    which starts with what the first left."""
     items = items_of(units, "utf-16-le")
     order = random.choice(list(Order))
     whole = array.array("H", units)
@@ -161,7 +162,7 @@ def random_text():
 
 
 def random_data(name, width):
-    """The bytes of a text, in every second case with units put in at places that are not asked what stands there."""
+    """The bytes of a text; in every second case with units put in at random offsets."""
     data = bytearray(random_text().encode(name))
     if random.random() < 0.5:
         for _ in range(random.randrange(8)):
@@ -172,7 +173,7 @@ def random_data(name, width):
 
 
 def must_raise(errors, call, *words):
-    """The error that the call raises, which is one of these and no Fault."""
+    """The error that the function raises, which is one of these and not a Fault."""
     try:
         answer = call(*words)
     except errors as error:
@@ -182,7 +183,7 @@ def must_raise(errors, call, *words):
 
 
 def check_refusals():
-    """What is no text, no policy, no number, or no part of the units."""
+    """Arguments that are not a text, a policy, a number, or a needle."""
     must_raise(ValueError, widestring.utf16_to_utf8, b"abc")
     must_raise(ValueError, widestring.utf32_first_fault, array.array("B", b"abcde"))
     must_raise(ValueError, widestring.utf16_to_utf8_lossy, b"", 3)
@@ -201,7 +202,7 @@ def check_refusals():
 
 
 class LongBytes(bytes):
-    """Bytes that claim to be more than they are."""
+    """Bytes that report a greater length than they have."""
 
     length = 4096
 
@@ -216,21 +217,21 @@ class LongBytes(bytes):
 
 
 class LongArray(bytearray):
-    """A buffer that claims to be longer than it is."""
+    """A buffer that reports a greater length than it has."""
 
     def __len__(self):
         return 1 << 32
 
 
 class Zero:
-    """A number that is an integer by its own word."""
+    """An object that converts to an integer by its own method."""
 
     def __index__(self):
         return 0x62
 
 
 def check_lying_lengths():
-    """A buffer is as long as its memory is, whatever its object claims."""
+    """A buffer is as long as its memory is, whatever its object reports."""
     for length in (4096, 1 << 32, 0, 1):
         LongBytes.length = length
         for data in (LongBytes(b"ab"), LongArray(b"ab"), memoryview(LongBytes(b"ab"))):
@@ -246,7 +247,7 @@ def check_lying_lengths():
 
 
 def check_own_buffers():
-    """Objects that hand out a buffer by a method, as they may since Python 3.12."""
+    """Objects that provide a buffer by a method, as they may since Python 3.12."""
 
     class Given(bytes):
         released = 0
@@ -275,7 +276,7 @@ def check_own_buffers():
 
 
 def views_of(units):
-    """Buffers that are these units of UTF-16: of bytes, of units, with gaps, backwards and of two dimensions."""
+    """Buffers that hold these units of UTF-16: of bytes, of units, with gaps, backwards and of two dimensions."""
     count, raw = len(units) // 2 * 2, units.tobytes()
     spread = array.array("H", [0xD800] * (2 * len(units)))
     spread[::2] = units
@@ -288,7 +289,7 @@ def views_of(units):
 
 
 def check_buffers():
-    """Buffers that are text, with no unit too."""
+    """Buffers that are text, also empty ones."""
     for text in ("", "Hi\U0001f600!", "ab" * 300, "\ufffd" * 77):
         data = text.encode("utf-16-le")
         for view in views_of(array.array("H", data)):
@@ -309,7 +310,7 @@ def check_buffers():
 
 
 def check_other_elements():
-    """Buffers whose elements are no units of the width that is asked for, which are not read as such."""
+    """Buffers whose elements are not units of the required size must be rejected."""
     others = [array.array(code, [1, 2, 3, 4]) for code in "hilqQLfd"] + [(ctypes.c_uint16.__ctype_be__ * 2)(1, 2), (ctypes.c_bool * 4)()]
     others += [(ctypes.py_object * 2)("a", "b"), (ctypes.c_void_p * 2)(), memoryview(bytes(8)).cast("?"), (ctypes.c_int16 * 2)(1, 2)]
     for data in others:
@@ -339,7 +340,8 @@ def check_numpy():
 
 
 def check_memory():
-    """Results are objects of their own: nothing is written into one that CPython shares, and no length is cut to its lower bits."""
+    """Results are objects of their own: nothing is written into one that CPython shares, and no length is truncated
+    to its low bits."""
     for answer in (widestring.utf8_to_utf16(b""), widestring.utf16_to_utf8_lossy(b"\0\xd8", Lossy.SKIP), widestring.bytes_to_utf8(b"", Order.BIG)):
         equal("an empty text", answer, b"")
     equal("the empty object", (b"", len(bytes())), (b"".join([]), 0))
@@ -355,13 +357,14 @@ def check_memory():
 
 
 def import_error(**environment):
-    """What a new process says that imports the module: the kind of the error, and its text."""
+    """What a new process reports if it imports the module: the type of the error, and its text."""
     script = "try:\n import widestring\nexcept Exception as error:\n print(type(error).__name__, error)"
     return subprocess.run([sys.executable, "-c", script], env={**os.environ, **environment}, check=True, capture_output=True, text=True).stdout
 
 
 def check_imports(libraries):
-    """A missing library, a file that is none, and libraries of another version or with no version, which the words name."""
+    """A missing library, a file that is not one, and libraries of another version or with no version, which the
+    message names."""
     here = os.path.dirname(os.path.abspath(widestring.__file__))
     for library in ("/nonexistent/libwidestring.so", os.devnull, os.path.abspath(__file__), "libno_such_library.so", *libraries):
         said = import_error(WIDESTRING_LIBRARY=library, PYTHONPATH=here)

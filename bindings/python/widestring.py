@@ -1,16 +1,21 @@
-"""UTF-16, UTF-32 and UTF-8 as bytes, by the library's calls, which are proved for all units, well formed or not.
+"""Conversions, checks and searches of UTF-16, UTF-32 and UTF-8 in bytes objects, by a library whose functions are
+proved for all units, well formed or ill-formed.
 
-Units are in the order of the machine, which is little on those that the library is built for: `utf-16-le` and `utf-32-le` of Python's codecs,
-with no byte order mark. Offsets and lengths are counted in units, or in bytes of UTF-8. Every result is a new object of `bytes`.
+Units are in native byte order, which is little endian on the machines that the library is built for: Python's codecs
+`utf-16-le` and `utf-32-le`, without a BOM. Offsets and lengths are counted in code units, or in bytes of UTF-8. Every
+result is a new `bytes` object.
 
-Text is `bytes`, of which no copy is made, or another object with a buffer, of which one is. The elements of a buffer are either bytes (`B`, `b` or
-`c`, as those of `bytearray`, `mmap` and `memoryview.cast("B")`), whose length is a multiple of a unit's, or units: unsigned numbers of a unit's
-width in the order of the machine (`H` of UTF-16, `I` of UTF-32, `L` where it has four bytes) or, of UTF-32, characters of four bytes (`u` and `w`,
-as in `array`). UTF-8, and UTF-16 that comes as bytes of either order, are bytes alone. All else raises TypeError: `str`, signed numbers, other
-widths, the other order (`>u2` of numpy), floats and objects. A buffer of any shape and with any gaps is read in the order of its indices.
+Text is `bytes`, which is not copied, or another object with a buffer, which is copied. The elements of a buffer are
+bytes (`B`, `b` or `c`, like those of `bytearray`, `mmap` and `memoryview.cast("B")`), and their number is a multiple of
+the size of a unit; or they are units: unsigned numbers of the size of a unit in native byte order (`H` for UTF-16, `I`
+for UTF-32, `L` if it has four bytes) or, for UTF-32, characters of four bytes (`u` and `w`, as in `array`). UTF-8, and
+UTF-16 in bytes of either byte order, only have bytes as elements. Anything else raises TypeError: `str`, signed
+numbers, other sizes, the other byte order (`>u2` of numpy), floats and objects. A buffer of any shape and with any
+strides is read in the order of its indices.
 
-The shared library is that which WIDESTRING_LIBRARY names, or one that the system's loader finds. ImportError tells that there is none, or that it
-has another version. It is CPython's, 3.7 or later, for memory of bytes that is not filled before it is written.
+The shared library is the one that WIDESTRING_LIBRARY names, or one that the system's loader finds. ImportError is
+raised if there is none, or if it has another version. The module requires CPython 3.7 or later, since it writes into
+bytes objects that are not filled first.
 """
 
 import ctypes
@@ -20,21 +25,22 @@ import operator
 import os
 import sys
 
-# The version of the library of which the calls below are, and the name under which the loader knows it.
+# The version of the library that the functions below belong to, and the name under which the loader knows it.
 _VERSION = (0, 1)
 _NAME = "libwidestring.so.0.1"
-# So many bytes at three offsets tell whether a text is likely ASCII, as units too.
+# This many bytes at three offsets decide whether a text is likely ASCII, also in UTF-16 and UTF-32.
 _SAMPLE = 128
-# What a call answers where it has no number to tell.
+# What a function returns if it has no number to report.
 _NONE = ctypes.c_size_t(-1).value
-# The formats of elements of a buffer that are bytes, and of those that are units, by their width, behind the prefixes of the machine's order.
+# The formats of buffer elements that are bytes, and of those that are units, by their size, after the prefixes of
+# native byte order.
 _BYTES = ("B", "b", "c")
 _UNITS = {1: (), 2: ("H",), 4: ("I", "L", "u", "w")}
 _OWN_ORDER = ("@", "=", "<")
 
 
 class Fault(ValueError):
-    """The text is not well formed: `place` is the offset of the first fault."""
+    """The text is ill-formed. `place` is the offset of the first fault."""
 
     def __init__(self, place):
         super().__init__(place)
@@ -45,7 +51,8 @@ class Fault(ValueError):
 
 
 class Lossy(enum.IntEnum):
-    """What lossy text has for what belongs to no character: U+FFFD for each, one for each longest run of neighbours, or nothing."""
+    """Policies of lossy conversions: U+FFFD for each ill-formed sequence, one U+FFFD for each longest run of
+    adjacent ones, or nothing."""
 
     EACH = 0
     RUN = 1
@@ -85,7 +92,7 @@ def _symbol(name):
 
 
 def version():
-    """The version of the library, as three numbers."""
+    """Returns the version of the library, as three numbers."""
     call = _symbol("wide_version")
     call.argtypes, call.restype = [], ctypes.c_uint32
     number = call()
@@ -95,7 +102,8 @@ def version():
 if sys.implementation.name != "cpython":
     raise ImportError("widestring is for CPython alone", name="widestring")
 _library = _load()
-# A library of another version may have other calls of these names, so that none but its version is looked up before.
+# A library of another version may have other functions with these names, so only its version is looked up before this
+# check.
 if version()[:2] != _VERSION:
     raise _refusal(f"the library has version {version()}, and this module is for {_VERSION}")
 
@@ -105,7 +113,7 @@ _new_bytes.restype = ctypes.py_object
 
 
 def _call(name, *types, answer=ctypes.c_size_t):
-    """A call of the library on text, a length and what else it takes."""
+    """Returns a function of the library that takes text, a length and more arguments."""
     call = _symbol(f"wide_{name}")
     call.argtypes = [ctypes.c_char_p, ctypes.c_size_t, *types]
     call.restype = answer
@@ -113,10 +121,11 @@ def _call(name, *types, answer=ctypes.c_size_t):
 
 
 def _buffer(count, width):
-    """Bytes of so many elements that nobody else has, for a call to write into.
+    """Returns a bytes object of this many elements to which there is no other reference, for a function to write
+    into.
 
-    CPython has one empty object for all, into which a call of capacity 0 writes nothing; of one byte it shares those alone that it is told the
-    value of. ctypes would cut a greater length to its lower bits.
+    CPython has one empty object for all uses; a function with capacity 0 writes nothing into it. It shares objects of
+    one byte only if it gets their value. ctypes would truncate a greater length to its low bits.
     """
     if count > sys.maxsize // width:
         raise MemoryError
@@ -124,13 +133,15 @@ def _buffer(count, width):
 
 
 def _is_read_as(width, view):
-    """Whether the elements of a buffer are bytes, or units of this width. Those of an array of ctypes that has none have no width before 3.10."""
+    """Returns whether the elements of a buffer are bytes, or units of this size. Those of an empty array of ctypes
+    have no size before 3.10."""
     code = view.format[1:] if view.format[:1] in _OWN_ORDER else view.format
     return (code in _BYTES and view.itemsize in (0, 1)) or (code in _UNITS[width] and view.itemsize in (0, width))
 
 
 def _elements(data, width):
-    """The text as bytes, and its length in elements. Nothing but an object whose type is `bytes` tells its own length."""
+    """Returns the text as bytes, and its length in elements. Only an object whose type is exactly `bytes` is trusted
+    to know its length."""
     if type(data) is not bytes:
         with memoryview(data) as view:
             if not _is_read_as(width, view):
@@ -143,34 +154,36 @@ def _elements(data, width):
 
 
 def _number(call, data, width, *more):
-    """What a call answers, or None for the number that stands for nothing."""
+    """Returns the number that a function returns, or None for the number that stands for nothing."""
     data, length = _elements(data, width)
     answer = call(data, length, *more)
     return None if answer == _NONE else answer
 
 
 def _place(call, data, width, *more):
-    """What a call answers, or None where it answers the length, since it finds nothing."""
+    """Returns the offset that a function returns, or None if it returns the length, since it found nothing."""
     data, length = _elements(data, width)
     answer = call(data, length, *more)
     return None if answer == length else answer
 
 
 def _find_unit(call, units, width, unit):
-    """The offset of a unit, which no number that a unit can't have has."""
+    """Returns the offset of a unit, or None if it does not occur. A number out of the range of a unit does not
+    occur."""
     data, unit = _elements(units, width), operator.index(unit)
     answer = call(*data, unit) if 0 <= unit < 1 << 8 * width else data[1]
     return None if answer == data[1] else answer
 
 
 def _sample(data):
-    """Bytes at three offsets, or all where they are few."""
+    """Returns bytes at three offsets, or all bytes if they are few."""
     middle = len(data) // 2
     return data if len(data) <= 3 * _SAMPLE else data[:_SAMPLE] + data[middle : middle + _SAMPLE] + data[-_SAMPLE:]
 
 
 class _Conversion:
-    """A call that writes: the widths of what it reads and writes, and the call that tells the length of well-formed text."""
+    """A function that writes: the sizes of the units that it reads and writes, and the function that returns the
+    length for well-formed text."""
 
     def __init__(self, name, width, room_width, length_name=None, *types):
         self.call = _call(name, *types, ctypes.c_char_p, ctypes.c_size_t)
@@ -178,14 +191,15 @@ class _Conversion:
         self.width, self.room_width = width, room_width
 
     def write(self, data, length, needed, *more):
-        """Bytes that the call writes once they are made."""
+        """Returns the bytes that the function writes, given their number of elements."""
         room = _buffer(needed, self.room_width)
         if self.call(data, length, *more, room, needed) != needed:
             raise SystemError("the library of widestring answers two lengths of one text")
         return room
 
     def short(self, data, length, *more):
-        """Text of as many elements as there are, as that of ASCII is, or None where it likely isn't ASCII, or needs more."""
+        """Returns the result if it has as many elements as the input, as for ASCII. Returns None if the input likely
+        isn't ASCII, or if the result has another length."""
         if not _sample(data).isascii():
             return None
         room = _buffer(length, self.room_width)
@@ -206,7 +220,7 @@ class _Conversion:
         text = self.short(data, length, *more) if self.length else None
         if text is not None:
             return text
-        # Where nothing has to be changed, the length is that of well-formed text, which is told sooner.
+        # If nothing has to be replaced, the length is that of well-formed text, which is faster to compute.
         needed = self.length(data, length) if self.length else _NONE
         if needed == _NONE:
             needed = self.call(data, length, *more, None, 0)
@@ -248,161 +262,173 @@ _bytes_to_utf8_lossy = _Conversion("bytes_to_utf8_lossy_with", 1, 1, None, ctype
 
 
 def utf8_first_fault(text):
-    """The offset of the first byte that belongs to no character, or None where the text is well formed."""
+    """Returns the offset of the first byte of the first ill-formed sequence, or None if the text is well formed."""
     return _place(_first_fault8, text, 1)
 
 
 def utf16_first_fault(units):
-    """The offset of the first unit that belongs to no character, or None where the units are well formed."""
+    """Returns the offset of the first ill-formed unit, or None if the units are well formed."""
     return _place(_first_fault16, units, 2)
 
 
 def utf32_first_fault(units):
-    """The offset of the first unit that is no scalar value, or None where the units are well formed."""
+    """Returns the offset of the first unit that is not a scalar value, or None if the units are well formed."""
     return _place(_first_fault32, units, 4)
 
 
 def utf16_first_fault_item(units):
-    """How many characters stand before the first fault, or None where the units are well formed."""
+    """Returns how many characters precede the first ill-formed unit, or None if the units are well formed."""
     return _number(_first_fault_item16, units, 2)
 
 
 def utf32_first_fault_item(units):
-    """How many characters stand before the first fault, or None where the units are well formed."""
+    """Returns how many characters precede the first unit that is not a scalar value, or None if the units are well
+    formed."""
     return _number(_first_fault_item32, units, 4)
 
 
 def utf8_char_count(text):
-    """How many characters the text has, or None where it is not well formed."""
+    """Returns how many characters the text has, or None if it is ill-formed."""
     return _number(_char_count8, text, 1)
 
 
 def utf16_char_count(units):
-    """How many characters the units have, or None where they are not well formed."""
+    """Returns how many characters the units have, or None if they are ill-formed."""
     return _number(_char_count16, units, 2)
 
 
 def utf32_char_count(units):
-    """How many characters the units have, or None where they are not well formed."""
+    """Returns how many characters the units have, or None if they are ill-formed."""
     return _number(_char_count32, units, 4)
 
 
 def utf16_first_nul(units):
-    """The offset of the first unit that is 0, or None."""
+    """Returns the offset of the first NUL, or None if there is none."""
     return _place(_first_nul16, units, 2)
 
 
 def utf32_first_nul(units):
-    """The offset of the first unit that is 0, or None."""
+    """Returns the offset of the first NUL, or None if there is none."""
     return _place(_first_nul32, units, 4)
 
 
 def utf16_find_unit(units, unit):
-    """The offset of the first unit of this number, or None, as for a negative number and one above 0xFFFF. What is no integer raises TypeError."""
+    """Returns the offset of the first unit with this number, or None if there is none, also for a negative number
+    and one above 0xFFFF. Raises TypeError for anything that is not an integer."""
     return _find_unit(_find_unit16, units, 2, unit)
 
 
 def utf32_find_unit(units, unit):
-    """The offset of the first unit of this number, or None, as for a negative number and one above 0xFFFFFFFF. What is no integer raises
-    TypeError."""
+    """Returns the offset of the first unit with this number, or None if there is none, also for a negative number
+    and one above 0xFFFFFFFF. Raises TypeError for anything that is not an integer."""
     return _find_unit(_find_unit32, units, 4, unit)
 
 
 def utf16_find(units, part):
-    """The first offset at which the part stands, or None. An empty part stands at 0."""
+    """Returns the offset of the first occurrence of a needle, or None if it does not occur. An empty needle occurs
+    at offset 0."""
     return _number(_find16, units, 2, *_elements(part, 2))
 
 
 def utf32_find(units, part):
-    """The first offset at which the part stands, or None. An empty part stands at 0."""
+    """Returns the offset of the first occurrence of a needle, or None if it does not occur. An empty needle occurs
+    at offset 0."""
     return _number(_find32, units, 4, *_elements(part, 4))
 
 
 def utf16_to_utf8(units):
-    """The text in UTF-8. Raises Fault where the units are not well formed, as the conversions below do."""
+    """Converts well-formed UTF-16 to UTF-8. Raises Fault if the units are ill-formed."""
     return _utf16_to_utf8.strict(units, _first_fault16)
 
 
 def utf32_to_utf8(units):
-    """The text in UTF-8."""
+    """Converts well-formed UTF-32 to UTF-8. Raises Fault if the units are ill-formed."""
     return _utf32_to_utf8.strict(units, _first_fault32)
 
 
 def utf8_to_utf16(text):
-    """The text in UTF-16."""
+    """Converts well-formed UTF-8 to UTF-16. Raises Fault if the text is ill-formed."""
     return _utf8_to_utf16.strict(text, _first_fault8)
 
 
 def utf8_to_utf32(text):
-    """The text in UTF-32."""
+    """Converts well-formed UTF-8 to UTF-32. Raises Fault if the text is ill-formed."""
     return _utf8_to_utf32.strict(text, _first_fault8)
 
 
 def utf16_to_utf32(units):
-    """The text in UTF-32."""
+    """Converts well-formed UTF-16 to UTF-32. Raises Fault if the units are ill-formed."""
     return _utf16_to_utf32.strict(units, _first_fault16)
 
 
 def utf32_to_utf16(units):
-    """The text in UTF-16."""
+    """Converts well-formed UTF-32 to UTF-16. Raises Fault if the units are ill-formed."""
     return _utf32_to_utf16.strict(units, _first_fault32)
 
 
 def utf16_to_utf8_lossy(units, policy=Lossy.EACH):
-    """The text of any units in UTF-8, with what the policy gives for each unit that belongs to no character."""
+    """Converts any UTF-16 to UTF-8, and replaces ill-formed units by the policy."""
     return _utf16_to_utf8_lossy.lossy(units, Lossy(policy))
 
 
 def utf32_to_utf8_lossy(units, policy=Lossy.EACH):
-    """The text of any units in UTF-8, with what the policy gives for each unit that is no scalar value."""
+    """Converts any UTF-32 to UTF-8, and replaces units that are not scalar values by the policy."""
     return _utf32_to_utf8_lossy.lossy(units, Lossy(policy))
 
 
 def utf8_to_utf16_lossy(text, policy=Lossy.EACH):
-    """The text of any bytes in UTF-16, with what the policy gives for each longest part that begins a character and doesn't go on as one."""
+    """Converts any bytes to UTF-16, and replaces maximal subparts of ill-formed sequences by the policy: the longest
+    prefix that begins a character of UTF-8 but does not continue as one, or a byte that begins none."""
     return _utf8_to_utf16_lossy.lossy(text, Lossy(policy))
 
 
 def utf8_to_utf32_lossy(text, policy=Lossy.EACH):
-    """The text of any bytes in UTF-32, with what the policy gives for each longest part that begins a character and doesn't go on as one."""
+    """Converts any bytes to UTF-32, and replaces maximal subparts of ill-formed sequences by the policy: the longest
+    prefix that begins a character of UTF-8 but does not continue as one, or a byte that begins none."""
     return _utf8_to_utf32_lossy.lossy(text, Lossy(policy))
 
 
 def utf16_repair(units):
-    """The units with U+FFFD instead of each that belongs to no character."""
+    """Copies UTF-16, and replaces each ill-formed unit by U+FFFD."""
     return _utf16_repair.lossy(units)
 
 
 def utf32_repair(units):
-    """The units with U+FFFD instead of each that is no scalar value."""
+    """Copies UTF-32, and replaces each unit that is not a scalar value by U+FFFD."""
     return _utf32_repair.lossy(units)
 
 
 def byte_order(data):
-    """The order that the byte order mark at the beginning of UTF-16 tells, or None. The two bytes of the mark are no part of the text."""
+    """Returns the byte order of the BOM at the start of UTF-16 in bytes, or None if there is none. The two bytes of
+    the BOM do not belong to the text."""
     number = _bytes_order(*_elements(data, 1))
     return Order(number) if number < 2 else None
 
 
 def certain(data, order):
-    """The length of the prefix, in bytes, that no bytes behind it change: all whole units, but a high surrogate that has no whole unit behind it."""
+    """Returns how many bytes at the start are whole units whose meaning no later bytes can change: all whole units,
+    except a last high surrogate."""
     return _bytes_certain(*_elements(data, 1), Order(order))
 
 
 def bytes_first_fault(data, order):
-    """The offset, in units, of the first unit of UTF-16 in this order that belongs to no character, or None."""
+    """Returns the offset, in units, of the first ill-formed unit of UTF-16 in this byte order, or None if there is
+    none."""
     data, length = _elements(data, 1)
     place = _bytes_first_fault(data, length, Order(order))
     return None if place == length // 2 else place
 
 
 def ends_in_fault(data, order, after_fault=False):
-    """Whether the last unit belongs to no character; where there is no unit, what the flag tells of the text before the bytes."""
+    """Returns whether the last whole unit is ill-formed. If there are no whole units, returns `after_fault`, which
+    says whether the unit before the bytes is ill-formed."""
     return _bytes_ends_in_fault(*_elements(data, 1), Order(order), bool(after_fault)) != 0
 
 
 def bytes_to_utf8(data, order):
-    """The text in UTF-8 of UTF-16 in this order. Raises Fault, for half of a unit at the end with the number of whole units."""
+    """Converts well-formed UTF-16 in this byte order to UTF-8. Raises Fault with the offset in units of the first
+    ill-formed unit. If the units are well formed but the number of bytes is odd, the offset is the number of whole
+    units."""
     data, length = _elements(data, 1)
     order = Order(order)
     needed = _bytes_to_utf8.call(data, length, order, None, 0)
@@ -412,6 +438,6 @@ def bytes_to_utf8(data, order):
 
 
 def bytes_to_utf8_lossy(data, order, policy=Lossy.EACH, after_fault=False):
-    """The text in UTF-8 of the whole units of UTF-16 in this order, with what the policy gives for each unit that belongs to no character. The
-    flag tells whether the last unit of the text before the bytes is such a unit. The header of C tells how a stream is read."""
+    """Converts the whole units of UTF-16 in this byte order to UTF-8, and replaces ill-formed units by the policy.
+    `after_fault` says whether the unit before the bytes is ill-formed. widestring.h describes how to read a stream."""
     return _bytes_to_utf8_lossy.lossy(data, Order(order), Lossy(policy), bool(after_fault))

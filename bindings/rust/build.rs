@@ -1,5 +1,5 @@
-//! Links the static library: that in the folder WIDESTRING_LIB_DIR, or else one that pkg-config knows and that has this crate's version, or that of
-//! this repository. PKG_CONFIG names the program that is asked.
+//! Links the static library: the one in the folder WIDESTRING_LIB_DIR, or else one of this crate's version that
+//! pkg-config finds, or else the one of this repository. PKG_CONFIG names the program that is called.
 use std::env;
 use std::path::{absolute, Path, PathBuf};
 use std::process::{exit, Command};
@@ -17,7 +17,7 @@ fn fail(why: &str) -> ! {
     exit(1)
 }
 
-/// The library is machine code for these targets alone.
+/// The library is machine code for this target only.
 fn check_target() {
     for (what, wanted) in [("ARCH", "x86_64"), ("OS", "linux"), ("POINTER_WIDTH", "64")] {
         let told = env::var(format!("CARGO_CFG_TARGET_{what}")).unwrap_or_default();
@@ -29,7 +29,7 @@ fn check_target() {
     }
 }
 
-/// What pkg-config prints, if it is there and ends well.
+/// Returns what pkg-config prints, if it exists and succeeds.
 fn pkg_config(words: &[&str]) -> Option<String> {
     let program = env::var_os("PKG_CONFIG").unwrap_or_else(|| "pkg-config".into());
     let told = Command::new(program).args(words).output().ok()?;
@@ -37,7 +37,8 @@ fn pkg_config(words: &[&str]) -> Option<String> {
     told.status.success().then(|| text.trim().to_owned())
 }
 
-/// The first version whose calls may be others: of the next first number, or of the next second one while the first is 0.
+/// Returns the first version that may change functions: the next major version, or the next minor version while the
+/// major one is 0.
 fn next_version() -> String {
     let number = |name: &str| {
         let text = env::var(format!("CARGO_PKG_VERSION_{name}")).expect("cargo's version");
@@ -49,7 +50,7 @@ fn next_version() -> String {
     }
 }
 
-/// The folder that pkg-config tells of a library whose calls are those of this crate.
+/// Returns the folder that pkg-config reports for a library whose functions are those of this crate.
 fn known_folder() -> Option<PathBuf> {
     let found = pkg_config(&["--modversion", "widestring"])?;
     let own = env::var("CARGO_PKG_VERSION").expect("cargo's version");
@@ -67,7 +68,7 @@ fn known_folder() -> Option<PathBuf> {
     (!folder.is_empty()).then(|| PathBuf::from(folder))
 }
 
-/// The library's name in a folder, installed or as it is built.
+/// Returns the library's name in a folder, as it is installed or as it is built.
 fn name_in(folder: &Path) -> Option<&'static str> {
     ["widestring", "widestring_c"]
         .into_iter()

@@ -1,5 +1,5 @@
-//! The library's calls as safe ones. All code that is unsafe stands here: a call of the library is made by nothing but the types and functions of this
-//! module, each of which hands in slices, or the memory of a vector that is its own.
+//! Safe wrappers of the library's functions. All unsafe code is in this module: only its types and functions call the
+//! library, and they pass slices, or memory of a vector that they own.
 #![allow(unsafe_code)]
 
 use crate::{raw, Fault, IntoError, Lossy, Order, Short};
@@ -7,21 +7,22 @@ use alloc::string::String;
 use alloc::vec::Vec;
 use core::sync::atomic::{AtomicBool, Ordering};
 
-/// Text of at most so many elements has the capacity that its longest form needs, and of longer text so many tell the likely length.
+/// A text of at most `SHORT` elements gets the capacity that the longest result needs. For a longer text, a prefix of
+/// `PIECE` elements predicts the length.
 const SHORT: usize = 128;
 
 const PIECE: usize = 1024;
 
-/// A vector of more elements gives memory back where the half would do.
+/// A vector with more capacity than this releases memory if less than half is used.
 const MUCH: usize = 4096;
 
-/// What the library answers where it has no number to tell.
+/// What the library returns if it has no number to report.
 const NONE: usize = usize::MAX;
 
-/// Whether the linked library has been seen to have this crate's version.
+/// Whether the linked library was found to have this crate's version.
 static IS_OWN: AtomicBool = AtomicBool::new(false);
 
-/// A number of decimal digits.
+/// Parses a number of decimal digits.
 const fn number(text: &str) -> u32 {
     let (mut at, mut sum) = (0, 0);
     while at < text.len() {
@@ -35,11 +36,12 @@ const MAJOR: u32 = number(env!("CARGO_PKG_VERSION_MAJOR"));
 const MINOR: u32 = number(env!("CARGO_PKG_VERSION_MINOR"));
 
 pub fn version() -> u32 {
-    // SAFETY: it takes nothing.
+    // SAFETY: the function takes no arguments.
     unsafe { raw::wide_version() }
 }
 
-/// Sees once that the linked library has this crate's version, since a library of another one may have other calls of these names.
+/// Checks once that the linked library has this crate's version, since other versions may have other functions with
+/// these names.
 fn check_version() {
     if !IS_OWN.load(Ordering::Relaxed) {
         compare_version();
@@ -58,7 +60,8 @@ fn compare_version() {
     IS_OWN.store(true, Ordering::Relaxed);
 }
 
-/// An answer that is at most what every text of this length has. A greater one is a broken library's, and nothing is read by it.
+/// Returns an answer that is at most what a text of this length can have. Panics for a greater one, which only a broken
+/// library returns, before anything is read by it.
 fn within(most: usize, answer: usize) -> usize {
     assert!(
         answer <= most,
@@ -67,27 +70,27 @@ fn within(most: usize, answer: usize) -> usize {
     answer
 }
 
-/// What a call answers, or none for the number that stands for it.
+/// Returns the answer, or `None` if it is the number that stands for none.
 fn unless(none: usize, most: usize, answer: usize) -> Option<usize> {
     (answer != none).then(|| within(most, answer))
 }
 
-/// A call that reads a slice and answers a number.
+/// A function that reads a slice and returns a number.
 pub struct Ask<T>(unsafe extern "C" fn(*const T, usize) -> usize);
 
 impl<T> Ask<T> {
     fn answer(&self, items: &[T]) -> usize {
         check_version();
-        // SAFETY: a slice is memory that may be read, of this length.
+        // SAFETY: a slice is memory of this length that may be read.
         unsafe { (self.0)(items.as_ptr(), items.len()) }
     }
 
-    /// An offset, or none where the call answers the length.
+    /// Returns an offset, or `None` if the function returns the length.
     pub fn offset(&self, items: &[T]) -> Option<usize> {
         unless(items.len(), items.len(), self.answer(items))
     }
 
-    /// A number of characters, or none where the call has no number to tell.
+    /// Returns a number of characters, or `None` if the function has none to report.
     pub fn count(&self, items: &[T]) -> Option<usize> {
         unless(NONE, items.len(), self.answer(items))
     }
@@ -104,7 +107,7 @@ pub const UTF32_CHAR_COUNT: Ask<u32> = Ask(raw::wide_utf32_char_count);
 pub const UTF16_FIRST_NUL: Ask<u16> = Ask(raw::wide_utf16_first_nul);
 pub const UTF32_FIRST_NUL: Ask<u32> = Ask(raw::wide_utf32_first_nul);
 
-/// The calls that search units: for one, and for a part.
+/// The functions that search units for a unit and for a needle.
 pub struct Search<T> {
     unit: unsafe extern "C" fn(*const T, usize, T) -> usize,
     part: unsafe extern "C" fn(*const T, usize, *const T, usize) -> usize,
@@ -113,14 +116,14 @@ pub struct Search<T> {
 impl<T> Search<T> {
     pub fn unit(&self, units: &[T], unit: T) -> Option<usize> {
         check_version();
-        // SAFETY: a slice is memory that may be read, of this length.
+        // SAFETY: a slice is memory of this length that may be read.
         let answer = unsafe { (self.unit)(units.as_ptr(), units.len(), unit) };
         unless(units.len(), units.len(), answer)
     }
 
     pub fn part(&self, units: &[T], part: &[T]) -> Option<usize> {
         check_version();
-        // SAFETY: both slices are memory that may be read, of these lengths.
+        // SAFETY: both slices are memory of these lengths that may be read.
         let answer = unsafe { (self.part)(units.as_ptr(), units.len(), part.as_ptr(), part.len()) };
         unless(NONE, units.len(), answer)
     }
@@ -136,12 +139,13 @@ pub const UTF32_SEARCH: Search<u32> = Search {
     part: raw::wide_utf32_find,
 };
 
-/// A vector with what a call writes, which is told a pointer and a capacity, and answers the length, at most `most`. A first capacity that is too
-/// small costs a second call. None where the call answers a fault.
+/// Returns a vector with what the call writes. The call gets a pointer and a capacity, and returns the length, which is
+/// at most `most`. If the first capacity is too small, it is called again. Returns `None` if the call returns a fault.
 ///
 /// # Safety
 ///
-/// The call may write into so many elements at the pointer, and must have written as many as it answers where they are no more.
+/// The call may write as many elements as the capacity at the pointer. If the length that it returns is at most the
+/// capacity, it must have written that many.
 unsafe fn written<U: Copy>(
     likely: usize,
     most: usize,
@@ -155,7 +159,7 @@ unsafe fn written<U: Copy>(
         let capacity = vec.capacity();
         needed = unless(NONE, most, call(vec.as_mut_ptr(), capacity))?;
         if needed <= capacity {
-            // SAFETY: the vector has this capacity, and the call has written what it answers.
+            // SAFETY: the vector has this capacity, and the call has written as many elements as it returned.
             unsafe { vec.set_len(needed) };
             if capacity > MUCH && needed < capacity / 2 {
                 vec.shrink_to_fit();
@@ -165,7 +169,7 @@ unsafe fn written<U: Copy>(
     }
 }
 
-/// The calls that belong to one conversion, and how many elements one of what it reads becomes at most.
+/// The functions of one conversion, and how many elements one element of the input becomes at most.
 pub struct Conversion<T, U> {
     most: usize,
     length: unsafe extern "C" fn(*const T, usize) -> usize,
@@ -173,27 +177,28 @@ pub struct Conversion<T, U> {
     put: unsafe extern "C" fn(*const T, usize, *mut U, usize) -> usize,
 }
 
-/// The call of a conversion under a policy.
+/// The function of a conversion under a policy.
 pub struct Lossily<T, U>(unsafe extern "C" fn(*const T, usize, u32, *mut U, usize) -> usize);
 
 impl<T, U: Copy> Conversion<T, U> {
-    /// How long the text is at most.
+    /// Returns the greatest length of a result.
     fn most(&self, items: &[T]) -> usize {
         items.len() * self.most
     }
 
-    /// How long the text likely is, by that of its first piece: of a short text, what it has at most.
+    /// Returns the likely length of a result, from the length of the first chunk's. For a short text it is the greatest
+    /// length.
     fn likely_length(&self, items: &[T]) -> usize {
         if items.len() <= SHORT {
             return self.most(items);
         }
         let piece = &items[..items.len().min(PIECE)];
-        // A character that the end cuts is not counted.
+        // A character that is split at the end is not counted.
         let sound = &piece[..self.first_fault.offset(piece).unwrap_or(piece.len())];
         if sound.is_empty() {
             return items.len();
         }
-        // SAFETY: a slice is memory that may be read, of this length.
+        // SAFETY: a slice is memory of this length that may be read.
         let answer = unsafe { (self.length)(sound.as_ptr(), sound.len()) };
         let likely = within(self.most(sound), answer) * (items.len() / sound.len() + 1);
         likely + likely / 16
@@ -206,7 +211,8 @@ impl<T, U: Copy> Conversion<T, U> {
     }
 
     pub fn strict(&self, items: &[T]) -> Result<Vec<U>, Fault> {
-        // SAFETY: the slice may be read, the vector's memory is no other's, and the library writes what it answers where there is capacity for it.
+        // SAFETY: the slice may be read, the vector owns its memory, and the library writes as many elements as it
+        // returns if the capacity suffices.
         let text = unsafe {
             written(
                 self.likely_length(items),
@@ -218,7 +224,8 @@ impl<T, U: Copy> Conversion<T, U> {
     }
 
     pub fn lossy(&self, items: &[T], policy: Lossy, call: Lossily<T, U>) -> Vec<U> {
-        // SAFETY: the slice may be read, the vector's memory is no other's, and the library writes what it answers where there is capacity for it.
+        // SAFETY: the slice may be read, the vector owns its memory, and the library writes as many elements as it
+        // returns if the capacity suffices.
         let text = unsafe {
             written(
                 self.likely_length(items),
@@ -232,7 +239,7 @@ impl<T, U: Copy> Conversion<T, U> {
     pub fn strict_into(&self, items: &[T], buffer: &mut [U]) -> Result<usize, IntoError> {
         check_version();
         let (to, capacity) = (buffer.as_mut_ptr(), buffer.len());
-        // SAFETY: both slices are memory of these lengths, and one that may be written overlaps no other.
+        // SAFETY: both slices are memory of these lengths, and the one that may be written does not overlap the other.
         let answer = unsafe { (self.put)(items.as_ptr(), items.len(), to, capacity) };
         let needed = unless(NONE, self.most(items), answer).ok_or_else(|| self.fault(items))?;
         Ok(fitting(needed, buffer.len())?)
@@ -247,13 +254,13 @@ impl<T, U: Copy> Conversion<T, U> {
     ) -> Result<usize, Short> {
         check_version();
         let (to, capacity) = (buffer.as_mut_ptr(), buffer.len());
-        // SAFETY: both slices are memory of these lengths, and one that may be written overlaps no other.
+        // SAFETY: both slices are memory of these lengths, and the one that may be written does not overlap the other.
         let answer = unsafe { (call.0)(items.as_ptr(), items.len(), policy as u32, to, capacity) };
         fitting(within(self.most(items), answer), buffer.len())
     }
 }
 
-/// A length for which a buffer has capacity.
+/// Returns the length if it is at most the capacity of a buffer, or else the error.
 fn fitting(needed: usize, capacity: usize) -> Result<usize, Short> {
     if needed <= capacity {
         Ok(needed)
@@ -264,13 +271,13 @@ fn fitting(needed: usize, capacity: usize) -> Result<usize, Short> {
 
 impl<T> Conversion<T, u8> {
     pub fn strict_text(&self, items: &[T]) -> Result<String, Fault> {
-        // SAFETY: that what a conversion to bytes writes is UTF-8 is proved of the library.
+        // SAFETY: the library is proved to write UTF-8 in conversions to bytes.
         self.strict(items)
             .map(|text| unsafe { String::from_utf8_unchecked(text) })
     }
 
     pub fn lossy_text(&self, items: &[T], policy: Lossy, call: Lossily<T, u8>) -> String {
-        // SAFETY: that what a conversion to bytes writes is UTF-8 is proved of the library.
+        // SAFETY: the library is proved to write UTF-8 in conversions to bytes.
         unsafe { String::from_utf8_unchecked(self.lossy(items, policy, call)) }
     }
 }
@@ -322,12 +329,13 @@ pub const UTF32_TO_UTF8_LOSSILY: Lossily<u32, u8> = Lossily(raw::wide_utf32_to_u
 pub const UTF8_TO_UTF16_LOSSILY: Lossily<u8, u16> = Lossily(raw::wide_utf8_to_utf16_lossy_with);
 pub const UTF8_TO_UTF32_LOSSILY: Lossily<u8, u32> = Lossily(raw::wide_utf8_to_utf32_lossy_with);
 
-/// A call that repairs units, which are as many as before.
+/// A function that repairs units. The result has the same length.
 pub struct Repair<T>(unsafe extern "C" fn(*const T, usize, *mut T, usize) -> usize);
 
 impl<T: Copy> Repair<T> {
     pub fn of(&self, units: &[T]) -> Vec<T> {
-        // SAFETY: the slice may be read, the vector's memory is no other's, and the library writes what it answers where there is capacity for it.
+        // SAFETY: the slice may be read, the vector owns its memory, and the library writes as many elements as it
+        // returns if the capacity suffices.
         let repaired = unsafe {
             written(units.len(), units.len(), |to, capacity| {
                 (self.0)(units.as_ptr(), units.len(), to, capacity)
@@ -342,7 +350,7 @@ pub const UTF32_REPAIR: Repair<u32> = Repair(raw::wide_utf32_repair);
 
 pub fn byte_order(bytes: &[u8]) -> Option<Order> {
     check_version();
-    // SAFETY: a slice is memory that may be read, of this length.
+    // SAFETY: a slice is memory of this length that may be read.
     match unsafe { raw::wide_bytes_order(bytes.as_ptr(), bytes.len()) } {
         0 => Some(Order::Little),
         1 => Some(Order::Big),
@@ -352,14 +360,14 @@ pub fn byte_order(bytes: &[u8]) -> Option<Order> {
 
 pub fn certain(bytes: &[u8], order: Order) -> usize {
     check_version();
-    // SAFETY: a slice is memory that may be read, of this length.
+    // SAFETY: a slice is memory of this length that may be read.
     let answer = unsafe { raw::wide_bytes_certain(bytes.as_ptr(), bytes.len(), order as u32) };
     within(bytes.len(), answer)
 }
 
 pub fn bytes_first_fault(bytes: &[u8], order: Order) -> Option<usize> {
     check_version();
-    // SAFETY: a slice is memory that may be read, of this length.
+    // SAFETY: a slice is memory of this length that may be read.
     let answer = unsafe { raw::wide_bytes_first_fault(bytes.as_ptr(), bytes.len(), order as u32) };
     unless(bytes.len() / 2, bytes.len() / 2, answer)
 }
@@ -367,29 +375,31 @@ pub fn bytes_first_fault(bytes: &[u8], order: Order) -> Option<usize> {
 pub fn ends_in_fault(bytes: &[u8], order: Order, after_fault: bool) -> bool {
     check_version();
     let (order, after) = (order as u32, u32::from(after_fault));
-    // SAFETY: a slice is memory that may be read, of this length.
+    // SAFETY: a slice is memory of this length that may be read.
     unsafe { raw::wide_bytes_ends_in_fault(bytes.as_ptr(), bytes.len(), order, after) != 0 }
 }
 
-/// How long the text in UTF-8 of UTF-16 in bytes is at most.
+/// Returns the greatest length in UTF-8 of UTF-16 in bytes.
 fn most_of_bytes(bytes: &[u8]) -> usize {
     bytes.len() / 2 * 3
 }
 
 pub fn bytes_to_utf8(bytes: &[u8], order: Order) -> Option<String> {
-    // SAFETY: the slice may be read, the vector's memory is no other's, and the library writes what it answers where there is capacity for it.
+    // SAFETY: the slice may be read, the vector owns its memory, and the library writes as many elements as it returns
+    // if the capacity suffices.
     let text = unsafe {
         written(bytes.len(), most_of_bytes(bytes), |to, capacity| {
             raw::wide_bytes_to_utf8(bytes.as_ptr(), bytes.len(), order as u32, to, capacity)
         })
     };
-    // SAFETY: that what this call writes is UTF-8 is proved of the library.
+    // SAFETY: the library is proved to write UTF-8.
     text.map(|text| unsafe { String::from_utf8_unchecked(text) })
 }
 
 pub fn bytes_to_utf8_lossy(bytes: &[u8], order: Order, policy: Lossy, after_fault: bool) -> String {
     let (order, policy, after) = (order as u32, policy as u32, u32::from(after_fault));
-    // SAFETY: the slice may be read, the vector's memory is no other's, and the library writes what it answers where there is capacity for it.
+    // SAFETY: the slice may be read, the vector owns its memory, and the library writes as many elements as it returns
+    // if the capacity suffices.
     let text = unsafe {
         written(bytes.len(), most_of_bytes(bytes), |to, capacity| {
             raw::wide_bytes_to_utf8_lossy_with(
@@ -404,6 +414,6 @@ pub fn bytes_to_utf8_lossy(bytes: &[u8], order: Order, policy: Lossy, after_faul
         })
     };
     let text = text.expect("each order and policy has a number");
-    // SAFETY: that what this call writes is UTF-8 is proved of the library.
+    // SAFETY: the library is proved to write UTF-8.
     unsafe { String::from_utf8_unchecked(text) }
 }

@@ -1,10 +1,13 @@
-//! UTF-16, UTF-32 and UTF-8 by a library whose functions are proved for all units, well formed or not.
+//! Conversions, checks and searches of UTF-16, UTF-32 and UTF-8 by a library whose functions are proved for all units,
+//! well formed or ill-formed.
 //!
-//! Offsets and lengths are counted in elements: units, or bytes of UTF-8. What makes a vector asks for its memory once where the text goes on as it
-//! begins, and else twice. The calls whose names end with `_into` write into a buffer of the caller's and answer how many elements the text has; a
-//! buffer that is too short is an error, which tells the length that is needed. The crate needs no std, and of `alloc` strings and vectors.
+//! Offsets and lengths are counted in elements: code units, or bytes of UTF-8. Functions that return a string or a
+//! vector allocate once if the beginning of a text predicts its length well, and else twice. Functions whose names end
+//! in `_into` write into a buffer of the caller, and return the length of the result. If the buffer is too short, they
+//! return an error with the needed length. The crate needs no std, only `alloc`.
 //!
-//! Each call but [`version`] panics where the linked library has another version than this crate, and where it answers a length that no text has.
+//! Each function but [`version`] panics if the linked library has another version than this crate, or if it returns a
+//! length that no text has.
 #![no_std]
 #![warn(missing_docs)]
 #![deny(
@@ -24,10 +27,10 @@ use alloc::vec::Vec;
 use core::error::Error;
 use core::fmt;
 
-/// The text is not well formed: the offset of the first element that belongs to no character.
+/// The error for ill-formed text, with the offset of the first ill-formed sequence.
 #[derive(Clone, Copy, Debug, PartialEq, Eq)]
 pub struct Fault {
-    /// The offset, in elements.
+    /// The offset in elements: units, or bytes of UTF-8.
     pub place: usize,
 }
 
@@ -39,10 +42,10 @@ impl fmt::Display for Fault {
 
 impl Error for Fault {}
 
-/// A buffer has fewer elements than the text. What it holds then is not said.
+/// The error for a buffer that is shorter than the result. The content of the buffer is unspecified then.
 #[derive(Clone, Copy, Debug, PartialEq, Eq)]
 pub struct Short {
-    /// How many elements the text has.
+    /// The length of the result in elements.
     pub needed: usize,
 }
 
@@ -54,12 +57,12 @@ impl fmt::Display for Short {
 
 impl Error for Short {}
 
-/// Why a buffer does not hold the text.
+/// Why a buffer does not hold the result.
 #[derive(Clone, Copy, Debug, PartialEq, Eq)]
 pub enum IntoError {
-    /// The text is not well formed, and the buffer is as it was.
+    /// The text is ill-formed. The buffer is unchanged.
     Fault(Fault),
-    /// The buffer is too short, and what it holds is not said.
+    /// The buffer is too short. Its content is unspecified.
     Short(Short),
 }
 
@@ -86,13 +89,13 @@ impl From<Short> for IntoError {
     }
 }
 
-/// What lossy text has for what belongs to no character.
+/// Policies of lossy conversions: what replaces ill-formed sequences.
 #[derive(Clone, Copy, Debug, PartialEq, Eq)]
 #[repr(u32)]
 pub enum Lossy {
-    /// U+FFFD for each.
+    /// U+FFFD for each one.
     Each = 0,
-    /// One U+FFFD for each longest run of neighbours.
+    /// One U+FFFD for each longest run of adjacent ones.
     Run = 1,
     /// Nothing.
     Skip = 2,
@@ -108,187 +111,221 @@ pub enum Order {
     Big = 1,
 }
 
-/// The version of the linked library: 65,536 times its first number, 256 times the second, and the third. It never panics.
+/// Returns the version of the linked library: 65,536 times the major number, plus 256 times the minor number, plus the
+/// patch number. It never panics.
 pub fn version() -> u32 {
     calls::version()
 }
 
-/// The offset of the first byte that belongs to no character of UTF-8, where there is one.
+/// Returns the offset of the first byte of the first ill-formed sequence of UTF-8, or `None` if the text is well
+/// formed.
 pub fn utf8_first_fault(text: &[u8]) -> Option<usize> {
     calls::UTF8_FIRST_FAULT.offset(text)
 }
 
-/// The offset of the first unit of UTF-16 that belongs to no character, where there is one.
+/// Returns the offset of the first ill-formed unit of UTF-16, or `None` if the units are well formed.
 pub fn utf16_first_fault(units: &[u16]) -> Option<usize> {
     calls::UTF16_FIRST_FAULT.offset(units)
 }
 
-/// The offset of the first unit that is no scalar value, where there is one.
+/// Returns the offset of the first unit of UTF-32 that is not a scalar value, or `None` if the units are well formed.
 pub fn utf32_first_fault(units: &[u32]) -> Option<usize> {
     calls::UTF32_FIRST_FAULT.offset(units)
 }
 
-/// How many characters stand before the first fault of UTF-16, where there is one.
+/// Returns how many characters precede the first ill-formed unit of UTF-16, or `None` if the units are well formed.
 pub fn utf16_first_fault_item(units: &[u16]) -> Option<usize> {
     calls::UTF16_FIRST_FAULT_ITEM.count(units)
 }
 
-/// How many characters stand before the first fault of UTF-32, where there is one.
+/// Returns how many characters precede the first ill-formed unit of UTF-32, or `None` if the units are well formed.
 pub fn utf32_first_fault_item(units: &[u32]) -> Option<usize> {
     calls::UTF32_FIRST_FAULT_ITEM.count(units)
 }
 
-/// How many characters well-formed UTF-8 has.
+/// Returns how many characters UTF-8 has, or `None` if it is ill-formed.
 pub fn utf8_char_count(text: &[u8]) -> Option<usize> {
     calls::UTF8_CHAR_COUNT.count(text)
 }
 
-/// How many characters well-formed UTF-16 has.
+/// Returns how many characters UTF-16 has, or `None` if it is ill-formed.
 pub fn utf16_char_count(units: &[u16]) -> Option<usize> {
     calls::UTF16_CHAR_COUNT.count(units)
 }
 
-/// How many characters well-formed UTF-32 has.
+/// Returns how many characters UTF-32 has, or `None` if it is ill-formed.
 pub fn utf32_char_count(units: &[u32]) -> Option<usize> {
     calls::UTF32_CHAR_COUNT.count(units)
 }
 
-/// The offset of the first unit that is 0, where there is one.
+/// Returns the offset of the first NUL of UTF-16, or `None` if there is none.
 pub fn utf16_first_nul(units: &[u16]) -> Option<usize> {
     calls::UTF16_FIRST_NUL.offset(units)
 }
 
-/// The offset of the first unit of UTF-32 that is 0, where there is one.
+/// Returns the offset of the first NUL of UTF-32, or `None` if there is none.
 pub fn utf32_first_nul(units: &[u32]) -> Option<usize> {
     calls::UTF32_FIRST_NUL.offset(units)
 }
 
-/// The offset of the first unit that is this one, where there is one.
+/// Returns the offset of the first unit of UTF-16 that equals this one, or `None` if there is none.
 pub fn utf16_find_unit(units: &[u16], unit: u16) -> Option<usize> {
     calls::UTF16_SEARCH.unit(units, unit)
 }
 
-/// The offset of the first unit of UTF-32 that is this one, where there is one.
+/// Returns the offset of the first unit of UTF-32 that equals this one, or `None` if there is none.
 pub fn utf32_find_unit(units: &[u32], unit: u32) -> Option<usize> {
     calls::UTF32_SEARCH.unit(units, unit)
 }
 
-/// The first offset at which the part stands, where it does. An empty part stands at 0.
+/// Returns the offset of the first occurrence of a needle in UTF-16, or `None` if it does not occur. An empty needle
+/// occurs at offset 0.
 pub fn utf16_find(units: &[u16], part: &[u16]) -> Option<usize> {
     calls::UTF16_SEARCH.part(units, part)
 }
 
-/// The first offset at which the part stands in UTF-32, where it does. An empty part stands at 0.
+/// Returns the offset of the first occurrence of a needle in UTF-32, or `None` if it does not occur. An empty needle
+/// occurs at offset 0.
 pub fn utf32_find(units: &[u32], part: &[u32]) -> Option<usize> {
     calls::UTF32_SEARCH.part(units, part)
 }
 
-/// The text of well-formed UTF-16 in UTF-8.
+/// Converts well-formed UTF-16 to UTF-8.
+///
+/// # Errors
+///
+/// [`Fault`], with the offset of the first ill-formed unit, if the units are ill-formed.
 pub fn utf16_to_utf8(units: &[u16]) -> Result<String, Fault> {
     calls::UTF16_TO_UTF8.strict_text(units)
 }
 
-/// The text of well-formed UTF-32 in UTF-8.
+/// Converts well-formed UTF-32 to UTF-8.
+///
+/// # Errors
+///
+/// [`Fault`], with the offset of the first unit that is not a scalar value, if there is one.
 pub fn utf32_to_utf8(units: &[u32]) -> Result<String, Fault> {
     calls::UTF32_TO_UTF8.strict_text(units)
 }
 
-/// The text of well-formed UTF-8 in UTF-16.
+/// Converts well-formed UTF-8 to UTF-16.
+///
+/// # Errors
+///
+/// [`Fault`], with the offset of the first ill-formed sequence, if the bytes are ill-formed.
 pub fn utf8_to_utf16(text: &[u8]) -> Result<Vec<u16>, Fault> {
     calls::UTF8_TO_UTF16.strict(text)
 }
 
-/// The text of well-formed UTF-8 in UTF-32.
+/// Converts well-formed UTF-8 to UTF-32.
+///
+/// # Errors
+///
+/// [`Fault`], with the offset of the first ill-formed sequence, if the bytes are ill-formed.
 pub fn utf8_to_utf32(text: &[u8]) -> Result<Vec<u32>, Fault> {
     calls::UTF8_TO_UTF32.strict(text)
 }
 
-/// The text of well-formed UTF-16 in UTF-32.
+/// Converts well-formed UTF-16 to UTF-32.
+///
+/// # Errors
+///
+/// [`Fault`], with the offset of the first ill-formed unit, if the units are ill-formed.
 pub fn utf16_to_utf32(units: &[u16]) -> Result<Vec<u32>, Fault> {
     calls::UTF16_TO_UTF32.strict(units)
 }
 
-/// The text of well-formed UTF-32 in UTF-16.
+/// Converts well-formed UTF-32 to UTF-16.
+///
+/// # Errors
+///
+/// [`Fault`], with the offset of the first unit that is not a scalar value, if there is one.
 pub fn utf32_to_utf16(units: &[u32]) -> Result<Vec<u16>, Fault> {
     calls::UTF32_TO_UTF16.strict(units)
 }
 
-/// The text of any UTF-16 in UTF-8, with what the policy gives for each unit that belongs to no character.
+/// Converts any UTF-16 to UTF-8, and replaces ill-formed units by the policy.
 pub fn utf16_to_utf8_lossy(units: &[u16], policy: Lossy) -> String {
     calls::UTF16_TO_UTF8.lossy_text(units, policy, calls::UTF16_TO_UTF8_LOSSILY)
 }
 
-/// The text of any UTF-32 in UTF-8, with what the policy gives for each unit that is no scalar value.
+/// Converts any UTF-32 to UTF-8, and replaces units that are not scalar values by the policy.
 pub fn utf32_to_utf8_lossy(units: &[u32], policy: Lossy) -> String {
     calls::UTF32_TO_UTF8.lossy_text(units, policy, calls::UTF32_TO_UTF8_LOSSILY)
 }
 
-/// The text of any bytes in UTF-16, with what the policy gives for each longest part that begins a character of UTF-8 and does not go on as
-/// one, and for each byte that begins none.
+/// Converts any bytes to UTF-16, and replaces maximal subparts of ill-formed sequences by the policy: the longest
+/// prefix that begins a character of UTF-8 but does not continue as one, or a byte that begins none.
 pub fn utf8_to_utf16_lossy(text: &[u8], policy: Lossy) -> Vec<u16> {
     calls::UTF8_TO_UTF16.lossy(text, policy, calls::UTF8_TO_UTF16_LOSSILY)
 }
 
-/// The text of any bytes in UTF-32, with what the policy gives for each longest part that begins a character of UTF-8 and does not go on as
-/// one, and for each byte that begins none.
+/// Converts any bytes to UTF-32, and replaces maximal subparts of ill-formed sequences by the policy: the longest
+/// prefix that begins a character of UTF-8 but does not continue as one, or a byte that begins none.
 pub fn utf8_to_utf32_lossy(text: &[u8], policy: Lossy) -> Vec<u32> {
     calls::UTF8_TO_UTF32.lossy(text, policy, calls::UTF8_TO_UTF32_LOSSILY)
 }
 
-/// The units with U+FFFD instead of each that belongs to no character.
+/// Copies UTF-16, and replaces each ill-formed unit by U+FFFD.
 pub fn utf16_repair(units: &[u16]) -> Vec<u16> {
     calls::UTF16_REPAIR.of(units)
 }
 
-/// The units with U+FFFD instead of each that is no scalar value.
+/// Copies UTF-32, and replaces each unit that is not a scalar value by U+FFFD.
 pub fn utf32_repair(units: &[u32]) -> Vec<u32> {
     calls::UTF32_REPAIR.of(units)
 }
 
-/// Puts the text of well-formed UTF-16 in UTF-8 into a prefix of the buffer, and answers how many bytes that is. Those behind it are as they were.
-/// A fault leaves the buffer as it was.
+/// Converts well-formed UTF-16 to UTF-8, writes the result to the start of the buffer, and returns its length in bytes.
+/// The bytes after it are unchanged. An empty buffer can be used to get the length.
 ///
 /// # Errors
 ///
-/// [`IntoError::Fault`] where the units are not well formed, and [`IntoError::Short`], with the length that is needed, where the buffer is shorter.
-/// An empty buffer asks for the length alone.
+/// [`IntoError::Fault`] if the units are ill-formed; the buffer is unchanged. [`IntoError::Short`], with the needed
+/// length in bytes, if the buffer is shorter than the result; its content is unspecified.
 pub fn utf16_to_utf8_into(units: &[u16], buffer: &mut [u8]) -> Result<usize, IntoError> {
     calls::UTF16_TO_UTF8.strict_into(units, buffer)
 }
 
-/// Puts the text of well-formed UTF-32 in UTF-8 into a prefix of the buffer, and answers how many bytes that is.
+/// Converts well-formed UTF-32 to UTF-8, writes the result to the start of the buffer, and returns its length in bytes.
+/// The bytes after it are unchanged.
 ///
 /// # Errors
 ///
-/// Those of [`utf16_to_utf8_into`].
+/// [`IntoError::Fault`] if the units are ill-formed; the buffer is unchanged. [`IntoError::Short`], with the needed
+/// length in bytes, if the buffer is shorter than the result; its content is unspecified.
 pub fn utf32_to_utf8_into(units: &[u32], buffer: &mut [u8]) -> Result<usize, IntoError> {
     calls::UTF32_TO_UTF8.strict_into(units, buffer)
 }
 
-/// Puts the text of well-formed UTF-8 in UTF-16 into a prefix of the buffer, and answers how many units that is.
+/// Converts well-formed UTF-8 to UTF-16, writes the result to the start of the buffer, and returns its length in units.
+/// The units after it are unchanged.
 ///
 /// # Errors
 ///
-/// Those of [`utf16_to_utf8_into`].
+/// [`IntoError::Fault`] if the bytes are ill-formed; the buffer is unchanged. [`IntoError::Short`], with the needed
+/// length in units, if the buffer is shorter than the result; its content is unspecified.
 pub fn utf8_to_utf16_into(text: &[u8], buffer: &mut [u16]) -> Result<usize, IntoError> {
     calls::UTF8_TO_UTF16.strict_into(text, buffer)
 }
 
-/// Puts the text of well-formed UTF-8 in UTF-32 into a prefix of the buffer, and answers how many units that is.
+/// Converts well-formed UTF-8 to UTF-32, writes the result to the start of the buffer, and returns its length in units.
+/// The units after it are unchanged.
 ///
 /// # Errors
 ///
-/// Those of [`utf16_to_utf8_into`].
+/// [`IntoError::Fault`] if the bytes are ill-formed; the buffer is unchanged. [`IntoError::Short`], with the needed
+/// length in units, if the buffer is shorter than the result; its content is unspecified.
 pub fn utf8_to_utf32_into(text: &[u8], buffer: &mut [u32]) -> Result<usize, IntoError> {
     calls::UTF8_TO_UTF32.strict_into(text, buffer)
 }
 
-/// Puts the text of any UTF-16 in UTF-8 under a policy into a prefix of the buffer, and answers how many bytes that is. Those behind it are as they
-/// were.
+/// Converts any UTF-16 to UTF-8 under a policy, writes the result to the start of the buffer, and returns its length in
+/// bytes. The bytes after it are unchanged. An empty buffer can be used to get the length.
 ///
 /// # Errors
 ///
-/// [`Short`], with the length that is needed, where the buffer is shorter. An empty buffer asks for the length alone.
+/// [`Short`], with the needed length in bytes, if the buffer is shorter than the result; its content is unspecified.
 pub fn utf16_to_utf8_lossy_into(
     units: &[u16],
     policy: Lossy,
@@ -297,11 +334,12 @@ pub fn utf16_to_utf8_lossy_into(
     calls::UTF16_TO_UTF8.lossy_into(units, policy, buffer, calls::UTF16_TO_UTF8_LOSSILY)
 }
 
-/// Puts the text of any UTF-32 in UTF-8 under a policy into a prefix of the buffer, and answers how many bytes that is.
+/// Converts any UTF-32 to UTF-8 under a policy, writes the result to the start of the buffer, and returns its length in
+/// bytes. The bytes after it are unchanged.
 ///
 /// # Errors
 ///
-/// That of [`utf16_to_utf8_lossy_into`].
+/// [`Short`], with the needed length in bytes, if the buffer is shorter than the result; its content is unspecified.
 pub fn utf32_to_utf8_lossy_into(
     units: &[u32],
     policy: Lossy,
@@ -310,11 +348,12 @@ pub fn utf32_to_utf8_lossy_into(
     calls::UTF32_TO_UTF8.lossy_into(units, policy, buffer, calls::UTF32_TO_UTF8_LOSSILY)
 }
 
-/// Puts the text of any bytes in UTF-16 under a policy into a prefix of the buffer, and answers how many units that is.
+/// Converts any bytes to UTF-16 under a policy, writes the result to the start of the buffer, and returns its length in
+/// units. The units after it are unchanged.
 ///
 /// # Errors
 ///
-/// That of [`utf16_to_utf8_lossy_into`].
+/// [`Short`], with the needed length in units, if the buffer is shorter than the result; its content is unspecified.
 pub fn utf8_to_utf16_lossy_into(
     text: &[u8],
     policy: Lossy,
@@ -323,11 +362,12 @@ pub fn utf8_to_utf16_lossy_into(
     calls::UTF8_TO_UTF16.lossy_into(text, policy, buffer, calls::UTF8_TO_UTF16_LOSSILY)
 }
 
-/// Puts the text of any bytes in UTF-32 under a policy into a prefix of the buffer, and answers how many units that is.
+/// Converts any bytes to UTF-32 under a policy, writes the result to the start of the buffer, and returns its length in
+/// units. The units after it are unchanged.
 ///
 /// # Errors
 ///
-/// That of [`utf16_to_utf8_lossy_into`].
+/// [`Short`], with the needed length in units, if the buffer is shorter than the result; its content is unspecified.
 pub fn utf8_to_utf32_lossy_into(
     text: &[u8],
     policy: Lossy,
@@ -336,35 +376,43 @@ pub fn utf8_to_utf32_lossy_into(
     calls::UTF8_TO_UTF32.lossy_into(text, policy, buffer, calls::UTF8_TO_UTF32_LOSSILY)
 }
 
-/// The order that the byte order mark at the beginning of UTF-16 in bytes tells. The two bytes of the mark are no part of the text.
+/// Returns the byte order of the BOM at the start of UTF-16 in bytes, or `None` if there is none. The two bytes of the
+/// BOM do not belong to the text.
 pub fn byte_order(bytes: &[u8]) -> Option<Order> {
     calls::byte_order(bytes)
 }
 
-/// The length of the prefix, in bytes, that no bytes behind it change: all whole units, but a high surrogate that has no whole unit behind it.
+/// Returns how many bytes at the start are whole units whose meaning no later bytes can change: all whole units, except
+/// a last high surrogate.
 pub fn certain(bytes: &[u8], order: Order) -> usize {
     calls::certain(bytes, order)
 }
 
-/// The offset, in units, of the first unit among the bytes that belongs to no character, where there is one.
+/// Returns the offset, in units, of the first ill-formed unit in the bytes, or `None` if there is none.
 pub fn bytes_first_fault(bytes: &[u8], order: Order) -> Option<usize> {
     calls::bytes_first_fault(bytes, order)
 }
 
-/// Whether the last unit belongs to no character; where there is no unit, what the flag tells of the text before the bytes.
+/// Returns whether the last whole unit is ill-formed. If there are no whole units, it returns `after_fault`, which says
+/// whether the unit before the bytes is ill-formed.
 pub fn ends_in_fault(bytes: &[u8], order: Order, after_fault: bool) -> bool {
     calls::ends_in_fault(bytes, order, after_fault)
 }
 
-/// The text in UTF-8 of bytes that are whole units of well-formed UTF-16. The fault of half a unit at the end is at the number of whole units.
+/// Converts bytes of well-formed UTF-16 to UTF-8.
+///
+/// # Errors
+///
+/// [`Fault`], with the offset in units of the first ill-formed unit. If the units are well formed but the number of
+/// bytes is odd, the offset is the number of whole units.
 pub fn bytes_to_utf8(bytes: &[u8], order: Order) -> Result<String, Fault> {
     calls::bytes_to_utf8(bytes, order).ok_or_else(|| Fault {
         place: bytes_first_fault(bytes, order).unwrap_or(bytes.len() / 2),
     })
 }
 
-/// The text in UTF-8 of the whole units of any bytes, with what the policy gives for each unit that belongs to no character. The flag tells
-/// whether the last unit of the text before the bytes is such a unit. `widestring.h` tells how a stream is read.
+/// Converts the whole units of any bytes to UTF-8, and replaces ill-formed units by the policy. `after_fault` says
+/// whether the unit before the bytes is ill-formed. `widestring.h` describes how to read a stream.
 pub fn bytes_to_utf8_lossy(bytes: &[u8], order: Order, policy: Lossy, after_fault: bool) -> String {
     calls::bytes_to_utf8_lossy(bytes, order, policy, after_fault)
 }

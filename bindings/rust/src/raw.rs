@@ -1,5 +1,6 @@
-//! The calls of `widestring.h` that the crate stands on. A pointer and the length or capacity behind it must be those of memory that may be read,
-//! or written where the pointer is `*mut`, and no memory that is written may overlap other memory that is handed in.
+//! The functions of `widestring.h` that the crate uses. A pointer and the length or capacity after it must describe
+//! memory that may be read, or written if the pointer is `*mut`. Memory that is written must not overlap other memory
+//! that is passed.
 
 extern "C" {
     pub fn wide_version() -> u32;

@@ -1,10 +1,10 @@
-//! Judges the crate by std, with texts made at random: JUDGE_COUNT of each kind, or 100,000, from JUDGE_SEED.
+//! Tests the crate against std, with random texts: JUDGE_COUNT of each kind, or 100,000, from JUDGE_SEED.
 use std::fmt::Debug;
 use widestring_proved::*;
 
 const POLICIES: [Lossy; 3] = [Lossy::Each, Lossy::Run, Lossy::Skip];
 
-/// Text as std reads it: characters, and none for each fault.
+/// Text as std reads it: characters, and `None` for each fault.
 type Items = Vec<Option<char>>;
 
 struct Numbers(u64);
@@ -21,7 +21,7 @@ impl Numbers {
         (self.0 >> 33) as u32 % bound
     }
 
-    /// A text of std's: of ASCII mostly, and of characters below a bound.
+    /// A text as std has it: mostly ASCII, and characters below a bound.
     fn text(&mut self) -> String {
         let bound = [0x80, 0x800, 0x1_0000, 0x11_0000][self.below(4) as usize];
         let most = [
@@ -43,7 +43,7 @@ impl Numbers {
             .collect()
     }
 
-    /// Elements with others of any value in every second case, and cut at a place in some.
+    /// In every second case replaces some elements by others of any value; cuts some texts at a random offset.
     fn broken<T: Copy>(&mut self, mut items: Vec<T>, any: impl Fn(u32) -> T) -> Vec<T> {
         for _ in 0..if self.below(2) == 0 { 0 } else { self.below(8) } {
             let wild = match self.below(3) {
@@ -81,7 +81,7 @@ fn lossy_of(items: &Items, policy: Lossy) -> String {
     text
 }
 
-/// The text, if it has no fault.
+/// Returns the text if it has no fault.
 fn sound<T>(items: &Items, place: Option<usize>, make: impl Fn(&str) -> T) -> Result<T, Fault> {
     match place {
         None => Ok(make(&lossy_of(items, Lossy::Skip))),
@@ -89,8 +89,8 @@ fn sound<T>(items: &Items, place: Option<usize>, make: impl Fn(&str) -> T) -> Re
     }
 }
 
-/// A call into buffers that are exact, longer, shorter and of no element, with marked elements behind each: a length is answered where the text
-/// fits, an error that tells it where it doesn't, and a fault in each of them.
+/// Calls a function with buffers that fit exactly, are longer, shorter and empty, with marked elements after each. It
+/// must return the length if the text fits, an error with the length if it does not, and a fault with each of them.
 fn fills<T: Copy + PartialEq + Debug>(
     wanted: Result<&[T], Fault>,
     mark: T,
@@ -125,7 +125,7 @@ fn utf32_of(text: &str) -> Vec<u32> {
     text.chars().map(u32::from).collect()
 }
 
-/// The items of bytes, and the place of the first fault.
+/// The items of bytes, and the offset of the first fault.
 fn utf8_items(text: &[u8]) -> (Items, Option<usize>) {
     let mut items = Items::new();
     for chunk in text.utf8_chunks() {
@@ -180,7 +180,7 @@ fn check_utf8_lossy(text: &[u8], policy: Lossy, lossy: &str) {
     });
 }
 
-/// The first place of a part, by std's windows.
+/// The first offset of a needle, by std's windows.
 fn place_of<T: PartialEq>(items: &[T], part: &[T]) -> Option<usize> {
     match part.len() {
         0 => Some(0),
@@ -226,7 +226,8 @@ fn check_utf16(units: &[u16], numbers: &mut Numbers) {
     check_bytes(units, &items, numbers);
 }
 
-/// Units as bytes, with half of a unit behind them or not, in one piece and in two, the second of which has what the first left.
+/// Units as bytes, with or without half a unit after them, in one chunk and in two, the second of which starts with
+/// what the first left.
 fn check_bytes(units: &[u16], items: &Items, numbers: &mut Numbers) {
     let order = [Order::Little, Order::Big][numbers.below(2) as usize];
     let put = |unit: &u16| match order {
@@ -327,7 +328,8 @@ fn version_is_the_crates() {
     assert_eq!(version(), number);
 }
 
-/// An answer of each call that writes into a buffer can be sliced by: where the text is longer, it is an error that tells the length.
+/// What a function that writes into a buffer returns can be used to slice the buffer: if the text is longer, it is an
+/// error with the length.
 #[test]
 fn short_buffers() {
     let short = Short { needed: 6 };
