@@ -6,7 +6,7 @@ use wide_bytes::{FromRead, FromWrite};
 use widetext_base::{finish, gather};
 use widetext_command::command;
 
-// Runs the command on the standard streams, and answers its status.
+// Runs the command on the standard streams, and returns its exit status.
 fn run(rt: &HostRuntime) -> u8 {
     let mut faults = FromWrite::new(rt.stderr());
     let words = match gather(rt, &mut faults) {

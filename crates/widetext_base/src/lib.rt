@@ -1,4 +1,5 @@
-//! What the programs `widetext` and `widetext_utf8` share: the word `utf8`, refusals as lines, the statuses and the usage.
+//! What the programs `widetext` and `widetext_utf8` share: the subcommand `utf8`, error messages, exit statuses and the
+//! usage message.
 #![tactic(auto)]
 
 mod refusal;

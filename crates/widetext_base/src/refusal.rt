@@ -1,4 +1,4 @@
-//! What a run says on its fault stream, and the status that it ends with.
+//! Messages on the fault stream, and exit statuses.
 
 ghost use Rattle.std.specs.Prelude.{◌≡◌, IfErr, IfSome};
 ghost use Rattle.wide_error.specs.Texts.{transcode_error_text};
@@ -9,24 +9,24 @@ use std::fmt::{InlineText, Write};
 use wide_bytes::{ByteSink, put_all};
 use wide_error::TranscodeError;
 
-/// What is printed at wrong words.
+/// The message for a usage error.
 pub const USAGE: &str =
     "usage: widetext utf8 [--lossy[=each|run|skip]] | ends UNITS CALLS | edit TEXT EDIT..";
 
-/// The status of a run that did what it was asked for.
+/// The exit status of a successful run.
 pub const SUCCESS: u8 = 0;
 
-/// The status after a refusal.
+/// The exit status after an error.
 pub const REFUSED: u8 = 1;
 
-/// The status at wrong words.
+/// The exit status after a usage error.
 pub const WRONG_USAGE: u8 = 2;
 
-// Room for each line that is said, in bytes: the longest tells of a fault, with two numbers of 20 digits, in 89.
+// Capacity for a line, in bytes. The longest line, for a fault with two numbers of 20 digits, takes 89.
 const LINE_LEN: usize = 128;
 
-/// Writes the text and a line feed on `faults`, in one call if that takes all of them. If `faults` fails, it has got a prefix of them,
-/// and nothing else changes.
+/// Writes the text and a line feed to `faults`, in one call if that takes all of them. If `faults` fails, it has taken a
+/// prefix of them. The failure is ignored. A line of more than 128 bytes is not written.
 pub fn report<F: ByteSink, T: fmt::Display>(faults: &mut F, text: &T)
     ensures { IfSome (T.output text.now) (Says (F.held faults.old) (F.held faults.new)) }
 {
@@ -37,7 +37,7 @@ pub fn report<F: ByteSink, T: fmt::Display>(faults: &mut F, text: &T)
     }
 }
 
-/// Says on `faults` why a request was refused, where it was, and answers the status.
+/// Writes the error, if there is one, as a line to `faults`, and returns the exit status.
 pub fn end<F: ByteSink>(faults: &mut F, answer: Result<(), TranscodeError>) -> u8
     ensures status { result ≡ status_of answer }
     ensures quiet { result ≡ 0 → faults.new ≡ faults.old }
@@ -52,7 +52,7 @@ pub fn end<F: ByteSink>(faults: &mut F, answer: Result<(), TranscodeError>) -> u
     }
 }
 
-/// Says the usage on `faults`, and answers the status.
+/// Writes the usage message to `faults`, and returns the exit status of a usage error.
 pub fn refuse_words<F: ByteSink>(faults: &mut F) -> u8
     ensures status { result ≡ 2 }
     ensures said { Says (F.held faults.old) (F.held faults.new) USAGE.now }

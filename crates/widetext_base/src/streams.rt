@@ -1,4 +1,4 @@
-//! The words of a call, and the end of its output.
+//! The arguments of a run, and the end of its output.
 
 ghost use Rattle.std.specs.Prelude.{◌≡◌, ◌≢◌, ◌≤◌, codes, IfErr, OnOk};
 ghost use Rattle.wide_error.specs.Texts.{out_of_memory_text};
@@ -11,7 +11,7 @@ use std::{env, io};
 use wide_bytes::ByteSink;
 use wide_error::{OutOfMemory, TranscodeError};
 
-// The words after the program's name.
+// Returns the arguments after the program's name.
 fn words_of<R: Env + AllocGlobal>(rt: &R) -> io::Result<Vec<String>> {
     let mut words = Vec::new(rt.alloc());
     for word in env::args(rt)?.skip(1) {
@@ -20,11 +20,12 @@ fn words_of<R: Env + AllocGlobal>(rt: &R) -> io::Result<Vec<String>> {
     Ok(words)
 }
 
-/// The words after the program's name.
+/// Returns the arguments after the program's name.
 ///
 /// # Errors
 ///
-/// Where a word is no UTF-8, the status at wrong words, with the usage on `faults`; where memory is refused, that of a refusal.
+/// The exit status. If an argument is not UTF-8, it is that of a usage error, and the usage message is written to
+/// `faults`. If an allocation fails, it is that of an error, and the message is written to `faults`.
 pub fn gather<R: Env + AllocGlobal, F: ByteSink>(rt: &R, faults: &mut F) -> Result<Vec<String>, u8>
     ensures quiet { OnOk result (faults.new ≡ faults.old) }
     ensures refused { IfErr result (λ status. (1 ≤ status) × (status ≤ 2)) }
@@ -41,8 +42,9 @@ pub fn gather<R: Env + AllocGlobal, F: ByteSink>(rt: &R, faults: &mut F) -> Resu
     }
 }
 
-/// Flushes the output of a run that ended with `status`, and answers the status: that of a refusal, which `faults` tells, where the
-/// flush fails and all else went well.
+/// Flushes the output of a run that ended with `status`, and returns the exit status. If the flush fails and `status`
+/// is that of success, it writes a message to `faults`, and returns the status of an error. Otherwise it returns
+/// `status`.
 pub fn finish<W: Write, F: ByteSink>(output: &mut W, faults: &mut F, status: u8) -> u8
     ensures first_refusal { status ≢ 0 → result ≡ status }
     ensures statuses { status ≡ 0 → result ≢ 0 → result ≡ 1 }

@@ -1,4 +1,4 @@
-//! The word `utf8`.
+//! The subcommand `utf8`.
 
 ghost use Rattle.std.specs.Prelude.{◌≡◌, ◌≤◌, Option, Some, false};
 ghost use Rattle.wide_unit.specs.declared.policy.Policy.{Policy};
@@ -8,7 +8,7 @@ use crate::refusal::{USAGE, end, refuse_words};
 use wide_bytes::{ByteSink, ByteSource, Mode, transcode, transcode_with};
 use wide_unit::Policy;
 
-// The policy that an option for lossy text names.
+// Returns the policy that an option for lossy text names.
 fn parse_policy(option: &str) -> Option<Policy>
     ensures named { (policy : Policy) → IsOption policy option.now → result ≡ Some policy }
     ensures names { (policy : Policy) → result ≡ Some policy → IsOption policy option.now }
@@ -21,7 +21,8 @@ fn parse_policy(option: &str) -> Option<Policy>
     }
 }
 
-/// The policy that the words ask for, where they ask for text: lossy by one, or up to the first fault where there is none.
+/// Returns what the arguments ask `utf8` for: `Some(Some(policy))` for lossy text, `Some(None)` for text up to the
+/// first fault, and `None` if they are not those of `utf8`.
 pub fn parse_utf8(words: &[String]) -> Option<Option<Policy>>
     ensures utf8 { (policy : Option Policy) → AsksForUtf8 policy words.now → result ≡ Some policy }
     ensures utf8_alone { (policy : Option Policy) → result ≡ Some policy → AsksForUtf8 policy words.now }
@@ -36,8 +37,12 @@ pub fn parse_utf8(words: &[String]) -> Option<Option<Policy>>
     }
 }
 
-/// Writes the text of `source` to `sink`, lossy by the policy or up to the first fault where there is none, and answers the status;
-/// a refusal is a line on `faults`.
+/// Writes the text of `source` in UTF-8 to `sink`, and returns the exit status. With a policy the text is lossy,
+/// without one it ends at the first fault. An error is written as a line to `faults`.
+///
+/// # Requires
+///
+/// No device has failed, and `source` has not ended. `faults` may have failed.
 pub fn write_utf8<S: ByteSource, K: ByteSink, F: ByteSink>(
     source: &mut S,
     sink: &mut K,
@@ -58,11 +63,16 @@ pub fn write_utf8<S: ByteSource, K: ByteSink, F: ByteSink>(
     end(faults, answer)
 }
 
-/// Does what the words after the program's name say, of which it knows `utf8` alone, and answers the exit status: 0 on success, 1
-/// after a refusal, whose text is a line on `faults`, and 2 at other words, with the usage on `faults` and nothing on `sink`.
+/// Runs the program with the arguments after its name, of which it only knows `utf8`, and returns the exit status: 0
+/// after success, 1 after an error, whose message is a line on `faults`, and 2 after a usage error, with the usage
+/// message on `faults` and nothing on `sink`.
 ///
-/// All words are read before anything else. No device may have failed, and the source may not have ended. A write to
-/// `faults` that fails changes nothing. `sink` isn't flushed.
+/// It reads all arguments before it does anything else. A failing write to `faults` changes nothing else. `sink` is not
+/// flushed.
+///
+/// # Requires
+///
+/// No device has failed, and `source` has not ended.
 pub fn command<S: ByteSource, K: ByteSink, F: ByteSink>(
     words: &[String],
     source: &mut S,
@@ -74,13 +84,14 @@ pub fn command<S: ByteSource, K: ByteSink, F: ByteSink>(
     requires sink_sound { K.has_failed sink.old ≡ false }
     requires faults_sound { F.has_failed faults.old ≡ false }
 
-    // The word `utf8`, with an option or none: the status is that of one run of `transcode`, or of `transcode_with` by the policy.
+    // The subcommand `utf8`, with or without an option: the status is that of one run of `transcode`, or of
+    // `transcode_with` under the policy.
     ensures utf8 { (policy : Option Policy) → AsksForUtf8 policy words.now → Utf8Run policy (S.left source.old) (S.left source.new) (K.held sink.old) (K.held sink.new) (S.has_ended source.new) (S.has_failed source.new) (K.has_failed sink.new) (F.held faults.old) (F.held faults.new) result }
 
-    // Nothing is said on the fault stream where all went well.
+    // A successful run writes nothing to the fault stream.
     ensures quiet { result ≡ 0 → faults.new ≡ faults.old }
 
-    // Other words read nothing, and write nothing but the usage.
+    // With other arguments nothing is read, and only the usage message is written.
     ensures reads { AsksForNoUtf8 words.now → source.new ≡ source.old }
     ensures unknown { AsksForNoUtf8 words.now → result ≡ 2 }
     ensures wrong { result ≡ 2 → sink.new ≡ sink.old }

@@ -1,4 +1,4 @@
--- What a hole for a number in hexadecimal writes.
+-- What a format argument for a hexadecimal number writes.
 use Rattle.std.proofs.Common.{◌≡◌, ℕ, ◌-◌, ◌^◌, false, true, [], length, arith}
 use Rattle.std.specs.Fmt.{digits, padded_integral, format_spec, char_count}
 use Rattle.std.proofs.lemmas.List.{append-nil}

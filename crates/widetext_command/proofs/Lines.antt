@@ -8,13 +8,14 @@ use Rattle.wide_unit.specs.Utf8.{utf8, utf8_bytes}
 use Rattle.wide_unit.specs.Laws.Utf8.{utf8_bytes-encode_utf8}
 use Rattle.widetext_command.specs.Lines.{escaped}
 
--- with one more element its line stands behind those before it
+-- with one more element, its line is after those of the elements before it
 pub one_more : {X Y : Type 0} (line : Y → List ℕ) (read : X → Y) (xs : List X) (i : ℕ) (d : X) (new : List ℕ) → i < length xs
     → new ≡ flat_map line (map read (take i xs)) ++ line (read (get_or xs i d)) → new ≡ flat_map line (map read (take (i + 1) xs))
 one_more line read xs i d new below e =
     e ∙ sym (ap (λ ys. flat_map line (map read ys)) (take_more xs i d below) ∙ simp (map-append, flat_map-append, append-nil))
 
--- the same behind what stood there, of what is written of a list by its parts
+-- with one more element, what is written for it is after what was written before, if writing distributes over
+-- concatenation
 pub more_of : {X : Type 0} (written : List X → List ℕ) (joins : (a b : List X) → written (a ++ b) ≡ written a ++ written b) (xs : List X) (i : ℕ) (d : X) (before old new : List ℕ) → i < length xs
     → old ≡ before ++ written (take i xs) → new ≡ old ++ written (get_or xs i d ∷ []) → new ≡ before ++ written (take (i + 1) xs)
 more_of written joins xs i d before old new below so_far e =
@@ -32,7 +33,7 @@ read_more line read xs i d before old new below so_far e =
     more_of (λ ys. flat_map line (map read ys)) (λ a b. ap (flat_map line) (map-append read a b) ∙ flat_map-append line (map read a) (map read b)) xs i d before old new below so_far
     (e ∙ ap (λ bs. old ++ bs) (sym (append-nil (line (read (get_or xs i d))))))
 
--- escapes of characters, and those of others behind them
+-- the escapes of a concatenation are the escapes of both lists
 pub escaped-join : (a b : List ℕ) → escaped (a ++ b) ≡ escaped a ++ escaped b
 escaped-join a b = ap utf8 (flat_map-append escape_default a b) ∙ flat_map-append utf8_bytes (flat_map escape_default a) (flat_map escape_default b)
 

@@ -1,4 +1,4 @@
--- What the words of the program ask for.
+-- What the arguments of the program ask for.
 use Rattle.std.specs.Prelude.{◌≡◌, ℕ, ◌≤◌, ◌⊎◌, Bool, true, false, Option, List, [], ◌∷◌, ◌++◌, map, length, codes, string_bytes}
 use Rattle.std.specs.Io.KnownBytes.{Appends}
 use Rattle.std.specs.List.{All}
@@ -21,13 +21,13 @@ use Rattle.widetext_command.specs.declared.words.Request.TheVariants.{Ends, Edit
 abbrev pub IsUnit : List ℕ → ℕ → Type 0
 IsUnit digits u = IsNumeral 16 digits × (length digits ≤ 4) × (digits_value 16 digits ≡ u)
 
--- units, one or more, with a comma between each and the next
+-- units, one or more, separated by commas
 abbrev pub AreUnits : List ℕ → List ℕ → Type 0
 AreUnits word [] = ⊥
 AreUnits word (u ∷ []) = IsUnit word u
 AreUnits word (u ∷ v ∷ us) = (digits : List ℕ) × (rest : List ℕ) × (word ≡ digits ++ 44 ∷ rest) × IsUnit digits u × AreUnits rest (v ∷ us)
 
--- the units that a word names: `-` names none
+-- the units that an argument names: `-` names none
 abbrev pub NamesUnits : List ℕ → List ℕ → Type 0
 NamesUnits word us = ((word ≡ codes "-") × (us ≡ [])) ⊎ AreUnits word us
 
@@ -48,7 +48,7 @@ pub record IsEditedInPart (text : List ℕ) (words : List EditWord) (held held' 
   pub named : AreEdits words edits
   pub put : AppendsPrefix held held' (edit_lines (chars text) edits)
 
--- why the lines were refused: the output failed, or memory was refused before any was written
+-- the error: the output failed, or an allocation failed before any line was written
 abbrev pub refusal_of : Bool → TranscodeError
 refusal_of true = Write
 refusal_of false = OutOfMemory
@@ -68,22 +68,22 @@ abbrev pub IsOfTypes : Request → Type 0
 IsOfTypes (Ends units ends) = Unit {0}
 IsOfTypes (Edit text words) = All WordHasTypes words.items
 
--- the request is of `ends`, and has the units and the ends that these two words name
+-- the request is one of `ends`, with the units and the ends that these two arguments name
 abbrev pub IsEndsOf : List ℕ → List ℕ → Request → Type 0
 IsEndsOf units calls (Ends us ends) = NamesUnits units us.items × (calls ≡ map end_letter ends.items)
 IsEndsOf units calls (Edit text edits) = ⊥
 
 module _ {A : Type 0} where
-  -- these were read of words, one of each
+  -- these were read from the arguments, one from each
   abbrev pub AreRead : List (String A) → List EditWord → Type 0
   AreRead words read = AreEach (λ word. NamesWord (string_bytes word)) words read
 
-  -- the request is of `edit`, and has this text and the edits that these words name
+  -- the request is one of `edit`, with this text and the edits that these arguments name
   abbrev pub IsEditOf : List ℕ → List (String A) → Request → Type 0
   IsEditOf text words (Ends us ends) = ⊥
   IsEditOf text words (Edit t read) = (text ≡ t.now) × AreRead words read.items
 
-  -- the word `ends` and two more
+  -- the subcommand `ends` and two more arguments
   abbrev pub AsksForEnds : List (String A) → Type 0
   AsksForEnds [] = ⊥
   AsksForEnds (word ∷ []) = ⊥
@@ -91,7 +91,7 @@ module _ {A : Type 0} where
   AsksForEnds (word ∷ units ∷ calls ∷ []) = string_bytes word ≡ codes "ends"
   AsksForEnds (word ∷ units ∷ calls ∷ fourth ∷ others) = ⊥
 
-  -- these two name the units, and the end of each call
+  -- the two arguments name the units, and the end of each call
   abbrev pub AsksForEndsOf : List ℕ → List End → List (String A) → Type 0
   AsksForEndsOf us ends [] = ⊥
   AsksForEndsOf us ends (word ∷ []) = ⊥
@@ -99,24 +99,24 @@ module _ {A : Type 0} where
   AsksForEndsOf us ends (word ∷ units ∷ calls ∷ []) = (string_bytes word ≡ codes "ends") × NamesUnits (string_bytes units) us × (string_bytes calls ≡ map end_letter ends)
   AsksForEndsOf us ends (word ∷ units ∷ calls ∷ fourth ∷ others) = ⊥
 
-  -- the word `edit` and a text, and no edits or some
+  -- the subcommand `edit`, a text, and any number of edits
   abbrev pub AsksForEdits : List (String A) → Type 0
   AsksForEdits [] = ⊥
   AsksForEdits (word ∷ []) = ⊥
   AsksForEdits (word ∷ text ∷ edits) = string_bytes word ≡ codes "edit"
 
-  -- this one is the text, and the others name the edits
+  -- the first argument is the text, and the others name the edits
   abbrev pub AsksForEditOf : List ℕ → List EditWord → List (String A) → Type 0
   AsksForEditOf text read [] = ⊥
   AsksForEditOf text read (word ∷ []) = ⊥
   AsksForEditOf text read (word ∷ first ∷ edits) = (string_bytes word ≡ codes "edit") × (string_bytes first ≡ text) × AreRead edits read
 
-  -- what a request that is read from the words asks for
+  -- the arguments ask for a request
   abbrev pub IsAskedBy : List (String A) → Request → Type 0
   IsAskedBy words (Ends units ends) = AsksForEndsOf units.items ends.items words
   IsAskedBy words (Edit text read) = AsksForEditOf text.now read.items words
 
-  -- `ends` wrote the lines of the units that its words name, and of the calls
+  -- `ends` wrote the lines for the units and the calls that its arguments name
   pub record WritesEnds (words : List (String A)) (held held' : Option (List ℕ)) : Type 0 where
     pub units : List ℕ
     pub ends : List End
@@ -144,7 +144,7 @@ module _ {A : Type 0} where
     pub asked : AsksForEditOf text read words
     pub edited : IsEditedInPart text read held held'
 
-  -- no request begins so
+  -- the arguments have the form of no request
   pub record IsUnknown (words : List (String A)) : Type 0 where
     pub no_utf8 : AsksForNoUtf8 words
     pub no_ends : ¬ (AsksForEnds words)

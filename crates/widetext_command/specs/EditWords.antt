@@ -1,4 +1,4 @@
--- The edits that words name.
+-- The edits that arguments name.
 use Rattle.std.specs.Prelude.{◌≡◌, ℕ, ◌<◌, ◌^◌, List, [], ◌∷◌, ◌++◌, codes, encode_utf8, encode_utf8_all}
 use Rattle.std.specs.Char.{IsScalar}
 use Rattle.std.specs.Str.Parse.{IsNumeral, digits_value}
@@ -7,13 +7,13 @@ use Rattle.wide_edit.specs.declared.edits.Edit.TheVariants.{Push, PushStr, Pop, 
 use Rattle.widetext_command.specs.declared.edit_words.EditWord.{EditWord}
 use Rattle.widetext_command.specs.declared.edit_words.EditWord.TheVariants as word
 
--- the edit of a word that was read: one that keeps characters has the list of these
+-- the edit of a parsed argument: `Retain` has the list of the characters to retain
 abbrev pub IsEdit : EditWord → edit.Edit → Type 0
 IsEdit (word.Whole e) found = found ≡ e
 IsEdit (word.Retain keep) (Retain kept) = kept.now ≡ keep.items
 IsEdit (word.Retain keep) found = ⊥
 
--- each of a list with the one at its place in another
+-- each element of a list is related to the one with the same index in another list
 abbrev pub AreEach : {X Y : Type 0} → (X → Y → Type 0) → List X → List Y → Type 0
 AreEach R [] [] = Unit {0}
 AreEach R [] (y ∷ ys) = ⊥
@@ -23,7 +23,7 @@ AreEach R (x ∷ xs) (y ∷ ys) = R x y × AreEach R xs ys
 abbrev pub AreEdits : List EditWord → List edit.Edit → Type 0
 AreEdits words edits = AreEach IsEdit words edits
 
--- a number in decimal; and one with a comma and more behind it
+-- a decimal number; and one followed by a comma and more
 abbrev pub IsNumber : List ℕ → ℕ → Type 0
 IsNumber digits n = IsNumeral 10 digits × (digits_value 10 digits ≡ n)
 
@@ -45,7 +45,7 @@ edit_name (Replace a b t) = codes "replace"
 edit_name (SplitOff i) = codes "splitoff"
 edit_name Clear = codes "clear"
 
--- what stands behind the name and the equals sign of an edit that has values
+-- what is after the name and the equals sign of an edit that has values
 abbrev pub AreValues : List ℕ → edit.Edit → Type 0
 AreValues values (Push c) = values ≡ encode_utf8 c
 AreValues values (PushStr t) = values ≡ t.now
@@ -64,7 +64,7 @@ AreValues values Clear = ⊥
 abbrev pub IsNamed : List ℕ → List ℕ → edit.Edit → Type 0
 IsNamed name values found = (name ≡ edit_name found) × AreValues values found
 
--- the edit is one whose name and first number have more values behind them
+-- the edit has this name and these values, and its first number is followed by more values
 abbrev pub IsNamedAt : List ℕ → List ℕ → edit.Edit → Type 0
 IsNamedAt name values (Push c) = ⊥
 IsNamedAt name values (PushStr t) = ⊥
@@ -79,13 +79,13 @@ IsNamedAt name values (Replace a b t) = IsNamed name values (Replace a b t)
 IsNamedAt name values (SplitOff i) = ⊥
 IsNamedAt name values Clear = ⊥
 
--- a word names an edit: `pop` and `clear` by themselves, and others by their name, an equals sign and their values
+-- an argument names an edit: `pop` and `clear` are only a name, others are a name, an equals sign and values
 abbrev pub NamesEdit : List ℕ → edit.Edit → Type 0
 NamesEdit bytes Pop = bytes ≡ codes "pop"
 NamesEdit bytes Clear = bytes ≡ codes "clear"
 NamesEdit bytes found = (name : List ℕ) × (values : List ℕ) × (bytes ≡ name ++ 61 ∷ values) × IsNamed name values found
 
--- a word names what was read of it
+-- an argument names what was parsed from it
 abbrev pub NamesWord : List ℕ → EditWord → Type 0
 NamesWord bytes (word.Whole found) = NamesEdit bytes found
 NamesWord bytes (word.Retain keep) = bytes ≡ codes "retain=" ++ encode_utf8_all keep.items
@@ -105,7 +105,7 @@ HasTypes (Replace a b t) = (a < 2 ^ 64) × (b < 2 ^ 64)
 HasTypes (SplitOff i) = i < 2 ^ 64
 HasTypes Clear = Unit {0}
 
--- the values of what was read of a word are of their types
+-- the values of a parsed argument are of their types
 abbrev pub WordHasTypes : EditWord → Type 0
 WordHasTypes (word.Whole found) = HasTypes found
 WordHasTypes (word.Retain keep) = Unit {0}

@@ -1,4 +1,4 @@
--- What the words `ends` and `edit` write.
+-- The lines that the subcommands `ends` and `edit` write.
 use Rattle.std.specs.Prelude.{ℕ, ◌-◌, false, true, List, [], ◌∷◌, ◌++◌, length, replicate, codes, Option, Some, None}
 use Rattle.std.specs.Char.Escape.{escape_default}
 use Rattle.std.specs.Fmt.{digits}
@@ -12,25 +12,25 @@ use Rattle.wide_iter.specs.declared.ends.End.{End}
 use Rattle.wide_edit.specs.Step as step
 use Rattle.wide_edit.specs.declared.edits.Edit.{Edit}
 
--- a number in upper-case hexadecimal, with zeros before it up to so many digits
+-- a number in upper-case hexadecimal, padded with zeros to a number of digits
 abbrev pub padded_hex : ℕ → ℕ → List ℕ
 padded_hex width n = replicate (width - length (digits 16 true n)) 48 ++ digits 16 true n
 
--- the line of an answer
+-- the line of an item, or of none
 abbrev pub answer_line : Option Item → List ℕ
 answer_line (Some (Char c)) = codes "U+" ++ (padded_hex 4 c ++ codes "\n")
 answer_line (Some (Fault u)) = codes "fault " ++ (digits 16 false u ++ codes "\n")
 answer_line None = codes "none\n"
 
--- the lines of what a decoder of the units answers to the calls
+-- the lines of the items that a decoder of the units returns at the ends
 abbrev pub ends_lines : List ℕ → List End → List ℕ
 ends_lines us ends = flat_map answer_line (answers (items Utf16 us) ends)
 
--- characters, each as `char::escape_default` gives it
+-- characters, each as `char::escape_default` escapes it
 abbrev pub escaped : List ℕ → List ℕ
 escaped cs = utf8 (flat_map escape_default cs)
 
--- the line of an edit's answer
+-- the line of an edit's reply
 abbrev pub reply_line : step.Answer → List ℕ
 reply_line step.Done = codes "done\n"
 reply_line (step.Char c) = codes "char " ++ (escaped (c ∷ []) ++ codes "\n")
@@ -43,7 +43,7 @@ reply_line step.BadRange = codes "badrange\n"
 abbrev pub text_line : List ℕ → List ℕ
 text_line cs = codes "text " ++ (escaped cs ++ codes "\n")
 
--- a space, and a unit of so many digits; the units of a line, behind its name
+-- a space, and a unit of a number of digits; the units of a line, after its name
 abbrev pub spaced_unit : ℕ → ℕ → List ℕ
 spaced_unit width u = 32 ∷ padded_hex width u
 
@@ -54,6 +54,6 @@ units_line name width us = name ++ (flat_map (spaced_unit width) us ++ codes "\n
 abbrev pub text_lines : List ℕ → List ℕ
 text_lines cs = text_line cs ++ (units_line (codes "utf16") 4 (encode Utf16 cs) ++ units_line (codes "utf32") 8 (encode Utf32 cs))
 
--- the lines of the answers to the edits of a text, and then those of the text that they make
+-- the lines of the replies to the edits of a text, and then those of the resulting text
 abbrev pub edit_lines : List ℕ → List Edit → List ℕ
 edit_lines cs edits = flat_map reply_line (step.meaning cs edits).1 ++ text_lines (step.meaning cs edits).0

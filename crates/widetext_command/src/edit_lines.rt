@@ -1,4 +1,4 @@
-//! What the program prints of edits.
+//! The output of the subcommand `edit`.
 ghost use Rattle.std.specs.Prelude.{◌≡◌, [], ◌∷◌, ◌++◌, map, codes, string_bytes, OnOk, IfOk};
 ghost use Rattle.std.specs.List.{flat_map};
 ghost use Rattle.std.specs.Str.{chars};
@@ -12,7 +12,7 @@ use wide_edit::{Edit, Marked16, Reply, run_both};
 use wide_error::OutOfMemory;
 use wide_utfstring::{Utf16String, Utf32String};
 
-// A character as `char::escape_default` has it.
+// Appends a character as `char::escape_default` escapes it.
 fn push_escape(lines: &mut String, c: char) -> Result<(), AllocError>
     ensures { OnOk result (string_bytes lines.new ≡ string_bytes lines.old ++ line.escaped (c ∷ [])) }
 {
@@ -22,7 +22,7 @@ fn push_escape(lines: &mut String, c: char) -> Result<(), AllocError>
     Ok(())
 }
 
-// Characters, each so.
+// Appends characters, each as `char::escape_default` escapes it.
 fn push_escaped(lines: &mut String, text: &[char]) -> Result<(), AllocError>
     ensures { OnOk result (string_bytes lines.new ≡ string_bytes lines.old ++ line.escaped text.now) }
 {
@@ -32,7 +32,7 @@ fn push_escaped(lines: &mut String, text: &[char]) -> Result<(), AllocError>
     Ok(())
 }
 
-// A line for the reply of an edit.
+// Appends a line for the reply of an edit.
 fn push_reply(lines: &mut String, reply: &Reply) -> Result<(), AllocError>
     ensures { OnOk result (string_bytes lines.new ≡ string_bytes lines.old ++ line.reply_line (answer_of reply.now)) }
 {
@@ -54,7 +54,7 @@ fn push_reply(lines: &mut String, reply: &Reply) -> Result<(), AllocError>
     }
 }
 
-// A line for units of UTF-16.
+// Appends a line for units of UTF-16.
 fn push_units16(lines: &mut String, units: &[u16]) -> Result<(), AllocError>
     ensures { OnOk result (string_bytes lines.new ≡ string_bytes lines.old ++ line.units_line (codes "utf16") 4 units.now) }
 {
@@ -65,7 +65,7 @@ fn push_units16(lines: &mut String, units: &[u16]) -> Result<(), AllocError>
     lines.push('\n')
 }
 
-// A line for units of UTF-32.
+// Appends a line for units of UTF-32.
 fn push_units32(lines: &mut String, units: &[u32]) -> Result<(), AllocError>
     ensures { OnOk result (string_bytes lines.new ≡ string_bytes lines.old ++ line.units_line (codes "utf32") 8 units.now) }
 {
@@ -76,7 +76,7 @@ fn push_units32(lines: &mut String, units: &[u32]) -> Result<(), AllocError>
     lines.push('\n')
 }
 
-// The text, and the units of both strings.
+// Appends lines for the text, and for the units of both strings.
 fn push_strings(lines: &mut String, narrow: &Marked16, wide: &Utf32String) -> Result<(), AllocError>
     ensures { OnOk result (string_bytes lines.new ≡ string_bytes lines.old ++ (line.text_line (marked_text narrow.now) ++ (line.units_line (codes "utf16") 4 (marked_units narrow.now) ++ line.units_line (codes "utf32") 8 wide.now.units))) }
 {
@@ -85,7 +85,7 @@ fn push_strings(lines: &mut String, narrow: &Marked16, wide: &Utf32String) -> Re
     push_units32(lines, wide.as_slice())
 }
 
-// Lines for the replies, one after another.
+// Appends a line for each reply.
 fn push_replies(lines: &mut String, replies: &[Reply]) -> Result<(), AllocError>
     ensures { OnOk result (string_bytes lines.new ≡ string_bytes lines.old ++ flat_map line.reply_line (map answer_of replies.now)) }
 {
@@ -95,7 +95,7 @@ fn push_replies(lines: &mut String, replies: &[Reply]) -> Result<(), AllocError>
     Ok(())
 }
 
-// The text in UTF-16, with kept marks.
+// Returns the text in UTF-16, with an offset index.
 fn marked(alloc: Global, text: &str) -> Result<Marked16, OutOfMemory>
     ensures { IfOk result (λ m. marked_text m ≡ chars text.now) }
 {
@@ -105,7 +105,11 @@ fn marked(alloc: Global, text: &str) -> Result<Marked16, OutOfMemory>
     }
 }
 
-/// A line for each reply to the edits of a text, and what UTF-16 and UTF-32 hold of it then.
+/// Returns a line for each reply to the edits of a text, and lines for the resulting text, its UTF-16 and its UTF-32.
+///
+/// # Errors
+///
+/// [`OutOfMemory`] if an allocation fails.
 pub fn edit_lines(alloc: Global, text: &str, edits: &[Edit<'_>]) -> Result<String, OutOfMemory>
     ensures { IfOk result (λ lines. string_bytes lines ≡ line.edit_lines (chars text.now) edits.now) }
 {

@@ -1,4 +1,4 @@
-//! The words of the program that name edits.
+//! Parses the arguments of the program that name edits.
 ghost use Rattle.std.specs.Prelude.{◌≡◌, ◌≢◌, ℕ, ◌^◌, ◌<◌, List, codes, IfOk, IfSome, IsSome, encode_utf8, string_bytes};
 ghost use Rattle.std.specs.Char.{IsScalar};
 ghost use Rattle.std.specs.List.{All};
@@ -9,17 +9,17 @@ ghost use Rattle.wide_edit.specs.declared.edits.Edit.{Edit};
 use std::alloc::{AllocError, Global};
 use wide_edit::Edit;
 
-/// What a word names: an edit, which lends its text from the word.
+/// The edit that an argument names. It borrows text from the argument.
 #[derive(Drop)]
 pub enum EditWord<'a> {
-    /// An edit that holds all that it needs.
+    /// An edit that needs nothing else.
     Whole(Edit<'a>),
-    /// Keeps the characters that occur in the list.
+    /// Retains the characters that are in the list.
     Retain(Vec<char>),
 }
 
 impl EditWord<'_> {
-    /// The edit.
+    /// Returns the edit.
     pub fn edit(&self) -> Edit<'_>
         ensures { IsEdit self.now result }
     {
@@ -30,7 +30,7 @@ impl EditWord<'_> {
     }
 }
 
-// The number of decimal digits, without a sign.
+// Parses a number of decimal digits, without a sign.
 fn parse_number(digits: &str) -> Option<usize>
     ensures reads { IfSome result (IsNumber digits.now) }
     ensures complete { (n : ℕ) → n < 2 ^ 64 → IsNumber digits.now n → IsSome result }
@@ -41,7 +41,7 @@ fn parse_number(digits: &str) -> Option<usize>
     digits.parse().ok()
 }
 
-// The only character of a text.
+// Returns the character of a text that has exactly one.
 fn only_char(text: &str) -> Option<char>
     ensures reads { IfSome result (λ c. text.now ≡ encode_utf8 c) }
     ensures complete { (c : ℕ) → IsScalar c → text.now ≡ encode_utf8 c → IsSome result }
@@ -54,7 +54,7 @@ fn only_char(text: &str) -> Option<char>
     }
 }
 
-// A number, and what stands behind the comma that follows it.
+// Parses a number that is followed by a comma, and returns what follows the comma.
 fn number_and_rest(values: &str) -> Option<(usize, &str)>
     ensures reads { IfSome result (λ r. IsNumberThen values.now r.0 r.1.now) }
     ensures complete { (n : ℕ) (rest : List ℕ) → n < 2 ^ 64 → IsNumberThen values.now n rest → IsSome result }
@@ -64,7 +64,7 @@ fn number_and_rest(values: &str) -> Option<(usize, &str)>
     Some((parse_number(digits)?, rest))
 }
 
-// The edit of this name at a place, with what stands behind the place.
+// Parses the values of an edit with this name whose first value is an offset and is followed by others.
 fn parse_edit_at<'a>(name: &str, values: &'a str) -> Option<Edit<'a>>
     ensures reads { IfSome result (IsNamed name.now values.now) }
     ensures complete { (found : Edit) → HasTypes found → IsNamedAt name.now values.now found → IsSome result }
@@ -82,7 +82,7 @@ fn parse_edit_at<'a>(name: &str, values: &'a str) -> Option<Edit<'a>>
     }
 }
 
-// The edit of this name with these values, but `retain`.
+// Parses the values of an edit with this name, except `retain`.
 fn parse_edit<'a>(name: &str, values: &'a str) -> Option<Edit<'a>>
     ensures reads { IfSome result (IsNamed name.now values.now) }
     ensures complete { (found : Edit) → HasTypes found → name.now ≢ codes "retain" → IsNamed name.now values.now found → IsSome result }
@@ -97,7 +97,7 @@ fn parse_edit<'a>(name: &str, values: &'a str) -> Option<Edit<'a>>
     }
 }
 
-// What a word names.
+// Parses an argument that names an edit.
 fn parse_edit_word(alloc: Global, word: &str) -> Result<Option<EditWord<'_>>, AllocError>
     ensures reads { IfOk result (λ o. IfSome o (NamesWord word.now)) }
     ensures complete { (read : EditWord) → WordHasTypes read → NamesWord word.now read → IfOk result (λ o. IsSome o) }
@@ -122,7 +122,11 @@ fn parse_edit_word(alloc: Global, word: &str) -> Result<Option<EditWord<'_>>, Al
     Ok(Some(EditWord::Retain(keep)))
 }
 
-/// What the words name, in order, where each is in order.
+/// Parses arguments that name edits. Returns `None` if one of them names no edit.
+///
+/// # Errors
+///
+/// [`AllocError`] if an allocation fails.
 pub fn parse_edit_words(
     alloc: Global,
     words: &[String],
@@ -140,7 +144,11 @@ pub fn parse_edit_words(
     Ok(Some(edits))
 }
 
-/// The edits of such words.
+/// Returns the edits of parsed arguments.
+///
+/// # Errors
+///
+/// [`AllocError`] if an allocation fails.
 pub fn edits_of<'a>(alloc: Global, words: &'a [EditWord<'a>]) -> Result<Vec<Edit<'a>>, AllocError>
     ensures { IfOk result (λ edits. AreEdits words.now edits.items) }
 {

@@ -1,4 +1,4 @@
-//! Runs of the program whose word is known: what stands in the output afterwards.
+//! Runs of the program with a known subcommand: what the output holds afterwards.
 ghost use Rattle.std.specs.Prelude.{◌≡◌, false};
 ghost use Rattle.widetext_command.specs.Command.{AsksForEnds, AsksForEdits, WritesEnds, WritesEdits};
 
@@ -6,7 +6,12 @@ use crate::program::command;
 use std::alloc::Global;
 use wide_bytes::{ByteSink, ByteSource};
 
-/// Writes the lines of the word `ends`: at status 0 exactly those, and nothing where memory was refused.
+/// Writes the lines of the subcommand `ends`. At status 0 it wrote exactly these, and after an allocation failure
+/// nothing.
+///
+/// # Requires
+///
+/// The arguments are those of `ends`. No device has failed, and `source` has not ended.
 pub fn answered<S: ByteSource, K: ByteSink, F: ByteSink>(
     alloc: Global,
     words: &[String],
@@ -26,7 +31,12 @@ pub fn answered<S: ByteSource, K: ByteSink, F: ByteSink>(
     command(alloc, words, source, sink, faults)
 }
 
-/// Writes the lines of the word `edit`: at status 0 exactly those, and nothing where memory was refused.
+/// Writes the lines of the subcommand `edit`. At status 0 it wrote exactly these, and after an allocation failure
+/// nothing.
+///
+/// # Requires
+///
+/// The arguments are those of `edit`. No device has failed, and `source` has not ended.
 pub fn edited<S: ByteSource, K: ByteSink, F: ByteSink>(
     alloc: Global,
     words: &[String],

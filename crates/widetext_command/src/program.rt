@@ -1,4 +1,4 @@
-//! The program, over any devices.
+//! The program `widetext`, over any devices.
 
 ghost use Rattle.std.specs.Prelude.{◌≡◌, ◌≢◌, ◌≤◌, ◌++◌, Option, IfErr, OnOk, OnErr, false, true, string_bytes};
 ghost use Rattle.std.specs.Io.KnownBytes.{Appends};
@@ -21,7 +21,7 @@ use wide_error::{DecodeUtf16Error, TranscodeError};
 use wide_iter::{End, read_ends16};
 use widetext_base::{USAGE, end, parse_utf8, refuse_words, write_utf8};
 
-// A line for one answer of a decoder.
+// Appends a line for an item of a decoder.
 fn push_answer(
     lines: &mut String,
     answer: &Option<Result<char, DecodeUtf16Error>>,
@@ -35,7 +35,8 @@ fn push_answer(
     }
 }
 
-// One line for each answer of a decoder of the units to the calls. All are made before any is written.
+// Writes one line for each item that a decoder of the units returns at the ends. It makes all lines before it writes
+// any.
 fn write_answers<K: ByteSink>(
     alloc: Global,
     sink: &mut K,
@@ -57,7 +58,7 @@ fn write_answers<K: ByteSink>(
     put_all(sink, lines.as_bytes())
 }
 
-// What the edits of a text answer and make of it. All lines are made before any is written.
+// Writes the replies to the edits of a text, and the resulting text. It makes all lines before it writes any.
 fn write_edits<K: ByteSink>(
     alloc: Global,
     sink: &mut K,
@@ -75,7 +76,7 @@ fn write_edits<K: ByteSink>(
     put_all(sink, edit_lines(alloc, text, &edits)?.as_bytes())
 }
 
-// The lines that a request gives, all made before any is written.
+// Writes the lines of a request. It makes all lines before it writes any.
 fn write_lines<K: ByteSink>(
     alloc: Global,
     sink: &mut K,
@@ -94,11 +95,16 @@ fn write_lines<K: ByteSink>(
     }
 }
 
-/// Does what the words after the program's name say, and answers the exit status: 0 on success, 1 after a refusal,
-/// whose text is a line on `faults`, and 2 at wrong words, with the usage on `faults` and nothing on `sink`.
+/// Runs the program with the arguments after its name, and returns the exit status: 0 after success, 1 after an error,
+/// whose message is a line on `faults`, and 2 after a usage error, with the usage message on `faults` and nothing on
+/// `sink`.
 ///
-/// All words are read before anything else. No device may have failed, and the source may not have ended. A write to
-/// `faults` that fails changes nothing. `sink` isn't flushed.
+/// It reads all arguments before it does anything else. A failing write to `faults` changes nothing else. `sink` is not
+/// flushed.
+///
+/// # Requires
+///
+/// No device has failed, and `source` has not ended.
 pub fn command<S: ByteSource, K: ByteSink, F: ByteSink>(
     alloc: Global,
     words: &[String],
@@ -111,35 +117,40 @@ pub fn command<S: ByteSource, K: ByteSink, F: ByteSink>(
     requires sink_sound { K.has_failed sink.old ≡ false }
     requires faults_sound { F.has_failed faults.old ≡ false }
 
-    // The word `utf8`, with an option or none: the status is that of one run of `transcode`, or of `transcode_with` by the policy.
+    // The subcommand `utf8`, with or without an option: the status is that of one run of `transcode`, or of
+    // `transcode_with` under the policy.
     ensures utf8 { (policy : Option Policy) → AsksForUtf8 policy words.now → Utf8Run policy (S.left source.old) (S.left source.new) (K.held sink.old) (K.held sink.new) (S.has_ended source.new) (S.has_failed source.new) (K.has_failed sink.new) (F.held faults.old) (F.held faults.new) result }
 
-    // Nothing is said on the fault stream where all went well.
+    // A successful run writes nothing to the fault stream.
     ensures quiet { result ≡ 0 → faults.new ≡ faults.old }
 
-    // The word `ends`: at status 0 the sink has got the lines of the units that its words name, and of the calls, and nothing else.
+    // The subcommand `ends`: at status 0 the sink got the lines for the units and the calls that the arguments name,
+    // and nothing else.
     ensures ends { AsksForEnds words.now → result ≡ 0 → WritesEnds words.now (K.held sink.old) (K.held sink.new) }
 
-    // The word `edit`: at status 0 the sink has got the lines of the edits that its words name, of its text, and nothing else.
+    // The subcommand `edit`: at status 0 the sink got the lines of the edits of the text that the arguments name, and
+    // nothing else.
     ensures edit { AsksForEdits words.now → result ≡ 0 → WritesEdits words.now (K.held sink.old) (K.held sink.new) }
 
-    // If the sink fails, it has got a prefix of these lines, and the status is 1.
+    // If the sink fails, it got a prefix of these lines, and the status is 1.
     ensures ends_begun { AsksForEnds words.now → K.has_failed sink.new ≡ true → WritesEndsInPart words.now (K.held sink.old) (K.held sink.new) }
     ensures edit_begun { AsksForEdits words.now → K.has_failed sink.new ≡ true → WritesEditsInPart words.now (K.held sink.old) (K.held sink.new) }
     ensures sink_failed { K.has_failed sink.new ≡ true → result ≡ 1 }
 
-    // All other words read nothing, and wrong ones write nothing but the usage.
+    // The other subcommands read nothing, and after a usage error only the usage message is written.
     ensures reads { AsksForNoUtf8 words.now → source.new ≡ source.old }
     ensures unknown { IsUnknown words.now → result ≡ 2 }
     ensures wrong { result ≡ 2 → sink.new ≡ sink.old }
 
-    // Words that ask for something are not wrong.
+    // Arguments that ask for a request are not a usage error.
     ensures asked { (request : Request) → IsOfTypes request → IsAskedBy words.now request → result ≢ 2 }
 
-    // Of other words all output is made before any is written: a refusal writes nothing, unless the output itself failed.
+    // The other subcommands make all output before they write any: after an error nothing is written, unless the output
+    // itself failed.
     ensures whole { AsksForNoUtf8 words.now → result ≡ 1 → K.has_failed sink.new ≡ false → sink.new ≡ sink.old }
 
-    // What is said of a refusal: that the output failed, or else that memory was refused; at wrong words the usage.
+    // The message of an error says that the output failed, or else that memory ran out. After a usage error it is the
+    // usage message.
     ensures refusal { AsksForNoUtf8 words.now → result ≡ 1 → Says (F.held faults.old) (F.held faults.new) (transcode_error_text (refusal_of (K.has_failed sink.new))) }
     ensures usage { result ≡ 2 → Says (F.held faults.old) (F.held faults.new) USAGE.now }
     ensures statuses { result ≤ 2 }

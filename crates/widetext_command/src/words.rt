@@ -1,4 +1,4 @@
-//! What the words of the program ask for, but `utf8`.
+//! Parses the arguments of the subcommands `ends` and `edit`.
 ghost use Rattle.std.specs.Prelude.{◌≡◌, ℕ, List, map, IfOk, IfSome, IsSome, string_bytes};
 ghost use Rattle.wide_iter.specs.declared.ends.End.{End};
 ghost use Rattle.widetext_command.specs.Command.{IsUnit, NamesUnits, end_letter, IsEndsOf, IsEditOf, IsAskedBy, IsOfTypes, IsUnknown};
@@ -8,17 +8,17 @@ use crate::edit_words::{EditWord, parse_edit_words};
 use std::alloc::{AllocError, Global};
 use wide_iter::End;
 
-/// What the words ask for that reads no input.
+/// A request that reads no input.
 #[derive(Drop)]
 pub enum Request<'a> {
-    /// What a decoder of the units answers to the calls.
+    /// Print the items that a decoder of the units returns.
     Ends {
         /// The units to decode.
         units: Vec<u16>,
-        /// The ends that items are asked of.
+        /// The end of the decoder at which each item is taken.
         ends: Vec<End>,
     },
-    /// What edits make of a text, and what they answer.
+    /// Print the replies to the edits of a text, and the resulting text.
     Edit {
         /// The text before the edits.
         text: &'a str,
@@ -27,7 +27,7 @@ pub enum Request<'a> {
     },
 }
 
-// The unit of one to four hexadecimal digits.
+// Parses a unit of one to four hexadecimal digits.
 fn parse_unit(digits: &str) -> Option<u16>
     ensures reads { IfSome result (IsUnit digits.now) }
     ensures complete { (u : ℕ) → IsUnit digits.now u → IsSome result }
@@ -38,7 +38,7 @@ fn parse_unit(digits: &str) -> Option<u16>
     u16::from_str_radix(digits, 16).ok()
 }
 
-// The units of a word: `-` for none, or units with commas between them.
+// Parses the units of an argument: `-` for none, or units separated by commas.
 fn parse_units(alloc: Global, word: &str) -> Result<Option<Vec<u16>>, AllocError>
     ensures reads { IfOk result (λ r. IfSome r (λ units. NamesUnits word.now units.items)) }
     ensures complete { (us : List ℕ) → NamesUnits word.now us → IfOk result (λ r. IsSome r) }
@@ -56,7 +56,7 @@ fn parse_units(alloc: Global, word: &str) -> Result<Option<Vec<u16>>, AllocError
     Ok(Some(units))
 }
 
-// The ends that the letters `F` and `B` of a word name.
+// Parses ends, each of which is a letter `F` or `B`.
 fn parse_ends(alloc: Global, word: &str) -> Result<Option<Vec<End>>, AllocError>
     ensures reads { IfOk result (λ r. IfSome r (λ ends. word.now ≡ map end_letter ends.items)) }
     ensures complete { (ends : List End) → word.now ≡ map end_letter ends → IfOk result (λ r. IsSome r) }
@@ -73,7 +73,7 @@ fn parse_ends(alloc: Global, word: &str) -> Result<Option<Vec<End>>, AllocError>
     Ok(Some(ends))
 }
 
-// What `ends UNITS CALLS` asks for. Both words are read before any other thing is done.
+// Parses the arguments of `ends UNITS CALLS`. It reads both before it does anything else.
 fn parse_ends_request<'a>(
     alloc: Global,
     units: &str,
@@ -91,7 +91,7 @@ fn parse_ends_request<'a>(
     Ok(Some(Request::Ends { units, ends }))
 }
 
-// What `edit TEXT EDIT..` asks for.
+// Parses the arguments of `edit TEXT EDIT..`.
 fn parse_edit_request<'a>(
     alloc: Global,
     text: &'a str,
@@ -106,7 +106,11 @@ fn parse_edit_request<'a>(
     }
 }
 
-/// What the words ask for that reads no input, where they are in order.
+/// Parses the arguments of a request that reads no input. Returns `None` if they are not those of one.
+///
+/// # Errors
+///
+/// [`AllocError`] if an allocation fails.
 pub fn parse_words(alloc: Global, words: &[String]) -> Result<Option<Request<'_>>, AllocError>
     ensures unknown { IsUnknown words.now → result ≡ Ok None }
     ensures asked { IfOk result (λ r. IfSome r (IsAskedBy words.now)) }

@@ -1,11 +1,11 @@
-//! The program `widetext` with the word `utf8` alone, which stands on few crates: what a first call waits for.
+//! The program `widetext` with only the subcommand `utf8`. It depends on few crates, so its first build is short.
 #![tactic(auto)]
 
 use std::process::ExitCode;
 use wide_bytes::{FromRead, FromWrite};
 use widetext_base::{command, finish, gather};
 
-// Runs the command on the standard streams, and answers its status.
+// Runs the command on the standard streams, and returns its exit status.
 fn run(rt: &HostRuntime) -> u8 {
     let mut faults = FromWrite::new(rt.stderr());
     let words = match gather(rt, &mut faults) {
