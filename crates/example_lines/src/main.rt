@@ -1,4 +1,4 @@
-//! Prints the lines of a file in UTF-16 that hold a word, each with its number.
+//! Prints the lines of a UTF-16 file that contain a word, each with its number.
 #![tactic(auto)]
 
 use std::process::ExitCode;

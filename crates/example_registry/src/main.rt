@@ -1,10 +1,11 @@
-//! Prints the keys and values of a registry export: the text format `.reg` as Windows writes it, UTF-16 behind the mark FF FE, in lines
-//! that end in CR LF.
+//! Prints the keys and values of a registry export: the text format `.reg` as Windows writes it, UTF-16 after the BOM
+//! FF FE, in lines that end in CR LF.
 //!
-//! Standard output has each line as UTF-8, with U+FFFD for each unit that belongs to no character. The bytes of a value stand in one line,
-//! each as it is written, and behind them what they are as UTF-16, where that may be text. A damaged line is printed too.
-//! Standard error has each damage by its line, from 1, and its unit in that line, from 0, as `line 7, unit 14: fault D83D`.
-//! The status is 0, or 1 where something was told; where the words are not one file's name it is 2, and standard error has the usage.
+//! Standard output gets each line as UTF-8, with U+FFFD for each unpaired surrogate. The bytes of a value are in one
+//! line, each as it is written, and after them what they are as UTF-16 if that may be text. A damaged line is printed
+//! too. Standard error gets each damage with its line, from 1, and its unit in that line, from 0, as `line 7, unit 14:
+//! fault D83D`. The status is 0, or 1 if damage was reported. If the arguments are not one file name, it is 2, and
+//! standard error gets the usage message.
 #![tactic(auto)]
 
 ghost use Rattle.std.specs.Prelude.{◌≡◌, ◌<◌, ◌≤◌, ◌↔◌, All, IfOk, IfSome, IsNone, IsSome, drop, length, slice_index, string_len};
@@ -40,7 +41,7 @@ const COMMA: [u16; 1] = [b',' as u16];
 
 const GOES_ON: [u16; 2] = [b',' as u16, b'\\' as u16];
 
-// What is written where, and the status.
+// The output, the reports, and the exit status.
 #[derive(Drop)]
 struct Outcome {
     output: String,
@@ -48,7 +49,7 @@ struct Outcome {
     status: u8,
 }
 
-// The bytes of a value, as far as they are read, and whether each was one.
+// The bytes of a value that were read so far, and whether all of them were valid.
 #[derive(Drop)]
 struct Bytes {
     all: Vec<u8>,
@@ -64,21 +65,21 @@ struct Export<'a> {
     told: String,
     line: usize,
     has_key: bool,
-    // The places in the text between which the last sound string stands, which may be that of several lines.
+    // The range in the text, in units, of the last string that is closed. It may span several lines.
     string_start: usize,
     string_end: usize,
-    // The bytes of a value that goes on in the next line.
+    // The bytes of a value that continues in the next line.
     bytes: Option<Bytes>,
 }
 
-// The lines of a text, each with its place: nothing is left out but their ends.
+// Returns the lines of a text, each with its offset. Only the line ends are left out.
 fn placed_lines_of(text: U16Str<'_>) -> LineIndices<U16Str<'_>>
     ensures { placed_left result ≡ placed_lines Utf16 0 (items Utf16 (units_seen text.entry)) }
 {
     text.line_indices_lossy()
 }
 
-// The digit that a unit means in hexadecimal.
+// Returns the value of a hexadecimal digit.
 fn digit(unit: u16) -> Option<u32>
     ensures some { IsSome result ↔ (digit_value unit < 16) }
     ensures value { IfSome result (λ digit. digit ≡ digit_value unit) }
@@ -86,7 +87,7 @@ fn digit(unit: u16) -> Option<u32>
     char::from_u32(u32::from(unit))?.to_digit(16)
 }
 
-// The number that hexadecimal digits mean, where there are so many of them, at least and at most, and nothing else.
+// Returns the value of a hexadecimal number that has at least `least` and at most `most` digits and nothing else.
 fn hex_digits(text: U16Str<'_>, least: usize, most: usize) -> Option<u32>
     ensures some { IsSome result
         ↔ (least ≤ length (units_seen text.entry)
@@ -107,7 +108,7 @@ fn hex_digits(text: U16Str<'_>, least: usize, most: usize) -> Option<u32>
     ))
 }
 
-// The units behind an ASCII text, where they begin with it.
+// Returns the units after an ASCII text, if they begin with it.
 fn behind<'a>(units: U16Str<'a>, text: &str) -> Option<U16Str<'a>>
     ensures { IfSome result (λ rest. units_seen rest ≡ drop (length text.now) (units_seen units.entry)) }
 {
@@ -123,18 +124,19 @@ fn is_text(units: U16Str<'_>, text: &str) -> bool {
     behind(units, text).is_some_and(|rest| rest.is_empty())
 }
 
-// The units behind the end of the line, where they begin with one.
+// Returns the units after a line end, if they begin with one.
 fn next_line(rest: U16Str<'_>) -> Option<U16Str<'_>> {
     behind(rest, "\r\n").or(behind(rest, "\n"))
 }
 
-// Whether a value that wants more bytes may have them in the next line: one that is empty or begins something else is read as that.
+// Returns whether a value that continues may have its bytes in the next line. A line that is empty or begins something
+// else does not continue it.
 fn goes_on(rest: U16Str<'_>) -> bool {
     let first = next_line(rest).and_then(|next| next.chars_lossy().next());
     first.is_some_and(|c| !matches!(c, '[' | '"' | '@' | ';' | '\r' | '\n'))
 }
 
-// The place of the quote that ends a string, which no backslash escapes.
+// Returns the offset of the quote that ends a string. A quote after a backslash does not.
 fn closing_quote(units: U16Str<'_>) -> Option<usize>
     ensures { IfSome result (λ place. slice_index (units_seen units.entry) place ≡ QUOTE) }
 {
@@ -148,7 +150,7 @@ fn closing_quote(units: U16Str<'_>) -> Option<usize>
     None
 }
 
-// What stands behind the `=` of a value.
+// Returns what follows the `=` of a value.
 fn data_of(line: U16Str<'_>) -> Option<U16Str<'_>> {
     let Some(name) = behind(line, "\"") else {
         return behind(line, "@=");
@@ -156,7 +158,7 @@ fn data_of(line: U16Str<'_>) -> Option<U16Str<'_>> {
     behind(name.get(closing_quote(name)?..)?, "\"=")
 }
 
-// The digits behind `hex:` or `hex(2):`, where the data of a value begins so.
+// Returns the digits after `hex:` or `hex(2):`, if the data of a value begin like this.
 fn digits_of(data: U16Str<'_>) -> Option<U16Str<'_>> {
     let rest = behind(data, "hex")?;
     let Some(kind) = behind(rest, "(") else {
@@ -197,7 +199,7 @@ impl<'a> Export<'a> {
         }
         self.tell_units(place, line)?;
         if self.is_in_string(end) {
-            // Which end a line has is a part of the string.
+            // The line end belongs to the string, so it is printed as it is.
             let is_whole = behind(rest, "\r\n").is_some();
             self.output.push_str(if is_whole { "\r\n" } else { "\n" })?;
             return Ok(());
@@ -213,7 +215,7 @@ impl<'a> Export<'a> {
         Ok(())
     }
 
-    // Tells of the units of a line that are no characters, and of each carriage return that ends no line.
+    // Reports the unpaired surrogates of a line, and each carriage return that is not part of a line end.
     fn tell_units(&mut self, place: usize, line: U16Str<'a>) -> Result<(), AllocError> {
         for (unit, item) in line.char_indices() {
             match item {
@@ -230,7 +232,7 @@ impl<'a> Export<'a> {
         Ok(())
     }
 
-    // Tells of each backslash of a string, or a name, that escapes neither itself nor a quote.
+    // Reports each backslash of a string or a name that escapes neither itself nor a quote.
     fn tell_escapes(&mut self, unit: usize, text: U16Str<'a>) -> Result<(), AllocError> {
         let mut escape = None;
         for (place, c) in text.char_indices_lossy() {
@@ -248,7 +250,7 @@ impl<'a> Export<'a> {
         }
     }
 
-    // Reads a line that stands for itself, and prints it without its end.
+    // Reads a line that does not continue another one, and prints it without its end.
     fn read_entry(
         &mut self,
         place: usize,
@@ -275,7 +277,7 @@ impl<'a> Export<'a> {
         Ok(write!(self.output, "{}", line.display())?)
     }
 
-    // Reads a value, and prints it without the end of its line.
+    // Reads a value, and prints it without its line end.
     fn read_value(
         &mut self,
         place: usize,
@@ -314,8 +316,8 @@ impl<'a> Export<'a> {
         Ok(())
     }
 
-    // Finds the end of the string that begins in a line. It may stand in a later one, but as its last unit; where there is none such, the
-    // string ends with the line, so that what follows is read as what it is.
+    // Finds the end of the string that begins in a line. It may be in a later line, if it is the last unit there. If
+    // there is no such end, the string ends with its line, and the next lines are read by themselves.
     fn read_string(
         &mut self,
         place: usize,
@@ -342,7 +344,7 @@ impl<'a> Export<'a> {
         Ok(())
     }
 
-    // Reads the bytes that a line ends in, and prints them as they are; what is no byte, too.
+    // Reads the bytes at the end of a line, and prints them as they are, also invalid ones.
     fn read_bytes(
         &mut self,
         mut bytes: Bytes,
@@ -374,7 +376,7 @@ impl<'a> Export<'a> {
         self.write_text(&bytes)
     }
 
-    // Writes what the bytes of a value are as UTF-16 where they may be text: where there is a zero among them.
+    // Prints the bytes of a value as UTF-16 if they may be text: if there is a zero among them.
     fn write_text(&mut self, bytes: &Bytes) -> Result<(), OutOfMemory> {
         if !bytes.is_sound || !bytes.all.contains(&0) {
             return Ok(());
@@ -400,7 +402,7 @@ impl Outcome {
     }
 }
 
-// Reads the lines of a text, and the half of a unit that stands behind it.
+// Reads the lines of a text, and the odd byte after it.
 fn read<'a>(
     export: &mut Export<'a>,
     text: U16Str<'a>,
@@ -424,7 +426,7 @@ fn read<'a>(
     }
 }
 
-// What is written for the bytes of a file.
+// Returns the output for the bytes of a file.
 fn answer(alloc: Global, bytes: &[u8]) -> Result<Outcome, OutOfMemory>
     ensures { IfOk result (λ outcome. (outcome.status ≡ 1) ↔ (0 < string_len outcome.told)) }
 {
@@ -456,7 +458,7 @@ fn answer(alloc: Global, bytes: &[u8]) -> Result<Outcome, OutOfMemory>
     Ok(Outcome::new(export.output, export.told))
 }
 
-// What is written for a file, or where the words name none.
+// Returns the output for a file, or the usage message if there is none.
 fn run(alloc: Global, file: Option<&[u8]>) -> Result<Outcome, OutOfMemory>
     ensures wrong_words { IsNone file.entry → IfOk result (λ outcome. outcome.status ≡ 2) }
     ensures told { IsSome file.entry → IfOk result (λ outcome. (outcome.status ≡ 1) ↔ (0 < string_len outcome.told)) }

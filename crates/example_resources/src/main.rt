@@ -1,12 +1,13 @@
-//! Prints the string tables of compiled Windows resources, `.res` files of 32 bits: `resources [--lossy] FILE..`.
+//! Prints the string tables of compiled Windows resources, 32-bit `.res` files: `resources [--lossy] FILE..`.
 //!
-//! Standard output has a line for each string that is not empty: its language in hexadecimal, its identifier and its text, as in
-//! `0409 17: "Open"`. Resources of other types are passed over. Standard error tells what is damaged, and of which file: the number
-//! of the resource, from 1, its place in bytes, from 0, and for text that is not well formed the string and each unit, from 0. Such a
-//! string is not printed, but with `--lossy` it is, with U+FFFD for each fault, and not told. What can be read behind damage is read.
+//! Standard output gets a line for each string that is not empty: its language in hexadecimal, its identifier and its
+//! text, as in `0409 17: "Open"`. Resources of other types are skipped. Standard error reports damage with the file,
+//! the number of the resource, from 1, and its offset in bytes, from 0. For ill-formed text it reports the string and
+//! each unit, from 0. An ill-formed string is not printed. With `--lossy` it is printed with U+FFFD for each fault, and
+//! not reported. What can be read after damage is read.
 //!
-//! Each file is written before the next one is read. The status is 1 where something was told, and 2 for wrong words: `--lossy` comes
-//! before the files, and no file's name begins with `--`.
+//! Each file is written before the next one is read. The status is 1 if anything was reported, and 2 for a usage error:
+//! `--lossy` comes before the files, and no file name begins with `--`.
 #![tactic(auto)]
 
 ghost use Rattle.std.specs.Prelude.{
@@ -56,7 +57,7 @@ impl Display for Damage {
     }
 }
 
-// A resource: the sizes that its header tells, the numbers of its type and its name, where they are numbers, its language, and its
+// A resource: the sizes in its header, the numbers of its type and its name, if they are numbers, its language, and its
 // contents as far as the file has them.
 #[derive(Clone, Copy)]
 struct Resource<'a> {
@@ -69,21 +70,21 @@ struct Resource<'a> {
 }
 
 impl Resource<'_> {
-    // Without its padding.
+    // Returns the size in bytes, without padding.
     fn size(&self) -> usize
         ensures { result ≡ self.now.header_size + self.now.data_size }
     {
         self.header_size as usize + self.data_size as usize
     }
 
-    // Whether it is the one that a file begins with.
+    // Returns whether this is the empty resource that a file begins with.
     fn is_empty(&self) -> bool {
         let numbers = (self.kind, self.name);
         self.header_size == 32 && self.data_size == 0 && numbers == (Some(0), Some(0))
     }
 }
 
-// The little-endian unit at a place.
+// Returns the little-endian unit at an offset in bytes.
 fn unit_at(bytes: &[u8], at: usize) -> Option<u16>
     ensures found { IsSome result ↔ (at + 2 ≤ length bytes.now) }
     ensures value { IfSome result (λ unit. unit ≡ from_le_bytes w16 (take 2 (drop at bytes.now))) }
@@ -91,7 +92,7 @@ fn unit_at(bytes: &[u8], at: usize) -> Option<u16>
     Some(u16::from_le_bytes(*bytes.get(at..)?.first_chunk::<2>()?))
 }
 
-// The little-endian size at a place.
+// Returns the little-endian size at an offset in bytes.
 fn size_at(bytes: &[u8], at: usize) -> Option<u32>
     ensures found { IsSome result ↔ (at + 4 ≤ length bytes.now) }
     ensures value { IfSome result (λ size. size ≡ from_le_bytes w32 (take 4 (drop at bytes.now))) }
@@ -99,7 +100,8 @@ fn size_at(bytes: &[u8], at: usize) -> Option<u32>
     Some(u32::from_le_bytes(*bytes.get(at..)?.first_chunk::<4>()?))
 }
 
-// The number of a type or of a name, where it has one, and what stands behind it; none where its text has no end.
+// Returns the number of a type or a name, if it is a number, and the bytes after it. Returns `None` if its text has no
+// end.
 fn split_name(bytes: &[u8]) -> Option<(Option<u16>, &[u8])> {
     if unit_at(bytes, 0)? == 0xffff {
         let number = unit_at(bytes, 2)?;
@@ -110,7 +112,7 @@ fn split_name(bytes: &[u8]) -> Option<(Option<u16>, &[u8])> {
     Some((None, units.get(end + 1..)?.as_flattened()))
 }
 
-// Reads the resource at the front of some bytes.
+// Reads the resource at the start of some bytes.
 fn read_resource(bytes: &[u8]) -> Result<Resource<'_>, Damage>
     ensures data_size { IfOk result (λ it. it.data_size ≡ from_le_bytes w32 (take 4 bytes.now)) }
     ensures header_size { IfOk result (λ it. it.header_size ≡ from_le_bytes w32 (take 4 (drop 4 bytes.now))) }
@@ -129,7 +131,7 @@ fn read_resource(bytes: &[u8]) -> Result<Resource<'_>, Damage>
     };
     let (kind, behind) = split_name(&header[8..]).ok_or(Damage::NoEnd)?;
     let (name, behind) = split_name(behind).ok_or(Damage::NoEnd)?;
-    // The header's other fields begin at a multiple of 4, and so many bytes before its end.
+    // The other fields of the header begin at a multiple of 4, and at a multiple of 4 bytes before its end.
     let fields = &behind[behind.len() % 4..];
     if fields.len() < 16 {
         return Err(Damage::HeaderSize(header_size));
@@ -144,7 +146,7 @@ fn read_resource(bytes: &[u8]) -> Result<Resource<'_>, Damage>
     })
 }
 
-// The bytes of a resource with its padding, or all that are left where no resource can be read, and their place.
+// The bytes of a resource with its padding, or all remaining bytes if no resource can be read, and their offset.
 #[derive(Clone, Copy)]
 struct Part<'a> {
     at: usize,
@@ -165,7 +167,7 @@ impl<'a> Iterator for Parts<'a> {
 
     type Item = Part<'a>;
 
-    // A part begins where the one before it ended, and no byte is lost between it and those behind it, up to the end.
+    // A part begins where the previous one ended, and no byte is lost between it and the next ones, up to the end.
     ghost next_gives = { λ old part new. MatchOption part (old.rest.now ≡ []) (λ it.
         (it.at + length old.rest.now ≡ length old.file.now) × (old.rest.now ≡ it.bytes.now ++ new.rest.now)) };
 
@@ -191,7 +193,7 @@ impl<'a> Iterator for Parts<'a> {
     }
 }
 
-// What is printed and told of a file, and which of its resources is being read, and where it begins.
+// The output and the reports of a file, and the number and the offset of the resource that is being read.
 #[derive(Drop)]
 struct Tables<'a> {
     alloc: Global,
@@ -213,7 +215,7 @@ impl Tables<'_> {
         Ok(writeln!(self.told, "{file}: resource {number} at byte {at}: {what}")?)
     }
 
-    // Prints a string, or tells its faults.
+    // Prints a string, or reports its faults.
     fn read_string(
         &mut self,
         language: u16,
@@ -258,7 +260,7 @@ impl Tables<'_> {
         Ok(())
     }
 
-    // Reads a resource, where there is one, and prints it where it is a string table.
+    // Reads a resource, if there is one, and prints it if it is a string table.
     fn read_part(&mut self, part: &Part<'_>) -> Result<(), OutOfMemory> {
         let resource = match &part.resource {
             Ok(resource) => resource,
@@ -301,7 +303,7 @@ impl Tables<'_> {
     }
 }
 
-// What is printed and told of a file, which may be one that can't be read.
+// Returns the output and the reports of a file, also of one that can't be read.
 fn read_file<E: Display + Drop>(
     alloc: Global,
     file: &str,
@@ -324,7 +326,7 @@ fn read_file<E: Display + Drop>(
     Ok(tables)
 }
 
-// Whether text is lossy, and the files, where the words are right.
+// Parses the arguments: whether text is lossy, and the files. Returns `None` for a usage error.
 fn parse(words: &[String]) -> Option<(bool, &[String])> {
     let (is_lossy, files) = match words {
         [first, files @ ..] if first.as_str() == "--lossy" => (true, files),

@@ -1,7 +1,7 @@
-//! Answers the calls in a file of UTF-8, one a line, that scripts make of a string of any units: on standard output, each call with its
-//! answer. In `string` and `indexOf` a `\u` and four hexadecimal digits are a unit by its number. A line that is no call is told on
-//! standard error, by its number, from 1, and its unit, from 0. The status is 0, or 1 where something was told, or 2 where the words are
-//! wrong.
+//! Runs the calls in a UTF-8 file, one in each line, that scripts make on a string of any units. Standard output gets
+//! each call with its result. In `string` and `indexOf`, `\u` and four hexadecimal digits are a unit by its number. A
+//! line that is not a call is reported on standard error, with its number, from 1, and its unit, from 0. The status is
+//! 0, or 1 if anything was reported, or 2 for a usage error.
 #![tactic(auto)]
 
 ghost use Rattle.std.specs.Prelude.{◌≡◌, ◌<◌, ◌≤◌, ◌↔◌, ◌∷◌, ℕ, List, Some, IfOk, IsNone, IsSome, IsTrue, drop, length, string_len, take};
@@ -20,7 +20,7 @@ use widestring::error::OutOfMemory;
 use widestring::unit::{length_as_utf16, split_first};
 use widestring::{U16Str, U16String, Utf16Str, Utf16String, Utf32String};
 
-// The code point that begins at a unit, which is the unit itself where no character does.
+// Returns the code point that begins at a unit, or the unit itself if it is an unpaired surrogate there.
 fn code_point_at(units: &[u16], index: usize) -> Option<u32>
     ensures none { IsNone result ↔ (length units.now ≤ index) }
     ensures character { (c : ℕ) (rest : List Item) → items Utf16 (drop index units.now) ≡ Char c ∷ rest → result ≡ Some c }
@@ -34,7 +34,7 @@ fn code_point_at(units: &[u16], index: usize) -> Option<u32>
     }
 }
 
-// The units from one place up to another, as many as there are; the cuts may part a pair.
+// Returns the units from one offset to another, as many as there are. The offsets may split a surrogate pair.
 fn slice(units: U16Str<'_>, from: usize, to: usize) -> U16Str<'_>
     ensures { units_seen result ≡ drop from (take to (units_seen units.entry)) }
 {
@@ -43,21 +43,21 @@ fn slice(units: U16Str<'_>, from: usize, to: usize) -> U16Str<'_>
     part
 }
 
-// Whether no surrogate is unpaired.
+// Returns whether there is no unpaired surrogate.
 fn is_well_formed(units: &[u16]) -> bool
     ensures { IsTrue result ↔ IsWellFormed Utf16 units.now }
 {
     Utf16Str::from_slice(units).is_ok()
 }
 
-// The text with U+FFFD in the place of each unpaired surrogate.
+// Returns the text with U+FFFD in place of each unpaired surrogate.
 fn to_well_formed(alloc: Global, units: &[u16]) -> Result<Utf16String, OutOfMemory>
     ensures { IfOk result (λ text. text.units ≡ encode Utf16 (lossy (items Utf16 units.now))) }
 {
     Utf16String::from_slice_lossy(alloc, units)?.into_owned(alloc)
 }
 
-// Makes an edit of a text and of its copy in UTF-32, which stays a copy.
+// Makes an edit of a text and of its copy in UTF-32, so that it remains a copy.
 fn edit_both(
     alloc: Global,
     text: &mut Utf16String,
@@ -74,7 +74,7 @@ fn edit_both(
 // What is wrong in a line, and at which of its units.
 type Damage = (usize, &'static str);
 
-// A call and what it is made with. The text of a search is not read yet.
+// A call and its arguments. The text of a search is not parsed yet.
 #[derive(Clone, Copy)]
 enum Call<'a> {
     String(&'a str),
@@ -86,7 +86,7 @@ enum Call<'a> {
     Edit(Edit<'a>),
 }
 
-// A place: decimal digits alone. A greater one than any string has is past the end of each.
+// Parses an offset: only decimal digits. An offset that is too great for a `usize` is past the end of every string.
 fn place_of(word: &str) -> Option<usize> {
     if word.is_empty() || !word.bytes().all(|digit| digit.is_ascii_digit()) {
         return None;
@@ -94,14 +94,14 @@ fn place_of(word: &str) -> Option<usize> {
     Some(word.parse().unwrap_or(usize::MAX))
 }
 
-// The first word, as a place, and what stands behind it.
+// Parses the first word as an offset, and returns what follows it.
 fn split_place<'a>(line: &str, values: &'a str) -> Result<(usize, &'a str), Damage> {
     let (word, rest) = values.split_once(' ').unwrap_or((values, ""));
     let unit = length_as_utf16(line).saturating_sub(length_as_utf16(values));
     Ok((place_of(word).ok_or((unit, "no place"))?, rest))
 }
 
-// The call, where nothing stands behind it.
+// Returns the call if nothing follows it.
 fn end_of<'a>(line: &str, rest: &str, call: Call<'a>) -> Result<Call<'a>, Damage> {
     if rest.is_empty() {
         return Ok(call);
@@ -110,7 +110,7 @@ fn end_of<'a>(line: &str, rest: &str, call: Call<'a>) -> Result<Call<'a>, Damage
     Err((unit, "too many words"))
 }
 
-// The call that a line is.
+// Parses the call in a line.
 fn call_of(line: &str) -> Result<Call<'_>, Damage> {
     let (name, values) = line.split_once(' ').unwrap_or((line, ""));
     match name {
@@ -144,7 +144,7 @@ fn call_of(line: &str) -> Result<Call<'_>, Damage> {
     }
 }
 
-// The units of a text at the end of a line in which `\uD83D` is a unit by its number.
+// Returns the units of a text at the end of a line, in which `\uD83D` is a unit by its number.
 fn units_of(
     alloc: Global,
     line: &str,
@@ -170,7 +170,7 @@ fn units_of(
     Ok(Ok(units))
 }
 
-// Makes an edit of the string, where it is well formed, and says how it went and what both encodings hold then.
+// Makes an edit of the string if it is well formed, and returns the reply and what both encodings hold afterwards.
 fn edit(alloc: Global, string: &mut U16String, edit: Edit<'_>) -> Result<String, OutOfMemory>
     ensures { ¬ (IsWellFormed Utf16 string.old.units) → string.new.units ≡ string.old.units }
 {
@@ -192,7 +192,7 @@ fn edit(alloc: Global, string: &mut U16String, edit: Edit<'_>) -> Result<String,
     Ok(told)
 }
 
-// The string of a session, its lines as far as they are read, and what is written of them on either stream.
+// The string of a session, the number of lines that were read, and what is written of them to both streams.
 #[derive(Drop)]
 struct Session {
     alloc: Global,
@@ -203,7 +203,7 @@ struct Session {
 }
 
 impl Session {
-    // Answers a call, or tells what is wrong in it.
+    // Runs a call, and returns its result or what is wrong in it.
     fn answer(&mut self, line: &str) -> Result<Result<String, Damage>, OutOfMemory> {
         let call = match call_of(line) {
             Ok(call) => call,
@@ -239,7 +239,7 @@ impl Session {
         }))
     }
 
-    // Writes a call and its answer, or that it is none.
+    // Writes a call and its result, or what is wrong in it.
     fn read_line(&mut self, line: &str) -> Result<(), OutOfMemory> {
         match self.answer(line)? {
             Ok(answer) => writeln!(self.answers, "{line}: {answer}")?,
@@ -251,7 +251,7 @@ impl Session {
         Ok(())
     }
 
-    // Reads the bytes of a line. One that is empty is no call, and nothing is wrong in it.
+    // Reads the bytes of a line. An empty line is skipped.
     fn read_bytes(&mut self, bytes: &[u8]) -> Result<(), OutOfMemory> {
         self.line = self.line.saturating_add(1);
         match str::from_utf8(bytes.strip_suffix(b"\r").unwrap_or(bytes)) {
@@ -266,7 +266,7 @@ impl Session {
     }
 }
 
-// What goes to standard output and to standard error, and the status.
+// What goes to standard output and to standard error, and the exit status.
 #[derive(Drop)]
 struct Ended {
     output: String,
@@ -274,7 +274,7 @@ struct Ended {
     status: u8,
 }
 
-// Answers the calls in a file's bytes; where there is no file the words were wrong.
+// Runs the calls in the bytes of a file. No file means a usage error.
 fn run(alloc: Global, file: Option<&[u8]>) -> Result<Ended, OutOfMemory>
     ensures told { IsSome file.entry → IfOk result (λ ended. (ended.status ≡ 1) ↔ (0 < string_len ended.told)) }
     ensures wrong_words { IsNone file.entry → IfOk result (λ ended. ended.status ≡ 2) }

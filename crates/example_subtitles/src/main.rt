@@ -1,10 +1,11 @@
-//! Moves the times of subtitles, a `.srt` file in UTF-16, by so many milliseconds: `+1500` or `-1500`. All else stays as it is, line ends
-//! too, but that units that belong to no character become U+FFFD, or with the word `drop` their lines are left out. Standard output gets
-//! UTF-16, little endian behind a mark; a file without a mark that begins with a zero byte and a digit is read as big endian.
+//! Moves the times of subtitles, a UTF-16 `.srt` file, by a number of milliseconds: `+1500` or `-1500`. All other text
+//! is unchanged, also line ends, but unpaired surrogates become U+FFFD, or, with the argument `drop`, their lines are
+//! left out. Standard output gets UTF-16, little endian after a BOM. A file without a BOM that begins with a zero byte
+//! and a digit is read as big endian.
 //!
-//! Told on standard error, by line, from 1, and unit, from 0: such units, lines that are left out, times that would be before 0, what stands
-//! in the place of a number or of times and is none, and half of a unit at the end. The status is 0, or 1 where something was told, or 2
-//! where the words are wrong, which the usage tells.
+//! Standard error reports, with the line, from 1, and the unit, from 0: unpaired surrogates, lines that are left out,
+//! times that would be before 0, lines that should be a number or times and are not, and half a unit at the end. The
+//! status is 0, or 1 if anything was reported, or 2 after a usage error, with the usage message.
 #![tactic(auto)]
 
 ghost use Rattle.std.specs.Prelude.{◌≡◌, ◌+◌, ◌-◌, ◌<◌, ◌^◌, ◌↔◌, ◌++◌, IfOk, IfSome, IsFalse, IsNone, IsSome, IsTrue, OnOk, string_len};
@@ -22,7 +23,7 @@ use widestring::edit::{Edit, run as run_edits};
 use widestring::error::OutOfMemory;
 use widestring::{U16Str, Utf16String};
 
-// What the words ask for.
+// The parsed arguments.
 #[derive(Clone, Copy)]
 struct Request<'a> {
     path: &'a str,
@@ -31,7 +32,7 @@ struct Request<'a> {
     drops: bool,
 }
 
-// What a line of subtitles is to be: each has a number, then its times, then text up to an empty line.
+// What a line of subtitles should be: each subtitle has a number, then its times, then text up to an empty line.
 #[derive(Clone, Copy, PartialEq, Eq)]
 enum Place {
     Number,
@@ -39,7 +40,7 @@ enum Place {
     Text,
 }
 
-// The times of a line, and where in the line the first ends and the second stands.
+// The times of a line, the end of the first one in it, and the range of the second one.
 #[derive(Clone, Copy)]
 struct Times {
     begin: u64,
@@ -51,7 +52,7 @@ struct Times {
     ghost end_within: { end < 2 ^ 60 },
 }
 
-// A number of decimal digits alone.
+// Parses a number of only decimal digits.
 fn number_of(digits: &str) -> Option<u32> {
     if digits.is_empty() || !digits.bytes().all(|digit| digit.is_ascii_digit()) {
         return None;
@@ -59,7 +60,7 @@ fn number_of(digits: &str) -> Option<u32> {
     digits.parse().ok()
 }
 
-// A number of so many digits, below a limit.
+// Parses a number of this many digits, below a limit.
 fn part_of(digits: &str, count: usize, limit: u32) -> Option<u32>
     ensures { IfSome result (λ part. part < limit) }
 {
@@ -69,7 +70,8 @@ fn part_of(digits: &str, count: usize, limit: u32) -> Option<u32>
     }
 }
 
-// The milliseconds of a time such as `00:01:02,345`. From a hundred hours on there are more digits of hours.
+// Parses a time such as `00:01:02,345`, and returns it in milliseconds. From a hundred hours on the hours have more
+// digits.
 fn parse_time(time: &str) -> Option<u64>
     ensures { IfSome result (λ time. time < 2 ^ 60) }
 {
@@ -84,7 +86,7 @@ fn parse_time(time: &str) -> Option<u64>
     Some(before + u64::from(second) * 1000 + u64::from(thousandth))
 }
 
-// Whether nothing stands behind the times, or where on the screen the text is.
+// Returns whether nothing follows the times but the coordinates of the text on the screen.
 fn is_behind_times(text: &str) -> bool {
     let mut names = ["X1:", "X2:", "Y1:", "Y2:"].iter();
     for word in text.split(' ').filter(|word| !word.is_empty()) {
@@ -97,7 +99,7 @@ fn is_behind_times(text: &str) -> bool {
     is_whole || text.trim_start_matches(' ').is_empty()
 }
 
-// The times of a line, or the unit from which on it isn't as a line of times is.
+// Parses a line of times. The error is the unit at which it stops being one.
 fn times_of(line: &str) -> Result<Times, usize> {
     let (first, rest) = line.split_once(" --> ").ok_or(0usize)?;
     let begin = parse_time(first).ok_or(0usize)?;
@@ -117,7 +119,7 @@ fn times_of(line: &str) -> Result<Times, usize> {
     })
 }
 
-// A time so much later, or earlier; none is before 0.
+// Returns a time this much later or earlier. A time before 0 becomes 0.
 fn moved(time: u64, by: u32, is_earlier: bool) -> u64
     requires { time < 2 ^ 60 }
     ensures earlier { IsTrue is_earlier → result ≡ time - by }
@@ -135,7 +137,7 @@ fn time_text(alloc: Global, time: u64) -> Result<String, AllocError> {
     format!(in alloc; "{hours:02}:{minutes:02}:{seconds:02},{:03}", time % 1000)
 }
 
-// Puts units at the end of a text, with U+FFFD in the place of each fault.
+// Appends units to a text, with U+FFFD in place of each fault.
 fn push_units(alloc: Global, text: &mut Utf16String, units: U16Str<'_>) -> Result<(), OutOfMemory>
     ensures lossy { OnOk result (text.new.units ≡ text.old.units ++ encode Utf16 (lossy (items Utf16 (units_seen units.entry)))) }
     ensures same { IsWellFormed Utf16 (units_seen units.entry) → OnOk result (text.new.units ≡ text.old.units ++ units_seen units.entry) }
@@ -143,7 +145,7 @@ fn push_units(alloc: Global, text: &mut Utf16String, units: U16Str<'_>) -> Resul
     text.push_utfstr(Utf16String::from_ustr_lossy(alloc, units)?.as_utfstr())
 }
 
-// Subtitles as far as they are read: the text that they have then, what the line is to be, and what was told.
+// The state while subtitles are read: the text so far, what the next line should be, and the reports.
 #[derive(Drop)]
 struct Subtitles<'a> {
     alloc: Global,
@@ -159,7 +161,7 @@ impl Subtitles<'_> {
         writeln!(self.told, "line {}, unit {unit}: {what}", self.line)
     }
 
-    // Puts the moved times in the place of those that the line has, or tells that it has none.
+    // Replaces the times of a line by the moved ones, or reports that it has none.
     fn move_times(&mut self, line: &mut Utf16String) -> Result<(), OutOfMemory> {
         let text = line.as_utfstr().to_string(self.alloc)?;
         let times = match times_of(&text) {
@@ -175,7 +177,8 @@ impl Subtitles<'_> {
         }
         let begin = time_text(self.alloc, moved(times.begin, by, is_earlier))?;
         let end = time_text(self.alloc, moved(times.end, by, is_earlier))?;
-        // All in such a line is ASCII, so places in characters are those in units. The later one is replaced first.
+        // All text in such a line is ASCII, so offsets in characters are offsets in units. The later time is replaced
+        // first.
         let edits = [
             Edit::Replace(times.second, times.second_end, &end),
             Edit::Replace(0, times.first_end, &begin),
@@ -184,7 +187,7 @@ impl Subtitles<'_> {
         ran.map_err(|_stopped| OutOfMemory)
     }
 
-    // Tells the faults of a line, and answers whether it has none.
+    // Reports the faults of a line, and returns whether it has none.
     fn tell_faults(&mut self, units: U16Str<'_>) -> Result<bool, AllocError> {
         let mut is_sound = true;
         for (unit, item) in units.char_indices() {
@@ -197,7 +200,7 @@ impl Subtitles<'_> {
         Ok(is_sound)
     }
 
-    // Adds a line and its end. The line may have faults, and what is to be in its place and is not there is told.
+    // Adds a line and its end. Reports faults, and a missing number or missing times.
     fn add_line(&mut self, units: U16Str<'_>, end: &str) -> Result<(), OutOfMemory> {
         self.line = self.line.saturating_add(1);
         let is_sound = self.tell_faults(units)?;
@@ -225,7 +228,8 @@ impl Subtitles<'_> {
         self.text.push_str(end)
     }
 
-    // Adds the lines of a file, and answers the unit at which the last one ends; a line end has a line behind it.
+    // Adds the lines of a file, and returns the length in units of the last one. After a line end there is another
+    // line.
     fn add_lines(&mut self, text: U16Str<'_>) -> Result<usize, OutOfMemory> {
         let mut unit = 0;
         for (place, line) in text.line_indices_lossy() {
@@ -246,7 +250,7 @@ impl Subtitles<'_> {
     }
 }
 
-// What goes to standard output and to standard error, and the status.
+// What goes to standard output and to standard error, and the exit status.
 #[derive(Drop)]
 struct Ended {
     output: Vec<u8>,
@@ -254,7 +258,7 @@ struct Ended {
     status: u8,
 }
 
-// The units of a file, and half of one at its end.
+// Returns the units of a file, and the odd byte at its end.
 fn units_of(alloc: Global, bytes: &[u8]) -> Result<(Vec<u16>, Option<u8>), AllocError> {
     let parts = utf16_of_bytes(bytes);
     let is_swapped = !parts.is_marked && matches!(bytes, [0, b'0'..=b'9', ..]);
@@ -297,7 +301,7 @@ fn move_all(alloc: Global, request: Request<'_>, bytes: &[u8]) -> Result<Ended, 
     })
 }
 
-// What the words ask for, where they ask for something.
+// Parses the arguments. Returns `None` for a usage error.
 fn request_of<'a>(words: &[&'a str]) -> Option<Request<'a>> {
     let (path, number, drops) = match words {
         [path, number] => (*path, *number, false),
@@ -314,7 +318,7 @@ fn request_of<'a>(words: &[&'a str]) -> Option<Request<'a>> {
     })
 }
 
-// Moves the times of a file's bytes, where the words ask for it.
+// Moves the times in the bytes of a file, or returns the usage message.
 fn run(alloc: Global, request: Option<Request<'_>>, bytes: &[u8]) -> Result<Ended, OutOfMemory>
     ensures told { IsSome request.entry → IfOk result (λ ended. (ended.status ≡ 1) ↔ (0 < string_len ended.told)) }
     ensures wrong_words { IsNone request.entry → IfOk result (λ ended. ended.status ≡ 2) }
