@@ -1,6 +1,6 @@
-//! The families: what each asks of the library.
+//! The groups of cases, and the calls of the library that each makes.
 
-// What an iterator answers to a call.
+// Makes a call of an iterator.
 macro_rules! asked {
     ($iterator:expr, $end:expr) => {
         match $end {
@@ -43,7 +43,7 @@ mod width;
 use crate::parse::{Memory, NoAnswer};
 use widestring::Policy;
 
-/// A family of cases, with a file of its own.
+/// A group of cases, with a file of its own.
 #[derive(Clone, Copy, Debug, PartialEq, Eq)]
 pub enum Family {
     /// The items of a decoder of UTF-16.
@@ -68,45 +68,45 @@ pub enum Family {
     Encode16,
     /// The units of an encoder to UTF-32.
     Encode32,
-    /// The bounds that a decoder of UTF-16 tells.
+    /// The size hints of a decoder of UTF-16.
     Hints16,
-    /// The bounds that a decoder of UTF-32 tells.
+    /// The size hints of a decoder of UTF-32.
     Hints32,
-    /// The bounds that a lossy decoder of UTF-16 tells.
+    /// The size hints of a lossy decoder of UTF-16.
     HintsLossy16,
-    /// The bounds that a lossy decoder of UTF-32 tells.
+    /// The size hints of a lossy decoder of UTF-32.
     HintsLossy32,
-    /// The bounds that an encoder to UTF-8 tells.
+    /// The size hints of an encoder to UTF-8.
     HintsEncode8,
-    /// The bounds that an encoder to UTF-16 tells.
+    /// The size hints of an encoder to UTF-16.
     HintsEncode16,
-    /// Of strings of 16-bit units: what `pop_char` answers until there is nothing left.
+    /// Strings of 16-bit units: what `pop_char` returns until there is nothing left.
     Pop16,
-    /// Of strings of 32-bit units: what `pop_char` answers until there is nothing left.
+    /// Strings of 32-bit units: what `pop_char` returns until there is nothing left.
     Pop32,
-    /// Of strings of 16-bit units: the character that `remove_char` takes at a place.
+    /// Strings of 16-bit units: the character that `remove_char` removes at an offset.
     Remove16,
-    /// Of strings of 32-bit units: the character that `remove_char` takes at a place.
+    /// Strings of 32-bit units: the character that `remove_char` removes at an offset.
     Remove32,
-    /// Of strings of 16-bit units: a character or a view put in at a place.
+    /// Strings of 16-bit units: a character or a view inserted at an offset.
     Insert16,
-    /// Of strings of 32-bit units: a character or a view put in at a place.
+    /// Strings of 32-bit units: a character or a view inserted at an offset.
     Insert32,
-    /// Of strings of 16-bit units: a view put in the place of a range.
+    /// Strings of 16-bit units: a range replaced by a view.
     Replace16,
-    /// Of strings of 32-bit units: a view put in the place of a range.
+    /// Strings of 32-bit units: a range replaced by a view.
     Replace32,
-    /// Of strings of 16-bit units: what a drain of a range gives and leaves.
+    /// Strings of 16-bit units: what a drain of a range returns and leaves.
     Drain16,
-    /// Of strings of 32-bit units: what a drain of a range gives and leaves.
+    /// Strings of 32-bit units: what a drain of a range returns and leaves.
     Drain32,
-    /// Of strings of 16-bit units: the units that `retain` keeps.
+    /// Strings of 16-bit units: the units that `retain` leaves.
     Retain16,
-    /// Of strings of 32-bit units: the units that `retain` keeps.
+    /// Strings of 32-bit units: the units that `retain` leaves.
     Retain32,
-    /// Of strings of 16-bit units: the two parts that `split_off` makes.
+    /// Strings of 16-bit units: the two strings that `split_off` makes.
     SplitOff16,
-    /// Of strings of 32-bit units: the two parts that `split_off` makes.
+    /// Strings of 32-bit units: the two strings that `split_off` makes.
     SplitOff32,
     /// The C strings of 16-bit units that the constructors make.
     Ucstring16,
@@ -118,23 +118,23 @@ pub enum Family {
     Utfstring32,
     /// Lines, trims, printing, escapes, case and comparisons of 16-bit units.
     Texts16,
-    /// The same of 32-bit units.
+    /// Lines, trims, printing, escapes, case and comparisons of 32-bit units.
     Texts32,
-    /// Views of 16-bit units, of their text and of C strings, and what they are cut into.
+    /// Views of 16-bit units, of their text and of C strings, and their subslices.
     Views16,
-    /// The same of 32-bit units.
+    /// Views of 32-bit units, of their text and of C strings, and their subslices.
     Views32,
-    /// What the iterators of a view of 16-bit units answer.
+    /// What the iterators of a view of 16-bit units return.
     Walks16,
-    /// The same of 32-bit units.
+    /// What the iterators of a view of 32-bit units return.
     Walks32,
     /// What views, strings and iterators of 16-bit units print.
     Prints16,
-    /// The same of 32-bit units.
+    /// What views, strings and iterators of 32-bit units print.
     Prints32,
     /// Comparisons of two lists of 16-bit units, as views and as strings.
     Compare16,
-    /// The same of 32-bit units.
+    /// Comparisons of two lists of 32-bit units, as views and as strings.
     Compare32,
     /// 16-bit units one by one, and lists of them.
     Units16,
@@ -156,19 +156,19 @@ pub enum Family {
     ToString32,
     /// The characters of a lossy decoder of UTF-16 with U+FFFD for each fault.
     Each16,
-    /// The characters of a lossy decoder of UTF-16 with one U+FFFD for a row of faults.
+    /// The characters of a lossy decoder of UTF-16 with one U+FFFD for a run of faults.
     Run16,
     /// The characters of a lossy decoder of UTF-16 with nothing for a fault.
     Skip16,
     /// The characters of a lossy decoder of UTF-32 with U+FFFD for each fault.
     Each32,
-    /// The characters of a lossy decoder of UTF-32 with one U+FFFD for a row of faults.
+    /// The characters of a lossy decoder of UTF-32 with one U+FFFD for a run of faults.
     Run32,
     /// The characters of a lossy decoder of UTF-32 with nothing for a fault.
     Skip32,
     /// Lists of edits of strings of both widths.
     Edits,
-    /// Runs of bytes between slow and failing devices.
+    /// Runs of `transcode` between slow and failing devices.
     Transcode,
     /// Searches in 16-bit units, and in text of them.
     Searches16,
@@ -183,7 +183,7 @@ pub enum Family {
 }
 
 impl Family {
-    /// All families, in the order in which they are printed.
+    /// All groups, in the order in which they are printed.
     pub const ALL: [Family; 67] = [
         Family::Items16,
         Family::Items32,
@@ -254,7 +254,7 @@ impl Family {
         Family::Chars32,
     ];
 
-    /// The family's name, which is its file's without `.txt`.
+    /// Returns the group's name, which is that of its file without `.txt`.
     pub fn name(self) -> &'static str {
         match self {
             Family::Items16 => "items16",
@@ -327,7 +327,7 @@ impl Family {
         }
     }
 
-    /// The fault of the crate that the family's mended answers are named by, where it has one.
+    /// Returns the name of the crate's fault for which the group has corrected answers, if there is one.
     pub fn fault(self) -> Option<&'static str> {
         match self {
             Family::Hints16 | Family::HintsLossy16 => Some("utf16-hint-held"),
@@ -342,7 +342,7 @@ impl Family {
         }
     }
 
-    /// What the library answers to a question about a list, as the data writes it.
+    /// Returns the library's answer to a question about a list, in the form of the data.
     pub fn answer(
         self,
         memory: Memory<'_>,
@@ -372,7 +372,7 @@ impl Family {
         }
     }
 
-    // What owned strings answer, or else what views do.
+    // Answers questions about owned strings, and passes others on to those about views.
     fn answer_of_strings(
         self,
         memory: Memory<'_>,
@@ -406,7 +406,7 @@ impl Family {
         }
     }
 
-    // What views answer, or else what conversions, edits and searches do.
+    // Answers questions about views, and passes others on to those about conversions, edits and searches.
     fn answer_of_views(
         self,
         memory: Memory<'_>,
@@ -434,7 +434,7 @@ impl Family {
         }
     }
 
-    // What conversions, edits and searches answer.
+    // Answers questions about conversions, edits and searches.
     fn answer_of_texts(
         self,
         memory: Memory<'_>,

@@ -1,12 +1,12 @@
-//! Replays the answers of Rust's crate of this name, and answers worked out from the definitions, as `data/` records them, with this library. README.md
-//! explains a line of each family.
+//! Runs the test vectors in `data/` on this library: results of the Rust crate `widestring`, and results worked out
+//! from the definitions. README.md explains a line of each group.
 //!
-//! A file of `data/` is a family, and a line of it a list of units or characters in hexadecimal, and then cases, each
-//! after a `|`: a question, a `=` and the answer. Where the crate's own answer is wrong, the answer is the mended one, and
-//! the fault's name and the crate's own answer stand after it, each after a `~`.
+//! A file of `data/` is a group of cases. A line is a list of units or characters in hexadecimal, and then cases, each
+//! after a `|`: a question, a `=` and the answer. If the crate's own answer is wrong, the answer is the corrected one,
+//! and the fault's name and the crate's own answer follow it, each after a `~`.
 //!
-//! Printed is a line for each family, with how many cases agree with the crate, how many agree with a mended answer and
-//! how many differ, and then the first difference of all. The status is 1 where a case differs, a line can't be parsed
+//! It prints a line for each group: how many cases agree with the crate, how many agree with a corrected answer and how
+//! many differ. Then it prints the first difference of all. The status is 1 if a case differs, a line can't be parsed
 //! or a file can't be read, and else 0.
 #![tactic(auto)]
 
@@ -22,7 +22,7 @@ use std::process::ExitCode;
 use std::{fs, io};
 use widestring_testing::Limited;
 
-// Replays a family, prints its line, and answers its first difference, where it has one.
+// Runs a group of cases, prints its line, and returns its first difference, if there is one.
 fn run_family(rt: &HostRuntime, family: Family) -> io::Result<Option<String>> {
     let name = family.name();
     let path = format!(in rt.alloc(); "{name}.txt")?;
@@ -43,7 +43,7 @@ fn run_family(rt: &HostRuntime, family: Family) -> io::Result<Option<String>> {
     Ok(replay.into_first())
 }
 
-// Replays all families, and answers whether none differs.
+// Runs all groups, and returns whether no case differs.
 fn run(rt: &HostRuntime) -> io::Result<bool> {
     let mut first = None;
     for family in Family::ALL {

@@ -1,4 +1,4 @@
-//! Reading lists and calls of the data.
+//! Parses lists and calls of the data.
 use std::alloc::{AllocError, AllocFailed, Global};
 use std::ops::Bound;
 use widestring::error::OutOfMemory;
@@ -10,7 +10,7 @@ use widestring_testing::Heap;
 pub enum NoAnswer {
     /// The list or the question can't be parsed.
     Unparsed,
-    /// Memory was refused.
+    /// An allocation failed.
     OutOfMemory,
 }
 
@@ -32,26 +32,26 @@ impl From<OutOfMemory> for NoAnswer {
     }
 }
 
-/// Where memory comes from: the heap that calls of the library get, whose requests are counted and fail when the replay says so, and the
-/// memory of all else.
+/// The allocators: the heap of the library's calls, whose requests are counted and fail when the replay says so, and
+/// the allocator of everything else.
 #[derive(Clone, Copy)]
 pub struct Memory<'a> {
-    /// What a call of the library gets.
+    /// The allocator of the library's calls.
     pub heap: &'a Heap,
-    /// What the question and the answer are made of.
+    /// The allocator of the question and the answer.
     pub alloc: Global,
 }
 
 impl Memory<'_> {
-    /// How many requests the library's calls made since so many were left to be granted.
+    /// Returns how many requests the library's calls made since `left` requests were still to be granted.
     pub fn requests_since(self, left: u64) -> u64 {
         left.saturating_sub(self.heap.left())
     }
 }
 
-/// A value that the data writes in hexadecimal.
+/// A value that the data has in hexadecimal.
 pub trait FromHex: Sized {
-    /// The value of a word; `None` where it has none.
+    /// Parses a word. Returns `None` if it has no value.
     fn from_hex(word: &str) -> Option<Self>;
 }
 
@@ -85,7 +85,7 @@ impl FromHex for char {
     }
 }
 
-/// The value of a word.
+/// Parses the value of a word.
 pub fn value<T: FromHex>(word: &str) -> Result<T, NoAnswer> {
     match T::from_hex(word) {
         Some(value) => Ok(value),
@@ -93,7 +93,8 @@ pub fn value<T: FromHex>(word: &str) -> Result<T, NoAnswer> {
     }
 }
 
-// Adds the values of a word: one, or some with a comma between two, a `*` and how many times they stand there.
+// Appends the values of a word: one or more, separated by commas, and optionally a `*` and how many times they are
+// repeated.
 fn push_word<T: FromHex + Drop>(values: &mut Vec<T>, word: &str) -> Result<(), NoAnswer> {
     let (group, count) = match word.split_once('*') {
         Some((group, count)) => (group, value::<usize>(count)?),
@@ -107,7 +108,8 @@ fn push_word<T: FromHex + Drop>(values: &mut Vec<T>, word: &str) -> Result<(), N
     Ok(())
 }
 
-/// The values of a list, with a space between two words. A word with a `*` stands for repeated values: `61,62*10` for `61 62`, sixteen times.
+/// Parses a list, whose words are separated by spaces. A word with a `*` stands for repeated values: `61,62*10` for `61
+/// 62`, sixteen times.
 pub fn list<T: FromHex + Drop>(alloc: Global, text: &str) -> Result<Vec<T>, NoAnswer> {
     let mut values = Vec::new(alloc);
     if text.is_empty() {
@@ -119,7 +121,7 @@ pub fn list<T: FromHex + Drop>(alloc: Global, text: &str) -> Result<Vec<T>, NoAn
     Ok(values)
 }
 
-/// The calls of a word of the letters `F` and `B`.
+/// Parses a word of calls, the letters `F` and `B`.
 pub fn calls(alloc: Global, word: &str) -> Result<Vec<End>, NoAnswer> {
     let mut ends = Vec::new(alloc);
     for letter in word.bytes() {
@@ -133,7 +135,7 @@ pub fn calls(alloc: Global, word: &str) -> Result<Vec<End>, NoAnswer> {
     Ok(ends)
 }
 
-/// The steps of a word of the letters `F`, `B` and `C`: a call from an end or, at a `C`, a copy to go on with.
+/// Parses a word of steps, the letters `F`, `B` and `C`: a call from an end or, at a `C`, a copy to continue with.
 pub fn steps(alloc: Global, word: &str) -> Result<Vec<Option<End>>, NoAnswer> {
     let mut steps = Vec::new(alloc);
     for letter in word.bytes() {
@@ -148,12 +150,12 @@ pub fn steps(alloc: Global, word: &str) -> Result<Vec<Option<End>>, NoAnswer> {
     Ok(steps)
 }
 
-/// The word that a question begins with, and what stands after the space behind it.
+/// Splits a question into its first word and what follows the space after it.
 pub fn word(question: &str) -> (&str, &str) {
     question.split_once(' ').unwrap_or((question, ""))
 }
 
-/// The letter that a question begins with, and the rest.
+/// Splits a question into its first letter and the rest.
 pub fn kind(question: &str) -> Result<(u8, &str), NoAnswer> {
     let Some((first, rest)) = question.split_at_checked(1) else {
         return Err(NoAnswer::Unparsed);
@@ -164,7 +166,7 @@ pub fn kind(question: &str) -> Result<(u8, &str), NoAnswer> {
     }
 }
 
-/// How many calls a word has, all of them from the front.
+/// Returns how many calls a word has, all of them from the front.
 pub fn front_calls(word: &str) -> Result<usize, NoAnswer> {
     for letter in word.bytes() {
         if letter != b'F' {
@@ -174,7 +176,7 @@ pub fn front_calls(word: &str) -> Result<usize, NoAnswer> {
     Ok(word.len())
 }
 
-/// The parts of a question before and after its colon.
+/// Splits a question at its colon.
 pub fn parts(question: &str) -> Result<(&str, &str), NoAnswer> {
     match question.split_once(':') {
         Some(parts) => Ok(parts),
@@ -182,7 +184,8 @@ pub fn parts(question: &str) -> Result<(&str, &str), NoAnswer> {
     }
 }
 
-// A bound of a range: a place after an `i` where it is included, after an `e` where it is excluded, or a `-` for none.
+// Parses a bound of a range: an offset after an `i` if it is included, after an `e` if it is excluded, or a `-` for
+// none.
 fn bound(text: &str) -> Result<Bound<usize>, NoAnswer> {
     if text == "-" {
         return Ok(Bound::Unbounded);
@@ -195,7 +198,7 @@ fn bound(text: &str) -> Result<Bound<usize>, NoAnswer> {
     }
 }
 
-/// A range: its two bounds, with a comma between them.
+/// Parses a range: its two bounds, separated by a comma.
 pub fn range(text: &str) -> Result<(Bound<usize>, Bound<usize>), NoAnswer> {
     match text.split_once(',') {
         Some((start, end)) => Ok((bound(start)?, bound(end)?)),
@@ -203,7 +206,7 @@ pub fn range(text: &str) -> Result<(Bound<usize>, Bound<usize>), NoAnswer> {
     }
 }
 
-/// That a question is no text.
+/// Returns an error if a question is not empty.
 pub fn no_question(question: &str) -> Result<(), NoAnswer> {
     if question.is_empty() {
         Ok(())

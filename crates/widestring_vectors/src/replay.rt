@@ -1,4 +1,4 @@
-//! The replay of a family, and its tally.
+//! Runs the cases of a group, and counts the results.
 use crate::families::Family;
 use crate::parse::{Memory, NoAnswer};
 use std::alloc::{AllocError, Global};
@@ -11,7 +11,7 @@ struct Mended<'a> {
     own: &'a str,
 }
 
-// A case: what is asked about a list, and the right answer.
+// A case: a list, a question about it, and the right answer.
 #[derive(Drop)]
 struct Case<'a> {
     list: &'a str,
@@ -20,7 +20,7 @@ struct Case<'a> {
     mended: Option<Mended<'a>>,
 }
 
-// The case that a text says about a list; `None` where it says none.
+// Parses a case about a list. Returns `None` if it is not one.
 fn parse_case<'a>(list: &'a str, text: &'a str) -> Option<Case<'a>> {
     let (question, answer) = text.split_once('=')?;
     let Some((expected, mended)) = answer.split_once('~') else {
@@ -40,7 +40,7 @@ fn parse_case<'a>(list: &'a str, text: &'a str) -> Option<Case<'a>> {
     })
 }
 
-/// The replay of a family, as far as it went.
+/// The state of a group's run.
 #[derive(Drop)]
 pub struct Replay {
     family: Family,
@@ -51,7 +51,7 @@ pub struct Replay {
 }
 
 impl Replay {
-    /// The replay before its first line.
+    /// Creates the state before the first line.
     pub fn new(family: Family) -> Replay {
         Replay {
             family,
@@ -62,7 +62,7 @@ impl Replay {
         }
     }
 
-    /// Replays each case of a line. A line without one is a difference.
+    /// Runs each case of a line. A line without one is a difference.
     pub fn line(&mut self, memory: Memory<'_>, line: &str) -> Result<(), AllocError> {
         let Some((list, cases)) = line.split_once('|') else {
             return self.unparsed(memory.alloc, line, "");
@@ -76,12 +76,12 @@ impl Replay {
         Ok(())
     }
 
-    /// The first difference, where there is one.
+    /// Returns the first difference, if there is one.
     pub fn into_first(self) -> Option<String> {
         self.first
     }
 
-    // Replays a case with ample memory, and then with each request of the library's calls failing in turn.
+    // Runs a case with ample memory, and then with each request of the library's calls failing in turn.
     fn case(&mut self, memory: Memory<'_>, case: &Case) -> Result<(), AllocError> {
         let alloc = memory.alloc;
         memory.heap.set(u64::MAX);
@@ -99,7 +99,8 @@ impl Replay {
         }
     }
 
-    // Whether a case ends in an allocation failure, at the request that fails, if only so many requests are granted: none, one and so on.
+    // Returns whether a case fails with an allocation failure, at exactly that request, if only 0, 1, .. `requests` - 1
+    // requests are granted.
     fn reports_failures(&self, memory: Memory<'_>, case: &Case, requests: u64) -> bool {
         let heap = memory.heap;
         for granted in 0..requests {
@@ -128,7 +129,7 @@ impl Replay {
         Ok(())
     }
 
-    // Counts a case that the library answers in another way.
+    // Counts a case for which the library's answer differs.
     fn different(&mut self, alloc: Global, case: &Case, got: &str) -> Result<(), AllocError> {
         self.differ = self.differ.saturating_add(1);
         if self.first.is_none() {
@@ -143,7 +144,7 @@ impl Replay {
         Ok(())
     }
 
-    // Counts a text of the data, about a list, that can't be parsed.
+    // Counts a text of the data that can't be parsed.
     fn unparsed(&mut self, alloc: Global, list: &str, text: &str) -> Result<(), AllocError> {
         self.differ = self.differ.saturating_add(1);
         if self.first.is_none() {

@@ -1,4 +1,4 @@
-//! Writing answers as the data does, with a space between two.
+//! Writes answers in the form of the data, with a space between two words.
 use crate::parse::{FromHex, NoAnswer};
 use std::alloc::{AllocError, Allocator, Global};
 use std::cmp::Ordering;
@@ -6,9 +6,9 @@ use std::fmt::Write;
 use widestring::error::{ContainsNul, DecodeUtf16Error, DecodeUtf32Error, FaultUnit, UtfError};
 use widestring::unit::Unit;
 
-/// A unit, with the way to read it from its fault.
+/// A unit that can be parsed, and read from its fault.
 pub trait ToldUnit: FaultUnit + FromHex + PartialEq + 'static {
-    /// The number of the unit that a fault tells.
+    /// Returns the number of the unit that a fault reports.
     fn told(fault: Self::Fault) -> u32;
 }
 
@@ -24,7 +24,7 @@ impl ToldUnit for u32 {
     }
 }
 
-/// An answer, as far as it is written. Where memory was refused to a write, there is none in the end.
+/// An answer that is being written. If an allocation fails in a write, there is no answer in the end.
 #[derive(Drop)]
 pub struct Answer {
     text: String,
@@ -32,7 +32,7 @@ pub struct Answer {
 }
 
 impl Answer {
-    /// An answer with nothing written yet.
+    /// Creates an empty answer.
     pub fn new(alloc: Global) -> Answer {
         Answer {
             text: String::new(alloc),
@@ -40,7 +40,7 @@ impl Answer {
         }
     }
 
-    // Notes how a write ended.
+    // Records whether a write failed.
     fn note(&mut self, written: Result<(), AllocError>) {
         self.is_refused |= written.is_err();
     }
@@ -57,19 +57,19 @@ impl Answer {
         self.note(written);
     }
 
-    // Parts what comes from what stands before it.
+    // Adds a space, except at the start of a part.
     fn gap(&mut self) {
         if !self.text.is_empty() && !self.text.ends_with(';') {
             self.word(" ");
         }
     }
 
-    /// Begins the next part of an answer of several.
+    /// Begins the next part of an answer.
     pub fn part(&mut self) {
         self.word(";");
     }
 
-    // Adds a character in hexadecimal, or a unit that is a fault after a `!`.
+    // Adds a character in hexadecimal, or an ill-formed unit after a `!`.
     fn read<C: ToldUnit>(&mut self, read: Result<char, C::Fault>) {
         match read {
             Ok(c) => self.hex(u64::from(u32::from(c))),
@@ -80,7 +80,7 @@ impl Answer {
         }
     }
 
-    /// Adds an item: a character in hexadecimal, a unit that is a fault after a `!`, or a `-` for none.
+    /// Adds an item: a character in hexadecimal, an ill-formed unit after a `!`, or a `-` for none.
     pub fn item<C: ToldUnit>(&mut self, item: Option<Result<char, C::Fault>>) {
         self.gap();
         match item {
@@ -89,7 +89,8 @@ impl Answer {
         }
     }
 
-    /// Adds an item with its index before it, or a `-` for none, and after it a `@` and the offset that is told then.
+    /// Adds an item with its index before it, or a `-` for none, and after it a `@` and the offset that the iterator
+    /// then reports.
     pub fn place<C: ToldUnit>(
         &mut self,
         place: Option<(usize, Result<char, C::Fault>)>,
@@ -113,7 +114,7 @@ impl Answer {
         self.told_fault(fault.index(), fault.item(), C::told(fault.cause()));
     }
 
-    /// As `first_fault`, of a fault that has no error of its own.
+    /// Adds the index, the item number and the unit of a first fault that has no error value of its own.
     pub fn told_fault(&mut self, index: usize, item: usize, unit: u32) {
         self.fault_place(index, item);
         self.word(":");
@@ -143,7 +144,7 @@ impl Answer {
         }
     }
 
-    /// Adds a place or a length in hexadecimal, or a `-` for none.
+    /// Adds an offset or a length in hexadecimal, or a `-` for none.
     pub fn count(&mut self, count: Option<usize>) {
         self.gap();
         match count {
@@ -152,7 +153,7 @@ impl Answer {
         }
     }
 
-    /// Adds a `1` where something holds, and else a `0`.
+    /// Adds a `1` for true, or a `0` for false.
     pub fn decided(&mut self, holds: bool) {
         self.gap();
         self.word(if holds { "1" } else { "0" });
@@ -177,7 +178,7 @@ impl Answer {
         }
     }
 
-    /// Adds an order: `<`, `=` or `>`.
+    /// Adds an ordering: `<`, `=` or `>`.
     pub fn order(&mut self, order: Ordering) {
         self.gap();
         self.word(match order {
@@ -202,7 +203,7 @@ impl Answer {
         }
     }
 
-    /// Adds the units of a part in hexadecimal, or a `-` for none.
+    /// Adds units in hexadecimal, or a `-` for none.
     pub fn units_or_none<C: Unit>(&mut self, units: Option<&[C]>) {
         match units {
             None => self.number(None),
@@ -221,8 +222,8 @@ impl Answer {
         }
     }
 
-    /// Adds the place of an inner NUL after a `!`, and as a second part the units of the vector that is handed back, or a
-    /// `-` for none.
+    /// Adds the offset of an inner NUL after a `!`, and as a second part the units of the vector that the error
+    /// returns, or a `-` for none.
     pub fn inner_nul<C: Unit, A: Allocator>(&mut self, error: ContainsNul<C, A>) {
         self.gap();
         self.word("!");
@@ -231,7 +232,7 @@ impl Answer {
         self.handed_back(error.into_vec());
     }
 
-    /// Adds the units of a vector that is handed back, or a `-` for none.
+    /// Adds the units of a vector that an error returns, or a `-` for none.
     pub fn handed_back<C: Unit, A: Allocator>(&mut self, vec: Option<Vec<C, A>>) {
         match vec {
             None => self.number(None),
@@ -245,7 +246,7 @@ impl Answer {
         self.hex(requests);
     }
 
-    /// The whole answer.
+    /// Returns the whole answer.
     pub fn finish(self) -> Result<String, NoAnswer> {
         if self.is_refused {
             return Err(NoAnswer::OutOfMemory);

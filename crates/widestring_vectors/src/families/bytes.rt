@@ -1,5 +1,6 @@
-//! Units as bytes. A question is `le` or `be`, the order of the two or four bytes, and an `m` behind it for a byte order mark before them. The answer has
-//! the bytes in a vector, a `;`, the bytes that are put into a buffer, and a `1` where the buffer stays as it is behind them.
+//! Units as bytes. A question is `le` or `be`, the order of the bytes of a unit, and an `m` after it for a BOM before
+//! them. The answer has three parts: the bytes in a vector, the bytes that are put into a buffer, and a `1` if the
+//! buffer is unchanged after them.
 ghost use Rattle.std.specs.Prelude.{◌*◌, ◌+◌, ◌≤◌, length};
 ghost use Rattle.widestring.specs.UnitBytes.{unit_width};
 
@@ -8,7 +9,7 @@ use crate::show::Answer;
 use widestring::unit::Unit;
 use widestring::ustr::UStr;
 
-// The bytes of units in a vector and in a buffer.
+// Adds the bytes of units in a vector and in a buffer.
 fn put<C: Unit>(memory: Memory<'_>, units: &[C], question: &str) -> Result<String, NoAnswer>
     requires { unit_width C.form * (length units.now + 1) ≤ 404 }
 {
@@ -38,7 +39,7 @@ fn put<C: Unit>(memory: Memory<'_>, units: &[C], question: &str) -> Result<Strin
     answer.finish()
 }
 
-/// The bytes of 16-bit units.
+/// Answers a question about the bytes of 16-bit units.
 pub fn of_units16(memory: Memory<'_>, list: &str, question: &str) -> Result<String, NoAnswer> {
     let units = parse::list::<u16>(memory.alloc, list)?;
     if units.len() > 100 {
@@ -47,7 +48,7 @@ pub fn of_units16(memory: Memory<'_>, list: &str, question: &str) -> Result<Stri
     put(memory, &units, question)
 }
 
-/// The bytes of 32-bit units.
+/// Answers a question about the bytes of 32-bit units.
 pub fn of_units32(memory: Memory<'_>, list: &str, question: &str) -> Result<String, NoAnswer> {
     let units = parse::list::<u32>(memory.alloc, list)?;
     if units.len() > 100 {

@@ -1,6 +1,11 @@
-//! Calls by characters, of strings of 32-bit units alone. The list is characters. A question is a `u` for a string of any units of them, a `t`
-//! for a text, a `c`, `cc` or `c!` for a C string, which is cut at the first NUL or not checked; an `s`, an offset, a colon and a character for
-//! the text with that character there; an `l` and a number for the lengths that a drain of so many characters tells, and its last character between them; or a `v` for the vector of the text's characters, of a text with three units to spare.
+//! Calls by characters, which only strings of 32-bit units have. The list is characters. A question is
+//!
+//! - `u` for a string of any units of them, `t` for a text;
+//! - `c`, `cc` or `c!` for a C string, checked, truncated at the first NUL or not checked;
+//! - `s`, an offset, a colon and a character for the text with that character there;
+//! - `l` and a number for the lengths that a drain of this many characters reports, and its last character between
+//!   them;
+//! - `v` for the vector of the text's characters, made from a text with a spare capacity of three units.
 //!
 //! The answer is the units, and after a `#` the number of requests.
 use crate::families::ucstring::copied;
@@ -9,14 +14,14 @@ use crate::show::Answer;
 use widestring::{U32CString, U32String, Utf32String};
 use widestring_testing::Heap;
 
-// The text of characters, with capacity to spare.
+// Returns the text of characters, with spare capacity.
 fn text<'a>(heap: &'a Heap, chars: &[char]) -> Result<Utf32String<&'a Heap>, NoAnswer> {
     let mut text = Utf32String::with_capacity(heap, chars.len().saturating_add(3))?;
     text.extend_char_refs(chars)?;
     Ok(text)
 }
 
-// The characters of a text. A text that there is no memory to copy is handed back as it was.
+// Adds the characters of a text. If the copy fails to allocate, the text must be returned unchanged.
 fn characters<'a>(
     answer: &mut Answer,
     text: Utf32String<&'a Heap>,
@@ -40,7 +45,7 @@ fn characters<'a>(
     }
 }
 
-// Whether units are these characters.
+// Returns whether units are these characters.
 fn has_chars(units: &[u32], chars: &[char]) -> bool {
     let mut well = units.len() == chars.len();
     for (unit, c) in units.iter().zip(chars) {
@@ -61,7 +66,8 @@ fn set(answer: &mut Answer, text: &mut Utf32String<&Heap>, more: &str) -> Result
     Ok(())
 }
 
-// The lengths that a drain of the first characters tells, and the character that it gives at the end between them.
+// Adds the lengths that a drain of the first characters reports, and between them the character that it returns at the
+// end.
 fn lengths(
     answer: &mut Answer,
     text: &mut Utf32String<&Heap>,
@@ -77,7 +83,7 @@ fn lengths(
     Ok(())
 }
 
-/// What a call by characters makes.
+/// Answers a question about a call by characters.
 pub fn made(memory: Memory<'_>, list: &str, question: &str) -> Result<String, NoAnswer> {
     let heap = memory.heap;
     let chars = parse::list::<char>(memory.alloc, list)?;

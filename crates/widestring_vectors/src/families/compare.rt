@@ -1,9 +1,12 @@
 //! Comparisons of two lists of units. A question is a word for the two types, a space and the units of the other list.
 //!
-//! - `units`, `contents` and `text` compare two views of one type, and `unit_string`, `c_string` and `string` two owned strings, of which the first has
-//!   spare capacity: whether they are equal, their order, whether they hash alike, and of strings whether the first hashes as its view does.
-//! - `mixed` asks whether text is equal to the other units, to the C string of them, and to the text of them at the other width, and then the same
-//!   from the other side. `str` asks whether the text is the text of the other units as a `str`, and `chars` whether it has its characters.
+//! - `units`, `contents` and `text` compare two views of one type: whether they are equal, their order, and whether
+//!   their hashes are equal. `contents` then does the same for two C strings as a second part. `unit_string` and
+//!   `string` compare two owned strings, of which the first has spare capacity. For owned strings the answer also has
+//!   whether the first has the same hash as its view.
+//! - `mixed` asks whether text is equal to the other units, to the C string of them, and to their text at the other
+//!   width, each from both sides. `str` asks whether the text is equal to the text of the other units as a `str`, and
+//!   `chars` whether it has its characters.
 use crate::families::texts::c_string;
 use crate::families::ucstring::text_of;
 use crate::families::width::{Width, as_text};
@@ -22,7 +25,7 @@ fn hash_of(value: &impl Hash) -> u64 {
     hasher.finish()
 }
 
-// How one value compares with another.
+// Adds how one value compares with another.
 macro_rules! compared {
     ($answer:expr, $left:expr, $right:expr) => {
         $answer.decided($left == $right);
@@ -90,7 +93,7 @@ fn strings<C: Width>(
     Ok(())
 }
 
-// Whether a text is equal to the contents of a C string of units, if there is one.
+// Adds whether a text is equal to the contents of a C string of units, if there is one.
 fn with_contents<C: Width>(answer: &mut Answer, alloc: Global, list: UtfStr<'_, C>, other: &[C]) {
     match c_string(alloc, other) {
         Ok(string) => {
@@ -101,7 +104,7 @@ fn with_contents<C: Width>(answer: &mut Answer, alloc: Global, list: UtfStr<'_, 
     }
 }
 
-// Whether a text is equal to the text of units at the other width, if they are text.
+// Adds whether a text is equal to the text of units at the other width, if they are text.
 fn with_other_width<C: Width>(
     answer: &mut Answer,
     alloc: Global,
@@ -118,7 +121,7 @@ fn with_other_width<C: Width>(
     Ok(())
 }
 
-// Whether a text is equal to another's units, to those as the contents of a C string, and to that text at the other width.
+// Adds whether a text is equal to units, to the contents of the C string of them, and to their text at the other width.
 fn mixed<C: Width>(
     answer: &mut Answer,
     alloc: Global,
@@ -143,7 +146,7 @@ fn characters<C: Width>(alloc: Global, units: &[C]) -> Result<Vec<char>, NoAnswe
     Ok(chars)
 }
 
-// Whether a text is this one of a `str`, or has these characters.
+// Returns whether a text is equal to this `str`, or has its characters.
 fn with_text<C: Width>(
     alloc: Global,
     word: &str,
@@ -159,7 +162,7 @@ fn with_text<C: Width>(
     C::eq_chars(list.as_slice(), &chars)
 }
 
-/// How two lists of units compare.
+/// Answers a question about two lists of units.
 pub fn compared<C: Width>(
     memory: Memory<'_>,
     list: &str,

@@ -1,15 +1,17 @@
 //! Conversions of units of either width.
 //!
-//! - Of lossy text, `l` asks for the text, whose answer begins with a `b` where it is borrowed and with an `o` where it is owned, and
-//!   `y` for the bytes of that text in UTF-8; after either an `e`, `r` or `s` asks for that under a policy, `Each`, `Run` or `Skip`. A `v` before
-//!   either asks a view of the units, and a `c` a C string of them.
-//! - Of text, `s` asks for its bytes in UTF-8, or the index and the item number of the fault after a `!`; `c` asks a C string for that, and
-//!   `u` a view of well-formed units. `f` asks for the string of a view, or its fault and as a second part the units that are handed
-//!   back; `g` asks the same of a C string. `i` asks for the string of a file, of which the list is the bytes, or an `odd`.
-//! - Of bytes, `L` and `B` ask for the bytes of a view in little and in big endian, and `LM` and `BM` for those behind a byte order mark.
+//! - Lossy text: `l` asks for the text; the answer begins with a `b` if it is borrowed and with an `o` if it is owned.
+//!   `y` asks for the bytes of that text in UTF-8. After either, an `e`, `r` or `s` asks for the policy `Each`, `Run`
+//!   or `Skip`. A `v` before either asks a view of the units, and a `c` a C string of them.
+//! - Text: `s` asks for its bytes in UTF-8, or the index and the item number of the fault after a `!`; `c` asks a C
+//!   string for that, and `u` a view of well-formed units. `f` asks for the string of a view, or its fault and as a
+//!   second part the units that the error returns; `g` asks the same of a C string. `i` asks for the string of a file,
+//!   whose bytes are the list, or an `odd`.
+//! - Bytes: `L` and `B` ask for the bytes of a view in little and in big endian, and `LM` and `BM` for those after a
+//!   BOM.
 //!
-//! A conversion makes one request, and none where there is nothing to be stored or text is borrowed; an answer has a `?` where it does not. Lossy
-//! text of which a policy leaves nothing may make one too.
+//! A conversion makes one request, and none if there is nothing to store or the text is borrowed; else the answer has a
+//! `?`. Lossy text of which a policy leaves nothing may also make one.
 use crate::families::pieces;
 use crate::parse::{self, Memory, NoAnswer};
 use crate::show::{Answer, ToldUnit};
@@ -25,7 +27,7 @@ use widestring::utfstring::{CowUtfStr, UtfString};
 use widestring::{Policy, U16Str, U32Str, Utf16String, Utf32String};
 use widestring_testing::Heap;
 
-// Adds a `?` where the library's calls did not make this number of requests, of all that were to be granted.
+// Adds a `?` if the library's calls did not make this number of requests.
 fn check(memory: Memory<'_>, answer: &mut Answer, left: u64, makes_one: bool) {
     if memory.requests_since(left) != u64::from(makes_one) {
         answer.word("?");
@@ -41,7 +43,7 @@ fn bytes_of(memory: Memory<'_>, left: u64, bytes: &[u8]) -> Result<String, NoAns
     answer.finish()
 }
 
-// What is answered about lossy text.
+// Answers a question about lossy text.
 fn made<C: FaultUnit>(
     memory: Memory<'_>,
     left: u64,
@@ -55,7 +57,7 @@ fn made<C: FaultUnit>(
         }
         CowUtfStr::Owned(text) => {
             answer.word("o");
-            // A policy may leave nothing of units for which memory was asked.
+            // A policy may leave nothing of units for which memory was allocated.
             let makes_one = !text.is_empty() || memory.requests_since(left) == 1;
             check(memory, &mut answer, left, makes_one);
         }
@@ -64,7 +66,7 @@ fn made<C: FaultUnit>(
     answer.finish()
 }
 
-// The letter and the policy of a question about lossy text.
+// Parses the letter and the policy of a question about lossy text.
 fn asked(question: &str) -> Result<(u8, Option<Policy>), NoAnswer> {
     match question.as_bytes() {
         [kind] => Ok((*kind, None)),
@@ -137,7 +139,7 @@ fn lossy_c_string<C: FaultUnit>(
     }
 }
 
-/// What is answered about the lossy text of units.
+/// Answers a question about the lossy text of units.
 pub fn lossy<C: ToldUnit>(
     memory: Memory<'_>,
     list: &str,
@@ -157,7 +159,7 @@ pub fn lossy<C: ToldUnit>(
     }
 }
 
-// What is answered about a text in UTF-8, or the fault that it has none for.
+// Adds a text in UTF-8, or the fault of ill-formed units.
 fn told<C: ToldUnit>(
     memory: Memory<'_>,
     left: u64,
@@ -174,7 +176,7 @@ fn told<C: ToldUnit>(
     }
 }
 
-// What is answered about the string of a copy, or the fault that has the copy.
+// Adds the string of a copy, or the fault with the copy.
 fn copied<'a, C: ToldUnit>(
     memory: Memory<'a>,
     left: u64,
@@ -196,7 +198,7 @@ fn copied<'a, C: ToldUnit>(
     answer.finish()
 }
 
-// What is answered about the string of a file.
+// Answers a question about the string of a file.
 fn file(memory: Memory<'_>, bytes: &[u8]) -> Result<String, NoAnswer> {
     let left = memory.heap.left();
     match include_utf16str(memory.heap, bytes) {
@@ -212,7 +214,7 @@ fn file(memory: Memory<'_>, bytes: &[u8]) -> Result<String, NoAnswer> {
     }
 }
 
-// The bytes that are asked for, in a block of their size.
+// Adds bytes, which must be in a block of their size.
 fn stored<C: ToldUnit>(
     memory: Memory<'_>,
     view: UStr<'_, C>,
@@ -232,7 +234,7 @@ fn stored<C: ToldUnit>(
     bytes_of(memory, left, &bytes)
 }
 
-// What is asked of either width.
+// Answers a question that either width has.
 fn of_either_width<C: ToldUnit>(
     memory: Memory<'_>,
     units: &[C],
@@ -248,7 +250,7 @@ fn of_either_width<C: ToldUnit>(
     }
 }
 
-// What a conversion of 16-bit units makes, or the fault that it finds.
+// Splits the result of a conversion of 16-bit units into a value or a fault, and allocation failures.
 fn found16<T, A: Allocator>(
     made: Result<T, Utf16ConvertError<A>>,
 ) -> Result<Result<T, UtfError<u16, A>>, NoAnswer> {
@@ -259,7 +261,7 @@ fn found16<T, A: Allocator>(
     }
 }
 
-// The same of 32-bit units.
+// Splits the result of a conversion of 32-bit units into a value or a fault, and allocation failures.
 fn found32<T, A: Allocator>(
     made: Result<T, Utf32ConvertError<A>>,
 ) -> Result<Result<T, UtfError<u32, A>>, NoAnswer> {
@@ -270,7 +272,7 @@ fn found32<T, A: Allocator>(
     }
 }
 
-/// What is answered about the text of 16-bit units.
+/// Answers a question about the text of 16-bit units.
 pub fn text16(memory: Memory<'_>, list: &str, question: &str) -> Result<String, NoAnswer> {
     let (heap, left) = (memory.heap, memory.heap.left());
     if question == "i" {
@@ -299,7 +301,7 @@ pub fn text16(memory: Memory<'_>, list: &str, question: &str) -> Result<String, 
     }
 }
 
-/// What is answered about the text of 32-bit units.
+/// Answers a question about the text of 32-bit units.
 pub fn text32(memory: Memory<'_>, list: &str, question: &str) -> Result<String, NoAnswer> {
     let (heap, left) = (memory.heap, memory.heap.left());
     let units = parse::list::<u32>(memory.alloc, list)?;

@@ -1,12 +1,14 @@
-//! Runs of `transcode` and `transcode_with` between devices that are slow, move random numbers of bytes, or fail. The list is the bytes of the
-//! source, and a question has three words with a colon between two.
+//! Runs of `transcode` and `transcode_with` between devices that are slow, move random numbers of bytes, or fail. The
+//! list is the bytes of the source, and a question has three words, separated by colons.
 //!
 //! - `s` and `l` for the modes of `transcode`, strict and lossy; `e`, `r` and `k` for the policies of `transcode_with`.
-//! - How many bytes the source gives a call, random numbers of them for 0, a comma, and behind how many it fails, or a `-`.
-//! - The same of the sink, and an `x` where it fails by an error or a `z` where it takes none.
+//! - How many bytes the source gives in a call, random numbers of them for 0, a comma, and after how many bytes it
+//!   fails, or a `-`.
+//! - How many bytes the sink takes in a call, a comma, after how many bytes it fails, or a `-`, and an `x` if it fails
+//!   by an error or a `z` if it fails by taking none.
 //!
-//! The answer has what was written, and as a second part `ok`, `odd`, `read`, `write`, or the index, the item number and the unit of the fault; it is a `?`
-//! where the flags of the devices don't agree with it.
+//! The answer has what was written, and as a second part `ok`, `odd`, `read`, `write`, or the index, the item number
+//! and the unit of the fault. It is a `?` if the flags of the devices contradict it.
 ghost use Rattle.std.specs.Prelude.{◌≡◌, IfOk, false};
 
 use crate::parse::{self, NoAnswer};
@@ -17,7 +19,7 @@ use widestring::bytes::{ByteSink, ByteSource, Mode, transcode, transcode_with};
 use widestring::error::TranscodeError;
 use widestring_testing::{SlowSink, SlowSource};
 
-// A step, and a number of bytes where there is one.
+// Parses a step, and an optional number of bytes.
 fn pace(word: &str) -> Result<(usize, Option<usize>), NoAnswer> {
     let Some((step, bytes)) = word.split_once(',') else {
         return Err(NoAnswer::Unparsed);
@@ -30,7 +32,7 @@ fn pace(word: &str) -> Result<(usize, Option<usize>), NoAnswer> {
     Ok((parse::value(step)?, bytes))
 }
 
-// The source of a word.
+// Parses a source.
 fn source<'a>(word: &str, bytes: &'a [u8]) -> Result<SlowSource<'a>, NoAnswer>
     ensures failed { IfOk result (λ s. s.failed ≡ false) }
     ensures ended { IfOk result (λ s. s.ended ≡ false) }
@@ -44,7 +46,7 @@ fn source<'a>(word: &str, bytes: &'a [u8]) -> Result<SlowSource<'a>, NoAnswer>
     }
 }
 
-// The sink of a word.
+// Parses a sink.
 fn sink(alloc: Global, word: &str) -> Result<SlowSink, NoAnswer>
     ensures { IfOk result (λ s. s.failed ≡ false) }
 {
@@ -73,7 +75,7 @@ fn show(answer: &mut Answer, ending: Result<(), TranscodeError>) -> Result<(), N
     Ok(())
 }
 
-// Whether each device has failed exactly where its fault is the answer, and the source has ended where all was read.
+// Returns whether a device has failed only if its error is the result, and the source has ended if everything was read.
 fn is_flagged(
     ending: Result<(), TranscodeError>,
     source: &SlowSource<'_>,
@@ -87,7 +89,7 @@ fn is_flagged(
     }
 }
 
-/// What a run writes, and how it ends.
+/// Answers what a run writes, and how it ends.
 pub fn run(alloc: Global, list: &str, question: &str) -> Result<String, NoAnswer> {
     let bytes = parse::list::<u8>(alloc, list)?;
     let (mode, devices) = parse::parts(question)?;

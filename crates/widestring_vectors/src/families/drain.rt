@@ -1,6 +1,6 @@
-//! What a drain of a string answers to each call, what it still shows then, and the units that are left of the string once it
-//! is dropped, in three parts; a `?` where its length is another than what it shows. A question is a range, a colon and a word of calls; a `-` is the answer where the range is none
-//! of the string's.
+//! Drains of a string. A question is a range, a colon and a word of calls. The answer has three parts: what the drain
+//! returns for each call, what it still has then, and the units that are left of the string after the drain is dropped.
+//! It has a `?` if the drain's length is not that of what it has. It is a `-` if the range is out of bounds.
 use crate::families::ustring::{outside, string};
 use crate::parse::{self, FromHex, NoAnswer};
 use crate::show::Answer;
@@ -11,7 +11,7 @@ use widestring::iter::End;
 use widestring::unit::range_check;
 use widestring::ustring::UString;
 
-// What a drain of a range gives and leaves.
+// Answers what a drain of a range returns and leaves.
 fn drained<C: FaultUnit>(
     alloc: Global,
     mut string: UString<C>,
@@ -39,7 +39,7 @@ fn drained<C: FaultUnit>(
     answer.finish()
 }
 
-/// What a drain of a string of units gives and leaves.
+/// Answers a question about a drain of a string of units.
 pub fn drain<C: FaultUnit + FromHex>(
     alloc: Global,
     list: &str,

@@ -1,24 +1,25 @@
-//! Lists of edits of a text, whose places count characters. The list is the text's characters, and a question has a `/` between two
-//! edits, each a letter and what it takes:
+//! Lists of edits of a text, whose offsets count characters. The list is the text's characters, and a question has
+//! edits separated by `/`, each a letter and its arguments:
 //!
 //! - `c`, `s`: `Push`, `PushStr`, with a character, or characters.
 //! - `p`, `l`: `Pop`, `Clear`.
-//! - `i`, `j`: `Insert`, `InsertStr`, with a place, a colon, and a character or characters.
-//! - `t`, `r`, `o`: `Truncate`, `Remove`, `SplitOff`, with a place.
+//! - `i`, `j`: `Insert`, `InsertStr`, with an offset, a colon, and a character or characters.
+//! - `t`, `r`, `o`: `Truncate`, `Remove`, `SplitOff`, with an offset.
 //! - `k`: `Retain`, with characters.
-//! - `d`, `x`: `Drain`, `Replace`, with two places and a colon between them, and for `x` another and characters.
+//! - `d`, `x`: `Drain`, `Replace`, with two offsets separated by a colon, and for `x` another colon and characters.
 //!
-//! The answer has a part for each reply: `d` for done, the character that was taken or a `-`, an `s` and the characters that were taken, or
-//! `p` and `r` for a bad place and a bad range. Then come the units of UTF-16 and of UTF-32, and the marks. Each kind of string makes the edits
-//! in one call, both in one, and a string with marks one by one beside a string in UTF-32; it is a `?` where two of them differ. A question
-//! may also be empty.
+//! The answer has a part for each reply: `d` for done, the character that was removed or a `-`, an `s` and the
+//! characters that were removed, or `p` and `r` for a bad offset and a bad range. Then come the units of UTF-16 and of
+//! UTF-32, and the offset index. Each kind of string makes the edits in one call, two kinds make them together in one
+//! call, and a string with an offset index makes them one by one beside a string in UTF-32. The answer is a `?` if two
+//! of them differ. A question may also be empty.
 use crate::parse::{self, NoAnswer};
 use crate::show::Answer;
 use std::alloc::{AllocError, Global};
 use widestring::edit::{Edit, Marked16, Reply, Steps, TextEdit, run, run_both};
 use widestring::{Utf16String, Utf32String};
 
-// An edit, by its letter and all that a letter takes: places, and characters, also as a text.
+// A parsed edit: its letter, and all arguments that a letter may have: offsets, and characters, also as a text.
 #[derive(Drop)]
 struct Written {
     kind: u8,
@@ -28,7 +29,7 @@ struct Written {
     chars: Vec<char>,
 }
 
-// What an edit's word has behind its letter: two places, of which those are 0 that it has not, and characters.
+// Returns the arguments of an edit: two offsets, which are 0 if it does not have them, and characters.
 fn parts_of(kind: u8, more: &str) -> Result<(usize, usize, &str), NoAnswer> {
     match kind {
         b'c' | b's' | b'k' => Ok((0, 0, more)),
@@ -41,7 +42,7 @@ fn parts_of(kind: u8, more: &str) -> Result<(usize, usize, &str), NoAnswer> {
     }
 }
 
-// The same where a colon is behind the first place.
+// Returns the arguments of an edit with a colon after its first offset.
 fn parts_behind_place(kind: u8, more: &str) -> Result<(usize, usize, &str), NoAnswer> {
     let (first, rest) = parse::parts(more)?;
     let first = parse::value(first)?;
@@ -104,7 +105,7 @@ impl Written {
     }
 }
 
-// Makes all edits in one call. Their replies stand after one that was there, which is taken away.
+// Makes all edits in one call. Their replies come after one that was there before, which is then removed.
 fn ran<T: TextEdit>(
     alloc: Global,
     text: &mut T,
@@ -122,7 +123,7 @@ fn ran<T: TextEdit>(
     Ok(replies)
 }
 
-// Makes runs of edits of two texts, each in one call. None where their replies differ.
+// Makes runs of edits of two texts, each in one call. Returns `None` if their replies differ.
 fn ran_both<T: TextEdit, U: TextEdit>(
     alloc: Global,
     first: &mut T,
@@ -162,7 +163,8 @@ fn show(answer: &mut Answer, reply: &Reply) {
     }
 }
 
-// Whether the marks of a string find each character, the end and no character past it, as std's lengths say.
+// Returns whether the offset index of a string finds each character, the end and no character past it, at the offsets
+// that std's lengths give.
 fn has_offsets(marked: &Marked16, wide: &Utf32String) -> bool {
     let mut steps = Steps::new();
     let mut index = 0usize;
@@ -179,7 +181,7 @@ fn has_offsets(marked: &Marked16, wide: &Utf32String) -> bool {
         .is_none()
 }
 
-// The answer where all strings hold and answer the same.
+// Returns the answer if all strings agree.
 fn agreed(
     alloc: Global,
     replies: &[Reply],
@@ -202,14 +204,14 @@ fn agreed(
     answer.finish()
 }
 
-// The answer where two strings differ.
+// Returns the answer if two strings differ.
 fn disagreed(alloc: Global) -> Result<String, NoAnswer> {
     let mut answer = Answer::new(alloc);
     answer.word("?");
     answer.finish()
 }
 
-// Whether two strings answered alike, and so.
+// Returns whether two strings made the same replies, and these.
 fn is_same(both: Option<Vec<Reply>>, replies: &[Reply]) -> bool {
     match both {
         Some(same) => same.as_slice() == replies,
@@ -217,7 +219,7 @@ fn is_same(both: Option<Vec<Reply>>, replies: &[Reply]) -> bool {
     }
 }
 
-// Whether strings of both widths answer so to the edits in one call, and then hold these units.
+// Returns whether strings of both widths make these replies to the edits in one call, and then hold these units.
 fn agree_in_one_call(
     alloc: Global,
     text: &str,
@@ -233,7 +235,7 @@ fn agree_in_one_call(
     Ok(is_same(both, replies) && holds)
 }
 
-// The lists of one edit each.
+// Splits edits into lists of one edit each.
 fn one_by_one<'e, 't>(
     alloc: Global,
     edits: &'e [Edit<'t>],
@@ -245,7 +247,8 @@ fn one_by_one<'e, 't>(
     Ok(lists)
 }
 
-// The answer of a string with marks beside one in UTF-32, edited one by one, where they answer so and then hold these units.
+// Returns the answer of a string with an offset index that is edited one by one beside one in UTF-32. It is a `?` if
+// they do not make these replies or do not hold these units afterwards.
 fn with_marks(
     alloc: Global,
     text: &str,
@@ -268,7 +271,7 @@ fn with_marks(
     }
 }
 
-// What the edits make of a text.
+// Answers what the edits make of a text.
 fn made(alloc: Global, text: &str, edits: &[Edit<'_>]) -> Result<String, NoAnswer> {
     let mut narrow = Utf16String::from_str(alloc, text)?;
     let mut wide = Utf32String::from_str(alloc, text)?;
@@ -283,7 +286,7 @@ fn made(alloc: Global, text: &str, edits: &[Edit<'_>]) -> Result<String, NoAnswe
     with_marks(alloc, text, &lists, &replies, narrow, wide)
 }
 
-/// What edits answer, and what they leave.
+/// Answers what edits reply, and what they leave.
 pub fn replies(alloc: Global, list: &str, question: &str) -> Result<String, NoAnswer> {
     let text = text_of(alloc, &parse::list::<char>(alloc, list)?)?;
     let mut words = Vec::new(alloc);

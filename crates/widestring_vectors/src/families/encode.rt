@@ -1,11 +1,11 @@
-//! What an encoder gives. To UTF-8 and UTF-16 a question is no text, and the answer has all that comes from the front;
-//! to UTF-32 it is a word of calls.
+//! Encoders. To UTF-8 and UTF-16 a question is empty, and the answer has everything that comes from the front. To
+//! UTF-32 a question is a word of calls.
 use crate::parse::{self, NoAnswer};
 use crate::show::Answer;
 use std::alloc::Global;
 use widestring::iter::{End, encode_utf8, encode_utf16, encode_utf32};
 
-/// All bytes of an encoder to UTF-8.
+/// Answers with all bytes of an encoder to UTF-8.
 pub fn utf8(alloc: Global, list: &str, question: &str) -> Result<String, NoAnswer> {
     parse::no_question(question)?;
     let chars = parse::list::<char>(alloc, list)?;
@@ -16,7 +16,7 @@ pub fn utf8(alloc: Global, list: &str, question: &str) -> Result<String, NoAnswe
     answer.finish()
 }
 
-/// All units of an encoder to UTF-16.
+/// Answers with all units of an encoder to UTF-16.
 pub fn utf16(alloc: Global, list: &str, question: &str) -> Result<String, NoAnswer> {
     parse::no_question(question)?;
     let chars = parse::list::<char>(alloc, list)?;
@@ -27,7 +27,7 @@ pub fn utf16(alloc: Global, list: &str, question: &str) -> Result<String, NoAnsw
     answer.finish()
 }
 
-/// What an encoder to UTF-32 answers to each call.
+/// Answers with what an encoder to UTF-32 returns for each call.
 pub fn utf32(alloc: Global, list: &str, word: &str) -> Result<String, NoAnswer> {
     let calls = parse::calls(alloc, word)?;
     let chars = parse::list::<char>(alloc, list)?;

@@ -1,9 +1,10 @@
-//! Bytes of files. Of UTF-16 `order` is the byte order that a mark tells, `l`, `b` or a `-`; `units` are the units of the file; `parts` is its order, a `1`
-//! behind a mark and else a `0`, its units and the byte that is left; `text` has the units of its text, `odd`, or the first fault and the units that are
-//! handed back.
+//! Bytes of files. For UTF-16, `order` is the byte order that a BOM reports, `l`, `b` or a `-`; `units` are the units
+//! of the file; `parts` is its order, a `1` after a BOM and else a `0`, its units and the byte that is left; `text` has
+//! the units of its text, `odd`, or the first fault and the units that the error returns.
 //!
-//! Of UTF-8 `code` is the first code point, by layout, and the bytes behind it; `valid` is the lengths of the text in UTF-16 and in UTF-32, or how many bytes
-//! stand before the first fault after a `!`; `lossy` has the units of the lossy text in UTF-16.
+//! For UTF-8, `code` is the first code point, decoded without checks, and the bytes after it; `valid` is the lengths of
+//! the text in UTF-16 and in UTF-32, or, after a `!`, how many bytes precede the first fault; `lossy` has the units of
+//! the lossy text in UTF-16.
 use crate::parse::{self, Memory, NoAnswer};
 use crate::show::Answer;
 use std::str;
@@ -71,7 +72,7 @@ fn code(answer: &mut Answer, bytes: &[u8]) {
     }
 }
 
-/// What is answered about bytes.
+/// Answers a question about bytes.
 pub fn of_bytes(memory: Memory<'_>, list: &str, question: &str) -> Result<String, NoAnswer> {
     let bytes = parse::list::<u8>(memory.alloc, list)?;
     let mut answer = Answer::new(memory.alloc);

@@ -1,4 +1,4 @@
-//! The bounds that an iterator tells, at first and after each call.
+//! The bounds that `size_hint` of an iterator returns, at first and after each call.
 ghost use Rattle.std.specs.Prelude.{◌≤◌, length};
 ghost use Rattle.std.specs.Iterator.{at_most};
 
@@ -10,7 +10,7 @@ use widestring::iter::{
     encode_utf16,
 };
 
-// The bounds that an iterator tells, at first and after each call.
+// Answers with the bounds of an iterator, at first and after each call.
 macro_rules! bounds_of {
     ($alloc:expr, $iterator:expr, $calls:expr) => {{
         let mut iterator = $iterator;
@@ -42,7 +42,7 @@ fn of_array<const N: usize>(
     bounds_of!(alloc, decode_utf16(units), calls)
 }
 
-// Over an array, which the data has up to four units.
+// Answers for an array. The data have up to four units.
 fn of_units(alloc: Global, units: &[u16], calls: &[End]) -> Result<String, NoAnswer> {
     match units {
         [] => of_array(alloc, [], calls),
@@ -54,7 +54,7 @@ fn of_units(alloc: Global, units: &[u16], calls: &[End]) -> Result<String, NoAns
     }
 }
 
-// Units of which nothing is told but an upper bound of their number, where there is one.
+// Units of which only an upper bound of their number is known, or nothing.
 #[derive(Drop)]
 struct Vague<'a> {
     units: &'a [u16],
@@ -90,9 +90,9 @@ fn of_vague(alloc: Global, source: Vague, calls: &[End]) -> Result<String, NoAns
     bounds_of!(alloc, decode_utf16(source), calls)
 }
 
-/// The bounds that a decoder of UTF-16 tells. A question is a letter of the source, and then a word of calls: `s` for the
-/// copied units of a slice, `a` for an array, `v` for a vector, `m` for units of which the source says that they are at
-/// most as many as can be counted, and `n` for units of which it says nothing.
+/// Answers with the bounds of a decoder of UTF-16. A question is a letter for the source, and then a word of calls: `s`
+/// for the copied units of a slice, `a` for an array, `v` for a vector, `m` for units whose source says that they are
+/// at most `usize::MAX`, and `n` for units of which it says nothing.
 pub fn utf16(alloc: Global, list: &str, question: &str) -> Result<String, NoAnswer> {
     let (source, word) = parse::kind(question)?;
     let calls = parse::calls(alloc, word)?;
@@ -118,7 +118,7 @@ fn of_slice32(alloc: Global, units: &[u32], calls: &[End]) -> Result<String, NoA
     bounds_of!(alloc, decode_utf32(units.iter().copied()), calls)
 }
 
-/// The bounds that a decoder of UTF-32 tells over the copied units of a slice. A question is a word of calls.
+/// Answers with the bounds of a decoder of UTF-32 over the copied units of a slice. A question is a word of calls.
 pub fn utf32(alloc: Global, list: &str, word: &str) -> Result<String, NoAnswer> {
     let units = parse::list::<u32>(alloc, list)?;
     let calls = parse::calls(alloc, word)?;
@@ -129,7 +129,8 @@ fn of_lossy16(alloc: Global, units: &[u16], calls: &[End]) -> Result<String, NoA
     bounds_of!(alloc, decode_utf16_lossy(units.iter().copied()), calls)
 }
 
-/// The bounds that a lossy decoder of UTF-16 tells, in the same way.
+/// Answers with the bounds of a lossy decoder of UTF-16 over the copied units of a slice. A question is a word of
+/// calls.
 pub fn lossy_utf16(alloc: Global, list: &str, word: &str) -> Result<String, NoAnswer> {
     let units = parse::list::<u16>(alloc, list)?;
     let calls = parse::calls(alloc, word)?;
@@ -140,14 +141,15 @@ fn of_lossy32(alloc: Global, units: &[u32], calls: &[End]) -> Result<String, NoA
     bounds_of!(alloc, decode_utf32_lossy(units.iter().copied()), calls)
 }
 
-/// The bounds that a lossy decoder of UTF-32 tells, in the same way.
+/// Answers with the bounds of a lossy decoder of UTF-32 over the copied units of a slice. A question is a word of
+/// calls.
 pub fn lossy_utf32(alloc: Global, list: &str, word: &str) -> Result<String, NoAnswer> {
     let units = parse::list::<u32>(alloc, list)?;
     let calls = parse::calls(alloc, word)?;
     of_lossy32(alloc, &units, &calls)
 }
 
-// The bounds that an encoder tells, at first and after each call from the front.
+// Answers with the bounds of an encoder, at first and after each call from the front.
 macro_rules! front_bounds_of {
     ($alloc:expr, $iterator:expr, $calls:expr) => {{
         let mut iterator = $iterator;
@@ -165,8 +167,8 @@ fn of_encoded8(alloc: Global, chars: &[char], calls: usize) -> Result<String, No
     front_bounds_of!(alloc, encode_utf8(chars.iter().copied()), calls)
 }
 
-/// The bounds that an encoder to UTF-8 tells over the copied characters of a slice. A question is a word of calls, all from
-/// the front.
+/// Answers with the bounds of an encoder to UTF-8 over the copied characters of a slice. A question is a word of calls,
+/// all from the front.
 pub fn of_utf8_encoder(alloc: Global, list: &str, word: &str) -> Result<String, NoAnswer> {
     let calls = parse::front_calls(word)?;
     let chars = parse::list::<char>(alloc, list)?;
@@ -177,7 +179,8 @@ fn of_encoded16(alloc: Global, chars: &[char], calls: usize) -> Result<String, N
     front_bounds_of!(alloc, encode_utf16(chars.iter().copied()), calls)
 }
 
-/// The bounds that an encoder to UTF-16 tells, in the same way.
+/// Answers with the bounds of an encoder to UTF-16 over the copied characters of a slice. A question is a word of
+/// calls, all from the front.
 pub fn of_utf16_encoder(alloc: Global, list: &str, word: &str) -> Result<String, NoAnswer> {
     let calls = parse::front_calls(word)?;
     let chars = parse::list::<char>(alloc, list)?;

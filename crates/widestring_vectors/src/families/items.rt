@@ -1,10 +1,10 @@
-//! The items of a decoder, from both ends. A question is a word of calls. They take one request, and none where there are no calls;
-//! an answer has a `?` where they do not.
+//! The items of a decoder, from both ends. A question is a word of calls. They make one request, and none if there are
+//! no calls; else the answer has a `?`.
 use crate::parse::{self, Memory, NoAnswer};
 use crate::show::Answer;
 use widestring::iter::{read_ends16, read_ends32};
 
-/// What a decoder of UTF-16 answers to each call.
+/// Answers with what a decoder of UTF-16 returns for each call.
 pub fn utf16(memory: Memory<'_>, list: &str, word: &str) -> Result<String, NoAnswer> {
     let units = parse::list::<u16>(memory.alloc, list)?;
     let calls = parse::calls(memory.alloc, word)?;
@@ -20,7 +20,7 @@ pub fn utf16(memory: Memory<'_>, list: &str, word: &str) -> Result<String, NoAns
     answer.finish()
 }
 
-/// What a decoder of UTF-32 answers to each call.
+/// Answers with what a decoder of UTF-32 returns for each call.
 pub fn utf32(memory: Memory<'_>, list: &str, word: &str) -> Result<String, NoAnswer> {
     let units = parse::list::<u32>(memory.alloc, list)?;
     let calls = parse::calls(memory.alloc, word)?;

@@ -1,12 +1,12 @@
-//! The items of a view with the index of each, from both ends, and after each answer the offset that the iterator tells.
-//! A question is a letter, `c` for items and `l` for lossy ones, and then a word of calls.
+//! The items of a view with the index of each, from both ends, and after each item the offset that the iterator
+//! reports. A question is a letter, `c` for items and `l` for lossy ones, and then a word of calls.
 use crate::parse::{self, NoAnswer};
 use crate::show::{Answer, ToldUnit};
 use std::alloc::Global;
 use widestring::iter::End;
 use widestring::ustr::UStr;
 
-// The places of items.
+// Answers with items and their indices.
 fn of_items<C: ToldUnit>(
     alloc: Global,
     view: UStr<'_, C>,
@@ -21,7 +21,7 @@ fn of_items<C: ToldUnit>(
     answer.finish()
 }
 
-// The places of lossy items.
+// Answers with lossy items and their indices.
 fn of_characters<C: ToldUnit>(
     alloc: Global,
     view: UStr<'_, C>,
@@ -39,7 +39,7 @@ fn of_characters<C: ToldUnit>(
     answer.finish()
 }
 
-/// The places of the items of units of either width.
+/// Answers a question about the indices of the items of units of either width.
 pub fn places<C: ToldUnit>(alloc: Global, list: &str, question: &str) -> Result<String, NoAnswer> {
     let (kind, word) = parse::kind(question)?;
     let calls = parse::calls(alloc, word)?;

@@ -1,4 +1,4 @@
-//! Items that strings are extended by and made of. Commas part two items, and each is a list of units.
+//! Items that strings are extended by and made of. They are separated by commas, and each is a list of units.
 use crate::families::ucstring::text_of;
 use crate::parse::{self, FromHex, NoAnswer};
 use crate::show::ToldUnit;
@@ -18,7 +18,7 @@ pub type Units<'a, C> = UString<C, &'a Heap>;
 /// A string of well-formed text, whose requests are counted.
 pub type Text<'a, C> = UtfString<C, &'a Heap>;
 
-// The vector of what an expression makes of each item.
+// Makes the vector of what an expression makes of each item.
 macro_rules! each_item {
     ($alloc:expr, $items:expr, $item:ident => $made:expr) => {{
         let mut made = Vec::new($alloc);
@@ -29,7 +29,7 @@ macro_rules! each_item {
     }};
 }
 
-/// The vector of units, on the counted heap, with this capacity to spare.
+/// Returns the vector of units, on the counted heap, with this spare capacity.
 pub fn vec_on<'a, C: Copy>(
     heap: &'a Heap,
     units: &[C],
@@ -40,17 +40,17 @@ pub fn vec_on<'a, C: Copy>(
     Ok(copy)
 }
 
-/// The text of a list of units.
+/// Returns the text of a list of units.
 pub fn text<C: FaultUnit + FromHex>(alloc: Global, list: &str) -> Result<String, NoAnswer> {
     text_of(alloc, &parse::list::<C>(alloc, list)?)
 }
 
-/// The characters of items, one each.
+/// Returns the characters of items, one each.
 pub fn chars<C: FaultUnit + FromHex>(alloc: Global, items: &str) -> Result<Vec<char>, NoAnswer> {
     each_item!(alloc, items.split(','), item => only_char(&text::<C>(alloc, item)?)?)
 }
 
-/// The one character of a text.
+/// Returns the character of a text that has exactly one.
 pub fn only_char(text: &str) -> Result<char, NoAnswer> {
     match text.chars().next() {
         Some(c) if c.len_utf8() == text.len() => Ok(c),
@@ -58,7 +58,7 @@ pub fn only_char(text: &str) -> Result<char, NoAnswer> {
     }
 }
 
-/// The texts of items.
+/// Returns the texts of items.
 pub fn strings<C: FaultUnit + FromHex>(
     alloc: Global,
     items: &str,
@@ -66,12 +66,12 @@ pub fn strings<C: FaultUnit + FromHex>(
     each_item!(alloc, items.split(','), item => text::<C>(alloc, item)?)
 }
 
-/// Views of texts.
+/// Returns views of texts.
 pub fn strs(alloc: Global, strings: &[String]) -> Result<Vec<&str>, NoAnswer> {
     each_item!(alloc, strings, string => string.as_str())
 }
 
-/// The strings of items, of any units.
+/// Returns the strings of any units of items.
 pub fn ustrings<C: FaultUnit + FromHex>(
     alloc: Global,
     items: &str,
@@ -79,7 +79,7 @@ pub fn ustrings<C: FaultUnit + FromHex>(
     each_item!(alloc, items.split(','), item => UString::from_vec(parse::list(alloc, item)?))
 }
 
-// A view of a string, by default where it is empty.
+// Returns a view of a string, the default one if it is empty.
 fn ustr<C: FaultUnit>(string: &UString<C>) -> UStr<'_, C> {
     if string.is_empty() {
         return UStr::default();
@@ -87,7 +87,7 @@ fn ustr<C: FaultUnit>(string: &UString<C>) -> UStr<'_, C> {
     string.as_ustr()
 }
 
-/// Views of strings.
+/// Returns views of strings.
 pub fn ustrs<C: FaultUnit>(
     alloc: Global,
     strings: &[UString<C>],
@@ -102,7 +102,7 @@ fn boxed_ustr<C: FaultUnit + FromHex>(alloc: Global, item: &str) -> Result<Boxed
     }
 }
 
-/// The boxed units of items.
+/// Returns the boxed units of items.
 pub fn boxed_ustrs<C: FaultUnit + FromHex>(
     alloc: Global,
     items: &str,
@@ -110,7 +110,7 @@ pub fn boxed_ustrs<C: FaultUnit + FromHex>(
     each_item!(alloc, items.split(','), item => boxed_ustr(alloc, item)?)
 }
 
-/// Borrowed and owned units in turn.
+/// Returns borrowed and owned units in turn.
 pub fn cow_ustrs<C: FaultUnit>(
     alloc: Global,
     strings: &[UString<C>],
@@ -126,7 +126,7 @@ pub fn cow_ustrs<C: FaultUnit>(
     Ok(made)
 }
 
-/// The C string whose contents are units.
+/// Returns the C string whose contents are these units.
 pub fn c_string<C: FaultUnit>(units: Vec<C>) -> Result<UCString<C>, NoAnswer> {
     match UCString::from_vec(units) {
         Ok(string) => Ok(string),
@@ -134,7 +134,7 @@ pub fn c_string<C: FaultUnit>(units: Vec<C>) -> Result<UCString<C>, NoAnswer> {
     }
 }
 
-/// The C strings of items, which have no NUL.
+/// Returns the C strings of items, which have no NUL.
 pub fn ucstrings<C: FaultUnit + FromHex>(
     alloc: Global,
     items: &str,
@@ -142,7 +142,7 @@ pub fn ucstrings<C: FaultUnit + FromHex>(
     each_item!(alloc, items.split(','), item => c_string(parse::list(alloc, item)?)?)
 }
 
-/// Views of C strings.
+/// Returns views of C strings.
 pub fn ucstrs<C: FaultUnit>(
     alloc: Global,
     strings: &[UCString<C>],
@@ -150,7 +150,7 @@ pub fn ucstrs<C: FaultUnit>(
     each_item!(alloc, strings, string => string.as_ucstr())
 }
 
-/// The text of units that have to be well formed.
+/// Returns the text of units, which must be well formed.
 pub fn utfstring<C: FaultUnit + FromHex>(
     alloc: Global,
     list: &str,
@@ -161,7 +161,7 @@ pub fn utfstring<C: FaultUnit + FromHex>(
     }
 }
 
-/// The strings of items, of well-formed text.
+/// Returns the strings of well-formed text of items.
 pub fn utfstrings<C: FaultUnit + FromHex>(
     alloc: Global,
     items: &str,
@@ -169,7 +169,7 @@ pub fn utfstrings<C: FaultUnit + FromHex>(
     each_item!(alloc, items.split(','), item => utfstring(alloc, item)?)
 }
 
-/// Views of strings of text.
+/// Returns views of strings of text.
 pub fn utfstrs<C: FaultUnit>(
     alloc: Global,
     strings: &[UtfString<C>],
@@ -187,7 +187,7 @@ fn boxed_utfstr<C: FaultUnit + FromHex>(
     }
 }
 
-/// The boxed texts of items.
+/// Returns the boxed texts of items.
 pub fn boxed_utfstrs<C: FaultUnit + FromHex>(
     alloc: Global,
     items: &str,
@@ -195,7 +195,7 @@ pub fn boxed_utfstrs<C: FaultUnit + FromHex>(
     each_item!(alloc, items.split(','), item => boxed_utfstr(alloc, item)?)
 }
 
-/// Borrowed and owned texts in turn.
+/// Returns borrowed and owned texts in turn.
 pub fn cow_utfstrs<C: FaultUnit>(
     alloc: Global,
     strings: &[UtfString<C>],
@@ -211,7 +211,8 @@ pub fn cow_utfstrs<C: FaultUnit>(
     Ok(made)
 }
 
-// Whether after units come the first of the items, each whole, and as many as there is capacity for, but not all.
+// Returns whether `before` is followed by the first of the items, each whole, and as many as the capacity allows, but
+// not all.
 fn are_whole_items<C: ToldUnit>(
     alloc: Global,
     before: &[C],
@@ -234,8 +235,8 @@ fn are_whole_items<C: ToldUnit>(
     Ok(false)
 }
 
-/// Whether a call whose request failed left units and capacity as they were or, where it takes items, put in those that there is
-/// capacity for.
+/// Returns whether a call whose request failed left units and capacity unchanged or, if it takes items, added the items
+/// that the capacity allows.
 pub fn is_kept<C: ToldUnit>(
     alloc: Global,
     call: &str,

@@ -1,12 +1,12 @@
-//! The characters of a lossy decoder under a policy, from both ends, and of the call that reads them at once. A question is a word of calls. The
-//! call takes one request, and none where there are no calls; an answer has a `?` where it does not, the two differ, or
-//! the decoder reports bounds.
+//! The characters of a lossy decoder under a policy, from both ends, and of the call that reads them at once. A
+//! question is a word of calls. The call makes one request, and none if there are no calls. The answer has a `?` if it
+//! does not, if the two differ, or if the decoder reports bounds.
 use crate::parse::{self, Memory, NoAnswer};
 use crate::show::Answer;
 use widestring::iter::{End, read_lossy_ends16, read_lossy_ends32};
 use widestring::{Policy, decode_utf16_lossy_with, decode_utf32_lossy_with};
 
-/// What a lossy decoder of UTF-16 answers to each call.
+/// Answers with what a lossy decoder of UTF-16 returns for each call.
 pub fn utf16(
     memory: Memory<'_>,
     list: &str,
@@ -33,7 +33,7 @@ pub fn utf16(
     answer.finish()
 }
 
-/// What a lossy decoder of UTF-32 answers to each call.
+/// Answers with what a lossy decoder of UTF-32 returns for each call.
 pub fn utf32(
     memory: Memory<'_>,
     list: &str,

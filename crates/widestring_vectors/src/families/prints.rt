@@ -1,14 +1,18 @@
-//! What views, strings, iterators and errors print. A question is a word for the value, and for iterators a space and calls that come before.
+//! What views, strings, iterators and errors print. A question is a word for the value, and for iterators a space and
+//! the calls that are made before.
 //!
-//! The answer has the characters of the text, a `;` and those of the debug text; of a type that has debug text alone the first part is empty. Each is
-//! printed with a width and fills, too, which change nothing, and into sinks that fail at one of their writes: the printing has to end there, with the
-//! text before it alone. The answer is a `?` where one of these differs.
+//! The answer has the characters of the text, a `;` and those of the debug text. If a type only has debug text, the
+//! first part is empty. Each is also printed with a width and fills, which change nothing, and into sinks that fail at
+//! one of their writes: the printing must end there, with only the text before it. The answer is a `?` if one of these
+//! differs.
 //!
-//! - Of units `debug` is the view, `display` and `skipping` what prints its text, `chars`, `lossy`, `each`, `run` and `skip` its characters, `string` the
-//!   string of them, `box` the same in a block of its own and `cow` the view as a string that is borrowed; `mended` is what lossy text prints, `fault`
-//!   the error of units that are no text, `refused` that of units that are no C string, and `escape` what characters print as escapes.
-//! - Of a C string there are `c_debug`, `c_display`, `c_skipping`, `c_string`, `c_box` and `c_cow`, of text `t_debug`, `t_string`, `t_box`, `t_chars`, the
-//!   three escapes `escape_debug`, `escape_default` and `escape_unicode`, and `drain` of the characters of a range, which stands behind the calls.
+//! - For units, `debug` is the view; `display` and `skipping` are the values that print its text; `chars`, `lossy`,
+//!   `each`, `run` and `skip` are its characters; `string` is the string of them, `box` the boxed string, and `cow` the
+//!   view as a borrowed string; `mended` is what lossy text prints, `fault` the error of ill-formed units, `refused`
+//!   that of units that are not a C string, and `escape` what characters print as escapes.
+//! - For a C string there are `c_debug`, `c_display`, `c_skipping`, `c_string`, `c_box` and `c_cow`; for text
+//!   `t_debug`, `t_string`, `t_box`, `t_chars`, the three escapes `escape_debug`, `escape_default` and
+//!   `escape_unicode`, and `drain` for the characters of a range, which follows the calls.
 use crate::families::width::Width;
 use crate::parse::{self, Memory, NoAnswer};
 use crate::show::Answer;
@@ -65,8 +69,8 @@ impl Display for Escaped {
     }
 }
 
-// Whether printing into a sink that fails at a write ends at this write, with what stands before it in the text; `None` where all was printed
-// before.
+// Returns whether printing into a sink that fails at a write ends at this write, with what comes before it in the text.
+// Returns `None` if everything was printed before.
 fn is_cut(alloc: Global, value: &impl Display, whole: &str, fails_at: usize) -> Option<bool> {
     let mut sink = Sink {
         text: String::new(alloc),
@@ -82,7 +86,7 @@ fn is_cut(alloc: Global, value: &impl Display, whole: &str, fails_at: usize) -> 
     }
 }
 
-// Whether each write that fails ends the printing.
+// Returns whether each failing write ends the printing.
 fn ends_at_failures(alloc: Global, value: &impl Display, whole: &str) -> bool {
     for fails_at in 0..1000 {
         match is_cut(alloc, value, whole, fails_at) {
@@ -119,7 +123,7 @@ fn debug(alloc: Global, answer: &mut Answer, value: &impl Debug) -> Result<(), N
     print(alloc, answer, &Debugged(value))
 }
 
-// Adds both.
+// Adds the text and the debug text of a value.
 fn both<T: Display + Debug>(alloc: Global, answer: &mut Answer, value: &T) -> Result<(), NoAnswer> {
     print(alloc, answer, value)?;
     debug(alloc, answer, value)
@@ -154,7 +158,7 @@ fn of_units<C: Width>(
     }
 }
 
-// Errors, which have a text and a debug text that is a derived one.
+// Adds the text and the derived debug text of errors.
 fn of_error<C: Width>(
     alloc: Global,
     answer: &mut Answer,
@@ -245,7 +249,7 @@ fn of_text<C: Width>(
     }
 }
 
-// What a drain prints that has given some characters.
+// Adds what a drain prints after it returned some characters.
 fn drained<C: Width>(
     alloc: Global,
     answer: &mut Answer,
@@ -263,7 +267,7 @@ fn drained<C: Width>(
     both(alloc, answer, &drain)
 }
 
-// What the escapes of a text print that have given some characters from the front.
+// Adds what the escapes of a text print after they returned some characters from the front.
 fn of_escapes<C: Width>(
     alloc: Global,
     answer: &mut Answer,
@@ -288,7 +292,7 @@ fn of_escapes<C: Width>(
     }
 }
 
-/// What a value prints.
+/// Answers what a value prints.
 pub fn printed<C: Width>(
     memory: Memory<'_>,
     list: &str,

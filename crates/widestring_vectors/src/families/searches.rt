@@ -1,12 +1,14 @@
-//! Searches in units of either width, and in text. A question is the units of a part, a colon, a character, a colon and a place.
+//! Searches in units of either width, and in text. A question is the units of a needle, a colon, a character, a colon
+//! and an offset.
 //!
-//! The answer is of several parts. The first is what units of any values answer: whether they contain the part, begin and end with it,
-//! each `1` or `0`; the first and the last place of the part, and of the character; how many units are left without the part at the start
-//! and at the end; how many stand before it and behind it, at its first place and at its last; a `-` where there is none. Then come the
-//! lengths of the pieces that the part cuts, and the first and the last place of its first unit, where it has one; the calls for slices and, without a NUL
-//! among the units, those of C strings have to answer the same, else there is no answer. Where both units and
-//! part are well formed, there follow the same first two parts of the text, the lengths of the pieces that the character cuts, and the
-//! boundaries around the place.
+//! The answer has several parts. The first is for units of any values: whether they contain the needle, begin and end
+//! with it, each `1` or `0`; the first and the last offset of the needle, and of the character; how many units are left
+//! after the needle is stripped at the start and at the end; how many precede and follow it, at its first offset and at
+//! its last; a `-` if there is none. Then come the lengths of the substrings that the needle splits the units into, and
+//! the first and the last offset of its first unit, if it has one. The calls for slices and, if there is no NUL among
+//! the units, those of C strings must return the same, else there is no answer. If units and needle are both well
+//! formed, there follow the first two parts for the text, the lengths of the substrings that the character splits it
+//! into, and the boundaries around the offset.
 use crate::families::texts::c_string;
 use crate::parse::{self, FromHex, NoAnswer};
 use crate::show::Answer;
@@ -18,7 +20,7 @@ use widestring::unit::first_nul;
 use widestring::ustr::UStr;
 use widestring::utfstr::UtfStr;
 
-// What a view answers to the searches that views of units and of text share.
+// Adds what a view returns for the searches that views of units and of text share.
 macro_rules! searched {
     ($answer:expr, $view:expr, $part:expr, $c:expr) => {
         $answer.decided($view.contains($part));
@@ -42,7 +44,7 @@ macro_rules! searched {
     };
 }
 
-// What is found in units of any values.
+// Adds what is found in units of any values.
 fn in_units<C: FaultUnit>(answer: &mut Answer, view: UStr<'_, C>, part: UStr<'_, C>, c: char) {
     searched!(answer, view, part, c);
     if let [unit, ..] = part.as_slice() {
@@ -51,7 +53,7 @@ fn in_units<C: FaultUnit>(answer: &mut Answer, view: UStr<'_, C>, part: UStr<'_,
     }
 }
 
-// The same in the contents of C strings.
+// Adds what is found in the contents of C strings.
 fn in_contents<C: FaultUnit>(answer: &mut Answer, view: UCStr<'_, C>, part: UCStr<'_, C>, c: char) {
     searched!(answer, view, part, c);
     if let [unit, ..] = part.as_slice() {
@@ -60,7 +62,7 @@ fn in_contents<C: FaultUnit>(answer: &mut Answer, view: UCStr<'_, C>, part: UCSt
     }
 }
 
-// Whether the calls for slices answer as those of a view do.
+// Returns whether the calls for slices return the same as those of a view.
 fn agrees<C: FaultUnit>(view: UStr<'_, C>, part: UStr<'_, C>) -> bool {
     let (units, sought) = (view.as_slice(), part.as_slice());
     (search::find(units, sought) == view.find(part))
@@ -69,7 +71,7 @@ fn agrees<C: FaultUnit>(view: UStr<'_, C>, part: UStr<'_, C>) -> bool {
         & (search::ends_with(units, sought) == view.ends_with(part))
 }
 
-// What is found in units, where C strings of them and slices have the same.
+// Answers what is found in units. C strings of them and slices must return the same.
 fn in_all<C: FaultUnit>(
     alloc: Global,
     units: &[C],
@@ -95,7 +97,7 @@ fn in_all<C: FaultUnit>(
     Ok(found)
 }
 
-// What is found in text, and the boundaries around a place.
+// Adds what is found in text, and the boundaries around an offset.
 fn in_text<C: FaultUnit>(
     answer: &mut Answer,
     text: UtfStr<'_, C>,
@@ -112,7 +114,7 @@ fn in_text<C: FaultUnit>(
     answer.count(Some(text.ceil_char_boundary(place)));
 }
 
-/// What searches find in units of either width.
+/// Answers a question about searches in units of either width.
 pub fn found<C: FaultUnit + FromHex>(
     alloc: Global,
     list: &str,

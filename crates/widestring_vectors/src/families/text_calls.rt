@@ -1,4 +1,5 @@
-//! Calls of strings of text that have a name in a script, and what they take after a space. README.md has the calls.
+//! Calls of strings of text that have a name in a script, with their arguments after a space. README.md describes the
+//! calls.
 use crate::families::pieces::{self, Text};
 use crate::families::ustring_calls::has_capacity;
 use crate::parse::{self, Memory, NoAnswer};
@@ -41,7 +42,7 @@ fn extend<C: ToldUnit>(
     Ok(())
 }
 
-// A string of items. The error is the string of the items before the request that failed.
+// Makes a string of items. The error is the string of the items before the request that failed.
 fn made_of<'a, C: ToldUnit>(
     memory: Memory<'a>,
     kind: &str,
@@ -73,7 +74,7 @@ fn made_of<'a, C: ToldUnit>(
     })
 }
 
-// Puts the string of items in the place of another. Where a request fails, that of the items before is put there.
+// Replaces a string by the string of items. If a request fails, by that of the items before it.
 fn collect<'a, C: ToldUnit>(
     memory: Memory<'a>,
     string: &mut Text<'a, C>,
@@ -130,7 +131,7 @@ fn with_number<'a, C: ToldUnit>(
     Ok(())
 }
 
-// Puts a text in the place of a range.
+// Replaces a range by a text.
 fn splice<C: ToldUnit>(
     memory: Memory<'_>,
     string: &mut Text<'_, C>,
@@ -147,12 +148,12 @@ fn splice<C: ToldUnit>(
     Ok(())
 }
 
-// The string of a borrowed one.
+// Makes an owned string of a borrowed one.
 fn owned<'a, C: ToldUnit>(heap: &'a Heap, view: UtfStr<'_, C>) -> Result<Text<'a, C>, OutOfMemory> {
     CowUtfStr::Borrowed(view).into_owned(heap)
 }
 
-// The string of an owned one.
+// Makes an owned string of an owned one.
 fn kept<'a, C: ToldUnit>(
     memory: Memory<'a>,
     text: Text<'a, C>,
@@ -161,7 +162,7 @@ fn kept<'a, C: ToldUnit>(
     owned.into_owned(memory.heap)
 }
 
-// Makes a call that turns a string into what holds the same units, and back.
+// Makes a call that converts a string to a type that holds the same units, and back.
 fn turn<'a, C: ToldUnit>(
     memory: Memory<'a>,
     string: &mut Text<'a, C>,
@@ -192,7 +193,7 @@ fn turn<'a, C: ToldUnit>(
     Ok(())
 }
 
-// A string of the contents of a C string, which are looked at first.
+// Makes a string of the contents of a C string, which are checked first.
 fn of_contents<'a, C: ToldUnit>(ended: UCString<C, &'a Heap>) -> Result<Text<'a, C>, NoAnswer> {
     let Ok(_contents) = UtfStr::from_ucstr(ended.as_ucstr()) else {
         return Err(NoAnswer::Unparsed);
@@ -254,7 +255,7 @@ fn alone<'a, C: ToldUnit>(
     Ok(())
 }
 
-/// Makes a call of this name, and adds what it returns.
+/// Makes a call by its name, and adds what it returns.
 pub fn named<'a, C: ToldUnit>(
     memory: Memory<'a>,
     string: &mut Text<'a, C>,

@@ -1,11 +1,15 @@
-//! What a view of units of either width prints, its lines, trims and escapes, its text in another case, and comparisons. A
-//! question is a letter, and after it, where two are compared, the other's units.
+//! What a view of units of either width prints, its lines, trims and escapes, its text in another case, and
+//! comparisons. A question is a letter, and after it, if two are compared, the other's units.
 //!
-//! `l` and `L` are the lines of the units and of the text, each followed by a `;`, and `i` and `I` the same with the offset of each before it; `t`, `<` and `>` the text trimmed at both
-//! ends, at the start and at the end; `g`, `f` and `G` the debug text of the units, of the text and of the C string of the units
-//! and a NUL; `p` and `P` what the units, lossily, and the text print; `d`, `e` and `u` the escapes as in debug text, by default
-//! and by number; `w` and `W` the text in lower and in upper case. `c` is the order of the units and other units, `k` that
-//! of the units and the contents of a C string: `<`, `=` or `>`; `x` is whether the text and another are equal, `1` or `0`.
+//! - `l` and `L` are the lines of the units and of the text, each followed by a `;`, and `i` and `I` the lines with the
+//!   offset of each before it.
+//! - `t`, `<` and `>` are the text trimmed at both ends, at the start and at the end.
+//! - `g`, `f` and `G` are the debug text of the units, of the text and of the C string of the units and a NUL; `p` and
+//!   `P` what the units, lossily, and the text print.
+//! - `d`, `e` and `u` are the escapes as in debug text, by default and by number; `w` and `W` the text in lower and in
+//!   upper case.
+//! - `c` is the order of the units and other units, `k` that of the units and the contents of a C string: `<`, `=` or
+//!   `>`. `x` is whether the text and another are equal, `1` or `0`.
 ghost use Rattle.std.specs.Iterator.{IsFinite};
 
 use crate::families::ucstring::text_of;
@@ -66,7 +70,7 @@ fn decided(alloc: Global, holds: bool) -> Result<String, NoAnswer> {
     word(alloc, if holds { "1" } else { "0" })
 }
 
-/// The C string of units and a NUL.
+/// Returns the C string of units and a NUL.
 pub fn c_string<C: FaultUnit>(alloc: Global, units: &[C]) -> Result<UCString<C>, NoAnswer> {
     match UCString::from_ustr(alloc, UStr::from_slice(units)) {
         Ok(string) => Ok(string),
@@ -118,7 +122,7 @@ fn line_offsets_of_text<C: FaultUnit>(
     answer.finish()
 }
 
-// Whether the order and the equality of units and contents agree with those of contents and units.
+// Answers whether the order and the equality of units and contents agree with those of contents and units.
 fn with_contents<C: FaultUnit>(
     alloc: Global,
     view: UStr<'_, C>,
@@ -134,7 +138,7 @@ fn with_contents<C: FaultUnit>(
     ordered(alloc, order)
 }
 
-// What is asked of any units.
+// Answers a question about any units.
 fn of_units<C: FaultUnit + FromHex + Ord>(
     alloc: Global,
     kind: u8,
@@ -153,7 +157,7 @@ fn of_units<C: FaultUnit + FromHex + Ord>(
     }
 }
 
-// What is asked of a text.
+// Answers a question about a text.
 fn of_text<C: FaultUnit>(alloc: Global, kind: u8, text: UtfStr<'_, C>) -> Result<String, NoAnswer> {
     match kind {
         b'L' => lines_of_text(alloc, text),
@@ -189,7 +193,7 @@ fn asked<C: FaultUnit + FromHex + Ord>(
     }
 }
 
-/// What is answered about a list of units.
+/// Answers a question about a list of units.
 pub fn text<C: Width>(alloc: Global, list: &str, question: &str) -> Result<String, NoAnswer> {
     let (kind, more) = parse::kind(question)?;
     let list = parse::list::<C>(alloc, list)?;

@@ -1,11 +1,12 @@
-//! The constructors of C strings of units of either width. A question is the letter of what the C string is made of, `s` for
-//! a slice, `v` for a vector, `u` for a view, `t` for the text that has these units, `l` for a literal and `n` for nothing; a `c`
-//! after it where the call cuts at the first NUL, and a `!` where it makes no check, of one unit at most; for a vector a `+` and the
-//! capacity that it has to spare; and a `#` where the answer has the number of requests after another `#`. After a `.` comes a call of
-//! the C string whose contents the units are, by its name (`ucstring_calls`).
+//! The constructors of C strings of units of either width. A question is the letter of what the C string is made of,
+//! `s` for a slice, `v` for a vector, `u` for a view, `t` for the text that has these units, `l` for a literal and `n`
+//! for nothing. A `c` follows if the call truncates at the first NUL, and a `!` if it makes no check, for at most one
+//! unit. For a vector a `+` and its spare capacity may follow, and then a `#` if the answer has the number of requests
+//! after another `#`. After a `.` comes a call of the C string whose contents are the units, by its name
+//! (`ucstring_calls`).
 //!
-//! The answer is the contents of a view, or the units of an owned C string and its NUL; a `-` where there is no NUL to end a
-//! view; or the place of an inner NUL and the vector that is handed back.
+//! The answer is the contents of a view, or the units of an owned C string and its NUL; a `-` if there is no NUL to end
+//! a view; or the offset of an inner NUL and the vector that the error returns.
 use crate::families::{pieces, ucstring_calls};
 use crate::parse::{self, Memory, NoAnswer};
 use crate::show::{Answer, ToldUnit};
@@ -17,10 +18,10 @@ use widestring::unit::Unit;
 use widestring::ustr::UStr;
 use widestring_testing::Heap;
 
-/// What a constructor makes, or why it makes none.
+/// What a constructor makes, or its error.
 pub type Made<'a, C> = Result<UCString<C, &'a Heap>, UCStringError<C, &'a Heap>>;
 
-/// The text that has these units.
+/// Returns the text that has these units.
 pub fn text_of<C: FaultUnit>(alloc: Global, units: &[C]) -> Result<String, NoAnswer> {
     let mut text = String::new(alloc);
     for read in UStr::from_slice(units).chars() {
@@ -32,7 +33,7 @@ pub fn text_of<C: FaultUnit>(alloc: Global, units: &[C]) -> Result<String, NoAns
     Ok(text)
 }
 
-// What is answered about a view of all units.
+// Answers with a view of all units.
 fn view<C: FaultUnit>(alloc: Global, units: &[C]) -> Result<Answer, NoAnswer> {
     let mut answer = Answer::new(alloc);
     match UCStr::from_slice(units) {
@@ -43,7 +44,7 @@ fn view<C: FaultUnit>(alloc: Global, units: &[C]) -> Result<Answer, NoAnswer> {
     Ok(answer)
 }
 
-// What is answered about a view of the units up to the first NUL.
+// Answers with a view of the units up to the first NUL.
 fn view_cut<C: FaultUnit>(alloc: Global, units: &[C]) -> Result<Answer, NoAnswer> {
     let mut answer = Answer::new(alloc);
     match UCStr::from_slice_truncate(units) {
@@ -53,7 +54,7 @@ fn view_cut<C: FaultUnit>(alloc: Global, units: &[C]) -> Result<Answer, NoAnswer
     Ok(answer)
 }
 
-// Adds what a C string is. The error is the vector that is handed back where there is no memory, if one is.
+// Adds what a C string holds. The error is the vector that an allocation failure returns, if it returns one.
 fn show<'a, C: ToldUnit>(
     answer: &mut Answer,
     made: Made<'a, C>,
@@ -66,7 +67,7 @@ fn show<'a, C: ToldUnit>(
     Ok(())
 }
 
-/// What is answered about a C string of a copy.
+/// Answers with a C string of a copy.
 pub fn copied<'a, C: ToldUnit>(memory: Memory<'a>, made: Made<'a, C>) -> Result<Answer, NoAnswer> {
     let mut answer = Answer::new(memory.alloc);
     match show(&mut answer, made) {
@@ -79,7 +80,7 @@ pub fn copied<'a, C: ToldUnit>(memory: Memory<'a>, made: Made<'a, C>) -> Result<
     }
 }
 
-// What is answered about a C string of a vector.
+// Answers with a C string of a vector.
 fn of_vec<C: ToldUnit>(
     memory: Memory<'_>,
     call: &str,
@@ -109,7 +110,7 @@ fn of_vec<C: ToldUnit>(
     Ok((answer, memory.requests_since(left)))
 }
 
-// What is answered about a C string of a copy of units.
+// Answers with a C string of a copy of units.
 fn of_units<'a, C: ToldUnit>(
     memory: Memory<'a>,
     call: &str,
@@ -126,7 +127,7 @@ fn of_units<'a, C: ToldUnit>(
     copied(memory, made)
 }
 
-// What is answered about a C string of a text.
+// Answers with a C string of a text.
 fn of_text<'a, C: ToldUnit>(
     memory: Memory<'a>,
     call: &str,
@@ -142,7 +143,7 @@ fn of_text<'a, C: ToldUnit>(
     copied(memory, made)
 }
 
-// The answer to a call, and the number of its requests.
+// Returns the answer to a call, and the number of its requests.
 fn answer_to<C: ToldUnit>(
     memory: Memory<'_>,
     call: &str,
@@ -158,7 +159,7 @@ fn answer_to<C: ToldUnit>(
     Ok((answer, memory.requests_since(left)))
 }
 
-/// The C string that a constructor makes, or why it makes none.
+/// Answers with the C string that a constructor makes, or its error.
 pub fn made<C: ToldUnit>(
     memory: Memory<'_>,
     list: &str,

@@ -1,5 +1,5 @@
-//! Calls of a C string, by name. `repeat` has the number of times after a space, and `boxed` the capacity that the C string has to spare.
-//! The answer is the units that the call returns, and after a `#` the number of its requests.
+//! Calls of a C string, by name. `repeat` has the number of times after a space, and `boxed` the spare capacity of the
+//! C string. The answer is the units that the call returns, and after a `#` the number of its requests.
 use crate::families::pieces;
 use crate::parse::{self, Memory, NoAnswer};
 use crate::show::{Answer, ToldUnit};
@@ -10,7 +10,7 @@ use widestring_testing::Heap;
 
 type CString<'a, C> = UCString<C, &'a Heap>;
 
-// A copy of a C string; none where the call is not one of these.
+// Copies a C string. Returns `None` if the call is not one that copies.
 fn copy<'a, C: ToldUnit>(
     heap: &'a Heap,
     string: &CString<'a, C>,
@@ -27,7 +27,7 @@ fn copy<'a, C: ToldUnit>(
     }
 }
 
-// The C string of a borrowed one.
+// Makes an owned C string of a borrowed one.
 fn owned<'a, C: ToldUnit>(
     heap: &'a Heap,
     view: UCStr<'_, C>,
@@ -35,7 +35,7 @@ fn owned<'a, C: ToldUnit>(
     CowUCStr::Borrowed(view).into_owned(heap)
 }
 
-// The C string of an owned one.
+// Makes an owned C string of an owned one.
 fn kept<'a, C: ToldUnit>(
     heap: &'a Heap,
     string: CString<'a, C>,
@@ -44,7 +44,7 @@ fn kept<'a, C: ToldUnit>(
     owned.into_owned(heap)
 }
 
-// The vector of a call that takes the C string itself.
+// Returns the vector of a call that consumes the C string.
 fn taken<'a, C: ToldUnit>(
     heap: &'a Heap,
     string: CString<'a, C>,
@@ -60,7 +60,8 @@ fn taken<'a, C: ToldUnit>(
     }
 }
 
-// The units of a C string that was in a box. One that there is no memory to box is handed back as it was.
+// Adds the units of a C string that was in a box. If the allocation of the box fails, the C string must be returned
+// unchanged.
 fn boxed<'a, C: ToldUnit>(
     answer: &mut Answer,
     string: CString<'a, C>,
@@ -83,7 +84,7 @@ fn boxed<'a, C: ToldUnit>(
     }
 }
 
-/// What a call of the C string of these contents returns.
+/// Answers what a call of the C string of these contents returns.
 pub fn called<C: ToldUnit>(
     memory: Memory<'_>,
     contents: Vec<C>,

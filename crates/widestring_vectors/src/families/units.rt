@@ -1,8 +1,10 @@
-//! Units one by one, and lists of them. A question is a word, and for some a space and more.
+//! Units one by one, and lists of them. A question is a word, and for some a space and arguments.
 //!
-//! - `unit` is, for the only unit of the list, whether it is in range, a high and a low surrogate, and the character that it is alone; `pair` is the
-//!   character of the two units of the list; `char` and a character are how many units it has, and these.
-//! - `nul` is the index of the first NUL; `line` the first line and the units behind it; `same` and `order` compare the list with other units.
+//! - `unit` is, for the only unit of the list, whether it is in range, a high and a low surrogate, and the character
+//!   that it is alone; `pair` is the character of the two units of the list; `char` and a character are how many units
+//!   it has, and these.
+//! - `nul` is the index of the first NUL; `line` the first line and the units after it; `same` and `order` compare the
+//!   list with other units.
 //! - `range` and a range are its ends in a list of this length.
 use crate::families::width::Width;
 use crate::parse::{self, Memory, NoAnswer};
@@ -41,7 +43,7 @@ fn of_char<C: Width>(answer: &mut Answer, c: char) {
     }
 }
 
-/// What is answered about units.
+/// Answers a question about units.
 pub fn asked<C: Width>(memory: Memory<'_>, list: &str, question: &str) -> Result<String, NoAnswer> {
     let (word, more) = parse::word(question);
     let units = parse::list::<C>(memory.alloc, list)?;

@@ -1,5 +1,5 @@
-//! Calls of owned strings of units of either width, and what they leave of the string. A `-` is the answer where the place
-//! or the range is none of the string's. An answer of several parts has a `;` between two.
+//! Calls of owned strings of units of either width, and what they leave of the string. The answer is a `-` if the
+//! offset or the range is out of bounds. The parts of an answer are separated by `;`.
 use crate::parse::{self, FromHex, NoAnswer};
 use crate::show::Answer;
 use std::alloc::Global;
@@ -8,26 +8,26 @@ use widestring::unit::range_check;
 use widestring::ustr::UStr;
 use widestring::ustring::UString;
 
-/// The string of a list.
+/// Returns the string of a list.
 pub fn string<C: FaultUnit + FromHex>(alloc: Global, list: &str) -> Result<UString<C>, NoAnswer> {
     Ok(UString::from_vec(parse::list(alloc, list)?))
 }
 
-/// The answer where the place or the range is none of the string's.
+/// Returns the answer for an offset or a range that is out of bounds.
 pub fn outside(alloc: Global) -> Result<String, NoAnswer> {
     let mut answer = Answer::new(alloc);
     answer.number(None);
     answer.finish()
 }
 
-// The answer that is the units of a string.
+// Answers with the units of a string.
 fn units_of<C: FaultUnit>(alloc: Global, string: &UString<C>) -> Result<String, NoAnswer> {
     let mut answer = Answer::new(alloc);
     answer.units(string.as_slice());
     answer.finish()
 }
 
-/// What `pop_char` answers to as many calls as there are units, and one more. A question is no text.
+/// Answers with what `pop_char` returns for as many calls as there are units, and one more. A question is empty.
 pub fn pop<C: FaultUnit + FromHex>(
     alloc: Global,
     list: &str,
@@ -43,7 +43,7 @@ pub fn pop<C: FaultUnit + FromHex>(
     answer.finish()
 }
 
-/// The character that `remove_char` takes, and the units left. A question is a place.
+/// Answers with the character that `remove_char` removes, and the units left. A question is an offset.
 pub fn remove<C: FaultUnit + FromHex>(
     alloc: Global,
     list: &str,
@@ -61,7 +61,7 @@ pub fn remove<C: FaultUnit + FromHex>(
     answer.finish()
 }
 
-// The units with a character put in.
+// Answers with the units after a character is inserted.
 fn insert_char<C: FaultUnit>(
     alloc: Global,
     mut string: UString<C>,
@@ -76,7 +76,7 @@ fn insert_char<C: FaultUnit>(
     units_of(alloc, &string)
 }
 
-// The units with those of a view put in.
+// Answers with the units after those of a view are inserted.
 fn insert_units<C: FaultUnit + FromHex>(
     alloc: Global,
     mut string: UString<C>,
@@ -91,8 +91,8 @@ fn insert_units<C: FaultUnit + FromHex>(
     units_of(alloc, &string)
 }
 
-/// The units with more put in. A question is a `c` for a character or an `s` for a view, a place, a colon, and the character
-/// or the view's units.
+/// Answers with the units after an insertion. A question is a `c` for a character or an `s` for a view, an offset, a
+/// colon, and the character or the view's units.
 pub fn insert<C: FaultUnit + FromHex>(
     alloc: Global,
     list: &str,
@@ -109,7 +109,7 @@ pub fn insert<C: FaultUnit + FromHex>(
     }
 }
 
-/// The units with others in the place of a range. A question is a range, a colon, and the units of a view.
+/// Answers with the units after a range is replaced. A question is a range, a colon, and the units of a view.
 pub fn replace<C: FaultUnit + FromHex>(
     alloc: Global,
     list: &str,
@@ -126,7 +126,8 @@ pub fn replace<C: FaultUnit + FromHex>(
     units_of(alloc, &string)
 }
 
-// How often `retain` asks, and the units left, where the closure answers by the number of the call: yes at a `1`.
+// Answers with the number of calls that `retain` makes, and the units left. The closure returns true for a call whose
+// bit is a `1`.
 fn retain_by_call<C: FaultUnit>(
     alloc: Global,
     mut string: UString<C>,
@@ -145,7 +146,7 @@ fn retain_by_call<C: FaultUnit>(
     answer.finish()
 }
 
-// The units left where those of this number are not kept.
+// Answers with the units left if those with this number are removed.
 fn retain_others<C: FaultUnit + FromHex>(
     alloc: Global,
     mut string: UString<C>,
@@ -156,7 +157,8 @@ fn retain_others<C: FaultUnit + FromHex>(
     units_of(alloc, &string)
 }
 
-/// What `retain` leaves. A question is a `c` and a bit for each call, or a `u` and the unit that is not kept.
+/// Answers with what `retain` leaves. A question is a `c` and a bit for each call, or a `u` and the unit that is
+/// removed.
 pub fn retain<C: FaultUnit + FromHex>(
     alloc: Global,
     list: &str,
@@ -171,7 +173,7 @@ pub fn retain<C: FaultUnit + FromHex>(
     }
 }
 
-/// The units that `split_off` leaves, and those that it answers. A question is a place.
+/// Answers with the units that `split_off` leaves, and those that it returns. A question is an offset.
 pub fn split_off<C: FaultUnit + FromHex>(
     alloc: Global,
     list: &str,

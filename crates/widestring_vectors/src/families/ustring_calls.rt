@@ -1,8 +1,9 @@
-//! Scripts of calls of strings of any units. A question has a `/` between two parts. The first is the capacity that the string of the
-//! list has to spare, and each other one a call, by its name, with what it takes after a space. README.md has the calls.
+//! Scripts of calls of strings of any units. A question has parts separated by `/`. The first is the spare capacity of
+//! the string of the list, and each other one is a call, by its name, with its arguments after a space. README.md
+//! describes the calls.
 //!
-//! A call adds to the answer what it returns, a `;`, the units that it leaves, and after a `#` the number of its requests. A
-//! string that would be too long is a `-`, with no request.
+//! A call adds to the answer what it returns, a `;`, the units that it leaves, and after a `#` the number of its
+//! requests. A string that would be too long is a `-`, with no request.
 use crate::families::pieces::{self, Units};
 use crate::parse::{self, Memory, NoAnswer};
 use crate::show::{Answer, ToldUnit};
@@ -69,7 +70,7 @@ fn extend_by_units<C: ToldUnit>(
     Ok(())
 }
 
-// A string of items of text. The error is the string of the items before the request that failed.
+// Makes a string of items of text. The error is the string of the items before the request that failed.
 fn made_of_text<'a, C: ToldUnit>(
     memory: Memory<'a>,
     kind: &str,
@@ -93,7 +94,7 @@ fn made_of_text<'a, C: ToldUnit>(
     })
 }
 
-// A string of items of any units.
+// Makes a string of items of any units. The error is the string of the items before the request that failed.
 fn made_of_units<'a, C: ToldUnit>(
     memory: Memory<'a>,
     kind: &str,
@@ -120,7 +121,7 @@ fn made_of_units<'a, C: ToldUnit>(
     })
 }
 
-// Puts the string of items in the place of another. Where a request fails, that of the items before is put there.
+// Replaces a string by the string of items. If a request fails, by that of the items before it.
 fn collect<'a, C: ToldUnit>(
     memory: Memory<'a>,
     string: &mut Units<'a, C>,
@@ -173,7 +174,8 @@ fn with_number<'a, C: ToldUnit>(
     Ok(())
 }
 
-/// Whether a call that takes a number leaves this capacity, of a string of this length that had another capacity before.
+/// Returns whether a call that takes a number may leave this capacity, for a string of this length and previous
+/// capacity.
 pub fn has_capacity(name: &str, number: usize, len: usize, before: usize, after: usize) -> bool {
     match name {
         "with_capacity" => after >= number,
@@ -199,12 +201,12 @@ fn with_units<C: ToldUnit>(
     }
 }
 
-// The string of a borrowed one.
+// Makes an owned string of a borrowed one.
 fn owned<'a, C: ToldUnit>(heap: &'a Heap, view: UStr<'_, C>) -> Result<Units<'a, C>, OutOfMemory> {
     CowUStr::Borrowed(view).into_owned(heap)
 }
 
-// The string of an owned one.
+// Makes an owned string of an owned one.
 fn kept<'a, C: ToldUnit>(
     memory: Memory<'a>,
     string: Units<'a, C>,
@@ -213,7 +215,7 @@ fn kept<'a, C: ToldUnit>(
     owned.into_owned(memory.heap)
 }
 
-// Makes a call that takes nothing and may take memory.
+// Makes a call that takes nothing and may allocate.
 fn alone<'a, C: ToldUnit>(
     memory: Memory<'a>,
     string: &mut Units<'a, C>,
@@ -243,7 +245,7 @@ fn alone<'a, C: ToldUnit>(
     Ok(())
 }
 
-// Makes a box of a string, and a string of that, whose capacity is its length.
+// Makes a box of a string, and a string of that, whose capacity must be its length.
 fn boxed<'a, C: ToldUnit>(memory: Memory<'a>, string: &mut Units<'a, C>) -> Result<(), NoAnswer> {
     match std::mem::replace(string, UString::new(memory.heap)).into_boxed_ustr() {
         Ok(boxed) => {
@@ -262,7 +264,7 @@ fn boxed<'a, C: ToldUnit>(memory: Memory<'a>, string: &mut Units<'a, C>) -> Resu
     }
 }
 
-// Makes a call that takes nothing and no memory.
+// Makes a call that takes nothing and does not allocate.
 fn without_memory<C: ToldUnit>(
     string: &mut Units<'_, C>,
     answer: &mut Answer,
@@ -280,7 +282,7 @@ fn without_memory<C: ToldUnit>(
     Ok(())
 }
 
-// Makes a call at an offset, where that is one of the string's.
+// Makes a call at an offset, if it is within bounds.
 fn at_offset<'a, C: ToldUnit>(
     string: &mut Units<'a, C>,
     answer: &mut Answer,
@@ -296,7 +298,7 @@ fn at_offset<'a, C: ToldUnit>(
     Ok(())
 }
 
-// Makes a call at an offset that takes more.
+// Makes a call at an offset that takes more arguments.
 fn put_in<C: ToldUnit>(
     memory: Memory<'_>,
     string: &mut Units<'_, C>,
@@ -391,8 +393,8 @@ fn call<'a, C: ToldUnit>(
     }
 }
 
-// Makes a call of a script, and adds what it returns, leaves and requests. None where a request failed and what is left is
-// none of what the contract says.
+// Makes a call of a script, and adds what it returns, leaves and requests. Adds a `?` if a request failed and the
+// string is then not as the contract says.
 fn step<'a, C: ToldUnit>(
     memory: Memory<'a>,
     string: &mut Units<'a, C>,
@@ -421,7 +423,7 @@ fn step<'a, C: ToldUnit>(
     Ok(())
 }
 
-/// What the calls of a script return, leave and request.
+/// Answers what the calls of a script return, leave and request.
 pub fn script<C: ToldUnit>(
     memory: Memory<'_>,
     list: &str,

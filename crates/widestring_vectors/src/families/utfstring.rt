@@ -1,20 +1,24 @@
-//! Scripts of calls of owned strings of well-formed text, in units of either width. A question has a `/` between two calls.
+//! Scripts of calls of owned strings of well-formed text, in units of either width. A question has calls separated by
+//! `/`.
 //!
-//! The first makes the string of the list: a `v` of the vector, a `t` of the text that has these units, an `f` of the
-//! characters of that text, a `u` of a string of any units, a `c` of a C string. After it may stand a `+` and the capacity that the
-//! vector has to spare; then the number of requests of each call stands after a `#` in its answer. The answer is the string's units, or the index, the item number and the unit of the first fault and the vector
-//! that is handed back, and then no calls follow. Each other call is a letter and what it takes, and adds two parts to the
-//! answer: what the call answers, and the units that it leaves. A `-` is the answer where a place or a range is none of the
-//! text's: the string stays as it was.
+//! The first makes the string of the list: `v` from the vector, `t` from the text that has these units, `f` from the
+//! characters of that text, `u` from a string of any units, `c` from a C string. A `+` and the spare capacity of the
+//! vector may follow; then the number of requests of each call follows its answer after a `#`. The answer is the
+//! string's units, or the index, the item number and the unit of the first fault and the vector that the error returns,
+//! and then no calls follow. Each other call is a letter and its arguments, and adds two parts to the answer: what the
+//! call returns, and the units that it leaves. If an offset or a range is not one of the text, the answer is a `-`, and
+//! the string is unchanged.
 //!
 //! - `c`, `s`, `u`: `push`, `push_str`, `push_utfstr`, with a character, or the units of a text.
 //! - `e`, `n`: extended by characters, and by references to characters.
-//! - `i`, `j`: `insert`, `insert_utfstr`, with a place, a colon, and a character or units.
-//! - `r`, `t`, `o`: `remove`, `truncate`, `split_off`, with a place.
-//! - `x`, `d`: `replace_range`, `drain`, with a range, a colon, and units or a word of calls. A drain answers the characters,
-//!   and as a part of its own what it still shows when it is dropped.
-//! - `k`: `retain`, with a number: kept are the characters that have no bit of it. The answer is how often it asks.
-//! - `K`: `retain`, with a bit for each call: kept are the characters at a `1`. The answer is the same.
+//! - `i`, `j`: `insert`, `insert_utfstr`, with an offset, a colon, and a character or units.
+//! - `r`, `t`, `o`: `remove`, `truncate`, `split_off`, with an offset.
+//! - `x`, `d`: `replace_range`, `drain`, with a range, a colon, and units or a word of calls. A drain answers with the
+//!   characters, and as a part of its own what it still has when it is dropped.
+//! - `k`: `retain`, with a number: it retains the characters that have no bit of the number. The answer is how often it
+//!   calls the closure.
+//! - `K`: `retain`, with a bit for each call: it retains the characters at a `1`. The answer is how often it calls the
+//!   closure.
 //! - `p`, `l`: `pop`, `clear`.
 //! - `.`: a call by its name, of `text_calls`.
 use crate::families::pieces::{self, Text};
@@ -33,13 +37,13 @@ use widestring::utfstr::UtfStr;
 use widestring::utfstring::UtfString;
 use widestring_testing::Heap;
 
-// The string of a text.
+// Makes the string of a text.
 fn of_text<'a, C: FaultUnit>(memory: Memory<'a>, units: &[C]) -> Result<Text<'a, C>, NoAnswer> {
     let text = text_of(memory.alloc, units)?;
     Ok(UtfString::from_str(memory.heap, &text)?)
 }
 
-// The string of the characters of a text.
+// Makes the string of the characters of a text.
 fn of_chars<'a, C: FaultUnit>(memory: Memory<'a>, units: &[C]) -> Result<Text<'a, C>, NoAnswer> {
     let text = text_of(memory.alloc, units)?;
     match UtfString::from_iter_chars(memory.heap, text.chars()) {
@@ -48,7 +52,7 @@ fn of_chars<'a, C: FaultUnit>(memory: Memory<'a>, units: &[C]) -> Result<Text<'a
     }
 }
 
-// Puts a character in before a place.
+// Inserts a character at an offset.
 fn insert<C: FaultUnit>(
     string: &mut Text<'_, C>,
     answer: &mut Answer,
@@ -64,7 +68,7 @@ fn insert<C: FaultUnit>(
     Ok(())
 }
 
-// Puts a text in before a place.
+// Inserts a text at an offset.
 fn insert_text<C: FaultUnit + FromHex>(
     alloc: Global,
     string: &mut Text<'_, C>,
@@ -81,7 +85,7 @@ fn insert_text<C: FaultUnit + FromHex>(
     Ok(())
 }
 
-// Takes away the character at a place.
+// Removes the character at an offset.
 fn remove<C: FaultUnit>(string: &mut Text<'_, C>, answer: &mut Answer, at: usize) {
     if at < string.len() && string.as_utfstr().is_char_boundary(at) {
         answer.character(Some(string.remove(at)));
@@ -90,7 +94,7 @@ fn remove<C: FaultUnit>(string: &mut Text<'_, C>, answer: &mut Answer, at: usize
     }
 }
 
-// Takes away all text from a place on. A cut past the end does nothing.
+// Truncates the text at an offset. An offset past the end does nothing.
 fn truncate<C: FaultUnit>(string: &mut Text<'_, C>, answer: &mut Answer, at: usize) {
     if at > string.len() || string.as_utfstr().is_char_boundary(at) {
         string.truncate(at);
@@ -99,7 +103,7 @@ fn truncate<C: FaultUnit>(string: &mut Text<'_, C>, answer: &mut Answer, at: usi
     }
 }
 
-// Takes away all text from a place on, as a string of its own.
+// Splits the text off at an offset, as a new string.
 fn split_off<C: FaultUnit>(
     string: &mut Text<'_, C>,
     answer: &mut Answer,
@@ -136,7 +140,7 @@ fn drain<C: FaultUnit>(
     answer.units(drain.as_utfstr().as_slice());
 }
 
-// Puts a text in the place of a range.
+// Replaces a range by a text.
 fn replace<C: FaultUnit>(
     string: &mut Text<'_, C>,
     answer: &mut Answer,
@@ -151,7 +155,7 @@ fn replace<C: FaultUnit>(
     Ok(())
 }
 
-// Keeps the characters that have no bit of the mask.
+// Retains the characters that have no bit of the mask.
 fn retain<C: FaultUnit>(string: &mut Text<'_, C>, answer: &mut Answer, mask: u32) {
     let mut calls = 0u32;
     string.retain(|c| {
@@ -161,7 +165,7 @@ fn retain<C: FaultUnit>(string: &mut Text<'_, C>, answer: &mut Answer, mask: u32
     answer.number(Some(calls));
 }
 
-// Keeps the characters at which a bit is a `1`, one bit for each call.
+// Retains the characters whose call has the bit `1`.
 fn retain_by_call<C: FaultUnit>(string: &mut Text<'_, C>, answer: &mut Answer, bits: &[u8]) {
     let mut calls = 0usize;
     string.retain(|_c| {
@@ -186,7 +190,7 @@ fn extend<C: FaultUnit>(
     Ok(())
 }
 
-// Adds a text at the end, by its characters.
+// Appends a text, by its characters.
 fn push_str<C: FaultUnit + FromHex>(
     alloc: Global,
     string: &mut Text<'_, C>,
@@ -198,7 +202,7 @@ fn push_str<C: FaultUnit + FromHex>(
     Ok(())
 }
 
-// Adds a text at the end, by its units.
+// Appends a text, by its units.
 fn push_view<C: FaultUnit + FromHex>(
     alloc: Global,
     string: &mut Text<'_, C>,
@@ -209,7 +213,7 @@ fn push_view<C: FaultUnit + FromHex>(
     Ok(())
 }
 
-// Puts a character (`i`) or a text in before a place, and adds what is answered.
+// Inserts a character (`i`) or a text at an offset, and adds the answer.
 fn put_in<C: FaultUnit + FromHex>(
     alloc: Global,
     string: &mut Text<'_, C>,
@@ -225,7 +229,7 @@ fn put_in<C: FaultUnit + FromHex>(
     insert_text(alloc, string, answer, at, more)
 }
 
-// Takes away the character at a place (`r`) or all text from there on, and adds what is answered.
+// Removes the character at an offset (`r`) or all text from there on, and adds the answer.
 fn cut<C: FaultUnit>(
     string: &mut Text<'_, C>,
     answer: &mut Answer,
@@ -240,7 +244,7 @@ fn cut<C: FaultUnit>(
     Ok(())
 }
 
-// Makes a call at a range, and adds what it answers.
+// Makes a call at a range, and adds what it returns.
 fn call_in<C: FaultUnit + FromHex>(
     alloc: Global,
     string: &mut Text<'_, C>,
@@ -262,7 +266,7 @@ fn call_in<C: FaultUnit + FromHex>(
     )
 }
 
-// Makes a call, and adds what it answers.
+// Makes a call, and adds what it returns.
 fn call<'a, C: ToldUnit>(
     memory: Memory<'a>,
     string: &mut Text<'a, C>,
@@ -289,7 +293,7 @@ fn call<'a, C: ToldUnit>(
     Ok(())
 }
 
-// Whether a call whose request failed left what its contract says.
+// Returns whether a call whose request failed left the string as its contract says.
 fn is_kept<C: ToldUnit>(
     alloc: Global,
     call: &str,
@@ -303,7 +307,7 @@ fn is_kept<C: ToldUnit>(
     }
 }
 
-// Makes a call of a script, and adds what it answers. A text that would be too long is a `-`, with no request.
+// Makes a call of a script, and adds what it returns. A text that would be too long is a `-`, with no request.
 fn step<'a, C: ToldUnit>(
     memory: Memory<'a>,
     string: &mut Text<'a, C>,
@@ -328,7 +332,8 @@ fn step<'a, C: ToldUnit>(
     }
 }
 
-// What the calls after the first answer and leave, where there are any, and what each requests, where that is asked.
+// Answers what the calls after the first return and leave, if there are any, and how many requests each makes, if the
+// question asks for that.
 fn edited<'a, C: ToldUnit>(
     memory: Memory<'a>,
     mut string: Text<'a, C>,
@@ -353,7 +358,7 @@ fn edited<'a, C: ToldUnit>(
     answer.finish()
 }
 
-// What is answered about units that are not well formed.
+// Answers with the fault of ill-formed units.
 fn refused<'a, C: ToldUnit>(
     alloc: Global,
     error: UtfError<C, &'a Heap>,
@@ -365,7 +370,7 @@ fn refused<'a, C: ToldUnit>(
     answer.finish()
 }
 
-// The string of a vector, of a string of any units or of a C string.
+// Makes the string of a vector, of a string of any units or of a C string.
 fn of_vec<'a, C: ToldUnit>(
     kind: &str,
     units: Vec<C, &'a Heap>,
@@ -381,7 +386,7 @@ fn of_vec<'a, C: ToldUnit>(
     }
 }
 
-/// What the calls of a script answer, and the units that each leaves.
+/// Answers what the calls of a script return, and the units that each leaves.
 pub fn script<C: ToldUnit>(
     memory: Memory<'_>,
     list: &str,

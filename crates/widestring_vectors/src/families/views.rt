@@ -1,13 +1,15 @@
-//! Views of units (`u`), of the text of the units (`t`) and of the C string of the units (`c`), and what they are cut into. A question is the
-//! letter of the view, a word for the call, and its arguments, with a space between two.
+//! Views of units (`u`), of the text of the units (`t`) and of the C string of the units (`c`), and their subslices. A
+//! question is the letter of the view, a word for the call, and its arguments, separated by spaces.
 //!
-//! - `whole` is the length, whether it is empty, and the units; of a C string also the units with the NUL.
-//! - `part` and a range is what `get`, `slice` and `get_unchecked` have there, or a `-`, and `split` and an offset both halves.
-//! - `made` of text has the text that is made of a view and of a C string, checked and not checked, or the first fault and a `-`, as no vector is handed back; of a C string what is
-//!   made of its units unchecked, and a copy of the view.
+//! - `whole` is the length, whether it is empty, and the units; for a C string also the units with the NUL.
+//! - `part` and a range is what `get`, `slice` and `get_unchecked` return for it, or a `-`, and `split` and an offset
+//!   both halves.
+//! - `made` for text is the text that is made of a view and of a C string, checked and not checked, or the first fault
+//!   and a `-`, as the error returns no vector; for a C string it is what is made of its units unchecked, and a copy of
+//!   the view.
 //! - `empty` is the length of the empty view, and `nul` the NUL.
-//! - Of text `count` is its number of characters, `offset` and an index the offset of a character, `boundary` and an offset whether it is one, and
-//!   `at` and an index a character.
+//! - For text, `count` is its number of characters, `offset` and an index the offset of a character, `boundary` and an
+//!   offset whether it is a boundary, and `at` and an index a character.
 use crate::families::width::Width;
 use crate::parse::{self, Memory, NoAnswer};
 use crate::show::Answer;
@@ -19,7 +21,7 @@ use widestring::utfstr::UtfStr;
 
 type Range = (Bound<usize>, Bound<usize>);
 
-// What the three calls for a part have of a view.
+// Adds what the three calls for a subslice of a view return.
 macro_rules! part_of {
     ($answer:expr, $view:expr, $range:expr) => {{
         let range = $range;
@@ -36,7 +38,7 @@ macro_rules! part_of {
     }};
 }
 
-// Both halves of a view.
+// Adds both halves of a view.
 macro_rules! halves {
     ($answer:expr, $halves:expr) => {{
         let (front, back) = $halves;
@@ -83,7 +85,8 @@ fn made<C: Width>(answer: &mut Answer, made: Result<UtfStr<'_, C>, UtfError<C>>)
     }
 }
 
-// The text of the units before a NUL at the end, checked and not checked; nothing of units that are no C string.
+// Adds the text of the units before a NUL at the end, checked and not checked, and nothing for units that are not a C
+// string.
 fn made_of_contents<C: Width>(answer: &mut Answer, units: &[C]) {
     let Ok(view) = UCStr::from_slice(units) else {
         return;
@@ -184,7 +187,7 @@ fn of_text<C: Width>(
     Ok(())
 }
 
-// What is answered about the text of units, or about units that are not well formed.
+// Answers a question about the text of units, also if they are ill-formed.
 fn in_text<C: Width>(
     answer: &mut Answer,
     units: &[C],
@@ -201,7 +204,7 @@ fn in_text<C: Width>(
     Ok(())
 }
 
-// What is answered about the C string of units.
+// Answers a question about the C string of units.
 fn in_contents<C: Width>(
     answer: &mut Answer,
     units: &[C],
@@ -214,7 +217,7 @@ fn in_contents<C: Width>(
     }
 }
 
-/// What is answered about a view.
+/// Answers a question about a view.
 pub fn view<C: Width>(memory: Memory<'_>, list: &str, question: &str) -> Result<String, NoAnswer> {
     let (kind, rest) = parse::word(question);
     let (word, more) = parse::word(rest);

@@ -1,11 +1,12 @@
-//! What the iterators of a view answer to steps: `F` and `B` are calls from the front and from the back, and at a `C` a copy of the iterator
-//! goes on. A question is a word for the iterator, a space and its steps.
+//! What the iterators of a view return for steps: `F` and `B` are calls from the front and from the back, and at a `C`
+//! a copy of the iterator continues. A question is a word for the iterator, a space and its steps.
 //!
-//! `chars`, `lossy`, `each`, `run` and `skip` are the characters of the units, strictly, lossily and lossily under a policy; `indices` and
-//! `lossy_indices` have each character's index, with the offset that is told behind each answer. A `c_` before these words asks the C string of the
-//! units. Of the units' text there are `t_chars`, `t_indices`, `t_units`, which are its units, and `utf8` and `other`, its encoders to UTF-8 and to
-//! the other width. The second part of the answer has the bounds that the iterator tells in the end. `lines` asks for the bounds of the lines, and `lengths` how many items are left in each
-//! iterator that tells it, and again after a call from the back.
+//! `chars`, `lossy`, `each`, `run` and `skip` are the characters of the units, strictly, lossily and lossily under a
+//! policy; `indices` and `lossy_indices` have each character's index, with the offset that the iterator reports after
+//! each item. A `c_` before these words asks the C string of the units. For the units' text there are `t_chars`,
+//! `t_indices`, `t_units`, which are its units, and `utf8` and `other`, its encoders to UTF-8 and to the other width.
+//! The second part of the answer has the bounds that the iterator returns in the end. `lines` asks for the bounds of
+//! the lines, and `lengths` for the length of each iterator that has one, at first and after a call from the back.
 use crate::families::width::Width;
 use crate::parse::{self, Memory, NoAnswer};
 use crate::show::{Answer, ToldUnit};
@@ -16,7 +17,7 @@ use widestring::ustr::{CharIndices, CharIndicesLossy, Chars, CharsLossy, CharsLo
 use widestring::utfstr::UtfStr;
 use widestring::{Policy, U32Str, Utf16Str, Utf32Str};
 
-// Takes an iterator through steps, shows each item, and then the bounds.
+// Makes steps with an iterator, adds each item, and then the bounds.
 macro_rules! walked {
     ($alloc:expr, $steps:expr, $iterator:ident = $start:expr, |$answer:ident, $item:ident| $show:expr) => {{
         let mut $iterator = $start;
@@ -36,7 +37,7 @@ macro_rules! walked {
     }};
 }
 
-// The same of an encoder, which has no copy and may have a front alone.
+// Makes steps with an encoder, which has no copy and only calls from the front, adds each item, and then the bounds.
 macro_rules! encoded {
     ($alloc:expr, $steps:expr, $encoder:expr, $number:ident => $shown:expr) => {{
         let mut encoder = $encoder;
@@ -144,7 +145,7 @@ fn text_indices<C: ToldUnit>(
     )
 }
 
-/// The units of a text.
+/// Answers with the units of a text.
 pub fn code_units(
     alloc: Global,
     text: Utf16Str<'_>,
@@ -166,12 +167,12 @@ fn utf8<C: ToldUnit>(
     encoded!(alloc, steps, text.encode_utf8(), byte => u32::from(byte))
 }
 
-/// The units of a text in UTF-16.
+/// Answers with the units of a text in UTF-16.
 pub fn utf16(alloc: Global, text: Utf32Str<'_>, steps: &[Option<End>]) -> Result<String, NoAnswer> {
     encoded!(alloc, steps, text.encode_utf16(), unit => u32::from(unit))
 }
 
-/// The units of a text in UTF-32, from both ends.
+/// Answers with the units of a text in UTF-32, from both ends.
 pub fn utf32(alloc: Global, text: Utf16Str<'_>, steps: &[Option<End>]) -> Result<String, NoAnswer> {
     let mut encoder = text.encode_utf32();
     let mut answer = Answer::new(alloc);
@@ -186,7 +187,7 @@ pub fn utf32(alloc: Global, text: Utf16Str<'_>, steps: &[Option<End>]) -> Result
     answer.finish()
 }
 
-// How many items are left in an iterator, and again after a call from the back.
+// Adds the length of an iterator, at first and after a call from the back.
 macro_rules! lengths_of {
     ($answer:expr, $iterator:expr) => {
         let mut iterator = $iterator;
@@ -196,7 +197,7 @@ macro_rules! lengths_of {
     };
 }
 
-/// The lengths of the iterator over 16-bit units that tells it.
+/// Adds the lengths of the iterator over 16-bit units that has one.
 pub fn lengths16(answer: &mut Answer, units: &[u16]) -> Result<(), NoAnswer> {
     match Utf16Str::from_slice(units) {
         Ok(text) => {
@@ -207,7 +208,7 @@ pub fn lengths16(answer: &mut Answer, units: &[u16]) -> Result<(), NoAnswer> {
     }
 }
 
-/// The lengths of the iterators over 32-bit units and over their text.
+/// Adds the lengths of the iterators over 32-bit units and over their text.
 pub fn lengths32(answer: &mut Answer, units: &[u32]) -> Result<(), NoAnswer> {
     let view = U32Str::from_slice(units);
     lengths_of!(answer, view.chars());
@@ -225,7 +226,7 @@ pub fn lengths32(answer: &mut Answer, units: &[u32]) -> Result<(), NoAnswer> {
     Ok(())
 }
 
-// The bounds that the lines of units tell, alone and with their offsets.
+// Answers with the bounds of the lines of units, alone and with their offsets.
 fn line_bounds<C: ToldUnit>(alloc: Global, view: UStr<'_, C>) -> Result<String, NoAnswer> {
     let mut answer = Answer::new(alloc);
     answer.bounds(view.lines_lossy().size_hint());
@@ -286,7 +287,7 @@ fn of_text<C: Width>(
     }
 }
 
-/// What an iterator of a view answers.
+/// Answers what an iterator of a view returns.
 pub fn walk<C: Width>(memory: Memory<'_>, list: &str, question: &str) -> Result<String, NoAnswer> {
     let alloc = memory.alloc;
     let (word, steps) = parse::word(question);

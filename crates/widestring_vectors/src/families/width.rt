@@ -1,7 +1,7 @@
-//! What the library has under another name, or at one width only, for units of 16 bits and of 32.
+//! What the library has under different names for units of 16 bits and of 32 bits, or at one width only.
 //!
-//! The calls take units and not views of them: the bound of a view is the trait `Unit`, and an impl for one width whose signatures
-//! name such a view would have to be proved by hand.
+//! The functions take units and not views of them: the bound of a view is the trait `Unit`, and an impl for one width
+//! whose signatures name a view would need a manual proof.
 use crate::families::{prints, walks};
 use crate::parse::{FromHex, NoAnswer};
 use crate::show::{Answer, ToldUnit};
@@ -11,7 +11,7 @@ use widestring::iter::End;
 use widestring::utfstr::UtfStr;
 use widestring::{U16CStr, U32CStr, Utf16Str, Utf16String, Utf32Str, Utf32String};
 
-/// The text of units.
+/// Returns the text of units.
 pub fn as_text<C: ToldUnit>(units: &[C]) -> Result<UtfStr<'_, C>, NoAnswer> {
     match UtfStr::from_slice(units) {
         Ok(text) => Ok(text),
@@ -21,32 +21,32 @@ pub fn as_text<C: ToldUnit>(units: &[C]) -> Result<UtfStr<'_, C>, NoAnswer> {
 
 /// A width of units.
 pub trait Width: ToldUnit + FromHex + Ord + Hash + 'static {
-    /// Adds the units of the C string that is empty, with its NUL.
+    /// Adds the units of the empty C string, with its NUL.
     fn show_no_contents(answer: &mut Answer);
 
-    /// Whether the text of units is one of the other width, each asked about the other.
+    /// Returns whether the text of units is equal to one of the other width, asked from both sides.
     fn eq_other(units: &[Self], other: &str, alloc: Global) -> Result<[bool; 2], NoAnswer>;
 
-    /// Whether the text of units is these characters, at the width that has the call.
+    /// Returns whether the text of units is these characters, at the width that has the call.
     fn eq_chars(units: &[Self], chars: &[char]) -> Result<bool, NoAnswer>;
 
-    /// The character with this number in the text of units, at the width that has the call.
+    /// Returns the character with this index in the text of units, at the width that has the call.
     fn char_at(units: &[Self], index: usize) -> Result<char, NoAnswer>;
 
-    /// What the units of a text answer, at the width that has the call.
+    /// Answers with the units of a text, at the width that has the call.
     fn code_units(alloc: Global, units: &[Self], steps: &[Option<End>]) -> Result<String, NoAnswer>;
 
-    /// What the encoder of the text of units to the other width answers.
+    /// Answers with the units of the encoder to the other width.
     fn encode_other(
         alloc: Global,
         units: &[Self],
         steps: &[Option<End>],
     ) -> Result<String, NoAnswer>;
 
-    /// Adds the text of the error of units that are no text, and of its cause.
+    /// Adds the text of the error of ill-formed units, and of its cause.
     fn print_fault(alloc: Global, answer: &mut Answer, units: &[Self]) -> Result<(), NoAnswer>;
 
-    /// How many items are left in the iterators that tell it, at first and after a call from the back.
+    /// Adds the lengths of the iterators that have one, at first and after a call from the back.
     fn lengths(answer: &mut Answer, units: &[Self]) -> Result<(), NoAnswer>;
 }
 
