@@ -1,4 +1,4 @@
--- How a walk calls `Ration::refuses`: what it hands over, and what it has after. Assumes `Logic`.
+-- How a proof calls `Ration::refuses`: what it passes, and what it has afterwards. Assumes `Logic`.
 use Rattle.std.proofs.Common.{◌≡◌, ℕ, Bool, List, [], ◌∷◌, refl, ap}
 use seplogic.Ra.Ura.{Ura}
 use mir.Val.{Val, vbool, vptr}

@@ -1,4 +1,4 @@
-//! What the tests share: an allocator that fails when it is told to and devices that are slow or fail.
+//! Test support: an allocator that fails on request, and devices that are slow or fail.
 #![tactic(auto)]
 
 mod devices;
@@ -11,5 +11,5 @@ pub use sink::SlowSink;
 pub use source::SlowSource;
 use std::alloc::Global;
 
-/// The heap, which grants as many requests as a test says and then fails.
+/// The heap, which grants as many requests as a test allows and then fails.
 pub type Heap = Limited<Global>;

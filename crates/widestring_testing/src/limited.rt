@@ -1,8 +1,8 @@
-//! An allocator that runs out of memory when it is told to, for the tests of refusals.
+//! An allocator that runs out of memory on request, for tests of allocation failures.
 use std::alloc::{AllocError, Allocator};
 use std::cell::Cell;
 
-// How many more requests are granted, and how many have been refused.
+// How many more requests are granted, and how many have failed.
 #[derive(Drop)]
 struct Ration {
     left: Cell<u64>,
@@ -10,7 +10,7 @@ struct Ration {
 }
 
 impl Ration {
-    // Counts a request, and says whether it is refused.
+    // Counts a request, and returns whether it fails.
     fn refuses(&self) -> bool {
         let left = self.left.get();
         if left == 0 {
@@ -22,7 +22,7 @@ impl Ration {
     }
 }
 
-/// Memory that another allocator gives, as many times as was set, and that is refused from then on.
+/// An allocator that passes a limited number of requests on to another one. All further requests fail.
 ///
 /// Strings and vectors borrow it, as `&Limited`, so that their clones count the same requests.
 pub struct Limited<B: Allocator> {
@@ -31,7 +31,7 @@ pub struct Limited<B: Allocator> {
 }
 
 impl<B: Allocator> Limited<B> {
-    /// Refuses each request until [`Limited::set`] is called.
+    /// Creates an allocator that fails each request until [`Limited::set`] is called.
     pub fn new(inner: B) -> Self {
         Limited {
             inner,
@@ -42,28 +42,28 @@ impl<B: Allocator> Limited<B> {
         }
     }
 
-    /// Grants this many more requests, and forgets what was refused before.
+    /// Grants this many more requests, and resets the number of failed ones.
     pub fn set(&self, left: u64) {
         self.ration.left.set(left);
         self.ration.refused.set(0);
     }
 
-    /// How many more requests are granted.
+    /// Returns how many more requests are granted.
     pub fn left(&self) -> u64 {
         self.ration.left.get()
     }
 
-    /// How many requests were refused since the last [`Limited::set`].
+    /// Returns how many requests failed since the last [`Limited::set`].
     pub fn refused(&self) -> u64 {
         self.ration.refused.get()
     }
 
-    /// Whether all requests were made that were granted, this many and at least one, and none was refused.
+    /// Returns whether all granted requests were made, this many and at least one, and none failed.
     pub fn granted_all(&self, granted: u64) -> bool {
         granted > 0 && self.left() == 0 && self.refused() == 0
     }
 
-    /// Whether all requests were made that were granted, and one more, which was refused.
+    /// Returns whether all granted requests were made, and one more, which failed.
     pub fn refused_one(&self) -> bool {
         self.left() == 0 && self.refused() == 1
     }

@@ -6,18 +6,18 @@ use std::alloc::Global;
 use std::io;
 use wide_bytes::ByteSink;
 
-/// A sink over memory that takes at most `step` bytes a call, or pseudo-random numbers of them where `step` is 0.
+/// A sink over memory that takes at most `step` bytes in a call, or a pseudo-random number of them if `step` is 0.
 ///
-/// Once it has as many bytes as there is room for, it fails at each call: by an error, or by taking none.
+/// Once it has as many bytes as `room` allows, it fails at each call: by an error, or by taking none.
 #[derive(Drop)]
 pub struct SlowSink {
     /// The bytes that it took.
     pub bytes: Vec<u8>,
     /// How many bytes a call takes at most.
     pub step: usize,
-    /// How many bytes it takes before it fails; without a limit where there is none.
+    /// How many bytes it takes before it fails. `None` means no limit.
     pub room: Option<usize>,
-    /// Whether it fails by taking none.
+    /// Whether it fails by taking no bytes.
     pub takes_none: bool,
     /// How many calls there were.
     pub calls: usize,
@@ -28,7 +28,7 @@ pub struct SlowSink {
 }
 
 impl SlowSink {
-    /// A sink that has taken nothing.
+    /// Creates a sink that has taken nothing.
     pub fn new(alloc: Global, step: usize, room: Option<usize>, takes_none: bool) -> SlowSink
         ensures failed { result.failed ≡ false }
     {
@@ -43,7 +43,7 @@ impl SlowSink {
         }
     }
 
-    // How many bytes there is room for.
+    // Returns how many more bytes it takes.
     fn room_left(&self) -> usize {
         match self.room {
             Some(room) => room.saturating_sub(self.bytes.len()),

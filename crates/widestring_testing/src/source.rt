@@ -5,18 +5,18 @@ use crate::devices::{next_seed, step_by};
 use std::io;
 use wide_bytes::ByteSource;
 
-/// A source over memory that gives at most `step` bytes a call, or pseudo-random numbers of them where `step` is 0.
+/// A source over memory that gives at most `step` bytes in a call, or a pseudo-random number of them if `step` is 0.
 ///
-/// It fails at the call numbered `fails_at`, from 1 on, and where `ends_in_fault` at the call at which its bytes are used up.
+/// It fails at call number `fails_at`, from 1. With `ends_in_fault` it also fails at the call after its last byte.
 #[derive(Drop)]
 pub struct SlowSource<'a> {
     /// The bytes still to come.
     pub bytes: &'a [u8],
     /// How many bytes a call gives at most.
     pub step: usize,
-    /// The number of the call that fails, from 1 on; none at 0.
+    /// The number of the call that fails, from 1, or 0 for none.
     pub fails_at: usize,
-    /// Whether it fails where it would end.
+    /// Whether it fails at its end.
     pub ends_in_fault: bool,
     /// How many calls there were.
     pub calls: usize,
@@ -24,12 +24,12 @@ pub struct SlowSource<'a> {
     pub seed: u32,
     /// Whether a call failed.
     pub failed: bool,
-    /// Whether the end was answered.
+    /// Whether it has reported its end.
     pub ended: bool,
 }
 
 impl<'a> SlowSource<'a> {
-    /// A source of these bytes that doesn't fail.
+    /// Creates a source of these bytes that does not fail.
     pub fn new(bytes: &'a [u8], step: usize) -> SlowSource<'a>
         ensures failed { result.failed ≡ false }
         ensures ended { result.ended ≡ false }
@@ -46,7 +46,7 @@ impl<'a> SlowSource<'a> {
         }
     }
 
-    /// The same, which fails at the call of this number.
+    /// Creates a source of these bytes that fails at the call with this number, from 1.
     pub fn failing_at(bytes: &'a [u8], step: usize, fails_at: usize) -> SlowSource<'a>
         ensures failed { result.failed ≡ false }
         ensures ended { result.ended ≡ false }
@@ -56,7 +56,7 @@ impl<'a> SlowSource<'a> {
         source
     }
 
-    /// The same, which fails behind these bytes.
+    /// Creates a source of these bytes that fails after them.
     pub fn failing_behind(bytes: &'a [u8], step: usize) -> SlowSource<'a>
         ensures failed { result.failed ≡ false }
         ensures ended { result.ended ≡ false }

@@ -1,4 +1,4 @@
--- A request that the ration refuses is answered at once; another is the inner allocator's to answer. Assumes `Logic`.
+-- A request over the limit fails at once; the inner allocator returns the result of any other. Assumes `Logic`.
 use Rattle.std.proofs.Common.{◌≡◌, ℕ, Bool, true, false, ◌+◌, ◌^◌, ◌<◌, [], ◌∷◌, Ok, Err, refl, w64, Bor}
 use Rattle.std.proofs.raw_atomic.Walks.{proved}
 use Rattle.std.proofs.alloc.Calls.{Al, α, token, seen, Answer, answer_val, Answer-typed, Answer-Ok, Answer-err, takes_key, Takes, at_takes, Answered, Takes-goes, Takes-gives, answers}
@@ -72,7 +72,7 @@ module _ (B : Al) {M : Type 1} {𝓤 : Ura M} (𝓛 : Logic 𝓤) (𝓜 : Model 
     abbrev Post : Val → SProp 𝓤
     Post = (walk_of 𝓛 (shape B) (left B) said).post at_entry
 
-    -- Each of the three ways out: the tokens, the answer, and the block where there is one.
+    -- Each of the three exits: the tokens, the result, and the block if there is one.
     out : (v : Val) (res : Answer.Denot)
         → ent 𝓤 (⋆ 𝓛 (‵ (flft κ q) ∷ (‵ (flft ρ s) ⊛ ‵ ftrue) ∷ ‵ (Answer.own_val res (v ∷ [])) ∷ ‵ (block_if_ok (token B r.now.inner) τ res) ∷ [])) (Post v)
     out v res =

@@ -1,4 +1,4 @@
--- The block goes back to the inner allocator, which it came from. At null there is none. Assumes `Logic`.
+-- The block returns to the inner allocator, which it came from. For null there is none. Assumes `Logic`.
 use Rattle.std.proofs.Common.{◌≡◌, ℕ, ◌+◌, ◌^◌, ◌<◌, List, [], ◌∷◌, refl, sym, subst, w64, Bor}
 use Rattle.std.proofs.raw_atomic.Walks.{proved}
 use Rattle.std.proofs.alloc.Calls.{Al, α, token, seen, gives_key, Gives, at_gives, Gives-goes, Gives-Gives}
@@ -95,7 +95,7 @@ module _ (B : Al) {M : Type 1} {𝓤 : Ura M} (𝓛 : Logic 𝓤) (𝓜 : Model 
         move ! (1 ∷ []) $ split3 ! $ heard ! _ (λ lives. heard ! _ (λ fits. fsplit ! $
         -- [the block; the right to free it; the tokens and what the parameters own]
         move ! (2 ∷ []) $ split ! $ split ! $ move ! (2 ∷ []) $ fsplit ! $ fsplit ! $ move ! (1 ∷ []) $ unhide ! $ fsplit ! $ fsplit ! $ use1 𝓛 (‵ (seen B κ inner r.now.inner)) (id⊢ 𝓤 _) $
-        -- [what the inner call is handed; the other token]
+        -- [the arguments of the inner call; the other token]
         keep ! (0 ∷ 5 ∷ 8 ∷ 7 ∷ 6 ∷ []) $ join ! $ move ! (1 ∷ 0 ∷ []) $ join ! $ move ! (1 ∷ 0 ∷ []) $
         use2 𝓛 (raw ((Gives B 𝓛 𝓜.mem 𝓡.returns).pre asked)) (Gives-goes B 𝓛 𝓜.mem 𝓡.returns κ q inner r.now.inner (⊑_trans κ ρ B.row.lives longer lives) b o n a τ fits.0 fits.1 small small') $
         enter ! _ _ _ _ _ $ alloc_all ! (λ l. pass_all ! refl ((tt, tt), ((tt, tt), ((tt, record { fits = small }), ((tt, record { fits = small' }), tt)))) $
