@@ -1,4 +1,4 @@
--- What the source that is written by hand has left.
+-- The units that the manually written source has left.
 use Rattle.std.specs.Prelude.{ℕ, List}
 use Rattle.widestring_tests.specs.declared.callers.Front.{Front}
 

@@ -1,4 +1,4 @@
-//! The callers, at concrete units.
+//! Tests of the callers at concrete units.
 use crate::all_hold::all_hold;
 use crate::callers::{
     Front, all_of, all_of_front, all_of_source, all_of32, first_of, last_lossy_of32, last_of,

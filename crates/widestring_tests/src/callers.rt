@@ -16,7 +16,12 @@ use widestring::bytes::{FromRead, FromWrite, Mode, transcode};
 use widestring::error::{DecodeUtf16Error, DecodeUtf32Error, TranscodeError};
 use widestring::{decode_utf16, decode_utf16_lossy, decode_utf32, decode_utf32_lossy};
 
-/// The UTF-8 text of UTF-16 bytes, over memory: what was written is the text that the definition gives.
+/// Converts UTF-16 in bytes to UTF-8, from memory to memory. The contract says that the result is the text of the
+/// definition.
+///
+/// # Errors
+///
+/// The error of `transcode`: the units are ill-formed, the number of bytes is odd, or the result can't be allocated.
 pub fn text_of(alloc: Global, bytes: &[u8]) -> Result<Vec<u8>, TranscodeError>
     ensures { IfOk result (λ text. transcoded Strict bytes.now ≡ record { text = text.items; ending = Clean }) }
 {
@@ -26,21 +31,25 @@ pub fn text_of(alloc: Global, bytes: &[u8]) -> Result<Vec<u8>, TranscodeError>
     Ok(sink.into_inner())
 }
 
-/// The first item of a vector of units, which is used up.
+/// Returns the first item of a vector of units, and consumes the vector.
 pub fn first_of(units: Vec<u16>) -> Option<Result<char, DecodeUtf16Error>>
     ensures { MatchOption result (items Utf16 units.items ≡ []) (λ r. (more : List Item) × (items Utf16 units.items ≡ told_item r ∷ more)) }
 {
     decode_utf16(units).next()
 }
 
-/// The last one.
+/// Returns the last item of a vector of units, and consumes the vector.
 pub fn last_of(units: Vec<u16>) -> Option<Result<char, DecodeUtf16Error>>
     ensures { MatchOption result (items Utf16 units.items ≡ []) (λ r. (more : List Item) × (items Utf16 units.items ≡ more ++ told_item r ∷ [])) }
 {
     decode_utf16(units).next_back()
 }
 
-/// All items of a slice of units.
+/// Returns all items of a slice of units.
+///
+/// # Errors
+///
+/// [`AllocError`] if an allocation fails.
 pub fn all_of(
     alloc: Global,
     units: &[u16],
@@ -50,7 +59,15 @@ pub fn all_of(
     decode_utf16(units.iter().copied()).collect(alloc)
 }
 
-/// All items of what any source gives, which a function of the source tells.
+/// Returns all items of what any source yields. A function of the source says what it yields.
+///
+/// # Requires
+///
+/// The source can be called, and is finite.
+///
+/// # Errors
+///
+/// [`AllocError`] if an allocation fails.
 pub fn all_of_source<I: Iterator<Item = u16>>(
     alloc: Global,
     units: I,
@@ -62,7 +79,7 @@ pub fn all_of_source<I: Iterator<Item = u16>>(
     decode_utf16(units).collect(alloc)
 }
 
-/// The units of a slice, from the front: a source that is written by hand.
+/// The units of a slice, from the front: a manually written source.
 #[derive(Clone, Copy, Debug)]
 pub struct Front<'a> {
     /// The units that are left.
@@ -83,7 +100,11 @@ impl Iterator for Front<'_> {
     }
 }
 
-/// All items of the units that a source written by hand gives.
+/// Returns all items of the units that a manually written source yields.
+///
+/// # Errors
+///
+/// [`AllocError`] if an allocation fails.
 pub fn all_of_front(
     alloc: Global,
     units: Front<'_>,
@@ -93,7 +114,11 @@ pub fn all_of_front(
     decode_utf16(units).collect(alloc)
 }
 
-/// All items of a slice of 32-bit units.
+/// Returns all items of a slice of 32-bit units.
+///
+/// # Errors
+///
+/// [`AllocError`] if an allocation fails.
 pub fn all_of32(
     alloc: Global,
     units: &[u32],
@@ -103,21 +128,33 @@ pub fn all_of32(
     decode_utf32(units.iter().copied()).collect(alloc)
 }
 
-/// The lossy text of a vector of units, which is used up.
+/// Returns the lossy text of a vector of units, and consumes the vector.
+///
+/// # Errors
+///
+/// [`AllocError`] if an allocation fails.
 pub fn lossy_of16(alloc: Global, units: Vec<u16>) -> Result<Vec<char>, AllocError>
     ensures { IfOk result (λ v. v.items ≡ lossy (items Utf16 units.items)) }
 {
     decode_utf16_lossy(units).collect(alloc)
 }
 
-/// The last character of the lossy text of a slice of 32-bit units.
+/// Returns the last character of the lossy text of a slice of 32-bit units.
 pub fn last_lossy_of32(units: &[u32]) -> Option<char>
     ensures { MatchOption result (lossy (items Utf32 units.now) ≡ []) (λ c. (more : List ℕ) × (lossy (items Utf32 units.now) ≡ more ++ c ∷ [])) }
 {
     decode_utf32_lossy(units.iter().copied()).next_back()
 }
 
-/// The lossy text of what any source gives.
+/// Returns the lossy text of what any source yields.
+///
+/// # Requires
+///
+/// The source can be called, and is finite.
+///
+/// # Errors
+///
+/// [`AllocError`] if an allocation fails.
 pub fn lossy_of<I: Iterator<Item = u16>>(alloc: Global, units: I) -> Result<Vec<char>, AllocError>
     requires can { I.can_next units }
     requires ends { IsFinite (I.remaining units) }

@@ -1,9 +1,9 @@
-//! The devices that wrap readers and writers.
+//! Tests of the devices that wrap readers and writers.
 use crate::all_hold::all_hold;
 use std::io::{self, Read, Write};
 use widestring::bytes::{ByteSink, ByteSource, FromRead, FromWrite, put_all};
 
-// Whether a device moved this many bytes.
+// Returns whether a device moved this many bytes.
 fn is_moved(answer: io::Result<usize>, count: usize) -> bool {
     match answer {
         Ok(moved) => moved == count,
@@ -31,7 +31,7 @@ fn readers_and_writers(rt: HostRuntime) {
     all_hold(&rt, &cases);
 }
 
-// A reader and a writer that may fail at the first call and go on at the second, and count their calls and flushes.
+// A reader and a writer that may fail at the first call and succeed at the second, and count their calls and flushes.
 #[derive(Drop)]
 struct Counting {
     first: Option<io::ErrorKind>,
@@ -76,7 +76,7 @@ impl Write for Counting {
     }
 }
 
-// Whether a source and a sink fail at the first call, which is one of what they wrap.
+// Returns whether a source and a sink fail at the first call, and make exactly one call of what they wrap.
 fn fail_once(kind: io::ErrorKind) -> bool {
     let mut source = FromRead::new(Counting::new(Some(kind)));
     let mut sink = FromWrite::new(Counting::new(Some(kind)));

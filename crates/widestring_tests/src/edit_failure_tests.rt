@@ -1,11 +1,11 @@
-//! Edits of one string and of two, stopped where an allocation fails.
+//! Tests of edits of one string and of two that an allocation failure stops.
 use crate::edit_script_tests::{hold, hold_marked};
 use crate::plain::edit_list;
 use std::alloc::Global;
 use widestring::edit::{Edit, Marked16, Reply, Stopped, TextEdit, run, run_both};
 use widestring::{Utf16String, Utf32String};
 
-// Long enough for a mark.
+// Long enough for an entry of the offset index.
 const TEXT: &str =
     "a\u{1f600}b0123456789012345678901234567890123456789012345678901234567890123456789";
 
@@ -20,8 +20,9 @@ const EDITS: [Edit<'static>; 8] = [
     Edit::SplitOff(1),
 ];
 
-// The characters of the text after the first `done` edits, where the replies of two texts are those of the list. None where there is no memory
-// for the list: a run fails at one allocation, and that was not one of the edits.
+// Returns the characters of the text after the first `done` edits, and whether the replies of two texts are those of
+// the list. Returns `None` if the list's allocation fails: a run fails at one allocation, and that was not one of the
+// edits.
 fn plain(
     alloc: Global,
     done: usize,
@@ -37,7 +38,8 @@ fn plain(
     Some(((replies == wanted) & (same_replies == wanted), list))
 }
 
-// A string with kept marks of the text. A string that there is no memory for marks of is handed back as it was, or the test fails: then there is a false.
+// Returns a string of the text with an offset index. If the allocation of the index fails, the string must be returned
+// unchanged; the error is false if it was not.
 fn marked(alloc: Global) -> Result<Marked16, bool> {
     let Ok(string) = Utf16String::from_str(alloc, TEXT) else {
         return Err(true);
@@ -48,8 +50,8 @@ fn marked(alloc: Global) -> Result<Marked16, bool> {
     }
 }
 
-// A string with kept marks and one in UTF-32, edited in lockstep until an allocation stops them, hold what the plain list does.
-// Where there is no memory for the strings themselves, there are no edits.
+// Returns whether a string with an offset index and one in UTF-32, edited in lockstep until an allocation fails, hold
+// what the plain list does. If the strings themselves can't be allocated, there are no edits.
 fn stops_alike(alloc: Global) -> bool {
     let mut first = match marked(alloc) {
         Ok(marked) => marked,
@@ -77,8 +79,8 @@ fn stops_alike(alloc: Global) -> bool {
     }
 }
 
-// Edits one string until an allocation stops them, and makes as many edits of a string in UTF-32. Returns whether their replies are those of the
-// plain list, which comes with the other string; none where there is no memory for these.
+// Edits one string until an allocation fails, and makes as many edits of a string in UTF-32. Returns whether their
+// replies are those of the plain list, the list and the other string. Returns `None` if these can't be allocated.
 fn run_one<T: TextEdit>(alloc: Global, first: &mut T) -> Option<(bool, Vec<char>, Utf32String)> {
     let mut second = Utf32String::from_str(alloc, TEXT).ok()?;
     let (mut replies, mut same) = (Vec::new(alloc), Vec::new(alloc));
@@ -93,7 +95,7 @@ fn run_one<T: TextEdit>(alloc: Global, first: &mut T) -> Option<(bool, Vec<char>
     Some((well, list, second))
 }
 
-// A string without marks holds what the plain list does.
+// Returns whether a string without an offset index holds what the plain list does.
 fn stops(alloc: Global) -> bool {
     let Ok(mut first) = Utf16String::from_str(alloc, TEXT) else {
         return true;
@@ -104,7 +106,7 @@ fn stops(alloc: Global) -> bool {
     }
 }
 
-// The same of a string with kept marks alone, with its marks.
+// Returns whether a single string with an offset index holds what the plain list does, and has the right index.
 fn stops_marked(alloc: Global) -> bool {
     let mut first = match marked(alloc) {
         Ok(marked) => marked,
@@ -116,8 +118,8 @@ fn stops_marked(alloc: Global) -> bool {
     }
 }
 
-// Whether an edit that finds no memory leaves the text and the marks of a string as they were, and one that finds it replies as
-// it does of the plain list.
+// Returns whether an edit that fails to allocate leaves the text and the offset index unchanged, and one that succeeds
+// has the same reply as for the plain list.
 fn is_prepared(alloc: Global, edit: Edit<'_>) -> bool {
     let mut first = match marked(alloc) {
         Ok(marked) => marked,

@@ -1,4 +1,4 @@
-//! Scripts of edits made at random, of strings in UTF-16 and in UTF-32 and of a plain list of characters.
+//! Random scripts of edits, of strings in UTF-16 and in UTF-32 and of a plain list of characters.
 use crate::plain::edit_list;
 use crate::random::Random;
 use std::alloc::Global;
@@ -7,7 +7,7 @@ use widestring::error::FaultUnit;
 use widestring::utfstring::UtfString;
 use widestring::{Utf16String, Utf32String};
 
-// Whether units of UTF-16 are std's encoding of the characters.
+// Returns whether units of UTF-16 are std's encoding of the characters.
 fn is_utf16(list: &[char], units: &[u16]) -> bool {
     let mut rest = units;
     for c in list {
@@ -19,12 +19,12 @@ fn is_utf16(list: &[char], units: &[u16]) -> bool {
     rest.is_empty()
 }
 
-// Whether units of UTF-32 are the characters as std numbers them.
+// Returns whether units of UTF-32 are the characters' numbers in std.
 fn is_utf32(list: &[char], units: &[u32]) -> bool {
     units.len() == list.len() && list.iter().zip(units).all(|(c, unit)| *c as u32 == *unit)
 }
 
-// Whether the marks are those of each sixty-fourth character, by std's lengths.
+// Returns whether the entries of the offset index are the offsets of every sixty-fourth character, by std's lengths.
 fn are_marks(list: &[char], marks: &[usize]) -> bool {
     let mut units = 0usize;
     let mut rest = marks.iter();
@@ -37,7 +37,7 @@ fn are_marks(list: &[char], marks: &[usize]) -> bool {
     rest.next().is_none()
 }
 
-// Whether both strings hold the characters, and count them and their own units.
+// Returns whether both strings hold the characters, and report the right numbers of characters and units.
 pub fn hold(list: &[char], first: &Utf16String, second: &Utf32String) -> bool {
     is_utf16(list, first.as_slice())
         & is_utf32(list, second.as_slice())
@@ -47,7 +47,8 @@ pub fn hold(list: &[char], first: &Utf16String, second: &Utf32String) -> bool {
         & (second.unit_count() == second.len())
 }
 
-// The same of a string with kept marks, which find the end, the middle and no place past the end.
+// Returns whether both strings hold the characters. The first has an offset index, which must find the end, the middle
+// and nothing past the end.
 pub fn hold_marked(list: &[char], first: &Marked16, second: &Utf32String) -> bool {
     let units = first.as_utfstr();
     let mut well = is_utf16(list, units.as_slice()) & is_utf32(list, second.as_slice());
@@ -61,7 +62,8 @@ pub fn hold_marked(list: &[char], first: &Marked16, second: &Utf32String) -> boo
     well
 }
 
-// The reply to one edit of the list, where both strings give it and hold the same characters, one of them with kept marks.
+// Returns the reply to one edit of the list, if both strings reply the same and hold the same characters. One of them
+// has an offset index.
 fn step(
     alloc: Global,
     list: &mut Vec<char>,
@@ -101,7 +103,7 @@ struct Script {
     list: Vec<char>,
 }
 
-// The script of a text, where each edit does the same to the strings and to the list.
+// Makes a script for a text. Returns `None` if an edit has different effects on the strings and on the list.
 fn made(alloc: Global, random: &mut Random, text: &str) -> Option<Script> {
     let mut first = Marked16::new(alloc, Utf16String::from_str(alloc, text).ok()?).ok()?;
     let mut second = Utf32String::from_str(alloc, text).ok()?;
@@ -122,7 +124,7 @@ fn made(alloc: Global, random: &mut Random, text: &str) -> Option<Script> {
     })
 }
 
-// The string that one call makes of a text, where its replies are those of the script.
+// Makes all edits of a script in one call, and returns the string if the replies are those of the script.
 fn run_whole<C: FaultUnit>(alloc: Global, text: &str, script: &Script) -> Option<UtfString<C>> {
     let mut string = UtfString::<C>::from_str(alloc, text).ok()?;
     let mut replies = Vec::new(alloc);
@@ -134,7 +136,7 @@ fn run_whole<C: FaultUnit>(alloc: Global, text: &str, script: &Script) -> Option
     }
 }
 
-// Whether a script made at random does the same to the strings and to the list, edit by edit and in one call.
+// Returns whether a random script has the same effect on the strings and on the list, edit by edit and in one call.
 fn agrees(alloc: Global, seed: u64) -> bool {
     let mut random = Random::new(seed);
     let Ok(text) = random.text(alloc) else {

@@ -1,4 +1,4 @@
-//! What errors that no question makes hold and print.
+//! Tests of the contents and the text of errors that no test vector makes.
 use crate::all_hold::all_hold;
 use std::alloc::{AllocError, Global};
 use std::fmt::Display;
@@ -9,7 +9,7 @@ use widestring::error::{
     OutOfMemory, TranscodeError, UCStringError, Utf16Error, Utf32Error,
 };
 
-// Whether an error prints this text.
+// Returns whether an error prints this text.
 fn prints(alloc: Global, error: &impl Display, text: &str) -> bool {
     match error.to_string(alloc) {
         Ok(printed) => printed.as_str() == text,
@@ -17,7 +17,7 @@ fn prints(alloc: Global, error: &impl Display, text: &str) -> bool {
     }
 }
 
-// Whether these units are handed back.
+// Returns whether an error returned these units.
 fn are_back<C: PartialEq + Drop>(vec: Option<Vec<C>>, units: &[C]) -> bool {
     match vec {
         Some(vec) => vec.as_slice() == units,

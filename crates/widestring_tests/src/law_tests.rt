@@ -1,4 +1,4 @@
-//! The laws, which make the calls that they speak of.
+//! Tests of the laws, which make the calls that the laws are about.
 use crate::all_hold::all_hold;
 use std::cmp::Ordering;
 use std::hash::{DefaultHasher, Hash, Hasher};

@@ -1,8 +1,8 @@
-//! Callers of the library, and the tests that data can't say, which `widestring_vectors` has.
+//! Callers of the library, and tests that can't be written as test vectors, which are in `widestring_vectors`.
 //!
-//! The callers show what the contracts tell at concrete types; each is proved. The tests are of hostile sources, of sources that go on after their
-//! end, of devices, of errors and laws, of edits made at random and of edits that an allocation failure stops, of the code of README.md, and loops
-//! over texts that are compared with the standard library.
+//! The callers show what the contracts say at concrete types; each is proved. The tests are about sources that yield
+//! more after their end or report wrong bounds, about devices, errors and laws, random edits and edits that an
+//! allocation failure stops, and the code of README.md. Loops over texts compare results with the standard library.
 #![tactic(auto)]
 
 #[cfg(test)]

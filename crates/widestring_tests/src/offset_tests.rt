@@ -1,5 +1,5 @@
-//! Text of views that is read by blocks: each kind of character and of fault, at each offset of texts of each length, at both widths. What is wanted is
-//! made by the standard library.
+//! Tests of vectorized reads of views: each kind of character and of fault, at each offset of texts of each length, at
+//! both widths. The standard library makes the expected results.
 use std::alloc::{AllocError, Global};
 use std::char;
 use std::test::Fail;
@@ -11,10 +11,10 @@ use widestring::{Policy, U16Str, U32Str};
 
 // Units as the standard library reads them.
 trait ReadUnit: FaultUnit {
-    // The characters, and none for each fault.
+    // Returns the characters, and `None` for each fault.
     fn read(alloc: Global, units: &[Self]) -> Result<Vec<Option<char>>, AllocError>;
 
-    // The view's text, where it is well formed.
+    // Returns the view's text if it is well formed.
     fn to_text(alloc: Global, units: &[Self]) -> Option<String>;
 }
 
@@ -46,7 +46,8 @@ impl ReadUnit for u32 {
     }
 }
 
-// What is put at an offset, as far as it fits: a character of each length in UTF-8, and faults. Half a pair is a fault too.
+// What is put at an offset, cut off at the end of the text: a character of each length in UTF-8, and faults. Half a
+// pair is also a fault.
 static KINDS16: [&[u16]; 8] = [
     &[0x7a],
     &[0xdf],
@@ -75,13 +76,13 @@ struct Case<'a, C> {
     // The text of at least as many letters, and how many bytes each has.
     letters: &'a str,
     width: usize,
-    // All units, what stands at the offsets, and these.
+    // All units, the units that are put at the offsets, and the offsets.
     units: &'a [C],
     kind: &'a [C],
     offsets: &'a [usize],
 }
 
-// The text of characters and faults under a policy.
+// Returns the text of characters and faults under a policy.
 fn text_by(alloc: Global, chars: &[Option<char>], policy: Policy) -> Result<String, AllocError> {
     let mut text = String::new(alloc);
     let mut after_fault = false;
@@ -96,7 +97,7 @@ fn text_by(alloc: Global, chars: &[Option<char>], policy: Policy) -> Result<Stri
     Ok(text)
 }
 
-// Whether this text was made.
+// Returns whether this text was made.
 fn is_made<E: Drop>(made: Result<String, E>, text: &str) -> bool {
     match made {
         Ok(made) => made.as_str() == text,
@@ -105,7 +106,7 @@ fn is_made<E: Drop>(made: Result<String, E>, text: &str) -> bool {
 }
 
 impl<C: ReadUnit> Case<'_, C> {
-    // The text of so many letters.
+    // Returns the text of this many letters.
     fn letters(&self, count: usize) -> &str {
         let letters = self.letters.get(..count.saturating_mul(self.width));
         match letters {
@@ -114,7 +115,7 @@ impl<C: ReadUnit> Case<'_, C> {
         }
     }
 
-    // The whole text, with this one at each offset.
+    // Returns the whole text, with `middle` at each offset.
     fn text(&self, alloc: Global, middle: &str) -> Result<String, AllocError> {
         let mut text = String::new(alloc);
         let mut end = 0usize;
@@ -127,7 +128,7 @@ impl<C: ReadUnit> Case<'_, C> {
         Ok(text)
     }
 
-    // Whether the lossy text is this one under a policy.
+    // Returns whether the lossy text is this one under a policy.
     fn is_lossy(&self, alloc: Global, policy: Policy, text: &str) -> bool {
         let view = UStr::from_slice(self.units);
         let mut well = is_made(view.to_string_lossy_with(alloc, policy), text);
@@ -140,7 +141,7 @@ impl<C: ReadUnit> Case<'_, C> {
         }
     }
 
-    // The offset of a character, where what stands at each offset is one character or none.
+    // Returns the offset of a character, if what is at each offset is one character or nothing.
     fn offset_of(&self, index: usize) -> usize {
         let mut offset = index;
         for start in self.offsets {
@@ -151,7 +152,7 @@ impl<C: ReadUnit> Case<'_, C> {
         offset
     }
 
-    // Whether each character begins where it should, and the end too, and none behind.
+    // Returns whether each character begins at the right offset, the end too, and no character after it.
     fn has_offsets(&self, view: UtfStr<'_, C>) -> bool {
         let more = self
             .kind
@@ -161,7 +162,8 @@ impl<C: ReadUnit> Case<'_, C> {
         let count = self.units.len().saturating_sub(more);
         let mut well = view.char_count() == count;
         for index in 0..count {
-            // A search costs as many steps as units stand before it: of short texts the characters around the offsets and at the end are asked.
+            // A search takes as many steps as there are units before its result. So in short texts only the characters
+            // around the offsets and at the end are searched.
             let is_near = self
                 .offsets
                 .iter()
@@ -174,7 +176,7 @@ impl<C: ReadUnit> Case<'_, C> {
         well & view.unit_offset(count.saturating_add(1)).is_none()
     }
 
-    // Whether well-formed units have this text, and no text of one character more or less.
+    // Returns whether well-formed units are equal to this text, and not to a text of one character more or less.
     fn is_text(&self, alloc: Global, view: UtfStr<'_, C>, text: &str) -> Result<bool, AllocError> {
         let mut well = view.eq_str(text) & self.has_offsets(view);
         well &= is_made(view.to_string(alloc), text);
@@ -186,7 +188,7 @@ impl<C: ReadUnit> Case<'_, C> {
         Ok(well & (other.pop().is_none() || !view.eq_str(&other)))
     }
 
-    // Whether each call says of the units what the standard library says of those of the kind, and of letters.
+    // Returns whether each call agrees with the standard library's results for the kind and for letters.
     fn holds(&self, alloc: Global) -> Result<bool, AllocError> {
         let chars = C::read(alloc, self.kind)?;
         let mut well = true;
@@ -207,7 +209,8 @@ impl<C: ReadUnit> Case<'_, C> {
     }
 }
 
-// Whether all that is said of a text of letters holds, with this at each of the offsets, as far as it fits.
+// Returns whether all calls agree for a text of letters with a kind at each of the offsets, cut off at the end of the
+// text.
 fn holds_with<C: ReadUnit>(
     alloc: Global,
     letters: &(C, &str, usize),
@@ -235,7 +238,7 @@ fn holds_with<C: ReadUnit>(
     case.holds(alloc)
 }
 
-// The text of 600 letters.
+// Returns the text of 600 letters.
 fn letters(alloc: Global, letter: char) -> Result<String, AllocError> {
     let mut text = String::new(alloc);
     for _ in 0..600 {
@@ -244,7 +247,8 @@ fn letters(alloc: Global, letter: char) -> Result<String, AllocError> {
     Ok(text)
 }
 
-// The first text, by its length, the offset of what is put among letters, and the number of its kind, of which a call says something else.
+// Returns the first text for which a call disagrees: its length, the offset of the kind among the letters, and the
+// index of the kind.
 fn first_failure<C: ReadUnit>(
     alloc: Global,
     letters: &(C, &str, usize),
@@ -262,7 +266,8 @@ fn first_failure<C: ReadUnit>(
     None
 }
 
-// The first offset, of which that is so in a long text, with this there and one more block of 256 units behind.
+// Returns the first offset for which a call disagrees in a long text, with the kind there and one more block of 256
+// units after it.
 fn first_far_failure<C: ReadUnit>(
     alloc: Global,
     letters: &(C, &str, usize),

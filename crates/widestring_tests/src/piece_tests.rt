@@ -1,12 +1,12 @@
-//! Texts that are cut in many ways, with faults, pairs, marks and zero units around the ends of the pieces that `transcode` reads. What is wanted is what
-//! the standard library's decoder makes of the whole file.
+//! Tests of `transcode` with texts split in many ways, with faults, pairs, BOMs and zero units around the ends of the
+//! chunks that it reads. The expected result is what the standard library's decoder makes of the whole file.
 use std::alloc::{AllocError, Global};
 use widestring::Policy;
 use widestring::bytes::{FromWrite, Mode, transcode, transcode_with};
 use widestring::error::TranscodeError;
 use widestring_testing::SlowSource;
 
-// The bytes that `transcode` takes at once, at most.
+// The greatest number of bytes that `transcode` takes at once.
 const PIECE: usize = 4096;
 
 // A text of UTF-16 in a file.
@@ -36,7 +36,7 @@ impl File {
         Ok(bytes)
     }
 
-    // The units without a last zero, where the file has whole units.
+    // Returns the units without a last zero, if the file has whole units.
     fn read_units(&self) -> &[u16] {
         match self.units.as_slice() {
             [front @ .., 0] if !self.is_odd => front,
@@ -56,7 +56,7 @@ enum Run {
 }
 
 impl Run {
-    // Whether U+FFFD is written for a fault.
+    // Returns whether U+FFFD is written for a fault.
     fn marks(self, after_fault: bool) -> bool {
         match self {
             Run::With(Policy::Run) => !after_fault,
@@ -66,7 +66,7 @@ impl Run {
     }
 }
 
-// The text of a whole file, and how the run ends.
+// Returns the text of a whole file, and how the run ends.
 fn decoded(
     alloc: Global,
     file: &File,
@@ -97,7 +97,7 @@ fn decoded(
     Ok((text, Ok(())))
 }
 
-// Whether the file becomes what the decoder makes of it, where the source gives `step` bytes a call.
+// Returns whether the file becomes what the decoder makes of it, with a source that gives `step` bytes in a call.
 fn becomes_it(alloc: Global, file: &File, step: usize, run: Run) -> Result<bool, AllocError> {
     let bytes = file.bytes(alloc)?;
     let (text, ending) = decoded(alloc, file, run)?;
@@ -124,7 +124,8 @@ const INSERTS: [&[u16]; 8] = [
 
 const STEPS: [usize; 6] = [1, 2, 3, 4095, 4096, 0];
 
-// A file of `place` units, then `insert`, then some more units. Its kind has the byte order, a mark and half a unit at the end.
+// Makes a file of `place` units, then `insert`, then some more units. `kind` selects the byte order, a BOM and half a
+// unit at the end.
 fn file_around(
     alloc: Global,
     place: usize,
@@ -152,7 +153,7 @@ fn file_around(
     })
 }
 
-// Whether all is well with files of each kind whose insert stands at this place. Each is cut in one way.
+// Returns whether files of each kind with the insert at this offset become what they should. Each is split in one way.
 fn is_well_at(alloc: Global, place: usize, insert: &[u16]) -> Result<bool, AllocError> {
     let mut well = true;
     for kind in 0..8 {
@@ -166,7 +167,7 @@ fn is_well_at(alloc: Global, place: usize, insert: &[u16]) -> Result<bool, Alloc
 
 #[test]
 fn ends_of_pieces(rt: HostRuntime) {
-    // A piece has 2,048 units, and one less behind a mark.
+    // A chunk has 2,048 units, and one less after a BOM.
     for place in [2043, 2045, 2046, 2047, 2048, 4094] {
         for insert in INSERTS {
             let well = is_well_at(rt.alloc(), place, insert);
@@ -175,7 +176,7 @@ fn ends_of_pieces(rt: HostRuntime) {
     }
 }
 
-// Letters, so many high surrogates, and more units.
+// Makes a file of letters, this many high surrogates, and more units.
 fn row_of_faults(
     alloc: Global,
     letters: usize,
@@ -194,7 +195,7 @@ fn row_of_faults(
     })
 }
 
-// Letters, and how many high surrogates stand behind them.
+// Numbers of letters, and of high surrogates after them.
 const ROWS: [(usize, usize); 6] = [
     (2045, 3),
     (2046, 3),
@@ -204,7 +205,7 @@ const ROWS: [(usize, usize); 6] = [
     (4095, 4),
 ];
 
-// What stands behind a row of faults: nothing, a letter, and further rows around U+FFFD and zero units.
+// What follows a run of faults: nothing, a letter, and more runs around U+FFFD and zero units.
 const BEHIND: [&[u16]; 4] = [&[], &[0x61], &[0xfffd, 0xdc00, 0xd800], &[0, 0xd800, 0]];
 
 #[test]
@@ -220,7 +221,7 @@ fn rows_of_faults(rt: HostRuntime) {
     }
 }
 
-// Whether a file becomes what it should in each of some steps.
+// Returns whether a file becomes what it should with sources of several steps.
 fn is_well_in_steps(
     alloc: Global,
     file: Result<File, AllocError>,
@@ -252,7 +253,7 @@ fn pairs_across_pieces(rt: HostRuntime) {
     }
 }
 
-// Whether a fault is returned before the source is asked again, which would fail.
+// Returns whether a fault is returned before the source is called again, which would fail.
 fn is_returned_at_once(alloc: Global, step: usize, calls: usize) -> bool {
     let bytes = b"a\x00\x00\x00\x00\xdc";
     let mut source = SlowSource::failing_at(bytes, step, calls.saturating_add(1));

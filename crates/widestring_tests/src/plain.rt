@@ -1,8 +1,9 @@
-//! Edits of a plain list of characters, by std's calls on vectors alone: the judge of edits of strings.
+//! Edits of a plain list of characters, which only use std's calls on vectors: the reference implementation for edits
+//! of strings.
 use std::alloc::{AllocError, Global};
 use widestring::edit::{Edit, Reply};
 
-// An edit of a place.
+// Makes an edit at an offset.
 fn edit_at(list: &mut Vec<char>, place: usize, edit: Edit<'_>) -> Result<Reply, AllocError> {
     if place > list.len() {
         return Ok(Reply::BadPlace);
@@ -17,7 +18,7 @@ fn edit_at(list: &mut Vec<char>, place: usize, edit: Edit<'_>) -> Result<Reply, 
     Ok(Reply::Done)
 }
 
-// An edit of a range.
+// Makes an edit of a range.
 fn edit_range(
     alloc: Global,
     list: &mut Vec<char>,
@@ -37,7 +38,7 @@ fn edit_range(
     }
 }
 
-// What the edit answers, once it is made of a list of characters.
+// Makes an edit of a list of characters, and returns its reply.
 pub fn edit_list(alloc: Global, list: &mut Vec<char>, edit: Edit<'_>) -> Result<Reply, AllocError> {
     match edit {
         Edit::Push(c) => list.push(c)?,

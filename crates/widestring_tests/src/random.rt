@@ -1,4 +1,4 @@
-//! Texts and edits made at random from a seed: the same seed makes the same.
+//! Pseudo-random texts and edits. The same seed makes the same ones.
 ghost use Rattle.std.specs.Prelude.{◌<◌, length};
 
 use std::alloc::{AllocError, Global};
@@ -52,14 +52,14 @@ const KEPT: [&[char]; 7] = [
     &CHARS,
 ];
 
-// The numbers of an xorshift.
+// A xorshift generator.
 #[derive(Drop)]
 pub struct Random {
     state: u64,
 }
 
 impl Random {
-    // The odd factor spreads seeds that are near one another.
+    // The odd factor spreads seeds that are close to each other.
     pub fn new(seed: u64) -> Random {
         Random {
             state: seed.wrapping_add(1).wrapping_mul(0x9e37_79b9_7f4a_7c15),
@@ -86,7 +86,7 @@ impl Random {
         items[self.below(items.len())]
     }
 
-    // A place of a list of so many characters, more often than not around an end.
+    // Returns an offset in a list of this many characters, mostly close to an end.
     fn place(&mut self, count: usize) -> usize {
         match self.below(10) {
             0 => 0,
@@ -98,7 +98,7 @@ impl Random {
         }
     }
 
-    // A text of a few characters, and now and then of up to 150.
+    // Returns a text of a few characters, and sometimes of up to 150.
     pub fn text(&mut self, alloc: Global) -> Result<String, AllocError> {
         let count = match self.below(6) {
             0 => self.below(151),
@@ -112,7 +112,7 @@ impl Random {
         Ok(text)
     }
 
-    // An edit of a list of so many characters.
+    // Returns an edit of a list of this many characters.
     pub fn edit(&mut self, count: usize) -> Edit<'static> {
         let place = self.place(count);
         match self.below(12) {

@@ -1,4 +1,4 @@
-//! Decoders and encoders stay ended over a source that goes on after its end.
+//! Tests that decoders and encoders remain at their end over a source that yields more after its end.
 use crate::all_hold::all_hold;
 use widestring::error::{DecodeUtf16Error, DecodeUtf32Error};
 use widestring::{
@@ -6,7 +6,7 @@ use widestring::{
     encode_utf32,
 };
 
-// A source that has its item at each odd call.
+// A source that yields its item at each odd call.
 #[derive(Drop)]
 struct Resuming<T> {
     calls: u16,
@@ -29,7 +29,7 @@ fn again<T>(item: T) -> Resuming<T> {
     Resuming { calls: 0, item }
 }
 
-// Whether an iterator gives these items, and none at the two calls after them.
+// Returns whether an iterator yields these items, and none at the two calls after them.
 macro_rules! ends_after {
     ($iterator:expr, [$($item:expr),+]) => {{
         let mut iterator = $iterator;

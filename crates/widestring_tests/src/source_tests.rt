@@ -1,4 +1,4 @@
-//! Sources that tell little of themselves, or that fail.
+//! Tests of sources that report few bounds, or that fail.
 ghost use Rattle.std.specs.Prelude.{length};
 ghost use Rattle.std.specs.Iterator.{at_most};
 
@@ -7,7 +7,7 @@ use std::alloc::{AllocError, Global};
 use std::cell::Cell;
 use widestring::{U16String, Utf32String, encode_utf8, encode_utf16};
 
-// Characters of which nothing is told but an upper bound of their number, the greatest there is, or not even that.
+// Characters that report only an upper bound of their number, the greatest one, or no bound.
 #[derive(Drop)]
 struct Vague<'a> {
     rest: &'a [char],
@@ -44,7 +44,7 @@ fn vague_source(is_bounded: bool) -> Vague<'static> {
     }
 }
 
-// Whether these units were collected.
+// Returns whether these units were collected.
 fn is_collected<T: PartialEq + Drop>(made: Result<Vec<T>, AllocError>, expected: &[T]) -> bool {
     match made {
         Ok(given) => given.as_slice() == expected,
@@ -52,7 +52,8 @@ fn is_collected<T: PartialEq + Drop>(made: Result<Vec<T>, AllocError>, expected:
     }
 }
 
-// Whether strings and encoders take all of it, and the hints of encoders say no more than its own.
+// Returns whether strings and encoders take all characters, and the size hints of encoders claim no more than the
+// source's.
 fn is_taken(alloc: Global, is_bounded: bool) -> [bool; 7] {
     let units = [0x61, 0xd83d, 0xde00, 0xe9];
     let mut narrow = U16String::new(alloc);
@@ -82,7 +83,7 @@ fn vague_sources(rt: HostRuntime) {
     }
 }
 
-// Characters that are read until there is a fault, which ends them and is told elsewhere.
+// Characters that are read until there is a fault, which ends them and is recorded in a cell.
 #[derive(Drop)]
 struct Faulty<'a> {
     rest: &'a [Option<char>],
@@ -105,7 +106,7 @@ impl Iterator for Faulty<'_> {
     }
 }
 
-// Whether an extension keeps the characters before a fault, and adds none behind it.
+// Returns whether an extension adds the characters before a fault, and none after it.
 fn is_kept(alloc: Global, before: usize) -> bool {
     let mut read = [Some('a'), Some('😀'), Some('b'), Some('c')];
     let Some(place) = read.get_mut(before) else {
