@@ -1,4 +1,4 @@
-//! The arguments of a call, as a program gathers them.
+//! Tests of the arguments of a run, as a program gathers them.
 
 use crate::driver::whole;
 use std::alloc::{AllocError, Global};
@@ -7,7 +7,7 @@ use std::rt::Env;
 use widestring_testing::SlowSink;
 use widetext_base::{USAGE, WRONG_USAGE, gather};
 
-// The arguments of a call, with the program's name first, as the system gives them: in bytes.
+// The arguments of a run, with the program's name first, as the system gives them: in bytes.
 #[derive(Drop)]
 struct Arguments<'a> {
     all: &'a [&'a [u8]],
@@ -35,7 +35,7 @@ impl Env for Arguments<'_> {
     }
 }
 
-// Whether the words are these, in order.
+// Returns whether the arguments are these, in order.
 fn are_words(words: &[String], expected: &[&str]) -> bool {
     let mut well = words.len() == expected.len();
     for (word, text) in words.iter().zip(expected) {
@@ -44,7 +44,7 @@ fn are_words(words: &[String], expected: &[&str]) -> bool {
     well
 }
 
-// Whether these arguments are gathered as these words, and nothing is said.
+// Returns whether these arguments are gathered as these strings, and no message is written.
 fn gathers(alloc: Global, all: &[&[u8]], expected: &[&str]) -> bool {
     let mut faults = whole(alloc, 4096);
     match gather(&(Arguments { all }, alloc), &mut faults) {
@@ -75,7 +75,7 @@ fn gathered_arguments(rt: HostRuntime) {
     assert!(rt; well);
 }
 
-// Whether arguments are refused as a usage error, which is said once and in one line.
+// Returns whether arguments are a usage error, whose message is written once and in one line.
 fn is_usage_error(alloc: Global, all: &[&[u8]]) -> Result<bool, AllocError> {
     let mut faults: SlowSink = whole(alloc, 4096);
     let gathered = gather(&(Arguments { all }, alloc), &mut faults);

@@ -1,20 +1,24 @@
-//! A run of a program's command over devices in memory.
+//! Runs a program's command over devices in memory.
 ghost use Rattle.std.specs.Prelude.{◌≡◌, false};
 
 use std::alloc::{AllocError, Global};
 use wide_bytes::{ByteSink, ByteSource};
 use widestring_testing::{SlowSink, SlowSource};
 
-/// The programs of the repository that have the word `utf8`.
+/// The programs of the repository that have the subcommand `utf8`.
 #[derive(Clone, Copy, Drop)]
 pub enum Program {
-    /// `widetext`, with all words.
+    /// `widetext`, with all subcommands.
     Whole,
-    /// `widetext_utf8`, with that word alone.
+    /// `widetext_utf8`, with only that subcommand.
     Utf8Alone,
 }
 
-/// The status of a program's command.
+/// Runs a program's command, and returns its exit status.
+///
+/// # Requires
+///
+/// No device has failed, and the source has not ended.
 pub fn command<S: ByteSource, K: ByteSink, F: ByteSink>(
     alloc: Global,
     program: Program,
@@ -34,7 +38,7 @@ pub fn command<S: ByteSource, K: ByteSink, F: ByteSink>(
     }
 }
 
-/// A run that has ended: its status, and its devices.
+/// A run that has ended: its exit status, and its devices.
 #[derive(Drop)]
 pub struct Ended<'a> {
     pub status: u8,
@@ -44,7 +48,7 @@ pub struct Ended<'a> {
 }
 
 impl Ended<'_> {
-    /// Whether it ended with this status, wrote this text, and said this on the fault stream.
+    /// Returns whether it ended with this status, wrote this text, and wrote this message to the fault stream.
     pub fn is(&self, status: u8, text: &[u8], said: &[u8]) -> bool {
         let mut well = self.status == status;
         well &= self.sink.bytes.as_slice() == text;
@@ -52,7 +56,7 @@ impl Ended<'_> {
         well
     }
 
-    /// Whether it was refused with this line, and wrote no more than the beginning of this text.
+    /// Returns whether it failed with this message, and wrote no more than a prefix of this text.
     pub fn is_refused(&self, line: &[u8], text: &[u8]) -> bool {
         let mut well = self.status == 1;
         well &= self.said.bytes.as_slice() == line;
@@ -61,7 +65,11 @@ impl Ended<'_> {
     }
 }
 
-/// The words as the program gets them.
+/// Returns the arguments as the program gets them.
+///
+/// # Errors
+///
+/// [`AllocError`] if an allocation fails.
 pub fn strings(alloc: Global, words: &[&str]) -> Result<Vec<String>, AllocError> {
     let mut all = Vec::new(alloc);
     for word in words {
@@ -70,14 +78,22 @@ pub fn strings(alloc: Global, words: &[&str]) -> Result<Vec<String>, AllocError>
     Ok(all)
 }
 
-/// A sink without a limit that takes at most so many bytes a call.
+/// Creates a sink without a limit that takes at most this many bytes in a call.
 pub fn whole(alloc: Global, step: usize) -> SlowSink
     ensures failed { result.failed ≡ false }
 {
     SlowSink::new(alloc, step, None, false)
 }
 
-/// Runs a program's command.
+/// Runs a program's command over these devices.
+///
+/// # Requires
+///
+/// No device has failed, and the source has not ended.
+///
+/// # Errors
+///
+/// [`AllocError`] if the arguments can't be allocated.
 pub fn run<'a>(
     alloc: Global,
     program: Program,

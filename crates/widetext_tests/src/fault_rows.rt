@@ -1,4 +1,4 @@
-//! What is said of a fault is put at once; where it can't be put, the status and the output stay the same.
+//! Tests of messages: a message is written in one call, and if that fails, status and output are the same.
 
 use crate::driver::{Program, run, whole};
 use std::alloc::{AllocError, Global};
@@ -8,7 +8,7 @@ use std::test::Fail;
 use widestring_testing::{SlowSink, SlowSource};
 use widetext_base::{REFUSED, SUCCESS, WRONG_USAGE, finish};
 
-// A run that is refused: its words, its input, how much of its output is taken, its status and what it says.
+// A failing run: its arguments, its input, how much of its output is taken, its status and its message.
 struct Refused {
     words: &'static [&'static str],
     input: &'static [u8],
@@ -55,8 +55,8 @@ static REFUSED_RUNS: [Refused; 5] = [
     },
 ];
 
-// Whether the line is put in one call where that takes all of it, and where the first call fails there is no other, and the rest is the
-// same.
+// Returns whether the message is written in one call if that takes all of it, and whether there is no second call if
+// the first one fails, with the same status and output.
 fn is_said_once(alloc: Global, program: Program, row: &Refused) -> Result<bool, AllocError> {
     let sink = SlowSink::new(alloc, 4096, row.room, false);
     let source = SlowSource::new(row.input, 4096);
@@ -74,7 +74,7 @@ fn is_said_once(alloc: Global, program: Program, row: &Refused) -> Result<bool, 
     Ok(well)
 }
 
-// The number of the first row that is not so.
+// Returns the index of the first case that fails.
 fn first_wrong(
     alloc: Global,
     program: Program,
@@ -101,7 +101,7 @@ fn faults_are_put_once(rt: HostRuntime) -> Result<(), Fail> {
     Ok(())
 }
 
-// An output whose flush fails, or not.
+// An output whose flush may fail.
 #[derive(Drop)]
 struct Output {
     fails: bool,
@@ -120,7 +120,7 @@ impl Write for Output {
     }
 }
 
-// Whether a run of this status ends with that one, and puts so many lines, all in one call.
+// Returns whether a run of this status ends with the other one, and writes these lines in one call.
 fn ends_with(alloc: Global, fails: bool, status: u8, last: u8, said: &[u8]) -> bool {
     let mut faults = whole(alloc, 4096);
     let mut well = finish(&mut Output { fails }, &mut faults, status) == last;

@@ -1,4 +1,5 @@
-//! What cases of the programs can't ask: runs over devices in memory, whole ones, slow ones, and ones that fail at a call.
+//! Tests of the programs that can't be written as cases in `cases.jsonl`: runs over devices in memory, complete ones,
+//! slow ones, and ones that fail at a call.
 #![tactic(auto)]
 
 #[cfg(test)]

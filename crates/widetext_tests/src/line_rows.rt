@@ -1,5 +1,5 @@
-//! The words `ends` and `edit`, whose lines are all made before any is written, and wrong words: which devices are asked. What is written for
-//! such words is in the cases of the programs, `cases.jsonl`.
+//! Tests of the subcommands `ends` and `edit`, which make all lines before they write any, and of usage errors: which
+//! devices are called. The cases of the programs, `cases.jsonl`, have the output of these subcommands.
 
 use crate::driver::{Program, run, whole};
 use std::alloc::{AllocError, Global};
@@ -8,7 +8,7 @@ use widestring_testing::{SlowSink, SlowSource};
 const USAGE_LINE: &[u8] =
     b"usage: widetext utf8 [--lossy[=each|run|skip]] | ends UNITS CALLS | edit TEXT EDIT..\n";
 
-// Whether words are answered with the usage alone, and no device is asked.
+// Returns whether arguments are a usage error, and no device is called.
 fn are_wrong(alloc: Global, program: Program, words: &[&str]) -> Result<bool, AllocError> {
     let source = SlowSource::new(b"a\x00", 4096);
     let sink = whole(alloc, 4096);
@@ -38,7 +38,7 @@ fn wrong_words(rt: HostRuntime) {
     assert!(rt; rows == [true; 8], "{rows:?}");
 }
 
-// The escapes of `char::escape_default`: a case's words have no ends of lines.
+// Tests the escapes of `char::escape_default`, since the arguments of a case in `cases.jsonl` have no line ends.
 fn are_escaped(alloc: Global) -> Result<bool, AllocError> {
     let words = ["edit", "\t\n\"\\", "pop", "push='", "drain=0,2"];
     let lines =
@@ -54,7 +54,7 @@ fn escapes(rt: HostRuntime) {
     assert_eq!(rt; are_escaped(rt.alloc()), Ok(true));
 }
 
-// Whether `ends` is refused by a sink that fails once it has so many bytes.
+// Returns whether `ends` fails with a sink that fails once it has this many bytes.
 fn ends_refused(alloc: Global, capacity: usize) -> Result<bool, AllocError> {
     let words = ["ends", "D83D,DE00", "BF"];
     let source = SlowSource::new(b"", 4096);
@@ -63,7 +63,7 @@ fn ends_refused(alloc: Global, capacity: usize) -> Result<bool, AllocError> {
     Ok(ran.is_refused(b"write fault\n", b"U+1F600\nnone\n") & (ran.sink.bytes.len() == capacity))
 }
 
-// The first number of bytes with which it is not.
+// Returns the first number of bytes with which it does not fail.
 fn first_not_refused(alloc: Global) -> Option<usize> {
     for capacity in 0..8 {
         if ends_refused(alloc, capacity) != Ok(true) {

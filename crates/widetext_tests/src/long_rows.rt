@@ -1,14 +1,14 @@
-//! Long runs of the words `ends` and `edit`, beside models that are written with calls of std.
+//! Tests of long runs of the subcommands `ends` and `edit`, against models that use calls of std.
 
 use crate::driver::{Program, run, whole};
 use std::alloc::{AllocError, Global};
 use std::fmt::Write;
 use widestring_testing::SlowSource;
 
-/// How many items or edits there are, and how many bytes the sink takes at most.
+/// How many items or edits there are, and how many bytes the sink takes at most in a call.
 type LongRow = (usize, usize);
 
-// The lines of the last rows are more than 4,096 bytes.
+// The lines of the last cases are more than 4,096 bytes.
 static LONG_ROWS: [LongRow; 6] = [
     (61, 4096),
     (62, 1),
@@ -18,7 +18,8 @@ static LONG_ROWS: [LongRow; 6] = [
     (602, 0),
 ];
 
-// Whether a run of these words writes these lines into a sink that takes at most so many bytes a call, and says nothing.
+// Returns whether a run with these arguments writes these lines into a sink that takes at most this many bytes in a
+// call, and no message.
 fn writes(alloc: Global, words: &[&str], lines: &str, step: usize) -> Result<bool, AllocError> {
     let source = SlowSource::new(b"a\x00", 4096);
     let sink = whole(alloc, step);
@@ -26,7 +27,7 @@ fn writes(alloc: Global, words: &[&str], lines: &str, step: usize) -> Result<boo
     Ok(ran.is(0, lines.as_bytes(), b"") & (ran.source.calls == 0))
 }
 
-// Appends the units of an item of a text, and answers the line of that item: a letter, a pair, or half of one.
+// Appends the units of an item of a text, and returns the line of that item: a letter, a pair, or half of one.
 fn push_item(alloc: Global, units: &mut String, index: usize) -> Result<String, AllocError> {
     if index > 0 {
         units.push(',')?;
@@ -52,7 +53,8 @@ fn push_item(alloc: Global, units: &mut String, index: usize) -> Result<String, 
     }
 }
 
-// Appends the letters of calls, two at the front behind each at the back, and the lines of their answers; some calls find nothing left.
+// Appends the letters of calls, two at the front after each one at the back, and the lines of their results. The last
+// calls find nothing left.
 fn push_calls(calls: &mut String, lines: &mut String, items: &[String]) -> Result<(), AllocError> {
     let mut left = items;
     for call in 0..items.len().saturating_add(9) {
@@ -74,7 +76,7 @@ fn push_calls(calls: &mut String, lines: &mut String, items: &[String]) -> Resul
     Ok(())
 }
 
-// Whether `ends` of so many items writes the lines of the model.
+// Returns whether `ends` of this many items writes the lines of the model.
 fn ends_hold(alloc: Global, count: usize, step: usize) -> Result<bool, AllocError> {
     let mut units = String::new(alloc);
     let mut items = Vec::new(alloc);
@@ -92,7 +94,7 @@ fn ends_hold(alloc: Global, count: usize, step: usize) -> Result<bool, AllocErro
     )
 }
 
-// The number of the first row that does not hold.
+// Returns the index of the first case that fails.
 fn first_wrong_ends(alloc: Global) -> Option<usize> {
     for index in 0..LONG_ROWS.len() {
         let (count, step) = LONG_ROWS[index];
@@ -108,7 +110,7 @@ fn long_ends(rt: HostRuntime) {
     assert_eq!(rt; first_wrong_ends(rt.alloc()), None);
 }
 
-// Makes edit number `index` of a list: answers its word, and appends its line.
+// Makes edit number `index` of a list, returns its argument, and appends its line.
 fn push_edit(
     alloc: Global,
     index: usize,
@@ -162,7 +164,7 @@ fn push_text(alloc: Global, lines: &mut String, text: &[char]) -> Result<(), All
     lines.push('\n')
 }
 
-// Whether `edit` of so many edits writes the lines of the model.
+// Returns whether `edit` of this many edits writes the lines of the model.
 fn edits_hold(alloc: Global, count: usize, step: usize) -> Result<bool, AllocError> {
     let mut text = Vec::new(alloc);
     let mut lines = String::new(alloc);
@@ -180,7 +182,7 @@ fn edits_hold(alloc: Global, count: usize, step: usize) -> Result<bool, AllocErr
     writes(alloc, &words, lines.as_str(), step)
 }
 
-// The number of the first row that does not hold.
+// Returns the index of the first case that fails.
 fn first_wrong_edits(alloc: Global) -> Option<usize> {
     for index in 0..LONG_ROWS.len() {
         let (count, step) = LONG_ROWS[index];

@@ -1,12 +1,12 @@
-//! Runs where an allocation is refused, which a run with failing allocations makes happen at each one in turn: the answer is
-//! that memory was refused, and nothing else.
+//! Tests of runs with a failing allocation; the test runner makes each allocation fail in turn. The only message must
+//! be that memory ran out.
 
 use crate::driver::{Program, run};
 use std::alloc::{AllocError, Global};
 use std::test::Fail;
 use widestring_testing::{SlowSink, SlowSource};
 
-// Whether all of the text is written, or memory was refused, and nothing else said or written.
+// Returns whether all of the text is written, or memory ran out, with its message and no output.
 fn is_whole_or_refused(
     alloc: Global,
     program: Program,

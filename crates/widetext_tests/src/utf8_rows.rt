@@ -1,4 +1,4 @@
-//! The word `utf8`, by both programs.
+//! Tests of the subcommand `utf8`, by both programs.
 
 use crate::driver::{Program, command, run, strings, whole};
 use std::alloc::{AllocError, Global};
@@ -15,7 +15,7 @@ const RUN: &[&str] = &["utf8", "--lossy=run"];
 
 const SKIP: &[&str] = &["utf8", "--lossy=skip"];
 
-/// Words, input, text, line on the fault stream, status.
+/// Arguments, input, text, line on the fault stream, status.
 type Row = (
     &'static [&'static str],
     &'static [u8],
@@ -58,7 +58,7 @@ static ROWS: [Row; 27] = [
         "unpaired UTF-16 surrogate d800 at index 0 (item 0)\n",
         1,
     ),
-    // The index counts units after the mark, two of them for the pair, and the item number characters.
+    // The index counts units after the BOM, two for the pair, and the item number counts characters.
     (
         UTF8,
         b"\xfe\xff\xd8\x3d\xde\x00\x00\x41\xdc\x00",
@@ -83,7 +83,7 @@ static ROWS: [Row; 27] = [
     (LOSSY, b"\x00\xd8\x41\x00", b"\xef\xbf\xbd\x41", NONE, 0),
     (LOSSY, b"\x3d\xd8\x00", b"\xef\xbf\xbd", ODD, 1),
     (LOSSY, b"\x61\x00\x62", b"a", ODD, 1),
-    // One for each fault, also where faults stand side by side.
+    // One for each fault, also for adjacent faults.
     (
         LOSSY,
         b"\x00\xdc\x00\xd8\x00\xd8",
@@ -106,7 +106,7 @@ static ROWS: [Row; 27] = [
         NONE,
         0,
     ),
-    // A row of faults under each policy.
+    // A run of faults under each policy.
     (
         LOSSY,
         ROW_AND_LETTER,
@@ -123,7 +123,7 @@ static ROWS: [Row; 27] = [
     ),
     (RUN, ROW_AND_LETTER, b"\xef\xbf\xbd\x41", NONE, 0),
     (SKIP, ROW_AND_LETTER, b"\x41", NONE, 0),
-    // U+FFFD of the text is no fault, and the last surrogate and half a unit follow a fault.
+    // U+FFFD in the input is not a fault, and the last surrogate and half a unit follow a fault.
     (
         RUN,
         b"\x00\xdc\xfd\xff\x00\xd8\x00\xd8\x41",
@@ -142,7 +142,7 @@ static ROWS: [Row; 27] = [
 
 const ROW_AND_LETTER: &[u8] = b"\x00\xd8\x00\xd8\x41\x00";
 
-// Whether a row holds over devices of std in memory.
+// Returns whether a case holds over std's devices in memory.
 fn holds_whole(alloc: Global, program: Program, row: Row) -> Result<bool, AllocError> {
     let (words, input, text, fault, status) = row;
     let words = strings(alloc, words)?;
@@ -156,7 +156,7 @@ fn holds_whole(alloc: Global, program: Program, row: Row) -> Result<bool, AllocE
     Ok(well)
 }
 
-// Whether a row holds over devices that move this many bytes a call.
+// Returns whether a case holds over devices that move this many bytes in a call.
 fn holds_by_steps(
     alloc: Global,
     program: Program,
@@ -177,7 +177,7 @@ fn holds_by_steps(
     Ok(ran.is(status, text, fault.as_bytes()))
 }
 
-// The same by steps of some sizes.
+// Returns whether a case holds over devices of several steps.
 fn holds_by_each_step(alloc: Global, program: Program, row: Row) -> Result<bool, AllocError> {
     let mut well = true;
     for step in [1, 2, 3, 4096] {
@@ -186,7 +186,7 @@ fn holds_by_each_step(alloc: Global, program: Program, row: Row) -> Result<bool,
     Ok(well)
 }
 
-// How many calls a row makes of a source that gives a byte a call.
+// Returns how many calls a case makes of a source that gives one byte in a call.
 fn takes_of(alloc: Global, program: Program, row: Row) -> Result<usize, AllocError> {
     let (words, input, ..) = row;
     let ran = run(
@@ -200,7 +200,7 @@ fn takes_of(alloc: Global, program: Program, row: Row) -> Result<usize, AllocErr
     Ok(ran.source.calls)
 }
 
-// Whether a source that fails at this call ends the run, and isn't asked again.
+// Returns whether a source that fails at this call ends the run, and is not called again.
 fn ends_at_source(
     alloc: Global,
     program: Program,
@@ -220,7 +220,8 @@ fn ends_at_source(
     Ok(ran.is_refused(b"read fault\n", text) & (ran.source.calls == fails_at))
 }
 
-// The same at each call: one take for each byte and one that answers the end, or none behind the bytes that make a fault certain.
+// Returns whether the run ends at each failing call of the source. There is one call for each byte and one that reports
+// the end, but none after the bytes that make a fault certain.
 fn ends_at_each_take(alloc: Global, program: Program, row: Row) -> Result<bool, AllocError> {
     let takes = takes_of(alloc, program, row)?;
     let all = row.1.len().saturating_add(1);
@@ -231,7 +232,7 @@ fn ends_at_each_take(alloc: Global, program: Program, row: Row) -> Result<bool, 
     Ok(well)
 }
 
-// Whether a sink that fails once it has this many bytes ends the run, and isn't asked again.
+// Returns whether a sink that fails once it has this many bytes ends the run, and is not called again.
 fn ends_at_sink(
     alloc: Global,
     program: Program,
@@ -249,7 +250,7 @@ fn ends_at_sink(
     Ok(well)
 }
 
-// The same at each byte of the text, by an error and by taking none.
+// Returns whether the run ends at each byte of the text at which the sink fails, by an error and by taking none.
 fn ends_at_each_put(alloc: Global, program: Program, row: Row) -> Result<bool, AllocError> {
     let (_, _, text, _, _) = row;
     let mut well = true;
@@ -260,7 +261,7 @@ fn ends_at_each_put(alloc: Global, program: Program, row: Row) -> Result<bool, A
     Ok(well)
 }
 
-// Whether a fault stream that fails changes neither the text nor the status.
+// Returns whether a failing fault stream changes neither the text nor the status.
 fn holds_without_fault_stream(
     alloc: Global,
     program: Program,
@@ -273,7 +274,7 @@ fn holds_without_fault_stream(
     Ok((ran.status == status) & (ran.sink.bytes.as_slice() == text))
 }
 
-// How a row is run.
+// How a case is run.
 #[derive(Clone, Copy, Drop)]
 enum Way {
     Whole,
@@ -293,7 +294,7 @@ fn holds(alloc: Global, way: Way, program: Program, row: Row) -> Result<bool, Al
     }
 }
 
-// The number of the first row that does not hold, run this way by the program.
+// Returns the index of the first case that fails if the program runs it this way.
 fn first_wrong(alloc: Global, way: Way, program: Program) -> Option<usize> {
     for index in 0..ROWS.len() {
         if holds(alloc, way, program, ROWS[index]) != Ok(true) {
@@ -303,7 +304,7 @@ fn first_wrong(alloc: Global, way: Way, program: Program) -> Option<usize> {
     None
 }
 
-// The same, by both programs.
+// Returns the index of the first case that fails if both programs run it this way.
 fn first_wrong_of_both(alloc: Global, way: Way) -> Option<usize> {
     let of_whole = first_wrong(alloc, way, Program::Whole);
     of_whole.or(first_wrong(alloc, way, Program::Utf8Alone))
