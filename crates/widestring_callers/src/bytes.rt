@@ -1,9 +1,9 @@
-//! Views written as bytes into a room of the caller's.
+//! Writes views as bytes into a buffer of the caller.
 ghost use Rattle.std.specs.Prelude.{◌≤◌, length, IfSome};
 
 use widestring::{U16Str, U32Str};
 
-/// How many bytes the units took, in UTF-16LE; none where the room is too small.
+/// Writes the units in UTF-16LE, and returns how many bytes they take, or `None` if the buffer is too short.
 pub fn store_little(units: U16Str<'_>, room: &mut [u8]) -> Option<usize>
     ensures { IfSome result (λ len. len ≤ length room.old) }
 {
@@ -13,7 +13,7 @@ pub fn store_little(units: U16Str<'_>, room: &mut [u8]) -> Option<usize>
     Some(units.put_le_bytes(room))
 }
 
-/// The same in UTF-32BE.
+/// Writes the units in UTF-32BE, and returns how many bytes they take, or `None` if the buffer is too short.
 pub fn store_big(units: U32Str<'_>, room: &mut [u8]) -> Option<usize>
     ensures { IfSome result (λ len. len ≤ length room.old) }
 {
@@ -23,7 +23,7 @@ pub fn store_big(units: U32Str<'_>, room: &mut [u8]) -> Option<usize>
     Some(units.put_be_bytes(room))
 }
 
-/// The bytes of a file in UTF-16LE, with its mark; none where the room is too small.
+/// Writes a file in UTF-16LE, with a BOM, and returns its number of bytes, or `None` if the buffer is too short.
 pub fn store_file(units: U16Str<'_>, room: &mut [u8]) -> Option<usize>
     ensures { IfSome result (λ len. len ≤ length room.old) }
 {
@@ -33,7 +33,7 @@ pub fn store_file(units: U16Str<'_>, room: &mut [u8]) -> Option<usize>
     Some(units.put_le_bytes_with_mark(room))
 }
 
-/// The same in UTF-32BE.
+/// Writes a file in UTF-32BE, with a BOM, and returns its number of bytes, or `None` if the buffer is too short.
 pub fn store_file_big(units: U32Str<'_>, room: &mut [u8]) -> Option<usize>
     ensures { IfSome result (λ len. len ≤ length room.old) }
 {

@@ -1,4 +1,4 @@
-//! Comparisons of strings, told by their units.
+//! Comparisons of strings, whose contracts are about their units.
 ghost use Rattle.std.specs.Prelude.{◌≡◌, ◌↔◌, IsTrue};
 ghost use Rattle.std.specs.Cmp.Lexicographic.{slice_cmp};
 ghost use Rattle.std.specs.Hash as fed;
@@ -10,7 +10,7 @@ use std::cmp::Ordering;
 use std::hash::{Hash, Hasher};
 use widestring::{U16String, U32CString, Utf16Str, Utf16String, Utf32Str};
 
-/// Whether two strings of 16-bit units are equal, and how they are ordered.
+/// Returns whether two strings of 16-bit units are equal, and their order.
 pub fn compared(left: &U16String, right: &U16String) -> (bool, Ordering)
     ensures equal { IsTrue result.0 ↔ (left.now.units ≡ right.now.units) }
     ensures order { result.1 ≡ slice_cmp nat_cmp left.now.units right.now.units }
@@ -18,7 +18,7 @@ pub fn compared(left: &U16String, right: &U16String) -> (bool, Ordering)
     (left == right, left.cmp(right))
 }
 
-/// The same of two C strings of 32-bit units.
+/// Returns whether two C strings of 32-bit units are equal, and their order.
 pub fn compared_c_strings(left: &U32CString, right: &U32CString) -> (bool, Ordering)
     ensures equal { IsTrue result.0 ↔ (left.now.units ≡ right.now.units) }
     ensures order { result.1 ≡ slice_cmp nat_cmp left.now.units right.now.units }
@@ -26,7 +26,7 @@ pub fn compared_c_strings(left: &U32CString, right: &U32CString) -> (bool, Order
     (left == right, left.cmp(right))
 }
 
-/// The same of two texts of UTF-16.
+/// Returns whether two texts of UTF-16 are equal, and their order.
 pub fn compared_texts(left: &Utf16String, right: &Utf16String) -> (bool, Ordering)
     ensures equal { IsTrue result.0 ↔ (left.now.units ≡ right.now.units) }
     ensures order { result.1 ≡ slice_cmp nat_cmp left.now.units right.now.units }
@@ -34,7 +34,7 @@ pub fn compared_texts(left: &Utf16String, right: &Utf16String) -> (bool, Orderin
     (left == right, left.cmp(right))
 }
 
-/// The same of two views of UTF-16.
+/// Returns whether two views of UTF-16 are equal, and their order.
 pub fn compared_views(left: Utf16Str<'_>, right: Utf16Str<'_>) -> (bool, Ordering)
     ensures equal { IsTrue result.0 ↔ (units_seen left.entry ≡ units_seen right.entry) }
     ensures order { result.1 ≡ slice_cmp nat_cmp (units_seen left.entry) (units_seen right.entry) }
@@ -42,14 +42,14 @@ pub fn compared_views(left: Utf16Str<'_>, right: Utf16Str<'_>) -> (bool, Orderin
     (left == right, left.cmp(&right))
 }
 
-/// What a view of UTF-32 feeds a hasher: what the slice of its units does.
+/// Feeds a view of UTF-32 to a hasher, as the slice of its units does.
 pub fn hashed_view<H: Hasher>(view: Utf32Str<'_>, state: &mut H)
     ensures { state.new ≡ fold H.write state.old (fed.slice fed.u32 (units_seen view.entry)) }
 {
     view.hash(state);
 }
 
-/// What a text feeds a hasher: what the slice of its units does, so that equal texts hash alike.
+/// Feeds a text to a hasher, as the slice of its units does. So equal texts have equal hashes.
 pub fn hashed<H: Hasher>(text: &Utf16String, state: &mut H)
     ensures { state.new ≡ fold H.write state.old (fed.slice fed.u16 text.now.units) }
 {

@@ -1,43 +1,43 @@
-//! Edits of well-formed strings at places that other calls gave, in UTF-16 and at any width.
+//! Edits of well-formed strings at offsets that other calls returned, in UTF-16 and at any width.
 use widestring::Utf16String;
 use widestring::error::{FaultUnit, OutOfMemory};
 use widestring::utfstring::UtfString;
 
-/// The character at the end.
+/// Appends a character to UTF-16.
 pub fn append(text: &mut Utf16String, c: char) -> Result<(), OutOfMemory> {
     text.insert(text.len(), c)
 }
 
-/// The same, at any width.
+/// Appends a character at any width.
 pub fn append_wide<C: FaultUnit>(text: &mut UtfString<C>, c: char) -> Result<(), OutOfMemory> {
     text.insert(text.len(), c)
 }
 
-/// Takes all characters away.
+/// Removes all characters of UTF-16.
 pub fn take_all(text: &mut Utf16String) {
     text.drain(..);
 }
 
-/// The same, at any width.
+/// Removes all characters at any width.
 pub fn take_all_wide<C: FaultUnit>(text: &mut UtfString<C>) {
     text.drain(..);
 }
 
-/// Takes this many characters away at the front, where there are so many.
+/// Removes this many characters at the beginning of UTF-16, if there are as many.
 pub fn drop_front(text: &mut Utf16String, count: usize) {
     if let Some(end) = text.as_utfstr().unit_offset(count) {
         text.drain(..end);
     }
 }
 
-/// The same, at any width.
+/// Removes this many characters at the beginning at any width, if there are as many.
 pub fn drop_front_wide<C: FaultUnit>(text: &mut UtfString<C>, count: usize) {
     if let Some(end) = text.as_utfstr().unit_offset(count) {
         text.drain(..end);
     }
 }
 
-/// Takes the characters from number `from` up to number `to` away, where there are so many.
+/// Removes the characters from index `from` to index `to` of UTF-16, if there are as many.
 pub fn drop_part(text: &mut Utf16String, from: usize, to: usize) {
     let view = text.as_utfstr();
     if let (Some(start), Some(end)) = (view.unit_offset(from), view.unit_offset(to)) {
@@ -47,7 +47,7 @@ pub fn drop_part(text: &mut Utf16String, from: usize, to: usize) {
     }
 }
 
-/// The same, at any width.
+/// Removes the characters from index `from` to index `to` at any width, if there are as many.
 pub fn drop_part_wide<C: FaultUnit>(text: &mut UtfString<C>, from: usize, to: usize) {
     let view = text.as_utfstr();
     if let (Some(start), Some(end)) = (view.unit_offset(from), view.unit_offset(to)) {
@@ -57,7 +57,7 @@ pub fn drop_part_wide<C: FaultUnit>(text: &mut UtfString<C>, from: usize, to: us
     }
 }
 
-/// Takes character number `index` away; none where there are not so many.
+/// Removes the character at an index of UTF-16, or returns `None` if there are not as many.
 pub fn remove_number(text: &mut Utf16String, index: usize) -> Option<char> {
     let at = text.as_utfstr().unit_offset(index)?;
     if at == text.len() {
@@ -66,7 +66,7 @@ pub fn remove_number(text: &mut Utf16String, index: usize) -> Option<char> {
     Some(text.remove(at))
 }
 
-/// The same, at any width.
+/// Removes the character at an index at any width, or returns `None` if there are not as many.
 pub fn remove_number_wide<C: FaultUnit>(text: &mut UtfString<C>, index: usize) -> Option<char> {
     let at = text.as_utfstr().unit_offset(index)?;
     if at == text.len() {
@@ -75,7 +75,7 @@ pub fn remove_number_wide<C: FaultUnit>(text: &mut UtfString<C>, index: usize) -
     Some(text.remove(at))
 }
 
-/// Puts a character before the first one that is `mark`, where there is one.
+/// Inserts a character before the first one that equals `mark` in UTF-16, if there is one.
 pub fn insert_before(text: &mut Utf16String, mark: char, c: char) -> Result<(), OutOfMemory> {
     match text.as_utfstr().char_indices().find(|at| at.1 == mark) {
         Some((at, _)) => text.insert(at, c),
@@ -83,7 +83,7 @@ pub fn insert_before(text: &mut Utf16String, mark: char, c: char) -> Result<(), 
     }
 }
 
-/// The same, at any width.
+/// Inserts a character before the first one that equals `mark` at any width, if there is one.
 pub fn insert_before_wide<C: FaultUnit>(
     text: &mut UtfString<C>,
     mark: char,

@@ -1,9 +1,9 @@
-//! Concrete bytes of UTF-16 as units.
+//! Units of concrete bytes of UTF-16.
 ghost use Rattle.std.specs.Prelude.{◌≡◌, Some, None};
 
 use widestring::bytes::utf16_of_bytes;
 
-/// Reads a zero unit at the end of bytes, of which nothing is lost.
+/// Reads bytes that end in a zero unit, and loses nothing.
 pub fn units_with_a_last_zero() -> (Option<u16>, Option<u16>, Option<u16>)
     ensures { result ≡ (Some 0x61, Some 0, None) }
 {

@@ -1,4 +1,4 @@
-//! C strings made of concrete units: where a NUL may stand, and the index of one that may not.
+//! C strings made of concrete units: where a NUL may be, and the index of one that may not.
 ghost use Rattle.std.specs.Prelude.{◌≡◌, ◌∷◌, [], Some, true, false, IfSome, IsSome};
 ghost use Rattle.std.specs.Str.{chars};
 
@@ -6,7 +6,7 @@ use std::alloc::Global;
 use widestring::error::{NulError, UCStringError};
 use widestring::{U16CStr, U16CString};
 
-/// Refuses units with a NUL before the last of them, and gives its index.
+/// Rejects units with a NUL before the last one, and returns its index.
 pub fn inner_nul_of_a_view() -> Option<usize>
     ensures { result ≡ Some 1 }
 {
@@ -17,6 +17,10 @@ pub fn inner_nul_of_a_view() -> Option<usize>
 }
 
 /// Takes the last NUL of a vector as the terminator.
+///
+/// # Requires
+///
+/// The units are 61 and 0.
 pub fn terminated_vector(units: Vec<u16>) -> bool
     requires { units.items ≡ 0x61 ∷ 0 ∷ [] }
     ensures { result ≡ true }
@@ -24,7 +28,11 @@ pub fn terminated_vector(units: Vec<u16>) -> bool
     U16CString::from_vec(units).is_ok()
 }
 
-/// Refuses a literal that ends in a NUL.
+/// Rejects a literal that ends in a NUL.
+///
+/// # Requires
+///
+/// The text is `a` and a NUL.
 pub fn literal_with_a_nul(alloc: Global, text: &str) -> bool
     requires { chars text.now ≡ 0x61 ∷ 0 ∷ [] }
     ensures { result ≡ false }
@@ -32,7 +40,11 @@ pub fn literal_with_a_nul(alloc: Global, text: &str) -> bool
     U16CString::from_str_literal(alloc, text).is_ok()
 }
 
-/// Refuses a vector with a NUL before the last unit, gives its index, and hands the units back.
+/// Rejects a vector with a NUL before the last unit, and returns its index and the vector.
+///
+/// # Requires
+///
+/// The units are 61, 0 and 62.
 pub fn inner_nul_of_a_vector(units: Vec<u16>) -> Option<(usize, Option<Vec<u16>>)>
     requires { units.items ≡ 0x61 ∷ 0 ∷ 0x62 ∷ [] }
     ensures handed_back { IfSome result (λ told. (told.0 ≡ 1) × IfSome told.1 (λ vec. vec.items ≡ 0x61 ∷ 0 ∷ 0x62 ∷ [])) }

@@ -1,4 +1,4 @@
-//! What decoders of concrete units answer to calls from both ends.
+//! What decoders of concrete units return for calls from both ends.
 ghost use Rattle.std.specs.Prelude.{◌≡◌, ◌∷◌, [], Some, None, IfOk, map};
 ghost use Rattle.std.specs.Option.{option_map};
 ghost use Rattle.widestring.specs.Segmentation.{Char, Fault};
@@ -10,7 +10,7 @@ use widestring::error::{DecodeUtf16Error, DecodeUtf32Error, OutOfMemory};
 use widestring::iter::{End, read_ends16, read_ends32, read_lossy_ends16, read_lossy_ends32};
 use widestring::unit::laws;
 
-/// Reads one U+FFFD for a run of two faults, and nothing behind it from either end.
+/// Reads one U+FFFD for a run of two faults, and nothing after it from either end.
 pub fn one_replacement_of_a_run(alloc: Global) -> Result<Vec<Option<char>>, OutOfMemory>
     ensures { IfOk result (λ answers. answers.items ≡ Some 0xFFFD ∷ None ∷ None ∷ []) }
 {
@@ -19,7 +19,7 @@ pub fn one_replacement_of_a_run(alloc: Global) -> Result<Vec<Option<char>>, OutO
     read_lossy_ends16(alloc, &[0xDE00, 0xD83D], Policy::Run, &calls)
 }
 
-/// Reads a U+FFFD of the text behind the one that stands for a fault.
+/// Reads a U+FFFD of the text after the one that replaces a fault.
 pub fn replacement_of_the_text(alloc: Global) -> Result<Vec<Option<char>>, OutOfMemory>
     ensures { IfOk result (λ answers. answers.items ≡ Some 0xFFFD ∷ Some 0xFFFD ∷ None ∷ []) }
 {
@@ -38,7 +38,7 @@ pub fn pair_from_the_back(
     read_ends16(alloc, &[0xD83D, 0xDE00], &[End::Back, End::Back])
 }
 
-/// Reads two surrogates of a text in UTF-32 as two faults, though in UTF-16 they would be a pair.
+/// Reads two surrogates in UTF-32 as two faults, though in UTF-16 they would be a pair.
 pub fn surrogates_of_utf32(
     alloc: Global,
 ) -> Result<Vec<Option<Result<char, DecodeUtf32Error>>>, OutOfMemory>

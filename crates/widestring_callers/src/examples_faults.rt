@@ -1,4 +1,4 @@
-//! Units that are not well formed, at concrete lists: where the first fault stands, and what stands in its place.
+//! Concrete ill-formed units: where the first fault is, and what replaces it.
 ghost use Rattle.std.specs.Prelude.{◌≡◌, ◌∷◌, [], Some, IfOk, string_bytes};
 ghost use Rattle.widestring.specs.Utf8.{utf8};
 
@@ -7,7 +7,7 @@ use widestring::error::{OutOfMemory, Utf16ConvertError};
 use widestring::unit::laws;
 use widestring::{U16Str, Utf16Str};
 
-/// Finds the high surrogate behind a pair: two units and one character stand before it.
+/// Finds the high surrogate after a pair: two units and one character precede it.
 pub fn fault_behind_a_pair() -> Option<(usize, usize, u16)>
     ensures { result ≡ Some (2, 1, 0xD800) }
 {
@@ -21,7 +21,7 @@ pub fn fault_behind_a_pair() -> Option<(usize, usize, u16)>
     ))
 }
 
-/// Refuses the text of a pair and a high surrogate for its fault, and never for want of memory.
+/// Rejects a pair and a high surrogate for the fault, never for an allocation failure.
 pub fn no_text_of_a_fault(alloc: Global) -> Option<(usize, usize)>
     ensures { result ≡ Some (2, 1) }
 {
@@ -35,7 +35,7 @@ pub fn no_text_of_a_fault(alloc: Global) -> Option<(usize, usize)>
     }
 }
 
-/// Writes U+FFFD in UTF-8 for each of two high surrogates behind a pair.
+/// Writes U+FFFD in UTF-8 for each of two high surrogates after a pair.
 pub fn lossy_text_of_two_faults(alloc: Global) -> Result<String, OutOfMemory>
     ensures { IfOk result (λ text. string_bytes text ≡ utf8 (0x1_F600 ∷ 0xFFFD ∷ 0xFFFD ∷ [])) }
 {

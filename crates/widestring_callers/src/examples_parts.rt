@@ -1,4 +1,4 @@
-//! Parts of units, and their offsets.
+//! Subslices of units, and their offsets.
 ghost use Rattle.std.specs.Prelude.{◌≡◌, ◌≤◌, Some, None, true, false};
 ghost use Rattle.widestring.specs.Parts.{StandsAt};
 ghost use Rattle.widestring.specs.UnitView.{units_seen};
@@ -6,7 +6,11 @@ ghost use Rattle.widestring.specs.UnitView.{units_seen};
 use widestring::unit::laws;
 use widestring::{U16Str, U32Str, Utf16Str};
 
-/// Finds a part no later than at an offset where the caller knows that it stands.
+/// Finds a needle at or before an offset at which the caller knows that it occurs.
+///
+/// # Requires
+///
+/// The needle occurs at the offset.
 pub fn found_by(units: U16Str<'_>, part: U16Str<'_>, offset: usize) -> usize
     requires { StandsAt (units_seen part) (units_seen units) offset }
     ensures here { StandsAt (units_seen part.entry) (units_seen units.entry) result }
@@ -18,14 +22,14 @@ pub fn found_by(units: U16Str<'_>, part: U16Str<'_>, offset: usize) -> usize
     }
 }
 
-/// Refuses a range past the end.
+/// Rejects a range past the end.
 pub fn part_past_the_end() -> bool
     ensures { result ≡ false }
 {
     U16Str::from_slice(&[0x61, 0x62]).get(1..3).is_some()
 }
 
-/// Finds the second character behind a pair, whose units are two.
+/// Finds the second character after a pair, which has two units.
 pub fn offset_behind_a_pair() -> Option<usize>
     ensures { result ≡ Some 2 }
 {
@@ -36,7 +40,7 @@ pub fn offset_behind_a_pair() -> Option<usize>
     }
 }
 
-/// Takes the text of a pair, and no part of it that ends within the pair.
+/// Returns the text of a pair, and no substring that ends within the pair.
 pub fn parts_of_a_pair() -> (bool, bool)
     ensures { result ≡ (true, false) }
 {
@@ -47,14 +51,14 @@ pub fn parts_of_a_pair() -> (bool, bool)
     }
 }
 
-/// Gives no bounds of lines that are not read yet.
+/// Reports no bounds for lines that are not read yet.
 pub fn bounds_of_lines() -> (usize, Option<usize>)
     ensures { result ≡ (0, None) }
 {
     U16Str::from_slice(&[0xA, 0xA]).lines_lossy().size_hint()
 }
 
-/// Reads a line that ends in two carriage returns and a line feed, of which it loses one, and no line behind it.
+/// Reads a line that ends in two carriage returns and a line feed, of which it removes one, and no line after it.
 pub fn line_of_two_returns() -> (Option<usize>, bool)
     ensures { result ≡ (Some 2, false) }
 {

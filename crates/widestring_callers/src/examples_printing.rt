@@ -1,4 +1,4 @@
-//! What is printed of concrete units and texts.
+//! What concrete units and texts print.
 ghost use Rattle.std.specs.Prelude.{◌≡◌, ◌∷◌, [], true, IfOk, string_bytes};
 ghost use Rattle.std.specs.Char.{is_ascii};
 ghost use Rattle.std.specs.List.{flat_map, list_all};
@@ -12,7 +12,7 @@ use std::alloc::{AllocError, Global};
 use widestring::unit::laws;
 use widestring::{U16Str, Utf16Str};
 
-/// Prints a pair, and leaves out what would stand for the two high surrogates behind it.
+/// Prints a pair, and leaves out the replacement characters of the two high surrogates after it.
 pub fn printed_without_faults(alloc: Global) -> Result<String, AllocError>
     ensures { IfOk result (λ text. string_bytes text ≡ utf8 (0x1_F600 ∷ [])) }
 {
@@ -21,14 +21,18 @@ pub fn printed_without_faults(alloc: Global) -> Result<String, AllocError>
     format!(in alloc; "{}", units.display_skipping())
 }
 
-/// Prints the lossy text of any units without U+FFFD, those of the units among them.
+/// Prints the lossy text of any units without U+FFFD, also without those in the units.
 pub fn printed_without_replacements(alloc: Global, units: U16Str<'_>) -> Result<String, AllocError>
     ensures { IfOk result (λ text. string_bytes text ≡ skipping_text Utf16 (units_seen units.entry)) }
 {
     format!(in alloc; "{}", units.display_skipping())
 }
 
-/// Prints the escapes of a text, whatever width is asked for.
+/// Prints the escapes of a text, and ignores the width.
+///
+/// # Requires
+///
+/// All characters of the text are ASCII.
 pub fn printed_escapes(alloc: Global, text: Utf16Str<'_>) -> Result<String, AllocError>
     requires { list_all is_ascii (text_seen text) ≡ true }
     ensures { IfOk result (λ line. string_bytes line ≡ utf8 (flat_map escape_debug (text_seen text.entry))) }

@@ -1,4 +1,4 @@
-//! Strings made of few items, or of none, and strings with capacity for what is put into them.
+//! Strings made of few items, or of none, and strings with capacity for what is added.
 ghost use Rattle.std.specs.Prelude.{◌≡◌, ◌≤◌, ◌∷◌, [], true, false, IfSome};
 ghost use Rattle.std.specs.Iterator.{IsFiniteIterable};
 ghost use Rattle.std.specs.Str.{chars};
@@ -13,7 +13,11 @@ use widestring::ustring::extend::Piece;
 use widestring::utfstring::UStringOverUtfstrs;
 use widestring::{U16Str, U16String, Utf16Str, Utf16String};
 
-/// Makes a string of an empty text, for which no memory is asked.
+/// Makes a string of an empty text, without allocating.
+///
+/// # Requires
+///
+/// The text is empty.
 pub fn string_of_nothing(alloc: Global, text: &str) -> bool
     requires { chars text.now ≡ [] }
     ensures { result ≡ true }
@@ -21,14 +25,18 @@ pub fn string_of_nothing(alloc: Global, text: &str) -> bool
     U16String::from_str(alloc, text).is_ok()
 }
 
-/// Repeats units no times, for which no memory is asked.
+/// Repeats units zero times, without allocating.
 pub fn repeated_no_times(alloc: Global) -> bool
     ensures { result ≡ true }
 {
     U16Str::from_slice(&[0x61, 0x62]).repeat(alloc, 0).is_ok()
 }
 
-/// Puts a character of two units into an empty string that has capacity for them.
+/// Appends a character of two units to an empty string with capacity for them.
+///
+/// # Requires
+///
+/// The string is empty, and has a capacity of at least two units.
 pub fn put_within_the_capacity(string: &mut U16String) -> bool
     requires empty { string.old.units ≡ [] }
     requires capacity { 2 ≤ string.old.capacity }
@@ -38,7 +46,12 @@ pub fn put_within_the_capacity(string: &mut U16String) -> bool
     '😀'.push_to(string).is_ok()
 }
 
-/// Collects characters: a string that is no error holds all of them, and another those before the one that found no memory.
+/// Collects characters. The string of a success has all of them, and the string of an error those before the one that
+/// failed to allocate.
+///
+/// # Requires
+///
+/// The iterator is finite.
 pub fn collected<U: IntoIterator<Item = char>>(
     alloc: Global,
     items: U,
@@ -49,7 +62,11 @@ pub fn collected<U: IntoIterator<Item = char>>(
     U16String::from_iter_chars(alloc, items)
 }
 
-/// Puts texts behind what a string of units holds, which stays.
+/// Appends texts to what a string of units holds.
+///
+/// # Requires
+///
+/// The iterator is finite.
 pub fn extended_by_texts<'a, U: IntoIterator<Item = Utf16Str<'a>>>(
     string: &mut U16String,
     texts: U,
@@ -60,7 +77,7 @@ pub fn extended_by_texts<'a, U: IntoIterator<Item = Utf16Str<'a>>>(
     string.extend_utfstrs(texts)
 }
 
-/// Takes well-formed units of a string over with their capacity.
+/// Takes over the well-formed units of a string with their capacity.
 pub fn capacity_of_text(string: U16String) -> Option<usize>
     ensures { IfSome result (λ capacity. capacity ≡ string.capacity) }
 {
@@ -68,7 +85,11 @@ pub fn capacity_of_text(string: U16String) -> Option<usize>
     Some(text.capacity())
 }
 
-/// Leaves a string as it was where there is no memory for a character: no half of a pair is put in.
+/// Leaves a string unchanged if the allocation for a character fails: no half of a pair is appended.
+///
+/// # Requires
+///
+/// The units are 61.
 pub fn put_whole_or_not(string: &mut U16String) -> bool
     requires { string.old.units ≡ 0x61 ∷ [] }
     ensures put { result ≡ true → string.new.units ≡ 0x61 ∷ 0xD83D ∷ 0xDE00 ∷ [] }
@@ -77,7 +98,11 @@ pub fn put_whole_or_not(string: &mut U16String) -> bool
     '😀'.push_to(string).is_ok()
 }
 
-/// Finds capacity for ten more units, and then a capacity of at least eleven.
+/// Reserves capacity for ten more units. The capacity is then at least eleven.
+///
+/// # Requires
+///
+/// The units are 61.
 pub fn capacity_behind_a_unit(string: &mut U16String) -> Option<usize>
     requires { string.old.units ≡ 0x61 ∷ [] }
     ensures { IfSome result (λ capacity. 11 ≤ capacity) }

@@ -1,4 +1,4 @@
-//! Well-formed texts of few units: what is made of units with faults, and edits at offsets in units.
+//! Well-formed texts of few units: how ill-formed units are repaired, and edits at offsets in units.
 ghost use Rattle.std.specs.Prelude.{◌≡◌, ◌∷◌, [], Some, true, IfOk, OnOk};
 
 use std::alloc::Global;
@@ -7,7 +7,7 @@ use widestring::error::OutOfMemory;
 use widestring::unit::laws;
 use widestring::utfstring::CowUtfStr;
 
-/// Replaces each of two high surrogates behind a pair by U+FFFD, and keeps the pair.
+/// Replaces each of two high surrogates after a pair by U+FFFD, and leaves the pair unchanged.
 pub fn mended_units(alloc: Global) -> Result<Utf16String, OutOfMemory>
     ensures { IfOk result (λ text. text.units ≡ 0xD83D ∷ 0xDE00 ∷ 0xFFFD ∷ 0xFFFD ∷ []) }
 {
@@ -15,7 +15,7 @@ pub fn mended_units(alloc: Global) -> Result<Utf16String, OutOfMemory>
     Utf16String::from_slice_lossy(alloc, &[0xD83D, 0xDE00, 0xD800, 0xD801])?.into_owned(alloc)
 }
 
-/// Borrows units that are well formed, for which no memory is asked.
+/// Borrows units that are well formed, without allocating.
 pub fn borrowed_units(alloc: Global) -> bool
     ensures { result ≡ true }
 {
@@ -26,7 +26,11 @@ pub fn borrowed_units(alloc: Global) -> bool
     }
 }
 
-/// Takes the last character, of two units, from a text that is one pair.
+/// Removes the last character, of two units, from a text that is one pair.
+///
+/// # Requires
+///
+/// The text is one pair.
 pub fn last_of_a_pair(text: &mut Utf16String) -> Option<char>
     requires { text.old.units ≡ 0xD83D ∷ 0xDE00 ∷ [] }
     ensures { result ≡ Some 0x1_F600 }
@@ -35,7 +39,11 @@ pub fn last_of_a_pair(text: &mut Utf16String) -> Option<char>
     text.pop()
 }
 
-/// Puts a letter behind a pair, at an offset of two units.
+/// Inserts a letter after a pair, at an offset of two units.
+///
+/// # Requires
+///
+/// The text is one pair.
 pub fn letter_behind_a_pair(text: &mut Utf16String) -> Result<(), OutOfMemory>
     requires { text.old.units ≡ 0xD83D ∷ 0xDE00 ∷ [] }
     ensures { OnOk result (text.new.units ≡ 0xD83D ∷ 0xDE00 ∷ 0x61 ∷ []) }

@@ -1,11 +1,11 @@
-//! What a caller does with units that may be ill formed.
+//! What a caller does with units that may be ill-formed.
 ghost use Rattle.std.specs.Prelude.{IsTrue, IsNone, IfSome, ◌↔◌};
 ghost use Rattle.widestring.specs.EncodingForm.{Utf16, Utf32};
 ghost use Rattle.widestring.specs.Items.{IsWellFormed, IsFirstFault};
 
 use widestring::{Utf16Str, Utf32Str};
 
-/// The unit that is no part of a character, where there is one.
+/// Returns the first ill-formed unit, if there is one.
 pub fn faulty_unit(units: &[u16]) -> Option<u16> {
     match Utf16Str::from_slice(units) {
         Ok(_) => None,
@@ -13,7 +13,7 @@ pub fn faulty_unit(units: &[u16]) -> Option<u16> {
     }
 }
 
-/// The units before the first fault.
+/// Returns the units before the first fault.
 pub fn sound_part(units: &[u32]) -> &[u32] {
     match Utf32Str::from_slice(units) {
         Ok(_) => units,
@@ -21,7 +21,7 @@ pub fn sound_part(units: &[u32]) -> &[u32] {
     }
 }
 
-/// The first fault, for a message: how many units and how many characters stand before it, and its unit.
+/// Returns the first fault, for a message: how many units and how many characters precede it, and its unit.
 pub fn first_fault(units: &[u16]) -> Option<(usize, usize, u16)>
     ensures fault { IfSome result (λ fault. IsFirstFault Utf16 units.now fault.0 fault.1 fault.2) }
     ensures none { IsNone result ↔ IsWellFormed Utf16 units.now }
@@ -31,14 +31,14 @@ pub fn first_fault(units: &[u16]) -> Option<(usize, usize, u16)>
     Some((fault.index(), fault.item(), unit))
 }
 
-/// Whether the units are well-formed UTF-16.
+/// Returns whether the units are well-formed UTF-16.
 pub fn is_text(units: &[u16]) -> bool
     ensures { IsTrue result ↔ IsWellFormed Utf16 units.now }
 {
     Utf16Str::from_slice(units).is_ok()
 }
 
-/// Whether the units are well-formed UTF-32.
+/// Returns whether the units are well-formed UTF-32.
 pub fn is_wide_text(units: &[u32]) -> bool
     ensures { IsTrue result ↔ IsWellFormed Utf32 units.now }
 {

@@ -1,8 +1,9 @@
-//! Ordinary callers of the library, as an application would write them: each is proved with no proof file.
+//! Ordinary callers of the library, as an application would write them: each is proved without a proof file.
 //!
-//! They show that what a call asks for stands in the same words as what other calls give: places that a call answered, places at
-//! the ends, and places that the caller has compared. `CALLING.md` begins with some of them. The modules `examples_*` say what a call
-//! returns, mostly at concrete units: each fails where the call's contract no longer tells it.
+//! They show that what a call requires follows from the contracts of other calls: offsets that a call returned, offsets
+//! of the ends, and offsets that the caller has compared. `CALLING.md` begins with some of them. The modules
+//! `examples_*` state what a call returns, mostly at concrete units: each fails if the call's contract no longer
+//! implies it.
 #![tactic(auto)]
 
 pub mod bytes;

@@ -1,4 +1,4 @@
-//! Edits as data: of one text, of two that are alike in two encodings, and of a text with kept marks.
+//! Edits as data: of one text, of two with the same characters in two encodings, and of a text with an offset index.
 ghost use Rattle.std.specs.Prelude.{◌≡◌, ◌<◌, ◌≤◌, ◌↔◌, [], ◌∷◌, length, take, map, IsSome, IfSome, IfOk, IfErr, OnOk, OnErr};
 ghost use Rattle.std.specs.Str.{chars as str_chars};
 ghost use Rattle.widestring.specs.EncodingForm.{Utf16, Utf32, encode};
@@ -12,7 +12,7 @@ use widestring::edit::{Edit, Marked16, Reply, Steps, Stopped, TextEdit, run, run
 use widestring::error::OutOfMemory;
 use widestring::{Utf16String, Utf32String};
 
-/// Five edits of `a😀b` in both encodings, the last of which puts one character in the place of two.
+/// Makes five edits of `a😀b` in both encodings. The last one replaces two characters by one.
 pub fn edit_both(
     alloc: Global,
     first: &mut Utf16String,
@@ -44,7 +44,7 @@ pub fn edit_both(
     run_both(alloc, first, second, &edits, first_replies, second_replies)
 }
 
-/// The same edits of one text, of any kind.
+/// Makes five edits of `a😀b`, in one text of any kind. The last one replaces two characters by one.
 pub fn edit_one<T: TextEdit>(
     alloc: Global,
     text: &mut T,
@@ -68,7 +68,11 @@ pub fn edit_one<T: TextEdit>(
     run(alloc, text, &edits, replies)
 }
 
-/// One edit, whose memory is found first.
+/// Makes one edit, and allocates its memory before.
+///
+/// # Errors
+///
+/// [`OutOfMemory`] if the allocation fails; the text is unchanged.
 pub fn edit_now<T: TextEdit>(
     alloc: Global,
     text: &mut T,
@@ -82,7 +86,7 @@ pub fn edit_now<T: TextEdit>(
     Ok(text.apply(edit, room))
 }
 
-/// Two texts that begin alike end alike, whatever the edits are.
+/// Makes any edits of two texts with the same characters, which have the same characters afterwards.
 pub fn edits_keep_alike(
     alloc: Global,
     first: &mut Utf16String,
@@ -100,7 +104,7 @@ pub fn edits_keep_alike(
     run_both(alloc, first, second, edits, first_replies, second_replies)
 }
 
-/// The text that edits make of a text, in UTF-16.
+/// Returns the text that edits make of a text, in UTF-16.
 pub fn edited(alloc: Global, text: &str, edits: &[Edit<'_>]) -> Result<Utf16String, OutOfMemory>
     ensures { IfOk result (λ string. string.units ≡ encode Utf16 (meaning (str_chars text.now) edits.now).0) }
 {
@@ -112,7 +116,7 @@ pub fn edited(alloc: Global, text: &str, edits: &[Edit<'_>]) -> Result<Utf16Stri
     }
 }
 
-/// The same of a string, with kept marks meanwhile.
+/// Returns the string that edits make of a string, with an offset index meanwhile.
 pub fn edited_with_marks(
     alloc: Global,
     string: Utf16String,
@@ -130,7 +134,8 @@ pub fn edited_with_marks(
     }
 }
 
-/// Where a character of the string begins once edits were made. However long the text is, at most 126 units are read to find it.
+/// Returns the offset at which a character begins after edits. However long the text is, at most 126 units are read to
+/// find it.
 pub fn find_edited(
     alloc: Global,
     string: Utf16String,
@@ -151,7 +156,7 @@ pub fn find_edited(
     }
 }
 
-/// The units before a character of a text with kept marks.
+/// Returns the units before a character of a text with an offset index.
 pub fn front_of<'a>(marked: &'a Marked16, index: usize, steps: &mut Steps) -> Option<&'a [u16]>
     ensures front { IfSome result (λ front. chars Utf16 front.now ≡ take index (marked_text marked.now)) }
     ensures steps { AddsAtMost steps.old steps.new 126 }

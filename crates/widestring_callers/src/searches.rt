@@ -1,4 +1,4 @@
-//! Texts cut and edited where something was found in them.
+//! Texts split and edited at the results of searches.
 ghost use Rattle.std.specs.Prelude.{◌≡◌, ◌≤◌, length};
 ghost use Rattle.widestring.specs.EncodingForm.{Utf16, code_units};
 ghost use Rattle.widestring.specs.SearchCut.{pieces};
@@ -12,7 +12,7 @@ use widestring::utfstr::{Split, UtfStr};
 use widestring::utfstring::UtfString;
 use widestring::{U16CStr, U16Str, Utf16Str, Utf16String};
 
-/// The text before the part, and the text behind it.
+/// Returns the text before the first occurrence of a needle, and the text after it.
 pub fn around<'a>(text: Utf16Str<'a>, part: Utf16Str<'_>) -> Option<(Utf16Str<'a>, Utf16Str<'a>)> {
     let at = text.find(part)?;
     let (front, _) = text.split_at(at);
@@ -20,7 +20,7 @@ pub fn around<'a>(text: Utf16Str<'a>, part: Utf16Str<'_>) -> Option<(Utf16Str<'a
     Some((front, rest))
 }
 
-/// The same at its last place, at any width.
+/// Returns the text before the last occurrence of a needle, and the text after it, at any width.
 pub fn around_last<'a, C: Unit>(
     text: UtfStr<'a, C>,
     part: UtfStr<'_, C>,
@@ -31,7 +31,7 @@ pub fn around_last<'a, C: Unit>(
     Some((front, rest))
 }
 
-/// The text behind the part, which a range gives.
+/// Returns the text after the first occurrence of a needle, by a range.
 pub fn behind<'a>(text: Utf16Str<'a>, part: Utf16Str<'_>) -> Option<Utf16Str<'a>> {
     let at = text.find(part)?;
     let Some(rest) = text.get(at + part.len()..) else {
@@ -40,14 +40,14 @@ pub fn behind<'a>(text: Utf16Str<'a>, part: Utf16Str<'_>) -> Option<Utf16Str<'a>
     Some(rest)
 }
 
-/// The text behind the last such character, at any width.
+/// Returns the text after the last occurrence of a character, at any width.
 pub fn behind_char<C: Unit>(text: UtfStr<'_, C>, c: char) -> Option<UtfStr<'_, C>> {
     let at = text.rfind_char(c)?;
     let (_, rest) = text.split_at(at + C::char_len(c));
     Some(rest)
 }
 
-/// Puts a dash in front of the part, where it stands in the text.
+/// Inserts a dash before the first occurrence of a needle, if it occurs in the text.
 pub fn mark_part(text: &mut Utf16String, part: Utf16Str<'_>) -> Result<(), OutOfMemory> {
     match text.as_utfstr().find(part) {
         Some(at) => text.insert(at, '-'),
@@ -55,7 +55,7 @@ pub fn mark_part(text: &mut Utf16String, part: Utf16Str<'_>) -> Result<(), OutOf
     }
 }
 
-/// Puts a dash in front of the last such character, at any width.
+/// Inserts a dash before the last occurrence of a character, at any width.
 pub fn mark_char<C: FaultUnit>(text: &mut UtfString<C>, c: char) -> Result<(), OutOfMemory> {
     match text.as_utfstr().rfind_char(c) {
         Some(at) => text.insert(at, '-'),
@@ -63,21 +63,21 @@ pub fn mark_char<C: FaultUnit>(text: &mut UtfString<C>, c: char) -> Result<(), O
     }
 }
 
-/// Takes away what stands from the part on.
+/// Removes the text from the first occurrence of a needle on.
 pub fn cut_from(text: &mut Utf16String, part: Utf16Str<'_>) {
     if let Some(at) = text.as_utfstr().find(part) {
         text.drain(at..);
     }
 }
 
-/// Takes away what stands behind the first such character.
+/// Removes the text after the first occurrence of a character.
 pub fn cut_behind(text: &mut Utf16String, c: char) {
     if let Some(at) = text.as_utfstr().find_char(c) {
         text.drain(at + u16::char_len(c)..);
     }
 }
 
-/// No more than so many units of the text, and none of a character in part.
+/// Returns at most this many units of the text, without splitting a character.
 pub fn at_most<C: Unit>(text: UtfStr<'_, C>, units: usize) -> UtfStr<'_, C>
     ensures { length (units_seen result) ≤ units }
 {
@@ -85,7 +85,7 @@ pub fn at_most<C: Unit>(text: UtfStr<'_, C>, units: usize) -> UtfStr<'_, C>
     front
 }
 
-/// At least so many, where there are so many.
+/// Returns at least this many units of the text, if there are as many, without splitting a character.
 pub fn at_least<C: Unit>(text: UtfStr<'_, C>, units: usize) -> UtfStr<'_, C>
     ensures { units ≤ length (units_seen text.entry) → units ≤ length (units_seen result) }
 {
@@ -93,7 +93,7 @@ pub fn at_least<C: Unit>(text: UtfStr<'_, C>, units: usize) -> UtfStr<'_, C>
     front
 }
 
-/// A key and its value, where the text has an equals sign.
+/// Returns a key and its value, if the text has an equals sign.
 pub fn key_and_value<'a>(
     text: Utf16Str<'a>,
     sign: Utf16Str<'_>,
@@ -102,7 +102,7 @@ pub fn key_and_value<'a>(
     Some((key.trim(), value.trim()))
 }
 
-/// How many pieces there are between such characters.
+/// Returns how many substrings a character separates.
 pub fn count_pieces(text: Utf16Str<'_>, c: char) -> usize {
     let mut count = 0_usize;
     for _ in text.split_char(c) {
@@ -111,7 +111,7 @@ pub fn count_pieces(text: Utf16Str<'_>, c: char) -> usize {
     count
 }
 
-/// The units before such a unit, of any units.
+/// Returns the units before the first occurrence of a unit, or all units, which may be ill-formed.
 pub fn before_unit(units: U16Str<'_>, unit: u16) -> U16Str<'_> {
     match units.find_unit(unit) {
         Some(at) => {
@@ -122,12 +122,12 @@ pub fn before_unit(units: U16Str<'_>, unit: u16) -> U16Str<'_> {
     }
 }
 
-/// The units behind a part that they begin with, and else all.
+/// Returns the units after a prefix, or all units if they do not begin with it.
 pub fn without_front<'a>(units: U16Str<'a>, part: U16Str<'_>) -> U16Str<'a> {
     units.strip_prefix(part).unwrap_or(units)
 }
 
-/// The name of a path's last part, in a C string.
+/// Returns the last component of a path in a C string.
 pub fn last_part<'a>(path: U16CStr<'a>, slash: char) -> U16Str<'a> {
     match path.rfind_char(slash) {
         Some(at) => {
@@ -138,7 +138,7 @@ pub fn last_part<'a>(path: U16CStr<'a>, slash: char) -> U16Str<'a> {
     }
 }
 
-/// The place of the first line that is the mark, and nothing else.
+/// Returns the offset of the first line that equals `mark`.
 pub fn line_of(text: Utf16Str<'_>, mark: Utf16Str<'_>) -> Option<usize> {
     for (place, line) in text.line_indices() {
         if line == mark {
@@ -148,7 +148,7 @@ pub fn line_of(text: Utf16Str<'_>, mark: Utf16Str<'_>) -> Option<usize> {
     None
 }
 
-/// The number of the first line that is the mark, counted from 0.
+/// Returns the index of the first line that equals `mark`, from 0.
 pub fn number_of_line(text: Utf16Str<'_>, mark: Utf16Str<'_>) -> Option<usize> {
     for (number, line) in text.lines().enumerate() {
         if line == mark {
@@ -158,7 +158,7 @@ pub fn number_of_line(text: Utf16Str<'_>, mark: Utf16Str<'_>) -> Option<usize> {
     None
 }
 
-/// The same of any units.
+/// Returns the index of the first line that equals `mark`, from 0, of units that may be ill-formed.
 pub fn number_of_any_line(units: U16Str<'_>, mark: U16Str<'_>) -> Option<usize> {
     for (number, line) in units.lines_lossy().enumerate() {
         if line == mark {
@@ -168,7 +168,7 @@ pub fn number_of_any_line(units: U16Str<'_>, mark: U16Str<'_>) -> Option<usize> 
     None
 }
 
-/// The number of the first field of a row that is the mark.
+/// Returns the index of the first field of a row that equals `mark`.
 pub fn number_of_field(row: Utf16Str<'_>, mark: Utf16Str<'_>) -> Option<usize> {
     for (number, field) in row.split_char(',').enumerate() {
         if field == mark {
@@ -178,7 +178,8 @@ pub fn number_of_field(row: Utf16Str<'_>, mark: Utf16Str<'_>) -> Option<usize> {
     None
 }
 
-/// The same of any units, at a part of any length.
+/// Returns the index of the first field of a row that equals `mark`, for units that may be ill-formed and a separator
+/// of any length.
 pub fn number_of_any_field(row: U16Str<'_>, part: U16Str<'_>, mark: U16Str<'_>) -> Option<usize> {
     for (number, field) in row.split(part).enumerate() {
         if field == mark {
@@ -188,7 +189,7 @@ pub fn number_of_any_field(row: U16Str<'_>, part: U16Str<'_>, mark: U16Str<'_>) 
     None
 }
 
-/// The text before the first line that is the mark, and from that line on.
+/// Returns the text before the first line that equals `mark`, and the text from that line on.
 pub fn parted_at_line<'a>(
     text: Utf16Str<'a>,
     mark: Utf16Str<'_>,
@@ -201,7 +202,7 @@ pub fn parted_at_line<'a>(
     None
 }
 
-/// Puts a character before the last one that is `mark`.
+/// Inserts a character before the last one that equals `mark`.
 pub fn insert_before_last(text: &mut Utf16String, mark: char, c: char) -> Result<(), OutOfMemory> {
     match text.as_utfstr().char_indices().rfind(|at| at.1 == mark) {
         Some((at, _)) => text.insert(at, c),
@@ -209,7 +210,8 @@ pub fn insert_before_last(text: &mut Utf16String, mark: char, c: char) -> Result
     }
 }
 
-/// Puts a character before the last one that is `mark`, whose place a loop remembers: that it is a boundary is asked once behind the loop.
+/// Inserts a character before the last one that equals `mark`. A loop remembers its offset, so the code checks once
+/// after the loop that it is a boundary.
 pub fn insert_before_remembered(
     text: &mut Utf16String,
     mark: char,
@@ -227,7 +229,7 @@ pub fn insert_before_remembered(
     }
 }
 
-/// What stands before the first such character, and from it on.
+/// Returns the text before the first occurrence of a character, and the text from it on.
 pub fn parted<'a>(text: Utf16Str<'a>, mark: char) -> (Utf16Str<'a>, Utf16Str<'a>) {
     match text.find_char(mark) {
         Some(at) => text.split_at(at),
@@ -235,21 +237,21 @@ pub fn parted<'a>(text: Utf16Str<'a>, mark: char) -> (Utf16Str<'a>, Utf16Str<'a>
     }
 }
 
-/// Each text without the blanks at its ends.
+/// Trims the whitespace at both ends of each text.
 pub fn trim_all(views: &mut Vec<Utf16Str<'_>>) {
     for view in views.iter_mut() {
         *view = view.trim();
     }
 }
 
-/// The same by numbers.
+/// Trims the whitespace at both ends of each text, by index.
 pub fn trim_each(views: &mut Vec<Utf16Str<'_>>) {
     for number in 0..views.len() {
         views[number] = views[number].trim();
     }
 }
 
-/// How many lines there are.
+/// Returns how many lines there are.
 pub fn count_lines(text: Utf16Str<'_>) -> usize {
     let mut count = 0_usize;
     for _ in text.lines() {
@@ -258,14 +260,14 @@ pub fn count_lines(text: Utf16Str<'_>) -> usize {
     count
 }
 
-/// The fields of a line between commas, which are the pieces of its units.
+/// Returns the fields of a line between commas, which are the substrings of its units.
 pub fn fields<'a>(line: Utf16Str<'a>, comma: Utf16Str<'a>) -> Split<Utf16Str<'a>, Utf16Str<'a>>
     ensures { text_pieces_left (λ u. u) result ≡ pieces (units_seen comma.entry) (units_seen line.entry) }
 {
     line.split(comma)
 }
 
-/// The fields of a line between characters, which are the pieces of its units.
+/// Returns the fields of a line between characters, which are the substrings of its units.
 pub fn fields_between(line: Utf16Str<'_>, c: char) -> Split<Utf16Str<'_>, char>
     ensures { ArePieces (code_units Utf16 c) (units_seen line.entry) (char_pieces_left Utf16 (λ u. u) result) }
 {

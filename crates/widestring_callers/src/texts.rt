@@ -1,4 +1,4 @@
-//! Text that is put into wide strings, and taken out again.
+//! Converts text to wide strings and back.
 ghost use Rattle.std.specs.Prelude.{◌≡◌, IfOk, IfSome, string_bytes};
 ghost use Rattle.std.specs.Str.{chars};
 ghost use Rattle.widestring.specs.EncodingForm.{Utf16, encode};
@@ -8,7 +8,7 @@ use std::alloc::Global;
 use widestring::error::{OutOfMemory, Utf16ConvertError, Utf32ConvertError};
 use widestring::{U16CString, U16String, U32CString, U32String, Utf16String, Utf32String};
 
-/// The text, by way of UTF-16 that may be ill formed.
+/// Returns the text, by way of UTF-16 that may be ill-formed.
 pub fn through_utf16(alloc: Global, text: &str) -> Result<String, Utf16ConvertError>
     ensures { IfOk result (λ same. string_bytes same ≡ text.now) }
 {
@@ -16,7 +16,7 @@ pub fn through_utf16(alloc: Global, text: &str) -> Result<String, Utf16ConvertEr
     string.as_ustr().to_string(alloc)
 }
 
-/// The text, by way of UTF-32 that may be ill formed.
+/// Returns the text, by way of UTF-32 that may be ill-formed.
 pub fn through_utf32(alloc: Global, text: &str) -> Result<String, Utf32ConvertError>
     ensures { IfOk result (λ same. string_bytes same ≡ text.now) }
 {
@@ -24,7 +24,7 @@ pub fn through_utf32(alloc: Global, text: &str) -> Result<String, Utf32ConvertEr
     string.as_ustr().to_string(alloc)
 }
 
-/// The text, by way of well-formed UTF-16.
+/// Returns the text, by way of well-formed UTF-16.
 pub fn through_text16(alloc: Global, text: &str) -> Result<String, OutOfMemory>
     ensures { IfOk result (λ same. string_bytes same ≡ text.now) }
 {
@@ -32,7 +32,7 @@ pub fn through_text16(alloc: Global, text: &str) -> Result<String, OutOfMemory>
     string.as_utfstr().to_string(alloc)
 }
 
-/// The text, by way of well-formed UTF-32.
+/// Returns the text, by way of well-formed UTF-32.
 pub fn through_text32(alloc: Global, text: &str) -> Result<String, OutOfMemory>
     ensures { IfOk result (λ same. string_bytes same ≡ text.now) }
 {
@@ -40,7 +40,7 @@ pub fn through_text32(alloc: Global, text: &str) -> Result<String, OutOfMemory>
     string.as_utfstr().to_string(alloc)
 }
 
-/// The text, by way of a C string of UTF-16; none where memory was refused, or the text holds a NUL.
+/// Returns the text, by way of a C string of UTF-16, or `None` if an allocation fails or the text contains a NUL.
 pub fn through_c_string16(alloc: Global, text: &str) -> Option<String>
     ensures { IfSome result (λ same. string_bytes same ≡ text.now) }
 {
@@ -48,7 +48,7 @@ pub fn through_c_string16(alloc: Global, text: &str) -> Option<String>
     string.as_ucstr().to_string(alloc).ok()
 }
 
-/// The text, by way of a C string of UTF-32; none where memory was refused, or the text holds a NUL.
+/// Returns the text, by way of a C string of UTF-32, or `None` if an allocation fails or the text contains a NUL.
 pub fn through_c_string32(alloc: Global, text: &str) -> Option<String>
     ensures { IfSome result (λ same. string_bytes same ≡ text.now) }
 {
@@ -56,7 +56,11 @@ pub fn through_c_string32(alloc: Global, text: &str) -> Option<String>
     string.as_ucstr().to_string(alloc).ok()
 }
 
-/// A text that holds no NUL, by way of a C string of UTF-16; none where memory was refused.
+/// Returns a text without a NUL, by way of a C string of UTF-16, or `None` if an allocation fails.
+///
+/// # Requires
+///
+/// The text contains no NUL.
 pub fn through_c_string_of_text(alloc: Global, text: &str) -> Option<String>
     requires { HasNoNul (encode Utf16 (chars text.now)) }
     ensures { IfSome result (λ same. string_bytes same ≡ text.now) }
