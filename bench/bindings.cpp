@@ -1,6 +1,6 @@
-// Times widestring.hpp beside the calls in C that it makes, which write into a buffer that is there: `bench/bindings` builds and runs it.
-// Times are the thread's processor time, the best of many rounds in which both take turns. Each line has the time of C, and that of C++ as a
-// multiple of it.
+// Times widestring.hpp against the C functions that it calls, which write into an existing buffer: `bench/bindings`
+// builds and runs it. Times are the thread's processor time, the best of many rounds in which both take turns. Each
+// line has the time of C, and that of C++ as a multiple of it.
 #include <algorithm>
 #include <cstdio>
 #include <cstdlib>
@@ -22,7 +22,7 @@ void must(bool holds) {
         std::abort();
 }
 
-// What one call takes in a round of them.
+// Returns the time of one call in a round of them.
 template <class Call> double round_of(int calls, Call call) {
     must(call());
     const double begun = nanoseconds();
@@ -41,7 +41,8 @@ template <class InC, class InCpp> void race(const char *call, const char *kind, 
     std::printf("%-16s %-22s %8zu units %10.0f ns %6.2f\n", call, kind, length, best_c, best_cpp / best_c);
 }
 
-// Words of two to ten letters: of ASCII, or half of them Chinese and the others with a sixth of their letters beyond ASCII.
+// Words of two to ten letters: of ASCII, or half of them Chinese and the others with a sixth of their letters beyond
+// ASCII.
 std::u16string made(std::size_t length, bool is_mixed) {
     std::mt19937 numbers(2);
     const auto below = [&](unsigned bound) { return static_cast<unsigned>(numbers()) % bound; };

@@ -1,5 +1,5 @@
-"""Times widestring.py beside Python's own codecs, by way of a string: `bench/bindings` runs it. Each line has the time of the library, and it as
-a multiple of that of the codecs."""
+"""Times widestring.py against Python's own codecs, which go through a string: `bench/bindings` runs it. Each line
+has the time of the library, and this time as a multiple of that of the codecs."""
 
 import random
 import time
@@ -10,7 +10,7 @@ UNITS = 524288
 
 
 def best(call, calls=5, rounds=60):
-    """The least time of a call, in seconds of this thread's processor time."""
+    """Returns the least time of a call, in seconds of this thread's processor time."""
     times = []
     for _ in range(rounds):
         begun = time.thread_time_ns()
@@ -25,7 +25,8 @@ def ascii_text(units):
 
 
 def mixed_text(units):
-    """Words of two to ten letters, half of the words Chinese, the others with a sixth of their letters beyond ASCII."""
+    """Returns words of two to ten letters, half of the words Chinese, the others with a sixth of their letters
+    beyond ASCII."""
     letters = []
     while len(letters) < units:
         is_chinese = random.random() < 0.5

@@ -1,5 +1,5 @@
-//! Times the crate of bindings/rust beside the calls in C that it makes, which write into a buffer that is there. Each line has the time of C,
-//! and that of the crate as a multiple of it.
+//! Times the crate of bindings/rust against the C functions that it calls, which write into an existing buffer. Each
+//! line has the time of C, and that of the crate as a multiple of it.
 #[allow(dead_code)]
 mod clock;
 #[allow(dead_code)]

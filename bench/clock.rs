@@ -1,4 +1,4 @@
-//! What calls cost in this thread.
+//! Measures what calls cost in this thread.
 
 #[repr(C)]
 struct Time {
@@ -10,7 +10,7 @@ extern "C" {
     fn clock_gettime(clock: i32, time: *mut Time) -> i32;
 }
 
-/// CLOCK_THREAD_CPUTIME_ID of Linux: other work on the machine is not counted.
+/// CLOCK_THREAD_CPUTIME_ID of Linux: it does not count other work on the machine.
 const THREAD_PROCESSOR_TIME: i32 = 3;
 
 fn nanoseconds() -> f64 {
@@ -20,11 +20,11 @@ fn nanoseconds() -> f64 {
     time.seconds as f64 * 1e9 + time.nanoseconds as f64
 }
 
-/// A round of calls, which answers the nanoseconds that one took.
+/// A round of calls, which returns the nanoseconds that one took.
 pub type Round<'a> = Box<dyn FnMut() -> f64 + 'a>;
 
-/// A round of so many calls. Each has to answer that it went well. One before them is not timed: what ran before may have given
-/// back memory.
+/// Returns a round of this many calls, each of which must return true. One call before them is not timed, since the
+/// previous code may have freed memory.
 pub fn round<'a>(calls: u32, mut call: impl FnMut() -> bool + 'a) -> Round<'a> {
     Box::new(move || {
         assert!(call());
@@ -36,7 +36,7 @@ pub fn round<'a>(calls: u32, mut call: impl FnMut() -> bool + 'a) -> Round<'a> {
     })
 }
 
-/// The best time of each, of so many rounds, in which they take turns.
+/// Returns the best time of each runner in this many rounds, in which they take turns.
 pub fn best_times(rounds: u32, runners: &mut [Round]) -> Vec<f64> {
     let mut best = vec![f64::MAX; runners.len()];
     for _ in 0..rounds {

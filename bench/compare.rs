@@ -1,4 +1,4 @@
-//! The answers of the static library and of its peers beside std's, on units made at random.
+//! Compares the results of the static library and of its peers with std's, on random units.
 
 use crate::conversions::{
     Conversion, REPAIR, TO_UTF16, TO_UTF16_LOSSY, TO_UTF32, TO_UTF8, TO_UTF8_LOSSY, UTF16_TO_UTF32, UTF32_TO_UTF16, UTF32_TO_UTF8,
@@ -7,9 +7,9 @@ use crate::policies::{TO_UTF16_BY, TO_UTF32_BY, UTF16_TO_UTF8_BY, UTF32_TO_UTF8_
 use crate::texts::Random;
 use std::fmt::UpperHex;
 
-/// Elements on both sides of a room, which no call may write.
+/// Elements on both sides of a buffer, which no call may write.
 const MARGIN: usize = 80;
-/// Units at both ends of the characters of one, two and three bytes, of surrogates, and of all units.
+/// The first and last units that begin characters of one, two and three bytes, surrogates, and the limits of all units.
 const EDGES: [u16; 14] = [0, 0x7f, 0x80, 0x7ff, 0x800, 0xd7ff, 0xd800, 0xdbff, 0xdc00, 0xdfff, 0xe000, 0xfffd, 0xffff, 0x61];
 
 struct Counts {
@@ -18,7 +18,7 @@ struct Counts {
 }
 
 impl Counts {
-    /// Counts an answer, and prints the first ones that differ.
+    /// Counts a result, and prints the first ones that differ.
     fn add(&mut self, agrees: bool, what: &str, input: &[impl UpperHex]) {
         if agrees {
             self.agreeing += 1;
@@ -32,7 +32,7 @@ impl Counts {
     }
 }
 
-/// Any units, in one of several mixtures.
+/// Returns any units, in one of several mixtures.
 fn any_units(random: &mut Random) -> Vec<u16> {
     let limit = [25, 70, 200, 9_000][[0, 0, 1, 1, 1, 2, 2, 2, 2, 3][random.below(10)]];
     let (length, mixture) = (random.below(limit), random.below(8));
@@ -54,13 +54,14 @@ fn any_units(random: &mut Random) -> Vec<u16> {
     units
 }
 
-/// Rooms of no, of too few, of as many and of more elements than are needed.
+/// Returns buffer sizes of no elements, of too few, of exactly enough and of more than enough.
 fn rooms(needed: usize, random: &mut Random) -> [usize; 5] {
     [0, random.below(needed + 1), needed.saturating_sub(1 + random.below(8)), needed, needed + 1 + random.below(MARGIN)]
 }
 
-/// Whether the library answers the same as std, in the midst of a buffer of elements made at random. What is behind the answer is as it
-/// was, and so is all of it for a fault; where the room is too small, all around the room is.
+/// Returns whether the library returns the same as std, in the middle of a buffer of random elements. Everything after
+/// the result must be unchanged, and all of the buffer for a fault. If the buffer is too short, everything around it
+/// must be unchanged.
 fn answers_alike<From, To: Copy + Eq + TryFrom<usize>>(
     conversion: &Conversion<From, To>,
     input: &[From],
@@ -101,7 +102,7 @@ fn compare_one<From: UpperHex, To: Copy + Default + Eq + TryFrom<usize>>(
     counts: &mut Counts,
 ) {
     let answer = (conversion.std)(input, &mut []);
-    // Where the Rust crate's answers differ is known, and told in docs/DIFFERENCES.md.
+    // docs/DIFFERENCES.md describes where the Rust crate's results differ.
     for (name, peer) in conversion.others {
         let mut ample = vec![To::default(); conversion.ample_room(input.len())];
         counts.add(peer(input, &mut ample) == answer, &format!("{} by {name}", conversion.name), input);
@@ -113,7 +114,8 @@ fn compare_one<From: UpperHex, To: Copy + Default + Eq + TryFrom<usize>>(
     }
 }
 
-/// The text of the units in UTF-8, lossy. In each second text some bytes are others, and in some of those the last character is cut.
+/// Returns the lossy UTF-8 of the units. In every second text some bytes are replaced, and in some of those the last
+/// character is cut off.
 fn any_bytes(units: &[u16], random: &mut Random) -> Vec<u8> {
     let mut bytes = String::from_utf16_lossy(units).into_bytes();
     if bytes.is_empty() || random.below(2) == 0 {
@@ -129,7 +131,7 @@ fn any_bytes(units: &[u16], random: &mut Random) -> Vec<u8> {
     bytes
 }
 
-/// The characters of the units, lossy. In each second text one of them is any unit.
+/// Returns the characters of the units, lossily. In every second text one of them is any unit.
 fn any_scalars(units: &[u16], random: &mut Random) -> Vec<u32> {
     let mut scalars: Vec<u32> = String::from_utf16_lossy(units).chars().map(u32::from).collect();
     if !scalars.is_empty() && random.below(2) == 0 {
@@ -139,7 +141,7 @@ fn any_scalars(units: &[u16], random: &mut Random) -> Vec<u32> {
     scalars
 }
 
-/// Compares so many inputs, and answers whether none differs.
+/// Compares this many inputs, and returns whether none differs.
 pub fn compare(seed: u64, count: u64) -> bool {
     let mut random = Random::new(seed);
     let mut counts = Counts { agreeing: 0, differing: 0 };

@@ -15,10 +15,12 @@ extern "C" {
     fn wide_utf16_repair(units: *const u16, length: usize, repaired: *mut u16, room: usize) -> usize;
 }
 
-/// A call of the library: it writes into the room, and answers the length that is needed, or the greatest number for a fault.
+/// A function of the library: it writes into the buffer, and returns the needed length, or the greatest number for a
+/// fault.
 pub type Library<From, To> = fn(&[From], &mut [To]) -> usize;
 
-/// A peer's call: what it answers stands in the room, which is ample, or in memory of its own. There is none for a fault.
+/// A function of a peer: its result is in the buffer, which is large enough, or in memory of its own. It returns `None`
+/// for a fault.
 pub type Peer<From, To> = for<'a> fn(&[From], &'a mut [To]) -> Option<Cow<'a, [To]>>;
 
 /// A conversion that several libraries have.
@@ -26,21 +28,21 @@ pub struct Conversion<From: 'static, To: Clone + 'static> {
     pub name: &'static str,
     pub library: Library<From, To>,
     pub rust_crate: Peer<From, To>,
-    /// By std, which also judges the others' answers.
+    /// The conversion of std, which is also the reference for the others' results.
     pub std: Peer<From, To>,
-    /// By what else is here, with their names.
+    /// The conversions of other available libraries, with their names.
     pub others: &'static [(&'static str, Peer<From, To>)],
-    /// How many elements an answer has at most for each that is converted.
+    /// How many elements a result has at most for each element of the input.
     pub growth: usize,
 }
 
 impl<From, To: Clone> Conversion<From, To> {
-    /// A room that is ample for each peer.
+    /// Returns a buffer size that suffices for each peer.
     pub fn ample_room(&self, length: usize) -> usize {
         self.growth * length + 1
     }
 
-    /// All peers, with their names.
+    /// Returns all peers, with their names.
     pub fn peers(&self) -> impl Iterator<Item = (&'static str, Peer<From, To>)> {
         let always = [("Rust crate", self.rust_crate), ("std", self.std)];
         always.into_iter().chain(self.others.iter().copied())
@@ -49,7 +51,7 @@ impl<From, To: Clone> Conversion<From, To> {
 
 pub const TO_UTF8: Conversion<u16, u8> = Conversion {
     name: "to UTF-8",
-    // Each slice is memory that may be read or written, of its length, here and below.
+    // Each slice is memory of its length that may be read or written, here and below.
     library: |units, text| unsafe { wide_utf16_to_utf8(units.as_ptr(), units.len(), text.as_mut_ptr(), text.len()) },
     rust_crate: |units, _| Some(Cow::Owned(U16Str::from_slice(units).to_string().ok()?.into_bytes())),
     std: |units, _| Some(Cow::Owned(String::from_utf16(units).ok()?.into_bytes())),
@@ -113,7 +115,7 @@ pub const TO_UTF16_LOSSY: Conversion<u8, u16> = Conversion {
     growth: 1,
 };
 
-/// Neither encoding_rs nor ICU has calls for UTF-32 of a whole text in memory.
+/// Neither encoding_rs nor ICU has functions for UTF-32 of a whole text in memory.
 pub const TO_UTF32: Conversion<u8, u32> = Conversion {
     name: "to UTF-32",
     library: |text, units| unsafe { wide_utf8_to_utf32(text.as_ptr(), text.len(), units.as_mut_ptr(), units.len()) },
@@ -168,7 +170,7 @@ pub const UTF32_TO_UTF16: Conversion<u32, u16> = Conversion {
     growth: 2,
 };
 
-/// ICU has no call for this one.
+/// ICU has no function for this conversion.
 pub const REPAIR: Conversion<u16, u16> = Conversion {
     name: "repair",
     library: |units, repaired| unsafe { wide_utf16_repair(units.as_ptr(), units.len(), repaired.as_mut_ptr(), repaired.len()) },
@@ -192,7 +194,7 @@ mod encoding {
     use encoding_rs::mem;
     use std::borrow::Cow;
 
-    /// Its one conversion is lossy, so what is to be strict is validated first.
+    /// Its one conversion is lossy, so a strict one validates first.
     pub fn to_utf8<'a>(units: &[u16], text: &'a mut [u8]) -> Option<Cow<'a, [u8]>> {
         if mem::utf16_valid_up_to(units) == units.len() {
             to_utf8_lossy(units, text)
@@ -230,7 +232,7 @@ mod icu {
     use std::borrow::Cow;
     use std::ffi::c_char;
 
-    // ICU's names end with its version, which bench/kernels puts in.
+    // ICU's names end with its version, which bench/kernels inserts.
     extern "C" {
         #[link_name = "u_strToUTF8ICU_SUFFIX"]
         fn u_str_to_utf8(text: *mut c_char, room: i32, needed: *mut i32, units: *const u16, length: i32, error: *mut i32) -> *mut c_char;
@@ -246,7 +248,8 @@ mod icu {
         ) -> *mut u16;
     }
 
-    /// The front of the room, of the length that a call wrote, which takes that and its error by pointers. Below 0 are warnings.
+    /// Returns the part of the buffer that a call wrote; the call returns its length and its error by pointers. Errors
+    /// below 0 are warnings.
     fn front<To: Clone>(room: &mut [To], call: impl FnOnce(*mut To, i32, *mut i32, *mut i32)) -> Option<Cow<'_, [To]>> {
         let (mut length, mut error) = (0, 0);
         call(room.as_mut_ptr(), room.len() as i32, &mut length, &mut error);

@@ -1,6 +1,6 @@
-"""What `example_registry` prints of registry exports, worked out from the format alone.
+"""What `example_registry` prints for registry exports, worked out from the format alone.
 
-A text is a Python string with one character for each UTF-16 unit, so that a place in it is a number of units.
+A text is a Python string with one character for each UTF-16 unit, so an offset in it is a number of units.
 """
 
 import re
@@ -16,20 +16,21 @@ DWORD = re.compile(r"dword:[0-9a-fA-F]{1,8}\Z")
 BYTE = re.compile(r"[0-9a-fA-F]{2}\Z")
 KEY = re.compile(r"\[(?!-\]\Z).+\]\Z", re.S)
 ESCAPE = re.compile(r"\\(.)?", re.S)
-# What a line that follows `,\` begins with where it has no bytes.
+# What a line after `,\` begins with if it has no bytes.
 NO_BYTES = re.compile(r"\Z|\r?\n|[\[\"@;\r]")
 LINE_END = re.compile(r"\r?\n")
 SHOWN = {"\0": r"\0", "\t": r"\t", "\n": r"\n", "\r": r"\r", '"': r"\"", "\\": r"\\"}
-# What of the units of bytes is shown as it is, beside ASCII: what other characters print is not known here.
+# Characters of bytes as UTF-16 that are printed as they are, besides ASCII: this model does not know how other
+# characters are printed.
 PLAIN = "\u6df1\U0001f41f\U0001f400"
 
 
 class Unknown(Exception):
-    """What is printed is not known here."""
+    """This model does not know what is printed."""
 
 
 def units_of(text):
-    """The text with a character for each unit."""
+    """Returns the text with one character for each unit."""
     stored = text.encode("utf-16-le", "surrogatepass")
     return "".join(map(chr, struct.unpack(f"<{len(stored) // 2}H", stored)))
 
@@ -39,7 +40,7 @@ def stored(text, order="<"):
 
 
 def items_of(text):
-    """Each character, or surrogate that has no other half, with its place."""
+    """Yields each character, or unpaired surrogate, with its offset."""
     for part in re.finditer(r"[\ud800-\udbff][\udc00-\udfff]|.", text, re.S):
         high, low = ord(part[0][0]), ord(part[0][-1])
         pair = chr(0x10000 + ((high - 0xD800) << 10) + (low - 0xDC00)) if len(part[0]) == 2 else part[0]
@@ -87,7 +88,7 @@ class Export:
                 self.tell(line, unit + escape.start(), "no escape")
 
     def ends(self, line):
-        """What is told of the units of a line, and of its end."""
+        """Reports the units of a line, and its end."""
         begin, end, behind = self.lines[line]
         for place, item in items_of(self.text[begin:end]):
             if is_fault(item):
@@ -101,7 +102,7 @@ class Export:
                 self.tell(line, end - begin, "a line feed alone")
 
     def string(self, line, place):
-        """Reads the string whose opening quote stands at a place, and answers its last line."""
+        """Reads the string whose opening quote is at an offset, and returns its last line."""
         begin, end, _ = self.lines[line]
         unit = place + 1 - begin
         self.escapes(line, unit, self.text[place + 1 : end])
@@ -123,7 +124,7 @@ class Export:
         return self.plain(line)
 
     def bytes(self, line, place):
-        """Reads the bytes from a place on, and answers the last line that has some."""
+        """Reads the bytes from an offset on, and returns the last line that has some."""
         begin, end, behind = self.lines[line]
         front, pieces, is_sound = printed(self.text[begin:place]), [], True
         while True:
@@ -184,7 +185,7 @@ class Export:
         return self.plain(line)
 
     def entry(self, line):
-        """Reads what begins in a line, and answers its last line."""
+        """Reads what begins in a line, and returns its last line."""
         begin, end, _ = self.lines[line]
         units = self.text[begin:end]
         if line == 0:
@@ -217,7 +218,7 @@ class Export:
 
 
 def answer(file):
-    """What is wanted on standard output and standard error, and the status."""
+    """Returns the expected standard output and standard error, and the status."""
     if file is None:
         return "", USAGE, 2
     order = {b"\xff\xfe": "<", b"\xfe\xff": ">"}.get(file[:2])
@@ -233,14 +234,14 @@ def answer(file):
 
 
 def lines(*texts):
-    """A file whose lines follow a header and a key."""
+    """Returns a file whose lines follow a header and a key."""
     return "REGEDIT4\r\n[K]\r\n" + "".join(text + "\r\n" for text in texts)
 
 
-# The text of a file, or its bytes, or none where the words name no file.
+# The text of a file, or its bytes, or None if the arguments name no file.
 INPUTS = [
     None,
-    # Ordinary.
+    # Ordinary files.
     HEADER + '\r\n\r\n[K]\r\n"x"="1"\r\n\r\n',
     lines('"e"=hex:'),
     lines('"z"=hex(0):'),
@@ -249,13 +250,13 @@ INPUTS = [
     lines('@="', "[no key]", '"', '"t"="a\rb\nc"', '@=""'),
     lines("; no value", "[K\\[x]]", '"a\\\\b\\"c"="\U0001f41f \\"d\\\\"', "@=dword:1f"),
     lines('@=hex(2):41,00,0a,00,22,00,3d,d8,00,\\', "  00,5C", '"w"=hex(8000000a):0A'),
-    # A value that was cut, and what follows it.
+    # A value that is cut off, and what follows it.
     lines('"x"=hex:01,02,\\', "[K2]", '"y"="1"'),
     lines('"x"=hex:00,01,\\', '"y"=hex:02,\\', "@=-", '"z"=hex:03,\\', "", '"w"=hex:04,\\', "; 05"),
     lines('"x"=hex:00,01,\\', "  02,\\"),
     lines('"s"="no end', "[K2]", '"y"="1"'),
     lines('"s"="no end'),
-    # Damaged.
+    # Damaged lines.
     lines('"p"=hex:+1'),
     lines('"l"=hex:0001'),
     lines('"c"=hex:01,,2,xz,\\', "  , 3,\u6df1", "@=hex:\\"),
@@ -277,7 +278,7 @@ INPUTS = [
     "REGEDIT4\r\r\n[K]\r@=-\r\n; a\rb\r\n",
     'REGEDIT4\n[K]\n"s"="1"\n\r\n\n@=-',
     lines('"f"="\ud83d"', '"\udc1f\U0001f41f\ud83d"=hex:\ud800'),
-    # Bytes.
+    # Files as bytes.
     b"REGEDIT4\r\n[K]\r\n\r\n",
     b"\xff",
     b"\xfe\xff" + stored("REGEDIT4\r\n[\u6df1]\r\n", ">"),
@@ -319,7 +320,7 @@ def sound_line(source):
 
 
 def made(source):
-    """A file made at random: lines in order, of which some parts are lost, doubled or put in."""
+    """Returns a random file: valid lines, of which some fragments are lost, doubled or inserted."""
     header = source.choice([HEADER, HEADER, HEADER, "REGEDIT4"]) + "\r\n" + source.choice(["[K]\r\n", "[K]\r\n", ""])
     text = header + "".join(sound_line(source) + "\r\n" for _ in range(source.randrange(6)))
     for _ in range(source.randrange(4)):

@@ -1,4 +1,4 @@
-"""What the example `resources` prints and tells, by a reader of `.res` files of its own."""
+"""What the example `resources` prints and reports, by an independent reader of `.res` files."""
 
 import struct
 import unicodedata
@@ -7,11 +7,11 @@ USAGE = "usage: resources [--lossy] FILE..\n"
 EMPTY = struct.pack("<8I", 0, 32, 0xFFFF, 0xFFFF, 0, 0, 0, 0)
 
 
-# Files are made of these.
+# Functions that make files.
 
 
 def units(text):
-    """The bytes of a text, in which a surrogate may stand alone."""
+    """Returns the bytes of a text, which may have unpaired surrogates."""
     return text.encode("utf-16-le", "surrogatepass")
 
 
@@ -24,7 +24,7 @@ def padded(data):
 
 
 def resource(kind, name, data, language=0x409, header_size=None, data_size=None, more=b""):
-    """A resource, its padding left out; its sizes may be told wrong, and `more` stands behind the fields of its header."""
+    """Returns a resource without its padding. Its sizes may be wrong, and `more` follows the fields of its header."""
     names = padded(name_bytes(kind) + name_bytes(name))
     fields = names + struct.pack("<IHHII", 0, 0x1030, language, 0, 0) + more
     header_size = len(fields) + 8 if header_size is None else header_size
@@ -33,7 +33,7 @@ def resource(kind, name, data, language=0x409, header_size=None, data_size=None,
 
 
 def strings(*texts):
-    """The sixteen strings of a table, of which the last ones may be left out where they are empty."""
+    """Returns the sixteen strings of a table. Empty ones at the end may be left out."""
     texts = [*texts, *[""] * (16 - len(texts))]
     return b"".join(struct.pack("<H", len(units(text)) // 2) + units(text) for text in texts)
 
@@ -43,19 +43,19 @@ def table(name, *texts, language=0x409):
 
 
 def file(*resources):
-    """A file of the empty resource and these; only the last one's padding is left out."""
+    """Returns a file of the empty resource and these; only the last one has no padding."""
     return b"".join([EMPTY, *map(padded, resources[:-1]), *resources[-1:]])
 
 
-# What is printed and told of them.
+# The model of what is printed and reported.
 
 
 class Unassigned(Exception):
-    """A text has a character that this Python's Unicode does not know, and a later one may."""
+    """A text has a character that is not assigned in this Python's Unicode version, and may be in a later one."""
 
 
 def debug_of(char):
-    """A character as Rust's `{:?}` prints it within a text."""
+    """Returns a character as Rust's `{:?}` prints it within a text."""
     is_noncharacter = ord(char) & 0xFFFE == 0xFFFE or 0xFDD0 <= ord(char) < 0xFDF0
     if unicodedata.category(char) == "Cn" and not is_noncharacter:
         raise Unassigned
@@ -71,7 +71,7 @@ class Fault(Exception):
 
 
 class Reader:
-    """A reader of one file, that goes from field to field."""
+    """A reader of one file, from field to field."""
 
     def __init__(self, name, data, is_lossy):
         self.name, self.data, self.is_lossy = name, data, is_lossy
@@ -93,7 +93,7 @@ class Reader:
                 return
 
     def read_name(self, end):
-        """A number, or a text that ends in a zero unit; the header ends at `end`."""
+        """Reads a number, or a text that ends in a zero unit; the header ends at `end`."""
         found = []
         while self.at + 2 <= end:
             (unit,) = struct.unpack_from("<H", self.data, self.at)
@@ -149,7 +149,7 @@ class Reader:
         return None
 
     def read_string(self, number, language, data):
-        # A lone surrogate is a character of its own here.
+        # An unpaired surrogate is a character of its own here.
         text = data.decode("utf-16-le", "surrogatepass")
         is_fault = [unicodedata.category(char) == "Cs" for char in text]
         if not data:
@@ -168,7 +168,8 @@ class Reader:
 
 
 def answer(words, files):
-    """What is printed and told, and the status. `files` has each word's bytes, or why they can't be read."""
+    """Returns the expected output and reports, and the status. `files` has the bytes for each argument, or why they
+    can't be read."""
     is_lossy = words[:1] == ["--lossy"]
     names = words[1:] if is_lossy else words
     if not names or any(name.startswith("--") for name in names):
@@ -185,7 +186,7 @@ def answer(words, files):
     return printed, told, 1 if told else 0
 
 
-# The inputs: words, of which {} is the name of a file, and its bytes.
+# The inputs: arguments, of which {} is the name of a file, and its bytes.
 
 UNREADABLE = "No such file or directory (os error 2)"
 OPEN = table(2, "", "Open")
@@ -201,7 +202,7 @@ def lossy(data):
 
 
 INPUTS = [
-    # Words.
+    # Arguments.
     ([], b""),
     (["--lossy"], b""),
     (["{}", "--lossy"], file(OPEN)),
@@ -211,13 +212,13 @@ INPUTS = [
     one(EMPTY),
     one(file(table(1, *"abcdefghijklmnop"))),
     one(file(table(4096, "first", *[""] * 14, "last"))),
-    # Two languages have one identifier; the first table ends where no multiple of 4 does.
+    # Two languages share an identifier; the first table does not end at a multiple of 4.
     one(file(table(2, "", "Opens"), table(2, "", "Öffnet", language=0x407))),
-    # Texts for a type and for names, with and without padding behind them, and none.
+    # Texts for a type and for names, with padding after them, without padding, and empty.
     one(file(resource("AB", "C", b"123"), resource("AB", "", b""), resource(10, "N", b"1"), OPEN)),
-    # A header that is longer than its fields, and two files, one behind the other.
+    # A header that is longer than its fields, and two files, one after the other.
     one(file(resource(6, 2, strings("x"), more=bytes(4)), EMPTY, OPEN)),
-    # A mark and zero units belong to a text.
+    # A BOM and zero units belong to a text.
     one(file(table(1, "\ufeffa\0", '"\\\t\r\n\x7f', "\u200b\u0301\ue000é", "深海 🌊", "\0"))),
     one(file(table(3, "ab" * 40))),
     # Faults of a file, and of a header.
@@ -253,7 +254,7 @@ INPUTS = [
 ]
 
 
-# Questions made at random.
+# Random questions.
 
 SOUND = ["", "a", "Zoë", "深", "🌊", "\0", '"', "\\", "\n", "\ufeff", "\u200b", "\ufffd", "\u0301", "\uffff", "\x85"]
 TEXTS = [*SOUND * 8, "\ud83d", "\udc00"]

@@ -1,11 +1,12 @@
-"""What `example_script` answers: worked out from the calls alone, on a list of code units and on a list of characters."""
+"""What `example_script` prints: worked out from the calls alone, on a list of code units and on a list of
+characters."""
 
 import os
 
 NAMES = ["string", "indexOf", "isWellFormed", "toWellFormed", "codePointAt", "slice", "insert", "remove", "replace"]
 USAGE = b"usage: script FILE\n"
 ESCAPES = {"\0": "\\0", "\t": "\\t", "\r": "\\r", "\n": "\\n", "'": "\\'", '"': '\\"', "\\": "\\\\"}
-# Those of the characters of questions that don't print as they stand.
+# Characters of questions that are not printed as they are.
 HIDDEN = "\x7f\u00ad\u0301\u200b"
 
 
@@ -19,7 +20,7 @@ def units_of(text):
 
 
 def items_of(units):
-    """Each character as a text, and each unit of none as its number."""
+    """Returns each character as a text, and each unpaired surrogate as its number."""
     items, at = [], 0
     while at < len(units):
         unit = units[at]
@@ -47,7 +48,7 @@ def shown_char(char):
 
 
 class Line:
-    """A line, read from its front."""
+    """A line, read from its beginning."""
 
     def __init__(self, text):
         self.text, self.rest = text, text
@@ -89,7 +90,7 @@ class Line:
 
 
 def edit(units, name, line):
-    """The new units, and what is answered."""
+    """Returns the new units, and the result."""
     first = line.place()
     second = line.place() if name == "replace" else first
     text = line.rest
@@ -115,7 +116,7 @@ def edit(units, name, line):
 
 
 def answer(units, text):
-    """The new units, and what is answered."""
+    """Returns the new units, and the result."""
     line = Line(text)
     name = line.word()
     if name not in NAMES:
@@ -149,7 +150,7 @@ def answer(units, text):
 
 
 def read(data):
-    """Standard output, standard error and status."""
+    """Returns standard output, standard error and status."""
     units, output, told = [], "", ""
     for number, line in enumerate(data.split(b"\n"), 1):
         line = line[:-1] if line.endswith(b"\r") else line
@@ -171,7 +172,7 @@ def read(data):
     return output.encode(), told.encode(), 1 if told else 0
 
 
-# Files, each of which shows what is in its name; each is what a case shows.
+# Files and their descriptions, which are those of the cases.
 FILES = [
     ("no calls", b""),
     ("an edit of a string that is not well formed leaves it", b"string \\uD800\nremove 99\nisWellFormed\ntoWellFormed\n"),

@@ -1,4 +1,5 @@
-"""What `example_subtitles` writes: worked out from the format alone, on a list of code units and by a pattern for a line of times."""
+"""What `example_subtitles` writes: worked out from the format alone, on a list of code units and by a pattern for a
+line of times."""
 
 import os
 import re
@@ -16,7 +17,7 @@ def units_of(text):
 
 
 def text_of(units):
-    """The text, in which each unit of no character is itself."""
+    """Returns the text, with each unpaired surrogate as itself."""
     return b"".join(unit.to_bytes(2, "little") for unit in units).decode("utf-16-le", "surrogatepass")
 
 
@@ -29,7 +30,7 @@ def shown(text):
 
 
 def lines_of(text):
-    """Each line with its end; there is none behind the last end."""
+    """Returns each line with its end, and nothing after the last end."""
     return re.findall(r"((?:[^\r\n]|\r(?!\n))*)(\r\n|\n|$)", text)[:-1] if text else []
 
 
@@ -46,7 +47,7 @@ def written(time):
 
 
 class Reader:
-    """What was told, and the text that is written."""
+    """The reports, and the text that is written."""
 
     def __init__(self, by, drops):
         self.by, self.drops = by, drops
@@ -114,7 +115,7 @@ def request_of(words):
 
 
 def read(words, data):
-    """Standard output, standard error and status."""
+    """Returns standard output, standard error and status."""
     request = request_of(words)
     if request is None:
         return b"", USAGE, 2
@@ -147,7 +148,7 @@ def little(text):
 
 
 ONE = "1\r\n00:00:01,000 --> 00:00:02,500\r\nA😀\r\n\r\n2\r\n00:00:03,000 --> 00:00:04,000\r\nb"
-# What a case shows, its words behind the file, and its file as a text or as bytes.
+# The description of a case, its arguments after the file, and its file as a text or as bytes.
 CASES = [
     ("later", ["+1500"], ONE),
     ("earlier, and no sign is later", ["-1000"], ONE),

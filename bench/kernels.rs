@@ -1,4 +1,4 @@
-//! The calls of the static library beside those of its peers. `bench/kernels` builds and runs it.
+//! Times the functions of the static library against those of its peers. `bench/kernels` builds and runs it.
 
 mod clock;
 mod compare;
@@ -18,7 +18,7 @@ extern "C" {
     fn wide_utf32_first_nul(units: *const u32, length: usize) -> usize;
 }
 
-/// The crate's calls, each behind a call as this library's are: a program in C would make one too.
+/// The crate's functions, each behind a call like this library's, since a program in C would also make one.
 mod theirs {
     use super::*;
 
@@ -43,7 +43,7 @@ mod theirs {
     }
 }
 
-/// Times both, in turn, and prints a line.
+/// Times both in turn, and prints a line.
 fn time_both(what: &str, text: &str, calls: u32, ours: impl FnMut() -> bool, theirs: impl FnMut() -> bool) {
     let mut runners = [clock::round(calls, ours), clock::round(calls, theirs)];
     let best = clock::best_times(12, &mut runners);
@@ -104,7 +104,7 @@ fn compare_texts(bytes: usize, calls: u32) {
     }
 }
 
-/// Validation and the search for a NUL, beside those of the Rust crate.
+/// Times validation and the search for a NUL against those of the Rust crate.
 fn compare_searches() {
     println!("{:16} {:24} {:>17} {:>17}  ratio", "call", "text", "this library", "Rust crate");
     compare_texts(64 << 20, 1);

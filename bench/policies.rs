@@ -1,4 +1,4 @@
-//! The lossy conversions of the static library that no peer but std has, and those under a policy.
+//! The lossy conversions of the static library that only std has among the peers, and those under a policy.
 
 use crate::conversions::Conversion;
 use std::borrow::Cow;
@@ -12,14 +12,14 @@ extern "C" {
     fn wide_utf32_to_utf8_lossy_with(units: *const u32, length: usize, policy: u32, text: *mut u8, room: usize) -> usize;
 }
 
-/// U+FFFD for each fault, for each row of them, or for none.
+/// U+FFFD for each fault, for each run of them, or for none.
 const EACH: u32 = 0;
 const RUN: u32 = 1;
 const SKIP: u32 = 2;
-/// Another number names no policy.
+/// A number that is not a policy.
 const OTHER: u32 = 3;
 
-/// The characters, with what a policy gives where there is none, or nothing where the number is no policy's.
+/// Returns the characters, with faults replaced by a policy, or `None` if the number is not a policy.
 fn text_by(policy: u32, chars: impl Iterator<Item = Option<char>>) -> Option<String> {
     let mut text = String::new();
     let mut after = false;
@@ -62,7 +62,7 @@ fn scalars(text: Option<String>) -> Option<Cow<'static, [u32]>> {
     Some(Cow::Owned(text?.chars().map(u32::from).collect()))
 }
 
-/// A conversion by a call that takes a number of a policy, which std alone judges.
+/// A conversion by a function that takes the number of a policy. Only std is a reference for it.
 macro_rules! by_policy {
     ($name:literal, $call:ident, $policy:expr, $answer:ident, $text:ident, $growth:literal) => {
         Conversion {

@@ -1,4 +1,4 @@
-//! Each conversion of the static library in turn with those of its peers, on the same texts.
+//! Times each conversion of the static library in turn with those of its peers, on the same texts.
 
 use crate::clock;
 use crate::conversions::{
@@ -7,11 +7,12 @@ use crate::conversions::{
 use crate::texts::{ascii, chinese, cyrillic, emoji_alone, emoji_of_20, european_and_chinese, with_faults};
 use std::hint::black_box;
 
-/// The units of a text of 16 KB, which stays in cache, and of one of 64 MB, with the rounds that each is raced and the calls of a round.
+/// The units of a text of 16 KB, which fits the cache, and of one of 64 MB, with the number of rounds and the calls of
+/// a round.
 const SIZES: [(&str, usize, u32, u32); 2] = [("16 KB", 8 << 10, 60, 20), ("64 MB", 32 << 20, 5, 1)];
 const TINY_LENGTHS: [usize; 4] = [1, 5, 12, 24];
 
-/// A time in two to five digits.
+/// Formats a time with two to five digits.
 fn time_word(nanoseconds: f64) -> String {
     if nanoseconds < 1e4 {
         format!("{nanoseconds:.0} ns")
@@ -22,7 +23,8 @@ fn time_word(nanoseconds: f64) -> String {
     }
 }
 
-/// The library's time, and it as a multiple of each peer's. The library has no more room than the answer takes.
+/// Returns the library's time, and this time as a multiple of each peer's. The library's buffer is exactly as long as
+/// the result.
 fn times<From, To: Clone + Default>(conversion: &Conversion<From, To>, input: &[From], rounds: u32, calls: u32) -> String {
     let needed = (conversion.library)(input, &mut []);
     let mut exact = vec![To::default(); needed];
@@ -42,10 +44,10 @@ fn times<From, To: Clone + Default>(conversion: &Conversion<From, To>, input: &[
     format!("{:>8}  {}", time_word(best[0]), multiples.join(" "))
 }
 
-/// A text by its name, of as many units as are wanted.
+/// A text by its name, made of a number of units.
 type Text<'a, From> = (&'a str, &'a dyn Fn(usize) -> Vec<From>);
 
-/// A line for each text with both sizes, then one for each tiny text.
+/// Prints a line for each text with both sizes, then one for each tiny text.
 fn race<From, To: Clone + Default>(conversion: &Conversion<From, To>, texts: &[Text<From>]) {
     let peers: Vec<&str> = conversion.peers().map(|(name, _)| name).collect();
     println!("\n{}: the library's time, and it as multiples of those of {}", conversion.name, peers.join(", "));
@@ -101,7 +103,7 @@ fn in_utf8(units: Vec<u16>) -> Vec<u8> {
     String::from_utf16(&units).expect("well-formed text").into_bytes()
 }
 
-/// The text with a byte that no character has in the place of each tenth one.
+/// Replaces every tenth byte of the text by one that no character has.
 fn broken(mut text: Vec<u8>) -> Vec<u8> {
     text.iter_mut().step_by(10).for_each(|byte| *byte = 0xff);
     text

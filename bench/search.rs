@@ -1,4 +1,4 @@
-//! Races searches in units of 16 bits: `bench/search` builds it and runs it.
+//! Times searches in 16-bit units: `bench/search` builds and runs it.
 mod clock;
 
 use std::hint::black_box;
@@ -26,7 +26,7 @@ fn bytes_of(units: &[u16]) -> &[u8] {
     unsafe { std::slice::from_raw_parts(units.as_ptr().cast(), 2 * units.len()) }
 }
 
-/// `memmem` over the bytes, asked again behind a place between two units.
+/// Calls `memmem` over the bytes, again after a match at an odd offset.
 fn memmem(units: &[u16], part: &[u16]) -> Option<usize> {
     let (bytes, sought) = (bytes_of(units), bytes_of(part));
     let finder = memchr::memmem::Finder::new(sought);
@@ -40,7 +40,7 @@ fn memmem(units: &[u16], part: &[u16]) -> Option<usize> {
     None
 }
 
-/// Words of lower-case letters and spaces, of so many units.
+/// Returns words of lower-case letters and spaces, of this many units.
 fn words(length: usize) -> Vec<u16> {
     let mut state = 0x2545_f491_4f6c_dd1du64;
     let mut units = Vec::with_capacity(length);
@@ -57,7 +57,7 @@ fn text(part: &str) -> Vec<u16> {
     part.encode_utf16().collect()
 }
 
-/// The library's time, and it as a multiple of each peer's.
+/// Prints the library's time, and this time as a multiple of each peer's.
 fn race(name: &str, units: &[u16], part: &[u16]) {
     let calls = if units.len() < 100_000 { 200 } else { 1 };
     let rounds = if units.len() < 100_000 { 60 } else { 12 };

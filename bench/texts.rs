@@ -1,11 +1,11 @@
-//! Texts in UTF-16 for the timings, and what is random.
+//! Texts in UTF-16 for the timings, and a random number generator.
 
-/// Numbers at random, the same for a seed (Marsaglia's xorshift).
+/// Pseudo-random numbers, the same for a seed (Marsaglia's xorshift).
 pub struct Random(u64);
 
 impl Random {
     pub fn new(seed: u64) -> Self {
-        // Of 0 it makes nothing but 0.
+        // From 0 the generator makes nothing but 0.
         Self(seed.wrapping_mul(0x9e37_79b9_7f4a_7c15) | 1)
     }
 
@@ -16,7 +16,7 @@ impl Random {
         (self.0 >> 16) as usize % limit
     }
 
-    /// A character of a block of so many, from the first on.
+    /// Returns a character of a block of `count`, from the first on.
     pub fn char_of(&mut self, first: u32, count: usize) -> char {
         char::from_u32(first + self.below(count) as u32).expect("a block without surrogates")
     }
@@ -34,7 +34,8 @@ impl Random {
     }
 }
 
-/// A text of so many units, of characters that are made one by one. Where half a pair has room at the end, a letter stands there.
+/// Returns a text of this many units, of characters that are made one by one. If only one unit is left at the end, it
+/// is a letter.
 fn text(length: usize, mut next: impl FnMut() -> char) -> Vec<u16> {
     let mut units = Vec::with_capacity(length);
     while units.len() + 2 <= length {
@@ -73,13 +74,13 @@ pub fn chinese(length: usize) -> Vec<u16> {
     text(length, || random.chinese())
 }
 
-/// Each sixth or so a space.
+/// About every sixth character is a space.
 pub fn cyrillic(length: usize) -> Vec<u16> {
     let mut random = Random::new(3);
     text(length, || if random.below(6) == 0 { ' ' } else { random.char_of(0x410, 64) })
 }
 
-/// Each twentieth character an emoji, a fourth of the others Chinese.
+/// Every twentieth character is an emoji, a fourth of the others Chinese.
 pub fn emoji_of_20(length: usize) -> Vec<u16> {
     let mut random = Random::new(4);
     let mut place = 0;
@@ -98,13 +99,14 @@ pub fn emoji_alone(length: usize) -> Vec<u16> {
     text(length, || random.emoji())
 }
 
-/// The text with a low surrogate in the place of each tenth unit, so that the first half of a pair may be left too.
+/// Replaces every tenth unit of the text by a low surrogate, which may also leave the first half of a pair.
 pub fn with_faults(mut units: Vec<u16>) -> Vec<u16> {
     units.iter_mut().step_by(10).for_each(|unit| *unit = 0xdc00);
     units
 }
 
-/// A text of so many bytes in UTF-16, in which one character of so many is an emoji, and each fourth of the others Chinese.
+/// Returns a text of this many bytes in UTF-16, in which one in `every` characters is an emoji, and every fourth of the
+/// others Chinese.
 pub fn mixed(bytes: usize, every: usize) -> Vec<u16> {
     let mut place = 0;
     text(bytes / 2, || {

@@ -1,4 +1,5 @@
-//! The text of UTF-16 with a mark on standard input, in UTF-8, by Rust's own `String::from_utf16`. `bench/utf8` builds and runs it.
+//! Converts UTF-16 with a BOM on standard input to UTF-8, by Rust's own `String::from_utf16`. `bench/utf8` builds and
+//! runs it.
 
 use std::io::{self, Read, Write};
 
