@@ -372,7 +372,7 @@ impl Family {
         }
     }
 
-    // Answers questions about owned strings, and passes others on to those about views.
+    // Returns the answers to questions about owned strings, and passes others on to those about views.
     fn answer_of_strings(
         self,
         memory: Memory<'_>,
@@ -406,7 +406,8 @@ impl Family {
         }
     }
 
-    // Answers questions about views, and passes others on to those about conversions, edits and searches.
+    // Returns the answers to questions about views, and passes others on to those about conversions, edits and
+    // searches.
     fn answer_of_views(
         self,
         memory: Memory<'_>,
@@ -434,7 +435,7 @@ impl Family {
         }
     }
 
-    // Answers questions about conversions, edits and searches.
+    // Returns the answers to questions about conversions, edits and searches.
     fn answer_of_texts(
         self,
         memory: Memory<'_>,

@@ -25,8 +25,8 @@ pub const WRONG_USAGE: u8 = 2;
 // Capacity for a line, in bytes. The longest line, for a fault with two numbers of 20 digits, takes 89.
 const LINE_LEN: usize = 128;
 
-/// Writes the text and a line feed to `faults`, in one call if that takes all of them. If `faults` fails, it has taken a
-/// prefix of them. The failure is ignored. A line of more than 128 bytes is not written.
+/// Writes the text and a line feed to `faults`, in one call if that takes all of them. If `faults` fails, it has taken
+/// a prefix of them. The failure is ignored. A line of more than 128 bytes is not written.
 pub fn report<F: ByteSink, T: fmt::Display>(faults: &mut F, text: &T)
     ensures { IfSome (T.output text.now) (Says (F.held faults.old) (F.held faults.new)) }
 {

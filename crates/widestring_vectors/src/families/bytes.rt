@@ -39,7 +39,7 @@ fn put<C: Unit>(memory: Memory<'_>, units: &[C], question: &str) -> Result<Strin
     answer.finish()
 }
 
-/// Answers a question about the bytes of 16-bit units.
+/// Returns the answer to a question about the bytes of 16-bit units.
 pub fn of_units16(memory: Memory<'_>, list: &str, question: &str) -> Result<String, NoAnswer> {
     let units = parse::list::<u16>(memory.alloc, list)?;
     if units.len() > 100 {
@@ -48,7 +48,7 @@ pub fn of_units16(memory: Memory<'_>, list: &str, question: &str) -> Result<Stri
     put(memory, &units, question)
 }
 
-/// Answers a question about the bytes of 32-bit units.
+/// Returns the answer to a question about the bytes of 32-bit units.
 pub fn of_units32(memory: Memory<'_>, list: &str, question: &str) -> Result<String, NoAnswer> {
     let units = parse::list::<u32>(memory.alloc, list)?;
     if units.len() > 100 {

@@ -83,7 +83,7 @@ fn lengths(
     Ok(())
 }
 
-/// Answers a question about a call by characters.
+/// Returns the answer to a question about a call by characters.
 pub fn made(memory: Memory<'_>, list: &str, question: &str) -> Result<String, NoAnswer> {
     let heap = memory.heap;
     let chars = parse::list::<char>(memory.alloc, list)?;

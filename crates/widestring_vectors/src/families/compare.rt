@@ -162,7 +162,7 @@ fn with_text<C: Width>(
     C::eq_chars(list.as_slice(), &chars)
 }
 
-/// Answers a question about two lists of units.
+/// Returns the answer to a question about two lists of units.
 pub fn compared<C: Width>(
     memory: Memory<'_>,
     list: &str,

@@ -43,7 +43,7 @@ fn bytes_of(memory: Memory<'_>, left: u64, bytes: &[u8]) -> Result<String, NoAns
     answer.finish()
 }
 
-// Answers a question about lossy text.
+// Returns the answer to a question about lossy text.
 fn made<C: FaultUnit>(
     memory: Memory<'_>,
     left: u64,
@@ -139,7 +139,7 @@ fn lossy_c_string<C: FaultUnit>(
     }
 }
 
-/// Answers a question about the lossy text of units.
+/// Returns the answer to a question about the lossy text of units.
 pub fn lossy<C: ToldUnit>(
     memory: Memory<'_>,
     list: &str,
@@ -198,7 +198,7 @@ fn copied<'a, C: ToldUnit>(
     answer.finish()
 }
 
-// Answers a question about the string of a file.
+// Returns the answer to a question about the string of a file.
 fn file(memory: Memory<'_>, bytes: &[u8]) -> Result<String, NoAnswer> {
     let left = memory.heap.left();
     match include_utf16str(memory.heap, bytes) {
@@ -234,7 +234,7 @@ fn stored<C: ToldUnit>(
     bytes_of(memory, left, &bytes)
 }
 
-// Answers a question that either width has.
+// Returns the answer to a question that either width has.
 fn of_either_width<C: ToldUnit>(
     memory: Memory<'_>,
     units: &[C],
@@ -272,7 +272,7 @@ fn found32<T, A: Allocator>(
     }
 }
 
-/// Answers a question about the text of 16-bit units.
+/// Returns the answer to a question about the text of 16-bit units.
 pub fn text16(memory: Memory<'_>, list: &str, question: &str) -> Result<String, NoAnswer> {
     let (heap, left) = (memory.heap, memory.heap.left());
     if question == "i" {
@@ -301,7 +301,7 @@ pub fn text16(memory: Memory<'_>, list: &str, question: &str) -> Result<String, 
     }
 }
 
-/// Answers a question about the text of 32-bit units.
+/// Returns the answer to a question about the text of 32-bit units.
 pub fn text32(memory: Memory<'_>, list: &str, question: &str) -> Result<String, NoAnswer> {
     let (heap, left) = (memory.heap, memory.heap.left());
     let units = parse::list::<u32>(memory.alloc, list)?;

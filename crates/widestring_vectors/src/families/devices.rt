@@ -89,7 +89,7 @@ fn is_flagged(
     }
 }
 
-/// Answers what a run writes, and how it ends.
+/// Returns the answer: what a run writes, and how it ends.
 pub fn run(alloc: Global, list: &str, question: &str) -> Result<String, NoAnswer> {
     let bytes = parse::list::<u8>(alloc, list)?;
     let (mode, devices) = parse::parts(question)?;

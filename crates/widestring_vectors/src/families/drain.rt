@@ -11,7 +11,7 @@ use widestring::iter::End;
 use widestring::unit::range_check;
 use widestring::ustring::UString;
 
-// Answers what a drain of a range returns and leaves.
+// Returns the answer: what a drain of a range returns and leaves.
 fn drained<C: FaultUnit>(
     alloc: Global,
     mut string: UString<C>,
@@ -39,7 +39,7 @@ fn drained<C: FaultUnit>(
     answer.finish()
 }
 
-/// Answers a question about a drain of a string of units.
+/// Returns the answer to a question about a drain of a string of units.
 pub fn drain<C: FaultUnit + FromHex>(
     alloc: Global,
     list: &str,

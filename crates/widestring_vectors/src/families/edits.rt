@@ -271,7 +271,7 @@ fn with_marks(
     }
 }
 
-// Answers what the edits make of a text.
+// Returns the answer: what the edits make of a text.
 fn made(alloc: Global, text: &str, edits: &[Edit<'_>]) -> Result<String, NoAnswer> {
     let mut narrow = Utf16String::from_str(alloc, text)?;
     let mut wide = Utf32String::from_str(alloc, text)?;
@@ -286,7 +286,7 @@ fn made(alloc: Global, text: &str, edits: &[Edit<'_>]) -> Result<String, NoAnswe
     with_marks(alloc, text, &lists, &replies, narrow, wide)
 }
 
-/// Answers what edits reply, and what they leave.
+/// Returns the answer: what edits reply, and what they leave.
 pub fn replies(alloc: Global, list: &str, question: &str) -> Result<String, NoAnswer> {
     let text = text_of(alloc, &parse::list::<char>(alloc, list)?)?;
     let mut words = Vec::new(alloc);

@@ -5,7 +5,7 @@ use crate::show::Answer;
 use std::alloc::Global;
 use widestring::iter::{End, encode_utf8, encode_utf16, encode_utf32};
 
-/// Answers with all bytes of an encoder to UTF-8.
+/// Returns the answer: all bytes of an encoder to UTF-8.
 pub fn utf8(alloc: Global, list: &str, question: &str) -> Result<String, NoAnswer> {
     parse::no_question(question)?;
     let chars = parse::list::<char>(alloc, list)?;
@@ -16,7 +16,7 @@ pub fn utf8(alloc: Global, list: &str, question: &str) -> Result<String, NoAnswe
     answer.finish()
 }
 
-/// Answers with all units of an encoder to UTF-16.
+/// Returns the answer: all units of an encoder to UTF-16.
 pub fn utf16(alloc: Global, list: &str, question: &str) -> Result<String, NoAnswer> {
     parse::no_question(question)?;
     let chars = parse::list::<char>(alloc, list)?;
@@ -27,7 +27,7 @@ pub fn utf16(alloc: Global, list: &str, question: &str) -> Result<String, NoAnsw
     answer.finish()
 }
 
-/// Answers with what an encoder to UTF-32 returns for each call.
+/// Returns the answer: what an encoder to UTF-32 returns for each call.
 pub fn utf32(alloc: Global, list: &str, word: &str) -> Result<String, NoAnswer> {
     let calls = parse::calls(alloc, word)?;
     let chars = parse::list::<char>(alloc, list)?;

@@ -2,9 +2,9 @@
 //! of the file; `parts` is its order, a `1` after a BOM and else a `0`, its units and the byte that is left; `text` has
 //! the units of its text, `odd`, or the first fault and the units that the error returns.
 //!
-//! For UTF-8, `code` is the first code point, decoded by the layout of its bytes, and the bytes after it; `valid` is the lengths of
-//! the text in UTF-16 and in UTF-32, or, after a `!`, how many bytes precede the first fault; `lossy` has the units of
-//! the lossy text in UTF-16.
+//! For UTF-8, `code` is the first code point, decoded by the layout of its bytes, and the bytes after it; `valid` is
+//! the lengths of the text in UTF-16 and in UTF-32, or, after a `!`, how many bytes precede the first fault; `lossy`
+//! has the units of the lossy text in UTF-16.
 use crate::parse::{self, Memory, NoAnswer};
 use crate::show::Answer;
 use std::str;
@@ -72,7 +72,7 @@ fn code(answer: &mut Answer, bytes: &[u8]) {
     }
 }
 
-/// Answers a question about bytes.
+/// Returns the answer to a question about bytes.
 pub fn of_bytes(memory: Memory<'_>, list: &str, question: &str) -> Result<String, NoAnswer> {
     let bytes = parse::list::<u8>(memory.alloc, list)?;
     let mut answer = Answer::new(memory.alloc);

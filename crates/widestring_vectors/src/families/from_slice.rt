@@ -5,7 +5,7 @@ use crate::show::{Answer, ToldUnit};
 use std::alloc::Global;
 use widestring::utfstr::UtfStr;
 
-/// Answers whether units of either width are well formed.
+/// Returns the answer: whether units of either width are well formed.
 pub fn checked<C: ToldUnit>(alloc: Global, list: &str, question: &str) -> Result<String, NoAnswer> {
     parse::no_question(question)?;
     let units = parse::list::<C>(alloc, list)?;

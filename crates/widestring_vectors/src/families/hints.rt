@@ -10,7 +10,7 @@ use widestring::iter::{
     encode_utf16,
 };
 
-// Answers with the bounds of an iterator, at first and after each call.
+// Returns the answer: the bounds of an iterator, at first and after each call.
 macro_rules! bounds_of {
     ($alloc:expr, $iterator:expr, $calls:expr) => {{
         let mut iterator = $iterator;
@@ -42,7 +42,7 @@ fn of_array<const N: usize>(
     bounds_of!(alloc, decode_utf16(units), calls)
 }
 
-// Answers for an array. The data have up to four units.
+// Returns the answer for an array. The data have up to four units.
 fn of_units(alloc: Global, units: &[u16], calls: &[End]) -> Result<String, NoAnswer> {
     match units {
         [] => of_array(alloc, [], calls),
@@ -90,9 +90,9 @@ fn of_vague(alloc: Global, source: Vague, calls: &[End]) -> Result<String, NoAns
     bounds_of!(alloc, decode_utf16(source), calls)
 }
 
-/// Answers with the bounds of a decoder of UTF-16. A question is a letter for the source, and then a word of calls: `s`
-/// for the copied units of a slice, `a` for an array, `v` for a vector, `m` for units whose source says that they are
-/// at most `usize::MAX`, and `n` for units of which it says nothing.
+/// Returns the answer: the bounds of a decoder of UTF-16. A question is a letter for the source, and then a word of
+/// calls: `s` for the copied units of a slice, `a` for an array, `v` for a vector, `m` for units whose source says that
+/// they are at most `usize::MAX`, and `n` for units of which it says nothing.
 pub fn utf16(alloc: Global, list: &str, question: &str) -> Result<String, NoAnswer> {
     let (source, word) = parse::kind(question)?;
     let calls = parse::calls(alloc, word)?;
@@ -118,7 +118,8 @@ fn of_slice32(alloc: Global, units: &[u32], calls: &[End]) -> Result<String, NoA
     bounds_of!(alloc, decode_utf32(units.iter().copied()), calls)
 }
 
-/// Answers with the bounds of a decoder of UTF-32 over the copied units of a slice. A question is a word of calls.
+/// Returns the answer: the bounds of a decoder of UTF-32 over the copied units of a slice. A question is a word of
+/// calls.
 pub fn utf32(alloc: Global, list: &str, word: &str) -> Result<String, NoAnswer> {
     let units = parse::list::<u32>(alloc, list)?;
     let calls = parse::calls(alloc, word)?;
@@ -129,8 +130,8 @@ fn of_lossy16(alloc: Global, units: &[u16], calls: &[End]) -> Result<String, NoA
     bounds_of!(alloc, decode_utf16_lossy(units.iter().copied()), calls)
 }
 
-/// Answers with the bounds of a lossy decoder of UTF-16 over the copied units of a slice. A question is a word of
-/// calls.
+/// Returns the answer: the bounds of a lossy decoder of UTF-16 over the copied units of a slice. A question is a word
+/// of calls.
 pub fn lossy_utf16(alloc: Global, list: &str, word: &str) -> Result<String, NoAnswer> {
     let units = parse::list::<u16>(alloc, list)?;
     let calls = parse::calls(alloc, word)?;
@@ -141,15 +142,15 @@ fn of_lossy32(alloc: Global, units: &[u32], calls: &[End]) -> Result<String, NoA
     bounds_of!(alloc, decode_utf32_lossy(units.iter().copied()), calls)
 }
 
-/// Answers with the bounds of a lossy decoder of UTF-32 over the copied units of a slice. A question is a word of
-/// calls.
+/// Returns the answer: the bounds of a lossy decoder of UTF-32 over the copied units of a slice. A question is a word
+/// of calls.
 pub fn lossy_utf32(alloc: Global, list: &str, word: &str) -> Result<String, NoAnswer> {
     let units = parse::list::<u32>(alloc, list)?;
     let calls = parse::calls(alloc, word)?;
     of_lossy32(alloc, &units, &calls)
 }
 
-// Answers with the bounds of an encoder, at first and after each call from the front.
+// Returns the answer: the bounds of an encoder, at first and after each call from the front.
 macro_rules! front_bounds_of {
     ($alloc:expr, $iterator:expr, $calls:expr) => {{
         let mut iterator = $iterator;
@@ -167,8 +168,8 @@ fn of_encoded8(alloc: Global, chars: &[char], calls: usize) -> Result<String, No
     front_bounds_of!(alloc, encode_utf8(chars.iter().copied()), calls)
 }
 
-/// Answers with the bounds of an encoder to UTF-8 over the copied characters of a slice. A question is a word of calls,
-/// all from the front.
+/// Returns the answer: the bounds of an encoder to UTF-8 over the copied characters of a slice. A question is a word of
+/// calls, all from the front.
 pub fn of_utf8_encoder(alloc: Global, list: &str, word: &str) -> Result<String, NoAnswer> {
     let calls = parse::front_calls(word)?;
     let chars = parse::list::<char>(alloc, list)?;
@@ -179,8 +180,8 @@ fn of_encoded16(alloc: Global, chars: &[char], calls: usize) -> Result<String, N
     front_bounds_of!(alloc, encode_utf16(chars.iter().copied()), calls)
 }
 
-/// Answers with the bounds of an encoder to UTF-16 over the copied characters of a slice. A question is a word of
-/// calls, all from the front.
+/// Returns the answer: the bounds of an encoder to UTF-16 over the copied characters of a slice. A question is a word
+/// of calls, all from the front.
 pub fn of_utf16_encoder(alloc: Global, list: &str, word: &str) -> Result<String, NoAnswer> {
     let calls = parse::front_calls(word)?;
     let chars = parse::list::<char>(alloc, list)?;

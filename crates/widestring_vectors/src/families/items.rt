@@ -4,7 +4,7 @@ use crate::parse::{self, Memory, NoAnswer};
 use crate::show::Answer;
 use widestring::iter::{read_ends16, read_ends32};
 
-/// Answers with what a decoder of UTF-16 returns for each call.
+/// Returns the answer: what a decoder of UTF-16 returns for each call.
 pub fn utf16(memory: Memory<'_>, list: &str, word: &str) -> Result<String, NoAnswer> {
     let units = parse::list::<u16>(memory.alloc, list)?;
     let calls = parse::calls(memory.alloc, word)?;
@@ -20,7 +20,7 @@ pub fn utf16(memory: Memory<'_>, list: &str, word: &str) -> Result<String, NoAns
     answer.finish()
 }
 
-/// Answers with what a decoder of UTF-32 returns for each call.
+/// Returns the answer: what a decoder of UTF-32 returns for each call.
 pub fn utf32(memory: Memory<'_>, list: &str, word: &str) -> Result<String, NoAnswer> {
     let units = parse::list::<u32>(memory.alloc, list)?;
     let calls = parse::calls(memory.alloc, word)?;

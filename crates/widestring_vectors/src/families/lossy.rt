@@ -4,7 +4,7 @@ use crate::show::Answer;
 use std::alloc::Global;
 use widestring::iter::{End, decode_utf16_lossy, decode_utf32_lossy};
 
-/// Answers with what a lossy decoder of UTF-16 returns for each call.
+/// Returns the answer: what a lossy decoder of UTF-16 returns for each call.
 pub fn utf16(alloc: Global, list: &str, word: &str) -> Result<String, NoAnswer> {
     let calls = parse::calls(alloc, word)?;
     let units = parse::list::<u16>(alloc, list)?;
@@ -16,7 +16,7 @@ pub fn utf16(alloc: Global, list: &str, word: &str) -> Result<String, NoAnswer> 
     answer.finish()
 }
 
-/// Answers with what a lossy decoder of UTF-32 returns for each call.
+/// Returns the answer: what a lossy decoder of UTF-32 returns for each call.
 pub fn utf32(alloc: Global, list: &str, word: &str) -> Result<String, NoAnswer> {
     let calls = parse::calls(alloc, word)?;
     let units = parse::list::<u32>(alloc, list)?;

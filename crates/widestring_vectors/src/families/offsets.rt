@@ -6,7 +6,7 @@ use std::alloc::Global;
 use widestring::iter::End;
 use widestring::ustr::UStr;
 
-// Answers with items and their indices.
+// Returns the answer: items and their indices.
 fn of_items<C: ToldUnit>(
     alloc: Global,
     view: UStr<'_, C>,
@@ -21,7 +21,7 @@ fn of_items<C: ToldUnit>(
     answer.finish()
 }
 
-// Answers with lossy items and their indices.
+// Returns the answer: lossy items and their indices.
 fn of_characters<C: ToldUnit>(
     alloc: Global,
     view: UStr<'_, C>,
@@ -39,7 +39,7 @@ fn of_characters<C: ToldUnit>(
     answer.finish()
 }
 
-/// Answers a question about the indices of the items of units of either width.
+/// Returns the answer to a question about the indices of the items of units of either width.
 pub fn places<C: ToldUnit>(alloc: Global, list: &str, question: &str) -> Result<String, NoAnswer> {
     let (kind, word) = parse::kind(question)?;
     let calls = parse::calls(alloc, word)?;

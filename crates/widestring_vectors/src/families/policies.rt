@@ -6,7 +6,7 @@ use crate::show::Answer;
 use widestring::iter::{End, read_lossy_ends16, read_lossy_ends32};
 use widestring::{Policy, decode_utf16_lossy_with, decode_utf32_lossy_with};
 
-/// Answers with what a lossy decoder of UTF-16 returns for each call.
+/// Returns the answer: what a lossy decoder of UTF-16 returns for each call.
 pub fn utf16(
     memory: Memory<'_>,
     list: &str,
@@ -33,7 +33,7 @@ pub fn utf16(
     answer.finish()
 }
 
-/// Answers with what a lossy decoder of UTF-32 returns for each call.
+/// Returns the answer: what a lossy decoder of UTF-32 returns for each call.
 pub fn utf32(
     memory: Memory<'_>,
     list: &str,

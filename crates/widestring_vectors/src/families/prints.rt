@@ -292,7 +292,7 @@ fn of_escapes<C: Width>(
     }
 }
 
-/// Answers what a value prints.
+/// Returns the answer: what a value prints.
 pub fn printed<C: Width>(
     memory: Memory<'_>,
     list: &str,

@@ -71,7 +71,7 @@ fn agrees<C: FaultUnit>(view: UStr<'_, C>, part: UStr<'_, C>) -> bool {
         & (search::ends_with(units, sought) == view.ends_with(part))
 }
 
-// Answers what is found in units. C strings of them and slices must return the same.
+// Returns the answer: what is found in units. C strings of them and slices must return the same.
 fn in_all<C: FaultUnit>(
     alloc: Global,
     units: &[C],
@@ -114,7 +114,7 @@ fn in_text<C: FaultUnit>(
     answer.count(Some(text.ceil_char_boundary(place)));
 }
 
-/// Answers a question about searches in units of either width.
+/// Returns the answer to a question about searches in units of either width.
 pub fn found<C: FaultUnit + FromHex>(
     alloc: Global,
     list: &str,

@@ -122,7 +122,7 @@ fn line_offsets_of_text<C: FaultUnit>(
     answer.finish()
 }
 
-// Answers whether the order and the equality of units and contents agree with those of contents and units.
+// Returns the answer: whether the order and the equality of units and contents agree with those of contents and units.
 fn with_contents<C: FaultUnit>(
     alloc: Global,
     view: UStr<'_, C>,
@@ -138,7 +138,7 @@ fn with_contents<C: FaultUnit>(
     ordered(alloc, order)
 }
 
-// Answers a question about any units.
+// Returns the answer to a question about any units.
 fn of_units<C: FaultUnit + FromHex + Ord>(
     alloc: Global,
     kind: u8,
@@ -157,7 +157,7 @@ fn of_units<C: FaultUnit + FromHex + Ord>(
     }
 }
 
-// Answers a question about a text.
+// Returns the answer to a question about a text.
 fn of_text<C: FaultUnit>(alloc: Global, kind: u8, text: UtfStr<'_, C>) -> Result<String, NoAnswer> {
     match kind {
         b'L' => lines_of_text(alloc, text),
@@ -193,7 +193,7 @@ fn asked<C: FaultUnit + FromHex + Ord>(
     }
 }
 
-/// Answers a question about a list of units.
+/// Returns the answer to a question about a list of units.
 pub fn text<C: Width>(alloc: Global, list: &str, question: &str) -> Result<String, NoAnswer> {
     let (kind, more) = parse::kind(question)?;
     let list = parse::list::<C>(alloc, list)?;

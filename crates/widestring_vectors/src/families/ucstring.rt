@@ -33,7 +33,7 @@ pub fn text_of<C: FaultUnit>(alloc: Global, units: &[C]) -> Result<String, NoAns
     Ok(text)
 }
 
-// Answers with a view of all units.
+// Returns the answer: a view of all units.
 fn view<C: FaultUnit>(alloc: Global, units: &[C]) -> Result<Answer, NoAnswer> {
     let mut answer = Answer::new(alloc);
     match UCStr::from_slice(units) {
@@ -44,7 +44,7 @@ fn view<C: FaultUnit>(alloc: Global, units: &[C]) -> Result<Answer, NoAnswer> {
     Ok(answer)
 }
 
-// Answers with a view of the units up to the first NUL.
+// Returns the answer: a view of the units up to the first NUL.
 fn view_cut<C: FaultUnit>(alloc: Global, units: &[C]) -> Result<Answer, NoAnswer> {
     let mut answer = Answer::new(alloc);
     match UCStr::from_slice_truncate(units) {
@@ -67,7 +67,7 @@ fn show<'a, C: ToldUnit>(
     Ok(())
 }
 
-/// Answers with a C string of a copy.
+/// Returns the answer: a C string of a copy.
 pub fn copied<'a, C: ToldUnit>(memory: Memory<'a>, made: Made<'a, C>) -> Result<Answer, NoAnswer> {
     let mut answer = Answer::new(memory.alloc);
     match show(&mut answer, made) {
@@ -80,7 +80,7 @@ pub fn copied<'a, C: ToldUnit>(memory: Memory<'a>, made: Made<'a, C>) -> Result<
     }
 }
 
-// Answers with a C string of a vector.
+// Returns the answer: a C string of a vector.
 fn of_vec<C: ToldUnit>(
     memory: Memory<'_>,
     call: &str,
@@ -110,7 +110,7 @@ fn of_vec<C: ToldUnit>(
     Ok((answer, memory.requests_since(left)))
 }
 
-// Answers with a C string of a copy of units.
+// Returns the answer: a C string of a copy of units.
 fn of_units<'a, C: ToldUnit>(
     memory: Memory<'a>,
     call: &str,
@@ -127,7 +127,7 @@ fn of_units<'a, C: ToldUnit>(
     copied(memory, made)
 }
 
-// Answers with a C string of a text.
+// Returns the answer: a C string of a text.
 fn of_text<'a, C: ToldUnit>(
     memory: Memory<'a>,
     call: &str,
@@ -159,7 +159,7 @@ fn answer_to<C: ToldUnit>(
     Ok((answer, memory.requests_since(left)))
 }
 
-/// Answers with the C string that a constructor makes, or its error.
+/// Returns the answer: the C string that a constructor makes, or its error.
 pub fn made<C: ToldUnit>(
     memory: Memory<'_>,
     list: &str,

@@ -84,7 +84,7 @@ fn boxed<'a, C: ToldUnit>(
     }
 }
 
-/// Answers what a call of the C string of these contents returns.
+/// Returns the answer: what a call of the C string of these contents returns.
 pub fn called<C: ToldUnit>(
     memory: Memory<'_>,
     contents: Vec<C>,

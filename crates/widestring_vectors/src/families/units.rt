@@ -43,7 +43,7 @@ fn of_char<C: Width>(answer: &mut Answer, c: char) {
     }
 }
 
-/// Answers a question about units.
+/// Returns the answer to a question about units.
 pub fn asked<C: Width>(memory: Memory<'_>, list: &str, question: &str) -> Result<String, NoAnswer> {
     let (word, more) = parse::word(question);
     let units = parse::list::<C>(memory.alloc, list)?;

@@ -20,14 +20,14 @@ pub fn outside(alloc: Global) -> Result<String, NoAnswer> {
     answer.finish()
 }
 
-// Answers with the units of a string.
+// Returns the answer: the units of a string.
 fn units_of<C: FaultUnit>(alloc: Global, string: &UString<C>) -> Result<String, NoAnswer> {
     let mut answer = Answer::new(alloc);
     answer.units(string.as_slice());
     answer.finish()
 }
 
-/// Answers with what `pop_char` returns for as many calls as there are units, and one more. A question is empty.
+/// Returns the answer: what `pop_char` returns for as many calls as there are units, and one more. A question is empty.
 pub fn pop<C: FaultUnit + FromHex>(
     alloc: Global,
     list: &str,
@@ -43,7 +43,7 @@ pub fn pop<C: FaultUnit + FromHex>(
     answer.finish()
 }
 
-/// Answers with the character that `remove_char` removes, and the units left. A question is an offset.
+/// Returns the answer: the character that `remove_char` removes, and the units left. A question is an offset.
 pub fn remove<C: FaultUnit + FromHex>(
     alloc: Global,
     list: &str,
@@ -61,7 +61,7 @@ pub fn remove<C: FaultUnit + FromHex>(
     answer.finish()
 }
 
-// Answers with the units after a character is inserted.
+// Returns the answer: the units after a character is inserted.
 fn insert_char<C: FaultUnit>(
     alloc: Global,
     mut string: UString<C>,
@@ -76,7 +76,7 @@ fn insert_char<C: FaultUnit>(
     units_of(alloc, &string)
 }
 
-// Answers with the units after those of a view are inserted.
+// Returns the answer: the units after those of a view are inserted.
 fn insert_units<C: FaultUnit + FromHex>(
     alloc: Global,
     mut string: UString<C>,
@@ -91,8 +91,8 @@ fn insert_units<C: FaultUnit + FromHex>(
     units_of(alloc, &string)
 }
 
-/// Answers with the units after an insertion. A question is a `c` for a character or an `s` for a view, an offset, a
-/// colon, and the character or the view's units.
+/// Returns the answer: the units after an insertion. A question is a `c` for a character or an `s` for a view, an
+/// offset, a colon, and the character or the view's units.
 pub fn insert<C: FaultUnit + FromHex>(
     alloc: Global,
     list: &str,
@@ -109,7 +109,7 @@ pub fn insert<C: FaultUnit + FromHex>(
     }
 }
 
-/// Answers with the units after a range is replaced. A question is a range, a colon, and the units of a view.
+/// Returns the answer: the units after a range is replaced. A question is a range, a colon, and the units of a view.
 pub fn replace<C: FaultUnit + FromHex>(
     alloc: Global,
     list: &str,
@@ -126,8 +126,8 @@ pub fn replace<C: FaultUnit + FromHex>(
     units_of(alloc, &string)
 }
 
-// Answers with the number of calls that `retain` makes, and the units left. The closure returns true for a call whose
-// bit is a `1`.
+// Returns the answer: the number of calls that `retain` makes, and the units left. The closure returns true for a call
+// whose bit is a `1`.
 fn retain_by_call<C: FaultUnit>(
     alloc: Global,
     mut string: UString<C>,
@@ -146,7 +146,7 @@ fn retain_by_call<C: FaultUnit>(
     answer.finish()
 }
 
-// Answers with the units left if those with this number are removed.
+// Returns the answer: the units left if those with this number are removed.
 fn retain_others<C: FaultUnit + FromHex>(
     alloc: Global,
     mut string: UString<C>,
@@ -157,7 +157,7 @@ fn retain_others<C: FaultUnit + FromHex>(
     units_of(alloc, &string)
 }
 
-/// Answers with what `retain` leaves. A question is a `c` and a bit for each call, or a `u` and the unit that is
+/// Returns the answer: what `retain` leaves. A question is a `c` and a bit for each call, or a `u` and the unit that is
 /// removed.
 pub fn retain<C: FaultUnit + FromHex>(
     alloc: Global,
@@ -173,7 +173,7 @@ pub fn retain<C: FaultUnit + FromHex>(
     }
 }
 
-/// Answers with the units that `split_off` leaves, and those that it returns. A question is an offset.
+/// Returns the answer: the units that `split_off` leaves, and those that it returns. A question is an offset.
 pub fn split_off<C: FaultUnit + FromHex>(
     alloc: Global,
     list: &str,

@@ -423,7 +423,7 @@ fn step<'a, C: ToldUnit>(
     Ok(())
 }
 
-/// Answers what the calls of a script return, leave and request.
+/// Returns the answer: what the calls of a script return, leave and request.
 pub fn script<C: ToldUnit>(
     memory: Memory<'_>,
     list: &str,

@@ -332,8 +332,8 @@ fn step<'a, C: ToldUnit>(
     }
 }
 
-// Answers what the calls after the first return and leave, if there are any, and how many requests each makes, if the
-// question asks for that.
+// Returns the answer: what the calls after the first return and leave, if there are any, and how many requests each
+// makes, if the question asks for that.
 fn edited<'a, C: ToldUnit>(
     memory: Memory<'a>,
     mut string: Text<'a, C>,
@@ -358,7 +358,7 @@ fn edited<'a, C: ToldUnit>(
     answer.finish()
 }
 
-// Answers with the fault of ill-formed units.
+// Returns the answer: the fault of ill-formed units.
 fn refused<'a, C: ToldUnit>(
     alloc: Global,
     error: UtfError<C, &'a Heap>,
@@ -386,7 +386,7 @@ fn of_vec<'a, C: ToldUnit>(
     }
 }
 
-/// Answers what the calls of a script return, and the units that each leaves.
+/// Returns the answer: what the calls of a script return, and the units that each leaves.
 pub fn script<C: ToldUnit>(
     memory: Memory<'_>,
     list: &str,

@@ -187,7 +187,7 @@ fn of_text<C: Width>(
     Ok(())
 }
 
-// Answers a question about the text of units, also if they are ill-formed.
+// Returns the answer to a question about the text of units, also if they are ill-formed.
 fn in_text<C: Width>(
     answer: &mut Answer,
     units: &[C],
@@ -204,7 +204,7 @@ fn in_text<C: Width>(
     Ok(())
 }
 
-// Answers a question about the C string of units.
+// Returns the answer to a question about the C string of units.
 fn in_contents<C: Width>(
     answer: &mut Answer,
     units: &[C],
@@ -217,7 +217,7 @@ fn in_contents<C: Width>(
     }
 }
 
-/// Answers a question about a view.
+/// Returns the answer to a question about a view.
 pub fn view<C: Width>(memory: Memory<'_>, list: &str, question: &str) -> Result<String, NoAnswer> {
     let (kind, rest) = parse::word(question);
     let (word, more) = parse::word(rest);

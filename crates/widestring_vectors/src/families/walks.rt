@@ -145,7 +145,7 @@ fn text_indices<C: ToldUnit>(
     )
 }
 
-/// Answers with the units of a text.
+/// Returns the answer: the units of a text.
 pub fn code_units(
     alloc: Global,
     text: Utf16Str<'_>,
@@ -167,12 +167,12 @@ fn utf8<C: ToldUnit>(
     encoded!(alloc, steps, text.encode_utf8(), byte => u32::from(byte))
 }
 
-/// Answers with the units of a text in UTF-16.
+/// Returns the answer: the units of a text in UTF-16.
 pub fn utf16(alloc: Global, text: Utf32Str<'_>, steps: &[Option<End>]) -> Result<String, NoAnswer> {
     encoded!(alloc, steps, text.encode_utf16(), unit => u32::from(unit))
 }
 
-/// Answers with the units of a text in UTF-32, from both ends.
+/// Returns the answer: the units of a text in UTF-32, from both ends.
 pub fn utf32(alloc: Global, text: Utf16Str<'_>, steps: &[Option<End>]) -> Result<String, NoAnswer> {
     let mut encoder = text.encode_utf32();
     let mut answer = Answer::new(alloc);
@@ -226,7 +226,7 @@ pub fn lengths32(answer: &mut Answer, units: &[u32]) -> Result<(), NoAnswer> {
     Ok(())
 }
 
-// Answers with the bounds of the lines of units, alone and with their offsets.
+// Returns the answer: the bounds of the lines of units, alone and with their offsets.
 fn line_bounds<C: ToldUnit>(alloc: Global, view: UStr<'_, C>) -> Result<String, NoAnswer> {
     let mut answer = Answer::new(alloc);
     answer.bounds(view.lines_lossy().size_hint());
@@ -287,7 +287,7 @@ fn of_text<C: Width>(
     }
 }
 
-/// Answers what an iterator of a view returns.
+/// Returns the answer: what an iterator of a view returns.
 pub fn walk<C: Width>(memory: Memory<'_>, list: &str, question: &str) -> Result<String, NoAnswer> {
     let alloc = memory.alloc;
     let (word, steps) = parse::word(question);

@@ -33,10 +33,10 @@ pub trait Width: ToldUnit + FromHex + Ord + Hash + 'static {
     /// Returns the character with this index in the text of units, at the width that has the call.
     fn char_at(units: &[Self], index: usize) -> Result<char, NoAnswer>;
 
-    /// Answers with the units of a text, at the width that has the call.
+    /// Returns the answer: the units of a text, at the width that has the call.
     fn code_units(alloc: Global, units: &[Self], steps: &[Option<End>]) -> Result<String, NoAnswer>;
 
-    /// Answers with the units of the encoder to the other width.
+    /// Returns the answer: the units of the encoder to the other width.
     fn encode_other(
         alloc: Global,
         units: &[Self],
