@@ -1,4 +1,5 @@
-//! Each public name of the library, once, by its path through `widestring`. `docs/paths` makes this file from the sources.
+//! Each public name of the library, once, by its path through `widestring`. `docs/paths` makes this file from the
+//! sources.
 //!
 //! A name that moves makes this file fail to check. What calls do is tested elsewhere.
 
