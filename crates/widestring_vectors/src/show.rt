@@ -57,14 +57,14 @@ impl Answer {
         self.note(written);
     }
 
-    // Adds a space, except at the start of a part.
+    // Adds a space, except at the start of a field.
     fn gap(&mut self) {
         if !self.text.is_empty() && !self.text.ends_with(';') {
             self.word(" ");
         }
     }
 
-    /// Begins the next part of an answer.
+    /// Begins the next field of an answer.
     pub fn part(&mut self) {
         self.word(";");
     }
@@ -222,7 +222,7 @@ impl Answer {
         }
     }
 
-    /// Adds the offset of an inner NUL after a `!`, and as a second part the units of the vector that the error
+    /// Adds the offset of an inner NUL after a `!`, and as a second field the units of the vector that the error
     /// returns, or a `-` for none.
     pub fn inner_nul<C: Unit, A: Allocator>(&mut self, error: ContainsNul<C, A>) {
         self.gap();

@@ -1,5 +1,5 @@
 //! Units as bytes. A question is `le` or `be`, the order of the bytes of a unit, and an `m` after it for a BOM before
-//! them. The answer has three parts: the bytes in a vector, the bytes that are put into a buffer, and a `1` if the
+//! them. The answer has three fields: the bytes in a vector, the bytes that are put into a buffer, and a `1` if the
 //! buffer is unchanged after them.
 ghost use Rattle.std.specs.Prelude.{◌*◌, ◌+◌, ◌≤◌, length};
 ghost use Rattle.widestring.specs.UnitBytes.{unit_width};

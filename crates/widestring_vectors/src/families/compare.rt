@@ -1,7 +1,7 @@
 //! Comparisons of two lists of units. A question is a word for the two types, a space and the units of the other list.
 //!
 //! - `units`, `contents` and `text` compare two views of one type: whether they are equal, their order, and whether
-//!   their hashes are equal. `contents` then does the same for two C strings as a second part. `unit_string` and
+//!   their hashes are equal. `contents` then does the same for two C strings as a second field. `unit_string` and
 //!   `string` compare two owned strings, of which the first has spare capacity. For owned strings the answer also has
 //!   whether the first has the same hash as its view.
 //! - `mixed` asks whether text is equal to the other units, to the C string of them, and to their text at the other

@@ -5,7 +5,7 @@
 //!   or `Skip`. A `v` before either asks a view of the units, and a `c` a C string of them.
 //! - Text: `s` asks for its bytes in UTF-8, or the index and the item number of the fault after a `!`; `c` asks a C
 //!   string for that, and `u` a view of well-formed units. `f` asks for the string of a view, or its fault and as a
-//!   second part the units that the error returns; `g` asks the same of a C string. `i` asks for the string of a file,
+//!   second field the units that the error returns; `g` asks the same of a C string. `i` asks for the string of a file,
 //!   whose bytes are the list, or an `odd`.
 //! - Bytes: `L` and `B` ask for the bytes of a view in little and in big endian, and `LM` and `BM` for those after a
 //!   BOM.

@@ -7,7 +7,7 @@
 //! - How many bytes the sink takes in a call, a comma, after how many bytes it fails, or a `-`, and an `x` if it fails
 //!   by an error or a `z` if it fails by taking none.
 //!
-//! The answer has what was written, and as a second part `ok`, `odd`, `read`, `write`, or the index, the item number
+//! The answer has what was written, and as a second field `ok`, `odd`, `read`, `write`, or the index, the item number
 //! and the unit of the fault. It is a `?` if the flags of the devices contradict it.
 ghost use Rattle.std.specs.Prelude.{◌≡◌, IfOk, false};
 

@@ -1,4 +1,4 @@
-//! Drains of a string. A question is a range, a colon and a word of calls. The answer has three parts: what the drain
+//! Drains of a string. A question is a range, a colon and a word of calls. The answer has three fields: what the drain
 //! returns for each call, what it still has then, and the units that are left of the string after the drain is dropped.
 //! It has a `?` if the drain's length is not that of what it has. It is a `-` if the range is out of bounds.
 use crate::families::ustring::{outside, string};

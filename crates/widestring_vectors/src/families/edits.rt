@@ -8,7 +8,7 @@
 //! - `k`: `Retain`, with characters.
 //! - `d`, `x`: `Drain`, `Replace`, with two offsets separated by a colon, and for `x` another colon and characters.
 //!
-//! The answer has a part for each reply: `d` for done, the character that was removed or a `-`, an `s` and the
+//! The answer has a field for each reply: `d` for done, the character that was removed or a `-`, an `s` and the
 //! characters that were removed, or `p` and `r` for a bad offset and a bad range. Then come the units of UTF-16 and of
 //! UTF-32, and the offset index. Each kind of string makes the edits in one call, two kinds make them together in one
 //! call, and a string with an offset index makes them one by one beside a string in UTF-32. The answer is a `?` if two

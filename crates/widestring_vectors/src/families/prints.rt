@@ -2,7 +2,7 @@
 //! the calls that are made before.
 //!
 //! The answer has the characters of the text, a `;` and those of the debug text. If a type only has debug text, the
-//! first part is empty. Each is also printed with a width and fills, which change nothing, and into sinks that fail at
+//! first field is empty. Each is also printed with a width and fills, which change nothing, and into sinks that fail at
 //! one of their writes: the printing must end there, with only the text before it. The answer is a `?` if one of these
 //! differs.
 //!

@@ -1,13 +1,13 @@
 //! Searches in units of either width, and in text. A question is the units of a needle, a colon, a character, a colon
 //! and an offset.
 //!
-//! The answer has several parts. The first is for units of any values: whether they contain the needle, begin and end
+//! The answer has several fields. The first is for units of any values: whether they contain the needle, begin and end
 //! with it, each `1` or `0`; the first and the last offset of the needle, and of the character; how many units are left
 //! after the needle is stripped at the start and at the end; how many precede and follow it, at its first offset and at
 //! its last; a `-` if there is none. Then come the lengths of the substrings that the needle splits the units into, and
 //! the first and the last offset of its first unit, if it has one. The calls for slices and, if there is no NUL among
 //! the units, those of C strings must return the same, else there is no answer. If units and needle are both well
-//! formed, there follow the first two parts for the text, the lengths of the substrings that the character splits it
+//! formed, there follow the first two fields for the text, the lengths of the substrings that the character splits it
 //! into, and the boundaries around the offset.
 use crate::families::texts::c_string;
 use crate::parse::{self, FromHex, NoAnswer};

@@ -1,5 +1,5 @@
 //! Calls of owned strings of units of either width, and what they leave of the string. The answer is a `-` if the
-//! offset or the range is out of bounds. The parts of an answer are separated by `;`.
+//! offset or the range is out of bounds. The fields of an answer are separated by `;`.
 use crate::parse::{self, FromHex, NoAnswer};
 use crate::show::Answer;
 use std::alloc::Global;

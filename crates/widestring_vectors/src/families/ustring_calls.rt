@@ -1,4 +1,4 @@
-//! Scripts of calls of strings of any units. A question has parts separated by `/`. The first is the spare capacity of
+//! Scripts of calls of strings of any units. A question has fields separated by `/`. The first is the spare capacity of
 //! the string of the list, and each other one is a call, by its name, with its arguments after a space. README.md
 //! describes the calls.
 //!

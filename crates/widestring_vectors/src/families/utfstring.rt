@@ -5,7 +5,7 @@
 //! characters of that text, `u` from a string of any units, `c` from a C string. A `+` and the spare capacity of the
 //! vector may follow; then the number of requests of each call follows its answer after a `#`. The answer is the
 //! string's units, or the index, the item number and the unit of the first fault and the vector that the error returns,
-//! and then no calls follow. Each other call is a letter and its arguments, and adds two parts to the answer: what the
+//! and then no calls follow. Each other call is a letter and its arguments, and adds two fields to the answer: what the
 //! call returns, and the units that it leaves. If an offset or a range is not one of the text, the answer is a `-`, and
 //! the string is unchanged.
 //!
@@ -14,7 +14,7 @@
 //! - `i`, `j`: `insert`, `insert_utfstr`, with an offset, a colon, and a character or units.
 //! - `r`, `t`, `o`: `remove`, `truncate`, `split_off`, with an offset.
 //! - `x`, `d`: `replace_range`, `drain`, with a range, a colon, and units or a word of calls. A drain answers with the
-//!   characters, and as a part of its own what it still has when it is dropped.
+//!   characters, and as a field of its own what it still has when it is dropped.
 //! - `k`: `retain`, with a number: it retains the characters that have no bit of the number. The answer is how often it
 //!   calls the closure.
 //! - `K`: `retain`, with a bit for each call: it retains the characters at a `1`. The answer is how often it calls the

@@ -5,7 +5,7 @@
 //! policy; `indices` and `lossy_indices` have each character's index, with the offset that the iterator reports after
 //! each item. A `c_` before these words asks the C string of the units. For the units' text there are `t_chars`,
 //! `t_indices`, `t_units`, which are its units, and `utf8` and `other`, its encoders to UTF-8 and to the other width.
-//! The second part of the answer has the bounds that the iterator returns in the end. `lines` asks for the bounds of
+//! The second field of the answer has the bounds that the iterator returns in the end. `lines` asks for the bounds of
 //! the lines, and `lengths` for the length of each iterator that has one, at first and after a call from the back.
 use crate::families::width::Width;
 use crate::parse::{self, Memory, NoAnswer};
