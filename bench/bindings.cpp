@@ -63,25 +63,25 @@ std::u16string made(std::size_t length, bool is_mixed) {
 
 void race_units(const char *kind, const std::u16string &units) {
     const auto *from = reinterpret_cast<const std::uint16_t *>(units.data());
-    std::vector<std::uint8_t> room(3 * units.size());
+    std::vector<std::uint8_t> buffer(3 * units.size());
     race(
-        "to_utf8", kind, units.size(), [&] { return wide_utf16_to_utf8(from, units.size(), room.data(), room.size()) != WIDE_FAULT; },
+        "to_utf8", kind, units.size(), [&] { return wide_utf16_to_utf8(from, units.size(), buffer.data(), buffer.size()) != WIDE_FAULT; },
         [&] { return widestring::to_utf8(units).has_value(); });
     race(
         "to_utf8_lossy", kind, units.size(),
-        [&] { return wide_utf16_to_utf8_lossy(from, units.size(), room.data(), room.size()) > 0; },
+        [&] { return wide_utf16_to_utf8_lossy(from, units.size(), buffer.data(), buffer.size()) > 0; },
         [&] { return !widestring::to_utf8_lossy(units).empty(); });
 }
 
 void race_text(const char *kind, const std::string &text) {
     const auto *from = reinterpret_cast<const std::uint8_t *>(text.data());
-    std::vector<std::uint16_t> room(text.size());
+    std::vector<std::uint16_t> buffer(text.size());
     race(
-        "to_utf16", kind, text.size(), [&] { return wide_utf8_to_utf16(from, text.size(), room.data(), room.size()) != WIDE_FAULT; },
+        "to_utf16", kind, text.size(), [&] { return wide_utf8_to_utf16(from, text.size(), buffer.data(), buffer.size()) != WIDE_FAULT; },
         [&] { return widestring::to_utf16(text).has_value(); });
     race(
         "to_utf16_lossy", kind, text.size(),
-        [&] { return wide_utf8_to_utf16_lossy(from, text.size(), room.data(), room.size()) > 0; },
+        [&] { return wide_utf8_to_utf16_lossy(from, text.size(), buffer.data(), buffer.size()) > 0; },
         [&] { return !widestring::to_utf16_lossy(text).empty(); });
 }
 

@@ -43,11 +43,11 @@ def main():
         for length in (20, UNITS):
             text = make(length)
             units, data = text.encode("utf-16-le"), text.encode()
-            rows = [
+            cases = [
                 ("utf16_to_utf8", lambda: widestring.utf16_to_utf8(units), lambda: units.decode("utf-16-le").encode()),
                 ("utf8_to_utf16", lambda: widestring.utf8_to_utf16(data), lambda: data.decode().encode("utf-16-le")),
             ]
-            for name, ours, theirs in rows:
+            for name, ours, theirs in cases:
                 calls = max(1, 20000 // length)
                 own, other = best(ours, calls), best(theirs, calls)
                 print(f"{name:<16} {kind:<22} {length:8} units {own:10.0f} ns {own / other:6.2f}")

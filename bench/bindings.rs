@@ -9,20 +9,20 @@ use clock::{best_times, round, Round};
 use widestring_proved::{utf16_to_utf8, utf16_to_utf8_lossy, utf8_to_utf16, utf8_to_utf16_lossy, Lossy};
 
 extern "C" {
-    fn wide_utf16_to_utf8(units: *const u16, length: usize, text: *mut u8, room: usize) -> usize;
-    fn wide_utf16_to_utf8_lossy(units: *const u16, length: usize, text: *mut u8, room: usize) -> usize;
-    fn wide_utf8_to_utf16(text: *const u8, length: usize, units: *mut u16, room: usize) -> usize;
-    fn wide_utf8_to_utf16_lossy(text: *const u8, length: usize, units: *mut u16, room: usize) -> usize;
+    fn wide_utf16_to_utf8(units: *const u16, length: usize, text: *mut u8, capacity: usize) -> usize;
+    fn wide_utf16_to_utf8_lossy(units: *const u16, length: usize, text: *mut u8, capacity: usize) -> usize;
+    fn wide_utf8_to_utf16(text: *const u8, length: usize, units: *mut u16, capacity: usize) -> usize;
+    fn wide_utf8_to_utf16_lossy(text: *const u8, length: usize, units: *mut u16, capacity: usize) -> usize;
 }
 
 type Call<T, U> = unsafe extern "C" fn(*const T, usize, *mut U, usize) -> usize;
 
 fn race<T, U: Copy + Default>(name: &str, kind: &str, items: &[T], call: Call<T, U>, own: impl Fn(&[T]) -> usize) {
     let wanted = own(items);
-    let mut room = vec![U::default(); wanted];
+    let mut buffer = vec![U::default(); wanted];
     let calls = (400_000 / items.len()).max(1) as u32;
     // Both pairs of a pointer and a length are those of slices.
-    let c = || unsafe { call(items.as_ptr(), items.len(), room.as_mut_ptr(), room.len()) } == wanted;
+    let c = || unsafe { call(items.as_ptr(), items.len(), buffer.as_mut_ptr(), buffer.len()) } == wanted;
     let mut runners: [Round; 2] = [round(calls, c), round(calls, || own(items) == wanted)];
     let times = best_times(100, &mut runners);
     println!("{name:<16} {kind:<22} {:>8} {:>10.0} ns {:>6.2}", items.len(), times[0], times[1] / times[0]);

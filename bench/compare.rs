@@ -55,32 +55,32 @@ fn any_units(random: &mut Random) -> Vec<u16> {
 }
 
 /// Returns buffer sizes of no elements, of too few, of exactly enough and of more than enough.
-fn rooms(needed: usize, random: &mut Random) -> [usize; 5] {
+fn capacities(needed: usize, random: &mut Random) -> [usize; 5] {
     [0, random.below(needed + 1), needed.saturating_sub(1 + random.below(8)), needed, needed + 1 + random.below(MARGIN)]
 }
 
 /// Returns whether the library returns the same as std, in the middle of a buffer of random elements. Everything after
 /// the result must be unchanged, and all of the buffer for a fault. If the buffer is too short, everything around it
 /// must be unchanged.
-fn answers_alike<From, To: Copy + Eq + TryFrom<usize>>(
+fn results_alike<From, To: Copy + Eq + TryFrom<usize>>(
     conversion: &Conversion<From, To>,
     input: &[From],
-    answer: Option<&[To]>,
-    room: usize,
+    wanted: Option<&[To]>,
+    capacity: usize,
     random: &mut Random,
 ) -> bool {
-    let old: Vec<To> = (0..room + 2 * MARGIN).filter_map(|_| To::try_from(random.below(0x100)).ok()).collect();
+    let old: Vec<To> = (0..capacity + 2 * MARGIN).filter_map(|_| To::try_from(random.below(0x100)).ok()).collect();
     let mut new = old.clone();
-    let (start, end) = (MARGIN, MARGIN + room);
+    let (start, end) = (MARGIN, MARGIN + capacity);
     let needed = (conversion.library)(input, &mut new[start..end]);
-    let Some(answer) = answer else {
+    let Some(wanted) = wanted else {
         return needed == usize::MAX && new == old;
     };
-    let behind = if answer.len() <= room { start + answer.len() } else { end };
-    needed == answer.len()
+    let written = if wanted.len() <= capacity { start + wanted.len() } else { end };
+    needed == wanted.len()
         && new[..start] == old[..start]
-        && new[behind..] == old[behind..]
-        && (answer.len() > room || new[start..behind] == *answer)
+        && new[written..] == old[written..]
+        && (wanted.len() > capacity || new[start..written] == *wanted)
 }
 
 /// Compares a conversion under each policy, on the same input.
@@ -101,16 +101,16 @@ fn compare_one<From: UpperHex, To: Copy + Default + Eq + TryFrom<usize>>(
     random: &mut Random,
     counts: &mut Counts,
 ) {
-    let answer = (conversion.std)(input, &mut []);
+    let wanted = (conversion.std)(input, &mut []);
     // docs/DIFFERENCES.md describes where the Rust crate's results differ.
     for (name, peer) in conversion.others {
-        let mut ample = vec![To::default(); conversion.ample_room(input.len())];
-        counts.add(peer(input, &mut ample) == answer, &format!("{} by {name}", conversion.name), input);
+        let mut ample = vec![To::default(); conversion.ample_capacity(input.len())];
+        counts.add(peer(input, &mut ample) == wanted, &format!("{} by {name}", conversion.name), input);
     }
-    let answer = answer.as_deref();
-    for room in rooms(answer.map_or(input.len(), <[To]>::len), random) {
-        let agrees = answers_alike(conversion, input, answer, room, random);
-        counts.add(agrees, &format!("{} into a room of {room}", conversion.name), input);
+    let wanted = wanted.as_deref();
+    for capacity in capacities(wanted.map_or(input.len(), <[To]>::len), random) {
+        let agrees = results_alike(conversion, input, wanted, capacity, random);
+        counts.add(agrees, &format!("{} into a buffer of {capacity}", conversion.name), input);
     }
 }
 
@@ -122,8 +122,8 @@ fn any_bytes(units: &[u16], random: &mut Random) -> Vec<u8> {
         return bytes;
     }
     for _ in 0..[1, 1, 2, 1 + bytes.len() / 8][random.below(4)] {
-        let place = random.below(bytes.len());
-        bytes[place] = random.below(0x100) as u8;
+        let offset = random.below(bytes.len());
+        bytes[offset] = random.below(0x100) as u8;
     }
     if random.below(4) == 0 {
         bytes.truncate(bytes.len() - 1 - random.below(bytes.len().min(4)));
@@ -135,8 +135,8 @@ fn any_bytes(units: &[u16], random: &mut Random) -> Vec<u8> {
 fn any_scalars(units: &[u16], random: &mut Random) -> Vec<u32> {
     let mut scalars: Vec<u32> = String::from_utf16_lossy(units).chars().map(u32::from).collect();
     if !scalars.is_empty() && random.below(2) == 0 {
-        let place = random.below(scalars.len());
-        scalars[place] = [0xd7ff, 0xd800, 0xdfff, 0xe000, 0xffff, 0x1_0000, 0x10_ffff, 0x11_0000, u32::MAX][random.below(9)];
+        let index = random.below(scalars.len());
+        scalars[index] = [0xd7ff, 0xd800, 0xdfff, 0xe000, 0xffff, 0x1_0000, 0x10_ffff, 0x11_0000, u32::MAX][random.below(9)];
     }
     scalars
 }

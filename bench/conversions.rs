@@ -4,15 +4,15 @@ use std::borrow::Cow;
 use widestring::{U16Str, U32Str, Utf16String, Utf32String};
 
 extern "C" {
-    fn wide_utf16_to_utf8(units: *const u16, length: usize, text: *mut u8, room: usize) -> usize;
-    fn wide_utf16_to_utf8_lossy(units: *const u16, length: usize, text: *mut u8, room: usize) -> usize;
-    fn wide_utf8_to_utf16(text: *const u8, length: usize, units: *mut u16, room: usize) -> usize;
-    fn wide_utf8_to_utf16_lossy(text: *const u8, length: usize, units: *mut u16, room: usize) -> usize;
-    fn wide_utf8_to_utf32(text: *const u8, length: usize, units: *mut u32, room: usize) -> usize;
-    fn wide_utf32_to_utf8(units: *const u32, length: usize, text: *mut u8, room: usize) -> usize;
-    fn wide_utf16_to_utf32(units: *const u16, length: usize, scalars: *mut u32, room: usize) -> usize;
-    fn wide_utf32_to_utf16(scalars: *const u32, length: usize, units: *mut u16, room: usize) -> usize;
-    fn wide_utf16_repair(units: *const u16, length: usize, repaired: *mut u16, room: usize) -> usize;
+    fn wide_utf16_to_utf8(units: *const u16, length: usize, text: *mut u8, capacity: usize) -> usize;
+    fn wide_utf16_to_utf8_lossy(units: *const u16, length: usize, text: *mut u8, capacity: usize) -> usize;
+    fn wide_utf8_to_utf16(text: *const u8, length: usize, units: *mut u16, capacity: usize) -> usize;
+    fn wide_utf8_to_utf16_lossy(text: *const u8, length: usize, units: *mut u16, capacity: usize) -> usize;
+    fn wide_utf8_to_utf32(text: *const u8, length: usize, units: *mut u32, capacity: usize) -> usize;
+    fn wide_utf32_to_utf8(units: *const u32, length: usize, text: *mut u8, capacity: usize) -> usize;
+    fn wide_utf16_to_utf32(units: *const u16, length: usize, scalars: *mut u32, capacity: usize) -> usize;
+    fn wide_utf32_to_utf16(scalars: *const u32, length: usize, units: *mut u16, capacity: usize) -> usize;
+    fn wide_utf16_repair(units: *const u16, length: usize, repaired: *mut u16, capacity: usize) -> usize;
 }
 
 /// A function of the library: it writes into the buffer, and returns the needed length, or the greatest number for a
@@ -38,7 +38,7 @@ pub struct Conversion<From: 'static, To: Clone + 'static> {
 
 impl<From, To: Clone> Conversion<From, To> {
     /// Returns a buffer size that suffices for each peer.
-    pub fn ample_room(&self, length: usize) -> usize {
+    pub fn ample_capacity(&self, length: usize) -> usize {
         self.growth * length + 1
     }
 
@@ -219,8 +219,8 @@ mod encoding {
     }
 
     /// It repairs in place, so the units are copied first.
-    pub fn repaired<'a>(units: &[u16], room: &'a mut [u16]) -> Option<Cow<'a, [u16]>> {
-        let repaired = &mut room[..units.len()];
+    pub fn repaired<'a>(units: &[u16], buffer: &'a mut [u16]) -> Option<Cow<'a, [u16]>> {
+        let repaired = &mut buffer[..units.len()];
         repaired.copy_from_slice(units);
         mem::ensure_utf16_validity(repaired);
         Some(Cow::Borrowed(repaired))
@@ -235,49 +235,49 @@ mod icu {
     // ICU's names end with its version, which bench/kernels inserts.
     extern "C" {
         #[link_name = "u_strToUTF8ICU_SUFFIX"]
-        fn u_str_to_utf8(text: *mut c_char, room: i32, needed: *mut i32, units: *const u16, length: i32, error: *mut i32) -> *mut c_char;
+        fn u_str_to_utf8(text: *mut c_char, capacity: i32, needed: *mut i32, units: *const u16, length: i32, error: *mut i32) -> *mut c_char;
         #[link_name = "u_strToUTF8WithSubICU_SUFFIX"]
         fn u_str_to_utf8_with_sub(
-            text: *mut c_char, room: i32, needed: *mut i32, units: *const u16, length: i32, sub: i32, subs: *mut i32, error: *mut i32,
+            text: *mut c_char, capacity: i32, needed: *mut i32, units: *const u16, length: i32, sub: i32, subs: *mut i32, error: *mut i32,
         ) -> *mut c_char;
         #[link_name = "u_strFromUTF8ICU_SUFFIX"]
-        fn u_str_from_utf8(units: *mut u16, room: i32, needed: *mut i32, text: *const c_char, length: i32, error: *mut i32) -> *mut u16;
+        fn u_str_from_utf8(units: *mut u16, capacity: i32, needed: *mut i32, text: *const c_char, length: i32, error: *mut i32) -> *mut u16;
         #[link_name = "u_strFromUTF8WithSubICU_SUFFIX"]
         fn u_str_from_utf8_with_sub(
-            units: *mut u16, room: i32, needed: *mut i32, text: *const c_char, length: i32, sub: i32, subs: *mut i32, error: *mut i32,
+            units: *mut u16, capacity: i32, needed: *mut i32, text: *const c_char, length: i32, sub: i32, subs: *mut i32, error: *mut i32,
         ) -> *mut u16;
     }
 
-    /// Returns the part of the buffer that a call wrote; the call returns its length and its error by pointers. Errors
+    /// Returns the prefix of the buffer that a call wrote; the call returns its length and its error by pointers. Errors
     /// below 0 are warnings.
-    fn front<To: Clone>(room: &mut [To], call: impl FnOnce(*mut To, i32, *mut i32, *mut i32)) -> Option<Cow<'_, [To]>> {
+    fn written<To: Clone>(buffer: &mut [To], call: impl FnOnce(*mut To, i32, *mut i32, *mut i32)) -> Option<Cow<'_, [To]>> {
         let (mut length, mut error) = (0, 0);
-        call(room.as_mut_ptr(), room.len() as i32, &mut length, &mut error);
-        (error <= 0).then(|| Cow::Borrowed(&room[..length as usize]))
+        call(buffer.as_mut_ptr(), buffer.len() as i32, &mut length, &mut error);
+        (error <= 0).then(|| Cow::Borrowed(&buffer[..length as usize]))
     }
 
     pub fn to_utf8<'a>(units: &[u16], text: &'a mut [u8]) -> Option<Cow<'a, [u8]>> {
-        front(text, |text, room, needed, error| unsafe {
-            u_str_to_utf8(text.cast(), room, needed, units.as_ptr(), units.len() as i32, error);
+        written(text, |text, capacity, needed, error| unsafe {
+            u_str_to_utf8(text.cast(), capacity, needed, units.as_ptr(), units.len() as i32, error);
         })
     }
 
     pub fn to_utf8_lossy<'a>(units: &[u16], text: &'a mut [u8]) -> Option<Cow<'a, [u8]>> {
         let replacement = char::REPLACEMENT_CHARACTER as i32;
-        front(text, |text, room, needed, error| unsafe {
-            u_str_to_utf8_with_sub(text.cast(), room, needed, units.as_ptr(), units.len() as i32, replacement, &mut 0, error);
+        written(text, |text, capacity, needed, error| unsafe {
+            u_str_to_utf8_with_sub(text.cast(), capacity, needed, units.as_ptr(), units.len() as i32, replacement, &mut 0, error);
         })
     }
 
     pub fn to_utf16<'a>(text: &[u8], units: &'a mut [u16]) -> Option<Cow<'a, [u16]>> {
-        front(units, |units, room, needed, error| unsafe {
-            u_str_from_utf8(units, room, needed, text.as_ptr().cast(), text.len() as i32, error);
+        written(units, |units, capacity, needed, error| unsafe {
+            u_str_from_utf8(units, capacity, needed, text.as_ptr().cast(), text.len() as i32, error);
         })
     }
     pub fn to_utf16_lossy<'a>(text: &[u8], units: &'a mut [u16]) -> Option<Cow<'a, [u16]>> {
         let replacement = char::REPLACEMENT_CHARACTER as i32;
-        front(units, |units, room, needed, error| unsafe {
-            u_str_from_utf8_with_sub(units, room, needed, text.as_ptr().cast(), text.len() as i32, replacement, &mut 0, error);
+        written(units, |units, capacity, needed, error| unsafe {
+            u_str_from_utf8_with_sub(units, capacity, needed, text.as_ptr().cast(), text.len() as i32, replacement, &mut 0, error);
         })
     }
 }

@@ -41,10 +41,10 @@ def stored(text, order="<"):
 
 def items_of(text):
     """Yields each character, or unpaired surrogate, with its offset."""
-    for part in re.finditer(r"[\ud800-\udbff][\udc00-\udfff]|.", text, re.S):
-        high, low = ord(part[0][0]), ord(part[0][-1])
-        pair = chr(0x10000 + ((high - 0xD800) << 10) + (low - 0xDC00)) if len(part[0]) == 2 else part[0]
-        yield part.start(), pair
+    for found in re.finditer(r"[\ud800-\udbff][\udc00-\udfff]|.", text, re.S):
+        high, low = ord(found[0][0]), ord(found[0][-1])
+        pair = chr(0x10000 + ((high - 0xD800) << 10) + (low - 0xDC00)) if len(found[0]) == 2 else found[0]
+        yield found.start(), pair
 
 
 def is_fault(item):
@@ -69,46 +69,46 @@ def shown(item):
 
 class Export:
     def __init__(self, text):
-        self.text, self.output, self.told = text, [], []
+        self.text, self.output, self.reported = text, [], []
         # For each line where it begins, where it ends, and where the next one begins.
-        self.lines, place = [], 0
-        while place < len(text):
-            end = LINE_END.search(text, place)
-            self.lines.append((place, *(end.span() if end else (len(text), len(text)))))
-            place = self.lines[-1][2]
+        self.lines, offset = [], 0
+        while offset < len(text):
+            end = LINE_END.search(text, offset)
+            self.lines.append((offset, *(end.span() if end else (len(text), len(text)))))
+            offset = self.lines[-1][2]
         self.has_key = False
         self.quoted = set()
 
-    def tell(self, line, unit, what):
-        self.told.append((line, unit, what))
+    def report(self, line, unit, what):
+        self.reported.append((line, unit, what))
 
-    def escapes(self, line, unit, part):
-        for escape in ESCAPE.finditer(part):
+    def escapes(self, line, unit, text):
+        for escape in ESCAPE.finditer(text):
             if escape[1] not in ("\\", '"'):
-                self.tell(line, unit + escape.start(), "no escape")
+                self.report(line, unit + escape.start(), "no escape")
 
     def ends(self, line):
         """Reports the units of a line, and its end."""
-        begin, end, behind = self.lines[line]
-        for place, item in items_of(self.text[begin:end]):
+        begin, end, next_line = self.lines[line]
+        for offset, item in items_of(self.text[begin:end]):
             if is_fault(item):
-                self.tell(line, place, f"fault {ord(item):04X}")
-            elif item == "\r" and begin + place not in self.quoted:
-                self.tell(line, place, "a carriage return alone")
+                self.report(line, offset, f"fault {ord(item):04X}")
+            elif item == "\r" and begin + offset not in self.quoted:
+                self.report(line, offset, "a carriage return alone")
         if end not in self.quoted:
-            if end == behind:
-                self.tell(line, end - begin, "the line has no end")
-            elif behind == end + 1:
-                self.tell(line, end - begin, "a line feed alone")
+            if end == next_line:
+                self.report(line, end - begin, "the line has no end")
+            elif next_line == end + 1:
+                self.report(line, end - begin, "a line feed alone")
 
-    def string(self, line, place):
+    def string(self, line, offset):
         """Reads the string whose opening quote is at an offset, and returns its last line."""
         begin, end, _ = self.lines[line]
-        unit = place + 1 - begin
-        self.escapes(line, unit, self.text[place + 1 : end])
-        found = STRING.match(self.text, place)
+        unit = offset + 1 - begin
+        self.escapes(line, unit, self.text[offset + 1 : end])
+        found = STRING.match(self.text, offset)
         if found and (found.end() == len(self.text) or LINE_END.match(self.text, found.end())):
-            self.quoted.update(range(place + 1, found.end()))
+            self.quoted.update(range(offset + 1, found.end()))
             self.ends(line)
             while self.lines[line][1] < found.end():
                 line += 1
@@ -118,40 +118,40 @@ class Export:
             self.output.append(printed(self.text[begin : found.end()]) + "\n")
             return line
         if found and found.end() <= end:
-            self.tell(line, found.end() - begin, "more behind the string")
+            self.report(line, found.end() - begin, "more behind the string")
         else:
-            self.tell(line, unit, "the string has no end")
+            self.report(line, unit, "the string has no end")
         return self.plain(line)
 
-    def bytes(self, line, place):
+    def bytes(self, line, offset):
         """Reads the bytes from an offset on, and returns the last line that has some."""
-        begin, end, behind = self.lines[line]
-        front, pieces, is_sound = printed(self.text[begin:place]), [], True
+        begin, end, next_line = self.lines[line]
+        prefix, fields, is_valid = printed(self.text[begin:offset]), [], True
         while True:
-            digits = self.text[place:end]
+            digits = self.text[offset:end]
             goes_on = digits.endswith(",\\")
-            for piece in (digits[:-2] if goes_on else digits).split(",") if digits or pieces else []:
-                pieces.append(piece)
-                if not BYTE.match(piece):
-                    is_sound = False
-                    self.tell(line, place - begin, f"no byte, {printed(piece)}")
-                place += len(piece) + 1
-            if goes_on and NO_BYTES.match(self.text, behind):
-                is_sound = False
-                self.tell(line, end - begin - 1, "the value goes on, but no bytes follow")
+            for field in (digits[:-2] if goes_on else digits).split(",") if digits or fields else []:
+                fields.append(field)
+                if not BYTE.match(field):
+                    is_valid = False
+                    self.report(line, offset - begin, f"no byte, {printed(field)}")
+                offset += len(field) + 1
+            if goes_on and NO_BYTES.match(self.text, next_line):
+                is_valid = False
+                self.report(line, end - begin - 1, "the value goes on, but no bytes follow")
                 goes_on = False
             self.ends(line)
             if not goes_on:
                 break
             line += 1
-            begin, end, behind = self.lines[line]
-            place = begin + len(self.text[begin:end]) - len(self.text[begin:end].lstrip(" "))
+            begin, end, next_line = self.lines[line]
+            offset = begin + len(self.text[begin:end]) - len(self.text[begin:end].lstrip(" "))
         text = ""
-        if is_sound and "00" in pieces:
-            even = bytes.fromhex("".join(pieces))[: len(pieces) // 2 * 2]
+        if is_valid and "00" in fields:
+            even = bytes.fromhex("".join(fields))[: len(fields) // 2 * 2]
             units = "".join(map(chr, struct.unpack(f"<{len(even) // 2}H", even)))
             text = f' "{"".join(shown(item) for _, item in items_of(units))}"'
-        self.output.append(front + "".join(" " + printed(piece) for piece in pieces) + text + "\n")
+        self.output.append(prefix + "".join(" " + printed(field) for field in fields) + text + "\n")
         return line
 
     def plain(self, line):
@@ -163,25 +163,25 @@ class Export:
     def value(self, line):
         begin, end, _ = self.lines[line]
         if not self.has_key:
-            self.tell(line, 0, "a value under no key")
+            self.report(line, 0, "a value under no key")
         name = NAME.match(self.text[begin:end])
         if not name:
             self.escapes(line, 0, self.text[begin:end])
-            self.tell(line, 0, "no name and =")
+            self.report(line, 0, "no name and =")
             return self.plain(line)
         self.escapes(line, 0, name[0])
-        place = begin + name.end()
-        data = self.text[place:end]
-        front = HEX.match(data)
-        if front:
-            return self.bytes(line, place + front.end())
+        offset = begin + name.end()
+        data = self.text[offset:end]
+        prefix = HEX.match(data)
+        if prefix:
+            return self.bytes(line, offset + prefix.end())
         if data.startswith('"'):
-            return self.string(line, place)
+            return self.string(line, offset)
         if data.startswith("dword:"):
             if not DWORD.match(data):
-                self.tell(line, place - begin, "no number")
+                self.report(line, offset - begin, "no number")
         elif data != "-":
-            self.tell(line, place - begin, "neither text, a number nor bytes")
+            self.report(line, offset - begin, "neither text, a number nor bytes")
         return self.plain(line)
 
     def entry(self, line):
@@ -191,15 +191,15 @@ class Export:
         if line == 0:
             if units in (HEADER, "REGEDIT4"):
                 return self.plain(line)
-            self.tell(line, 0, "no header")
+            self.report(line, 0, "no header")
         if units[:1] in ("@", '"') and units:
             return self.value(line)
         if units[:1] == "[":
             self.has_key = not units.startswith("[-")
             if not KEY.match(units):
-                self.tell(line, 0, "no key")
+                self.report(line, 0, "no key")
         elif units and units[:1] != ";":
-            self.tell(line, 0, "neither a key nor a value")
+            self.report(line, 0, "neither a key nor a value")
         return self.plain(line)
 
     def read(self, half):
@@ -208,13 +208,13 @@ class Export:
             line = self.entry(line) + 1
         last, unit = max(len(self.lines) - 1, 0), 0
         if not self.lines:
-            self.tell(0, 0, "no header")
+            self.report(0, 0, "no header")
         elif self.lines[-1][1] == self.lines[-1][2]:
             unit = self.lines[-1][1] - self.lines[-1][0]
         else:
             last += 1
         if half:
-            self.tell(last, unit, f"half of a unit, {half[0]:02x}")
+            self.report(last, unit, f"half of a unit, {half[0]:02x}")
 
 
 def answer(file):
@@ -227,10 +227,10 @@ def answer(file):
     count = len(file) // 2 - 1
     export = Export("".join(map(chr, struct.unpack_from(f"{order}{count}H", file, 2))))
     if order == ">":
-        export.tell(0, 0, "the high byte of each unit is first")
+        export.report(0, 0, "the high byte of each unit is first")
     export.read(file[2 + 2 * count :])
-    told = "".join(f"line {line + 1}, unit {unit}: {what}\n" for line, unit, what in export.told)
-    return "".join(export.output), told, int(bool(told))
+    reported = "".join(f"line {line + 1}, unit {unit}: {what}\n" for line, unit, what in export.reported)
+    return "".join(export.output), reported, int(bool(reported))
 
 
 def lines(*texts):
@@ -291,7 +291,7 @@ def file_of(made):
     return made if made is None or isinstance(made, bytes) else b"\xff\xfe" + stored(units_of(made))
 
 
-PARTS = [
+FRAGMENTS = [
     *("\r\n", "\r\n", "\r\n", "\r\n", "\n", "\r"),
     *("[K]", "[-K]", "[", "]", "-", ";", "@=", '"n"=', '"n\\"\\\\"=', '"', '"', '"="', '"x"', "\\", '\\"', "\\\\"),
     *("hex:", "hex(2):", "hex(0):", "hex(", "):", "dword:", "0000002a", "1f,", "00,", "01", "4", "+", ",\\\r\n  ", ",\\\r\n", ",\\"),
@@ -300,7 +300,7 @@ PARTS = [
 UNITS = ["\0", "A", "\\", '"', "\n", "\t", "\x01", "\x7f", "\u6df1", "\U0001f41f", "\ud83d", "\udc00"]
 
 
-def sound_line(source):
+def valid_line(source):
     kind = source.randrange(6)
     if kind == 0:
         return source.choice(["[K]", "[-K]", "[K\\a]", "", "; a"])
@@ -314,23 +314,23 @@ def sound_line(source):
     else:
         stored_bytes = bytes(source.randrange(1, 256) for _ in range(source.randrange(6)))
     digits = ["%02x" % byte for byte in stored_bytes]
-    for place in range(1, len(digits)):
-        digits[place] = ("," if source.randrange(4) else ",\\\r\n  ") + digits[place]
+    for index in range(1, len(digits)):
+        digits[index] = ("," if source.randrange(4) else ",\\\r\n  ") + digits[index]
     return name + source.choice(["hex:", "hex(7):", "hex(0):"]) + "".join(digits)
 
 
 def made(source):
     """Returns a random file: valid lines, of which some fragments are lost, doubled or inserted."""
     header = source.choice([HEADER, HEADER, HEADER, "REGEDIT4"]) + "\r\n" + source.choice(["[K]\r\n", "[K]\r\n", ""])
-    text = header + "".join(sound_line(source) + "\r\n" for _ in range(source.randrange(6)))
+    text = header + "".join(valid_line(source) + "\r\n" for _ in range(source.randrange(6)))
     for _ in range(source.randrange(4)):
         begin = source.randrange(len(text) + 1)
         if source.randrange(4):
             begin = max(begin, min(len(header), len(text)))
         end = begin + source.choice([0, 0, 1, 1, 2, 5])
-        text = text[:begin] + source.choice(["", *source.choices(PARTS, k=2)]) + text[end:]
+        text = text[:begin] + source.choice(["", *source.choices(FRAGMENTS, k=2)]) + text[end:]
     if not source.randrange(3):
-        text = header + "".join(source.choices(PARTS, k=source.randrange(16)))
+        text = header + "".join(source.choices(FRAGMENTS, k=source.randrange(16)))
     order = ">" if not source.randrange(16) else "<"
     file = stored(units_of("\ufeff" + text), order)
     if not source.randrange(8):
@@ -339,21 +339,21 @@ def made(source):
 
 
 def question(source, folder):
-    words = source.choice([["export.reg"]] * 30 + [[], ["export.reg", "export.reg"]])
+    arguments = source.choice([["export.reg"]] * 30 + [[], ["export.reg", "export.reg"]])
     while True:
         file = made(source)
         try:
-            output, told, status = answer(file if len(words) == 1 else None)
+            output, reported, status = answer(file if len(arguments) == 1 else None)
             break
         except Unknown:
             continue
     with open(f"{folder}/export.reg", "wb") as stream:
         stream.write(file)
-    return words, output.encode(), told.encode(), status
+    return arguments, output.encode(), reported.encode(), status
 
 
 def cases():
     for made_or_listed in INPUTS:
         file = file_of(made_or_listed)
-        output, told, status = answer(file)
-        yield "", [] if file is None else ["{}"], file or b"", output.encode(), told.encode(), status
+        output, reported, status = answer(file)
+        yield "", [] if file is None else ["{}"], file or b"", output.encode(), reported.encode(), status

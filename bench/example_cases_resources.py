@@ -76,20 +76,20 @@ class Reader:
     def __init__(self, name, data, is_lossy):
         self.name, self.data, self.is_lossy = name, data, is_lossy
         self.at = self.number = self.begin = 0
-        self.printed, self.told = [], []
+        self.printed, self.reported = [], []
 
-    def tell(self, what):
-        self.told.append(f"{self.name}: resource {self.number} at byte {self.begin}: {what}\n")
+    def report(self, what):
+        self.reported.append(f"{self.name}: resource {self.number} at byte {self.begin}: {what}\n")
 
     def read(self):
         if not self.data:
-            self.told.append(f"{self.name}: no resource\n")
+            self.reported.append(f"{self.name}: no resource\n")
         while self.at < len(self.data):
             self.number, self.begin = self.number + 1, self.at
             try:
                 self.read_resource()
             except Fault as fault:
-                self.tell(f"{fault}, bytes not read: {len(self.data) - self.begin}")
+                self.report(f"{fault}, bytes not read: {len(self.data) - self.begin}")
                 return
 
     def read_name(self, end):
@@ -125,27 +125,27 @@ class Reader:
         self.at = header_end + data_size
         self.at += -self.at % 4
         if self.begin == 0 and (header_size, data_size, kind, name) != (32, 0, 0, 0):
-            self.tell("is not the empty resource that a file begins with")
+            self.report("is not the empty resource that a file begins with")
         if missing > 0:
-            self.tell(f"bytes missing: {missing}")
+            self.report(f"bytes missing: {missing}")
         if kind == 6:
             self.read_table(name, language, self.data[header_end : header_end + data_size])
 
     def read_table(self, name, language, data):
         if isinstance(name, list):
-            return self.tell("a string table is named by a number, not by a text")
+            return self.report("a string table is named by a number, not by a text")
         if name not in range(1, 4097):
-            return self.tell(f"a string table is named 1 to 4096, not {name}")
+            return self.report(f"a string table is named 1 to 4096, not {name}")
         at = 0
         for number in range(16 * name - 16, 16 * name):
             count = int.from_bytes(data[at : at + 2], "little") if at + 2 <= len(data) else 0
             end = at + 2 + 2 * count
             if end > len(data):
-                return self.tell(f"ends in string {number}, bytes missing: {end - len(data)}")
+                return self.report(f"ends in string {number}, bytes missing: {end - len(data)}")
             self.read_string(number, language, data[at + 2 : end])
             at = end
         if at < len(data):
-            self.tell(f"bytes behind its strings: {len(data) - at}")
+            self.report(f"bytes behind its strings: {len(data) - at}")
         return None
 
     def read_string(self, number, language, data):
@@ -155,11 +155,11 @@ class Reader:
         if not data:
             return
         if any(is_fault) and not self.is_lossy:
-            place = 0
+            offset = 0
             for char, is_one in zip(text, is_fault):
                 if is_one:
-                    self.tell(f"string {number}: fault {ord(char):04X} at unit {place}")
-                place += len(units(char)) // 2
+                    self.report(f"string {number}: fault {ord(char):04X} at unit {offset}")
+                offset += len(units(char)) // 2
             return
         text = "".join(
             "\ufffd" if is_one else debug_of(char) for char, is_one in zip(text, is_fault)
@@ -167,23 +167,23 @@ class Reader:
         self.printed.append(f'{language:04X} {number}: "{text}"\n')
 
 
-def answer(words, files):
+def answer(arguments, files):
     """Returns the expected output and reports, and the status. `files` has the bytes for each argument, or why they
     can't be read."""
-    is_lossy = words[:1] == ["--lossy"]
-    names = words[1:] if is_lossy else words
+    is_lossy = arguments[:1] == ["--lossy"]
+    names = arguments[1:] if is_lossy else arguments
     if not names or any(name.startswith("--") for name in names):
         return "", USAGE, 2
-    printed, told = "", ""
+    printed, reported = "", ""
     for name, data in zip(names, files):
         if isinstance(data, str):
-            told += f"{name}: {data}\n"
+            reported += f"{name}: {data}\n"
             continue
         reader = Reader(name, data, is_lossy)
         reader.read()
         printed += "".join(reader.printed)
-        told += "".join(reader.told)
-    return printed, told, 1 if told else 0
+        reported += "".join(reader.reported)
+    return printed, reported, 1 if reported else 0
 
 
 # The inputs: arguments, of which {} is the name of a file, and its bytes.
@@ -256,8 +256,8 @@ INPUTS = [
 
 # Random questions.
 
-SOUND = ["", "a", "Zoë", "深", "🌊", "\0", '"', "\\", "\n", "\ufeff", "\u200b", "\ufffd", "\u0301", "\uffff", "\x85"]
-TEXTS = [*SOUND * 8, "\ud83d", "\udc00"]
+VALID = ["", "a", "Zoë", "深", "🌊", "\0", '"', "\\", "\n", "\ufeff", "\u200b", "\ufffd", "\u0301", "\uffff", "\x85"]
+TEXTS = [*VALID * 8, "\ud83d", "\udc00"]
 
 
 def random_text(source):
@@ -307,7 +307,7 @@ def question(source, folder):
 
 
 def one_question(source, folder):
-    words = source.choice([[], [], ["--lossy"]])
+    arguments = source.choice([[], [], ["--lossy"]])
     files = [random_file(source) for _ in range(source.choice([1, 1, 1, 2, 3]))]
     names = [f"{number}.res" for number in range(len(files))]
     for number, name in enumerate(names):
@@ -315,16 +315,16 @@ def one_question(source, folder):
             written.write(files[number])
     if source.random() < 0.05:
         files[-1], names[-1] = UNREADABLE, "no.res"
-    words = [*words, *names]
+    arguments = [*arguments, *names]
     if source.random() < 0.02:
-        words.insert(source.randint(0, len(words)), source.choice(["--lossy", "--", "--no"]))
-    printed, told, status = answer(words, files)
-    return words, printed.encode(), told.encode(), status
+        arguments.insert(source.randint(0, len(arguments)), source.choice(["--lossy", "--", "--no"]))
+    printed, reported, status = answer(arguments, files)
+    return arguments, printed.encode(), reported.encode(), status
 
 
 def cases():
-    for words, file in INPUTS:
+    for arguments, file in INPUTS:
         # A copy of the file has this name.
-        names = ["case" if word == "{}" else word for word in words]
-        printed, told, status = answer(names, [file if word == "{}" else UNREADABLE for word in words if not word.startswith("--")])
-        yield "", words, file, printed.encode(), told.encode(), status
+        names = ["case" if argument == "{}" else argument for argument in arguments]
+        printed, reported, status = answer(names, [file if argument == "{}" else UNREADABLE for argument in arguments if not argument.startswith("--")])
+        yield "", arguments, file, printed.encode(), reported.encode(), status

@@ -24,9 +24,9 @@ def items_of(units):
     items, at = [], 0
     while at < len(units):
         unit = units[at]
-        behind = units[at + 1] if at + 1 < len(units) else 0
-        if 0xD800 <= unit < 0xDC00 <= behind < 0xE000:
-            items.append(chr(0x10000 + (unit - 0xD800) * 1024 + behind - 0xDC00))
+        following = units[at + 1] if at + 1 < len(units) else 0
+        if 0xD800 <= unit < 0xDC00 <= following < 0xE000:
+            items.append(chr(0x10000 + (unit - 0xD800) * 1024 + following - 0xDC00))
             at += 2
         else:
             items.append(unit if 0xD800 <= unit < 0xE000 else chr(unit))
@@ -54,14 +54,14 @@ class Line:
         self.text, self.rest = text, text
 
     def fail(self, what, unit=None):
-        place = len(units_of(self.text)) - len(units_of(self.rest)) if unit is None else unit
-        raise Damage(place, what)
+        offset = len(units_of(self.text)) - len(units_of(self.rest)) if unit is None else unit
+        raise Damage(offset, what)
 
     def word(self):
         word, _, self.rest = self.rest.partition(" ")
         return word
 
-    def place(self):
+    def offset(self):
         before = self.rest
         word = self.word()
         if not word or any(digit not in "0123456789" for digit in word):
@@ -91,8 +91,8 @@ class Line:
 
 def edit(units, name, line):
     """Returns the new units, and the result."""
-    first = line.place()
-    second = line.place() if name == "replace" else first
+    first = line.offset()
+    second = line.offset() if name == "replace" else first
     text = line.rest
     if name == "remove":
         line.end()
@@ -127,49 +127,49 @@ def answer(units, text):
         new = line.escaped_units()
         return new, shown(new)
     if name == "indexOf":
-        part = line.escaped_units()
-        places = [at for at in range(len(units) + 1) if units[at : at + len(part)] == part]
-        return units, str(places[0] if places else -1)
+        needle = line.escaped_units()
+        offsets = [at for at in range(len(units) + 1) if units[at : at + len(needle)] == needle]
+        return units, str(offsets[0] if offsets else -1)
     if name == "codePointAt":
-        at = line.place()
+        at = line.offset()
         line.end()
         items = items_of(units[at:])
         if not items:
             return units, "undefined"
         return units, f"U+{items[0] if isinstance(items[0], int) else ord(items[0]):04X}"
     if name == "slice":
-        start, end = line.place(), line.place()
+        start, end = line.offset(), line.offset()
         line.end()
         return units, shown(units[:end][start:])
     line.end()
     items = items_of(units)
     if name == "isWellFormed":
         return units, "false" if any(isinstance(item, int) for item in items) else "true"
-    mended = "".join("\ufffd" if isinstance(item, int) else item for item in items)
-    return units, shown(units_of(mended))
+    repaired = "".join("\ufffd" if isinstance(item, int) else item for item in items)
+    return units, shown(units_of(repaired))
 
 
 def read(data):
     """Returns standard output, standard error and status."""
-    units, output, told = [], "", ""
+    units, output, reported = [], "", ""
     for number, line in enumerate(data.split(b"\n"), 1):
         line = line[:-1] if line.endswith(b"\r") else line
         try:
             text = line.decode()
         except UnicodeDecodeError as fault:
-            place = len(units_of(line[: fault.start].decode()))
-            told += f"line {number}, unit {place}: no UTF-8\n"
+            offset = len(units_of(line[: fault.start].decode()))
+            reported += f"line {number}, unit {offset}: no UTF-8\n"
             continue
         if not text:
             continue
         try:
-            units, said = answer(units, text)
+            units, result = answer(units, text)
         except Damage as damage:
-            place, what = damage.args
-            said = f"{what} at unit {place}"
-            told += f"line {number}, unit {place}: {what}\n"
-        output += f"{text}: {said}\n"
-    return output.encode(), told.encode(), 1 if told else 0
+            offset, what = damage.args
+            result = f"{what} at unit {offset}"
+            reported += f"line {number}, unit {offset}: {what}\n"
+        output += f"{text}: {result}\n"
+    return output.encode(), reported.encode(), 1 if reported else 0
 
 
 # Files and their descriptions, which are those of the cases.
@@ -198,23 +198,23 @@ FILES = [
     ("units before a fault of a line", "string é😀".encode() + b"\xc3\n" + "é😀 1\nstring é😀\\u\n".encode()),
 ]
 CHARACTERS = ["a", "b", "0", "e", "é", "😀", "深", "\ufffd", "'", '"', "\\", "\t", "\0", *HIDDEN, "\r"]
-PARTS = ["\\uD83D", "\\uDE00", "\\ud83c", "\\u00e9", "\\u0041", "\\u12", "\\u+123", "\\u", "\\u00g1", " ", "aa", "x😀"]
+FRAGMENTS = ["\\uD83D", "\\uDE00", "\\ud83c", "\\u00e9", "\\u0041", "\\u12", "\\u+123", "\\u", "\\u00g1", " ", "aa", "x😀"]
 WORDS = ["0", "1", "2", "3", "4", "9", "00", "99999999999999999999", "+1", "-1", "", "x", "1.5", "é"]
 
 
 def random_text(random):
-    return "".join(random.choice(random.choice([CHARACTERS, CHARACTERS, PARTS])) for _ in range(random.randrange(6)))
+    return "".join(random.choice(random.choice([CHARACTERS, CHARACTERS, FRAGMENTS])) for _ in range(random.randrange(6)))
 
 
 def random_line(random):
-    kind, place = random.randrange(20), lambda: random.choice(WORDS[: 6 if random.random() < 0.8 else len(WORDS)])
+    kind, number = random.randrange(20), lambda: random.choice(WORDS[: 6 if random.random() < 0.8 else len(WORDS)])
     if kind == 0:
         return random.choice(["", "charAt 0", "é" + random_text(random), " ", "string"])
     name = random.choice(NAMES)
     if name in ("string", "indexOf"):
         return f"{name} {random_text(random)}"
     values = {"codePointAt": 1, "remove": 1, "insert": 1, "slice": 2, "replace": 2}.get(name, 0)
-    line = " ".join([name] + [place() for _ in range(values)])
+    line = " ".join([name] + [number() for _ in range(values)])
     if name in ("insert", "replace") or kind == 1:
         line += " " + random_text(random)
     return line
@@ -222,7 +222,7 @@ def random_line(random):
 
 def random_file(random):
     lines = [random_line(random) for _ in range(random.randrange(1, 12))]
-    lines.insert(0, "string " + "".join(random.choice(CHARACTERS + PARTS[:5]) for _ in range(random.randrange(8))))
+    lines.insert(0, "string " + "".join(random.choice(CHARACTERS + FRAGMENTS[:5]) for _ in range(random.randrange(8))))
     data = b"".join(line.encode() + random.choice([b"\n", b"\n", b"\n", b"\r\n"]) for line in lines)
     if random.randrange(12) == 0:
         at = random.randrange(len(data))

@@ -51,33 +51,33 @@ class Reader:
 
     def __init__(self, by, drops):
         self.by, self.drops = by, drops
-        self.told, self.text, self.line, self.place = "", "", 0, "number"
+        self.reported, self.text, self.line, self.expects = "", "", 0, "number"
 
-    def tell(self, unit, what):
-        self.told += f"line {self.line}, unit {unit}: {what}\n"
+    def report(self, unit, what):
+        self.reported += f"line {self.line}, unit {unit}: {what}\n"
 
     def moved(self, line):
         first, arrow, rest = line.partition(" --> ")
         begin = re.fullmatch(TIME, first)
         begin = begin and milliseconds(*begin.groups())
         if not arrow or begin is None:
-            self.tell(0, "no times")
+            self.report(0, "no times")
             return line
         last = rest.partition(" ")[0]
         end = re.fullmatch(TIME, last)
         end = end and milliseconds(*end.groups())
         if end is None:
-            self.tell(len(first) + 5, "no times")
+            self.report(len(first) + 5, "no times")
             return line
-        behind = rest[len(last) :]
-        found = COORDINATES.fullmatch(behind)
+        coordinates = rest[len(last) :]
+        found = COORDINATES.fullmatch(coordinates)
         if not found or any(number and int(number) > GREATEST for number in found.groups()[1:]):
-            self.tell(len(first) + 5 + len(last), "no times")
+            self.report(len(first) + 5 + len(last), "no times")
             return line
         for time, unit, what in [(begin, 0, "begins"), (end, len(first) + 5, "ends")]:
             if time + self.by < 0:
-                self.tell(unit, f"{what} at 0, not before")
-        return written(max(begin + self.by, 0)) + arrow + written(max(end + self.by, 0)) + behind
+                self.report(unit, f"{what} at 0, not before")
+        return written(max(begin + self.by, 0)) + arrow + written(max(end + self.by, 0)) + coordinates
 
     def add(self, line, end):
         self.line += 1
@@ -85,38 +85,38 @@ class Reader:
         for char in line:
             if is_fault(char):
                 has_fault = True
-                self.tell(at, f"fault {ord(char):04X}")
+                self.report(at, f"fault {ord(char):04X}")
             at += len(units_of(char))
-        mended = "".join("\ufffd" if is_fault(char) else char for char in line)
-        if self.place == "times":
-            mended = self.moved(mended)
-            self.place = "text"
-        elif self.place == "number" and line:
+        repaired = "".join("\ufffd" if is_fault(char) else char for char in line)
+        if self.expects == "times":
+            repaired = self.moved(repaired)
+            self.expects = "text"
+        elif self.expects == "number" and line:
             if re.fullmatch("[0-9]+", line):
-                self.place = "times"
+                self.expects = "times"
             else:
-                self.tell(0, "no number")
-                self.place = "text"
+                self.report(0, "no number")
+                self.expects = "text"
         if not line:
-            self.place = "number"
+            self.expects = "number"
         if has_fault and self.drops:
-            self.tell(0, f"left out, {shown(line)}")
+            self.report(0, f"left out, {shown(line)}")
         else:
-            self.text += mended + end
+            self.text += repaired + end
 
 
-def request_of(words):
-    if not (len(words) == 2 or (len(words) == 3 and words[2] == "drop")):
+def request_of(arguments):
+    if not (len(arguments) == 2 or (len(arguments) == 3 and arguments[2] == "drop")):
         return None
-    number = re.fullmatch(r"([+-]?)([0-9]+)", words[1])
+    number = re.fullmatch(r"([+-]?)([0-9]+)", arguments[1])
     if not number or int(number[2]) > GREATEST:
         return None
-    return int(number[2]) * (-1 if number[1] == "-" else 1), len(words) == 3
+    return int(number[2]) * (-1 if number[1] == "-" else 1), len(arguments) == 3
 
 
-def read(words, data):
+def read(arguments, data):
     """Returns standard output, standard error and status."""
-    request = request_of(words)
+    request = request_of(arguments)
     if request is None:
         return b"", USAGE, 2
     reader = Reader(*request)
@@ -136,11 +136,11 @@ def read(words, data):
         last = len(units_of(lines[-1][0]))
     else:
         reader.line += 1
-    if reader.place == "times":
-        reader.tell(last, "no times")
+    if reader.expects == "times":
+        reader.report(last, "no times")
     if len(pairs) % 2:
-        reader.tell(last, f"half of a unit, {pairs[-1]:02X}")
-    return b"\xff\xfe" + reader.text.encode("utf-16-le"), reader.told.encode(), 1 if reader.told else 0
+        reader.report(last, f"half of a unit, {pairs[-1]:02X}")
+    return b"\xff\xfe" + reader.text.encode("utf-16-le"), reader.reported.encode(), 1 if reader.reported else 0
 
 
 def little(text):
@@ -185,11 +185,11 @@ CASES = [
     ("a fourth word", ["5", "drop", "drop"], ONE),
     ("one word", [], ONE),
 ]
-PARTS = ["a", "é", "😀", "深", "\ud83d", "\udc1f", "\ufffd", " ", "'", '"', " --> ", "1", "\r", "\0", "\\", "\ufeff"]
+FRAGMENTS = ["a", "é", "😀", "深", "\ud83d", "\udc1f", "\ufffd", " ", "'", '"', " --> ", "1", "\r", "\0", "\\", "\ufeff"]
 
 
 def random_text(random):
-    return "".join(random.choice(PARTS) for _ in range(random.randrange(6)))
+    return "".join(random.choice(FRAGMENTS) for _ in range(random.randrange(6)))
 
 
 def random_time(random):
@@ -204,10 +204,10 @@ def random_time(random):
 
 def random_times(random):
     arrow = random.choice([" --> "] * 12 + ["-->", " -> ", "  -->  "])
-    behind = random.choice(
+    coordinates = random.choice(
         [""] * 8 + [" ", " eggs", " X1:1 X2:22 Y1:3 Y2:4", "  X1:1 X2:22 Y1:3 Y2:4 ", " X1:1 X2:22", " X1:1 X2:2 Y2:3 Y1:4", "X1:1", " X1: X2:1 Y1:1 Y2:1"]
     )
-    return random_time(random) + arrow + random_time(random) + behind
+    return random_time(random) + arrow + random_time(random) + coordinates
 
 
 def random_block(random, number):
@@ -238,14 +238,14 @@ def question(random, folder):
     number = random.choice(["+", "-", ""]) + str(random.choice([0, 1, 500, random.randrange(4000), 3600000]))
     if random.randrange(40) == 0:
         number = random.choice(["1.5", "--500", "+-5", "", "-", "x", "4294967296", "4294967295", "-4294967295", "99999999999999999999", "1 "])
-    words = ["moved.srt", number] + random.choice([[], [], ["drop"]])
+    arguments = ["moved.srt", number] + random.choice([[], [], ["drop"]])
     if random.randrange(60) == 0:
-        words = random.choice([[], words[:1], [*words[:2], "Drop"], [*words[:2], "drop", "drop"], [*words[:2], ""]])
-    return words, *read(words, data)
+        arguments = random.choice([[], arguments[:1], [*arguments[:2], "Drop"], [*arguments[:2], "drop", "drop"], [*arguments[:2], ""]])
+    return arguments, *read(arguments, data)
 
 
 def cases():
-    for name, behind, file in CASES:
+    for name, more, file in CASES:
         data = file if isinstance(file, bytes) else little(file)
-        words = ["{}", *behind]
-        yield name, words, data, *read(words, data)
+        arguments = ["{}", *more]
+        yield name, arguments, data, *read(arguments, data)

@@ -99,8 +99,8 @@ fn compare_texts(bytes: usize, calls: u32) {
     for (text, units) in texts {
         compare_units16(&format!("{text}, {} KB", bytes / 1024), calls, &units);
         let chars: Vec<u32> = char::decode_utf16(units).map(|c| c.unwrap() as u32).collect();
-        let room = chars.len().min(bytes / 4);
-        compare_units32(&format!("{text}, {} KB", room * 4 / 1024), calls, &chars[..room]);
+        let count = chars.len().min(bytes / 4);
+        compare_units32(&format!("{text}, {} KB", count * 4 / 1024), calls, &chars[..count]);
     }
 }
 
@@ -127,9 +127,9 @@ fn compare_searches() {
 }
 
 fn main() {
-    let words: Vec<String> = std::env::args().skip(1).collect();
-    let words: Vec<&str> = words.iter().map(String::as_str).collect();
-    match words[..] {
+    let arguments: Vec<String> = std::env::args().skip(1).collect();
+    let arguments: Vec<&str> = arguments.iter().map(String::as_str).collect();
+    match arguments[..] {
         [] => {
             compare_searches();
             race::race_all();
@@ -141,6 +141,6 @@ fn main() {
                 std::process::exit(1);
             }
         }
-        _ => panic!("no such words: {words:?}"),
+        _ => panic!("no such arguments: {arguments:?}"),
     }
 }

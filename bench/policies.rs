@@ -4,12 +4,12 @@ use crate::conversions::Conversion;
 use std::borrow::Cow;
 
 extern "C" {
-    fn wide_utf8_to_utf32_lossy(text: *const u8, length: usize, units: *mut u32, room: usize) -> usize;
-    fn wide_utf32_to_utf8_lossy(units: *const u32, length: usize, text: *mut u8, room: usize) -> usize;
-    fn wide_utf8_to_utf16_lossy_with(text: *const u8, length: usize, policy: u32, units: *mut u16, room: usize) -> usize;
-    fn wide_utf8_to_utf32_lossy_with(text: *const u8, length: usize, policy: u32, units: *mut u32, room: usize) -> usize;
-    fn wide_utf16_to_utf8_lossy_with(units: *const u16, length: usize, policy: u32, text: *mut u8, room: usize) -> usize;
-    fn wide_utf32_to_utf8_lossy_with(units: *const u32, length: usize, policy: u32, text: *mut u8, room: usize) -> usize;
+    fn wide_utf8_to_utf32_lossy(text: *const u8, length: usize, units: *mut u32, capacity: usize) -> usize;
+    fn wide_utf32_to_utf8_lossy(units: *const u32, length: usize, text: *mut u8, capacity: usize) -> usize;
+    fn wide_utf8_to_utf16_lossy_with(text: *const u8, length: usize, policy: u32, units: *mut u16, capacity: usize) -> usize;
+    fn wide_utf8_to_utf32_lossy_with(text: *const u8, length: usize, policy: u32, units: *mut u32, capacity: usize) -> usize;
+    fn wide_utf16_to_utf8_lossy_with(units: *const u16, length: usize, policy: u32, text: *mut u8, capacity: usize) -> usize;
+    fn wide_utf32_to_utf8_lossy_with(units: *const u32, length: usize, policy: u32, text: *mut u8, capacity: usize) -> usize;
 }
 
 /// U+FFFD for each fault, for each run of them, or for none.

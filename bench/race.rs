@@ -33,7 +33,7 @@ fn times<From, To: Clone + Default>(conversion: &Conversion<From, To>, input: &[
         library(black_box(input), &mut exact) == needed
     })];
     for (_, peer) in conversion.peers() {
-        let mut ample = vec![To::default(); conversion.ample_room(input.len())];
+        let mut ample = vec![To::default(); conversion.ample_capacity(input.len())];
         runners.push(clock::round(calls, move || {
             let peer = black_box(peer);
             peer(black_box(input), &mut ample).is_some_and(|answer| answer.len() == needed)

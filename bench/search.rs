@@ -5,7 +5,7 @@ use std::hint::black_box;
 
 extern "C" {
     fn wide_utf16_find_unit(units: *const u16, length: usize, unit: u16) -> usize;
-    fn wide_utf16_find(units: *const u16, length: usize, part: *const u16, part_length: usize) -> usize;
+    fn wide_utf16_find(units: *const u16, length: usize, needle: *const u16, needle_length: usize) -> usize;
 }
 
 fn find_unit(units: &[u16], unit: u16) -> Option<usize> {
@@ -13,13 +13,13 @@ fn find_unit(units: &[u16], unit: u16) -> Option<usize> {
     (at < units.len()).then_some(at)
 }
 
-fn find(units: &[u16], part: &[u16]) -> Option<usize> {
-    let at = unsafe { wide_utf16_find(units.as_ptr(), units.len(), part.as_ptr(), part.len()) };
+fn find(units: &[u16], needle: &[u16]) -> Option<usize> {
+    let at = unsafe { wide_utf16_find(units.as_ptr(), units.len(), needle.as_ptr(), needle.len()) };
     (at != usize::MAX).then_some(at)
 }
 
-fn windows(units: &[u16], part: &[u16]) -> Option<usize> {
-    units.windows(part.len()).position(|window| window == part)
+fn windows(units: &[u16], needle: &[u16]) -> Option<usize> {
+    units.windows(needle.len()).position(|window| window == needle)
 }
 
 fn bytes_of(units: &[u16]) -> &[u8] {
@@ -27,8 +27,8 @@ fn bytes_of(units: &[u16]) -> &[u8] {
 }
 
 /// Calls `memmem` over the bytes, again after a match at an odd offset.
-fn memmem(units: &[u16], part: &[u16]) -> Option<usize> {
-    let (bytes, sought) = (bytes_of(units), bytes_of(part));
+fn memmem(units: &[u16], needle: &[u16]) -> Option<usize> {
+    let (bytes, sought) = (bytes_of(units), bytes_of(needle));
     let finder = memchr::memmem::Finder::new(sought);
     let mut from = 0;
     while let Some(at) = finder.find(&bytes[from..]) {
@@ -53,24 +53,24 @@ fn words(length: usize) -> Vec<u16> {
     units
 }
 
-fn text(part: &str) -> Vec<u16> {
-    part.encode_utf16().collect()
+fn text(needle: &str) -> Vec<u16> {
+    needle.encode_utf16().collect()
 }
 
 /// Prints the library's time, and this time as a multiple of each peer's.
-fn race(name: &str, units: &[u16], part: &[u16]) {
+fn race(name: &str, units: &[u16], needle: &[u16]) {
     let calls = if units.len() < 100_000 { 200 } else { 1 };
     let rounds = if units.len() < 100_000 { 60 } else { 12 };
-    let place = windows(units, part);
+    let offset = windows(units, needle);
     let mut runners = vec![
-        clock::round(calls, || find(black_box(units), black_box(part)) == place),
-        clock::round(calls, || windows(black_box(units), black_box(part)) == place),
-        clock::round(calls, || memmem(black_box(units), black_box(part)) == place),
+        clock::round(calls, || find(black_box(units), black_box(needle)) == offset),
+        clock::round(calls, || windows(black_box(units), black_box(needle)) == offset),
+        clock::round(calls, || memmem(black_box(units), black_box(needle)) == offset),
     ];
-    if let [only] = part {
+    if let [only] = needle {
         let unit = *only;
-        runners[0] = clock::round(calls, move || find_unit(black_box(units), black_box(unit)) == place);
-        runners[1] = clock::round(calls, move || black_box(units).iter().position(|other| *other == unit) == place);
+        runners[0] = clock::round(calls, move || find_unit(black_box(units), black_box(unit)) == offset);
+        runners[1] = clock::round(calls, move || black_box(units).iter().position(|other| *other == unit) == offset);
     }
     let times = clock::best_times(rounds, &mut runners);
     print!("{name:<44} {:>9} units {:>12.0} ns ", units.len(), times[0]);
@@ -91,6 +91,6 @@ fn main() {
         let alike = vec![0x61u16; length.min(1 << 20)];
         let mut hostile = vec![0x61u16; 64];
         hostile.push(0x62);
-        race("a part whose front stands everywhere", &alike, &hostile);
+        race("a needle whose prefix is everywhere", &alike, &hostile);
     }
 }

@@ -83,10 +83,10 @@ pub fn cyrillic(length: usize) -> Vec<u16> {
 /// Every twentieth character is an emoji, a fourth of the others Chinese.
 pub fn emoji_of_20(length: usize) -> Vec<u16> {
     let mut random = Random::new(4);
-    let mut place = 0;
+    let mut index = 0;
     text(length, || {
-        place += 1;
-        match (place % 20, random.below(4)) {
+        index += 1;
+        match (index % 20, random.below(4)) {
             (0, _) => random.emoji(),
             (_, 0) => random.chinese(),
             _ => random.letter(),
@@ -108,11 +108,11 @@ pub fn with_faults(mut units: Vec<u16>) -> Vec<u16> {
 /// Returns a text of this many bytes in UTF-16, in which one in `every` characters is an emoji, and every fourth of the
 /// others Chinese.
 pub fn mixed(bytes: usize, every: usize) -> Vec<u16> {
-    let mut place = 0;
+    let mut index = 0;
     text(bytes / 2, || {
-        let k = place as u32;
-        place += 1;
-        let c = if place % every == 0 {
+        let k = index as u32;
+        index += 1;
+        let c = if index % every == 0 {
             0x1f600 + k % 64
         } else if k % 4 == 0 && every < usize::MAX {
             0x4e00 + k % 1000

@@ -24,15 +24,15 @@ static void *change(void *nothing) {
     return nothing;
 }
 
-static void within(size_t answer, size_t most) {
-    if (answer <= most || answer == WIDE_FAULT)
+static void within(size_t result, size_t most) {
+    if (result <= most || result == WIDE_FAULT)
         return;
     fprintf(stderr, "a result is longer than the text allows\n");
     exit(1);
 }
 
-int main(int count, char **words) {
-    long rounds = count > 1 ? atol(words[1]) : 2000000;
+int main(int count, char **arguments) {
+    long rounds = count > 1 ? atol(arguments[1]) : 2000000;
     pthread_t thread;
     for (int at = 0; at < LENGTH; at++)
         units[at] = 0x61, scalars[at] = 0x1f600;

@@ -13,14 +13,14 @@
 #include <widestring.h>
 
 #define MOST 2048
-#define ROOM (4 * MOST)
+#define CAPACITY (4 * MOST)
 #define FAULT UINT32_MAX
 #define REPLACEMENT 0xfffdu
 
 /* Text as characters, with FAULT for each ill-formed sequence, and the offset at which each begins. */
 struct items {
     uint32_t item[MOST];
-    size_t place[MOST + 1];
+    size_t offset[MOST + 1];
     size_t count;
 };
 
@@ -28,12 +28,12 @@ struct items {
 struct text {
     int width;
     size_t length;
-    uint32_t element[ROOM];
+    uint32_t element[CAPACITY];
 };
 
 /* What a function should return, and leave at the start of a buffer. */
 struct wanted {
-    size_t answer;
+    size_t result;
     struct text text;
 };
 
@@ -57,7 +57,7 @@ static void fail(const char *why) {
 
 /* Memory after whose end nothing may be read or written. */
 static unsigned char *edge(void) {
-    size_t page = (size_t)sysconf(_SC_PAGESIZE), size = (4 * ROOM / page + 1) * page;
+    size_t page = (size_t)sysconf(_SC_PAGESIZE), size = (4 * CAPACITY / page + 1) * page;
     unsigned char *memory = mmap(NULL, size + page, PROT_READ | PROT_WRITE, MAP_PRIVATE | MAP_ANONYMOUS, -1, 0);
     if (memory == MAP_FAILED || mprotect(memory + size, page, PROT_NONE) != 0)
         fail("no memory");
@@ -113,7 +113,7 @@ static void encode(struct text *text, uint32_t c) {
  * The length in bytes of the character that begins at a byte, or minus the length of the maximal subpart if it does not
  * continue as one.
  */
-static int part_of(const struct text *text, size_t at, uint32_t *c) {
+static int character_at(const struct text *text, size_t at, uint32_t *c) {
     uint32_t first = text->element[at], least = 0x80, greatest = 0xbf;
     int length = first < 0x80 ? 1 : first < 0xc2 ? 0 : first < 0xe0 ? 2 : first < 0xf0 ? 3 : first < 0xf5 ? 4 : 0;
     *c = length == 1 ? first : first & (0x7fu >> length);
@@ -132,7 +132,7 @@ static int part_of(const struct text *text, size_t at, uint32_t *c) {
 static size_t item_at(const struct text *text, size_t at, uint32_t *item) {
     uint32_t unit = text->element[at], next = at + 1 < text->length ? text->element[at + 1] : 0;
     if (text->width == 1) {
-        int length = part_of(text, at, item);
+        int length = character_at(text, at, item);
         *item = length < 0 ? FAULT : *item;
         return (size_t)abs(length);
     }
@@ -147,10 +147,10 @@ static size_t item_at(const struct text *text, size_t at, uint32_t *item) {
 static void decode(const struct text *text, struct items *items) {
     size_t at = 0;
     for (items->count = 0; at < text->length; items->count++) {
-        items->place[items->count] = at;
+        items->offset[items->count] = at;
         at += item_at(text, at, &items->item[items->count]);
     }
-    items->place[items->count] = at;
+    items->offset[items->count] = at;
 }
 
 /* The index of the first fault among the items, or their number. */
@@ -167,7 +167,7 @@ static size_t fault_of(const struct items *items) {
 static void convert(const struct items *items, int width, int policy, struct wanted *wanted) {
     wanted->text.width = width;
     wanted->text.length = 0;
-    wanted->answer = WIDE_FAULT;
+    wanted->result = WIDE_FAULT;
     if (policy > 2 || (policy < 0 && fault_of(items) < items->count))
         return;
     for (size_t at = 0; at < items->count; at++) {
@@ -176,19 +176,19 @@ static void convert(const struct items *items, int width, int policy, struct wan
         else if (policy == WIDE_EACH || (policy == WIDE_RUN && (at == 0 ? !fault_before : items->item[at - 1] != FAULT)))
             encode(&wanted->text, REPLACEMENT);
     }
-    wanted->answer = wanted->text.length;
+    wanted->result = wanted->text.length;
 }
 
 typedef size_t (*Call)(const void *, size_t, uint32_t, void *, size_t);
 
 #define TO(name, in, out)                                                                                                                 \
-    static size_t call_##name(const void *from, size_t length, uint32_t policy, void *room, size_t size) {                                \
+    static size_t call_##name(const void *from, size_t length, uint32_t policy, void *buffer, size_t size) {                              \
         (void)policy;                                                                                                                     \
-        return wide_##name((const in *)from, length, (out *)room, size);                                                                  \
+        return wide_##name((const in *)from, length, (out *)buffer, size);                                                                \
     }
 #define WITH(name, in, out)                                                                                                               \
-    static size_t call_##name(const void *from, size_t length, uint32_t policy, void *room, size_t size) {                                \
-        return wide_##name((const in *)from, length, policy, (out *)room, size);                                                          \
+    static size_t call_##name(const void *from, size_t length, uint32_t policy, void *buffer, size_t size) {                              \
+        return wide_##name((const in *)from, length, policy, (out *)buffer, size);                                                        \
     }
 TO(utf16_to_utf8, uint16_t, uint8_t)
 TO(utf32_to_utf8, uint32_t, uint8_t)
@@ -207,12 +207,12 @@ WITH(utf32_to_utf8_lossy_with, uint32_t, uint8_t)
 WITH(utf8_to_utf16_lossy_with, uint8_t, uint16_t)
 WITH(utf8_to_utf32_lossy_with, uint8_t, uint32_t)
 
-static size_t call_bytes_to_utf8(const void *from, size_t length, uint32_t policy, void *room, size_t size) {
+static size_t call_utf16_bytes_to_utf8(const void *from, size_t length, uint32_t policy, void *buffer, size_t size) {
     (void)policy;
-    return wide_bytes_to_utf8((const uint8_t *)from, length, order, (uint8_t *)room, size);
+    return wide_utf16_bytes_to_utf8((const uint8_t *)from, length, order, (uint8_t *)buffer, size);
 }
-static size_t call_bytes_to_utf8_lossy_with(const void *from, size_t length, uint32_t policy, void *room, size_t size) {
-    return wide_bytes_to_utf8_lossy_with((const uint8_t *)from, length, order, policy, fault_before, (uint8_t *)room, size);
+static size_t call_utf16_bytes_to_utf8_lossy_with(const void *from, size_t length, uint32_t policy, void *buffer, size_t size) {
+    return wide_utf16_bytes_to_utf8_lossy_with((const uint8_t *)from, length, order, policy, fault_before, (uint8_t *)buffer, size);
 }
 
 /* Each conversion, its input and output widths, and the policies to test: none, which is -1, or a range of them. */
@@ -240,28 +240,28 @@ static const struct conversion {
 };
 
 /* The conversions of UTF-16 in bytes. */
-static const struct conversion strict_bytes = {"wide_bytes_to_utf8", call_bytes_to_utf8, 2, 1, -1, -1};
-static const struct conversion lossy_bytes = {"wide_bytes_to_utf8_lossy_with", call_bytes_to_utf8_lossy_with, 2, 1, WIDE_EACH, WIDE_SKIP + 1};
+static const struct conversion strict_bytes = {"wide_utf16_bytes_to_utf8", call_utf16_bytes_to_utf8, 2, 1, -1, -1};
+static const struct conversion lossy_bytes = {"wide_utf16_bytes_to_utf8_lossy_with", call_utf16_bytes_to_utf8_lossy_with, 2, 1, WIDE_EACH, WIDE_SKIP + 1};
 
 /*
- * Calls a function with a buffer of this size. `behind` more elements follow it before the edge, and the call must not
+ * Calls a function with a buffer of this size. `after` more elements follow it before the edge, and the call must not
  * touch them.
  */
-static void check_room(const struct conversion *it, const void *from, size_t length, int policy, const struct wanted *wanted,
-                       unsigned char *end, size_t size, size_t behind) {
-    const uint32_t mark = 0xa5a5a5a5u >> 8 * (4 - it->to);
-    unsigned char *room = end - (size + behind) * (size_t)it->to;
-    for (size_t at = 0; at < size + behind; at++)
-        store(room, it->to, at, mark);
-    size_t answer = it->call(from, length, (uint32_t)policy, size == 0 ? NULL : room, size);
-    if (answer != wanted->answer)
-        fail("another answer");
-    size_t written = answer == WIDE_FAULT ? 0 : answer <= size ? answer : size;
-    for (size_t at = 0; answer <= size && at < written; at++)
-        if (load(room, it->to, at) != wanted->text.element[at])
+static void check_buffer(const struct conversion *it, const void *from, size_t length, int policy, const struct wanted *wanted,
+                         unsigned char *end, size_t size, size_t after) {
+    const uint32_t filler = 0xa5a5a5a5u >> 8 * (4 - it->to);
+    unsigned char *buffer = end - (size + after) * (size_t)it->to;
+    for (size_t at = 0; at < size + after; at++)
+        store(buffer, it->to, at, filler);
+    size_t result = it->call(from, length, (uint32_t)policy, size == 0 ? NULL : buffer, size);
+    if (result != wanted->result)
+        fail("another result");
+    size_t written = result == WIDE_FAULT ? 0 : result <= size ? result : size;
+    for (size_t at = 0; result <= size && at < written; at++)
+        if (load(buffer, it->to, at) != wanted->text.element[at])
             fail("another text");
-    for (size_t at = written; at < size + behind; at++)
-        if (load(room, it->to, at) != mark)
+    for (size_t at = written; at < size + after; at++)
+        if (load(buffer, it->to, at) != filler)
             fail("written outside");
 }
 
@@ -271,82 +271,82 @@ static void check_conversion(const struct conversion *it, const void *from, size
     for (int policy = it->first; policy <= it->last; policy++) {
         convert(items, it->to, policy, &wanted);
         size_t exact = wanted.text.length;
-        check_room(it, from, length, policy, &wanted, end, exact, 0);
-        check_room(it, from, length, policy, &wanted, end, exact, 1 + random_below(70));
-        check_room(it, from, length, policy, &wanted, end, exact + 1 + random_below(70), 0);
-        check_room(it, from, length, policy, &wanted, end, 0, 3);
+        check_buffer(it, from, length, policy, &wanted, end, exact, 0);
+        check_buffer(it, from, length, policy, &wanted, end, exact, 1 + random_below(70));
+        check_buffer(it, from, length, policy, &wanted, end, exact + 1 + random_below(70), 0);
+        check_buffer(it, from, length, policy, &wanted, end, 0, 3);
         if (exact > 0)
-            check_room(it, from, length, policy, &wanted, end, random_below((uint32_t)exact), 70);
+            check_buffer(it, from, length, policy, &wanted, end, random_below((uint32_t)exact), 70);
     }
 }
 
-static void equal(const char *call, size_t answer, size_t wanted) {
+static void equal(const char *call, size_t result, size_t wanted) {
     seen_call = call;
-    if (answer != wanted)
-        fail("another answer");
+    if (result != wanted)
+        fail("another result");
 }
 
 /* Lengths and counts, and the offset of the first fault. */
 static void check_counts(const void *from, const struct text *text, const struct items *items) {
     static struct wanted to[3];
-    size_t n = text->length, fault = fault_of(items), is_sound = fault == items->count;
+    size_t n = text->length, fault = fault_of(items), is_valid = fault == items->count;
     for (int width = 0; width < 3; width++)
         convert(items, 1 << width, -1, &to[width]);
-    size_t characters = to[2].answer, item = is_sound ? SIZE_MAX : fault;
+    size_t characters = to[2].result, item = is_valid ? SIZE_MAX : fault;
     if (text->width == 1) {
-        equal("wide_utf8_first_fault", wide_utf8_first_fault(from, n), items->place[fault]);
+        equal("wide_utf8_first_fault", wide_utf8_first_fault(from, n), items->offset[fault]);
         equal("wide_utf8_char_count", wide_utf8_char_count(from, n), characters);
-        equal("wide_utf8_utf16_length", wide_utf8_utf16_length(from, n), to[1].answer);
+        equal("wide_utf8_utf16_length", wide_utf8_utf16_length(from, n), to[1].result);
         equal("wide_utf8_utf32_length", wide_utf8_utf32_length(from, n), characters);
     } else if (text->width == 2) {
-        equal("wide_utf16_first_fault", wide_utf16_first_fault(from, n), items->place[fault]);
+        equal("wide_utf16_first_fault", wide_utf16_first_fault(from, n), items->offset[fault]);
         equal("wide_utf16_first_fault_item", wide_utf16_first_fault_item(from, n), item);
         equal("wide_utf16_char_count", wide_utf16_char_count(from, n), characters);
-        equal("wide_utf16_utf8_length", wide_utf16_utf8_length(from, n), to[0].answer);
+        equal("wide_utf16_utf8_length", wide_utf16_utf8_length(from, n), to[0].result);
         equal("wide_utf16_utf32_length", wide_utf16_utf32_length(from, n), characters);
     } else {
-        equal("wide_utf32_first_fault", wide_utf32_first_fault(from, n), items->place[fault]);
+        equal("wide_utf32_first_fault", wide_utf32_first_fault(from, n), items->offset[fault]);
         equal("wide_utf32_first_fault_item", wide_utf32_first_fault_item(from, n), item);
         equal("wide_utf32_char_count", wide_utf32_char_count(from, n), characters);
-        equal("wide_utf32_utf8_length", wide_utf32_utf8_length(from, n), to[0].answer);
-        equal("wide_utf32_utf16_length", wide_utf32_utf16_length(from, n), to[1].answer);
+        equal("wide_utf32_utf8_length", wide_utf32_utf8_length(from, n), to[0].result);
+        equal("wide_utf32_utf16_length", wide_utf32_utf16_length(from, n), to[1].result);
     }
 }
 
 /* The first offset at which the needle occurs in a text, or SIZE_MAX. */
-static size_t place_of(const struct text *text, const struct text *part) {
-    for (size_t at = 0; at + part->length <= text->length; at++)
-        if (memcmp(&text->element[at], part->element, part->length * sizeof part->element[0]) == 0)
+static size_t offset_of(const struct text *text, const struct text *needle) {
+    for (size_t at = 0; at + needle->length <= text->length; at++)
+        if (memcmp(&text->element[at], needle->element, needle->length * sizeof needle->element[0]) == 0)
             return at;
     return SIZE_MAX;
 }
 
 /* A needle cut out of the text, or one with one unit changed. */
-static void cut_part(const struct text *text, struct text *part) {
+static void cut_needle(const struct text *text, struct text *needle) {
     size_t first = random_below((uint32_t)text->length + 1), left = text->length - first;
-    part->width = text->width;
-    part->length = random_below(left < 9 ? (uint32_t)left + 1 : 9);
-    memcpy(part->element, &text->element[first], part->length * sizeof part->element[0]);
-    if (part->length > 0 && random_below(4) == 0)
-        part->element[random_below((uint32_t)part->length)] ^= 1;
+    needle->width = text->width;
+    needle->length = random_below(left < 9 ? (uint32_t)left + 1 : 9);
+    memcpy(needle->element, &text->element[first], needle->length * sizeof needle->element[0]);
+    if (needle->length > 0 && random_below(4) == 0)
+        needle->element[random_below((uint32_t)needle->length)] ^= 1;
 }
 
 static void check_searches(const void *from, const struct text *text, unsigned char *end) {
-    static struct text part, one;
+    static struct text needle, one;
     size_t n = text->length;
-    cut_part(text, &part);
-    one = (struct text){.width = text->width, .length = 1, .element = {part.length > 0 ? part.element[0] : 0x7a}};
+    cut_needle(text, &needle);
+    one = (struct text){.width = text->width, .length = 1, .element = {needle.length > 0 ? needle.element[0] : 0x7a}};
     const struct text nul = {.width = text->width, .length = 1, .element = {0}};
-    size_t place = place_of(text, &one), zero = place_of(text, &nul);
-    const void *piece = at_edge(end, &part);
+    size_t offset = offset_of(text, &one), zero = offset_of(text, &nul);
+    const void *needle_units = at_edge(end, &needle);
     if (text->width == 2) {
         equal("wide_utf16_first_nul", wide_utf16_first_nul(from, n), zero < n ? zero : n);
-        equal("wide_utf16_find_unit", wide_utf16_find_unit(from, n, (uint16_t)one.element[0]), place < n ? place : n);
-        equal("wide_utf16_find", wide_utf16_find(from, n, piece, part.length), place_of(text, &part));
+        equal("wide_utf16_find_unit", wide_utf16_find_unit(from, n, (uint16_t)one.element[0]), offset < n ? offset : n);
+        equal("wide_utf16_find", wide_utf16_find(from, n, needle_units, needle.length), offset_of(text, &needle));
     } else {
         equal("wide_utf32_first_nul", wide_utf32_first_nul(from, n), zero < n ? zero : n);
-        equal("wide_utf32_find_unit", wide_utf32_find_unit(from, n, one.element[0]), place < n ? place : n);
-        equal("wide_utf32_find", wide_utf32_find(from, n, piece, part.length), place_of(text, &part));
+        equal("wide_utf32_find_unit", wide_utf32_find_unit(from, n, one.element[0]), offset < n ? offset : n);
+        equal("wide_utf32_find", wide_utf32_find(from, n, needle_units, needle.length), offset_of(text, &needle));
     }
 }
 
@@ -366,23 +366,23 @@ static const uint8_t *bytes_at_edge(unsigned char *end, const struct text *text,
 /* Bytes in chunks of random sizes, read as the header describes it. */
 static void check_stream(const uint8_t *from, size_t length, uint32_t policy, const struct items *items) {
     static struct wanted wanted;
-    static uint8_t held[2 * MOST + 2], text[ROOM];
+    static uint8_t pending[2 * MOST + 2], text[CAPACITY];
     size_t read = 0, count = 0, written = 0;
     uint32_t after_fault = 0;
     while (read < length) {
-        size_t piece = 1 + random_below(random_below(2) == 0 ? 3 : (uint32_t)(length - read));
-        piece = piece < length - read ? piece : length - read;
-        memcpy(held + count, from + read, piece);
-        read += piece, count += piece;
-        size_t certain = wide_bytes_certain(held, count, order);
-        written += wide_bytes_to_utf8_lossy_with(held, certain, order, policy, after_fault, text + written, ROOM - written);
-        after_fault = wide_bytes_ends_in_fault(held, certain, order, after_fault);
-        memmove(held, held + certain, count - certain);
-        count -= certain;
+        size_t chunk = 1 + random_below(random_below(2) == 0 ? 3 : (uint32_t)(length - read));
+        chunk = chunk < length - read ? chunk : length - read;
+        memcpy(pending + count, from + read, chunk);
+        read += chunk, count += chunk;
+        size_t complete = wide_utf16_bytes_complete(pending, count, order);
+        written += wide_utf16_bytes_to_utf8_lossy_with(pending, complete, order, policy, after_fault, text + written, CAPACITY - written);
+        after_fault = wide_utf16_bytes_end_in_fault(pending, complete, order, after_fault);
+        memmove(pending, pending + complete, count - complete);
+        count -= complete;
     }
-    written += wide_bytes_to_utf8_lossy_with(held, count, order, policy, after_fault, text + written, ROOM - written);
+    written += wide_utf16_bytes_to_utf8_lossy_with(pending, count, order, policy, after_fault, text + written, CAPACITY - written);
     convert(items, 1, (int)policy, &wanted);
-    equal("a stream in pieces", written, wanted.answer);
+    equal("a stream in chunks", written, wanted.result);
     for (size_t at = 0; at < written; at++)
         if (text[at] != wanted.text.element[at])
             fail("another text");
@@ -390,41 +390,41 @@ static void check_stream(const uint8_t *from, size_t length, uint32_t policy, co
 
 /* UTF-16 in bytes of either order, after a fault or not. */
 static void check_bytes(const struct text *text, const struct items *items, unsigned char *ends[3]) {
-    uint8_t mark[2] = {(uint8_t)(0xfd + random_below(3)), (uint8_t)(0xfd + random_below(3))};
-    uint32_t told = mark[0] == 0xff && mark[1] == 0xfe ? WIDE_LITTLE_ENDIAN : mark[0] == 0xfe && mark[1] == 0xff ? WIDE_BIG_ENDIAN : WIDE_NO_MARK;
+    uint8_t bom[2] = {(uint8_t)(0xfd + random_below(3)), (uint8_t)(0xfd + random_below(3))};
+    uint32_t reported = bom[0] == 0xff && bom[1] == 0xfe ? WIDE_LITTLE_ENDIAN : bom[0] == 0xfe && bom[1] == 0xff ? WIDE_BIG_ENDIAN : WIDE_NO_BOM;
     size_t half = random_below(2), length = 2 * text->length + half;
     size_t high = text->length > 0 && text->element[text->length - 1] >> 10 == 0x36;
-    equal("wide_bytes_order", wide_bytes_order(mark, 2), told);
-    equal("wide_bytes_order", wide_bytes_order(mark, 1), WIDE_NO_MARK);
+    equal("wide_utf16_bytes_order", wide_utf16_bytes_order(bom, 2), reported);
+    equal("wide_utf16_bytes_order", wide_utf16_bytes_order(bom, 1), WIDE_NO_BOM);
     for (order = 0; order < 2; order++) {
         const uint8_t *from = bytes_at_edge(ends[0], text, half);
         fault_before = random_below(2) * (1 + random_below(9));
         uint32_t is_last = items->count > 0 ? items->item[items->count - 1] == FAULT : fault_before > 0;
-        equal("wide_bytes_certain", wide_bytes_certain(from, length, order), length - half - 2 * high);
-        equal("wide_bytes_first_fault", wide_bytes_first_fault(from, length, order), items->place[fault_of(items)]);
-        equal("wide_bytes_ends_in_fault", wide_bytes_ends_in_fault(from, length, order, fault_before), is_last);
+        equal("wide_utf16_bytes_complete", wide_utf16_bytes_complete(from, length, order), length - half - 2 * high);
+        equal("wide_utf16_bytes_first_fault", wide_utf16_bytes_first_fault(from, length, order), items->offset[fault_of(items)]);
+        equal("wide_utf16_bytes_end_in_fault", wide_utf16_bytes_end_in_fault(from, length, order, fault_before), is_last);
         check_conversion(&lossy_bytes, from, length, items, ends[2]);
         fault_before = 0;
         if (half == 0)
             check_conversion(&strict_bytes, from, length, items, ends[2]);
         else
-            equal("wide_bytes_to_utf8", wide_bytes_to_utf8(from, length, order, NULL, 0), WIDE_FAULT);
+            equal("wide_utf16_bytes_to_utf8", wide_utf16_bytes_to_utf8(from, length, order, NULL, 0), WIDE_FAULT);
         check_stream(from, length, random_below(3), items);
     }
-    /* A reader that continues with WIDE_NO_MARK stays within its buffer. */
-    equal("wide_bytes_certain", wide_bytes_certain(mark, 2, order), 0);
-    equal("wide_bytes_first_fault", wide_bytes_first_fault(mark, 2, order), WIDE_FAULT);
-    equal("wide_bytes_ends_in_fault", wide_bytes_ends_in_fault(mark, 2, order, 1), 0);
-    equal("wide_bytes_to_utf8", wide_bytes_to_utf8(mark, 2, order, NULL, 0), WIDE_FAULT);
-    equal("wide_bytes_to_utf8_lossy_with", wide_bytes_to_utf8_lossy_with(mark, 2, order, WIDE_EACH, 0, NULL, 0), WIDE_FAULT);
+    /* A reader that continues with WIDE_NO_BOM stays within its buffer. */
+    equal("wide_utf16_bytes_complete", wide_utf16_bytes_complete(bom, 2, order), 0);
+    equal("wide_utf16_bytes_first_fault", wide_utf16_bytes_first_fault(bom, 2, order), WIDE_FAULT);
+    equal("wide_utf16_bytes_end_in_fault", wide_utf16_bytes_end_in_fault(bom, 2, order, 1), 0);
+    equal("wide_utf16_bytes_to_utf8", wide_utf16_bytes_to_utf8(bom, 2, order, NULL, 0), WIDE_FAULT);
+    equal("wide_utf16_bytes_to_utf8_lossy_with", wide_utf16_bytes_to_utf8_lossy_with(bom, 2, order, WIDE_EACH, 0, NULL, 0), WIDE_FAULT);
 }
 
 /* A random character: mostly ASCII, and of each length in UTF-8. */
 static uint32_t random_character(uint32_t kinds) {
     static const uint32_t first[] = {0x20, 0x20, 0, 0x80, 0x800, 0xe000, 0x10000};
-    static const uint32_t behind[] = {0x7f, 0x7f, 0x80, 0x800, 0xd800, 0x10000, 0x110000};
+    static const uint32_t end[] = {0x7f, 0x7f, 0x80, 0x800, 0xd800, 0x10000, 0x110000};
     uint32_t kind = random_below(kinds);
-    return first[kind] + random_below(behind[kind] - first[kind]);
+    return first[kind] + random_below(end[kind] - first[kind]);
 }
 
 /* A random element of any value, also one that no well-formed text has. */
@@ -461,16 +461,16 @@ static void check_text(int width, unsigned char *ends[3]) {
     check_counts(from, &text, &items);
     if (width > 1)
         check_searches(from, &text, ends[1]);
-    for (size_t row = 0; row < sizeof conversions / sizeof conversions[0]; row++)
-        if (conversions[row].from == width)
-            check_conversion(&conversions[row], from, text.length, &items, ends[2]);
+    for (size_t at = 0; at < sizeof conversions / sizeof conversions[0]; at++)
+        if (conversions[at].from == width)
+            check_conversion(&conversions[at], from, text.length, &items, ends[2]);
     if (width == 2)
         check_bytes(&text, &items, ends);
 }
 
-int main(int count, char **words) {
-    long texts = count > 1 ? atol(words[1]) : 100000;
-    long seed = count > 2 ? atol(words[2]) : 1;
+int main(int count, char **arguments) {
+    long texts = count > 1 ? atol(arguments[1]) : 100000;
+    long seed = count > 2 ? atol(arguments[2]) : 1;
     state = 0x9e3779b97f4a7c15u * (uint64_t)(2 * seed + 1);
     unsigned char *ends[3] = {edge(), edge(), edge()};
     equal("wide_version", wide_version(), WIDESTRING_VERSION_NUMBER);

@@ -4,8 +4,8 @@
 
 int main() {
     const std::u16string units = {u'H', u'i', 0xd83d, 0xde00, 0xdc00, 0xdc00};
-    if (const auto place = widestring::first_fault(units))
-        std::cout << "a fault at unit " << *place << '\n';
+    if (const auto offset = widestring::first_fault(units))
+        std::cout << "a fault at unit " << *offset << '\n';
     if (const auto text = widestring::to_utf8(units))
         std::cout << *text << '\n';
     for (const auto policy : {widestring::Lossy::each, widestring::Lossy::run, widestring::Lossy::skip})

@@ -13,7 +13,7 @@ constexpr std::uint32_t fault = UINT32_MAX;
 
 struct Items {
     std::vector<std::uint32_t> item;
-    std::vector<std::size_t> place;
+    std::vector<std::size_t> offset;
 };
 
 std::mt19937_64 numbers;
@@ -25,7 +25,7 @@ std::uint32_t below(std::uint32_t bound) {
 void must(bool holds, const char *call) {
     if (holds)
         return;
-    std::cerr << call << ": another answer\n";
+    std::cerr << call << ": another result\n";
     std::exit(1);
 }
 
@@ -101,7 +101,7 @@ template <class View> Items items_of(View rest) {
     Items items;
     for (std::size_t at = 0; at < rest.size();) {
         items.item.push_back(0);
-        items.place.push_back(at);
+        items.offset.push_back(at);
         at += first_item(rest.substr(at), items.item.back());
     }
     return items;
@@ -130,13 +130,13 @@ template <class String> std::optional<String> text_of(const Items &items) {
 constexpr widestring::Lossy policies[] = {widestring::Lossy::each, widestring::Lossy::run, widestring::Lossy::skip};
 
 template <class View> void check_faults(View text, const Items &items) {
-    std::optional<std::size_t> place;
+    std::optional<std::size_t> offset;
     for (std::size_t at = items.item.size(); at-- > 0;)
         if (items.item[at] == fault)
-            place = items.place[at];
-    must(widestring::first_fault(text) == place, "first_fault");
-    must(widestring::valid(text) == !place, "valid");
-    must(widestring::char_count(text) == (place ? std::nullopt : std::optional(items.item.size())), "char_count");
+            offset = items.offset[at];
+    must(widestring::first_fault(text) == offset, "first_fault");
+    must(widestring::valid(text) == !offset, "valid");
+    must(widestring::char_count(text) == (offset ? std::nullopt : std::optional(items.item.size())), "char_count");
 }
 
 template <class String> std::optional<std::size_t> length_of(const std::optional<String> &text) {
@@ -153,18 +153,21 @@ template <class Numbers> void compare(std::string_view text, const Numbers &numb
     must(widestring::to_utf16(numbers) == widestring::to_utf16(text), "to_utf16 of numbers");
     must(widestring::to_utf32(numbers) == widestring::to_utf32(text), "to_utf32 of numbers");
     must(widestring::to_wstring(numbers) == widestring::to_wstring(text), "to_wstring of numbers");
-    must(widestring::byte_order(numbers) == widestring::byte_order(text), "byte_order of numbers");
+    must(widestring::utf16_bytes_order(numbers) == widestring::utf16_bytes_order(text), "utf16_bytes_order of numbers");
     for (const auto policy : policies) {
         must(widestring::to_utf16_lossy(numbers, policy) == widestring::to_utf16_lossy(text, policy), "to_utf16_lossy of numbers");
         must(widestring::to_utf32_lossy(numbers, policy) == widestring::to_utf32_lossy(text, policy), "to_utf32_lossy of numbers");
         must(widestring::to_wstring_lossy(numbers, policy) == widestring::to_wstring_lossy(text, policy), "to_wstring_lossy of numbers");
     }
     for (const auto order : {widestring::Order::little, widestring::Order::big}) {
-        must(widestring::certain(numbers, order) == widestring::certain(text, order), "certain of numbers");
-        must(widestring::first_fault(numbers, order) == widestring::first_fault(text, order), "first_fault of numbers in bytes");
-        must(widestring::ends_in_fault(numbers, order) == widestring::ends_in_fault(text, order), "ends_in_fault of numbers");
-        must(widestring::to_utf8(numbers, order) == widestring::to_utf8(text, order), "to_utf8 of numbers in bytes");
-        must(widestring::to_utf8_lossy(numbers, order) == widestring::to_utf8_lossy(text, order), "to_utf8_lossy of numbers in bytes");
+        must(widestring::utf16_bytes_complete(numbers, order) == widestring::utf16_bytes_complete(text, order), "utf16_bytes_complete of numbers");
+        must(widestring::utf16_bytes_first_fault(numbers, order) == widestring::utf16_bytes_first_fault(text, order),
+             "utf16_bytes_first_fault of numbers");
+        must(widestring::utf16_bytes_end_in_fault(numbers, order) == widestring::utf16_bytes_end_in_fault(text, order),
+             "utf16_bytes_end_in_fault of numbers");
+        must(widestring::utf16_bytes_to_utf8(numbers, order) == widestring::utf16_bytes_to_utf8(text, order), "utf16_bytes_to_utf8 of numbers");
+        must(widestring::utf16_bytes_to_utf8_lossy(numbers, order) == widestring::utf16_bytes_to_utf8_lossy(text, order),
+             "utf16_bytes_to_utf8_lossy of numbers");
     }
 }
 
@@ -246,9 +249,9 @@ template <class View> void check_units(View text, const Items &items) {
         must(widestring::to_utf8_lossy(text, policy) == lossy_of<std::string>(items, policy), "to_utf8_lossy");
     const auto found = [](std::size_t at) { return at == View::npos ? std::nullopt : std::optional(at); };
     const std::size_t at = below(static_cast<std::uint32_t>(text.size()) + 1);
-    const View part = text.substr(at, below(9));
-    must(widestring::find(text, part) == found(text.find(part)), "find of a part");
-    must(widestring::find(part, text) == found(part.find(text)), "find of a longer part");
+    const View needle = text.substr(at, below(9));
+    must(widestring::find(text, needle) == found(text.find(needle)), "find of a needle");
+    must(widestring::find(needle, text) == found(needle.find(text)), "find of a longer needle");
     must(widestring::find(text, typename View::value_type{0x7a}) == found(text.find(0x7a)), "find of a unit");
     must(widestring::first_nul(text) == found(text.find(typename View::value_type{0})), "first_nul");
 }
@@ -285,21 +288,21 @@ void check_bytes(std::u16string_view text) {
     const std::string whole = bytes_of(text, order), bytes = whole + std::string(below(2), 'a');
     const bool is_odd = bytes.size() > whole.size();
     const auto strict = is_odd ? std::nullopt : text_of<std::string>(items);
-    must(widestring::to_utf8(std::string_view(bytes), order) == strict, "to_utf8 of bytes");
-    must(widestring::first_fault(bytes, order) == widestring::first_fault(text), "first_fault of bytes");
+    must(widestring::utf16_bytes_to_utf8(std::string_view(bytes), order) == strict, "utf16_bytes_to_utf8");
+    must(widestring::utf16_bytes_first_fault(bytes, order) == widestring::first_fault(text), "utf16_bytes_first_fault");
     const bool is_high = !text.empty() && (text.back() & 0xfc00) == 0xd800;
-    must(widestring::certain(bytes, order) == whole.size() - (is_high ? 2 : 0), "certain");
-    must(widestring::ends_in_fault(bytes, order, true) == (items.item.empty() || items.item.back() == fault), "ends_in_fault");
-    must(widestring::byte_order(bytes_of(u"\xfeff", order) + bytes) == order, "byte_order");
-    must(widestring::byte_order("ab") == std::nullopt, "byte_order of no mark");
+    must(widestring::utf16_bytes_complete(bytes, order) == whole.size() - (is_high ? 2 : 0), "utf16_bytes_complete");
+    must(widestring::utf16_bytes_end_in_fault(bytes, order, true) == (items.item.empty() || items.item.back() == fault), "utf16_bytes_end_in_fault");
+    must(widestring::utf16_bytes_order(bytes_of(u"\xfeff", order) + bytes) == order, "utf16_bytes_order");
+    must(widestring::utf16_bytes_order("ab") == std::nullopt, "utf16_bytes_order of no BOM");
     const std::string_view all = bytes;
-    const auto cut = widestring::certain(all.substr(0, below(static_cast<std::uint32_t>(all.size()) + 1)), order);
-    const bool after = widestring::ends_in_fault(all.substr(0, cut), order);
+    const auto cut = widestring::utf16_bytes_complete(all.substr(0, below(static_cast<std::uint32_t>(all.size()) + 1)), order);
+    const bool after = widestring::utf16_bytes_end_in_fault(all.substr(0, cut), order);
     for (const auto policy : policies) {
         const auto wanted = lossy_of<std::string>(items, policy);
-        must(widestring::to_utf8_lossy(bytes, order, policy) == wanted, "to_utf8_lossy of bytes");
-        const auto front = widestring::to_utf8_lossy(all.substr(0, cut), order, policy);
-        must(front + widestring::to_utf8_lossy(all.substr(cut), order, policy, after) == wanted, "to_utf8_lossy in pieces");
+        must(widestring::utf16_bytes_to_utf8_lossy(bytes, order, policy) == wanted, "utf16_bytes_to_utf8_lossy");
+        const auto prefix = widestring::utf16_bytes_to_utf8_lossy(all.substr(0, cut), order, policy);
+        must(prefix + widestring::utf16_bytes_to_utf8_lossy(all.substr(cut), order, policy, after) == wanted, "utf16_bytes_to_utf8_lossy in chunks");
     }
 }
 
@@ -424,19 +427,19 @@ void check_writes() {
     const widestring::Utf16Units units(numbers.data(), numbers.size());
     must(seen_twice(numbers.data(), units) == 907, "writes between two calls");
     numbers[0] = 0x61;
-    must(is_read_anew(numbers.data(), numbers.size(), units), "writes where pieces meet");
+    must(is_read_anew(numbers.data(), numbers.size(), units), "writes where chunks meet");
 #ifdef __cpp_lib_span
     const std::span<const std::uint16_t> span = numbers;
     must(seen_twice(numbers.data(), span) == 907, "writes between two calls on a span");
     numbers[0] = 0x61;
-    must(is_read_anew(numbers.data(), numbers.size(), span), "writes where pieces of a span meet");
+    must(is_read_anew(numbers.data(), numbers.size(), span), "writes where chunks of a span meet");
 #endif
 }
 
 } // namespace
 
-int main(int count, char **words) {
-    const long texts = count > 1 ? std::atol(words[1]) : 100000, seed = count > 2 ? std::atol(words[2]) : 1;
+int main(int count, char **arguments) {
+    const long texts = count > 1 ? std::atol(arguments[1]) : 100000, seed = count > 2 ? std::atol(arguments[2]) : 1;
     numbers.seed(static_cast<std::uint64_t>(seed));
     must(widestring::version() == WIDESTRING_VERSION_NUMBER, "version");
     check_types();

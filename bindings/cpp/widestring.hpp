@@ -160,7 +160,7 @@ template <class String, class Write> void overwrite(String &string, std::size_t 
  * through it, and a chunk and its result stay in the cache. If they are not, only the first chunk goes through it, and
  * its result predicts the length.
  */
-inline constexpr std::size_t piece = is_filled ? 4096 : 512;
+inline constexpr std::size_t chunk_size = is_filled ? 4096 : 512;
 
 /* Up to this many elements, a string is made as long as the input if no element becomes two. */
 inline constexpr std::size_t middle = 65536;
@@ -264,25 +264,25 @@ using Utf32Units = CodeUnits<std::uint32_t, char32_t, wchar_t>;
 
 namespace detail {
 
-/* Returns the answer, or std::nullopt if it is the number that stands for none. */
-inline std::optional<std::size_t> unless(std::size_t none, std::size_t answer) noexcept {
-    return answer == none ? std::nullopt : std::optional<std::size_t>(answer);
+/* Returns the result, or std::nullopt if it is the number that stands for none. */
+inline std::optional<std::size_t> unless(std::size_t none, std::size_t result) noexcept {
+    return result == none ? std::nullopt : std::optional<std::size_t>(result);
 }
 
 /*
  * Returns the length of a prefix that ends between two characters or after a fault. It does not split a surrogate pair.
  */
-inline std::size_t first_piece(Units<std::uint16_t> units) noexcept {
-    if (units.size <= piece)
+inline std::size_t first_chunk(Units<std::uint16_t> units) noexcept {
+    if (units.size <= chunk_size)
         return units.size;
     std::uint16_t pair[2];
-    std::memcpy(pair, units.data + piece - 1, sizeof pair);
+    std::memcpy(pair, units.data + chunk_size - 1, sizeof pair);
     const bool is_pair = (pair[0] & 0xfc00) == 0xd800 && (pair[1] & 0xfc00) == 0xdc00;
-    return is_pair ? piece - 1 : piece;
+    return is_pair ? chunk_size - 1 : chunk_size;
 }
 
-inline std::size_t first_piece(Units<std::uint32_t> units) noexcept {
-    return units.size <= piece ? units.size : piece;
+inline std::size_t first_chunk(Units<std::uint32_t> units) noexcept {
+    return units.size <= chunk_size ? units.size : chunk_size;
 }
 
 /*
@@ -290,13 +290,13 @@ inline std::size_t first_piece(Units<std::uint32_t> units) noexcept {
  * four adjacent bytes continues one, the last of them belongs to no character, since at most three bytes do. Bytes may
  * be read as such, whatever their own type is.
  */
-inline std::size_t first_piece(Units<std::uint8_t> text) noexcept {
-    if (text.size <= piece)
+inline std::size_t first_chunk(Units<std::uint8_t> text) noexcept {
+    if (text.size <= chunk_size)
         return text.size;
-    for (std::size_t at = piece; at > piece - 4; at--)
+    for (std::size_t at = chunk_size; at > chunk_size - 4; at--)
         if ((text.data[at] & 0xc0) != 0x80)
             return at;
-    return piece;
+    return chunk_size;
 }
 
 /*
@@ -354,7 +354,7 @@ std::optional<String> appended(typename String::value_type (&buffer)[Size], std:
     string.reserve(likely);
     string.append(buffer, length);
     while (rest.size > 0) {
-        const Units<Unit> next = rest.prefix(first_piece(rest));
+        const Units<Unit> next = rest.prefix(first_chunk(rest));
         const std::size_t more = put(next.data, next.size, elements(buffer), Size);
         if (more == WIDE_FAULT)
             return std::nullopt;
@@ -370,12 +370,12 @@ std::optional<String> appended(typename String::value_type (&buffer)[Size], std:
  */
 template <class String, class Unit, class Put> std::optional<String> converted(Units<Unit> text, Put put) {
     /* An element becomes at most four bytes in each form. */
-    constexpr std::size_t size = 4 * piece / sizeof(typename String::value_type);
+    constexpr std::size_t size = 4 * chunk_size / sizeof(typename String::value_type);
     constexpr bool is_within = !is_filled && sizeof(typename String::value_type) >= sizeof(Unit);
-    if (is_within && text.size > piece && text.size <= middle)
+    if (is_within && text.size > chunk_size && text.size <= middle)
         return within<String>(text, put);
     typename String::value_type buffer[size];
-    const Units<Unit> first = text.prefix(first_piece(text));
+    const Units<Unit> first = text.prefix(first_chunk(text));
     const std::size_t length = put(first.data, first.size, elements(buffer), size);
     if (length == WIDE_FAULT)
         return std::nullopt;
@@ -410,7 +410,7 @@ template <class String, class Unit, class Put, class PutLossy> String lossy(Unit
  * Converts bytes by two calls, the first of which only returns the length. Returns std::nullopt if the conversion
  * returns a fault.
  */
-template <class Put> std::optional<std::string> asked_twice(Units<std::uint8_t> bytes, Put put) {
+template <class Put> std::optional<std::string> by_two_calls(Units<std::uint8_t> bytes, Put put) {
     const std::size_t length = put(bytes.data, bytes.size, static_cast<std::uint8_t *>(nullptr), 0);
     if (length == WIDE_FAULT)
         return std::nullopt;
@@ -528,12 +528,12 @@ inline std::optional<std::size_t> find(Utf32Units units, char32_t unit) noexcept
     return detail::unless(units.size, wide_utf32_find_unit(units.data, units.size, unit));
 }
 
-inline std::optional<std::size_t> find(Utf16Units units, Utf16Units part) noexcept {
-    return detail::unless(SIZE_MAX, wide_utf16_find(units.data, units.size, part.data, part.size));
+inline std::optional<std::size_t> find(Utf16Units units, Utf16Units needle) noexcept {
+    return detail::unless(SIZE_MAX, wide_utf16_find(units.data, units.size, needle.data, needle.size));
 }
 
-inline std::optional<std::size_t> find(Utf32Units units, Utf32Units part) noexcept {
-    return detail::unless(SIZE_MAX, wide_utf32_find(units.data, units.size, part.data, part.size));
+inline std::optional<std::size_t> find(Utf32Units units, Utf32Units needle) noexcept {
+    return detail::unless(SIZE_MAX, wide_utf32_find(units.data, units.size, needle.data, needle.size));
 }
 
 /* Converts well-formed units or bytes to UTF-8, UTF-16 or UTF-32. Returns std::nullopt if they are ill-formed. */
@@ -613,55 +613,55 @@ inline std::wstring to_wstring_lossy(Utf16Units units, Lossy policy = Lossy::eac
  * Returns the byte order of the BOM at the start of UTF-16 in bytes, or std::nullopt if there is none. The two bytes of
  * the BOM do not belong to the text.
  */
-inline std::optional<Order> byte_order(Utf8Units bytes) noexcept {
-    const std::uint32_t number = wide_bytes_order(bytes.data, bytes.size);
-    return number == WIDE_NO_MARK ? std::nullopt : std::optional<Order>(static_cast<Order>(number));
+inline std::optional<Order> utf16_bytes_order(Utf8Units bytes) noexcept {
+    const std::uint32_t number = wide_utf16_bytes_order(bytes.data, bytes.size);
+    return number == WIDE_NO_BOM ? std::nullopt : std::optional<Order>(static_cast<Order>(number));
 }
 
 /*
  * Returns how many bytes at the start are whole units whose meaning no later bytes can change: all whole units, except
  * a last high surrogate.
  */
-inline std::size_t certain(Utf8Units bytes, Order order) noexcept {
-    return wide_bytes_certain(bytes.data, bytes.size, static_cast<std::uint32_t>(order));
+inline std::size_t utf16_bytes_complete(Utf8Units bytes, Order order) noexcept {
+    return wide_utf16_bytes_complete(bytes.data, bytes.size, static_cast<std::uint32_t>(order));
 }
 
 /* Returns the offset, in units, of the first ill-formed unit in the bytes, or std::nullopt if there is none. */
-inline std::optional<std::size_t> first_fault(Utf8Units bytes, Order order) noexcept {
+inline std::optional<std::size_t> utf16_bytes_first_fault(Utf8Units bytes, Order order) noexcept {
     const auto number = static_cast<std::uint32_t>(order);
-    return detail::unless(bytes.size / 2, wide_bytes_first_fault(bytes.data, bytes.size, number));
+    return detail::unless(bytes.size / 2, wide_utf16_bytes_first_fault(bytes.data, bytes.size, number));
 }
 
 /*
  * Returns whether the last whole unit is ill-formed. If there are no whole units, it returns `after_fault`, which says
  * whether the unit before the bytes is ill-formed.
  */
-inline bool ends_in_fault(Utf8Units bytes, Order order, bool after_fault = false) noexcept {
+inline bool utf16_bytes_end_in_fault(Utf8Units bytes, Order order, bool after_fault = false) noexcept {
     const auto number = static_cast<std::uint32_t>(order);
-    return wide_bytes_ends_in_fault(bytes.data, bytes.size, number, after_fault) != 0;
+    return wide_utf16_bytes_end_in_fault(bytes.data, bytes.size, number, after_fault) != 0;
 }
 
 /*
  * Converts bytes of well-formed UTF-16 to UTF-8. Returns std::nullopt if the number of bytes is odd or the units are
  * ill-formed.
  */
-inline std::optional<std::string> to_utf8(Utf8Units bytes, Order order) {
-    const auto put = [number = static_cast<std::uint32_t>(order)](auto *from, std::size_t size, auto *room, std::size_t room_size) {
-        return wide_bytes_to_utf8(from, size, number, room, room_size);
+inline std::optional<std::string> utf16_bytes_to_utf8(Utf8Units bytes, Order order) {
+    const auto put = [number = static_cast<std::uint32_t>(order)](auto *from, std::size_t size, auto *buffer, std::size_t capacity) {
+        return wide_utf16_bytes_to_utf8(from, size, number, buffer, capacity);
     };
-    return detail::asked_twice(bytes, put);
+    return detail::by_two_calls(bytes, put);
 }
 
 /*
  * Converts the whole units of any bytes to UTF-8, and replaces ill-formed units by the policy. `after_fault` says
  * whether the unit before the bytes is ill-formed. widestring.h describes how to read a stream.
  */
-inline std::string to_utf8_lossy(Utf8Units bytes, Order order, Lossy policy = Lossy::each, bool after_fault = false) {
-    const auto put = [=](auto *from, std::size_t size, auto *room, std::size_t room_size) {
+inline std::string utf16_bytes_to_utf8_lossy(Utf8Units bytes, Order order, Lossy policy = Lossy::each, bool after_fault = false) {
+    const auto put = [=](auto *from, std::size_t size, auto *buffer, std::size_t capacity) {
         const auto number = static_cast<std::uint32_t>(order), policy_number = static_cast<std::uint32_t>(policy);
-        return wide_bytes_to_utf8_lossy_with(from, size, number, policy_number, after_fault, room, room_size);
+        return wide_utf16_bytes_to_utf8_lossy_with(from, size, number, policy_number, after_fault, buffer, capacity);
     };
-    return detail::asked_twice(bytes, put).value();
+    return detail::by_two_calls(bytes, put).value();
 }
 
 /*

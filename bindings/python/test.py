@@ -15,17 +15,17 @@ import widestring
 from widestring import Lossy, Order
 
 # What stands for a fault in a text of this test: a surrogate, which no well-formed text has.
-MARK = "\udfff"
-codecs.register_error("mark", lambda error: (MARK, error.end))
+FAULT = "\udfff"
+codecs.register_error("surrogate", lambda error: (FAULT, error.end))
 
 
 def items_of(data, name):
     """The text of the bytes, with a surrogate for each fault."""
     if name == "utf-8":
-        return data.decode("utf-8", "mark")
+        return data.decode("utf-8", "surrogate")
     if name == "utf-16-le":
         return data.decode("utf-16-le", "surrogatepass")
-    return "".join(chr(unit) if unit < 0x110000 else MARK for unit in array.array("I", data))
+    return "".join(chr(unit) if unit < 0x110000 else FAULT for unit in array.array("I", data))
 
 
 def lossy_of(items, policy):
@@ -33,19 +33,20 @@ def lossy_of(items, policy):
     return re.sub(f"[\ud800-\udfff]{pattern}", given, items)
 
 
-def equal(call, answer, wanted):
-    if answer != wanted:
-        sys.exit(f"{call}: {answer!r} in place of {wanted!r}")
+def equal(call, result, wanted):
+    if result != wanted:
+        sys.exit(f"{call}: {result!r} instead of {wanted!r}")
 
 
-def check_strict(call, data, text, name, place):
+def check_strict(call, data, text, name, offset):
     """A strict conversion: the text in another encoding, or the offset of the fault."""
     try:
-        answer, told = call(data), None
+        result, reported = call(data), None
     except widestring.Fault as fault:
-        answer, told = None, fault.place
-    equal(call.__name__, answer, text.encode(name) if place is None else None)
-    equal(call.__name__, told, place)
+        result, reported = None, fault.offset
+        equal("the text of a Fault", str(fault), f"ill-formed at offset {offset}")
+    equal(call.__name__, result, text.encode(name) if offset is None else None)
+    equal(call.__name__, reported, offset)
 
 
 def check_lossy(call, data, items, name):
@@ -53,8 +54,8 @@ def check_lossy(call, data, items, name):
         equal(call.__name__, call(data, policy), lossy_of(items, policy).encode(name))
 
 
-def count_of(items, place):
-    return len(items) if place is None else None
+def count_of(items, offset):
+    return len(items) if offset is None else None
 
 
 def fault_item(items):
@@ -64,45 +65,45 @@ def fault_item(items):
 
 def check_utf8(data):
     items = items_of(data, "utf-8")
-    place = None
+    offset = None
     try:
         data.decode("utf-8")
     except UnicodeDecodeError as error:
-        place = error.start
-    equal("utf8_first_fault", widestring.utf8_first_fault(data), place)
-    equal("utf8_char_count", widestring.utf8_char_count(data), count_of(items, place))
-    check_strict(widestring.utf8_to_utf16, data, items, "utf-16-le", place)
-    check_strict(widestring.utf8_to_utf32, data, items, "utf-32-le", place)
+        offset = error.start
+    equal("utf8_first_fault", widestring.utf8_first_fault(data), offset)
+    equal("utf8_char_count", widestring.utf8_char_count(data), count_of(items, offset))
+    check_strict(widestring.utf8_to_utf16, data, items, "utf-16-le", offset)
+    check_strict(widestring.utf8_to_utf32, data, items, "utf-32-le", offset)
     check_lossy(widestring.utf8_to_utf16_lossy, data, items, "utf-16-le")
     check_lossy(widestring.utf8_to_utf32_lossy, data, items, "utf-32-le")
 
 
-def place_of(units, part):
+def offset_of(units, needle):
     """The first offset of a needle in a list of units."""
-    spans = range(len(units) - len(part) + 1)
-    return next((at for at in spans if units[at : at + len(part)] == part), None)
+    spans = range(len(units) - len(needle) + 1)
+    return next((at for at in spans if units[at : at + len(needle)] == needle), None)
 
 
 def check_searches(width, units):
     calls = vars(widestring)
-    part = units[random.randrange(len(units) + 1) :][: random.randrange(6)]
-    unit = part[0] if part else 0x7A
-    equal("find", calls[f"utf{width}_find"](units, part), place_of(units, part))
-    equal("find_unit", calls[f"utf{width}_find_unit"](units, unit), place_of(units, array.array(units.typecode, [unit])))
-    equal("first_nul", calls[f"utf{width}_first_nul"](units), place_of(units, array.array(units.typecode, [0])))
+    needle = units[random.randrange(len(units) + 1) :][: random.randrange(6)]
+    unit = needle[0] if needle else 0x7A
+    equal("find", calls[f"utf{width}_find"](units, needle), offset_of(units, needle))
+    equal("find_unit", calls[f"utf{width}_find_unit"](units, unit), offset_of(units, array.array(units.typecode, [unit])))
+    equal("first_nul", calls[f"utf{width}_first_nul"](units), offset_of(units, array.array(units.typecode, [0])))
 
 
 def check_utf16(data):
     items = items_of(data, "utf-16-le")
     item = fault_item(items)
-    place = None if item is None else len(items[:item].encode("utf-16-le")) // 2
-    equal("utf16_first_fault", widestring.utf16_first_fault(data), place)
+    offset = None if item is None else len(items[:item].encode("utf-16-le")) // 2
+    equal("utf16_first_fault", widestring.utf16_first_fault(data), offset)
     equal("utf16_first_fault_item", widestring.utf16_first_fault_item(data), item)
-    equal("utf16_char_count", widestring.utf16_char_count(data), count_of(items, place))
+    equal("utf16_char_count", widestring.utf16_char_count(data), count_of(items, offset))
     equal("utf16_repair", widestring.utf16_repair(data), lossy_of(items, Lossy.EACH).encode("utf-16-le"))
     equal("replace", widestring.utf16_to_utf8_lossy(data), data.decode("utf-16-le", "replace").encode())
-    check_strict(widestring.utf16_to_utf8, data, items, "utf-8", place)
-    check_strict(widestring.utf16_to_utf32, data, items, "utf-32-le", place)
+    check_strict(widestring.utf16_to_utf8, data, items, "utf-8", offset)
+    check_strict(widestring.utf16_to_utf32, data, items, "utf-32-le", offset)
     check_lossy(widestring.utf16_to_utf8_lossy, data, items, "utf-8")
     check_searches(16, array.array("H", data))
     check_bytes(data)
@@ -118,38 +119,38 @@ def check_bytes(units):
         whole.byteswap()
     data = whole.tobytes() + b"a" * random.randrange(2)
     item = fault_item(items)
-    place = None if item is None else len(items[:item].encode("utf-16-le")) // 2
-    equal("bytes_first_fault", widestring.bytes_first_fault(data, order), place)
+    offset = None if item is None else len(items[:item].encode("utf-16-le")) // 2
+    equal("utf16_bytes_first_fault", widestring.utf16_bytes_first_fault(data, order), offset)
     is_high = units[-1:] != b"" and units[-1] >> 2 == 0x36
-    equal("certain", widestring.certain(data, order), len(units) - 2 * is_high)
-    equal("ends_in_fault", widestring.ends_in_fault(data, order, True), items == "" or "\ud800" <= items[-1] <= "\udfff")
-    mark = (codecs.BOM_UTF16_LE, codecs.BOM_UTF16_BE)[order]
-    equal("byte_order", (widestring.byte_order(mark + data), widestring.byte_order(b"ab")), (order, None))
-    is_sound = place is None and len(data) == len(units)
+    equal("utf16_bytes_complete", widestring.utf16_bytes_complete(data, order), len(units) - 2 * is_high)
+    equal("utf16_bytes_end_in_fault", widestring.utf16_bytes_end_in_fault(data, order, True), items == "" or "\ud800" <= items[-1] <= "\udfff")
+    bom = (codecs.BOM_UTF16_LE, codecs.BOM_UTF16_BE)[order]
+    equal("utf16_bytes_order", (widestring.utf16_bytes_order(bom + data), widestring.utf16_bytes_order(b"ab")), (order, None))
+    is_valid = offset is None and len(data) == len(units)
     try:
-        answer = widestring.bytes_to_utf8(data, order)
+        result = widestring.utf16_bytes_to_utf8(data, order)
     except widestring.Fault as fault:
-        equal("bytes_to_utf8", (is_sound, fault.place), (False, len(units) // 2 if place is None else place))
+        equal("utf16_bytes_to_utf8", (is_valid, fault.offset), (False, len(units) // 2 if offset is None else offset))
     else:
-        equal("bytes_to_utf8", (is_sound, answer), (True, items.encode("utf-8", "replace")))
-    front = data[: widestring.certain(data[: random.randrange(len(data) + 1)], order)]
-    after = widestring.ends_in_fault(front, order)
+        equal("utf16_bytes_to_utf8", (is_valid, result), (True, items.encode("utf-8", "replace")))
+    prefix = data[: widestring.utf16_bytes_complete(data[: random.randrange(len(data) + 1)], order)]
+    after = widestring.utf16_bytes_end_in_fault(prefix, order)
     for policy in Lossy:
         wanted = lossy_of(items, policy).encode()
-        equal("bytes_to_utf8_lossy", widestring.bytes_to_utf8_lossy(data, order, policy), wanted)
-        rest = widestring.bytes_to_utf8_lossy(data[len(front) :], order, policy, after)
-        equal("bytes_to_utf8_lossy in pieces", widestring.bytes_to_utf8_lossy(front, order, policy) + rest, wanted)
+        equal("utf16_bytes_to_utf8_lossy", widestring.utf16_bytes_to_utf8_lossy(data, order, policy), wanted)
+        rest = widestring.utf16_bytes_to_utf8_lossy(data[len(prefix) :], order, policy, after)
+        equal("utf16_bytes_to_utf8_lossy in chunks", widestring.utf16_bytes_to_utf8_lossy(prefix, order, policy) + rest, wanted)
 
 
 def check_utf32(data):
     items = items_of(data, "utf-32-le")
-    place = fault_item(items)
-    equal("utf32_first_fault", widestring.utf32_first_fault(data), place)
-    equal("utf32_first_fault_item", widestring.utf32_first_fault_item(data), place)
-    equal("utf32_char_count", widestring.utf32_char_count(data), count_of(items, place))
+    offset = fault_item(items)
+    equal("utf32_first_fault", widestring.utf32_first_fault(data), offset)
+    equal("utf32_first_fault_item", widestring.utf32_first_fault_item(data), offset)
+    equal("utf32_char_count", widestring.utf32_char_count(data), count_of(items, offset))
     equal("utf32_repair", widestring.utf32_repair(data), lossy_of(items, Lossy.EACH).encode("utf-32-le"))
-    check_strict(widestring.utf32_to_utf8, data, items, "utf-8", place)
-    check_strict(widestring.utf32_to_utf16, data, items, "utf-16-le", place)
+    check_strict(widestring.utf32_to_utf8, data, items, "utf-8", offset)
+    check_strict(widestring.utf32_to_utf16, data, items, "utf-16-le", offset)
     check_lossy(widestring.utf32_to_utf8_lossy, data, items, "utf-8")
     check_searches(32, array.array("I", data))
 
@@ -172,17 +173,17 @@ def random_data(name, width):
     return bytes(data)
 
 
-def must_raise(errors, call, *words):
+def must_raise(errors, call, *arguments):
     """The error that the function raises, which is one of these and not a Fault."""
     try:
-        answer = call(*words)
+        result = call(*arguments)
     except errors as error:
-        equal("a refusal", isinstance(error, widestring.Fault), False)
+        equal("an error that is no Fault", isinstance(error, widestring.Fault), False)
         return error
-    sys.exit(f"{call.__name__}{words}: {answer!r} in place of {errors}")
+    sys.exit(f"{call.__name__}{arguments}: {result!r} instead of {errors}")
 
 
-def check_refusals():
+def check_rejected_arguments():
     """Arguments that are not a text, a policy, a number, or a needle."""
     must_raise(ValueError, widestring.utf16_to_utf8, b"abc")
     must_raise(ValueError, widestring.utf32_first_fault, array.array("B", b"abcde"))
@@ -240,8 +241,8 @@ def check_lying_lengths():
             equal("utf8_to_utf16", widestring.utf8_to_utf16(data), b"a\0b\0")
             equal("utf8_to_utf16_lossy", widestring.utf8_to_utf16_lossy(data), b"a\0b\0")
             equal("utf16_find", widestring.utf16_find(data, data), 0)
-            equal("bytes_to_utf8", widestring.bytes_to_utf8(data, Order.BIG), "\u6162".encode())
-            equal("certain", widestring.certain(data, Order.LITTLE), 2)
+            equal("utf16_bytes_to_utf8", widestring.utf16_bytes_to_utf8(data, Order.BIG), "\u6162".encode())
+            equal("utf16_bytes_complete", widestring.utf16_bytes_complete(data, Order.LITTLE), 2)
             equal("repair", (widestring.utf16_repair(data), type(widestring.utf16_repair(data))), (b"ab", bytes))
     equal("find_unit", widestring.utf16_find_unit(b"a\0b\0", Zero()), 1)
 
@@ -259,7 +260,7 @@ def check_own_buffers():
             self.released += 1
             view.release()
 
-    class Refuses:
+    class Fails:
         def __buffer__(self, flags):
             raise BufferError("no buffer")
 
@@ -271,7 +272,7 @@ def check_own_buffers():
     equal("a buffer of a method", widestring.utf16_first_fault(given), 1 if sys.version_info >= (3, 12) else None)
     if sys.version_info >= (3, 12):
         equal("the release of a buffer", given.released, 1)
-        must_raise(BufferError, widestring.utf8_first_fault, Refuses())
+        must_raise(BufferError, widestring.utf8_first_fault, Fails())
         must_raise(TypeError, widestring.utf8_first_fault, Wrong())
 
 
@@ -316,10 +317,10 @@ def check_other_elements():
     for data in others:
         for call in (widestring.utf16_first_fault, widestring.utf32_first_fault, widestring.utf8_first_fault):
             must_raise(TypeError, call, data)
-        must_raise(TypeError, widestring.bytes_to_utf8_lossy, data, Order.LITTLE)
+        must_raise(TypeError, widestring.utf16_bytes_to_utf8_lossy, data, Order.LITTLE)
     for call, code in ((widestring.utf16_repair, "I"), (widestring.utf32_repair, "H"), (widestring.utf8_to_utf16, "H"), (widestring.utf8_to_utf32, "I")):
         must_raise(TypeError, call, array.array(code, [0x61]))
-    must_raise(TypeError, widestring.certain, array.array("H", [0x61]), Order.LITTLE)
+    must_raise(TypeError, widestring.utf16_bytes_complete, array.array("H", [0x61]), Order.LITTLE)
     must_raise(TypeError, widestring.utf16_find, b"ab", array.array("d", [1.0]))
     must_raise(TypeError, widestring.utf16_first_fault, array.array("w" if sys.version_info >= (3, 13) else "u", "ab"))
 
@@ -342,14 +343,14 @@ def check_numpy():
 def check_memory():
     """Results are objects of their own: nothing is written into one that CPython shares, and no length is truncated
     to its low bits."""
-    for answer in (widestring.utf8_to_utf16(b""), widestring.utf16_to_utf8_lossy(b"\0\xd8", Lossy.SKIP), widestring.bytes_to_utf8(b"", Order.BIG)):
-        equal("an empty text", answer, b"")
+    for result in (widestring.utf8_to_utf16(b""), widestring.utf16_to_utf8_lossy(b"\0\xd8", Lossy.SKIP), widestring.utf16_bytes_to_utf8(b"", Order.BIG)):
+        equal("an empty text", result, b"")
     equal("the empty object", (b"", len(bytes())), (b"".join([]), 0))
     for byte in range(0x80):
         shared = bytes([byte])
-        answer = widestring.utf16_to_utf8(bytes([byte, 0]))
-        equal("a text of one byte", (answer, shared, bytes([byte])), (bytes([byte]), byte.to_bytes(1, "little"), shared))
-        equal("an object of its own", answer is shared, False)
+        result = widestring.utf16_to_utf8(bytes([byte, 0]))
+        equal("a text of one byte", (result, shared, bytes([byte])), (bytes([byte]), byte.to_bytes(1, "little"), shared))
+        equal("an object of its own", result is shared, False)
     new = [widestring._buffer(1, 1) for _ in range(2)]
     equal("two objects", new[0] is new[1] or any(one is bytes([one[0]]) for one in new), False)
     for count, width in ((1 << 64, 1), (1 << 62, 4), (1 << 63, 2), (sys.maxsize, 1), (sys.maxsize, 4), ((1 << 64) + 1, 1), (1 << 63, 1)):
@@ -367,19 +368,19 @@ def check_imports(libraries):
     message names."""
     here = os.path.dirname(os.path.abspath(widestring.__file__))
     for library in ("/nonexistent/libwidestring.so", os.devnull, os.path.abspath(__file__), "libno_such_library.so", *libraries):
-        said = import_error(WIDESTRING_LIBRARY=library, PYTHONPATH=here)
-        equal(f"the import of {library}", (said.split()[:1], "WIDESTRING_LIBRARY" in said), (["ImportError"], True))
+        printed = import_error(WIDESTRING_LIBRARY=library, PYTHONPATH=here)
+        equal(f"the import of {library}", (printed.split()[:1], "WIDESTRING_LIBRARY" in printed), (["ImportError"], True))
 
 
-def main(words):
-    count = int(words[0]) if words else 100000
-    seed = int(words[1]) if words[1:] else 1
+def main(arguments):
+    count = int(arguments[0]) if arguments else 100000
+    seed = int(arguments[1]) if arguments[1:] else 1
     random.seed(seed)
     equal("version", widestring.version(), (0, 1, 0))
-    checks = (check_refusals, check_lying_lengths, check_own_buffers, check_buffers, check_other_elements, check_numpy, check_memory)
+    checks = (check_rejected_arguments, check_lying_lengths, check_own_buffers, check_buffers, check_other_elements, check_numpy, check_memory)
     for check in checks:
         check()
-    check_imports(words[2:])
+    check_imports(arguments[2:])
     for check in (check_utf8, check_utf16, check_utf32):
         check(b"")
     for _ in range(count):

@@ -40,14 +40,14 @@ _OWN_ORDER = ("@", "=", "<")
 
 
 class Fault(ValueError):
-    """The text is ill-formed. `place` is the offset of the first fault."""
+    """The text is ill-formed. `offset` is the offset of the first fault."""
 
-    def __init__(self, place):
-        super().__init__(place)
-        self.place = place
+    def __init__(self, offset):
+        super().__init__(offset)
+        self.offset = offset
 
     def __str__(self):
-        return f"not well formed at place {self.place}"
+        return f"ill-formed at offset {self.offset}"
 
 
 class Lossy(enum.IntEnum):
@@ -66,7 +66,7 @@ class Order(enum.IntEnum):
     BIG = 1
 
 
-def _refusal(why):
+def _import_error(why):
     return ImportError(f"{why}: bindings/c/install installs the library, and WIDESTRING_LIBRARY names the file", name="widestring")
 
 
@@ -77,18 +77,18 @@ def _load():
     except OSError as error:
         found = None if named else ctypes.util.find_library("widestring")
         if found is None:
-            raise _refusal(f"no library of widestring ({error})") from error
+            raise _import_error(f"no library of widestring ({error})") from error
     try:
         return ctypes.CDLL(found)
     except OSError as error:
-        raise _refusal(f"no library of widestring ({error})") from error
+        raise _import_error(f"no library of widestring ({error})") from error
 
 
 def _symbol(name):
     try:
         return getattr(_library, name)
     except AttributeError as error:
-        raise _refusal(f"the library has no call {name}") from error
+        raise _import_error(f"the library has no function {name}") from error
 
 
 def version():
@@ -105,18 +105,18 @@ _library = _load()
 # A library of another version may have other functions with these names, so only its version is looked up before this
 # check.
 if version()[:2] != _VERSION:
-    raise _refusal(f"the library has version {version()}, and this module is for {_VERSION}")
+    raise _import_error(f"the library has version {version()}, and this module is for {_VERSION}")
 
 _new_bytes = ctypes.pythonapi.PyBytes_FromStringAndSize
 _new_bytes.argtypes = [ctypes.c_void_p, ctypes.c_ssize_t]
 _new_bytes.restype = ctypes.py_object
 
 
-def _call(name, *types, answer=ctypes.c_size_t):
+def _call(name, *types, result=ctypes.c_size_t):
     """Returns a function of the library that takes text, a length and more arguments."""
     call = _symbol(f"wide_{name}")
     call.argtypes = [ctypes.c_char_p, ctypes.c_size_t, *types]
-    call.restype = answer
+    call.restype = result
     return call
 
 
@@ -149,30 +149,30 @@ def _elements(data, width):
                 raise TypeError(f"a buffer of {wanted} is required, not of format {view.format!r} with {view.itemsize} bytes each")
             data = view.tobytes()
     if len(data) % width:
-        raise ValueError("part of a unit stands at the end")
+        raise ValueError("an incomplete unit is at the end")
     return data, len(data) // width
 
 
 def _number(call, data, width, *more):
     """Returns the number that a function returns, or None for the number that stands for nothing."""
     data, length = _elements(data, width)
-    answer = call(data, length, *more)
-    return None if answer == _NONE else answer
+    result = call(data, length, *more)
+    return None if result == _NONE else result
 
 
-def _place(call, data, width, *more):
+def _offset(call, data, width, *more):
     """Returns the offset that a function returns, or None if it returns the length, since it found nothing."""
     data, length = _elements(data, width)
-    answer = call(data, length, *more)
-    return None if answer == length else answer
+    result = call(data, length, *more)
+    return None if result == length else result
 
 
 def _find_unit(call, units, width, unit):
     """Returns the offset of a unit, or None if it does not occur. A number out of the range of a unit does not
     occur."""
     data, unit = _elements(units, width), operator.index(unit)
-    answer = call(*data, unit) if 0 <= unit < 1 << 8 * width else data[1]
-    return None if answer == data[1] else answer
+    result = call(*data, unit) if 0 <= unit < 1 << 8 * width else data[1]
+    return None if result == data[1] else result
 
 
 def _sample(data):
@@ -185,25 +185,25 @@ class _Conversion:
     """A function that writes: the sizes of the units that it reads and writes, and the function that returns the
     length for well-formed text."""
 
-    def __init__(self, name, width, room_width, length_name=None, *types):
+    def __init__(self, name, width, result_width, length_name=None, *types):
         self.call = _call(name, *types, ctypes.c_char_p, ctypes.c_size_t)
         self.length = _call(length_name) if length_name else None
-        self.width, self.room_width = width, room_width
+        self.width, self.result_width = width, result_width
 
     def write(self, data, length, needed, *more):
         """Returns the bytes that the function writes, given their number of elements."""
-        room = _buffer(needed, self.room_width)
-        if self.call(data, length, *more, room, needed) != needed:
-            raise SystemError("the library of widestring answers two lengths of one text")
-        return room
+        buffer = _buffer(needed, self.result_width)
+        if self.call(data, length, *more, buffer, needed) != needed:
+            raise SystemError("the library of widestring returns two lengths for one text")
+        return buffer
 
     def short(self, data, length, *more):
         """Returns the result if it has as many elements as the input, as for ASCII. Returns None if the input likely
         isn't ASCII, or if the result has another length."""
         if not _sample(data).isascii():
             return None
-        room = _buffer(length, self.room_width)
-        return room if self.call(data, length, *more, room, length) == length else None
+        buffer = _buffer(length, self.result_width)
+        return buffer if self.call(data, length, *more, buffer, length) == length else None
 
     def strict(self, data, first_fault):
         data, length = _elements(data, self.width)
@@ -253,27 +253,27 @@ _utf8_to_utf16_lossy = _Conversion("utf8_to_utf16_lossy_with", 1, 2, "utf8_utf16
 _utf8_to_utf32_lossy = _Conversion("utf8_to_utf32_lossy_with", 1, 4, "utf8_utf32_length", ctypes.c_uint32)
 _utf16_repair = _Conversion("utf16_repair", 2, 2)
 _utf32_repair = _Conversion("utf32_repair", 4, 4)
-_bytes_order = _call("bytes_order", answer=ctypes.c_uint32)
-_bytes_certain = _call("bytes_certain", ctypes.c_uint32)
-_bytes_first_fault = _call("bytes_first_fault", ctypes.c_uint32)
-_bytes_ends_in_fault = _call("bytes_ends_in_fault", ctypes.c_uint32, ctypes.c_uint32, answer=ctypes.c_uint32)
-_bytes_to_utf8 = _Conversion("bytes_to_utf8", 1, 1, None, ctypes.c_uint32)
-_bytes_to_utf8_lossy = _Conversion("bytes_to_utf8_lossy_with", 1, 1, None, ctypes.c_uint32, ctypes.c_uint32, ctypes.c_uint32)
+_utf16_bytes_order = _call("utf16_bytes_order", result=ctypes.c_uint32)
+_utf16_bytes_complete = _call("utf16_bytes_complete", ctypes.c_uint32)
+_utf16_bytes_first_fault = _call("utf16_bytes_first_fault", ctypes.c_uint32)
+_utf16_bytes_end_in_fault = _call("utf16_bytes_end_in_fault", ctypes.c_uint32, ctypes.c_uint32, result=ctypes.c_uint32)
+_utf16_bytes_to_utf8 = _Conversion("utf16_bytes_to_utf8", 1, 1, None, ctypes.c_uint32)
+_utf16_bytes_to_utf8_lossy = _Conversion("utf16_bytes_to_utf8_lossy_with", 1, 1, None, ctypes.c_uint32, ctypes.c_uint32, ctypes.c_uint32)
 
 
 def utf8_first_fault(text):
     """Returns the offset of the first byte of the first ill-formed sequence, or None if the text is well formed."""
-    return _place(_first_fault8, text, 1)
+    return _offset(_first_fault8, text, 1)
 
 
 def utf16_first_fault(units):
     """Returns the offset of the first ill-formed unit, or None if the units are well formed."""
-    return _place(_first_fault16, units, 2)
+    return _offset(_first_fault16, units, 2)
 
 
 def utf32_first_fault(units):
     """Returns the offset of the first unit that is not a scalar value, or None if the units are well formed."""
-    return _place(_first_fault32, units, 4)
+    return _offset(_first_fault32, units, 4)
 
 
 def utf16_first_fault_item(units):
@@ -304,12 +304,12 @@ def utf32_char_count(units):
 
 def utf16_first_nul(units):
     """Returns the offset of the first NUL, or None if there is none."""
-    return _place(_first_nul16, units, 2)
+    return _offset(_first_nul16, units, 2)
 
 
 def utf32_first_nul(units):
     """Returns the offset of the first NUL, or None if there is none."""
-    return _place(_first_nul32, units, 4)
+    return _offset(_first_nul32, units, 4)
 
 
 def utf16_find_unit(units, unit):
@@ -324,16 +324,16 @@ def utf32_find_unit(units, unit):
     return _find_unit(_find_unit32, units, 4, unit)
 
 
-def utf16_find(units, part):
+def utf16_find(units, needle):
     """Returns the offset of the first occurrence of a needle, or None if it does not occur. An empty needle occurs
     at offset 0."""
-    return _number(_find16, units, 2, *_elements(part, 2))
+    return _number(_find16, units, 2, *_elements(needle, 2))
 
 
-def utf32_find(units, part):
+def utf32_find(units, needle):
     """Returns the offset of the first occurrence of a needle, or None if it does not occur. An empty needle occurs
     at offset 0."""
-    return _number(_find32, units, 4, *_elements(part, 4))
+    return _number(_find32, units, 4, *_elements(needle, 4))
 
 
 def utf16_to_utf8(units):
@@ -398,46 +398,46 @@ def utf32_repair(units):
     return _utf32_repair.lossy(units)
 
 
-def byte_order(data):
+def utf16_bytes_order(data):
     """Returns the byte order of the BOM at the start of UTF-16 in bytes, or None if there is none. The two bytes of
     the BOM do not belong to the text."""
-    number = _bytes_order(*_elements(data, 1))
+    number = _utf16_bytes_order(*_elements(data, 1))
     return Order(number) if number < 2 else None
 
 
-def certain(data, order):
+def utf16_bytes_complete(data, order):
     """Returns how many bytes at the start are whole units whose meaning no later bytes can change: all whole units,
     except a last high surrogate."""
-    return _bytes_certain(*_elements(data, 1), Order(order))
+    return _utf16_bytes_complete(*_elements(data, 1), Order(order))
 
 
-def bytes_first_fault(data, order):
+def utf16_bytes_first_fault(data, order):
     """Returns the offset, in units, of the first ill-formed unit of UTF-16 in this byte order, or None if there is
     none."""
     data, length = _elements(data, 1)
-    place = _bytes_first_fault(data, length, Order(order))
-    return None if place == length // 2 else place
+    offset = _utf16_bytes_first_fault(data, length, Order(order))
+    return None if offset == length // 2 else offset
 
 
-def ends_in_fault(data, order, after_fault=False):
+def utf16_bytes_end_in_fault(data, order, after_fault=False):
     """Returns whether the last whole unit is ill-formed. If there are no whole units, returns `after_fault`, which
     says whether the unit before the bytes is ill-formed."""
-    return _bytes_ends_in_fault(*_elements(data, 1), Order(order), bool(after_fault)) != 0
+    return _utf16_bytes_end_in_fault(*_elements(data, 1), Order(order), bool(after_fault)) != 0
 
 
-def bytes_to_utf8(data, order):
+def utf16_bytes_to_utf8(data, order):
     """Converts well-formed UTF-16 in this byte order to UTF-8. Raises Fault with the offset in units of the first
     ill-formed unit. If the units are well formed but the number of bytes is odd, the offset is the number of whole
     units."""
     data, length = _elements(data, 1)
     order = Order(order)
-    needed = _bytes_to_utf8.call(data, length, order, None, 0)
+    needed = _utf16_bytes_to_utf8.call(data, length, order, None, 0)
     if needed == _NONE:
-        raise Fault(_bytes_first_fault(data, length, order))
-    return _bytes_to_utf8.write(data, length, needed, order)
+        raise Fault(_utf16_bytes_first_fault(data, length, order))
+    return _utf16_bytes_to_utf8.write(data, length, needed, order)
 
 
-def bytes_to_utf8_lossy(data, order, policy=Lossy.EACH, after_fault=False):
+def utf16_bytes_to_utf8_lossy(data, order, policy=Lossy.EACH, after_fault=False):
     """Converts the whole units of UTF-16 in this byte order to UTF-8, and replaces ill-formed units by the policy.
     `after_fault` says whether the unit before the bytes is ill-formed. widestring.h describes how to read a stream."""
-    return _bytes_to_utf8_lossy.lossy(data, Order(order), Lossy(policy), bool(after_fault))
+    return _utf16_bytes_to_utf8_lossy.lossy(data, Order(order), Lossy(policy), bool(after_fault))

@@ -20,21 +20,21 @@ fn fail(why: &str) -> ! {
 /// The library is machine code for this target only.
 fn check_target() {
     for (what, wanted) in [("ARCH", "x86_64"), ("OS", "linux"), ("POINTER_WIDTH", "64")] {
-        let told = env::var(format!("CARGO_CFG_TARGET_{what}")).unwrap_or_default();
-        if told != wanted {
+        let reported = env::var(format!("CARGO_CFG_TARGET_{what}")).unwrap_or_default();
+        if reported != wanted {
             fail(&format!(
-                "the library of widestring is for x86-64 Linux alone: {what} is {told}, and not {wanted}"
+                "the library of widestring is for x86-64 Linux alone: {what} is {reported}, and not {wanted}"
             ));
         }
     }
 }
 
 /// Returns what pkg-config prints, if it exists and succeeds.
-fn pkg_config(words: &[&str]) -> Option<String> {
+fn pkg_config(arguments: &[&str]) -> Option<String> {
     let program = env::var_os("PKG_CONFIG").unwrap_or_else(|| "pkg-config".into());
-    let told = Command::new(program).args(words).output().ok()?;
-    let text = String::from_utf8(told.stdout).ok()?;
-    told.status.success().then(|| text.trim().to_owned())
+    let output = Command::new(program).args(arguments).output().ok()?;
+    let text = String::from_utf8(output.stdout).ok()?;
+    output.status.success().then(|| text.trim().to_owned())
 }
 
 /// Returns the first version that may change functions: the next major version, or the next minor version while the

@@ -8,10 +8,10 @@ use alloc::vec::Vec;
 use core::sync::atomic::{AtomicBool, Ordering};
 
 /// A text of at most `SHORT` elements gets the capacity that the longest result needs. For a longer text, a prefix of
-/// `PIECE` elements predicts the length.
+/// `CHUNK` elements predicts the length.
 const SHORT: usize = 128;
 
-const PIECE: usize = 1024;
+const CHUNK: usize = 1024;
 
 /// A vector with more capacity than this releases memory if less than half is used.
 const MUCH: usize = 4096;
@@ -60,26 +60,26 @@ fn compare_version() {
     IS_OWN.store(true, Ordering::Relaxed);
 }
 
-/// Returns an answer that is at most what a text of this length can have. Panics for a greater one, which only a broken
+/// Returns a result that is at most what a text of this length can have. Panics for a greater one, which only a broken
 /// library returns, before anything is read by it.
-fn within(most: usize, answer: usize) -> usize {
+fn within(most: usize, result: usize) -> usize {
     assert!(
-        answer <= most,
-        "the linked library of widestring answers {answer} where no text has more than {most}"
+        result <= most,
+        "the linked library of widestring returns {result} where no text has more than {most}"
     );
-    answer
+    result
 }
 
-/// Returns the answer, or `None` if it is the number that stands for none.
-fn unless(none: usize, most: usize, answer: usize) -> Option<usize> {
-    (answer != none).then(|| within(most, answer))
+/// Returns the result, or `None` if it is the number that stands for none.
+fn unless(none: usize, most: usize, result: usize) -> Option<usize> {
+    (result != none).then(|| within(most, result))
 }
 
 /// A function that reads a slice and returns a number.
-pub struct Ask<T>(unsafe extern "C" fn(*const T, usize) -> usize);
+pub struct Query<T>(unsafe extern "C" fn(*const T, usize) -> usize);
 
-impl<T> Ask<T> {
-    fn answer(&self, items: &[T]) -> usize {
+impl<T> Query<T> {
+    fn result(&self, items: &[T]) -> usize {
         check_version();
         // SAFETY: a slice is memory of this length that may be read.
         unsafe { (self.0)(items.as_ptr(), items.len()) }
@@ -87,56 +87,57 @@ impl<T> Ask<T> {
 
     /// Returns an offset, or `None` if the function returns the length.
     pub fn offset(&self, items: &[T]) -> Option<usize> {
-        unless(items.len(), items.len(), self.answer(items))
+        unless(items.len(), items.len(), self.result(items))
     }
 
     /// Returns a number of characters, or `None` if the function has none to report.
     pub fn count(&self, items: &[T]) -> Option<usize> {
-        unless(NONE, items.len(), self.answer(items))
+        unless(NONE, items.len(), self.result(items))
     }
 }
 
-pub const UTF8_FIRST_FAULT: Ask<u8> = Ask(raw::wide_utf8_first_fault);
-pub const UTF16_FIRST_FAULT: Ask<u16> = Ask(raw::wide_utf16_first_fault);
-pub const UTF32_FIRST_FAULT: Ask<u32> = Ask(raw::wide_utf32_first_fault);
-pub const UTF16_FIRST_FAULT_ITEM: Ask<u16> = Ask(raw::wide_utf16_first_fault_item);
-pub const UTF32_FIRST_FAULT_ITEM: Ask<u32> = Ask(raw::wide_utf32_first_fault_item);
-pub const UTF8_CHAR_COUNT: Ask<u8> = Ask(raw::wide_utf8_char_count);
-pub const UTF16_CHAR_COUNT: Ask<u16> = Ask(raw::wide_utf16_char_count);
-pub const UTF32_CHAR_COUNT: Ask<u32> = Ask(raw::wide_utf32_char_count);
-pub const UTF16_FIRST_NUL: Ask<u16> = Ask(raw::wide_utf16_first_nul);
-pub const UTF32_FIRST_NUL: Ask<u32> = Ask(raw::wide_utf32_first_nul);
+pub const UTF8_FIRST_FAULT: Query<u8> = Query(raw::wide_utf8_first_fault);
+pub const UTF16_FIRST_FAULT: Query<u16> = Query(raw::wide_utf16_first_fault);
+pub const UTF32_FIRST_FAULT: Query<u32> = Query(raw::wide_utf32_first_fault);
+pub const UTF16_FIRST_FAULT_ITEM: Query<u16> = Query(raw::wide_utf16_first_fault_item);
+pub const UTF32_FIRST_FAULT_ITEM: Query<u32> = Query(raw::wide_utf32_first_fault_item);
+pub const UTF8_CHAR_COUNT: Query<u8> = Query(raw::wide_utf8_char_count);
+pub const UTF16_CHAR_COUNT: Query<u16> = Query(raw::wide_utf16_char_count);
+pub const UTF32_CHAR_COUNT: Query<u32> = Query(raw::wide_utf32_char_count);
+pub const UTF16_FIRST_NUL: Query<u16> = Query(raw::wide_utf16_first_nul);
+pub const UTF32_FIRST_NUL: Query<u32> = Query(raw::wide_utf32_first_nul);
 
 /// The functions that search units for a unit and for a needle.
 pub struct Search<T> {
     unit: unsafe extern "C" fn(*const T, usize, T) -> usize,
-    part: unsafe extern "C" fn(*const T, usize, *const T, usize) -> usize,
+    find: unsafe extern "C" fn(*const T, usize, *const T, usize) -> usize,
 }
 
 impl<T> Search<T> {
     pub fn unit(&self, units: &[T], unit: T) -> Option<usize> {
         check_version();
         // SAFETY: a slice is memory of this length that may be read.
-        let answer = unsafe { (self.unit)(units.as_ptr(), units.len(), unit) };
-        unless(units.len(), units.len(), answer)
+        let result = unsafe { (self.unit)(units.as_ptr(), units.len(), unit) };
+        unless(units.len(), units.len(), result)
     }
 
-    pub fn part(&self, units: &[T], part: &[T]) -> Option<usize> {
+    pub fn find(&self, units: &[T], needle: &[T]) -> Option<usize> {
         check_version();
         // SAFETY: both slices are memory of these lengths that may be read.
-        let answer = unsafe { (self.part)(units.as_ptr(), units.len(), part.as_ptr(), part.len()) };
-        unless(NONE, units.len(), answer)
+        let result =
+            unsafe { (self.find)(units.as_ptr(), units.len(), needle.as_ptr(), needle.len()) };
+        unless(NONE, units.len(), result)
     }
 }
 
 pub const UTF16_SEARCH: Search<u16> = Search {
     unit: raw::wide_utf16_find_unit,
-    part: raw::wide_utf16_find,
+    find: raw::wide_utf16_find,
 };
 
 pub const UTF32_SEARCH: Search<u32> = Search {
     unit: raw::wide_utf32_find_unit,
-    part: raw::wide_utf32_find,
+    find: raw::wide_utf32_find,
 };
 
 /// Returns a vector with what the call writes. The call gets a pointer and a capacity, and returns the length, which is
@@ -173,7 +174,7 @@ unsafe fn written<U: Copy>(
 pub struct Conversion<T, U> {
     most: usize,
     length: unsafe extern "C" fn(*const T, usize) -> usize,
-    first_fault: Ask<T>,
+    first_fault: Query<T>,
     put: unsafe extern "C" fn(*const T, usize, *mut U, usize) -> usize,
 }
 
@@ -192,21 +193,21 @@ impl<T, U: Copy> Conversion<T, U> {
         if items.len() <= SHORT {
             return self.most(items);
         }
-        let piece = &items[..items.len().min(PIECE)];
+        let chunk = &items[..items.len().min(CHUNK)];
         // A character that is split at the end is not counted.
-        let sound = &piece[..self.first_fault.offset(piece).unwrap_or(piece.len())];
-        if sound.is_empty() {
+        let valid = &chunk[..self.first_fault.offset(chunk).unwrap_or(chunk.len())];
+        if valid.is_empty() {
             return items.len();
         }
         // SAFETY: a slice is memory of this length that may be read.
-        let answer = unsafe { (self.length)(sound.as_ptr(), sound.len()) };
-        let likely = within(self.most(sound), answer) * (items.len() / sound.len() + 1);
+        let result = unsafe { (self.length)(valid.as_ptr(), valid.len()) };
+        let likely = within(self.most(valid), result) * (items.len() / valid.len() + 1);
         likely + likely / 16
     }
 
     fn fault(&self, items: &[T]) -> Fault {
         Fault {
-            place: self.first_fault.offset(items).unwrap_or(items.len()),
+            offset: self.first_fault.offset(items).unwrap_or(items.len()),
         }
     }
 
@@ -240,8 +241,8 @@ impl<T, U: Copy> Conversion<T, U> {
         check_version();
         let (to, capacity) = (buffer.as_mut_ptr(), buffer.len());
         // SAFETY: both slices are memory of these lengths, and the one that may be written does not overlap the other.
-        let answer = unsafe { (self.put)(items.as_ptr(), items.len(), to, capacity) };
-        let needed = unless(NONE, self.most(items), answer).ok_or_else(|| self.fault(items))?;
+        let result = unsafe { (self.put)(items.as_ptr(), items.len(), to, capacity) };
+        let needed = unless(NONE, self.most(items), result).ok_or_else(|| self.fault(items))?;
         Ok(fitting(needed, buffer.len())?)
     }
 
@@ -255,8 +256,8 @@ impl<T, U: Copy> Conversion<T, U> {
         check_version();
         let (to, capacity) = (buffer.as_mut_ptr(), buffer.len());
         // SAFETY: both slices are memory of these lengths, and the one that may be written does not overlap the other.
-        let answer = unsafe { (call.0)(items.as_ptr(), items.len(), policy as u32, to, capacity) };
-        fitting(within(self.most(items), answer), buffer.len())
+        let result = unsafe { (call.0)(items.as_ptr(), items.len(), policy as u32, to, capacity) };
+        fitting(within(self.most(items), result), buffer.len())
     }
 }
 
@@ -348,61 +349,68 @@ impl<T: Copy> Repair<T> {
 pub const UTF16_REPAIR: Repair<u16> = Repair(raw::wide_utf16_repair);
 pub const UTF32_REPAIR: Repair<u32> = Repair(raw::wide_utf32_repair);
 
-pub fn byte_order(bytes: &[u8]) -> Option<Order> {
+pub fn utf16_bytes_order(bytes: &[u8]) -> Option<Order> {
     check_version();
     // SAFETY: a slice is memory of this length that may be read.
-    match unsafe { raw::wide_bytes_order(bytes.as_ptr(), bytes.len()) } {
+    match unsafe { raw::wide_utf16_bytes_order(bytes.as_ptr(), bytes.len()) } {
         0 => Some(Order::Little),
         1 => Some(Order::Big),
         _ => None,
     }
 }
 
-pub fn certain(bytes: &[u8], order: Order) -> usize {
+pub fn utf16_bytes_complete(bytes: &[u8], order: Order) -> usize {
     check_version();
     // SAFETY: a slice is memory of this length that may be read.
-    let answer = unsafe { raw::wide_bytes_certain(bytes.as_ptr(), bytes.len(), order as u32) };
-    within(bytes.len(), answer)
+    let result =
+        unsafe { raw::wide_utf16_bytes_complete(bytes.as_ptr(), bytes.len(), order as u32) };
+    within(bytes.len(), result)
 }
 
-pub fn bytes_first_fault(bytes: &[u8], order: Order) -> Option<usize> {
+pub fn utf16_bytes_first_fault(bytes: &[u8], order: Order) -> Option<usize> {
     check_version();
     // SAFETY: a slice is memory of this length that may be read.
-    let answer = unsafe { raw::wide_bytes_first_fault(bytes.as_ptr(), bytes.len(), order as u32) };
-    unless(bytes.len() / 2, bytes.len() / 2, answer)
+    let result =
+        unsafe { raw::wide_utf16_bytes_first_fault(bytes.as_ptr(), bytes.len(), order as u32) };
+    unless(bytes.len() / 2, bytes.len() / 2, result)
 }
 
-pub fn ends_in_fault(bytes: &[u8], order: Order, after_fault: bool) -> bool {
+pub fn utf16_bytes_end_in_fault(bytes: &[u8], order: Order, after_fault: bool) -> bool {
     check_version();
     let (order, after) = (order as u32, u32::from(after_fault));
     // SAFETY: a slice is memory of this length that may be read.
-    unsafe { raw::wide_bytes_ends_in_fault(bytes.as_ptr(), bytes.len(), order, after) != 0 }
+    unsafe { raw::wide_utf16_bytes_end_in_fault(bytes.as_ptr(), bytes.len(), order, after) != 0 }
 }
 
 /// Returns the greatest length in UTF-8 of UTF-16 in bytes.
-fn most_of_bytes(bytes: &[u8]) -> usize {
+fn most_utf8_of_bytes(bytes: &[u8]) -> usize {
     bytes.len() / 2 * 3
 }
 
-pub fn bytes_to_utf8(bytes: &[u8], order: Order) -> Option<String> {
+pub fn utf16_bytes_to_utf8(bytes: &[u8], order: Order) -> Option<String> {
     // SAFETY: the slice may be read, the vector owns its memory, and the library writes as many elements as it returns
     // if the capacity suffices.
     let text = unsafe {
-        written(bytes.len(), most_of_bytes(bytes), |to, capacity| {
-            raw::wide_bytes_to_utf8(bytes.as_ptr(), bytes.len(), order as u32, to, capacity)
+        written(bytes.len(), most_utf8_of_bytes(bytes), |to, capacity| {
+            raw::wide_utf16_bytes_to_utf8(bytes.as_ptr(), bytes.len(), order as u32, to, capacity)
         })
     };
     // SAFETY: the library is proved to write UTF-8.
     text.map(|text| unsafe { String::from_utf8_unchecked(text) })
 }
 
-pub fn bytes_to_utf8_lossy(bytes: &[u8], order: Order, policy: Lossy, after_fault: bool) -> String {
+pub fn utf16_bytes_to_utf8_lossy(
+    bytes: &[u8],
+    order: Order,
+    policy: Lossy,
+    after_fault: bool,
+) -> String {
     let (order, policy, after) = (order as u32, policy as u32, u32::from(after_fault));
     // SAFETY: the slice may be read, the vector owns its memory, and the library writes as many elements as it returns
     // if the capacity suffices.
     let text = unsafe {
-        written(bytes.len(), most_of_bytes(bytes), |to, capacity| {
-            raw::wide_bytes_to_utf8_lossy_with(
+        written(bytes.len(), most_utf8_of_bytes(bytes), |to, capacity| {
+            raw::wide_utf16_bytes_to_utf8_lossy_with(
                 bytes.as_ptr(),
                 bytes.len(),
                 order,

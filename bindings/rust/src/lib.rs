@@ -31,12 +31,12 @@ use core::fmt;
 #[derive(Clone, Copy, Debug, PartialEq, Eq)]
 pub struct Fault {
     /// The offset in elements: units, or bytes of UTF-8.
-    pub place: usize,
+    pub offset: usize,
 }
 
 impl fmt::Display for Fault {
     fn fmt(&self, f: &mut fmt::Formatter<'_>) -> fmt::Result {
-        write!(f, "not well formed at place {}", self.place)
+        write!(f, "ill-formed at offset {}", self.offset)
     }
 }
 
@@ -180,14 +180,14 @@ pub fn utf32_find_unit(units: &[u32], unit: u32) -> Option<usize> {
 
 /// Returns the offset of the first occurrence of a needle in UTF-16, or `None` if it does not occur. An empty needle
 /// occurs at offset 0.
-pub fn utf16_find(units: &[u16], part: &[u16]) -> Option<usize> {
-    calls::UTF16_SEARCH.part(units, part)
+pub fn utf16_find(units: &[u16], needle: &[u16]) -> Option<usize> {
+    calls::UTF16_SEARCH.find(units, needle)
 }
 
 /// Returns the offset of the first occurrence of a needle in UTF-32, or `None` if it does not occur. An empty needle
 /// occurs at offset 0.
-pub fn utf32_find(units: &[u32], part: &[u32]) -> Option<usize> {
-    calls::UTF32_SEARCH.part(units, part)
+pub fn utf32_find(units: &[u32], needle: &[u32]) -> Option<usize> {
+    calls::UTF32_SEARCH.find(units, needle)
 }
 
 /// Converts well-formed UTF-16 to UTF-8.
@@ -378,25 +378,25 @@ pub fn utf8_to_utf32_lossy_into(
 
 /// Returns the byte order of the BOM at the start of UTF-16 in bytes, or `None` if there is none. The two bytes of the
 /// BOM do not belong to the text.
-pub fn byte_order(bytes: &[u8]) -> Option<Order> {
-    calls::byte_order(bytes)
+pub fn utf16_bytes_order(bytes: &[u8]) -> Option<Order> {
+    calls::utf16_bytes_order(bytes)
 }
 
 /// Returns how many bytes at the start are whole units whose meaning no later bytes can change: all whole units, except
 /// a last high surrogate.
-pub fn certain(bytes: &[u8], order: Order) -> usize {
-    calls::certain(bytes, order)
+pub fn utf16_bytes_complete(bytes: &[u8], order: Order) -> usize {
+    calls::utf16_bytes_complete(bytes, order)
 }
 
 /// Returns the offset, in units, of the first ill-formed unit in the bytes, or `None` if there is none.
-pub fn bytes_first_fault(bytes: &[u8], order: Order) -> Option<usize> {
-    calls::bytes_first_fault(bytes, order)
+pub fn utf16_bytes_first_fault(bytes: &[u8], order: Order) -> Option<usize> {
+    calls::utf16_bytes_first_fault(bytes, order)
 }
 
 /// Returns whether the last whole unit is ill-formed. If there are no whole units, it returns `after_fault`, which says
 /// whether the unit before the bytes is ill-formed.
-pub fn ends_in_fault(bytes: &[u8], order: Order, after_fault: bool) -> bool {
-    calls::ends_in_fault(bytes, order, after_fault)
+pub fn utf16_bytes_end_in_fault(bytes: &[u8], order: Order, after_fault: bool) -> bool {
+    calls::utf16_bytes_end_in_fault(bytes, order, after_fault)
 }
 
 /// Converts bytes of well-formed UTF-16 to UTF-8.
@@ -405,14 +405,19 @@ pub fn ends_in_fault(bytes: &[u8], order: Order, after_fault: bool) -> bool {
 ///
 /// [`Fault`], with the offset in units of the first ill-formed unit. If the units are well formed but the number of
 /// bytes is odd, the offset is the number of whole units.
-pub fn bytes_to_utf8(bytes: &[u8], order: Order) -> Result<String, Fault> {
-    calls::bytes_to_utf8(bytes, order).ok_or_else(|| Fault {
-        place: bytes_first_fault(bytes, order).unwrap_or(bytes.len() / 2),
+pub fn utf16_bytes_to_utf8(bytes: &[u8], order: Order) -> Result<String, Fault> {
+    calls::utf16_bytes_to_utf8(bytes, order).ok_or_else(|| Fault {
+        offset: utf16_bytes_first_fault(bytes, order).unwrap_or(bytes.len() / 2),
     })
 }
 
 /// Converts the whole units of any bytes to UTF-8, and replaces ill-formed units by the policy. `after_fault` says
 /// whether the unit before the bytes is ill-formed. `widestring.h` describes how to read a stream.
-pub fn bytes_to_utf8_lossy(bytes: &[u8], order: Order, policy: Lossy, after_fault: bool) -> String {
-    calls::bytes_to_utf8_lossy(bytes, order, policy, after_fault)
+pub fn utf16_bytes_to_utf8_lossy(
+    bytes: &[u8],
+    order: Order,
+    policy: Lossy,
+    after_fault: bool,
+) -> String {
+    calls::utf16_bytes_to_utf8_lossy(bytes, order, policy, after_fault)
 }

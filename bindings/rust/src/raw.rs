@@ -25,14 +25,14 @@ extern "C" {
     pub fn wide_utf16_find(
         units: *const u16,
         length: usize,
-        part: *const u16,
-        part_length: usize,
+        needle: *const u16,
+        needle_length: usize,
     ) -> usize;
     pub fn wide_utf32_find(
         units: *const u32,
         length: usize,
-        part: *const u32,
-        part_length: usize,
+        needle: *const u32,
+        needle_length: usize,
     ) -> usize;
     pub fn wide_utf16_to_utf8(
         units: *const u16,
@@ -110,23 +110,23 @@ extern "C" {
         repaired: *mut u32,
         capacity: usize,
     ) -> usize;
-    pub fn wide_bytes_order(bytes: *const u8, length: usize) -> u32;
-    pub fn wide_bytes_certain(bytes: *const u8, length: usize, order: u32) -> usize;
-    pub fn wide_bytes_first_fault(bytes: *const u8, length: usize, order: u32) -> usize;
-    pub fn wide_bytes_ends_in_fault(
+    pub fn wide_utf16_bytes_order(bytes: *const u8, length: usize) -> u32;
+    pub fn wide_utf16_bytes_complete(bytes: *const u8, length: usize, order: u32) -> usize;
+    pub fn wide_utf16_bytes_first_fault(bytes: *const u8, length: usize, order: u32) -> usize;
+    pub fn wide_utf16_bytes_end_in_fault(
         bytes: *const u8,
         length: usize,
         order: u32,
         after_fault: u32,
     ) -> u32;
-    pub fn wide_bytes_to_utf8(
+    pub fn wide_utf16_bytes_to_utf8(
         bytes: *const u8,
         length: usize,
         order: u32,
         text: *mut u8,
         capacity: usize,
     ) -> usize;
-    pub fn wide_bytes_to_utf8_lossy_with(
+    pub fn wide_utf16_bytes_to_utf8_lossy_with(
         bytes: *const u8,
         length: usize,
         order: u32,

@@ -45,7 +45,7 @@ const GOES_ON: [u16; 2] = [b',' as u16, b'\\' as u16];
 #[derive(Drop)]
 struct Outcome {
     output: String,
-    told: String,
+    reported: String,
     status: u8,
 }
 
@@ -53,7 +53,7 @@ struct Outcome {
 #[derive(Drop)]
 struct Bytes {
     all: Vec<u8>,
-    is_sound: bool,
+    is_valid: bool,
 }
 
 // An export that is being read.
@@ -62,7 +62,7 @@ struct Export<'a> {
     alloc: Global,
     text: U16Str<'a>,
     output: String,
-    told: String,
+    reported: String,
     line: usize,
     has_key: bool,
     // The range in the text, in units, of the last string that is closed. It may span several lines.
@@ -109,11 +109,11 @@ fn hex_digits(text: U16Str<'_>, least: usize, most: usize) -> Option<u32>
 }
 
 // Returns the units after an ASCII text, if they begin with it.
-fn behind<'a>(units: U16Str<'a>, text: &str) -> Option<U16Str<'a>>
+fn beyond<'a>(units: U16Str<'a>, text: &str) -> Option<U16Str<'a>>
     ensures { IfSome result (λ rest. units_seen rest ≡ drop (length text.now) (units_seen units.entry)) }
 {
-    let front = units.get(..text.len())?;
-    if front.chars_lossy().eq(text.chars()) {
+    let prefix = units.get(..text.len())?;
+    if prefix.chars_lossy().eq(text.chars()) {
         units.get(text.len()..)
     } else {
         None
@@ -121,12 +121,12 @@ fn behind<'a>(units: U16Str<'a>, text: &str) -> Option<U16Str<'a>>
 }
 
 fn is_text(units: U16Str<'_>, text: &str) -> bool {
-    behind(units, text).is_some_and(|rest| rest.is_empty())
+    beyond(units, text).is_some_and(|rest| rest.is_empty())
 }
 
 // Returns the units after a line end, if they begin with one.
 fn next_line(rest: U16Str<'_>) -> Option<U16Str<'_>> {
-    behind(rest, "\r\n").or(behind(rest, "\n"))
+    beyond(rest, "\r\n").or(beyond(rest, "\n"))
 }
 
 // Returns whether a value that continues may have its bytes in the next line. A line that is empty or begins something
@@ -138,12 +138,12 @@ fn goes_on(rest: U16Str<'_>) -> bool {
 
 // Returns the offset of the quote that ends a string. A quote after a backslash does not.
 fn closing_quote(units: U16Str<'_>) -> Option<usize>
-    ensures { IfSome result (λ place. slice_index (units_seen units.entry) place ≡ QUOTE) }
+    ensures { IfSome result (λ offset. slice_index (units_seen units.entry) offset ≡ QUOTE) }
 {
     let mut is_escaped = false;
-    for (place, unit) in units.as_slice().iter().enumerate() {
+    for (offset, unit) in units.as_slice().iter().enumerate() {
         if !is_escaped && *unit == QUOTE {
-            return Some(place);
+            return Some(offset);
         }
         is_escaped = !is_escaped && *unit == BACKSLASH;
     }
@@ -152,21 +152,21 @@ fn closing_quote(units: U16Str<'_>) -> Option<usize>
 
 // Returns what follows the `=` of a value.
 fn data_of(line: U16Str<'_>) -> Option<U16Str<'_>> {
-    let Some(name) = behind(line, "\"") else {
-        return behind(line, "@=");
+    let Some(name) = beyond(line, "\"") else {
+        return beyond(line, "@=");
     };
-    behind(name.get(closing_quote(name)?..)?, "\"=")
+    beyond(name.get(closing_quote(name)?..)?, "\"=")
 }
 
 // Returns the digits after `hex:` or `hex(2):`, if the data of a value begin like this.
 fn digits_of(data: U16Str<'_>) -> Option<U16Str<'_>> {
-    let rest = behind(data, "hex")?;
-    let Some(kind) = behind(rest, "(") else {
-        return behind(rest, ":");
+    let rest = beyond(data, "hex")?;
+    let Some(kind) = beyond(rest, "(") else {
+        return beyond(rest, ":");
     };
     let len = kind.find_char(')')?;
     hex_digits(kind.get(..len)?, 1, 8)?;
-    behind(kind.get(len..)?, "):")
+    beyond(kind.get(len..)?, "):")
 }
 
 fn byte_of(piece: U16Str<'_>) -> Option<u8> {
@@ -174,20 +174,20 @@ fn byte_of(piece: U16Str<'_>) -> Option<u8> {
 }
 
 impl<'a> Export<'a> {
-    fn tell(&mut self, unit: usize, what: impl Display + Drop) -> Result<(), AllocError> {
-        writeln!(self.told, "line {}, unit {unit}: {what}", self.line)
+    fn report(&mut self, unit: usize, what: impl Display + Drop) -> Result<(), AllocError> {
+        writeln!(self.reported, "line {}, unit {unit}: {what}", self.line)
     }
 
-    fn is_in_string(&self, place: usize) -> bool {
-        self.string_start <= place && place < self.string_end
+    fn is_in_string(&self, offset: usize) -> bool {
+        self.string_start <= offset && offset < self.string_end
     }
 
-    fn read_line(&mut self, place: usize, line: U16Str<'a>) -> Result<(), OutOfMemory> {
+    fn read_line(&mut self, offset: usize, line: U16Str<'a>) -> Result<(), OutOfMemory> {
         self.line = self.line.saturating_add(1);
-        let end = place.saturating_add(line.len());
+        let end = offset.saturating_add(line.len());
         let rest = self.text.get(end..).unwrap_or_default();
-        if self.is_in_string(place) {
-            self.tell_escapes(0, line)?;
+        if self.is_in_string(offset) {
+            self.report_escapes(0, line)?;
             write!(self.output, "{}", line.display())?;
         } else if let Some(bytes) = self.bytes.take() {
             let spaces = line.as_slice().iter().take_while(|unit| **unit == SPACE);
@@ -195,19 +195,19 @@ impl<'a> Export<'a> {
             let digits = line.get(indent..).unwrap_or_default();
             self.read_bytes(bytes, indent, digits, rest)?;
         } else {
-            self.read_entry(place, line, rest)?;
+            self.read_entry(offset, line, rest)?;
         }
-        self.tell_units(place, line)?;
+        self.report_units(offset, line)?;
         if self.is_in_string(end) {
             // The line end belongs to the string, so it is printed as it is.
-            let is_whole = behind(rest, "\r\n").is_some();
+            let is_whole = beyond(rest, "\r\n").is_some();
             self.output.push_str(if is_whole { "\r\n" } else { "\n" })?;
             return Ok(());
         }
         if rest.is_empty() {
-            self.tell(line.len(), "the line has no end")?;
-        } else if behind(rest, "\r\n").is_none() {
-            self.tell(line.len(), "a line feed alone")?;
+            self.report(line.len(), "the line has no end")?;
+        } else if beyond(rest, "\r\n").is_none() {
+            self.report(line.len(), "a line feed alone")?;
         }
         if self.bytes.is_none() {
             self.output.push('\n')?;
@@ -216,15 +216,15 @@ impl<'a> Export<'a> {
     }
 
     // Reports the unpaired surrogates of a line, and each carriage return that is not part of a line end.
-    fn tell_units(&mut self, place: usize, line: U16Str<'a>) -> Result<(), AllocError> {
+    fn report_units(&mut self, offset: usize, line: U16Str<'a>) -> Result<(), AllocError> {
         for (unit, item) in line.char_indices() {
             match item {
                 Err(fault) => {
                     let fault = fault.unpaired_surrogate();
-                    self.tell(unit, format_args!("fault {fault:04X}"))?;
+                    self.report(unit, format_args!("fault {fault:04X}"))?;
                 }
-                Ok('\r') if !self.is_in_string(place.saturating_add(unit)) => {
-                    self.tell(unit, "a carriage return alone")?;
+                Ok('\r') if !self.is_in_string(offset.saturating_add(unit)) => {
+                    self.report(unit, "a carriage return alone")?;
                 }
                 Ok(_) => {}
             }
@@ -233,19 +233,19 @@ impl<'a> Export<'a> {
     }
 
     // Reports each backslash of a string or a name that escapes neither itself nor a quote.
-    fn tell_escapes(&mut self, unit: usize, text: U16Str<'a>) -> Result<(), AllocError> {
+    fn report_escapes(&mut self, unit: usize, text: U16Str<'a>) -> Result<(), AllocError> {
         let mut escape = None;
-        for (place, c) in text.char_indices_lossy() {
+        for (offset, c) in text.char_indices_lossy() {
             match escape.take() {
-                None if c == '\\' => escape = Some(place),
+                None if c == '\\' => escape = Some(offset),
                 Some(at) if !matches!(c, '\\' | '"') => {
-                    self.tell(unit.saturating_add(at), "no escape")?;
+                    self.report(unit.saturating_add(at), "no escape")?;
                 }
                 _ => {}
             }
         }
         match escape {
-            Some(at) => self.tell(unit.saturating_add(at), "no escape"),
+            Some(at) => self.report(unit.saturating_add(at), "no escape"),
             None => Ok(()),
         }
     }
@@ -253,26 +253,26 @@ impl<'a> Export<'a> {
     // Reads a line that does not continue another one, and prints it without its end.
     fn read_entry(
         &mut self,
-        place: usize,
+        offset: usize,
         line: U16Str<'a>,
         rest: U16Str<'a>,
     ) -> Result<(), OutOfMemory> {
         let is_header = self.line == 1 && (is_text(line, HEADER) || is_text(line, OLD_HEADER));
         if self.line == 1 && !is_header {
-            self.tell(0, "no header")?;
+            self.report(0, "no header")?;
         }
         match line.chars_lossy().next() {
-            Some('@' | '"') => return self.read_value(place, line, rest),
+            Some('@' | '"') => return self.read_value(offset, line, rest),
             Some('[') => {
                 let is_whole = line.len() > 2 && line.as_slice().ends_with(&[b']' as u16]);
-                self.has_key = behind(line, "[-").is_none();
+                self.has_key = beyond(line, "[-").is_none();
                 if !is_whole || is_text(line, "[-]") {
-                    self.tell(0, "no key")?;
+                    self.report(0, "no key")?;
                 }
             }
             None | Some(';') => {}
             Some(_) if is_header => {}
-            Some(_) => self.tell(0, "neither a key nor a value")?,
+            Some(_) => self.report(0, "neither a key nor a value")?,
         }
         Ok(write!(self.output, "{}", line.display())?)
     }
@@ -280,38 +280,38 @@ impl<'a> Export<'a> {
     // Reads a value, and prints it without its line end.
     fn read_value(
         &mut self,
-        place: usize,
+        offset: usize,
         line: U16Str<'a>,
         rest: U16Str<'a>,
     ) -> Result<(), OutOfMemory> {
         if !self.has_key {
-            self.tell(0, "a value under no key")?;
+            self.report(0, "a value under no key")?;
         }
         let data = data_of(line).unwrap_or_default();
         let unit = line.len().saturating_sub(data.len());
         let name = line.get(..unit).unwrap_or_default();
-        self.tell_escapes(0, name)?;
+        self.report_escapes(0, name)?;
         if let Some(digits) = digits_of(data) {
             let unit = line.len().saturating_sub(digits.len());
-            let front = line.get(..unit).unwrap_or_default();
-            write!(self.output, "{}", front.display())?;
+            let prefix = line.get(..unit).unwrap_or_default();
+            write!(self.output, "{}", prefix.display())?;
             if digits.is_empty() {
                 return Ok(());
             }
-            let (all, is_sound) = (Vec::new(self.alloc), true);
-            return self.read_bytes(Bytes { all, is_sound }, unit, digits, rest);
+            let (all, is_valid) = (Vec::new(self.alloc), true);
+            return self.read_bytes(Bytes { all, is_valid }, unit, digits, rest);
         }
         write!(self.output, "{}", line.display())?;
         if data_of(line).is_none() {
-            self.tell(0, "no name and =")?;
-        } else if let Some(string) = behind(data, "\"") {
-            self.read_string(place, line, string)?;
-        } else if let Some(digits) = behind(data, "dword:") {
+            self.report(0, "no name and =")?;
+        } else if let Some(string) = beyond(data, "\"") {
+            self.read_string(offset, line, string)?;
+        } else if let Some(digits) = beyond(data, "dword:") {
             if hex_digits(digits, 1, 8).is_none() {
-                self.tell(unit, "no number")?;
+                self.report(unit, "no number")?;
             }
         } else if !is_text(data, "-") {
-            self.tell(unit, "neither text, a number nor bytes")?;
+            self.report(unit, "neither text, a number nor bytes")?;
         }
         Ok(())
     }
@@ -320,16 +320,16 @@ impl<'a> Export<'a> {
     // there is no such end, the string ends with its line, and the next lines are read by themselves.
     fn read_string(
         &mut self,
-        place: usize,
+        offset: usize,
         line: U16Str<'a>,
         string: U16Str<'a>,
     ) -> Result<(), OutOfMemory> {
         let unit = line.len().saturating_sub(string.len());
-        self.tell_escapes(unit, string)?;
-        let start = place.saturating_add(unit);
+        self.report_escapes(unit, string)?;
+        let start = offset.saturating_add(unit);
         let rest = self.text.get(start..).unwrap_or_default();
         let Some(len) = closing_quote(rest) else {
-            return Ok(self.tell(unit, "the string has no end")?);
+            return Ok(self.report(unit, "the string has no end")?);
         };
         let end = len.saturating_add(1);
         let rest = rest.get(end..).unwrap_or_default();
@@ -337,9 +337,9 @@ impl<'a> Export<'a> {
             self.string_start = start;
             self.string_end = start.saturating_add(end);
         } else if len < string.len() {
-            self.tell(unit.saturating_add(end), "more behind the string")?;
+            self.report(unit.saturating_add(end), "more behind the string")?;
         } else {
-            self.tell(unit, "the string has no end")?;
+            self.report(unit, "the string has no end")?;
         }
         Ok(())
     }
@@ -352,33 +352,33 @@ impl<'a> Export<'a> {
         digits: U16Str<'a>,
         rest: U16Str<'a>,
     ) -> Result<(), OutOfMemory> {
-        let front = digits.strip_suffix(U16Str::from_slice(&GOES_ON));
-        let mut place = unit;
-        for piece in front.unwrap_or(digits).split(U16Str::from_slice(&COMMA)) {
+        let prefix = digits.strip_suffix(U16Str::from_slice(&GOES_ON));
+        let mut offset = unit;
+        for piece in prefix.unwrap_or(digits).split(U16Str::from_slice(&COMMA)) {
             write!(self.output, " {}", piece.display())?;
             match byte_of(piece) {
                 Some(byte) => bytes.all.push(byte)?,
                 None => {
-                    bytes.is_sound = false;
-                    self.tell(place, format_args!("no byte, {}", piece.display()))?;
+                    bytes.is_valid = false;
+                    self.report(offset, format_args!("no byte, {}", piece.display()))?;
                 }
             }
-            place = place.saturating_add(piece.len()).saturating_add(1);
+            offset = offset.saturating_add(piece.len()).saturating_add(1);
         }
-        if front.is_some() {
+        if prefix.is_some() {
             if goes_on(rest) {
                 self.bytes = Some(bytes);
                 return Ok(());
             }
-            bytes.is_sound = false;
-            self.tell(place, "the value goes on, but no bytes follow")?;
+            bytes.is_valid = false;
+            self.report(offset, "the value goes on, but no bytes follow")?;
         }
         self.write_text(&bytes)
     }
 
     // Prints the bytes of a value as UTF-16 if they may be text: if there is a zero among them.
     fn write_text(&mut self, bytes: &Bytes) -> Result<(), OutOfMemory> {
-        if !bytes.is_sound || !bytes.all.contains(&0) {
+        if !bytes.is_valid || !bytes.all.contains(&0) {
             return Ok(());
         }
         let pairs = bytes.all.as_slice().as_chunks::<2>().0.iter();
@@ -390,13 +390,13 @@ impl<'a> Export<'a> {
 }
 
 impl Outcome {
-    fn new(output: String, told: String) -> Outcome
-        ensures { (result.status ≡ 1) ↔ (0 < string_len result.told) }
+    fn new(output: String, reported: String) -> Outcome
+        ensures { (result.status ≡ 1) ↔ (0 < string_len result.reported) }
     {
-        let status = u8::from(!told.is_empty());
+        let status = u8::from(!reported.is_empty());
         Outcome {
             output,
-            told,
+            reported,
             status,
         }
     }
@@ -409,26 +409,26 @@ fn read<'a>(
     half: Option<u8>,
 ) -> Result<(), OutOfMemory> {
     let mut unit = 0;
-    for (place, line) in placed_lines_of(text) {
-        export.read_line(place, line)?;
+    for (offset, line) in placed_lines_of(text) {
+        export.read_line(offset, line)?;
         unit = line.len();
     }
     if export.line == 0 {
         export.line = 1;
-        export.tell(0, "no header")?;
+        export.report(0, "no header")?;
     } else if text.as_slice().ends_with(&[b'\n' as u16]) {
         export.line = export.line.saturating_add(1);
         unit = 0;
     }
     match half {
-        Some(byte) => Ok(export.tell(unit, format_args!("half of a unit, {byte:02x}"))?),
+        Some(byte) => Ok(export.report(unit, format_args!("half of a unit, {byte:02x}"))?),
         None => Ok(()),
     }
 }
 
 // Returns the output for the bytes of a file.
 fn answer(alloc: Global, bytes: &[u8]) -> Result<Outcome, OutOfMemory>
-    ensures { IfOk result (λ outcome. (outcome.status ≡ 1) ↔ (0 < string_len outcome.told)) }
+    ensures { IfOk result (λ outcome. (outcome.status ≡ 1) ↔ (0 < string_len outcome.reported)) }
 {
     let parts = utf16_of_bytes(bytes);
     let units: Vec<u16> = parts.units.collect(alloc)?;
@@ -437,36 +437,36 @@ fn answer(alloc: Global, bytes: &[u8]) -> Result<Outcome, OutOfMemory>
         alloc,
         text,
         output: String::new(alloc),
-        told: String::new(alloc),
+        reported: String::new(alloc),
         line: 0,
         has_key: false,
         string_start: 0,
         string_end: 0,
         bytes: None,
     };
-    if !parts.is_marked {
+    if !parts.has_bom {
         export.line = 1;
-        export.tell(0, "not UTF-16, no mark FF FE")?;
-        return Ok(Outcome::new(export.output, export.told));
+        export.report(0, "not UTF-16, no mark FF FE")?;
+        return Ok(Outcome::new(export.output, export.reported));
     }
     if parts.order == BoM::Big {
         export
-            .told
+            .reported
             .push_str("line 1, unit 0: the high byte of each unit is first\n")?;
     }
     read(&mut export, text, parts.half)?;
-    Ok(Outcome::new(export.output, export.told))
+    Ok(Outcome::new(export.output, export.reported))
 }
 
 // Returns the output for a file, or the usage message if there is none.
 fn run(alloc: Global, file: Option<&[u8]>) -> Result<Outcome, OutOfMemory>
     ensures wrong_words { IsNone file.entry → IfOk result (λ outcome. outcome.status ≡ 2) }
-    ensures told { IsSome file.entry → IfOk result (λ outcome. (outcome.status ≡ 1) ↔ (0 < string_len outcome.told)) }
+    ensures reported { IsSome file.entry → IfOk result (λ outcome. (outcome.status ≡ 1) ↔ (0 < string_len outcome.reported)) }
 {
     let Some(bytes) = file else {
         return Ok(Outcome {
             output: String::new(alloc),
-            told: String::from_str(alloc, USAGE)?,
+            reported: String::from_str(alloc, USAGE)?,
             status: 2,
         });
     };
@@ -482,6 +482,6 @@ fn main(rt: HostRuntime) -> io::Result<ExitCode> {
     let bytes = file.as_ref().map(|bytes| bytes.as_slice());
     let outcome = run(rt.alloc(), bytes)?;
     print!(rt; "{}", outcome.output)?;
-    eprint!(rt; "{}", outcome.told)?;
+    eprint!(rt; "{}", outcome.reported)?;
     Ok(ExitCode::from(outcome.status))
 }

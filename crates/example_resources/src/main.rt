@@ -129,10 +129,10 @@ fn read_resource(bytes: &[u8]) -> Result<Resource<'_>, Damage>
         let size = header_size as usize + data_size as usize;
         return Err(Damage::Missing(size - bytes.len()));
     };
-    let (kind, behind) = split_name(&header[8..]).ok_or(Damage::NoEnd)?;
-    let (name, behind) = split_name(behind).ok_or(Damage::NoEnd)?;
+    let (kind, beyond) = split_name(&header[8..]).ok_or(Damage::NoEnd)?;
+    let (name, beyond) = split_name(beyond).ok_or(Damage::NoEnd)?;
     // The other fields of the header begin at a multiple of 4, and at a multiple of 4 bytes before its end.
-    let fields = &behind[behind.len() % 4..];
+    let fields = &beyond[beyond.len() % 4..];
     if fields.len() < 16 {
         return Err(Damage::HeaderSize(header_size));
     }
@@ -202,17 +202,20 @@ struct Tables<'a> {
     number: usize,
     at: usize,
     text: String,
-    told: String,
+    reported: String,
 }
 
 impl Tables<'_> {
     fn status(&self) -> u8 {
-        u8::from(!self.told.is_empty())
+        u8::from(!self.reported.is_empty())
     }
 
-    fn tell(&mut self, what: impl Display + Drop) -> Result<(), OutOfMemory> {
+    fn report(&mut self, what: impl Display + Drop) -> Result<(), OutOfMemory> {
         let (file, number, at) = (self.file, self.number, self.at);
-        Ok(writeln!(self.told, "{file}: resource {number} at byte {at}: {what}")?)
+        Ok(writeln!(
+            self.reported,
+            "{file}: resource {number} at byte {at}: {what}"
+        )?)
     }
 
     // Prints a string, or reports its faults.
@@ -229,7 +232,7 @@ impl Tables<'_> {
         for (unit, item) in units.char_indices() {
             if let Err(fault) = item {
                 let fault = fault.unpaired_surrogate();
-                self.tell(format_args!("string {id}: fault {fault:04X} at unit {unit}"))?;
+                self.report(format_args!("string {id}: fault {fault:04X} at unit {unit}"))?;
             }
         }
         Ok(())
@@ -241,11 +244,11 @@ impl Tables<'_> {
         for index in 0..16 {
             let id = first.saturating_add(index);
             let end = 2 + 2 * usize::from(unit_at(rest, 0).unwrap_or(0));
-            let Some((string, behind)) = rest.split_at_checked(end) else {
+            let Some((string, beyond)) = rest.split_at_checked(end) else {
                 let missing = end - rest.len();
-                return self.tell(format_args!("ends in string {id}, bytes missing: {missing}"));
+                return self.report(format_args!("ends in string {id}, bytes missing: {missing}"));
             };
-            rest = behind;
+            rest = beyond;
             let pairs = string[2..].as_chunks::<2>().0.iter();
             let units: Vec<u16> = pairs
                 .map(|pair| u16::from_le_bytes(*pair))
@@ -255,7 +258,7 @@ impl Tables<'_> {
             }
         }
         if !rest.is_empty() {
-            self.tell(format_args!("bytes behind its strings: {}", rest.len()))?;
+            self.report(format_args!("bytes behind its strings: {}", rest.len()))?;
         }
         Ok(())
     }
@@ -266,30 +269,30 @@ impl Tables<'_> {
             Ok(resource) => resource,
             Err(damage) => {
                 let unread = part.bytes.len();
-                return self.tell(format_args!("{damage}, bytes not read: {unread}"));
+                return self.report(format_args!("{damage}, bytes not read: {unread}"));
             }
         };
         if part.at == 0 && !resource.is_empty() {
-            self.tell("is not the empty resource that a file begins with")?;
+            self.report("is not the empty resource that a file begins with")?;
         }
         if resource.size() > part.bytes.len() {
-            self.tell(Damage::Missing(resource.size() - part.bytes.len()))?;
+            self.report(Damage::Missing(resource.size() - part.bytes.len()))?;
         }
         match (resource.kind, resource.name) {
             (Some(6), Some(name)) if 0 < name && name <= 4096 => {
                 self.read_strings(usize::from(name - 1) * 16, resource)
             }
             (Some(6), Some(name)) => {
-                self.tell(format_args!("a string table is named 1 to 4096, not {name}"))
+                self.report(format_args!("a string table is named 1 to 4096, not {name}"))
             }
-            (Some(6), None) => self.tell("a string table is named by a number, not by a text"),
+            (Some(6), None) => self.report("a string table is named by a number, not by a text"),
             _ => Ok(()),
         }
     }
 
     fn read_bytes(&mut self, bytes: &[u8]) -> Result<(), OutOfMemory> {
         if bytes.is_empty() {
-            return Ok(writeln!(self.told, "{}: no resource", self.file)?);
+            return Ok(writeln!(self.reported, "{}: no resource", self.file)?);
         }
         for part in (Parts {
             file: bytes,
@@ -317,11 +320,11 @@ fn read_file<E: Display + Drop>(
         number: 0,
         at: 0,
         text: String::new(alloc),
-        told: String::new(alloc),
+        reported: String::new(alloc),
     };
     match bytes {
         Ok(bytes) => tables.read_bytes(&bytes)?,
-        Err(why) => writeln!(tables.told, "{file}: {why}")?,
+        Err(why) => writeln!(tables.reported, "{file}: {why}")?,
     }
     Ok(tables)
 }
@@ -347,7 +350,7 @@ fn main(rt: HostRuntime) -> io::Result<ExitCode> {
         let tables = read_file(rt.alloc(), file, fs::read(&rt, file), is_lossy);
         let tables = tables?;
         print!(rt; "{}", tables.text)?;
-        eprint!(rt; "{}", tables.told)?;
+        eprint!(rt; "{}", tables.reported)?;
         status = tables.status().max(status);
     }
     Ok(ExitCode::from(status))

@@ -38,8 +38,8 @@ fn code_point_at(units: &[u16], index: usize) -> Option<u32>
 fn slice(units: U16Str<'_>, from: usize, to: usize) -> U16Str<'_>
     ensures { units_seen result ≡ drop from (take to (units_seen units.entry)) }
 {
-    let (front, _) = units.split_at(to.min(units.len()));
-    let (_, part) = front.split_at(from.min(front.len()));
+    let (prefix, _) = units.split_at(to.min(units.len()));
+    let (_, part) = prefix.split_at(from.min(prefix.len()));
     part
 }
 
@@ -87,7 +87,7 @@ enum Call<'a> {
 }
 
 // Parses an offset: only decimal digits. An offset that is too great for a `usize` is past the end of every string.
-fn place_of(word: &str) -> Option<usize> {
+fn offset_of(word: &str) -> Option<usize> {
     if word.is_empty() || !word.bytes().all(|digit| digit.is_ascii_digit()) {
         return None;
     }
@@ -95,10 +95,10 @@ fn place_of(word: &str) -> Option<usize> {
 }
 
 // Parses the first word as an offset, and returns what follows it.
-fn split_place<'a>(line: &str, values: &'a str) -> Result<(usize, &'a str), Damage> {
+fn split_offset<'a>(line: &str, values: &'a str) -> Result<(usize, &'a str), Damage> {
     let (word, rest) = values.split_once(' ').unwrap_or((values, ""));
     let unit = length_as_utf16(line).saturating_sub(length_as_utf16(values));
-    Ok((place_of(word).ok_or((unit, "no place"))?, rest))
+    Ok((offset_of(word).ok_or((unit, "no place"))?, rest))
 }
 
 // Returns the call if nothing follows it.
@@ -119,25 +119,25 @@ fn call_of(line: &str) -> Result<Call<'_>, Damage> {
         "isWellFormed" => end_of(line, values, Call::IsWellFormed),
         "toWellFormed" => end_of(line, values, Call::ToWellFormed),
         "codePointAt" => {
-            let (at, rest) = split_place(line, values)?;
+            let (at, rest) = split_offset(line, values)?;
             end_of(line, rest, Call::CodePointAt(at))
         }
         "slice" => {
-            let (from, rest) = split_place(line, values)?;
-            let (to, rest) = split_place(line, rest)?;
+            let (from, rest) = split_offset(line, values)?;
+            let (to, rest) = split_offset(line, rest)?;
             end_of(line, rest, Call::Slice(from, to))
         }
         "insert" => {
-            let (at, text) = split_place(line, values)?;
+            let (at, text) = split_offset(line, values)?;
             Ok(Call::Edit(Edit::InsertStr(at, text)))
         }
         "remove" => {
-            let (at, rest) = split_place(line, values)?;
+            let (at, rest) = split_offset(line, values)?;
             end_of(line, rest, Call::Edit(Edit::Remove(at)))
         }
         "replace" => {
-            let (from, rest) = split_place(line, values)?;
-            let (to, text) = split_place(line, rest)?;
+            let (from, rest) = split_offset(line, values)?;
+            let (to, text) = split_offset(line, rest)?;
             Ok(Call::Edit(Edit::Replace(from, to, text)))
         }
         _ => Err((0, "no such call")),
@@ -187,9 +187,9 @@ fn edit(alloc: Global, string: &mut U16String, edit: Edit<'_>) -> Result<String,
     if edit_both(alloc, &mut narrow, &mut wide, edit, &mut replies).is_err() {
         return Err(OutOfMemory);
     }
-    let told = format!(in alloc; "{:?} {narrow:?} {wide:?}", replies.as_slice())?;
+    let reported = format!(in alloc; "{:?} {narrow:?} {wide:?}", replies.as_slice())?;
     *string = narrow.into_ustring();
-    Ok(told)
+    Ok(reported)
 }
 
 // The string of a session, the number of lines that were read, and what is written of them to both streams.
@@ -199,7 +199,7 @@ struct Session {
     string: U16String,
     line: usize,
     answers: String,
-    told: String,
+    reported: String,
 }
 
 impl Session {
@@ -245,7 +245,7 @@ impl Session {
             Ok(answer) => writeln!(self.answers, "{line}: {answer}")?,
             Err((unit, what)) => {
                 writeln!(self.answers, "{line}: {what} at unit {unit}")?;
-                writeln!(self.told, "line {}, unit {unit}: {what}", self.line)?;
+                writeln!(self.reported, "line {}, unit {unit}: {what}", self.line)?;
             }
         }
         Ok(())
@@ -258,9 +258,9 @@ impl Session {
             Ok("") => Ok(()),
             Ok(line) => self.read_line(line),
             Err(fault) => {
-                let sound = bytes.get(..fault.valid_up_to()).unwrap_or(b"");
-                let unit = length_as_utf16(str::from_utf8(sound).unwrap_or(""));
-                Ok(writeln!(self.told, "line {}, unit {unit}: no UTF-8", self.line)?)
+                let valid = bytes.get(..fault.valid_up_to()).unwrap_or(b"");
+                let unit = length_as_utf16(str::from_utf8(valid).unwrap_or(""));
+                Ok(writeln!(self.reported, "line {}, unit {unit}: no UTF-8", self.line)?)
             }
         }
     }
@@ -270,19 +270,19 @@ impl Session {
 #[derive(Drop)]
 struct Ended {
     output: String,
-    told: String,
+    reported: String,
     status: u8,
 }
 
 // Runs the calls in the bytes of a file. No file means a usage error.
 fn run(alloc: Global, file: Option<&[u8]>) -> Result<Ended, OutOfMemory>
-    ensures told { IsSome file.entry → IfOk result (λ ended. (ended.status ≡ 1) ↔ (0 < string_len ended.told)) }
+    ensures reported { IsSome file.entry → IfOk result (λ ended. (ended.status ≡ 1) ↔ (0 < string_len ended.reported)) }
     ensures wrong_words { IsNone file.entry → IfOk result (λ ended. ended.status ≡ 2) }
 {
     let Some(bytes) = file else {
         return Ok(Ended {
             output: String::new(alloc),
-            told: String::from_str(alloc, "usage: script FILE\n")?,
+            reported: String::from_str(alloc, "usage: script FILE\n")?,
             status: 2,
         });
     };
@@ -291,15 +291,15 @@ fn run(alloc: Global, file: Option<&[u8]>) -> Result<Ended, OutOfMemory>
         string: U16String::new(alloc),
         line: 0,
         answers: String::new(alloc),
-        told: String::new(alloc),
+        reported: String::new(alloc),
     };
     for line in bytes.split(|byte| *byte == b'\n') {
         session.read_bytes(line)?;
     }
-    let status = u8::from(!session.told.is_empty());
+    let status = u8::from(!session.reported.is_empty());
     Ok(Ended {
         output: session.answers,
-        told: session.told,
+        reported: session.reported,
         status,
     })
 }
@@ -313,6 +313,6 @@ fn main(rt: HostRuntime) -> io::Result<ExitCode> {
     let bytes = file.as_ref().map(|bytes| bytes.as_slice());
     let ended = run(rt.alloc(), bytes)?;
     print!(rt; "{}", ended.output)?;
-    eprint!(rt; "{}", ended.told)?;
+    eprint!(rt; "{}", ended.reported)?;
     Ok(ExitCode::from(ended.status))
 }

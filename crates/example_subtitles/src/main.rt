@@ -34,7 +34,7 @@ struct Request<'a> {
 
 // What a line of subtitles should be: each subtitle has a number, then its times, then text up to an empty line.
 #[derive(Clone, Copy, PartialEq, Eq)]
-enum Place {
+enum Location {
     Number,
     Times,
     Text,
@@ -87,7 +87,7 @@ fn parse_time(time: &str) -> Option<u64>
 }
 
 // Returns whether nothing follows the times but the coordinates of the text on the screen.
-fn is_behind_times(text: &str) -> bool {
+fn is_after_times(text: &str) -> bool {
     let mut names = ["X1:", "X2:", "Y1:", "Y2:"].iter();
     for word in text.split(' ').filter(|word| !word.is_empty()) {
         let name = names.next().unwrap_or(&" ");
@@ -107,7 +107,7 @@ fn times_of(line: &str) -> Result<Times, usize> {
     let second = first.len().saturating_add(5);
     let end = parse_time(last).ok_or(second)?;
     let second_end = second.saturating_add(last.len());
-    if !is_behind_times(rest.strip_prefix(last).unwrap_or(rest)) {
+    if !is_after_times(rest.strip_prefix(last).unwrap_or(rest)) {
         return Err(second_end);
     }
     Ok(Times {
@@ -151,14 +151,14 @@ struct Subtitles<'a> {
     alloc: Global,
     request: Request<'a>,
     text: Utf16String,
-    place: Place,
+    location: Location,
     line: usize,
-    told: String,
+    reported: String,
 }
 
 impl Subtitles<'_> {
-    fn tell(&mut self, unit: usize, what: impl Display + Drop) -> Result<(), AllocError> {
-        writeln!(self.told, "line {}, unit {unit}: {what}", self.line)
+    fn report(&mut self, unit: usize, what: impl Display + Drop) -> Result<(), AllocError> {
+        writeln!(self.reported, "line {}, unit {unit}: {what}", self.line)
     }
 
     // Replaces the times of a line by the moved ones, or reports that it has none.
@@ -166,14 +166,14 @@ impl Subtitles<'_> {
         let text = line.as_utfstr().to_string(self.alloc)?;
         let times = match times_of(&text) {
             Ok(times) => times,
-            Err(unit) => return Ok(self.tell(unit, "no times")?),
+            Err(unit) => return Ok(self.report(unit, "no times")?),
         };
         let (by, is_earlier) = (self.request.by, self.request.is_earlier);
         if is_earlier && times.begin < u64::from(by) {
-            self.tell(0, "begins at 0, not before")?;
+            self.report(0, "begins at 0, not before")?;
         }
         if is_earlier && times.end < u64::from(by) {
-            self.tell(times.second, "ends at 0, not before")?;
+            self.report(times.second, "ends at 0, not before")?;
         }
         let begin = time_text(self.alloc, moved(times.begin, by, is_earlier))?;
         let end = time_text(self.alloc, moved(times.end, by, is_earlier))?;
@@ -188,41 +188,41 @@ impl Subtitles<'_> {
     }
 
     // Reports the faults of a line, and returns whether it has none.
-    fn tell_faults(&mut self, units: U16Str<'_>) -> Result<bool, AllocError> {
-        let mut is_sound = true;
+    fn report_faults(&mut self, units: U16Str<'_>) -> Result<bool, AllocError> {
+        let mut is_valid = true;
         for (unit, item) in units.char_indices() {
             if let Err(fault) = item {
-                is_sound = false;
+                is_valid = false;
                 let surrogate = fault.unpaired_surrogate();
-                self.tell(unit, format_args!("fault {surrogate:04X}"))?;
+                self.report(unit, format_args!("fault {surrogate:04X}"))?;
             }
         }
-        Ok(is_sound)
+        Ok(is_valid)
     }
 
     // Adds a line and its end. Reports faults, and a missing number or missing times.
     fn add_line(&mut self, units: U16Str<'_>, end: &str) -> Result<(), OutOfMemory> {
         self.line = self.line.saturating_add(1);
-        let is_sound = self.tell_faults(units)?;
+        let is_valid = self.report_faults(units)?;
         let mut line = Utf16String::new(self.alloc);
         push_units(self.alloc, &mut line, units)?;
         let is_number = units
             .as_slice()
             .iter()
             .all(|unit| (0x30..=0x39).contains(unit));
-        let place = self.place;
-        self.place = match place {
-            _ if units.is_empty() => Place::Number,
-            Place::Number if is_number => Place::Times,
-            _ => Place::Text,
+        let location = self.location;
+        self.location = match location {
+            _ if units.is_empty() => Location::Number,
+            Location::Number if is_number => Location::Times,
+            _ => Location::Text,
         };
-        match place {
-            Place::Times => self.move_times(&mut line)?,
-            Place::Number if self.place == Place::Text => self.tell(0, "no number")?,
+        match location {
+            Location::Times => self.move_times(&mut line)?,
+            Location::Number if self.location == Location::Text => self.report(0, "no number")?,
             _ => {}
         }
-        if !is_sound && self.request.drops {
-            return Ok(self.tell(0, format_args!("left out, {units:?}"))?);
+        if !is_valid && self.request.drops {
+            return Ok(self.report(0, format_args!("left out, {units:?}"))?);
         }
         self.text.push_utfstr(line.as_utfstr())?;
         self.text.push_str(end)
@@ -232,9 +232,9 @@ impl Subtitles<'_> {
     // line.
     fn add_lines(&mut self, text: U16Str<'_>) -> Result<usize, OutOfMemory> {
         let mut unit = 0;
-        for (place, line) in text.line_indices_lossy() {
-            let (_, behind) = text.split_at(place.saturating_add(line.len()).min(text.len()));
-            let end = match behind.as_slice() {
+        for (location, line) in text.line_indices_lossy() {
+            let (_, beyond) = text.split_at(location.saturating_add(line.len()).min(text.len()));
+            let end = match beyond.as_slice() {
                 [0xd, 0xa, ..] => "\r\n",
                 [0xa, ..] => "\n",
                 _ => "",
@@ -254,14 +254,14 @@ impl Subtitles<'_> {
 #[derive(Drop)]
 struct Ended {
     output: Vec<u8>,
-    told: String,
+    reported: String,
     status: u8,
 }
 
 // Returns the units of a file, and the odd byte at its end.
 fn units_of(alloc: Global, bytes: &[u8]) -> Result<(Vec<u16>, Option<u8>), AllocError> {
     let parts = utf16_of_bytes(bytes);
-    let is_swapped = !parts.is_marked && matches!(bytes, [0, b'0'..=b'9', ..]);
+    let is_swapped = !parts.has_bom && matches!(bytes, [0, b'0'..=b'9', ..]);
     let mut units = Vec::new(alloc);
     for unit in parts.units {
         units.push(if is_swapped { unit.swap_bytes() } else { unit })?;
@@ -270,33 +270,33 @@ fn units_of(alloc: Global, bytes: &[u8]) -> Result<(Vec<u16>, Option<u8>), Alloc
 }
 
 fn move_all(alloc: Global, request: Request<'_>, bytes: &[u8]) -> Result<Ended, OutOfMemory>
-    ensures { IfOk result (λ ended. (ended.status ≡ 1) ↔ (0 < string_len ended.told)) }
+    ensures { IfOk result (λ ended. (ended.status ≡ 1) ↔ (0 < string_len ended.reported)) }
 {
     let mut subtitles = Subtitles {
         alloc,
         request,
         text: Utf16String::new(alloc),
-        place: Place::Number,
+        location: Location::Number,
         line: 0,
-        told: String::new(alloc),
+        reported: String::new(alloc),
     };
     let (units, half) = units_of(alloc, bytes)?;
     let unit = subtitles.add_lines(U16Str::from_slice(&units))?;
-    if subtitles.place == Place::Times {
-        subtitles.tell(unit, "no times")?;
+    if subtitles.location == Location::Times {
+        subtitles.report(unit, "no times")?;
     }
     if let Some(byte) = half {
-        subtitles.tell(unit, format_args!("half of a unit, {byte:02X}"))?;
+        subtitles.report(unit, format_args!("half of a unit, {byte:02X}"))?;
     }
     let output = subtitles
         .text
         .as_utfstr()
         .as_ustr()
-        .to_le_bytes_with_mark(alloc)?;
-    let status = u8::from(!subtitles.told.is_empty());
+        .to_le_bytes_with_bom(alloc)?;
+    let status = u8::from(!subtitles.reported.is_empty());
     Ok(Ended {
         output,
-        told: subtitles.told,
+        reported: subtitles.reported,
         status,
     })
 }
@@ -320,14 +320,14 @@ fn request_of<'a>(words: &[&'a str]) -> Option<Request<'a>> {
 
 // Moves the times in the bytes of a file, or returns the usage message.
 fn run(alloc: Global, request: Option<Request<'_>>, bytes: &[u8]) -> Result<Ended, OutOfMemory>
-    ensures told { IsSome request.entry → IfOk result (λ ended. (ended.status ≡ 1) ↔ (0 < string_len ended.told)) }
+    ensures reported { IsSome request.entry → IfOk result (λ ended. (ended.status ≡ 1) ↔ (0 < string_len ended.reported)) }
     ensures wrong_words { IsNone request.entry → IfOk result (λ ended. ended.status ≡ 2) }
 {
     match request {
         Some(request) => move_all(alloc, request, bytes),
         None => Ok(Ended {
             output: Vec::new(alloc),
-            told: String::from_str(alloc, "usage: subtitles FILE MILLISECONDS [drop]\n")?,
+            reported: String::from_str(alloc, "usage: subtitles FILE MILLISECONDS [drop]\n")?,
             status: 2,
         }),
     }
@@ -343,6 +343,6 @@ fn main(rt: HostRuntime) -> io::Result<ExitCode> {
     };
     let ended = run(rt.alloc(), request, &bytes)?;
     io::Write::write_all(&mut rt.stdout(), &ended.output)?;
-    eprint!(rt; "{}", ended.told)?;
+    eprint!(rt; "{}", ended.reported)?;
     Ok(ExitCode::from(ended.status))
 }

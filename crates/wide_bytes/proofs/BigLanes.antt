@@ -6,16 +6,16 @@ use lib.Lanes.{Each1, digits_l, number_l}
 use Rattle.wide_bytes.specs.Bytes.{unit_in}
 use Rattle.wide_bytes.specs.declared.order.BoM.TheVariants.{Big}
 
-eight-places : (P : ℕ → Type 0) → P 0 → P 1 → P 2 → P 3 → P 4 → P 5 → P 6 → P 7 → (k : ℕ) → k < 8 → P k
-eight-places P a b c d e f g h zero within = a
-eight-places P a b c d e f g h (suc zero) within = b
-eight-places P a b c d e f g h (suc (suc zero)) within = c
-eight-places P a b c d e f g h (suc (suc (suc zero))) within = d
-eight-places P a b c d e f g h (suc (suc (suc (suc zero)))) within = e
-eight-places P a b c d e f g h (suc (suc (suc (suc (suc zero))))) within = f
-eight-places P a b c d e f g h (suc (suc (suc (suc (suc (suc zero)))))) within = g
-eight-places P a b c d e f g h (suc (suc (suc (suc (suc (suc (suc zero))))))) within = h
-eight-places P a b c d e f g h (suc (suc (suc (suc (suc (suc (suc (suc k)))))))) within = absurd (omega arith)
+eight-offsets : (P : ℕ → Type 0) → P 0 → P 1 → P 2 → P 3 → P 4 → P 5 → P 6 → P 7 → (k : ℕ) → k < 8 → P k
+eight-offsets P a b c d e f g h zero within = a
+eight-offsets P a b c d e f g h (suc zero) within = b
+eight-offsets P a b c d e f g h (suc (suc zero)) within = c
+eight-offsets P a b c d e f g h (suc (suc (suc zero))) within = d
+eight-offsets P a b c d e f g h (suc (suc (suc (suc zero)))) within = e
+eight-offsets P a b c d e f g h (suc (suc (suc (suc (suc zero))))) within = f
+eight-offsets P a b c d e f g h (suc (suc (suc (suc (suc (suc zero)))))) within = g
+eight-offsets P a b c d e f g h (suc (suc (suc (suc (suc (suc (suc zero))))))) within = h
+eight-offsets P a b c d e f g h (suc (suc (suc (suc (suc (suc (suc (suc k)))))))) within = absurd (omega arith)
 
 -- The first sixteen bytes, with the two bytes of each pair swapped.
 abbrev swapped : List ℕ → List ℕ
@@ -43,7 +43,7 @@ module _ (bytes : List ℕ) (long : 16 ≤ length bytes) (fits : (i : ℕ) → g
   wide k within = get_or_wider 256 2 65536 8 (swapped bytes) k refl each within
 
   pub units-are : (k : ℕ) → k < 8 → lane k ≡ unit_in Big (get_or bytes (2 * k) 0) (get_or bytes (2 * k + 1) 0)
-  units-are = eight-places (λ k. lane k ≡ unit_in Big (get_or bytes (2 * k) 0) (get_or bytes (2 * k + 1) 0))
+  units-are = eight-offsets (λ k. lane k ≡ unit_in Big (get_or bytes (2 * k) 0) (get_or bytes (2 * k + 1) 0))
       (unit-of 0 _ (omega arith) (wide 0 (omega arith)))
       (unit-of 2 _ (omega arith) (wide 1 (omega arith)))
       (unit-of 4 _ (omega arith) (wide 2 (omega arith)))

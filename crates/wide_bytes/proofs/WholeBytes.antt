@@ -5,9 +5,9 @@ use Rattle.std.proofs.lemmas.Bool.{eqb-true}
 use Rattle.std.proofs.lemmas.Bool.Decides.{eqb_tells}
 use Rattle.std.proofs.lemmas.List.{get_or-drop}
 use Rattle.wide_unit.specs.UnitBytes.{byte_order_mark}
-use Rattle.wide_bytes.specs.Bytes.{bytes_in, half_of, is_odd, mark_of, order_of, unit_in, units_in, without_mark}
+use Rattle.wide_bytes.specs.Bytes.{bytes_in, half_of, is_odd, bom_of, order_of, unit_in, units_in, without_bom}
 use Rattle.wide_bytes.specs.UnitsOfBytes.{units_left}
-use Rattle.wide_bytes.specs.Utf16OfBytes.{mark_bytes, whole_bytes}
+use Rattle.wide_bytes.specs.Utf16OfBytes.{bom_bytes, whole_bytes}
 use Rattle.wide_bytes.specs.declared.whole.Utf16OfBytes.{Utf16OfBytes}
 use Rattle.wide_bytes.specs.declared.order.BoM.{BoM}
 use Rattle.wide_bytes.specs.declared.order.BoM.TheVariants.{Little, Big}
@@ -93,44 +93,44 @@ both x y a b is = elim (eqb_tells x a) [
   | inr other ↦ (let no : (false && (eqb y b && true)) ≡ true = sym (ap (λ t. t && (eqb y b && true)) other.0) ∙ is in cc)
 ]
 
-no-mark : (a : ℕ) → mark_of (a ∷ []) ≡ None
-no-mark a = elim (eqb 0xfe a) as (λ t. cond (t && false) (Some Big) (cond (eqb 0xff a && false) (Some Little) None) ≡ None) [
+no-bom : (a : ℕ) → bom_of (a ∷ []) ≡ None
+no-bom a = elim (eqb 0xfe a) as (λ t. cond (t && false) (Some Big) (cond (eqb 0xff a && false) (Some Little) None) ≡ None) [
   | true ↦ elim (eqb 0xff a) as (λ t. cond (t && false) (Some Little) None ≡ None) [ true ↦ refl | false ↦ refl ]
   | false ↦ elim (eqb 0xff a) as (λ t. cond (t && false) (Some Little) None ≡ None) [ true ↦ refl | false ↦ refl ]
 ]
 
 -- The bytes of the BOM and those after it are all the bytes.
-abbrev WithMark : Option BoM → List ℕ → List ℕ → Type 0
-WithMark mark behind bytes = cond (is_some mark) (bytes_in (unwrap_or mark Little) (byte_order_mark ∷ [])) [] ++ cond (is_some mark) behind bytes ≡ bytes
+abbrev WithBom : Option BoM → List ℕ → List ℕ → Type 0
+WithBom bom beyond bytes = cond (is_some bom) (bytes_in (unwrap_or bom Little) (byte_order_mark ∷ [])) [] ++ cond (is_some bom) beyond bytes ≡ bytes
 
-marked : (a b : ℕ) (bytes : List ℕ) (t u : Bool) → (eqb 0xfe a && (eqb 0xff b && true)) ≡ t → (eqb 0xff a && (eqb 0xfe b && true)) ≡ u → WithMark (cond t (Some Big) (cond u (Some Little) None)) bytes (a ∷ b ∷ bytes)
-marked a b bytes true u is_big is_little = let e = both 0xfe 0xff a b is_big in ap (λ x. x ∷ 0xff ∷ bytes) e.0 ∙ ap (λ y. a ∷ y ∷ bytes) e.1
-marked a b bytes false true is_big is_little = let e = both 0xff 0xfe a b is_little in ap (λ x. x ∷ 0xfe ∷ bytes) e.0 ∙ ap (λ y. a ∷ y ∷ bytes) e.1
-marked a b bytes false false is_big is_little = refl
+has_bom : (a b : ℕ) (bytes : List ℕ) (t u : Bool) → (eqb 0xfe a && (eqb 0xff b && true)) ≡ t → (eqb 0xff a && (eqb 0xfe b && true)) ≡ u → WithBom (cond t (Some Big) (cond u (Some Little) None)) bytes (a ∷ b ∷ bytes)
+has_bom a b bytes true u is_big is_little = let e = both 0xfe 0xff a b is_big in ap (λ x. x ∷ 0xff ∷ bytes) e.0 ∙ ap (λ y. a ∷ y ∷ bytes) e.1
+has_bom a b bytes false true is_big is_little = let e = both 0xff 0xfe a b is_little in ap (λ x. x ∷ 0xfe ∷ bytes) e.0 ∙ ap (λ y. a ∷ y ∷ bytes) e.1
+has_bom a b bytes false false is_big is_little = refl
 
-whole-mark : (bytes : List ℕ) → WithMark (mark_of bytes) (drop 2 bytes) bytes
-whole-mark [] = refl
-whole-mark (a ∷ []) = subst (λ m. WithMark m [] (a ∷ [])) (sym (no-mark a)) refl
-whole-mark (a ∷ b ∷ bytes) = marked a b bytes (eqb 0xfe a && (eqb 0xff b && true)) (eqb 0xff a && (eqb 0xfe b && true)) refl refl
+whole-bom : (bytes : List ℕ) → WithBom (bom_of bytes) (drop 2 bytes) bytes
+whole-bom [] = refl
+whole-bom (a ∷ []) = subst (λ m. WithBom m [] (a ∷ [])) (sym (no-bom a)) refl
+whole-bom (a ∷ b ∷ bytes) = has_bom a b bytes (eqb 0xfe a && (eqb 0xff b && true)) (eqb 0xff a && (eqb 0xfe b && true)) refl refl
 
-half-behind : (bytes : List ℕ) → half_of (without_mark bytes) ≡ half_of bytes
+half-beyond : (bytes : List ℕ) → half_of (without_bom bytes) ≡ half_of bytes
 unfolding half_of
-half-behind [] = refl
-half-behind (a ∷ []) = ap (λ m. half_of (cond (is_some m) [] (a ∷ []))) (no-mark a)
-half-behind (a ∷ b ∷ bytes) = elim (is_some (mark_of (a ∷ b ∷ bytes))) as (λ t. half_of (cond t bytes (a ∷ b ∷ bytes)) ≡ half_of bytes) [ true ↦ refl | false ↦ refl ]
+half-beyond [] = refl
+half-beyond (a ∷ []) = ap (λ m. half_of (cond (is_some m) [] (a ∷ []))) (no-bom a)
+half-beyond (a ∷ b ∷ bytes) = elim (is_some (bom_of (a ∷ b ∷ bytes))) as (λ t. half_of (cond t bytes (a ∷ b ∷ bytes)) ≡ half_of bytes) [ true ↦ refl | false ↦ refl ]
 
 -- ---- the fields
 
-bytes-behind : (bytes : List ℕ) → AreBytes bytes → AreBytes (without_mark bytes)
-bytes-behind bytes fits = elim (is_some (mark_of bytes)) as (λ t. AreBytes (cond t (drop 2 bytes) bytes)) [ true ↦ (λ i. subst (λ x. Fits w8 x) (sym (get_or-drop 2 bytes i 0)) (fits (2 + i))) | false ↦ fits ]
+bytes-beyond : (bytes : List ℕ) → AreBytes bytes → AreBytes (without_bom bytes)
+bytes-beyond bytes fits = elim (is_some (bom_of bytes)) as (λ t. AreBytes (cond t (drop 2 bytes) bytes)) [ true ↦ (λ i. subst (λ x. Fits w8 x) (sym (get_or-drop 2 bytes i 0)) (fits (2 + i))) | false ↦ fits ]
 
 module _ (parts : Utf16OfBytes) (bytes : List ℕ) (fits : AreBytes bytes) where
-  pub parts-whole : parts.order ≡ order_of bytes → parts.is_marked ≡ is_some (mark_of bytes) → units_left parts.units ≡ units_in parts.order (without_mark bytes) → option_to_list parts.half ≡ half_of (without_mark bytes) → whole_bytes parts ≡ bytes
-  parts-whole order is_marked units half =
-      let pairs = without_mark bytes in
-      let rest : bytes_in parts.order (units_left parts.units) ++ option_to_list parts.half ≡ pairs = rw (units, half) (whole-bytes parts.order pairs (bytes-behind bytes fits)) in
-      let mark : mark_bytes parts ≡ cond (is_some (mark_of bytes)) (bytes_in (order_of bytes) (byte_order_mark ∷ [])) [] = rw (is_marked, order) refl in
-      append_assoc (mark_bytes parts) (bytes_in parts.order (units_left parts.units)) (option_to_list parts.half) ∙ ap (λ bs. mark_bytes parts ++ bs) rest ∙ ap (λ bs. bs ++ pairs) mark ∙ whole-mark bytes
+  pub parts-whole : parts.order ≡ order_of bytes → parts.has_bom ≡ is_some (bom_of bytes) → units_left parts.units ≡ units_in parts.order (without_bom bytes) → option_to_list parts.half ≡ half_of (without_bom bytes) → whole_bytes parts ≡ bytes
+  parts-whole order has_bom units half =
+      let pairs = without_bom bytes in
+      let rest : bytes_in parts.order (units_left parts.units) ++ option_to_list parts.half ≡ pairs = rw (units, half) (whole-bytes parts.order pairs (bytes-beyond bytes fits)) in
+      let bom : bom_bytes parts ≡ cond (is_some (bom_of bytes)) (bytes_in (order_of bytes) (byte_order_mark ∷ [])) [] = rw (has_bom, order) refl in
+      append_assoc (bom_bytes parts) (bytes_in parts.order (units_left parts.units)) (option_to_list parts.half) ∙ ap (λ bs. bom_bytes parts ++ bs) rest ∙ ap (λ bs. bs ++ pairs) bom ∙ whole-bom bytes
 
-  pub parts-half : option_to_list parts.half ≡ half_of (without_mark bytes) → IsSome parts.half ↔ IsTrue (is_odd bytes)
-  parts-half half = half-some bytes parts.half (half ∙ half-behind bytes)
+  pub parts-half : option_to_list parts.half ≡ half_of (without_bom bytes) → IsSome parts.half ↔ IsTrue (is_odd bytes)
+  parts-half half = half-some bytes parts.half (half ∙ half-beyond bytes)

@@ -3,25 +3,25 @@
 //! vectorized.
 #![tactic(auto)]
 
+mod chunk_encoding;
+mod chunks;
+mod device_io;
 mod devices;
-mod filled;
-mod holding;
 pub mod laws;
 mod lossy;
 mod mode;
-mod moving;
 mod order;
-mod pieces;
 mod transcoding;
 mod units;
+mod units_from_bytes;
 mod whole;
 
+pub use device_io::put_all;
 pub use devices::{ByteSink, ByteSource, FromRead, FromWrite};
-pub use filled::{fill_units, unit_in};
 pub use lossy::ends_in_fault;
 pub use mode::Mode;
-pub use moving::put_all;
 pub use order::{BoM, byte_order};
 pub use transcoding::{transcode, transcode_with};
 pub use units::{UnitsOfBytes, units_of_bytes};
+pub use units_from_bytes::{fill_units, unit_in};
 pub use whole::{Utf16OfBytes, utf16_of_bytes};

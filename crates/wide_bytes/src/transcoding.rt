@@ -2,15 +2,15 @@
 
 ghost use Rattle.std.specs.Prelude.{◌≡◌, ℕ, List, false};
 ghost use Rattle.wide_bytes.specs.Bytes.{units_of_bytes};
-ghost use Rattle.wide_bytes.specs.Pieces.{WantsRoom};
+ghost use Rattle.wide_bytes.specs.Chunks.{WantsSpace};
 ghost use Rattle.wide_bytes.specs.Run.{AtEnd, Ends, Moves, ReportsAtOnce, fails_to_read, fails_to_write};
 ghost use Rattle.wide_bytes.specs.Transcoded.{transcoded, transcoded_by, transcoded_under};
 
+use crate::chunks::{CHUNK, move_to_start, take_start, transcode_after};
 use crate::devices::{ByteSink, ByteSource};
 use crate::mode::Mode;
 use crate::order::{BoM, byte_order};
-use crate::pieces::{PIECE, take_start, to_front, transcode_behind};
-use crate::units::without_mark;
+use crate::units::without_bom;
 use wide_error::TranscodeError;
 use wide_unit::Policy;
 
@@ -20,32 +20,32 @@ fn transcode_under<S: ByteSource, K: ByteSink>(
     sink: &mut K,
     policy: Option<Policy>,
 ) -> Result<(), TranscodeError>
-    requires source_sound { S.has_failed source.old ≡ false }
+    requires source_unfailed { S.has_failed source.old ≡ false }
     requires source_open { S.has_ended source.old ≡ false }
-    requires sink_sound { K.has_failed sink.old ≡ false }
+    requires sink_unfailed { K.has_failed sink.old ≡ false }
     ensures run { (bytes written : List ℕ)
         × Moves (S.left source.old) (S.left source.new) (K.held sink.old) (K.held sink.new) bytes written
         × Ends result (S.has_ended source.new) (transcoded_under policy) bytes written
-        × WantsRoom result (units_of_bytes bytes)
+        × WantsSpace result (units_of_bytes bytes)
         × ReportsAtOnce result (S.has_ended source.new) (transcoded_under policy) bytes }
     ensures at_end { AtEnd result (S.left source.new) }
     ensures source_failed { S.has_failed source.new ≡ fails_to_read result }
     ensures sink_failed { K.has_failed sink.new ≡ fails_to_write result }
 {
-    let mut piece = [0u8; PIECE];
-    let held = take_start(source, &mut piece)?;
-    if held < 2 {
-        return if held == 0 {
+    let mut chunk = [0u8; CHUNK];
+    let pending = take_start(source, &mut chunk)?;
+    if pending < 2 {
+        return if pending == 0 {
             Ok(())
         } else {
             Err(TranscodeError::OddLength)
         };
     }
-    let mark = byte_order(&piece[..held]);
-    let order = mark.unwrap_or(BoM::Little);
-    let len = without_mark(&piece[..held]).len();
-    to_front(&mut piece, held - len, held);
-    transcode_behind(order, source, sink, &mut piece, len, policy)
+    let bom = byte_order(&chunk[..pending]);
+    let order = bom.unwrap_or(BoM::Little);
+    let len = without_bom(&chunk[..pending]).len();
+    move_to_start(&mut chunk, pending - len, pending);
+    transcode_after(order, source, sink, &mut chunk, len, policy)
 }
 
 /// Reads UTF-16 bytes from the source to its end, and writes their text as UTF-8 into the sink (Unicode Standard, D91,
@@ -83,15 +83,15 @@ pub fn transcode<S: ByteSource, K: ByteSink>(
     sink: &mut K,
     mode: Mode,
 ) -> Result<(), TranscodeError>
-    requires source_sound { S.has_failed source.old ≡ false }
+    requires source_unfailed { S.has_failed source.old ≡ false }
     requires source_open { S.has_ended source.old ≡ false }
-    requires sink_sound { K.has_failed sink.old ≡ false }
+    requires sink_unfailed { K.has_failed sink.old ≡ false }
 
     // The bytes that were read and written, how the call ended, and that a fault is reported before another read.
     ensures run { (bytes written : List ℕ)
         × Moves (S.left source.old) (S.left source.new) (K.held sink.old) (K.held sink.new) bytes written
         × Ends result (S.has_ended source.new) (transcoded mode) bytes written
-        × WantsRoom result (units_of_bytes bytes)
+        × WantsSpace result (units_of_bytes bytes)
         × ReportsAtOnce result (S.has_ended source.new) (transcoded mode) bytes }
     ensures at_end { AtEnd result (S.left source.new) }
 
@@ -128,15 +128,15 @@ pub fn transcode_with<S: ByteSource, K: ByteSink>(
     sink: &mut K,
     policy: Policy,
 ) -> Result<(), TranscodeError>
-    requires source_sound { S.has_failed source.old ≡ false }
+    requires source_unfailed { S.has_failed source.old ≡ false }
     requires source_open { S.has_ended source.old ≡ false }
-    requires sink_sound { K.has_failed sink.old ≡ false }
+    requires sink_unfailed { K.has_failed sink.old ≡ false }
 
     // The bytes that were read and written, how the call ended, and that a fault is reported before another read.
     ensures run { (bytes written : List ℕ)
         × Moves (S.left source.old) (S.left source.new) (K.held sink.old) (K.held sink.new) bytes written
         × Ends result (S.has_ended source.new) (transcoded_by policy) bytes written
-        × WantsRoom result (units_of_bytes bytes)
+        × WantsSpace result (units_of_bytes bytes)
         × ReportsAtOnce result (S.has_ended source.new) (transcoded_by policy) bytes }
     ensures at_end { AtEnd result (S.left source.new) }
 

@@ -2,11 +2,11 @@
 
 ghost use Rattle.std.specs.Prelude.{◌≡◌, ◌-◌, [], ◌∷◌, length, take, nat_eq, IfSome, if◌then◌else◌};
 ghost use Rattle.std.specs.List.{ends_with};
-ghost use Rattle.wide_bytes.specs.Bytes.{units_in, units_of_bytes, without_mark};
+ghost use Rattle.wide_bytes.specs.Bytes.{units_in, units_of_bytes, without_bom};
 ghost use Rattle.wide_bytes.specs.UnitsOfBytes.{units_left};
 
-use super::filled::unit_in;
 use super::order::{BoM, byte_order};
+use super::units_from_bytes::unit_in;
 
 /// An iterator over the code units of bytes that are not read yet. [`units_of_bytes`] creates it. The Rust crate has no
 /// such type.
@@ -48,8 +48,8 @@ impl Iterator for UnitsOfBytes<'_> {
 }
 
 // Returns the bytes after the BOM, or all bytes if there is none.
-pub(crate) fn without_mark(bytes: &[u8]) -> &[u8]
-    ensures { result.now ≡ without_mark bytes.now }
+pub(crate) fn without_bom(bytes: &[u8]) -> &[u8]
+    ensures { result.now ≡ without_bom bytes.now }
 {
     if byte_order(bytes).is_some() {
         &bytes[2..]
@@ -84,7 +84,7 @@ pub fn units_of_bytes(bytes: &[u8]) -> UnitsOfBytes<'_>
     ensures { units_left result ≡ units_of_bytes bytes.now }
 {
     let order = byte_order(bytes).unwrap_or(BoM::Little);
-    let pairs = without_mark(bytes);
+    let pairs = without_bom(bytes);
     if bytes.len() % 2 == 0 {
         return UnitsOfBytes {
             order,

@@ -1,11 +1,11 @@
 //! Splits the bytes of UTF-16 into BOM, code units and a half unit, without loss (Unicode Standard, section 3.10, D98).
 ghost use Rattle.std.specs.Prelude.{◌≡◌, ◌↔◌, IsSome, IsTrue, is_some, option_to_list};
-ghost use Rattle.wide_bytes.specs.Bytes.{half_of, is_odd, mark_of, order_of, units_in, without_mark};
+ghost use Rattle.wide_bytes.specs.Bytes.{half_of, is_odd, bom_of, order_of, units_in, without_bom};
 ghost use Rattle.wide_bytes.specs.UnitsOfBytes.{units_left};
 ghost use Rattle.wide_bytes.specs.Utf16OfBytes.{whole_bytes};
 
 use crate::order::{BoM, byte_order};
-use crate::units::{UnitsOfBytes, units_in, without_mark};
+use crate::units::{UnitsOfBytes, units_in, without_bom};
 
 /// The BOM, the code units and the half unit of UTF-16 in bytes. [`utf16_of_bytes`] creates it. The Rust crate has no
 /// such type.
@@ -14,7 +14,7 @@ pub struct Utf16OfBytes<'a> {
     /// The order of the two bytes of each unit.
     pub order: BoM,
     /// Whether a BOM at the beginning indicated the order. The BOM is not one of the units.
-    pub is_marked: bool,
+    pub has_bom: bool,
     /// The code units of all whole pairs of bytes after the BOM, including a zero unit at the end.
     pub units: UnitsOfBytes<'a>,
     /// The byte after the last whole pair, if there is one: half of a unit.
@@ -37,17 +37,17 @@ fn half_of(bytes: &[u8]) -> Option<u8>
 /// the units and of the half unit are all the bytes. It does not allocate. The Rust crate has no such call.
 pub fn utf16_of_bytes(bytes: &[u8]) -> Utf16OfBytes<'_>
     ensures order { result.order ≡ order_of bytes.now }
-    ensures marked { result.is_marked ≡ is_some (mark_of bytes.now) }
-    ensures units { units_left result.units ≡ units_in (order_of bytes.now) (without_mark bytes.now) }
+    ensures has_bom { result.has_bom ≡ is_some (bom_of bytes.now) }
+    ensures units { units_left result.units ≡ units_in (order_of bytes.now) (without_bom bytes.now) }
     ensures half { IsSome result.half ↔ IsTrue (is_odd bytes.now) }
     ensures whole { whole_bytes result ≡ bytes.now }
 {
-    let mark = byte_order(bytes);
-    let order = mark.unwrap_or(BoM::Little);
-    let pairs = without_mark(bytes);
+    let bom = byte_order(bytes);
+    let order = bom.unwrap_or(BoM::Little);
+    let pairs = without_bom(bytes);
     Utf16OfBytes {
         order,
-        is_marked: mark.is_some(),
+        has_bom: bom.is_some(),
         units: units_in(order, pairs),
         half: half_of(pairs),
     }

@@ -1,6 +1,6 @@
 pub mod Runs
 pub mod Made
 pub mod Lengths
-pub mod Places
+pub mod Offsets
 pub mod Marking
 pub mod Walks

@@ -9,15 +9,15 @@ use Rattle.std.proofs.lemmas.List.FromFn.{length-map-range_with_len, take-map-ra
 use Rattle.std.proofs.Math.Seq.{drop-cons}
 use Rattle.wide_unit.specs.EncodingForm.{EncodingForm, Utf16, code_units, encode}
 use Rattle.wide_unit.specs.Items.{chars, IsWellFormed}
-use Rattle.wide_unit.specs.Places.{IsPlaceOf, IsCharBoundary}
-use Rattle.wide_unit.specs.Laws.Places.{encode-chars, IsPlaceOf-front}
+use Rattle.wide_unit.specs.Offsets.{IsOffsetOf, IsCharBoundary}
+use Rattle.wide_unit.specs.Laws.Offsets.{encode-chars, IsOffsetOf-prefix}
 use Rattle.wide_unit.proofs.CharBoundaries.{IsCharBoundary-of}
 use Rattle.wide_edit.specs.Found.{IsFoundAt}
 use Rattle.wide_unit.specs.Laws.Forms.{some_units}
 use Rattle.wide_edit.specs.Step.{step}
 use Rattle.wide_edit.specs.declared.edits.Edit.{Edit}
 use Rattle.wide_edit.specs.declared.edits.Edit.TheVariants.{Push, PushStr, Pop, Truncate, Insert, InsertStr, Remove, Retain, Drain, Replace, SplitOff, Clear}
-use Rattle.wide_edit.specs.Marks.{mark, marks_of, edit_place}
+use Rattle.wide_edit.specs.Marks.{mark, marks_of, edit_offset}
 use Rattle.wide_edit.proofs.Lengths.{size, size-append, size-one, size-take}
 
 -- One more character was read.
@@ -65,12 +65,12 @@ module _ (us : List ℕ) (well : IsWellFormed Utf16 us) where
   goes-within read c at len rest goes is long = omega (arith, goes.at, size-take Utf16 cs (read + 1), whole-size)
 
   pub char-boundary : (i : ℕ) → IsCharBoundary Utf16 us (size Utf16 (take i cs))
-  char-boundary i = IsCharBoundary-of Utf16 us (size Utf16 (take i cs)) well (IsPlaceOf-front Utf16 us well i).boundary
+  char-boundary i = IsCharBoundary-of Utf16 us (size Utf16 (take i cs)) well (IsOffsetOf-prefix Utf16 us well i).boundary
 
   pub found-at : (i at : ℕ) → i ≤ length cs → at ≡ size Utf16 (take i cs) → IsFoundAt Utf16 us i (Some at)
   found-at i at within e = record {
     some = (λ _. within, λ _. refl);
-    place = subst (IsPlaceOf Utf16 us i) (sym e) (IsPlaceOf-front Utf16 us well i);
+    offset = subst (IsOffsetOf Utf16 us i) (sym e) (IsOffsetOf-prefix Utf16 us well i);
     boundary = subst (IsCharBoundary Utf16 us) (sym e) (char-boundary i);
   }
 
@@ -79,7 +79,7 @@ module _ (us : List ℕ) (well : IsWellFormed Utf16 us) where
 
 -- A search past the end finds none.
 pub found-none : (us : List ℕ) (i : ℕ) (r : Option ℕ) → r ≡ None → length (chars Utf16 us) < i → IsFoundAt Utf16 us i r
-found-none us i None e past = record { some = (λ some. absurd cc, λ le. absurd (omega (arith, le, past))); place = tt; boundary = tt }
+found-none us i None e past = record { some = (λ some. absurd cc, λ le. absurd (omega (arith, le, past))); offset = tt; boundary = tt }
 found-none us i (Some at) e past = absurd cc
 
 -- No text has more characters than units.
@@ -88,25 +88,25 @@ few-characters form [] = omega arith
 few-characters form (c ∷ l) = omega (arith, length-append (code_units form c) (encode form l), some_units form c, few-characters form l)
 
 -- The index of an edit's first character lies within the text, and the characters before it stay as they are.
-pub place-within : (n : ℕ) (e : Edit) → edit_place n e ≤ n
-place-within n (Push c) = omega arith
-place-within n (PushStr t) = omega arith
-place-within n Pop = omega arith
-place-within n (Truncate m) = omega arith
-place-within n (Insert i c) = omega arith
-place-within n (InsertStr i t) = omega arith
-place-within n (Remove i) = omega arith
-place-within n (Retain keep) = omega arith
-place-within n (Drain a b) = omega arith
-place-within n (Replace a b t) = omega arith
-place-within n (SplitOff i) = omega arith
-place-within n Clear = omega arith
+pub offset-within : (n : ℕ) (e : Edit) → edit_offset n e ≤ n
+offset-within n (Push c) = omega arith
+offset-within n (PushStr t) = omega arith
+offset-within n Pop = omega arith
+offset-within n (Truncate m) = omega arith
+offset-within n (Insert i c) = omega arith
+offset-within n (InsertStr i t) = omega arith
+offset-within n (Remove i) = omega arith
+offset-within n (Retain keep) = omega arith
+offset-within n (Drain a b) = omega arith
+offset-within n (Replace a b t) = omega arith
+offset-within n (SplitOff i) = omega arith
+offset-within n Clear = omega arith
 
 module _ (l : List ℕ) where
   take-splice : (p i j : ℕ) (m : List ℕ) → p ≤ i → p ≤ length l → take p (splice l i j m) ≡ take p l
   take-splice p i j m le within = take-append-le p (take i l) (m ++ drop j l) (omega (arith, length-take i l)) ∙ take-take p i l le
 
-  pub step-keeps : (e : Edit) → take (edit_place (length l) e) (step l e).0 ≡ take (edit_place (length l) e) l
+  pub step-keeps : (e : Edit) → take (edit_offset (length l) e) (step l e).0 ≡ take (edit_offset (length l) e) l
   step-keeps (Push c) = take-splice (length l) (length l) (length l) (c ∷ []) (omega arith) (omega arith)
   step-keeps (PushStr t) = take-splice (length l) (length l) (length l) (str_chars t.now) (omega arith) (omega arith)
   step-keeps Pop = take-splice (length l - 1) (length l - 1) (length l) [] (omega arith) (omega arith)

@@ -13,9 +13,9 @@ abbrev pub CanHold : {C : Type 0} → EncodingForm → Units C → List ℕ → 
 CanHold form s cs = length (encode form cs) ≤ s.capacity
 
 -- The vector is empty, and the characters of the edit's reply fit.
-pub record HasReplyRoom (l : List ℕ) (edit : Edit) (room : Vec ℕ Global) : Type 0 where
-  pub empty : room.items ≡ []
-  pub fits : chars_in (step l edit).1 ≤ vec_capacity room
+pub record HasReplySpace (l : List ℕ) (edit : Edit) (space : Vec ℕ Global) : Type 0 where
+  pub empty : space.items ≡ []
+  pub fits : chars_in (step l edit).1 ≤ vec_capacity space
 
 -- One edit was made: the characters and the reply are those of the step.
 pub record IsMade (l : List ℕ) (edit : Edit) (new : List ℕ) (reply : Reply) : Type 0 where

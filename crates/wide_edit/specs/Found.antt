@@ -2,7 +2,7 @@
 use Rattle.std.specs.Prelude.{ℕ, ◌≤◌, ◌↔◌, List, length, Option, IsSome, IfSome}
 use Rattle.wide_unit.specs.EncodingForm.{EncodingForm}
 use Rattle.wide_unit.specs.Items.{chars}
-use Rattle.wide_unit.specs.Places.{IsPlaceOf, IsCharBoundary, IsCharRange}
+use Rattle.wide_unit.specs.Offsets.{IsOffsetOf, IsCharBoundary, IsCharRange}
 use Rattle.wide_edit.specs.declared.edits.Edit.{Edit}
 use Rattle.wide_edit.specs.declared.edits.Edit.TheVariants.{Push, PushStr, Pop, Truncate, Insert, InsertStr, Remove, Retain, Drain, Replace, SplitOff, Clear}
 
@@ -40,13 +40,13 @@ module _ (form : EncodingForm) (units : List ℕ) where
   -- The search for the character at an index found the offset at which it begins, or none if the index is past the end.
   pub record IsFoundAt (index : ℕ) (found : Option ℕ) : Type 0 where
     pub some : IsSome found ↔ (index ≤ length (chars form units))
-    pub place : IfSome found (IsPlaceOf form units index)
+    pub offset : IfSome found (IsOffsetOf form units index)
     pub boundary : IfSome found (IsCharBoundary form units)
 
   -- The offsets, in units, of the characters from index `from` up to index `to`, which are a range of the text.
   pub record IsFoundRange (from to start end : ℕ) : Type 0 where
     pub forward : from ≤ to
     pub within : to ≤ length (chars form units)
-    pub starts : IsPlaceOf form units from start
-    pub ends : IsPlaceOf form units to end
+    pub starts : IsOffsetOf form units from start
+    pub ends : IsOffsetOf form units to end
     pub range : IsCharRange form units start end

@@ -20,27 +20,27 @@ marks_of cs = map (mark cs) (range_with_len 1 (length cs / 64))
 
 -- The index of the first character that an edit can change, in a text of so many characters. The characters before it
 -- stay as they are.
-abbrev pub edit_place : ℕ → Edit → ℕ
-edit_place count (Push c) = count
-edit_place count (PushStr t) = count
-edit_place count Pop = count - 1
-edit_place count (Truncate m) = min m count
-edit_place count (Insert i c) = min i count
-edit_place count (InsertStr i t) = min i count
-edit_place count (Remove i) = min i count
-edit_place count (Retain keep) = 0
-edit_place count (Drain a b) = min a count
-edit_place count (Replace a b t) = min a count
-edit_place count (SplitOff i) = min i count
-edit_place count Clear = 0
+abbrev pub edit_offset : ℕ → Edit → ℕ
+edit_offset count (Push c) = count
+edit_offset count (PushStr t) = count
+edit_offset count Pop = count - 1
+edit_offset count (Truncate m) = min m count
+edit_offset count (Insert i c) = min i count
+edit_offset count (InsertStr i t) = min i count
+edit_offset count (Remove i) = min i count
+edit_offset count (Retain keep) = 0
+edit_offset count (Drain a b) = min a count
+edit_offset count (Replace a b t) = min a count
+edit_offset count (SplitOff i) = min i count
+edit_offset count Clear = 0
 
 -- How many index entries of these characters are not past the edit's first character.
 abbrev pub marks_kept : List ℕ → Edit → ℕ
-marks_kept cs edit = edit_place (length cs) edit / 64
+marks_kept cs edit = edit_offset (length cs) edit / 64
 
 -- The number of units after the last of those entries, before the edit and after it.
-abbrev pub units_behind : List ℕ → List ℕ → Edit → ℕ
-units_behind old new edit =
+abbrev pub units_after : List ℕ → List ℕ → Edit → ℕ
+units_after old new edit =
     (length (encode Utf16 old) - mark old (marks_kept old edit)) + (length (encode Utf16 new) - mark new (marks_kept old edit))
 
 -- The number of units that are read to count the characters of a reply: those of the characters that a `SplitOff`
@@ -62,12 +62,12 @@ units_split_off cs Clear = 0
 -- What contracts say about a string with an offset index: the string, and how many entries fit without allocating.
 pub record Marked : Type 0 where
   pub string : Units ℕ
-  pub marks_room : ℕ
+  pub marks_space : ℕ
 
 abbrev pub marked_code : Coded Marked
 marked_code =
-    code_by (Units ℕ × ℕ) (coded× (units_code coded_ℕ) coded_ℕ) (λ m. (m.string, m.marks_room))
-    (λ p. record { string = p.0; marks_room = p.1 }) (λ _. refl)
+    code_by (Units ℕ × ℕ) (coded× (units_code coded_ℕ) coded_ℕ) (λ m. (m.string, m.marks_space))
+    (λ p. record { string = p.0; marks_space = p.1 }) (λ _. refl)
 
 -- Its units.
 abbrev pub marked_units : Marked → List ℕ
@@ -84,4 +84,4 @@ marked_text m = chars Utf16 m.string.units
 -- The new units and the new index entries fit without allocating.
 pub record IsMarkedReady (m : Marked) (edit : Edit) : Type 0 where
   pub units : CanHold Utf16 m.string (step (marked_text m) edit).0
-  pub marks : length (step (marked_text m) edit).0 / 64 ≤ m.marks_room
+  pub marks : length (step (marked_text m) edit).0 / 64 ≤ m.marks_space

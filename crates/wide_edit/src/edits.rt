@@ -2,7 +2,7 @@
 ghost use Rattle.std.specs.Prelude.{◌≡◌, ◌≤◌, ℕ, List, length, IfOk, OnOk};
 ghost use Rattle.wide_unit.specs.EncodingForm.{EncodingForm, encode};
 ghost use Rattle.wide_edit.specs.Step.{step, answer_of};
-ghost use Rattle.wide_edit.specs.Edited.{HasReplyRoom};
+ghost use Rattle.wide_edit.specs.Edited.{HasReplySpace};
 
 use std::alloc::Global;
 use std::error::Error;
@@ -121,7 +121,7 @@ pub trait TextEdit {
     /// [`OutOfMemory`] if an allocation fails. The text keeps its units, and its capacity does not shrink.
     fn prepare(&mut self, alloc: Global, edit: Edit<'_>) -> Result<Vec<char>, OutOfMemory>
         ensures ready { OnOk result (is_ready self.new edit.entry) }
-        ensures room { IfOk result (λ room. HasReplyRoom (text self.new) edit.entry room) }
+        ensures space { IfOk result (λ space. HasReplySpace (text self.new) edit.entry space) }
         ensures text { text self.new ≡ text self.old }
         ensures units { units self.new ≡ units self.old }
         ensures capacity { capacity self.old ≤ capacity self.new };
@@ -132,9 +132,9 @@ pub trait TextEdit {
     ///
     /// The text has the capacity that the edit needs, and the vector is empty and has capacity for the characters of
     /// the reply, as after [`TextEdit::prepare`] for this edit.
-    fn apply(&mut self, edit: Edit<'_>, room: Vec<char>) -> Reply
+    fn apply(&mut self, edit: Edit<'_>, space: Vec<char>) -> Reply
         requires ready { is_ready self.old edit }
-        requires room { HasReplyRoom (text self.old) edit room }
+        requires space { HasReplySpace (text self.old) edit space }
         ensures text { text self.new ≡ (step (text self.old) edit.entry).0 }
         ensures reply { answer_of result ≡ (step (text self.old) edit.entry).1 }
         ensures capacity { capacity self.old ≤ capacity self.new };

@@ -1,14 +1,14 @@
 //! Edits as data, whose offsets are counted in characters, and texts that apply them.
 #![tactic(auto)]
 
-mod arms;
 mod counting;
 mod edits;
-mod found;
 mod lockstep;
+mod lookup;
 mod marked;
 mod marks;
 mod memory;
+mod operations;
 mod utf;
 
 pub use counting::Steps;

@@ -20,8 +20,8 @@ fn make<T: TextEdit>(
     ensures capacity { T.capacity text.old ≤ T.capacity text.new }
 {
     replies.reserve(1)?;
-    let room = text.prepare(alloc, edit)?;
-    replies.push_reserved(text.apply(edit, room));
+    let space = text.prepare(alloc, edit)?;
+    replies.push_reserved(text.apply(edit, space));
     Ok(())
 }
 
@@ -92,10 +92,10 @@ fn make_both<T: TextEdit, U: TextEdit>(
 {
     first_replies.reserve(1)?;
     second_replies.reserve(1)?;
-    let first_room = first.prepare(alloc, edit)?;
-    let second_room = second.prepare(alloc, edit)?;
-    first_replies.push_reserved(first.apply(edit, first_room));
-    second_replies.push_reserved(second.apply(edit, second_room));
+    let first_space = first.prepare(alloc, edit)?;
+    let second_space = second.prepare(alloc, edit)?;
+    first_replies.push_reserved(first.apply(edit, first_space));
+    second_replies.push_reserved(second.apply(edit, second_space));
     Ok(())
 }
 

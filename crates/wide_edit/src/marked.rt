@@ -2,20 +2,20 @@
 ghost use Rattle.std.specs.Prelude.{◌≡◌, ◌+◌, ◌*◌, ◌/◌, ◌<◌, ◌≤◌, ◌↔◌, length, IsSome, IfSome, IsOk, OnOk, IfOk, IfErr, vec_capacity};
 ghost use Rattle.wide_unit.specs.EncodingForm.{Utf16, encode};
 ghost use Rattle.wide_unit.specs.Items.{chars};
-ghost use Rattle.wide_unit.specs.Places.{IsPlaceOf, IsCharBoundary};
+ghost use Rattle.wide_unit.specs.Offsets.{IsOffsetOf, IsCharBoundary};
 ghost use Rattle.wide_utfstr.specs.View.{units_seen};
 ghost use Rattle.wide_edit.specs.Step.{step, answer_of};
-ghost use Rattle.wide_edit.specs.Edited.{CanHold, IsMade, HasReplyRoom};
+ghost use Rattle.wide_edit.specs.Edited.{CanHold, IsMade, HasReplySpace};
 ghost use Rattle.wide_edit.specs.Found.{first_number, second_number, IsFoundAt};
 ghost use Rattle.wide_edit.specs.Counted.{AddsAtMost};
-ghost use Rattle.wide_edit.specs.Marks.{marks_of, edit_place, units_behind, units_split_off, marked_capacity, marked_units, marked_text, IsMarkedReady};
+ghost use Rattle.wide_edit.specs.Marks.{marks_of, edit_offset, units_after, units_split_off, marked_capacity, marked_units, marked_text, IsMarkedReady};
 
-use crate::arms::apply_at;
 use crate::counting::Steps;
 use crate::edits::{Edit, Reply, TextEdit};
-use crate::found::{numbers_of, recall};
-use crate::marks::{count_from, find_from, mend, units_from};
+use crate::lookup::{numbers_of, recall};
+use crate::marks::{count_from, find_from, repair, units_from};
 use crate::memory::prepare_at;
+use crate::operations::apply_at;
 use std::alloc::Global;
 use std::marker::Model;
 use wide_error::OutOfMemory;
@@ -44,15 +44,15 @@ impl Model for Marked16 {
 
     ghost coded = { marked_code };
 
-    ghost view = { λ m. record { string = m.string; marks_room = vec_capacity m.marks } };
+    ghost view = { λ m. record { string = m.string; marks_space = vec_capacity m.marks } };
 
     ghost invariant = { λ m. m.marks.items ≡ marks_of (chars Utf16 m.string.units) };
 }
 
 // Returns the index of the first character that an edit can change, in a text of `count` characters. The characters
 // before it stay as they are.
-fn place_in(edit: Edit<'_>, count: usize) -> usize
-    ensures { result ≡ edit_place count edit.entry }
+fn offset_in(edit: Edit<'_>, count: usize) -> usize
+    ensures { result ≡ edit_offset count edit.entry }
 {
     match edit {
         Edit::Push(_) => count,
@@ -81,7 +81,7 @@ fn prepare16(
     requires start { IsFoundAt Utf16 string.old.units (first_number edit) start }
     requires end { IsFoundAt Utf16 string.old.units (second_number edit) end }
     ensures ready { OnOk result (CanHold Utf16 string.new (step (chars Utf16 string.new.units) edit.entry).0) }
-    ensures room { IfOk result (λ room. HasReplyRoom (chars Utf16 string.new.units) edit.entry room) }
+    ensures space { IfOk result (λ space. HasReplySpace (chars Utf16 string.new.units) edit.entry space) }
     ensures units { string.new.units ≡ string.old.units }
     ensures capacity { string.old.capacity ≤ string.new.capacity }
 {
@@ -120,16 +120,16 @@ fn apply16(
     edit: Edit<'_>,
     start: Option<usize>,
     end: Option<usize>,
-    room: Vec<char>,
+    space: Vec<char>,
 ) -> Reply
     requires start { IsFoundAt Utf16 string.old.units (first_number edit) start }
     requires end { IsFoundAt Utf16 string.old.units (second_number edit) end }
     requires ready { CanHold Utf16 string.old (step (chars Utf16 string.old.units) edit).0 }
-    requires room { HasReplyRoom (chars Utf16 string.old.units) edit room }
+    requires space { HasReplySpace (chars Utf16 string.old.units) edit space }
     ensures made { IsMade (chars Utf16 string.old.units) edit.entry (chars Utf16 string.new.units) result }
     ensures capacity { string.old.capacity ≤ string.new.capacity }
 {
-    apply_at(string, edit, start, end, room)
+    apply_at(string, edit, start, end, space)
 }
 
 // Makes the edit, and counts the index entries after its first character again.
@@ -137,29 +137,29 @@ fn apply_to(
     string: &mut Utf16String,
     marks: &mut Vec<usize>,
     edit: Edit<'_>,
-    room: Vec<char>,
+    space: Vec<char>,
     steps: &mut Steps,
 ) -> Reply
     requires marks { marks.old.items ≡ marks_of (chars Utf16 string.old.units) }
     requires ready { CanHold Utf16 string.old (step (chars Utf16 string.old.units) edit).0 }
     requires marks_ready { length (step (chars Utf16 string.old.units) edit).0 / 64 ≤ vec_capacity marks.old }
-    requires room { HasReplyRoom (chars Utf16 string.old.units) edit room }
+    requires space { HasReplySpace (chars Utf16 string.old.units) edit space }
     ensures made { IsMade (chars Utf16 string.old.units) edit.entry (chars Utf16 string.new.units) result }
     ensures marks { marks.new.items ≡ marks_of (chars Utf16 string.new.units) }
     ensures capacity { string.old.capacity ≤ string.new.capacity }
     ensures marks_capacity { vec_capacity marks.new ≡ vec_capacity marks.old }
-    ensures steps { AddsAtMost steps.old steps.new (512 + units_behind (chars Utf16 string.old.units) (chars Utf16 string.new.units) edit.entry) }
+    ensures steps { AddsAtMost steps.old steps.new (512 + units_after (chars Utf16 string.old.units) (chars Utf16 string.new.units) edit.entry) }
 {
     let (first, second) = numbers_of(edit);
     let start = find_from(string.as_utfstr(), marks.as_slice(), first, steps);
     let end = find_from(string.as_utfstr(), marks.as_slice(), second, steps);
     let count = count_from(string.as_utfstr(), marks.as_slice(), steps);
-    let kept = place_in(edit, count) / 64;
+    let kept = offset_in(edit, count) / 64;
     // The edit may read the units after the last entry that is retained, and no others.
     steps.tick(units_from(string.as_utfstr(), marks.as_slice(), kept));
-    let reply = apply16(string, edit, start, end, room);
+    let reply = apply16(string, edit, start, end, space);
     marks.truncate(kept);
-    mend(string.as_utfstr(), marks, steps);
+    repair(string.as_utfstr(), marks, steps);
     reply
 }
 
@@ -178,7 +178,7 @@ impl Marked16 {
         let count = string.as_utfstr().char_count();
         match Vec::with_capacity(alloc, count / 64) {
             Ok(mut marks) => {
-                mend(string.as_utfstr(), &mut marks, &mut Steps::new());
+                repair(string.as_utfstr(), &mut marks, &mut Steps::new());
                 Ok(Marked16 { string, marks })
             }
             Err(_refused) => Err(string),
@@ -218,7 +218,7 @@ impl Marked16 {
     /// than 64 and so at most 126 units, and counts these units.
     pub fn unit_offset(&self, index: usize, steps: &mut Steps) -> Option<usize>
         ensures some { IsSome result ↔ (index ≤ length (marked_text self.now)) }
-        ensures place { IfSome result (IsPlaceOf Utf16 (marked_units self.now) index) }
+        ensures offset { IfSome result (IsOffsetOf Utf16 (marked_units self.now) index) }
         ensures char_boundary { IfSome result (IsCharBoundary Utf16 (marked_units self.now)) }
         ensures steps { AddsAtMost steps.old steps.new 126 }
     {
@@ -238,10 +238,10 @@ impl Marked16 {
         steps: &mut Steps,
     ) -> Result<Vec<char>, OutOfMemory>
         ensures ready { OnOk result (IsMarkedReady self.new edit.entry) }
-        ensures room { IfOk result (λ room. HasReplyRoom (marked_text self.new) edit.entry room) }
+        ensures space { IfOk result (λ space. HasReplySpace (marked_text self.new) edit.entry space) }
         ensures units { marked_units self.new ≡ marked_units self.old }
         ensures capacity { marked_capacity self.old ≤ marked_capacity self.new }
-        ensures marks_capacity { self.old.marks_room ≤ self.new.marks_room }
+        ensures marks_capacity { self.old.marks_space ≤ self.new.marks_space }
         ensures steps { AddsAtMost steps.old steps.new (252 + units_split_off (marked_text self.old) edit.entry) }
     {
         let (first, second) = numbers_of(edit);
@@ -253,11 +253,11 @@ impl Marked16 {
             steps,
         );
         steps.tick(units_counted(&self.string, edit, start));
-        let room = prepare16(&mut self.string, alloc, edit, start, end)?;
+        let space = prepare16(&mut self.string, alloc, edit, start, end)?;
         // No text has more characters than units.
         let most = self.string.capacity() / 64;
         self.marks.reserve(most.saturating_sub(self.marks.len()))?;
-        Ok(room)
+        Ok(space)
     }
 
     /// Makes an edit in memory that was allocated for it, like [`TextEdit::apply`]. It counts a step for each unit that
@@ -268,16 +268,16 @@ impl Marked16 {
     ///
     /// The text and its offset index have the capacity that the edit needs, and the vector is empty and has capacity
     /// for the characters of the reply, as after [`Marked16::prepare_counted`] for this edit.
-    pub fn apply_counted(&mut self, edit: Edit<'_>, room: Vec<char>, steps: &mut Steps) -> Reply
+    pub fn apply_counted(&mut self, edit: Edit<'_>, space: Vec<char>, steps: &mut Steps) -> Reply
         requires ready { IsMarkedReady self.old edit }
-        requires room { HasReplyRoom (marked_text self.old) edit room }
+        requires space { HasReplySpace (marked_text self.old) edit space }
         ensures text { marked_text self.new ≡ (step (marked_text self.old) edit.entry).0 }
         ensures reply { answer_of result ≡ (step (marked_text self.old) edit.entry).1 }
         ensures capacity { marked_capacity self.old ≤ marked_capacity self.new }
-        ensures marks_capacity { self.new.marks_room ≡ self.old.marks_room }
-        ensures steps { AddsAtMost steps.old steps.new (512 + units_behind (marked_text self.old) (marked_text self.new) edit.entry) }
+        ensures marks_capacity { self.new.marks_space ≡ self.old.marks_space }
+        ensures steps { AddsAtMost steps.old steps.new (512 + units_after (marked_text self.old) (marked_text self.new) edit.entry) }
     {
-        apply_to(&mut self.string, &mut self.marks, edit, room, steps)
+        apply_to(&mut self.string, &mut self.marks, edit, space, steps)
     }
 }
 
@@ -311,7 +311,7 @@ impl TextEdit for Marked16 {
         self.prepare_counted(alloc, edit, &mut Steps::new())
     }
 
-    fn apply(&mut self, edit: Edit<'_>, room: Vec<char>) -> Reply {
-        self.apply_counted(edit, room, &mut Steps::new())
+    fn apply(&mut self, edit: Edit<'_>, space: Vec<char>) -> Reply {
+        self.apply_counted(edit, space, &mut Steps::new())
     }
 }

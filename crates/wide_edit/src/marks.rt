@@ -27,16 +27,16 @@ fn seek<'a>(text: Utf16Str<'a>, marks: &[usize], number: usize) -> (usize, Chars
         return (0, text.chars());
     }
     let at = marks[number - 1];
-    let (_front, behind) = text.split_at(at);
-    (at, behind.chars())
+    let (_front, beyond) = text.split_at(at);
+    (at, beyond.chars())
 }
 
 // Appends the missing entries to the index. It reads the units from the last entry on.
-pub(crate) fn mend(text: Utf16Str<'_>, marks: &mut Vec<usize>, steps: &mut Steps)
+pub(crate) fn repair(text: Utf16Str<'_>, marks: &mut Vec<usize>, steps: &mut Steps)
     requires some { marks.old.items ≡ take (length marks.old.items) (marks_of (chars Utf16 (units_seen text))) }
-    requires room { length (chars Utf16 (units_seen text)) / 64 ≤ vec_capacity marks.old }
+    requires space { length (chars Utf16 (units_seen text)) / 64 ≤ vec_capacity marks.old }
     ensures marks { marks.new.items ≡ marks_of (chars Utf16 (units_seen text.entry)) }
-    ensures room { vec_capacity marks.new ≡ vec_capacity marks.old }
+    ensures space { vec_capacity marks.new ≡ vec_capacity marks.old }
     ensures grows { counted steps.old ≤ counted steps.new }
     ensures steps { counted steps.new + mark (chars Utf16 (units_seen text.entry)) (length marks.old.items) ≡ counted steps.old + length (units_seen text.entry) }
 {

@@ -1,14 +1,14 @@
 //! The memory that an edit needs: in a well-formed string, and for the characters of its reply.
 ghost use Rattle.std.specs.Prelude.{◌≡◌, ◌≤◌, ◌-◌, length, map, IsOk, OnOk, IfOk};
 ghost use Rattle.wide_unit.specs.EncodingForm.{encode};
-ghost use Rattle.wide_unit.specs.Places.{text_of};
+ghost use Rattle.wide_unit.specs.Offsets.{text_of};
 ghost use Rattle.wide_ustring.specs.Units.{ustring_len};
 ghost use Rattle.wide_edit.specs.Step.{changed, answer, step, chars_in};
-ghost use Rattle.wide_edit.specs.Edited.{CanHold, HasReplyRoom};
+ghost use Rattle.wide_edit.specs.Edited.{CanHold, HasReplySpace};
 ghost use Rattle.wide_edit.specs.Found.{first_number, second_number, IsFoundAt};
 
 use crate::edits::Edit;
-use crate::found::{range_at, recall};
+use crate::lookup::{range_at, recall};
 use std::alloc::Global;
 use wide_error::OutOfMemory;
 use wide_utferror::FaultUnit;
@@ -96,7 +96,7 @@ pub(crate) fn prepare_at<C: FaultUnit>(
     requires start { IsFoundAt C.form (map C.number s.old.units) (first_number edit) start }
     requires end { IsFoundAt C.form (map C.number s.old.units) (second_number edit) end }
     ensures ready { OnOk result (CanHold C.form s.new (step (text_of C.form C.number s.new.units) edit.entry).0) }
-    ensures room { IfOk result (λ room. HasReplyRoom (text_of C.form C.number s.new.units) edit.entry room) }
+    ensures space { IfOk result (λ space. HasReplySpace (text_of C.form C.number s.new.units) edit.entry space) }
     ensures units { s.new.units ≡ s.old.units }
     ensures capacity { s.old.capacity ≤ s.new.capacity }
     ensures succeeds { CanHold C.form s.old (step (text_of C.form C.number s.old.units) edit.entry).0 → chars_in (step (text_of C.form C.number s.old.units) edit.entry).1 ≡ 0 → IsOk result }

@@ -1,20 +1,20 @@
 //! Well-formed strings as texts that can be edited.
 ghost use Rattle.std.specs.Prelude.{◌≡◌, ◌≤◌, map, IsOk, OnOk, IfOk};
-ghost use Rattle.wide_unit.specs.Places.{text_of};
+ghost use Rattle.wide_unit.specs.Offsets.{text_of};
 ghost use Rattle.wide_edit.specs.Step.{step, chars_in};
-ghost use Rattle.wide_edit.specs.Edited.{CanHold, HasReplyRoom};
+ghost use Rattle.wide_edit.specs.Edited.{CanHold, HasReplySpace};
 
-use crate::arms::apply_at;
 use crate::edits::{Edit, Reply, TextEdit};
-use crate::found::{find, numbers_of, recall};
+use crate::lookup::{find, numbers_of, recall};
 use crate::memory::prepare_at;
+use crate::operations::apply_at;
 use std::alloc::Global;
 use wide_error::OutOfMemory;
 use wide_utferror::FaultUnit;
 use wide_utfstring::UtfString;
 
 impl<C: FaultUnit> TextEdit for UtfString<C> {
-    ghost use Rattle.wide_unit.specs.Places.{text_of};
+    ghost use Rattle.wide_unit.specs.Offsets.{text_of};
     ghost use Rattle.wide_edit.specs.Step.{step};
     ghost use Rattle.wide_edit.specs.Edited.{CanHold};
 
@@ -39,7 +39,7 @@ impl<C: FaultUnit> TextEdit for UtfString<C> {
 
     fn prepare(&mut self, alloc: Global, edit: Edit<'_>) -> Result<Vec<char>, OutOfMemory>
         ensures ready { OnOk result (CanHold C.form self.new (step (text_of C.form C.number self.new.units) edit.entry).0) }
-        ensures room { IfOk result (λ room. HasReplyRoom (text_of C.form C.number self.new.units) edit.entry room) }
+        ensures space { IfOk result (λ space. HasReplySpace (text_of C.form C.number self.new.units) edit.entry space) }
         ensures text { text_of C.form C.number self.new.units ≡ text_of C.form C.number self.old.units }
         ensures units { map C.number self.new.units ≡ map C.number self.old.units }
         ensures capacity { self.old.capacity ≤ self.new.capacity }
@@ -51,10 +51,10 @@ impl<C: FaultUnit> TextEdit for UtfString<C> {
         prepare_at(self, alloc, edit, start, end)
     }
 
-    fn apply(&mut self, edit: Edit<'_>, room: Vec<char>) -> Reply {
+    fn apply(&mut self, edit: Edit<'_>, space: Vec<char>) -> Reply {
         let (first, second) = numbers_of(edit);
         let start = find(self, first);
         let end = find(self, second);
-        apply_at(self, edit, start, end, room)
+        apply_at(self, edit, start, end, space)
     }
 }

@@ -15,14 +15,14 @@ abbrev pub out_of_memory_text : List ℕ
 out_of_memory_text = codes "out of memory"
 
 -- The index and the item number of a first fault.
-abbrev pub place_text : ℕ → ℕ → List ℕ
-place_text index item = codes " at index " ++ (decimal index ++ (codes " (item " ++ (decimal item ++ codes ")")))
+abbrev pub position_text : ℕ → ℕ → List ℕ
+position_text index item = codes " at index " ++ (decimal index ++ (codes " (item " ++ (decimal item ++ codes ")")))
 
 abbrev pub utf16_error_text : ℕ → ℕ → ℕ → List ℕ
-utf16_error_text index item unit = codes "unpaired UTF-16 surrogate " ++ (digits 16 false unit ++ place_text index item)
+utf16_error_text index item unit = codes "unpaired UTF-16 surrogate " ++ (digits 16 false unit ++ position_text index item)
 
 abbrev pub utf32_error_text : ℕ → ℕ → ℕ → List ℕ
-utf32_error_text index item unit = codes "invalid UTF-32 value " ++ (digits 16 false unit ++ place_text index item)
+utf32_error_text index item unit = codes "invalid UTF-32 value " ++ (digits 16 false unit ++ position_text index item)
 
 abbrev pub transcode_error_text : TranscodeError → List ℕ
 transcode_error_text (Utf16 index item unit) = utf16_error_text index item unit

@@ -8,8 +8,8 @@ use Rattle.wide_utferror.specs.declared.convert.Utf16BytesError.{Utf16BytesError
 use Rattle.wide_utferror.specs.declared.convert.Utf16BytesError.TheVariants.{OddLength, Utf16, OutOfMemory}
 
 -- An odd length takes precedence, then a failed allocation, and then the first fault, with the vector of the units.
-abbrev pub TellsOfBytes : {A : Type 0} → List ℕ → Utf16BytesError A → Type 0
-TellsOfBytes bytes OddLength = is_odd bytes ≡ true
-TellsOfBytes bytes OutOfMemory = is_odd bytes ≡ false
-TellsOfBytes {A} bytes (Utf16 e) =
+abbrev pub ReportsOfBytes : {A : Type 0} → List ℕ → Utf16BytesError A → Type 0
+ReportsOfBytes bytes OddLength = is_odd bytes ≡ true
+ReportsOfBytes bytes OutOfMemory = is_odd bytes ≡ false
+ReportsOfBytes {A} bytes (Utf16 e) =
     (is_odd bytes ≡ false) × IsFirstFault form16 (units_of_bytes bytes) (index_of e) (item_of e) (unit_of e) × (vec : Vec ℕ A) × (vec_of e ≡ Some vec) × (vec.items ≡ units_of_bytes bytes)

@@ -3,7 +3,7 @@ ghost use Rattle.std.specs.Prelude.{◌≡◌, false, IfOk, IfErr, OnOk};
 ghost use Rattle.wide_unit.specs.EncodingForm.{Utf16};
 ghost use Rattle.wide_unit.specs.Items.{IsWellFormed};
 ghost use Rattle.wide_bytes.specs.Bytes.{units_of_bytes, is_odd};
-ghost use Rattle.wide_include.specs.Include.{TellsOfBytes};
+ghost use Rattle.wide_include.specs.Include.{ReportsOfBytes};
 
 use std::alloc::{AllocError, Allocator};
 use wide_bytes::units_of_bytes;
@@ -39,7 +39,7 @@ pub fn include_utf16str<A: Allocator>(
     ensures string { IfOk result (λ s. s.units ≡ units_of_bytes bytes.now) }
     ensures even { OnOk result (is_odd bytes.now ≡ false) }
     ensures ok { OnOk result (IsWellFormed Utf16 (units_of_bytes bytes.now)) }
-    ensures err { IfErr result (TellsOfBytes bytes.now) }
+    ensures err { IfErr result (ReportsOfBytes bytes.now) }
 {
     if bytes.len() % 2 == 1 {
         return Err(Utf16BytesError::OddLength);

@@ -26,13 +26,13 @@ left_where rest s b e = ap (λ d. cond d [] (rest s.inner)) e
 
 module _ {I A : Type 0} {Fits : A → Type 0} {steps : I → Option A → I → Type 0} (rest : I → List A) where
   pub unasked_first : GivesFirst Fits steps rest → (s t : Source I) (r : Option A) → IfSome r Fits → source_steps steps s r t → YieldsFirst (unasked rest) s r t
-  unasked_first tells s t r fits h = elim (by_end s.ended h) [
+  unasked_first reports s t r fits h = elim (by_end s.ended h) [
     | inl done ↦ (let none = left_where rest s true done.0 in rw done.1.0 (none, ap (unasked rest) done.1.1 ∙ none))
-    | inr more ↦ asked_first _ _ _ _ (left_where rest s false more.0) r more.1.1 (tells.at s.inner r t.inner fits more.1.0)
+    | inr more ↦ asked_first _ _ _ _ (left_where rest s false more.0) r more.1.1 (reports.at s.inner r t.inner fits more.1.0)
   ]
 
   pub unasked_last : GivesLast Fits steps rest → (s t : Source I) (r : Option A) → IfSome r Fits → source_steps steps s r t → YieldsLast (unasked rest) s r t
-  unasked_last tells s t r fits h = elim (by_end s.ended h) [
+  unasked_last reports s t r fits h = elim (by_end s.ended h) [
     | inl done ↦ (let none = left_where rest s true done.0 in rw done.1.0 (none, ap (unasked rest) done.1.1 ∙ none))
-    | inr more ↦ asked_last _ _ _ _ (left_where rest s false more.0) r more.1.1 (tells.at s.inner r t.inner fits more.1.0)
+    | inr more ↦ asked_last _ _ _ _ (left_where rest s false more.0) r more.1.1 (reports.at s.inner r t.inner fits more.1.0)
   ]

@@ -21,17 +21,17 @@ module _ (form : EncodingForm) (all rest : List ℕ) where
   pub first_pair : (mid : List ℕ) (h l c : ℕ) → all ≡ h ∷ mid → mid ≡ l ∷ rest → IsScalar c × (code_units form c ≡ h ∷ l ∷ []) → items form all ≡ Char c ∷ items form rest
   first_pair mid h l c e f made = items-first_pair form all rest h l c (e ∙ ap (λ us. h ∷ us) f) made.0 made.1
 
-  pub first_no_high : (u told : ℕ) → all ≡ u ∷ rest → IsFault form u → ¬ (IsHighSurrogate form u) → told ≡ u → items form all ≡ Fault told ∷ items form rest
-  first_no_high u told e fault apart same =
+  pub first_no_high : (u reported : ℕ) → all ≡ u ∷ rest → IsFault form u → ¬ (IsHighSurrogate form u) → reported ≡ u → items form all ≡ Fault reported ∷ items form rest
+  first_no_high u reported e fault apart same =
       items-first_fault form all rest u e fault (λ l back f pair. apart (IsPair-parts form u l pair).0) ∙ ap (λ v. Fault v ∷ items form rest) (sym same)
 
-  pub first_at_end : (mid : List ℕ) (u told : ℕ) → all ≡ u ∷ mid → mid ≡ [] → rest ≡ [] → IsFault form u → told ≡ u → items form all ≡ Fault told ∷ items form rest
-  first_at_end mid u told e f g fault same =
+  pub first_at_end : (mid : List ℕ) (u reported : ℕ) → all ≡ u ∷ mid → mid ≡ [] → rest ≡ [] → IsFault form u → reported ≡ u → items form all ≡ Fault reported ∷ items form rest
+  first_at_end mid u reported e f g fault same =
       let split : all ≡ u ∷ rest = e ∙ ap (λ us. u ∷ us) (f ∙ sym g) in
       items-first_fault form all rest u split fault (λ l back h pair. cc) ∙ ap (λ v. Fault v ∷ items form rest) (sym same)
 
-  pub first_apart : (mid after : List ℕ) (u v told : ℕ) → all ≡ u ∷ mid → mid ≡ v ∷ after → rest ≡ v ∷ after → IsFault form u → ¬ (IsPair form u v) → told ≡ u → items form all ≡ Fault told ∷ items form rest
-  first_apart mid after u v told e f g fault apart same =
+  pub first_apart : (mid after : List ℕ) (u v reported : ℕ) → all ≡ u ∷ mid → mid ≡ v ∷ after → rest ≡ v ∷ after → IsFault form u → ¬ (IsPair form u v) → reported ≡ u → items form all ≡ Fault reported ∷ items form rest
+  first_apart mid after u v reported e f g fault apart same =
       let split : all ≡ u ∷ rest = e ∙ ap (λ us. u ∷ us) (f ∙ sym g) in
       items-first_fault form all rest u split fault (λ l back h pair. let at : l ≡ v = cc in apart (rw at at pair)) ∙ ap (λ w. Fault w ∷ items form rest) (sym same)
 
@@ -43,12 +43,12 @@ module _ (form : EncodingForm) (all rest : List ℕ) where
   last_pair mid h l c e f made =
       items-last_pair form all rest h l c (e ∙ ap (λ us. us ++ l ∷ []) f ∙ append_assoc rest (h ∷ []) (l ∷ [])) made.0 made.1
 
-  pub last_no_low : (u told : ℕ) → all ≡ rest ++ u ∷ [] → IsFault form u → ¬ (IsLowSurrogate form u) → told ≡ u → items form all ≡ items form rest ++ Fault told ∷ []
-  last_no_low u told e fault apart same =
+  pub last_no_low : (u reported : ℕ) → all ≡ rest ++ u ∷ [] → IsFault form u → ¬ (IsLowSurrogate form u) → reported ≡ u → items form all ≡ items form rest ++ Fault reported ∷ []
+  last_no_low u reported e fault apart same =
       items-last_fault form all rest u e fault (λ front h f pair. apart (IsPair-parts form h u pair).1) ∙ ap (λ v. items form rest ++ Fault v ∷ []) (sym same)
 
-  pub last_at_front : (mid : List ℕ) (u told : ℕ) → all ≡ mid ++ u ∷ [] → mid ≡ [] → rest ≡ [] → IsFault form u → told ≡ u → items form all ≡ items form rest ++ Fault told ∷ []
-  last_at_front mid u told e f g fault same =
+  pub last_at_front : (mid : List ℕ) (u reported : ℕ) → all ≡ mid ++ u ∷ [] → mid ≡ [] → rest ≡ [] → IsFault form u → reported ≡ u → items form all ≡ items form rest ++ Fault reported ∷ []
+  last_at_front mid u reported e f g fault same =
       let split : all ≡ rest ++ u ∷ [] = e ∙ ap (λ us. us ++ u ∷ []) (f ∙ sym g) in
       items-last_fault form all rest u split fault (λ front h k pair. no_push front h (sym g ∙ k)) ∙ ap (λ v. items form rest ++ Fault v ∷ []) (sym same)
     where
@@ -56,8 +56,8 @@ module _ (form : EncodingForm) (all rest : List ℕ) where
       no_push [] h k = cc
       no_push (x ∷ front) h k = cc
 
-  pub last_apart : (mid before : List ℕ) (u v told : ℕ) → all ≡ mid ++ v ∷ [] → mid ≡ before ++ u ∷ [] → rest ≡ before ++ u ∷ [] → IsFault form v → ¬ (IsPair form u v) → told ≡ v → items form all ≡ items form rest ++ Fault told ∷ []
-  last_apart mid before u v told e f g fault apart same =
+  pub last_apart : (mid before : List ℕ) (u v reported : ℕ) → all ≡ mid ++ v ∷ [] → mid ≡ before ++ u ∷ [] → rest ≡ before ++ u ∷ [] → IsFault form v → ¬ (IsPair form u v) → reported ≡ v → items form all ≡ items form rest ++ Fault reported ∷ []
+  last_apart mid before u v reported e f g fault apart same =
       let split : all ≡ rest ++ v ∷ [] = e ∙ ap (λ us. us ++ v ∷ []) (f ∙ sym g) in
       items-last_fault form all rest v split fault (λ front h k pair. let at : h ≡ u = same_end front before h u (sym k ∙ g) in apart (rw (← at) pair)) ∙ ap (λ w. items form rest ++ Fault w ∷ []) (sym same)
     where

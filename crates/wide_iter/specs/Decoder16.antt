@@ -14,16 +14,16 @@ module _ {I : Type 0} where
   abbrev pub source_of : DecodeUtf16 I → Source I
   source_of s = s.source
 
-  abbrev pub front_hand : DecodeUtf16 I → Option ℕ
-  front_hand s = s.front
+  abbrev pub front_lookahead : DecodeUtf16 I → Option ℕ
+  front_lookahead s = s.front
 
-  abbrev pub back_hand : DecodeUtf16 I → Option ℕ
-  back_hand s = s.back
+  abbrev pub back_lookahead : DecodeUtf16 I → Option ℕ
+  back_lookahead s = s.back
 
   -- The units that are left: the one in the lookahead at the front, those of the source, and the one in the lookahead
   -- at the back.
   abbrev pub units_left : (I → List ℕ) → DecodeUtf16 I → List ℕ
-  units_left rest s = option_to_list (front_hand s) ++ unasked rest (source_of s) ++ option_to_list (back_hand s)
+  units_left rest s = option_to_list (front_lookahead s) ++ unasked rest (source_of s) ++ option_to_list (back_lookahead s)
 
   -- The items that will be yielded.
   abbrev pub items_left : (I → List ℕ) → DecodeUtf16 I → List Item
@@ -34,24 +34,24 @@ module _ {I : Type 0} where
   CanDecode can s = CanAsk can (source_of s)
 
   -- The number of units in the lookahead.
-  abbrev pub held : DecodeUtf16 I → ℕ
-  held s = option_len (front_hand s) + option_len (back_hand s)
+  abbrev pub pending : DecodeUtf16 I → ℕ
+  pending s = option_len (front_lookahead s) + option_len (back_lookahead s)
 
   -- At most as many items will be yielded as units are left.
   abbrev pub decoder_count : (I → Count) → DecodeUtf16 I → Count
-  decoder_count count s = count_map (λ n. n + held s) (source_count count (source_of s))
+  decoder_count count s = count_map (λ n. n + pending s) (source_count count (source_of s))
 
   -- Nothing is left, in the lookahead or the source.
   pub record IsSpent (s : DecodeUtf16 I) : Type 0 where
     pub ended : has_ended (source_of s) ≡ true
-    pub front : front_hand s ≡ None
-    pub back : back_hand s ≡ None
+    pub front : front_lookahead s ≡ None
+    pub back : back_lookahead s ≡ None
 
   -- The lookahead is empty, and the source may be called.
   pub record IsNew (s : DecodeUtf16 I) : Type 0 where
     pub asked : has_ended (source_of s) ≡ false
-    pub front : front_hand s ≡ None
-    pub back : back_hand s ≡ None
+    pub front : front_lookahead s ≡ None
+    pub back : back_lookahead s ≡ None
 
 -- The sum of an upper bound and `more`, if it fits into a `usize`.
 abbrev pub upper_with : Option ℕ → ℕ → Option ℕ

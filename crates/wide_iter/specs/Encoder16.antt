@@ -12,12 +12,12 @@ module _ {I : Type 0} where
   abbrev pub source_of : EncodeUtf16 I → Source I
   source_of s = s.source
 
-  abbrev pub unit_in_hand : EncodeUtf16 I → Option ℕ
-  unit_in_hand s = s.second
+  abbrev pub unit_in_lookahead : EncodeUtf16 I → Option ℕ
+  unit_in_lookahead s = s.second
 
   -- The units that will be yielded: the pending one, and those of the characters that are left.
   abbrev pub units_left : (I → List ℕ) → EncodeUtf16 I → List ℕ
-  units_left rest s = option_to_list (unit_in_hand s) ++ encode Utf16 (unasked rest (source_of s))
+  units_left rest s = option_to_list (unit_in_lookahead s) ++ encode Utf16 (unasked rest (source_of s))
 
   -- The source may be called, unless it has ended.
   abbrev pub CanEncode : (I → Type 0) → EncodeUtf16 I → Type 0
@@ -25,9 +25,9 @@ module _ {I : Type 0} where
 
   -- At most two units will be yielded for each character, and the pending one.
   abbrev pub encoder_count : (I → Count) → EncodeUtf16 I → Count
-  encoder_count count s = count_map (λ n. n * 2 + option_len (unit_in_hand s)) (source_count count (source_of s))
+  encoder_count count s = count_map (λ n. n * 2 + option_len (unit_in_lookahead s)) (source_count count (source_of s))
 
   -- No unit is pending, and the source may be called.
   pub record IsNew (s : EncodeUtf16 I) : Type 0 where
     pub asked : has_ended (source_of s) ≡ false
-    pub hand : unit_in_hand s ≡ None
+    pub lookahead : unit_in_lookahead s ≡ None

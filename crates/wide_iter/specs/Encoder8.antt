@@ -5,26 +5,26 @@ use Rattle.wide_unit.specs.Utf8.{utf8}
 use Rattle.wide_iter.specs.Source.{has_ended, unasked, CanAsk, source_count}
 use Rattle.wide_iter.specs.declared.source.Source.{Source}
 use Rattle.wide_iter.specs.declared.encode8.EncodeUtf8.{EncodeUtf8}
-use Rattle.wide_iter.specs.declared.encode8.Held.{Held}
-use Rattle.wide_iter.specs.declared.encode8.Held.TheVariants.{Zero, One, Two, Three}
+use Rattle.wide_iter.specs.declared.encode8.Pending.{Pending}
+use Rattle.wide_iter.specs.declared.encode8.Pending.TheVariants.{Zero, One, Two, Three}
 
-abbrev pub held_bytes : Held → List ℕ
-held_bytes Zero = []
-held_bytes (One a) = a ∷ []
-held_bytes (Two a b) = a ∷ b ∷ []
-held_bytes (Three a b c) = a ∷ b ∷ c ∷ []
+abbrev pub pending_bytes : Pending → List ℕ
+pending_bytes Zero = []
+pending_bytes (One a) = a ∷ []
+pending_bytes (Two a b) = a ∷ b ∷ []
+pending_bytes (Three a b c) = a ∷ b ∷ c ∷ []
 
 module _ {I : Type 0} where
   -- The source, and the pending bytes of a character.
   abbrev pub source_of : EncodeUtf8 I → Source I
   source_of s = s.source
 
-  abbrev pub bytes_in_hand : EncodeUtf8 I → List ℕ
-  bytes_in_hand s = held_bytes s.held
+  abbrev pub bytes_in_lookahead : EncodeUtf8 I → List ℕ
+  bytes_in_lookahead s = pending_bytes s.pending
 
   -- The bytes that will be yielded: the pending ones, and those of the characters that are left.
   abbrev pub bytes_left : (I → List ℕ) → EncodeUtf8 I → List ℕ
-  bytes_left rest s = bytes_in_hand s ++ utf8 (unasked rest (source_of s))
+  bytes_left rest s = bytes_in_lookahead s ++ utf8 (unasked rest (source_of s))
 
   -- The source may be called, unless it has ended.
   abbrev pub CanEncode : (I → Type 0) → EncodeUtf8 I → Type 0
@@ -32,9 +32,9 @@ module _ {I : Type 0} where
 
   -- At most four bytes will be yielded for each character, and the pending ones.
   abbrev pub encoder_count : (I → Count) → EncodeUtf8 I → Count
-  encoder_count count s = count_map (λ n. n * 4 + length (bytes_in_hand s)) (source_count count (source_of s))
+  encoder_count count s = count_map (λ n. n * 4 + length (bytes_in_lookahead s)) (source_count count (source_of s))
 
   -- No byte is pending, and the source may be called.
   pub record IsNew (s : EncodeUtf8 I) : Type 0 where
     pub asked : has_ended (source_of s) ≡ false
-    pub hand : bytes_in_hand s ≡ []
+    pub lookahead : bytes_in_lookahead s ≡ []

@@ -49,11 +49,11 @@ module _ {D E : Type 0} (steps : D → Option (Result ℕ E) → D → Type 0) w
   -- A run of faults was read from the front, or the back, and then the character that was returned, or nothing.
   pub record TakesFirstCharacter (s : Source D) (r : Option ℕ) (t : Source D) : Type 0 where
     pub at : (number : E → ℕ) (rest : D → List Item) → GivesFirstItem number rest
-        → (row : List ℕ) × MatchOption r ((unasked rest s ≡ map Fault row) × (unasked rest t ≡ [])) (λ c. unasked rest s ≡ map Fault row ++ Char c ∷ unasked rest t)
+        → (run : List ℕ) × MatchOption r ((unasked rest s ≡ map Fault run) × (unasked rest t ≡ [])) (λ c. unasked rest s ≡ map Fault run ++ Char c ∷ unasked rest t)
 
   pub record TakesLastCharacter (s : Source D) (r : Option ℕ) (t : Source D) : Type 0 where
     pub at : (number : E → ℕ) (rest : D → List Item) → GivesLastItem number rest
-        → (row : List ℕ) × MatchOption r ((unasked rest s ≡ map Fault row) × (unasked rest t ≡ [])) (λ c. unasked rest s ≡ unasked rest t ++ Char c ∷ map Fault row)
+        → (run : List ℕ) × MatchOption r ((unasked rest s ≡ map Fault run) × (unasked rest t ≡ [])) (λ c. unasked rest s ≡ unasked rest t ++ Char c ∷ map Fault run)
 
   -- For each function that returns the items of the decoder, a call yielded the first, or the last, of the characters
   -- that were left.

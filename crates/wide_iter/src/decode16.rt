@@ -4,11 +4,11 @@ ghost use Rattle.std.specs.Iterator.{MakesProgress, UpTo};
 ghost use Rattle.std.specs.Iterator.SizeHint.{IsWithinCount};
 ghost use Rattle.wide_unit.specs.EncodingForm.{Utf16, IsCodeUnit};
 ghost use Rattle.wide_unit.specs.Items.{items};
-ghost use Rattle.wide_unit.specs.Unit.{told_item};
+ghost use Rattle.wide_unit.specs.Unit.{reported_item};
 ghost use Rattle.wide_iter.specs.Over.{FirstOver, LastOver};
 ghost use Rattle.wide_iter.specs.Source.{inner_of, unasked, source_count};
 ghost use Rattle.wide_iter.specs.Sources.{copied_rest};
-ghost use Rattle.wide_iter.specs.Decoder16.{source_of, front_hand, back_hand, units_left, items_left, CanDecode, decoder_count, IsSpent, IsNew, held, upper_with};
+ghost use Rattle.wide_iter.specs.Decoder16.{source_of, front_lookahead, back_lookahead, units_left, items_left, CanDecode, decoder_count, IsSpent, IsNew, pending, upper_with};
 
 use crate::source::Source;
 use std::iter::{Copied, FusedIterator};
@@ -48,12 +48,12 @@ pub fn decode_utf16<U: IntoIterator<Item = u16>>(units: U) -> DecodeUtf16<U::Int
 
 /// Returns the size hint of a decoder of UTF-16, from the hint of its source and the number of units in the lookahead:
 /// at least one item for two units of the source, and at most one for each unit, if that number does not overflow.
-fn decoded_hint(source: (usize, Option<usize>), held: usize) -> (usize, Option<usize>)
+fn decoded_hint(source: (usize, Option<usize>), pending: usize) -> (usize, Option<usize>)
     ensures lower { result.0 ≡ source.0 / 2 }
-    ensures upper { result.1 ≡ upper_with source.1 held }
+    ensures upper { result.1 ≡ upper_with source.1 pending }
 {
     let upper = match source.1 {
-        Some(upper) => upper.checked_add(held),
+        Some(upper) => upper.checked_add(pending),
         None => None,
     };
     (source.0 / 2, upper)
@@ -61,8 +61,8 @@ fn decoded_hint(source: (usize, Option<usize>), held: usize) -> (usize, Option<u
 
 impl<I> DecodeUtf16<I> {
     // Returns the number of units in the lookahead.
-    fn held(&self) -> usize
-        ensures value { result ≡ held self.now }
+    fn pending(&self) -> usize
+        ensures value { result ≡ pending self.now }
         ensures bound { result ≤ 2 }
     {
         usize::from(self.front.is_some()) + usize::from(self.back.is_some())
@@ -75,7 +75,7 @@ impl<I: Iterator<Item = u16>> DecodeUtf16<I> {
         requires { CanDecode I.can_next self.old }
         ensures steps { FirstOver (IsCodeUnit Utf16) I.next_gives (λ u. u) units_left self.old result self.new }
         ensures goes { MakesProgress (CanDecode I.can_next) (decoder_count I.remaining) self.old result self.new }
-        ensures hand { front_hand self.new ≡ None }
+        ensures lookahead { front_lookahead self.new ≡ None }
         ensures ends { IfNone result (IsSpent self.new) }
         ensures stays { IsSpent self.old → (result ≡ None) × IsSpent self.new }
     {
@@ -95,7 +95,7 @@ impl<I: DoubleEndedIterator<Item = u16>> DecodeUtf16<I> {
         requires { CanDecode I.can_next_back self.old }
         ensures steps { LastOver (IsCodeUnit Utf16) I.next_back_gives (λ u. u) units_left self.old result self.new }
         ensures goes { MakesProgress (CanDecode I.can_next_back) (decoder_count I.remaining) self.old result self.new }
-        ensures hand { back_hand self.new ≡ None }
+        ensures lookahead { back_lookahead self.new ≡ None }
         ensures ends { IfNone result (IsSpent self.new) }
         ensures stays { IsSpent self.old → (result ≡ None) × IsSpent self.new }
     {
@@ -114,7 +114,7 @@ impl<I: Iterator<Item = u16>> Iterator for DecodeUtf16<I> {
 
     ghost can_next = { CanDecode I.can_next };
 
-    ghost next_gives = { FirstOver (IsCodeUnit Utf16) I.next_gives told_item items_left };
+    ghost next_gives = { FirstOver (IsCodeUnit Utf16) I.next_gives reported_item items_left };
 
     ghost remaining = { decoder_count I.remaining };
 
@@ -143,14 +143,14 @@ impl<I: Iterator<Item = u16>> Iterator for DecodeUtf16<I> {
         ensures upper { IfSome result.1 (UpTo (decoder_count I.remaining self.now)) }
         ensures least { IsWithinCount (result.0 * 2) (source_count I.remaining (source_of self.now)) }
     {
-        decoded_hint(self.source.size_hint(), self.held())
+        decoded_hint(self.source.size_hint(), self.pending())
     }
 }
 
 impl<I: DoubleEndedIterator<Item = u16>> DoubleEndedIterator for DecodeUtf16<I> {
     ghost can_next_back = { CanDecode I.can_next_back };
 
-    ghost next_back_gives = { LastOver (IsCodeUnit Utf16) I.next_back_gives told_item items_left };
+    ghost next_back_gives = { LastOver (IsCodeUnit Utf16) I.next_back_gives reported_item items_left };
 
     #[inline]
     fn next_back(&mut self) -> Option<Result<char, DecodeUtf16Error>> {
@@ -179,10 +179,10 @@ impl DecodeUtf16<Copied<Iter<'_, u16>>> {
     /// `size_hint`, whose contract says less.
     pub fn size_hint(&self) -> (usize, Option<usize>)
         ensures lower { result.0 ≡ length (unasked copied_rest (source_of self.now)) / 2 }
-        ensures upper { result.1 ≡ upper_with (Some (length (unasked copied_rest (source_of self.now)))) (held self.now) }
+        ensures upper { result.1 ≡ upper_with (Some (length (unasked copied_rest (source_of self.now)))) (pending self.now) }
     {
         let left = self.source.len();
-        decoded_hint((left, Some(left)), self.held())
+        decoded_hint((left, Some(left)), self.pending())
     }
 }
 

@@ -3,7 +3,7 @@ ghost use Rattle.std.specs.Prelude.{◌≡◌, ◌∷◌, [], ℕ, false, List, 
 ghost use Rattle.std.specs.Iterator.{size};
 ghost use Rattle.wide_unit.specs.EncodingForm.{Utf32, IsCodeUnit};
 ghost use Rattle.wide_unit.specs.Items.{items};
-ghost use Rattle.wide_unit.specs.Unit.{told_item};
+ghost use Rattle.wide_unit.specs.Unit.{reported_item};
 ghost use Rattle.wide_iter.specs.Over.{FirstOver, LastOver};
 ghost use Rattle.wide_iter.specs.Source.{has_ended, inner_of};
 ghost use Rattle.wide_iter.specs.Decoder32.{source32_of, items32_left, CanDecode32, decoder32_count};
@@ -40,7 +40,7 @@ pub fn decode_utf32<U: IntoIterator<Item = u32>>(units: U) -> DecodeUtf32<U::Int
 
 // Decodes one unit, whatever its neighbours.
 fn decode_unit(unit: u32) -> Result<char, DecodeUtf32Error>
-    ensures { items Utf32 (unit ∷ []) ≡ told_item result ∷ [] }
+    ensures { items Utf32 (unit ∷ []) ≡ reported_item result ∷ [] }
 {
     match unit.as_scalar() {
         Some(c) => Ok(c),
@@ -53,7 +53,7 @@ impl<I: Iterator<Item = u32>> Iterator for DecodeUtf32<I> {
 
     ghost can_next = { CanDecode32 I.can_next };
 
-    ghost next_gives = { FirstOver (IsCodeUnit Utf32) I.next_gives told_item items32_left };
+    ghost next_gives = { FirstOver (IsCodeUnit Utf32) I.next_gives reported_item items32_left };
 
     ghost remaining = { decoder32_count I.remaining };
 
@@ -71,7 +71,7 @@ impl<I: Iterator<Item = u32>> Iterator for DecodeUtf32<I> {
 impl<I: DoubleEndedIterator<Item = u32>> DoubleEndedIterator for DecodeUtf32<I> {
     ghost can_next_back = { CanDecode32 I.can_next_back };
 
-    ghost next_back_gives = { LastOver (IsCodeUnit Utf32) I.next_back_gives told_item items32_left };
+    ghost next_back_gives = { LastOver (IsCodeUnit Utf32) I.next_back_gives reported_item items32_left };
 
     #[inline]
     fn next_back(&mut self) -> Option<Result<char, DecodeUtf32Error>> {

@@ -9,7 +9,7 @@ ghost use Rattle.wide_iter.specs.Over.{FirstOver};
 ghost use Rattle.wide_iter.specs.Hints.{upper_times};
 ghost use Rattle.wide_iter.specs.Source.{inner_of, source_count, unasked};
 ghost use Rattle.wide_iter.specs.Sources.{copied_rest};
-ghost use Rattle.wide_iter.specs.Encoder16.{source_of, unit_in_hand, units_left, CanEncode, encoder_count, IsNew};
+ghost use Rattle.wide_iter.specs.Encoder16.{source_of, unit_in_lookahead, units_left, CanEncode, encoder_count, IsNew};
 
 use crate::hints::encoded_hint;
 use crate::source::Source;
@@ -81,7 +81,7 @@ impl EncodeUtf16<Copied<Iter<'_, char>>> {
     /// `size_hint`, whose contract says less.
     pub fn size_hint(&self) -> (usize, Option<usize>)
         ensures lower { result.0 ≡ length (unasked copied_rest (source_of self.now)) }
-        ensures upper { result.1 ≡ upper_times (Some (length (unasked copied_rest (source_of self.now)))) 2 (option_len (unit_in_hand self.now)) }
+        ensures upper { result.1 ≡ upper_times (Some (length (unasked copied_rest (source_of self.now)))) 2 (option_len (unit_in_lookahead self.now)) }
     {
         let left = self.source.len();
         encoded_hint((left, Some(left)), 2, usize::from(self.second.is_some()))

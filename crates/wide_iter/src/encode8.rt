@@ -8,7 +8,7 @@ ghost use Rattle.wide_iter.specs.Over.{FirstOver};
 ghost use Rattle.wide_iter.specs.Hints.{upper_times};
 ghost use Rattle.wide_iter.specs.Source.{inner_of, source_count, unasked};
 ghost use Rattle.wide_iter.specs.Sources.{copied_rest};
-ghost use Rattle.wide_iter.specs.Encoder8.{source_of, held_bytes, bytes_in_hand, bytes_left, CanEncode, encoder_count, IsNew};
+ghost use Rattle.wide_iter.specs.Encoder8.{source_of, pending_bytes, bytes_in_lookahead, bytes_left, CanEncode, encoder_count, IsNew};
 
 use crate::hints::encoded_hint;
 use crate::source::Source;
@@ -17,7 +17,7 @@ use std::slice::Iter;
 
 /// The pending bytes of a character, after its first byte.
 #[derive(Clone, Copy, Debug)]
-enum Held {
+enum Pending {
     Zero,
     One(u8),
     Two(u8, u8),
@@ -31,7 +31,7 @@ enum Held {
 #[derive(Debug, Drop)]
 pub struct EncodeUtf8<I> {
     source: Source<I>,
-    held: Held,
+    pending: Pending,
 }
 
 /// Creates an encoder to UTF-8 of the characters that `chars` yields.
@@ -45,7 +45,7 @@ pub fn encode_utf8<C: IntoIterator<Item = char>>(chars: C) -> EncodeUtf8<C::Into
             inner: chars.into_iter(),
             ended: false,
         },
-        held: Held::Zero,
+        pending: Pending::Zero,
     }
 }
 
@@ -60,39 +60,39 @@ fn trailing_byte(bits: u32) -> u8
 // Returns the first byte of a character, and the bytes after it.
 #[inline]
 #[tactic(auto, unfolding(wide_unit::specs::Utf8::utf8_bytes))]
-fn encoded(c: char) -> (u8, Held)
-    ensures { result.0 ∷ held_bytes result.1 ≡ utf8_bytes c }
+fn encoded(c: char) -> (u8, Pending)
+    ensures { result.0 ∷ pending_bytes result.1 ≡ utf8_bytes c }
 {
     let code = u32::from(c);
     if code < 0x80 {
-        return (code as u8, Held::Zero);
+        return (code as u8, Pending::Zero);
     }
     let last = trailing_byte(code);
     if code < 0x800 {
-        return ((0xC0 + code / 0x40) as u8, Held::One(last));
+        return ((0xC0 + code / 0x40) as u8, Pending::One(last));
     }
     let before = trailing_byte(code / 0x40);
     if code < 0x1_0000 {
-        return ((0xE0 + code / 0x1000) as u8, Held::Two(before, last));
+        return ((0xE0 + code / 0x1000) as u8, Pending::Two(before, last));
     }
     let second = trailing_byte(code / 0x1000);
     (
         (0xF0 + code / 0x4_0000) as u8,
-        Held::Three(second, before, last),
+        Pending::Three(second, before, last),
     )
 }
 
 impl<I> EncodeUtf8<I> {
     // Returns the number of pending bytes.
-    fn held(&self) -> usize
-        ensures value { result ≡ length (bytes_in_hand self.now) }
+    fn pending(&self) -> usize
+        ensures value { result ≡ length (bytes_in_lookahead self.now) }
         ensures bound { result ≤ 3 }
     {
-        match self.held {
-            Held::Zero => 0,
-            Held::One(_) => 1,
-            Held::Two(_, _) => 2,
-            Held::Three(_, _, _) => 3,
+        match self.pending {
+            Pending::Zero => 0,
+            Pending::One(_) => 1,
+            Pending::Two(_, _) => 2,
+            Pending::Three(_, _, _) => 3,
         }
     }
 }
@@ -108,22 +108,22 @@ impl<I: Iterator<Item = char>> Iterator for EncodeUtf8<I> {
 
     #[inline]
     fn next(&mut self) -> Option<u8> {
-        match self.held {
-            Held::Zero => {
+        match self.pending {
+            Pending::Zero => {
                 let (first, rest) = encoded(self.source.next()?);
-                self.held = rest;
+                self.pending = rest;
                 Some(first)
             }
-            Held::One(byte) => {
-                self.held = Held::Zero;
+            Pending::One(byte) => {
+                self.pending = Pending::Zero;
                 Some(byte)
             }
-            Held::Two(byte, last) => {
-                self.held = Held::One(last);
+            Pending::Two(byte, last) => {
+                self.pending = Pending::One(last);
                 Some(byte)
             }
-            Held::Three(byte, before, last) => {
-                self.held = Held::Two(before, last);
+            Pending::Three(byte, before, last) => {
+                self.pending = Pending::Two(before, last);
                 Some(byte)
             }
         }
@@ -134,7 +134,7 @@ impl<I: Iterator<Item = char>> Iterator for EncodeUtf8<I> {
         ensures upper { IfSome result.1 (UpTo (encoder_count I.remaining self.now)) }
         ensures least { IsWithinCount result.0 (source_count I.remaining (source_of self.now)) }
     {
-        encoded_hint(self.source.size_hint(), 4, self.held())
+        encoded_hint(self.source.size_hint(), 4, self.pending())
     }
 }
 
@@ -144,10 +144,10 @@ impl EncodeUtf8<Copied<Iter<'_, char>>> {
     /// `size_hint`, whose contract says less.
     pub fn size_hint(&self) -> (usize, Option<usize>)
         ensures lower { result.0 ≡ length (unasked copied_rest (source_of self.now)) }
-        ensures upper { result.1 ≡ upper_times (Some (length (unasked copied_rest (source_of self.now)))) 4 (length (bytes_in_hand self.now)) }
+        ensures upper { result.1 ≡ upper_times (Some (length (unasked copied_rest (source_of self.now)))) 4 (length (bytes_in_lookahead self.now)) }
     {
         let left = self.source.len();
-        encoded_hint((left, Some(left)), 4, self.held())
+        encoded_hint((left, Some(left)), 4, self.pending())
     }
 }
 

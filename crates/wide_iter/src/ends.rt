@@ -3,7 +3,7 @@ ghost use Rattle.std.specs.Prelude.{◌≡◌, [], map, IfOk, IsOk};
 ghost use Rattle.std.specs.Option.{option_map};
 ghost use Rattle.wide_unit.specs.EncodingForm.{Utf16, Utf32};
 ghost use Rattle.wide_unit.specs.Items.{items};
-ghost use Rattle.wide_unit.specs.Unit.{told_item};
+ghost use Rattle.wide_unit.specs.Unit.{reported_item};
 ghost use Rattle.wide_iter.specs.Answers.{answers};
 
 use crate::decode16::decode_utf16;
@@ -31,7 +31,7 @@ pub fn read_ends16<A: Allocator>(
     units: &[u16],
     ends: &[End],
 ) -> Result<Vec<Option<Result<char, DecodeUtf16Error>>, A>, OutOfMemory>
-    ensures answers { IfOk result (λ v. map (option_map told_item) v.items ≡ answers (items Utf16 units.now) ends.now) }
+    ensures answers { IfOk result (λ v. map (option_map reported_item) v.items ≡ answers (items Utf16 units.now) ends.now) }
     ensures succeeds { ends.now ≡ [] → IsOk result }
 {
     let mut given = Vec::with_capacity(alloc, ends.len())?;
@@ -57,7 +57,7 @@ pub fn read_ends32<A: Allocator>(
     units: &[u32],
     ends: &[End],
 ) -> Result<Vec<Option<Result<char, DecodeUtf32Error>>, A>, OutOfMemory>
-    ensures answers { IfOk result (λ v. map (option_map told_item) v.items ≡ answers (items Utf32 units.now) ends.now) }
+    ensures answers { IfOk result (λ v. map (option_map reported_item) v.items ≡ answers (items Utf32 units.now) ends.now) }
     ensures succeeds { ends.now ≡ [] → IsOk result }
 {
     let mut answered = Vec::with_capacity(alloc, ends.len())?;

@@ -8,14 +8,14 @@ ghost use Rattle.wide_iter.specs.Hints.{upper_times};
 pub(crate) fn encoded_hint(
     source: (usize, Option<usize>),
     most: usize,
-    held: usize,
+    pending: usize,
 ) -> (usize, Option<usize>)
     ensures lower { result.0 ≡ source.0 }
-    ensures upper { result.1 ≡ upper_times source.1 most held }
+    ensures upper { result.1 ≡ upper_times source.1 most pending }
 {
     let upper = match source.1 {
         Some(upper) => match upper.checked_mul(most) {
-            Some(all) => all.checked_add(held),
+            Some(all) => all.checked_add(pending),
             None => None,
         },
         None => None,

@@ -9,7 +9,7 @@ ghost use Rattle.wide_unit.specs.Lossy.{lossy};
 ghost use Rattle.wide_iter.specs.Over.{FirstOver, LastOver};
 ghost use Rattle.wide_iter.specs.Source.{has_ended, inner_of, source_count, unasked};
 ghost use Rattle.wide_iter.specs.Sources.{copied_rest};
-ghost use Rattle.wide_iter.specs.Decoder16.{source_of, CanDecode, decoder_count, IsNew, held, upper_with};
+ghost use Rattle.wide_iter.specs.Decoder16.{source_of, CanDecode, decoder_count, IsNew, pending, upper_with};
 ghost use Rattle.wide_iter.specs.Decoder32.{source32_of, CanDecode32, decoder32_count};
 ghost use Rattle.wide_iter.specs.Lossy.{lossy_answer, strict16_of, strict32_of, lossy16_left, lossy32_left};
 
@@ -111,7 +111,7 @@ impl DecodeUtf16Lossy<Copied<Iter<'_, u16>>> {
     /// `size_hint`, whose contract says less.
     pub fn size_hint(&self) -> (usize, Option<usize>)
         ensures lower { result.0 ≡ length (unasked copied_rest (source_of (strict16_of self.now))) / 2 }
-        ensures upper { result.1 ≡ upper_with (Some (length (unasked copied_rest (source_of (strict16_of self.now))))) (held (strict16_of self.now)) }
+        ensures upper { result.1 ≡ upper_with (Some (length (unasked copied_rest (source_of (strict16_of self.now))))) (pending (strict16_of self.now)) }
     {
         self.utf16.size_hint()
     }

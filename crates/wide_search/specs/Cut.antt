@@ -1,20 +1,20 @@
 -- The only list of substrings into which a list of numbers is split.
 use Rattle.std.specs.Prelude.{◌≡◌, ℕ, ◌<◌, List, [], ◌∷◌, length}
 use Rattle.std.proofs.Common.{arith, refl}
-use Rattle.wide_search.specs.Pieces.{ArePieces}
-use Rattle.wide_search.specs.Laws.Stands.{pieces-exist}
+use Rattle.wide_search.specs.Substrings.{AreSubstrings}
+use Rattle.wide_search.specs.Laws.Occurrences.{substrings-exist}
 
--- It is opaque: all that is known about it is `pieces-are`, and that there is no other. For an empty separator it is
+-- It is opaque: all that is known about it is `substrings-are`, and that there is no other. For an empty separator it is
 -- the whole list.
-pub pieces : List ℕ → List ℕ → List (List ℕ)
-pieces [] whole = whole ∷ []
-pieces (p ∷ part) whole = (pieces-exist p part whole).0
+pub substrings : List ℕ → List ℕ → List (List ℕ)
+substrings [] whole = whole ∷ []
+substrings (p ∷ needle) whole = (substrings-exist p needle whole).0
 
-pub pieces-are : (part whole : List ℕ) → 0 < length part → ArePieces part whole (pieces part whole)
-unfolding pieces
-pieces-are [] whole some = absurd (omega (arith, some))
-pieces-are (p ∷ part) whole some = (pieces-exist p part whole).1
+pub substrings-are : (needle whole : List ℕ) → 0 < length needle → AreSubstrings needle whole (substrings needle whole)
+unfolding substrings
+substrings-are [] whole some = absurd (omega (arith, some))
+substrings-are (p ∷ needle) whole some = (substrings-exist p needle whole).1
 
-pub pieces-whole : (whole : List ℕ) → pieces [] whole ≡ whole ∷ []
-unfolding pieces
-pieces-whole whole = refl
+pub substrings-whole : (whole : List ℕ) → substrings [] whole ≡ whole ∷ []
+unfolding substrings
+substrings-whole whole = refl

@@ -1,5 +1,5 @@
 -- Proofs that contracts and definitions of this crate cite, and the laws that dependent crates cite.
-pub mod Stands
+pub mod Occurrences
 pub mod Numbers
 pub mod Ends
 pub mod Characters

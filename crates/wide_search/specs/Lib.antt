@@ -1,5 +1,5 @@
-pub mod Parts
-pub mod Pieces
+pub mod Occurrences
+pub mod Substrings
 pub mod Cut
 pub mod Sought
 pub mod Statements

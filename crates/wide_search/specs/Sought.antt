@@ -1,6 +1,6 @@
 -- The units of a needle.
 use Rattle.std.specs.Prelude.{List, [], ◌∷◌, Option, Some, None}
-use Rattle.wide_search.specs.declared.part.Few.{Few}
+use Rattle.wide_search.specs.declared.needle.Few.{Few}
 
 abbrev pub first_and : {C : Type 0} → C → Option C → List C
 first_and u None = u ∷ []

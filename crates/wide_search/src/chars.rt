@@ -1,9 +1,9 @@
 //! Searches for a character in units.
 ghost use Rattle.std.specs.Prelude.{◌+◌, ◌≤◌, length, map, IfNone, IfSome};
 ghost use Rattle.wide_unit.specs.EncodingForm.{code_units};
-ghost use Rattle.wide_search.specs.Parts.{IsFirstAt, IsLastAt, StandsNowhere};
+ghost use Rattle.wide_search.specs.Occurrences.{IsFirstAt, IsLastAt, OccursNowhere};
 
-use crate::part::Few;
+use crate::needle::Few;
 use crate::search::{find_in, rfind_in};
 use wide_unit::Unit;
 
@@ -11,7 +11,7 @@ use wide_unit::Unit;
 /// be ill-formed. A surrogate of a pair is no character, so it is never found.
 pub fn find_char<C: Unit>(units: &[C], c: char) -> Option<usize>
     ensures first { IfSome result (IsFirstAt (code_units C.form c) (map C.number units.now)) }
-    ensures none { IfNone result (StandsNowhere (code_units C.form c) (map C.number units.now)) }
+    ensures none { IfNone result (OccursNowhere (code_units C.form c) (map C.number units.now)) }
     ensures within { IfSome result (λ at. at + length (code_units C.form c) ≤ length units.now) }
 {
     find_in(units, Few::of_char(c))
@@ -21,7 +21,7 @@ pub fn find_char<C: Unit>(units: &[C], c: char) -> Option<usize>
 /// be ill-formed.
 pub fn rfind_char<C: Unit>(units: &[C], c: char) -> Option<usize>
     ensures last { IfSome result (IsLastAt (code_units C.form c) (map C.number units.now)) }
-    ensures none { IfNone result (StandsNowhere (code_units C.form c) (map C.number units.now)) }
+    ensures none { IfNone result (OccursNowhere (code_units C.form c) (map C.number units.now)) }
     ensures within { IfSome result (λ at. at + length (code_units C.form c) ≤ length units.now) }
 {
     rfind_in(units, Few::of_char(c))

@@ -1,28 +1,28 @@
 //! The laws of the definitions. Each law is a function that does nothing, and its contract is the law.
-ghost use Rattle.wide_search.specs.Statements.{FirstIsUnique, LastIsUnique, PiecesExist, PiecesAreUnique, PiecesJoin, WholeAtNoPart, PartsAreBetweenCharacters, PartsAreOfCharacters, FirstIsOfCharacters, LastIsOfCharacters};
+ghost use Rattle.wide_search.specs.Statements.{FirstIsUnique, LastIsUnique, SubstringsExist, SubstringsAreUnique, SubstringsJoin, WholeAtNoNeedle, NeedlesAreBetweenCharacters, NeedlesAreOfCharacters, FirstIsOfCharacters, LastIsOfCharacters};
 
 /// A needle has at most one first occurrence in a list, and at most one last one.
-pub fn one_place<T>()
+pub fn one_offset<T>()
     ensures first { FirstIsUnique T }
     ensures last { LastIsUnique T }
 {}
 
 /// Splitting a list at a separator that is not empty yields exactly one list of substrings. Joining them with the
 /// separator yields the list. Splitting at an empty separator yields the list itself as the only substring.
-pub fn one_list_of_pieces()
-    ensures some { PiecesExist }
-    ensures unique { PiecesAreUnique }
-    ensures joined { PiecesJoin }
-    ensures empty { WholeAtNoPart }
+pub fn one_list_of_substrings()
+    ensures some { SubstringsExist }
+    ensures unique { SubstringsAreUnique }
+    ensures joined { SubstringsJoin }
+    ensures empty { WholeAtNoNeedle }
 {}
 
 /// A well-formed needle that is not empty occurs in any units only between two items, or at an end. Its offset and the
 /// offset after it are boundaries, since no character begins with a low surrogate, and none ends with a high one
 /// (Unicode Standard, D75 and D85). In well-formed units its characters occur at such an offset exactly if its units
 /// do, and its first occurrence in the units is its first one among the characters.
-pub fn parts_of_text()
-    ensures between { PartsAreBetweenCharacters }
-    ensures characters { PartsAreOfCharacters }
+pub fn needles_in_text()
+    ensures between { NeedlesAreBetweenCharacters }
+    ensures characters { NeedlesAreOfCharacters }
     ensures first { FirstIsOfCharacters }
     ensures last { LastIsOfCharacters }
 {}

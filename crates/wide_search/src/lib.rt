@@ -8,7 +8,7 @@
 
 mod chars;
 pub mod laws;
-mod part;
+mod needle;
 mod search;
 mod units;
 

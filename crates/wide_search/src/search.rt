@@ -1,16 +1,16 @@
 //! Searches for a needle from both ends.
 ghost use Rattle.std.specs.Prelude.{IfNone, IfSome};
-ghost use Rattle.wide_search.specs.Parts.{IsFirstAt, IsLastAt, StandsNowhere};
+ghost use Rattle.wide_search.specs.Occurrences.{IsFirstAt, IsLastAt, OccursNowhere};
 
-use crate::part::Part;
+use crate::needle::Needle;
 use wide_unit::{Unit, first_of};
 
 // Returns the offset of the first occurrence of the needle, or `None`. The search for its first unit is vectorized.
-pub(crate) fn find_in<C: Unit, P: Part<C>>(units: &[C], part: P) -> Option<usize>
-    ensures first { IfSome result (IsFirstAt (P.sought part) units.now) }
-    ensures none { IfNone result (StandsNowhere (P.sought part) units.now) }
+pub(crate) fn find_in<C: Unit, P: Needle<C>>(units: &[C], needle: P) -> Option<usize>
+    ensures first { IfSome result (IsFirstAt (P.sought needle) units.now) }
+    ensures none { IfNone result (OccursNowhere (P.sought needle) units.now) }
 {
-    let Some(first) = part.first() else {
+    let Some(first) = needle.first() else {
         return Some(0);
     };
     let mut at = 0;
@@ -20,7 +20,7 @@ pub(crate) fn find_in<C: Unit, P: Part<C>>(units: &[C], part: P) -> Option<usize
             return None;
         };
         let (_, here) = rest.split_at(step);
-        if part.begins(here) {
+        if needle.begins(here) {
             return Some(at + step);
         }
         at += step + 1;
@@ -29,22 +29,22 @@ pub(crate) fn find_in<C: Unit, P: Part<C>>(units: &[C], part: P) -> Option<usize
 }
 
 // Returns the offset of the last occurrence of the needle, or `None`.
-pub(crate) fn rfind_in<C: Unit, P: Part<C>>(units: &[C], part: P) -> Option<usize>
-    ensures last { IfSome result (IsLastAt (P.sought part) units.now) }
-    ensures none { IfNone result (StandsNowhere (P.sought part) units.now) }
+pub(crate) fn rfind_in<C: Unit, P: Needle<C>>(units: &[C], needle: P) -> Option<usize>
+    ensures last { IfSome result (IsLastAt (P.sought needle) units.now) }
+    ensures none { IfNone result (OccursNowhere (P.sought needle) units.now) }
 {
-    let Some(last) = units.len().checked_sub(part.len()) else {
+    let Some(last) = units.len().checked_sub(needle.len()) else {
         return None;
     };
     let (_, rest) = units.split_at(last);
-    if part.begins(rest) {
+    if needle.begins(rest) {
         return Some(last);
     }
     let mut at = last;
     while at > 0 {
         at -= 1;
         let (_, rest) = units.split_at(at);
-        if part.begins(rest) {
+        if needle.begins(rest) {
             return Some(at);
         }
     }

@@ -1,51 +1,51 @@
 //! Searches for units in units.
 ghost use Rattle.std.specs.Prelude.{◌≡◌, ◌↔◌, ◌+◌, ◌++◌, ◌∷◌, [], ◌≤◌, ◌<◌, length, IsTrue, IsSome, IfNone, IfSome};
-ghost use Rattle.wide_search.specs.Parts.{IsFirstAt, IsLastAt, StandsNowhere, BeginsWith, EndsWith, IsFirstSplit, IsLastSplit};
+ghost use Rattle.wide_search.specs.Occurrences.{IsFirstAt, IsLastAt, OccursNowhere, BeginsWith, EndsWith, IsFirstSplit, IsLastSplit};
 
-use crate::part::{Few, Slice};
+use crate::needle::{Few, Slice};
 use crate::search::{find_in, rfind_in};
 use wide_unit::{Unit, same_units};
 
 /// Returns whether the units begin with those of the pattern. They do if it is empty.
-pub fn starts_with<C: Unit>(units: &[C], part: &[C]) -> bool
-    ensures { IsTrue result ↔ BeginsWith part.now units.now }
+pub fn starts_with<C: Unit>(units: &[C], needle: &[C]) -> bool
+    ensures { IsTrue result ↔ BeginsWith needle.now units.now }
 {
-    if units.len() < part.len() {
+    if units.len() < needle.len() {
         return false;
     }
-    let (front, _) = units.split_at(part.len());
-    same_units(front, part)
+    let (prefix, _) = units.split_at(needle.len());
+    same_units(prefix, needle)
 }
 
 /// Returns whether the units end with those of the pattern. They do if it is empty.
-pub fn ends_with<C: Unit>(units: &[C], part: &[C]) -> bool
-    ensures { IsTrue result ↔ EndsWith part.now units.now }
+pub fn ends_with<C: Unit>(units: &[C], needle: &[C]) -> bool
+    ensures { IsTrue result ↔ EndsWith needle.now units.now }
 {
-    if units.len() < part.len() {
+    if units.len() < needle.len() {
         return false;
     }
-    let (_, end) = units.split_at(units.len() - part.len());
-    same_units(end, part)
+    let (_, end) = units.split_at(units.len() - needle.len());
+    same_units(end, needle)
 }
 
 /// Returns the units after the pattern if they begin with it, and otherwise `None`.
-pub fn strip_prefix<'a, C: Unit>(units: &'a [C], part: &[C]) -> Option<&'a [C]>
-    ensures some { IsSome result ↔ BeginsWith part.now units.now }
-    ensures rest { IfSome result (λ rest. units.now ≡ part.now ++ rest.now) }
+pub fn strip_prefix<'a, C: Unit>(units: &'a [C], needle: &[C]) -> Option<&'a [C]>
+    ensures some { IsSome result ↔ BeginsWith needle.now units.now }
+    ensures rest { IfSome result (λ rest. units.now ≡ needle.now ++ rest.now) }
 {
-    if starts_with(units, part) {
-        return Some(&units[part.len()..]);
+    if starts_with(units, needle) {
+        return Some(&units[needle.len()..]);
     }
     None
 }
 
 /// Returns the units before the pattern if they end with it, and otherwise `None`.
-pub fn strip_suffix<'a, C: Unit>(units: &'a [C], part: &[C]) -> Option<&'a [C]>
-    ensures some { IsSome result ↔ EndsWith part.now units.now }
-    ensures front { IfSome result (λ front. units.now ≡ front.now ++ part.now) }
+pub fn strip_suffix<'a, C: Unit>(units: &'a [C], needle: &[C]) -> Option<&'a [C]>
+    ensures some { IsSome result ↔ EndsWith needle.now units.now }
+    ensures prefix { IfSome result (λ prefix. units.now ≡ prefix.now ++ needle.now) }
 {
-    if ends_with(units, part) {
-        return Some(&units[..units.len() - part.len()]);
+    if ends_with(units, needle) {
+        return Some(&units[..units.len() - needle.len()]);
     }
     None
 }
@@ -55,31 +55,31 @@ pub fn strip_suffix<'a, C: Unit>(units: &'a [C], part: &[C]) -> Option<&'a [C]>
 ///
 /// The search for the first unit of the needle is vectorized. From there on, units are compared up to the first
 /// difference. The worst case is the product of both lengths, if a long prefix of the needle occurs nearly everywhere.
-pub fn find<C: Unit>(units: &[C], part: &[C]) -> Option<usize>
-    ensures first { IfSome result (IsFirstAt part.now units.now) }
-    ensures none { IfNone result (StandsNowhere part.now units.now) }
-    ensures within { IfSome result (λ at. at + length part.now ≤ length units.now) }
+pub fn find<C: Unit>(units: &[C], needle: &[C]) -> Option<usize>
+    ensures first { IfSome result (IsFirstAt needle.now units.now) }
+    ensures none { IfNone result (OccursNowhere needle.now units.now) }
+    ensures within { IfSome result (λ at. at + length needle.now ≤ length units.now) }
 {
-    find_in(units, Slice { units: part })
+    find_in(units, Slice { units: needle })
 }
 
 /// Returns the offset in units of the last occurrence of the needle, or `None` if it does not occur. An empty needle
 /// occurs at the end.
 ///
 /// It tries each offset from the back. The worst case is the product of both lengths.
-pub fn rfind<C: Unit>(units: &[C], part: &[C]) -> Option<usize>
-    ensures last { IfSome result (IsLastAt part.now units.now) }
-    ensures none { IfNone result (StandsNowhere part.now units.now) }
-    ensures within { IfSome result (λ at. at + length part.now ≤ length units.now) }
+pub fn rfind<C: Unit>(units: &[C], needle: &[C]) -> Option<usize>
+    ensures last { IfSome result (IsLastAt needle.now units.now) }
+    ensures none { IfNone result (OccursNowhere needle.now units.now) }
+    ensures within { IfSome result (λ at. at + length needle.now ≤ length units.now) }
 {
-    rfind_in(units, Slice { units: part })
+    rfind_in(units, Slice { units: needle })
 }
 
 /// Returns the offset of the first occurrence of the unit, or `None` if it does not occur. The unit may be a surrogate
 /// of a pair.
 pub fn find_unit<C: Unit>(units: &[C], unit: C) -> Option<usize>
     ensures first { IfSome result (IsFirstAt (unit ∷ []) units.now) }
-    ensures none { IfNone result (StandsNowhere (unit ∷ []) units.now) }
+    ensures none { IfNone result (OccursNowhere (unit ∷ []) units.now) }
     ensures within { IfSome result (λ at. at < length units.now) }
 {
     find_in(units, Few::one(unit))
@@ -89,7 +89,7 @@ pub fn find_unit<C: Unit>(units: &[C], unit: C) -> Option<usize>
 /// of a pair.
 pub fn rfind_unit<C: Unit>(units: &[C], unit: C) -> Option<usize>
     ensures last { IfSome result (IsLastAt (unit ∷ []) units.now) }
-    ensures none { IfNone result (StandsNowhere (unit ∷ []) units.now) }
+    ensures none { IfNone result (OccursNowhere (unit ∷ []) units.now) }
     ensures within { IfSome result (λ at. at < length units.now) }
 {
     rfind_in(units, Few::one(unit))
@@ -97,28 +97,28 @@ pub fn rfind_unit<C: Unit>(units: &[C], unit: C) -> Option<usize>
 
 /// Splits the units at the first occurrence of the separator, and returns the units before it and those after it.
 /// Returns `None` if it does not occur.
-pub fn split_once<'a, C: Unit>(units: &'a [C], part: &[C]) -> Option<(&'a [C], &'a [C])>
-    ensures first { IfSome result (λ r. IsFirstSplit part.now units.now r.0.now r.1.now) }
-    ensures none { IfNone result (StandsNowhere part.now units.now) }
+pub fn split_once<'a, C: Unit>(units: &'a [C], needle: &[C]) -> Option<(&'a [C], &'a [C])>
+    ensures first { IfSome result (λ r. IsFirstSplit needle.now units.now r.0.now r.1.now) }
+    ensures none { IfNone result (OccursNowhere needle.now units.now) }
 {
-    let Some(at) = find(units, part) else {
+    let Some(at) = find(units, needle) else {
         return None;
     };
-    let (front, _) = units.split_at(at);
-    let (_, rest) = units.split_at(at + part.len());
-    Some((front, rest))
+    let (prefix, _) = units.split_at(at);
+    let (_, rest) = units.split_at(at + needle.len());
+    Some((prefix, rest))
 }
 
 /// Splits the units at the last occurrence of the separator, and returns the units before it and those after it.
 /// Returns `None` if it does not occur.
-pub fn rsplit_once<'a, C: Unit>(units: &'a [C], part: &[C]) -> Option<(&'a [C], &'a [C])>
-    ensures last { IfSome result (λ r. IsLastSplit part.now units.now r.0.now r.1.now) }
-    ensures none { IfNone result (StandsNowhere part.now units.now) }
+pub fn rsplit_once<'a, C: Unit>(units: &'a [C], needle: &[C]) -> Option<(&'a [C], &'a [C])>
+    ensures last { IfSome result (λ r. IsLastSplit needle.now units.now r.0.now r.1.now) }
+    ensures none { IfNone result (OccursNowhere needle.now units.now) }
 {
-    let Some(at) = rfind(units, part) else {
+    let Some(at) = rfind(units, needle) else {
         return None;
     };
-    let (front, _) = units.split_at(at);
-    let (_, rest) = units.split_at(at + part.len());
-    Some((front, rest))
+    let (prefix, _) = units.split_at(at);
+    let (_, rest) = units.split_at(at + needle.len());
+    Some((prefix, rest))
 }

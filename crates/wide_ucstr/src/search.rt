@@ -1,10 +1,10 @@
 //! Searches in the contents of C strings.
 ghost use Rattle.std.specs.Prelude.{◌≡◌, ◌↔◌, ◌+◌, ◌++◌, ◌∷◌, [], ◌≤◌, ◌<◌, ◌^◌, length, map, IsTrue, IsSome, IfNone, IfSome};
 ghost use Rattle.wide_unit.specs.EncodingForm.{code_units};
-ghost use Rattle.wide_search.specs.Parts.{StandsIn, IsFirstAt, IsLastAt, StandsNowhere, BeginsWith, EndsWith, IsFirstSplit, IsLastSplit};
-ghost use Rattle.wide_search.specs.Pieces.{ArePieces};
-ghost use Rattle.wide_search.specs.Cut.{pieces};
-ghost use Rattle.wide_ustr.specs.Split.{unit_pieces_left};
+ghost use Rattle.wide_search.specs.Occurrences.{OccursIn, IsFirstAt, IsLastAt, OccursNowhere, BeginsWith, EndsWith, IsFirstSplit, IsLastSplit};
+ghost use Rattle.wide_search.specs.Substrings.{AreSubstrings};
+ghost use Rattle.wide_search.specs.Cut.{substrings};
+ghost use Rattle.wide_ustr.specs.Split.{unit_substrings_left};
 ghost use Rattle.wide_ustr.specs.View.{units_seen};
 ghost use Rattle.wide_ucstr.specs.View.{contents_seen};
 
@@ -14,24 +14,24 @@ use wide_utferror::FaultUnit;
 
 impl<'a, C: FaultUnit> UCStr<'a, C> {
     /// Returns whether the contents begin with the needle, without its NUL. They do if the needle is empty.
-    pub fn starts_with(self, part: UCStr<'_, C>) -> bool
-        ensures { IsTrue result ↔ BeginsWith (contents_seen part.entry) (contents_seen self.entry) }
+    pub fn starts_with(self, needle: UCStr<'_, C>) -> bool
+        ensures { IsTrue result ↔ BeginsWith (contents_seen needle.entry) (contents_seen self.entry) }
     {
-        self.as_ustr().starts_with(part.as_ustr())
+        self.as_ustr().starts_with(needle.as_ustr())
     }
 
     /// Returns whether the contents end with the needle, without its NUL. They do if the needle is empty.
-    pub fn ends_with(self, part: UCStr<'_, C>) -> bool
-        ensures { IsTrue result ↔ EndsWith (contents_seen part.entry) (contents_seen self.entry) }
+    pub fn ends_with(self, needle: UCStr<'_, C>) -> bool
+        ensures { IsTrue result ↔ EndsWith (contents_seen needle.entry) (contents_seen self.entry) }
     {
-        self.as_ustr().ends_with(part.as_ustr())
+        self.as_ustr().ends_with(needle.as_ustr())
     }
 
     /// Returns whether the needle, without its NUL, occurs anywhere in the contents, as [`UCStr::find`] finds it.
-    pub fn contains(self, part: UCStr<'_, C>) -> bool
-        ensures { IsTrue result ↔ StandsIn (contents_seen part.entry) (contents_seen self.entry) }
+    pub fn contains(self, needle: UCStr<'_, C>) -> bool
+        ensures { IsTrue result ↔ OccursIn (contents_seen needle.entry) (contents_seen self.entry) }
     {
-        self.as_ustr().contains(part.as_ustr())
+        self.as_ustr().contains(needle.as_ustr())
     }
 
     /// Returns the offset, in units, of the first occurrence of the needle, without its NUL, in the contents, or `None`
@@ -41,31 +41,31 @@ impl<'a, C: FaultUnit> UCStr<'a, C> {
     /// The search for the first unit of the needle is vectorized; from there on, units are compared up to the first
     /// that differ. So in the worst case, where a long prefix of the needle occurs nearly everywhere, the time is
     /// proportional to the product of both lengths.
-    pub fn find(self, part: UCStr<'_, C>) -> Option<usize>
-        ensures first { IfSome result (IsFirstAt (contents_seen part.entry) (contents_seen self.entry)) }
-        ensures none { IfNone result (StandsNowhere (contents_seen part.entry) (contents_seen self.entry)) }
-        ensures within { IfSome result (λ at. at + length (contents_seen part.entry) ≤ length (contents_seen self.entry)) }
+    pub fn find(self, needle: UCStr<'_, C>) -> Option<usize>
+        ensures first { IfSome result (IsFirstAt (contents_seen needle.entry) (contents_seen self.entry)) }
+        ensures none { IfNone result (OccursNowhere (contents_seen needle.entry) (contents_seen self.entry)) }
+        ensures within { IfSome result (λ at. at + length (contents_seen needle.entry) ≤ length (contents_seen self.entry)) }
     {
-        self.as_ustr().find(part.as_ustr())
+        self.as_ustr().find(needle.as_ustr())
     }
 
     /// Returns the offset, in units, of the last occurrence of the needle, without its NUL, in the contents, or `None`
     /// if there is none. An empty needle occurs at the end of the contents, before the NUL. Units may have any values
     /// but 0, so the offset may be within a surrogate pair. The search goes through the units one by one, from the
     /// back.
-    pub fn rfind(self, part: UCStr<'_, C>) -> Option<usize>
-        ensures last { IfSome result (IsLastAt (contents_seen part.entry) (contents_seen self.entry)) }
-        ensures none { IfNone result (StandsNowhere (contents_seen part.entry) (contents_seen self.entry)) }
-        ensures within { IfSome result (λ at. at + length (contents_seen part.entry) ≤ length (contents_seen self.entry)) }
+    pub fn rfind(self, needle: UCStr<'_, C>) -> Option<usize>
+        ensures last { IfSome result (IsLastAt (contents_seen needle.entry) (contents_seen self.entry)) }
+        ensures none { IfNone result (OccursNowhere (contents_seen needle.entry) (contents_seen self.entry)) }
+        ensures within { IfSome result (λ at. at + length (contents_seen needle.entry) ≤ length (contents_seen self.entry)) }
     {
-        self.as_ustr().rfind(part.as_ustr())
+        self.as_ustr().rfind(needle.as_ustr())
     }
 
     /// Returns the offset, in units, of the first occurrence of the unit in the contents, or `None` if there is none. A
     /// NUL is never found. The unit may be half of a surrogate pair. The search is vectorized.
     pub fn find_unit(self, unit: C) -> Option<usize>
         ensures first { IfSome result (IsFirstAt (unit ∷ []) (contents_seen self.entry)) }
-        ensures none { IfNone result (StandsNowhere (unit ∷ []) (contents_seen self.entry)) }
+        ensures none { IfNone result (OccursNowhere (unit ∷ []) (contents_seen self.entry)) }
         ensures within { IfSome result (λ at. at < length (contents_seen self.entry)) }
     {
         self.as_ustr().find_unit(unit)
@@ -76,7 +76,7 @@ impl<'a, C: FaultUnit> UCStr<'a, C> {
     /// the back.
     pub fn rfind_unit(self, unit: C) -> Option<usize>
         ensures last { IfSome result (IsLastAt (unit ∷ []) (contents_seen self.entry)) }
-        ensures none { IfNone result (StandsNowhere (unit ∷ []) (contents_seen self.entry)) }
+        ensures none { IfNone result (OccursNowhere (unit ∷ []) (contents_seen self.entry)) }
         ensures within { IfSome result (λ at. at < length (contents_seen self.entry)) }
     {
         self.as_ustr().rfind_unit(unit)
@@ -84,10 +84,10 @@ impl<'a, C: FaultUnit> UCStr<'a, C> {
 
     /// Returns the offset, in units, of the first occurrence of the character in the contents, or `None` if there is
     /// none. Half of a surrogate pair is no character and is not found, so both the offset and the end of the character
-    /// are between two items (`wide_search::laws::parts_of_text`).
+    /// are between two items (`wide_search::laws::needles_in_text`).
     pub fn find_char(self, c: char) -> Option<usize>
         ensures first { IfSome result (IsFirstAt (code_units C.form c) (map C.number (contents_seen self.entry))) }
-        ensures none { IfNone result (StandsNowhere (code_units C.form c) (map C.number (contents_seen self.entry))) }
+        ensures none { IfNone result (OccursNowhere (code_units C.form c) (map C.number (contents_seen self.entry))) }
         ensures within { IfSome result (λ at. at + length (code_units C.form c) ≤ length (contents_seen self.entry)) }
     {
         self.as_ustr().find_char(c)
@@ -95,10 +95,10 @@ impl<'a, C: FaultUnit> UCStr<'a, C> {
 
     /// Returns the offset, in units, of the last occurrence of the character in the contents, or `None` if there is
     /// none. Half of a surrogate pair is no character and is not found, so both the offset and the end of the character
-    /// are between two items (`wide_search::laws::parts_of_text`).
+    /// are between two items (`wide_search::laws::needles_in_text`).
     pub fn rfind_char(self, c: char) -> Option<usize>
         ensures last { IfSome result (IsLastAt (code_units C.form c) (map C.number (contents_seen self.entry))) }
-        ensures none { IfNone result (StandsNowhere (code_units C.form c) (map C.number (contents_seen self.entry))) }
+        ensures none { IfNone result (OccursNowhere (code_units C.form c) (map C.number (contents_seen self.entry))) }
         ensures within { IfSome result (λ at. at + length (code_units C.form c) ≤ length (contents_seen self.entry)) }
     {
         self.as_ustr().rfind_char(c)
@@ -106,51 +106,51 @@ impl<'a, C: FaultUnit> UCStr<'a, C> {
 
     /// Returns the contents without the contents of the given prefix, as a view without a NUL, or `None` if they do not
     /// begin with it.
-    pub fn strip_prefix(self, part: UCStr<'_, C>) -> Option<UStr<'a, C>>
-        ensures some { IsSome result ↔ BeginsWith (contents_seen part.entry) (contents_seen self.entry) }
-        ensures rest { IfSome result (λ rest. contents_seen self.entry ≡ contents_seen part.entry ++ units_seen rest) }
+    pub fn strip_prefix(self, needle: UCStr<'_, C>) -> Option<UStr<'a, C>>
+        ensures some { IsSome result ↔ BeginsWith (contents_seen needle.entry) (contents_seen self.entry) }
+        ensures rest { IfSome result (λ rest. contents_seen self.entry ≡ contents_seen needle.entry ++ units_seen rest) }
     {
-        self.as_ustr().strip_prefix(part.as_ustr())
+        self.as_ustr().strip_prefix(needle.as_ustr())
     }
 
     /// Returns the contents without the contents of the given suffix, as a view without a NUL, or `None` if they do not
     /// end with it.
-    pub fn strip_suffix(self, part: UCStr<'_, C>) -> Option<UStr<'a, C>>
-        ensures some { IsSome result ↔ EndsWith (contents_seen part.entry) (contents_seen self.entry) }
-        ensures front { IfSome result (λ front. contents_seen self.entry ≡ units_seen front ++ contents_seen part.entry) }
+    pub fn strip_suffix(self, needle: UCStr<'_, C>) -> Option<UStr<'a, C>>
+        ensures some { IsSome result ↔ EndsWith (contents_seen needle.entry) (contents_seen self.entry) }
+        ensures prefix { IfSome result (λ prefix. contents_seen self.entry ≡ units_seen prefix ++ contents_seen needle.entry) }
     {
-        self.as_ustr().strip_suffix(part.as_ustr())
+        self.as_ustr().strip_suffix(needle.as_ustr())
     }
 
     /// Splits the contents at the first occurrence of the needle, without its NUL, into what is before it and what is
     /// after it, as views without a NUL. Returns `None` if there is none.
-    pub fn split_once(self, part: UCStr<'_, C>) -> Option<(UStr<'a, C>, UStr<'a, C>)>
-        ensures first { IfSome result (λ r. IsFirstSplit (contents_seen part.entry) (contents_seen self.entry) (units_seen r.0) (units_seen r.1)) }
-        ensures none { IfNone result (StandsNowhere (contents_seen part.entry) (contents_seen self.entry)) }
+    pub fn split_once(self, needle: UCStr<'_, C>) -> Option<(UStr<'a, C>, UStr<'a, C>)>
+        ensures first { IfSome result (λ r. IsFirstSplit (contents_seen needle.entry) (contents_seen self.entry) (units_seen r.0) (units_seen r.1)) }
+        ensures none { IfNone result (OccursNowhere (contents_seen needle.entry) (contents_seen self.entry)) }
     {
-        self.as_ustr().split_once(part.as_ustr())
+        self.as_ustr().split_once(needle.as_ustr())
     }
 
     /// Splits the contents at the last occurrence of the needle, without its NUL, into what is before it and what is
     /// after it, as views without a NUL. Returns `None` if there is none.
-    pub fn rsplit_once(self, part: UCStr<'_, C>) -> Option<(UStr<'a, C>, UStr<'a, C>)>
-        ensures last { IfSome result (λ r. IsLastSplit (contents_seen part.entry) (contents_seen self.entry) (units_seen r.0) (units_seen r.1)) }
-        ensures none { IfNone result (StandsNowhere (contents_seen part.entry) (contents_seen self.entry)) }
+    pub fn rsplit_once(self, needle: UCStr<'_, C>) -> Option<(UStr<'a, C>, UStr<'a, C>)>
+        ensures last { IfSome result (λ r. IsLastSplit (contents_seen needle.entry) (contents_seen self.entry) (units_seen r.0) (units_seen r.1)) }
+        ensures none { IfNone result (OccursNowhere (contents_seen needle.entry) (contents_seen self.entry)) }
     {
-        self.as_ustr().rsplit_once(part.as_ustr())
+        self.as_ustr().rsplit_once(needle.as_ustr())
     }
 
     /// Returns an iterator over the substrings of the contents between the occurrences of the separator, without its
     /// NUL, from the front. Each occurrence is the first one after the one before, so occurrences do not overlap. If
     /// the separator occurs at the start, at the end, or twice in a row, the substring there is empty. If it does not
     /// occur, or is empty, the contents are the only substring.
-    pub fn split<'p>(self, part: UCStr<'p, C>) -> Split<UStr<'a, C>, UStr<'p, C>>
-        ensures left { unit_pieces_left C.number result ≡ pieces (map C.number (contents_seen part.entry)) (map C.number (contents_seen self.entry)) }
-        ensures cut { 0 < length (contents_seen part.entry) → ArePieces (map C.number (contents_seen part.entry)) (map C.number (contents_seen self.entry)) (unit_pieces_left C.number result) }
-        ensures empty { length (contents_seen part.entry) ≡ 0 → unit_pieces_left C.number result ≡ map C.number (contents_seen self.entry) ∷ [] }
-        ensures most { length (unit_pieces_left C.number result) ≤ length (contents_seen self.entry) + 1 }
-        ensures fits { length (unit_pieces_left C.number result) < 2 ^ 64 }
+    pub fn split<'p>(self, needle: UCStr<'p, C>) -> Split<UStr<'a, C>, UStr<'p, C>>
+        ensures left { unit_substrings_left C.number result ≡ substrings (map C.number (contents_seen needle.entry)) (map C.number (contents_seen self.entry)) }
+        ensures cut { 0 < length (contents_seen needle.entry) → AreSubstrings (map C.number (contents_seen needle.entry)) (map C.number (contents_seen self.entry)) (unit_substrings_left C.number result) }
+        ensures empty { length (contents_seen needle.entry) ≡ 0 → unit_substrings_left C.number result ≡ map C.number (contents_seen self.entry) ∷ [] }
+        ensures most { length (unit_substrings_left C.number result) ≤ length (contents_seen self.entry) + 1 }
+        ensures fits { length (unit_substrings_left C.number result) < 2 ^ 64 }
     {
-        self.as_ustr().split(part.as_ustr())
+        self.as_ustr().split(needle.as_ustr())
     }
 }

@@ -66,14 +66,14 @@ impl<'a, C: FaultUnit> UCStr<'a, C> {
         ensures ok { OnOk result (IsCString (map C.number units.now)) }
         ensures fault { IfErr result (IsNulFault (map C.number units.now)) }
     {
-        let [front @ .., last] = units else {
+        let [prefix @ .., last] = units else {
             return Err(MissingNulTerminator.into());
         };
         if last.code() != 0 {
             return Err(MissingNulTerminator.into());
         }
-        match first_nul(front) {
-            Some(place) => Err(ContainsNul::new(place, None).into()),
+        match first_nul(prefix) {
+            Some(offset) => Err(ContainsNul::new(offset, None).into()),
             None => Ok(UCStr { units }),
         }
     }
@@ -85,14 +85,14 @@ impl<'a, C: FaultUnit> UCStr<'a, C> {
     ///
     /// [`MissingNulTerminator`] if there is no NUL.
     pub fn from_slice_truncate(units: &'a [C]) -> Result<Self, MissingNulTerminator>
-        ensures view { IfOk result (λ view. (place : ℕ) × IsFirstNul (map C.number units.now) place × (units_with_nul view ≡ take (place + 1) units.now)) }
+        ensures view { IfOk result (λ view. (offset : ℕ) × IsFirstNul (map C.number units.now) offset × (units_with_nul view ≡ take (offset + 1) units.now)) }
         ensures err { OnErr result (HasNoNul (map C.number units.now)) }
     {
-        let Some(place) = first_nul(units) else {
+        let Some(offset) = first_nul(units) else {
             return Err(MissingNulTerminator);
         };
         Ok(UCStr {
-            units: &units[..place + 1],
+            units: &units[..offset + 1],
         })
     }
 
@@ -200,7 +200,7 @@ impl<'a, C: FaultUnit> UCStr<'a, C> {
     /// The offset is at most the length of the contents.
     pub fn split_at(self, mid: usize) -> (UStr<'a, C>, UStr<'a, C>)
         requires { mid ≤ length (contents_seen self) }
-        ensures front { units_seen result.0 ≡ take mid (contents_seen self.entry) }
+        ensures prefix { units_seen result.0 ≡ take mid (contents_seen self.entry) }
         ensures back { units_seen result.1 ≡ drop mid (contents_seen self.entry) }
         ensures joined { units_seen result.0 ++ units_seen result.1 ≡ contents_seen self.entry }
     {

@@ -13,12 +13,12 @@ use Rattle.wide_unit.specs.Laws.Texts.{text-back}
 use Rattle.wide_ucstr.specs.CString.{contents}
 use Rattle.wide_ucstring.specs.Made.{EndsAsGiven, EndsAtFirst}
 
-module _ {X : Type 0} (number : X → ℕ) (xs : List X) (place : ℕ) (first : IsFirstNul (map number xs) place) where
-  pub cut_at_first : EndsAtFirst (map number xs) (map number (take (place + 1) xs))
-  cut_at_first = inl (place, first, sym (take-map number (place + 1) xs))
+module _ {X : Type 0} (number : X → ℕ) (xs : List X) (offset : ℕ) (first : IsFirstNul (map number xs) offset) where
+  pub cut_at_first : EndsAtFirst (map number xs) (map number (take (offset + 1) xs))
+  cut_at_first = inl (offset, first, sym (take-map number (offset + 1) xs))
 
-  pub ended_at_first : EndsAtFirst (map number xs) (map number (take place xs) ++ 0 ∷ [])
-  ended_at_first = inl (place, first, sym (take_more (map number xs) place 0 first.at.0 ∙ ap (λ u. take place (map number xs) ++ u ∷ []) first.at.1 ∙ ap (λ us. us ++ 0 ∷ []) (take-map number place xs)))
+  pub ended_at_first : EndsAtFirst (map number xs) (map number (take offset xs) ++ 0 ∷ [])
+  ended_at_first = inl (offset, first, sym (take_more (map number xs) offset 0 first.at.0 ∙ ap (λ u. take offset (map number xs) ++ u ∷ []) first.at.1 ∙ ap (λ us. us ++ 0 ∷ []) (take-map number offset xs)))
 
 -- A relation between lists of numbers, after mapping each number to itself.
 pub of_numbers : (R : List ℕ → List ℕ → Type 0) (us made : List ℕ) → R (map (λ u. u) us) (map (λ u. u) made) → R us made

@@ -1,3 +1,3 @@
 pub mod CowCString
 pub mod Made
-pub mod Refused
+pub mod Rejected

@@ -13,4 +13,4 @@ EndsAsGiven us made = (EndsInNul us × (made ≡ us)) ⊎ ((¬ (EndsInNul us)) �
 
 -- The C string has the units up to and including the first NUL, or all of them and a NUL if there is none.
 abbrev pub EndsAtFirst : List ℕ → List ℕ → Type 0
-EndsAtFirst us made = ((place : ℕ) × IsFirstNul us place × (made ≡ take (place + 1) us)) ⊎ (HasNoNul us × (made ≡ us ++ 0 ∷ []))
+EndsAtFirst us made = ((offset : ℕ) × IsFirstNul us offset × (made ≡ take (offset + 1) us)) ⊎ (HasNoNul us × (made ≡ us ++ 0 ∷ []))

@@ -10,7 +10,7 @@ ghost use Rattle.wide_ustring.specs.Units.{Units};
 ghost use Rattle.wide_ucstr.specs.CString.{IsCString, contents};
 ghost use Rattle.wide_ucstr.specs.View.{units_with_nul};
 ghost use Rattle.wide_ucstring.specs.Made.{HasNoInnerNul, EndsAsGiven, EndsAtFirst};
-ghost use Rattle.wide_ucstring.specs.Refused.{RefusesInnerNul, RefusesInnerNulOfCopy, RefusesNulOfCopy, IsWantOfRoom, IsWantOfMemory};
+ghost use Rattle.wide_ucstring.specs.Rejected.{RejectsInnerNul, RejectsInnerNulOfCopy, RejectsNulOfCopy, IsOutOfSpace, IsWantOfMemory};
 
 use std::alloc::{Allocator, Global};
 use std::marker::Model;
@@ -64,8 +64,8 @@ pub(crate) fn end<C: FaultUnit, A: Allocator>(
     requires { HasNoNul (map C.number units.items) }
     ensures made { IfOk result (λ s. map C.number s.units ≡ map C.number units.items ++ 0 ∷ []) }
     ensures units { IfOk result (λ s. contents s.units ≡ units.items) }
-    ensures room { IfOk result (λ s. s.capacity ≡ max (vec_capacity units) (length s.units)) }
-    ensures refused { IfErr result (IsWantOfRoom C.number units) }
+    ensures space { IfOk result (λ s. s.capacity ≡ max (vec_capacity units) (length s.units)) }
+    ensures rejected { IfErr result (IsOutOfSpace C.number units) }
 {
     let mut ended = units;
     match ended.reserve_exact(1) {
@@ -80,17 +80,17 @@ pub(crate) fn end<C: FaultUnit, A: Allocator>(
 }
 
 // Creates an empty string with capacity for `len` units and a NUL.
-pub(crate) fn with_room<C: FaultUnit, A: Allocator>(
+pub(crate) fn with_space<C: FaultUnit, A: Allocator>(
     alloc: A,
     len: usize,
 ) -> Result<UString<C, A>, OutOfMemory>
     ensures units { IfOk result (λ s. s.units ≡ []) }
-    ensures room { IfOk result (λ s. len + 1 ≤ s.capacity) }
+    ensures space { IfOk result (λ s. len + 1 ≤ s.capacity) }
 {
-    let Some(room) = len.checked_add(1) else {
+    let Some(space) = len.checked_add(1) else {
         return Err(OutOfMemory);
     };
-    UString::with_capacity(alloc, room)
+    UString::with_capacity(alloc, space)
 }
 
 // Returns a copy of the units, with capacity for a NUL.
@@ -99,9 +99,9 @@ fn copy_of_ustr<C: FaultUnit, A: Allocator>(
     text: UStr<'_, C>,
 ) -> Result<Vec<C, A>, OutOfMemory>
     ensures units { IfOk result (λ v. v.items ≡ units_seen text.entry) }
-    ensures room { IfOk result (λ v. length v.items + 1 ≤ vec_capacity v) }
+    ensures space { IfOk result (λ v. length v.items + 1 ≤ vec_capacity v) }
 {
-    let mut string = with_room(alloc, text.len())?;
+    let mut string = with_space(alloc, text.len())?;
     string.push(text)?;
     Ok(string.into_vec())
 }
@@ -109,9 +109,9 @@ fn copy_of_ustr<C: FaultUnit, A: Allocator>(
 // Returns the units of a text, with capacity for a NUL.
 fn copy_of_str<C: FaultUnit, A: Allocator>(alloc: A, text: &str) -> Result<Vec<C, A>, OutOfMemory>
     ensures units { IfOk result (λ v. map C.number v.items ≡ encode C.form (chars text.now)) }
-    ensures room { IfOk result (λ v. length v.items + 1 ≤ vec_capacity v) }
+    ensures space { IfOk result (λ v. length v.items + 1 ≤ vec_capacity v) }
 {
-    let mut string = with_room(alloc, C::text_len(text))?;
+    let mut string = with_space(alloc, C::text_len(text))?;
     string.push_str(text)?;
     Ok(string.into_vec())
 }
@@ -119,9 +119,9 @@ fn copy_of_str<C: FaultUnit, A: Allocator>(alloc: A, text: &str) -> Result<Vec<C
 // Returns the characters as 32-bit units, with capacity for a NUL.
 fn copy_of_chars<A: Allocator>(alloc: A, chars: &[char]) -> Result<Vec<u32, A>, OutOfMemory>
     ensures units { IfOk result (λ v. v.items ≡ chars.now) }
-    ensures room { IfOk result (λ v. length v.items + 1 ≤ vec_capacity v) }
+    ensures space { IfOk result (λ v. length v.items + 1 ≤ vec_capacity v) }
 {
-    let mut units = with_room(alloc, chars.len())?.into_vec();
+    let mut units = with_space(alloc, chars.len())?.into_vec();
     for c in chars {
         units.push_reserved(u32::from(*c));
     }
@@ -142,15 +142,15 @@ impl<C: FaultUnit, A: Allocator> UCString<C, A> {
     pub fn from_vec(units: Vec<C, A>) -> Result<Self, UCStringError<C, A>>
         ensures made { IfOk result (λ s. EndsAsGiven (map C.number units.items) (map C.number s.units)) }
         ensures ok { IfOk result (λ s. HasNoInnerNul (map C.number units.items)) }
-        ensures room { IfOk result (λ s. s.capacity ≡ max (vec_capacity units) (length s.units)) }
-        ensures refused { IfErr result (RefusesInnerNul C.number units) }
+        ensures space { IfOk result (λ s. s.capacity ≡ max (vec_capacity units) (length s.units)) }
+        ensures rejected { IfErr result (RejectsInnerNul C.number units) }
     {
         match first_nul(units.as_slice()) {
             None => end(units),
-            Some(place) if place + 1 == units.len() => Ok(UCString {
+            Some(offset) if offset + 1 == units.len() => Ok(UCString {
                 string: UString::from_vec(units),
             }),
-            Some(place) => Err(ContainsNul::new(place, Some(units)).into()),
+            Some(offset) => Err(ContainsNul::new(offset, Some(units)).into()),
         }
     }
 
@@ -168,8 +168,8 @@ impl<C: FaultUnit, A: Allocator> UCString<C, A> {
     pub fn from_vec_unchecked(units: Vec<C, A>) -> Result<Self, UCStringError<C, A>>
         requires { HasNoInnerNul (map C.number units.items) }
         ensures made { IfOk result (λ s. EndsAsGiven (map C.number units.items) (map C.number s.units)) }
-        ensures room { IfOk result (λ s. s.capacity ≡ max (vec_capacity units) (length s.units)) }
-        ensures refused { IfErr result (IsWantOfRoom C.number units) }
+        ensures space { IfOk result (λ s. s.capacity ≡ max (vec_capacity units) (length s.units)) }
+        ensures rejected { IfErr result (IsOutOfSpace C.number units) }
     {
         match units.last() {
             Some(last) if last.code() == 0 => Ok(UCString {
@@ -188,14 +188,14 @@ impl<C: FaultUnit, A: Allocator> UCString<C, A> {
     /// vector, with its units and its capacity.
     pub fn from_vec_truncate(units: Vec<C, A>) -> Result<Self, UCStringError<C, A>>
         ensures made { IfOk result (λ s. EndsAtFirst (map C.number units.items) (map C.number s.units)) }
-        ensures room { IfOk result (λ s. s.capacity ≡ max (vec_capacity units) (length s.units)) }
-        ensures refused { IfErr result (IsWantOfRoom C.number units) }
+        ensures space { IfOk result (λ s. s.capacity ≡ max (vec_capacity units) (length s.units)) }
+        ensures rejected { IfErr result (IsOutOfSpace C.number units) }
     {
-        let Some(place) = first_nul(units.as_slice()) else {
+        let Some(offset) = first_nul(units.as_slice()) else {
             return end(units);
         };
         let mut cut = units;
-        cut.truncate(place + 1);
+        cut.truncate(offset + 1);
         Ok(UCString {
             string: UString::from_vec(cut),
         })
@@ -208,9 +208,9 @@ impl<C: FaultUnit, A: Allocator> UCString<C, A> {
     /// Out of memory, if the allocation fails. The error holds no vector.
     pub fn new(alloc: A) -> Result<Self, UCStringError<C, A>>
         ensures made { IfOk result (λ s. map C.number s.units ≡ 0 ∷ []) }
-        ensures refused { IfErr result IsWantOfMemory }
+        ensures rejected { IfErr result IsWantOfMemory }
     {
-        end(with_room(alloc, 0)?.into_vec())
+        end(with_space(alloc, 0)?.into_vec())
     }
 
     /// Makes a C string of a copy of a view's units. A NUL at their end is taken as the terminator. Otherwise a NUL is
@@ -223,7 +223,7 @@ impl<C: FaultUnit, A: Allocator> UCString<C, A> {
     pub fn from_ustr(alloc: A, text: UStr<'_, C>) -> Result<Self, UCStringError<C, A>>
         ensures made { IfOk result (λ s. EndsAsGiven (map C.number (units_seen text.entry)) (map C.number s.units)) }
         ensures ok { IfOk result (λ s. HasNoInnerNul (map C.number (units_seen text.entry))) }
-        ensures refused { IfErr result (RefusesInnerNulOfCopy C.number (map C.number (units_seen text.entry))) }
+        ensures rejected { IfErr result (RejectsInnerNulOfCopy C.number (map C.number (units_seen text.entry))) }
     {
         UCString::from_vec(copy_of_ustr(alloc, text)?)
     }
@@ -241,7 +241,7 @@ impl<C: FaultUnit, A: Allocator> UCString<C, A> {
     pub fn from_ustr_unchecked(alloc: A, text: UStr<'_, C>) -> Result<Self, UCStringError<C, A>>
         requires { HasNoInnerNul (map C.number (units_seen text)) }
         ensures made { IfOk result (λ s. EndsAsGiven (map C.number (units_seen text.entry)) (map C.number s.units)) }
-        ensures refused { IfErr result IsWantOfMemory }
+        ensures rejected { IfErr result IsWantOfMemory }
     {
         UCString::from_vec_unchecked(copy_of_ustr(alloc, text)?)
     }
@@ -254,10 +254,10 @@ impl<C: FaultUnit, A: Allocator> UCString<C, A> {
     /// Out of memory, if the allocation for the copy fails. The error holds no vector.
     pub fn from_ustr_truncate(alloc: A, text: UStr<'_, C>) -> Result<Self, UCStringError<C, A>>
         ensures made { IfOk result (λ s. EndsAtFirst (map C.number (units_seen text.entry)) (map C.number s.units)) }
-        ensures refused { IfErr result IsWantOfMemory }
+        ensures rejected { IfErr result IsWantOfMemory }
     {
         match first_nul(text.as_slice()) {
-            Some(place) => end(copy_of_ustr(alloc, text.slice(..place))?),
+            Some(offset) => end(copy_of_ustr(alloc, text.slice(..offset))?),
             None => end(copy_of_ustr(alloc, text)?),
         }
     }
@@ -273,7 +273,7 @@ impl<C: FaultUnit, A: Allocator> UCString<C, A> {
         ensures made { IfOk result (λ s. EndsAsGiven (encode C.form (chars text.now)) (map C.number s.units)) }
         ensures read_back { IfOk result (λ s. HasNoNul (encode C.form (chars text.now)) → utf8 (text_chars C.form (map C.number (contents s.units))) ≡ text.now) }
         ensures ok { IfOk result (λ s. HasNoInnerNul (encode C.form (chars text.now))) }
-        ensures refused { IfErr result (RefusesInnerNulOfCopy C.number (encode C.form (chars text.now))) }
+        ensures rejected { IfErr result (RejectsInnerNulOfCopy C.number (encode C.form (chars text.now))) }
     {
         UCString::from_vec(copy_of_str(alloc, text)?)
     }
@@ -291,7 +291,7 @@ impl<C: FaultUnit, A: Allocator> UCString<C, A> {
     pub fn from_str_unchecked(alloc: A, text: &str) -> Result<Self, UCStringError<C, A>>
         requires { HasNoInnerNul (encode C.form (chars text.now)) }
         ensures made { IfOk result (λ s. EndsAsGiven (encode C.form (chars text.now)) (map C.number s.units)) }
-        ensures refused { IfErr result IsWantOfMemory }
+        ensures rejected { IfErr result IsWantOfMemory }
     {
         UCString::from_vec_unchecked(copy_of_str(alloc, text)?)
     }
@@ -304,7 +304,7 @@ impl<C: FaultUnit, A: Allocator> UCString<C, A> {
     /// Out of memory, if the allocation for the whole text fails. The error holds no vector.
     pub fn from_str_truncate(alloc: A, text: &str) -> Result<Self, UCStringError<C, A>>
         ensures made { IfOk result (λ s. EndsAtFirst (encode C.form (chars text.now)) (map C.number s.units)) }
-        ensures refused { IfErr result IsWantOfMemory }
+        ensures rejected { IfErr result IsWantOfMemory }
     {
         UCString::from_vec_truncate(copy_of_str(alloc, text)?)
     }
@@ -320,12 +320,12 @@ impl<C: FaultUnit, A: Allocator> UCString<C, A> {
         ensures made { IfOk result (λ s. map C.number s.units ≡ encode C.form (chars text.now) ++ 0 ∷ []) }
         ensures read_back { IfOk result (λ s. utf8 (text_chars C.form (map C.number (contents s.units))) ≡ text.now) }
         ensures ok { IfOk result (λ s. HasNoNul (encode C.form (chars text.now))) }
-        ensures refused { IfErr result (RefusesNulOfCopy C.number (encode C.form (chars text.now))) }
+        ensures rejected { IfErr result (RejectsNulOfCopy C.number (encode C.form (chars text.now))) }
     {
         let units = copy_of_str(alloc, text)?;
         match first_nul(units.as_slice()) {
             None => end(units),
-            Some(place) => Err(ContainsNul::new(place, Some(units)).into()),
+            Some(offset) => Err(ContainsNul::new(offset, Some(units)).into()),
         }
     }
 
@@ -404,7 +404,7 @@ impl<A: Allocator> UCString<u32, A> {
     pub fn from_chars(alloc: A, chars: &[char]) -> Result<Self, UCStringError<u32, A>>
         ensures made { IfOk result (λ s. EndsAsGiven chars.now s.units) }
         ensures ok { IfOk result (λ s. HasNoInnerNul chars.now) }
-        ensures refused { IfErr result (RefusesInnerNulOfCopy (λ u. u) chars.now) }
+        ensures rejected { IfErr result (RejectsInnerNulOfCopy (λ u. u) chars.now) }
     {
         UCString::from_vec(copy_of_chars(alloc, chars)?)
     }
@@ -422,7 +422,7 @@ impl<A: Allocator> UCString<u32, A> {
     pub fn from_chars_unchecked(alloc: A, chars: &[char]) -> Result<Self, UCStringError<u32, A>>
         requires { HasNoInnerNul chars.now }
         ensures made { IfOk result (λ s. EndsAsGiven chars.now s.units) }
-        ensures refused { IfErr result IsWantOfMemory }
+        ensures rejected { IfErr result IsWantOfMemory }
     {
         UCString::from_vec_unchecked(copy_of_chars(alloc, chars)?)
     }
@@ -436,7 +436,7 @@ impl<A: Allocator> UCString<u32, A> {
     /// Out of memory, if the allocation for all characters fails. The error holds no vector.
     pub fn from_chars_truncate(alloc: A, chars: &[char]) -> Result<Self, UCStringError<u32, A>>
         ensures made { IfOk result (λ s. EndsAtFirst chars.now s.units) }
-        ensures refused { IfErr result IsWantOfMemory }
+        ensures rejected { IfErr result IsWantOfMemory }
     {
         UCString::from_vec_truncate(copy_of_chars(alloc, chars)?)
     }

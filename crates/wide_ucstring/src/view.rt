@@ -6,7 +6,7 @@ ghost use Rattle.wide_ucstr.specs.CString.{contents};
 ghost use Rattle.wide_ucstr.specs.View.{contents_seen};
 
 use crate::UCString;
-use crate::ucstring::{end, with_room};
+use crate::ucstring::{end, with_space};
 use std::alloc::Allocator;
 use wide_error::OutOfMemory;
 use wide_ucstr::UCStr;
@@ -59,7 +59,7 @@ fn repeated<C: FaultUnit, A: Allocator>(
     let Some(len) = text.len().checked_mul(count) else {
         return Err(OutOfMemory);
     };
-    let mut string = with_room(alloc, len)?;
+    let mut string = with_space(alloc, len)?;
     if len > 0 {
         for _turn in 0..count {
             string.push(text)?;

@@ -31,16 +31,16 @@ map_ends number (x ∷ z ∷ xs) (q ∷ p) h e =
     (x ∷ rest.0, rest.1, ap (λ ys. x ∷ ys) rest.2, rest.3)
 
 module _ {X : Type 0} (form : EncodingForm) (number : X → ℕ) (xs : List X) where
-  pub items-last_char : (front : List X) (x : X) (c : ℕ) → xs ≡ front ++ x ∷ [] → IsScalar c → code_units form c ≡ number x ∷ [] → items form (map number xs) ≡ items form (map number front) ++ Char c ∷ []
-  items-last_char front x c split hc e =
-      ap (λ ys. items form (map number ys)) split ∙ ap (λ us. items form us) (map_push number front x ∙ ap (λ us. map number front ++ us) (sym e)) ∙ items-back_char form (map number front) c hc
+  pub items-last_char : (prefix : List X) (x : X) (c : ℕ) → xs ≡ prefix ++ x ∷ [] → IsScalar c → code_units form c ≡ number x ∷ [] → items form (map number xs) ≡ items form (map number prefix) ++ Char c ∷ []
+  items-last_char prefix x c split hc e =
+      ap (λ ys. items form (map number ys)) split ∙ ap (λ us. items form us) (map_push number prefix x ∙ ap (λ us. map number prefix ++ us) (sym e)) ∙ items-back_char form (map number prefix) c hc
 
-  pub items-last_pair : (front : List X) (x y : X) (c : ℕ) → xs ≡ front ++ x ∷ y ∷ [] → IsScalar c → code_units form c ≡ number x ∷ number y ∷ [] → items form (map number xs) ≡ items form (map number front) ++ Char c ∷ []
-  items-last_pair front x y c split hc e =
-      ap (λ ys. items form (map number ys)) split ∙ ap (λ us. items form us) (map-append number front (x ∷ y ∷ []) ∙ ap (λ us. map number front ++ us) (sym e)) ∙ items-back_char form (map number front) c hc
+  pub items-last_pair : (prefix : List X) (x y : X) (c : ℕ) → xs ≡ prefix ++ x ∷ y ∷ [] → IsScalar c → code_units form c ≡ number x ∷ number y ∷ [] → items form (map number xs) ≡ items form (map number prefix) ++ Char c ∷ []
+  items-last_pair prefix x y c split hc e =
+      ap (λ ys. items form (map number ys)) split ∙ ap (λ us. items form us) (map-append number prefix (x ∷ y ∷ []) ∙ ap (λ us. map number prefix ++ us) (sym e)) ∙ items-back_char form (map number prefix) c hc
 
-  pub items-last_fault : (front : List X) (x : X) → xs ≡ front ++ x ∷ [] → IsFault form (number x) → ((ys : List X) (y : X) → front ≡ ys ++ y ∷ [] → ¬ (IsPair form (number y) (number x)))
-      → items form (map number xs) ≡ items form (map number front) ++ Fault (number x) ∷ []
-  items-last_fault front x split hu apart =
-      ap (λ ys. items form (map number ys)) split ∙ ap (λ us. items form us) (map_push number front x)
-      ∙ items-back_fault form (map number front) (number x) hu (λ p h e pair. let at = map_ends number front p h e in apart at.0 at.1 at.2 (rw at.3 pair))
+  pub items-last_fault : (prefix : List X) (x : X) → xs ≡ prefix ++ x ∷ [] → IsFault form (number x) → ((ys : List X) (y : X) → prefix ≡ ys ++ y ∷ [] → ¬ (IsPair form (number y) (number x)))
+      → items form (map number xs) ≡ items form (map number prefix) ++ Fault (number x) ∷ []
+  items-last_fault prefix x split hu apart =
+      ap (λ ys. items form (map number ys)) split ∙ ap (λ us. items form us) (map_push number prefix x)
+      ∙ items-back_fault form (map number prefix) (number x) hu (λ p h e pair. let at = map_ends number prefix p h e in apart at.0 at.1 at.2 (rw at.3 pair))

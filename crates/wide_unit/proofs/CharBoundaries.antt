@@ -4,12 +4,12 @@ use Rattle.std.specs.Prelude.{◌↔◌, ◌⊎◌}
 use Rattle.std.proofs.lemmas.Bool.{cases_lt}
 use Rattle.wide_unit.specs.EncodingForm.{EncodingForm}
 use Rattle.wide_unit.specs.Items.{IsBoundary, IsWellFormed}
-use Rattle.wide_unit.specs.Places.{IsTextRange, IsCharBoundary, IsCharRange}
+use Rattle.wide_unit.specs.Offsets.{IsTextRange, IsCharBoundary, IsCharRange}
 use Rattle.wide_unit.specs.Laws.Boundaries.{IsBoundary-at, IsBoundary-end, no-low_at_boundary}
-use Rattle.wide_unit.specs.Laws.Places.{IsBoundary-start, IsBoundary-within}
+use Rattle.wide_unit.specs.Laws.Offsets.{IsBoundary-start, IsBoundary-within}
 
 -- These hold for any units.
-pub IsBoundary-of_char : (form : EncodingForm) (us : List ℕ) (place : ℕ) → IsCharBoundary form us place → IsBoundary form us place
+pub IsBoundary-of_char : (form : EncodingForm) (us : List ℕ) (offset : ℕ) → IsCharBoundary form us offset → IsBoundary form us offset
 IsBoundary-of_char form us zero here = IsBoundary-start form us
 IsBoundary-of_char form us (suc n) here = elim (cases_lt (suc n) (length us)) [
   | inl below ↦ IsBoundary-at form us (suc n) here.0 (here.1 (omega arith) below)
@@ -19,21 +19,21 @@ IsBoundary-of_char form us (suc n) here = elim (cases_lt (suc n) (length us)) [
 pub IsTextRange-of_chars : (form : EncodingForm) (us : List ℕ) (from to : ℕ) → IsCharRange form us from to → IsTextRange form us from to
 IsTextRange-of_chars form us from to part = record { within = part.within; start = IsBoundary-of_char form us from part.start; end = IsBoundary-of_char form us to part.end }
 
-pub past_or_boundary : {P : Type 0} (form : EncodingForm) (us : List ℕ) (place : ℕ) → P ⊎ IsCharBoundary form us place → P ⊎ IsBoundary form us place
-past_or_boundary form us place (inl past) = inl past
-past_or_boundary form us place (inr here) = inr (IsBoundary-of_char form us place here)
+pub past_or_boundary : {P : Type 0} (form : EncodingForm) (us : List ℕ) (offset : ℕ) → P ⊎ IsCharBoundary form us offset → P ⊎ IsBoundary form us offset
+past_or_boundary form us offset (inl past) = inl past
+past_or_boundary form us offset (inr here) = inr (IsBoundary-of_char form us offset here)
 
 -- These hold for well-formed units.
 module _ (form : EncodingForm) (us : List ℕ) where
-  pub IsCharBoundary-of : (place : ℕ) → IsWellFormed form us → IsBoundary form us place → IsCharBoundary form us place
-  IsCharBoundary-of place well at = (IsBoundary-within form us place at, λ some below. no-low_at_boundary form us place well below at)
+  pub IsCharBoundary-of : (offset : ℕ) → IsWellFormed form us → IsBoundary form us offset → IsCharBoundary form us offset
+  IsCharBoundary-of offset well at = (IsBoundary-within form us offset at, λ some below. no-low_at_boundary form us offset well below at)
 
   pub IsCharRange-of_text : (from to : ℕ) → IsWellFormed form us → IsTextRange form us from to → IsCharRange form us from to
   IsCharRange-of_text from to well part = record { within = part.within; start = IsCharBoundary-of from well part.start; end = IsCharBoundary-of to well part.end }
 
   -- What is equivalent to one is equivalent to the other.
-  pub tells_char_boundary : {T : Type 0} (place : ℕ) → IsWellFormed form us → T ↔ IsBoundary form us place → T ↔ IsCharBoundary form us place
-  tells_char_boundary place well tells = (λ t. IsCharBoundary-of place well (tells.0 t), λ here. tells.1 (IsBoundary-of_char form us place here))
+  pub reports_char_boundary : {T : Type 0} (offset : ℕ) → IsWellFormed form us → T ↔ IsBoundary form us offset → T ↔ IsCharBoundary form us offset
+  reports_char_boundary offset well reports = (λ t. IsCharBoundary-of offset well (reports.0 t), λ here. reports.1 (IsBoundary-of_char form us offset here))
 
-  pub tells_char_range : {T : Type 0} (from to : ℕ) → IsWellFormed form us → T ↔ IsTextRange form us from to → T ↔ IsCharRange form us from to
-  tells_char_range from to well tells = (λ t. IsCharRange-of_text from to well (tells.0 t), λ part. tells.1 (IsTextRange-of_chars form us from to part))
+  pub reports_char_range : {T : Type 0} (from to : ℕ) → IsWellFormed form us → T ↔ IsTextRange form us from to → T ↔ IsCharRange form us from to
+  reports_char_range from to well reports = (λ t. IsCharRange-of_text from to well (reports.0 t), λ part. reports.1 (IsTextRange-of_chars form us from to part))

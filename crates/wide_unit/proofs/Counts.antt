@@ -9,7 +9,7 @@ use Rattle.wide_unit.specs.EncodingForm.{Utf16, Utf32, code_units, encode}
 use Rattle.wide_unit.specs.Items.{chars, IsWellFormed}
 use Rattle.wide_unit.specs.Searches.{is_low}
 use Rattle.wide_unit.specs.Laws.Forms.{ranges, one_unit, two_units, high_of, low_of}
-use Rattle.wide_unit.specs.Laws.Places.{scalars-chars, encode-chars}
+use Rattle.wide_unit.specs.Laws.Offsets.{scalars-chars, encode-chars}
 use Rattle.wide_unit.proofs.Lengths.{length-encode_utf32}
 use Rattle.wide_unit.proofs.Masks.{block_at}
 
@@ -49,10 +49,10 @@ length-chars32 us well = sym (ap length (encode-chars Utf32 us well)) ∙ length
 
 -- ---- counted block by block
 
-module _ (p : ℕ → Bool) (n : ℕ) (us : List ℕ) (blocks : List (List ℕ)) (front : blocks ≡ first_chunks n (length us / n) us) (count : length blocks ≡ length us / n) where
+module _ (p : ℕ → Bool) (n : ℕ) (us : List ℕ) (blocks : List (List ℕ)) (prefix : blocks ≡ first_chunks n (length us / n) us) (count : length blocks ≡ length us / n) where
   pub count-block : (i : ℕ) (d : List ℕ) (so_far found : ℕ) → i < length blocks → so_far ≡ count_by p (take (i * n) us) → found ≡ count_by p (get_or blocks i d) → so_far + found ≡ count_by p (take ((i + 1) * n) us)
   count-block i d so_far found l before here =
-      let block : get_or blocks i d ≡ take n (drop (i * n) us) = ap (λ bs. get_or bs i d) front ∙ block_at n (length us / n) i us d (omega (arith, count, l)) in
+      let block : get_or blocks i d ≡ take n (drop (i * n) us) = ap (λ bs. get_or bs i d) prefix ∙ block_at n (length us / n) i us d (omega (arith, count, l)) in
       let next : (i + 1) * n ≡ i * n + n = grind arith in
       omega (
         arith,

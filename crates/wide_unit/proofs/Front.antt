@@ -7,7 +7,7 @@ use Rattle.wide_unit.specs.EncodingForm.{EncodingForm, code_units, IsFault, IsPa
 use Rattle.wide_unit.specs.Segmentation.{Char, Fault}
 use Rattle.wide_unit.specs.Items.{items}
 use Rattle.wide_unit.specs.Laws.Items.{items-nil}
-use Rattle.wide_unit.specs.Laws.Ends.{items-front_char, items-front_fault}
+use Rattle.wide_unit.specs.Laws.Ends.{items-prefix_char, items-prefix_fault}
 
 -- The first element of a slice and the rest, as a pattern matches them.
 pub first_rest : {X : Type 0} (xs : List X) (x : X) → 1 ≤ length xs → x ≡ get_or xs 0 x → xs ≡ x ∷ take (length xs - 1) (drop 1 xs)
@@ -25,16 +25,16 @@ first_of_nil form number xs e = ap (λ ys. items form (map number ys)) e ∙ ite
 module _ {X : Type 0} (form : EncodingForm) (number : X → ℕ) (xs : List X) where
   pub items-first_char : (x : X) (rest : List X) (c : ℕ) → xs ≡ x ∷ rest → IsScalar c → code_units form c ≡ number x ∷ [] → items form (map number xs) ≡ Char c ∷ items form (map number rest)
   items-first_char x rest c split hc e =
-      ap (λ ys. items form (map number ys)) split ∙ ap (λ us. items form (us ++ map number rest)) (sym e) ∙ items-front_char form c (map number rest) hc
+      ap (λ ys. items form (map number ys)) split ∙ ap (λ us. items form (us ++ map number rest)) (sym e) ∙ items-prefix_char form c (map number rest) hc
 
   pub items-first_pair : (x y : X) (rest : List X) (c : ℕ) → xs ≡ x ∷ y ∷ rest → IsScalar c → code_units form c ≡ number x ∷ number y ∷ [] → items form (map number xs) ≡ Char c ∷ items form (map number rest)
   items-first_pair x y rest c split hc e =
-      ap (λ ys. items form (map number ys)) split ∙ ap (λ us. items form (us ++ map number rest)) (sym e) ∙ items-front_char form c (map number rest) hc
+      ap (λ ys. items form (map number ys)) split ∙ ap (λ us. items form (us ++ map number rest)) (sym e) ∙ items-prefix_char form c (map number rest) hc
 
   pub items-first_fault : (x : X) (rest : List X) → xs ≡ x ∷ rest → IsFault form (number x) → ((y : X) (tail : List X) → rest ≡ y ∷ tail → ¬ (IsPair form (number x) (number y)))
       → items form (map number xs) ≡ Fault (number x) ∷ items form (map number rest)
   items-first_fault x rest split hu apart =
-      ap (λ ys. items form (map number ys)) split ∙ items-front_fault form (number x) (map number rest) hu (λ l back e. no_pair rest apart l back e)
+      ap (λ ys. items form (map number ys)) split ∙ items-prefix_fault form (number x) (map number rest) hu (λ l back e. no_pair rest apart l back e)
     where
       no_pair : (rest : List X) → ((y : X) (tail : List X) → rest ≡ y ∷ tail → ¬ (IsPair form (number x) (number y))) → (l : ℕ) (back : List ℕ) → map number rest ≡ l ∷ back → ¬ (IsPair form (number x) l)
       no_pair [] apart l back e pair = cc

@@ -8,7 +8,7 @@ pub mod Faults
 mod Whole
 pub mod CharBoundaries
 mod Feeds
-pub mod LinePlaces
+pub mod LineOffsets
 mod Ordered
 pub mod Printed
 pub mod Kept

@@ -33,14 +33,14 @@ IsSegmentation16-from items units in_range seg = record {
   joined = seg.joined;
   characters = λ c at. item-by_kind Utf16 items (Char c) seg.proper at;
   faults = λ u at. surrogate-of_fault u (fault-is_unit Utf16 items (IsCodeUnit Utf16) (subst (λ us. All (IsCodeUnit Utf16) us) (sym seg.joined) in_range) u at.0 (Fault u) at.1 at.2) (item-by_kind Utf16 items (Fault u) seg.proper at);
-  unpaired = λ front back h l e high low. seg.unpaired front back h l e (IsPair-from Utf16 h l high low);
+  unpaired = λ prefix back h l e high low. seg.unpaired prefix back h l e (IsPair-from Utf16 h l high low);
 }
 
 pub IsSegmentation-from_16 : (items : List Item) (units : List ℕ) → IsSegmentation16 items units → IsSegmentation Utf16 items units
 IsSegmentation-from_16 items units seg = record {
   joined = seg.joined;
   proper = proper-by_kind Utf16 items seg.characters (λ u at. IsFault-surrogate u (seg.faults u at).0 (seg.faults u at).1);
-  unpaired = λ front back h l e pair. seg.unpaired front back h l e (IsPair-parts Utf16 h l pair).0 (IsPair-parts Utf16 h l pair).1;
+  unpaired = λ prefix back h l e pair. seg.unpaired prefix back h l e (IsPair-parts Utf16 h l pair).0 (IsPair-parts Utf16 h l pair).1;
 }
 
 pub IsSegmentation32-from : (items : List Item) (units : List ℕ) → IsSegmentation Utf32 items units → IsSegmentation32 items units
@@ -54,5 +54,5 @@ pub IsSegmentation-from_32 : (items : List Item) (units : List ℕ) → IsSegmen
 IsSegmentation-from_32 items units seg = record {
   joined = seg.joined;
   proper = proper-by_kind Utf32 items seg.characters (λ u at. IsFault-no_scalar u (seg.faults u at));
-  unpaired = λ front back h l e. no_pair32 h l;
+  unpaired = λ prefix back h l e. no_pair32 h l;
 }

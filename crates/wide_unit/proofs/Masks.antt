@@ -16,7 +16,7 @@ use lib.Count.{count_trailing_zeros}
 use Rattle.std.specs.Simd.Lanes.{mask_l, zip2, top}
 use Rattle.std.specs.List.{prefix_len}
 use Rattle.std.specs.Simd.{first_chunks}
-use Rattle.wide_unit.specs.Searches.{first_place, is_surrogate, is_high, is_low, is_no_scalar, is_unit}
+use Rattle.wide_unit.specs.Searches.{first_offset, is_surrogate, is_high, is_low, is_no_scalar, is_unit}
 
 not_true : (b : Bool) → not b ≡ true → b ≡ false
 not_true true h = cc
@@ -40,17 +40,17 @@ module _ (p : ℕ → Bool) where
   abbrev pub NoneBefore : List ℕ → ℕ → Type 0
   NoneBefore us m = (k : ℕ) → k < m → p (get_or us k 0) ≡ false
 
-  pub place_is : (us : List ℕ) (n : ℕ) → n ≤ length us → NoneBefore us n → (n < length us → p (get_or us n 0) ≡ true) → n ≡ first_place p us
-  place_is us n le before here = sym (prefix_len_is (λ u. not (p u)) us n 0 le (λ k l. ap not (before k l)) (λ l. ap not (here l)))
+  pub offset_is : (us : List ℕ) (n : ℕ) → n ≤ length us → NoneBefore us n → (n < length us → p (get_or us n 0) ≡ true) → n ≡ first_offset p us
+  offset_is us n le before here = sym (prefix_len_is (λ u. not (p u)) us n 0 le (λ k l. ap not (before k l)) (λ l. ap not (here l)))
 
-  pub none_to_place : (us : List ℕ) → NoneBefore us (first_place p us)
-  none_to_place us k l = let h = prefix_len_passes (λ u. not (p u)) us k 0 l in not_true _ h
+  pub none_to_offset : (us : List ℕ) → NoneBefore us (first_offset p us)
+  none_to_offset us k l = let h = prefix_len_passes (λ u. not (p u)) us k 0 l in not_true _ h
 
-  pub place_here : (us : List ℕ) → first_place p us < length us → p (get_or us (first_place p us) 0) ≡ true
-  place_here us l = let h = prefix_len_stops (λ u. not (p u)) us 0 l in not_false _ h
+  pub offset_here : (us : List ℕ) → first_offset p us < length us → p (get_or us (first_offset p us) 0) ≡ true
+  offset_here us l = let h = prefix_len_stops (λ u. not (p u)) us 0 l in not_false _ h
 
-  pub place_in : (us : List ℕ) → first_place p us ≤ length us
-  place_in us = prefix_len-le-length (λ u. not (p u)) us
+  pub offset_in : (us : List ℕ) → first_offset p us ≤ length us
+  offset_in us = prefix_len-le-length (λ u. not (p u)) us
 
   -- None of the first n units from m on passes.
   pub none_further : (us : List ℕ) (m n : ℕ) → NoneBefore us m → NoneBefore (drop m us) n → NoneBefore us (m + n)
@@ -64,14 +64,14 @@ module _ (p : ℕ → Bool) where
   none_more us m before here k l = ⊎_elim (λ a. before k a) (λ b. let e : k ≡ m = omega arith in subst (λ j. p (get_or us j 0) ≡ false) (sym e) here) (cases_lt k m)
 
   -- If none passes before m, the index of the first in a list is that in the rest from m on.
-  pub place_from : (us : List ℕ) (m : ℕ) → m ≤ length us → NoneBefore us m → m + first_place p (drop m us) ≡ first_place p us
-  place_from us m le before =
+  pub offset_from : (us : List ℕ) (m : ℕ) → m ≤ length us → NoneBefore us m → m + first_offset p (drop m us) ≡ first_offset p us
+  offset_from us m le before =
       let rest = drop m us in
       let e : length rest ≡ length us - m = length-drop m us in
-      place_is us (m + first_place p rest)
-      (let h = place_in rest in omega (arith, e, h))
-      (none_further us m (first_place p rest) before (none_to_place rest))
-      (λ l. subst (λ x. p x ≡ true) (get_or-drop m us (first_place p rest) 0) (place_here rest (omega (arith, e))))
+      offset_is us (m + first_offset p rest)
+      (let h = offset_in rest in omega (arith, e, h))
+      (none_further us m (first_offset p rest) before (none_to_offset rest))
+      (λ l. subst (λ x. p x ≡ true) (get_or-drop m us (first_offset p rest) 0) (offset_here rest (omega (arith, e))))
 
   -- The mask is empty if none passes.
   empty_mask : (us : List ℕ) → NoneBefore us (length us) → mask_l (map p us) ≡ 0
@@ -82,61 +82,61 @@ module _ (p : ℕ → Bool) where
       ap (λ b. cond b 1 0 + 2 * mask_l (map p us)) first ∙ omega (arith, rest)
 
   -- If one of the first n units passes, the first in the list is among them.
-  place_of_front : (n : ℕ) (us : List ℕ) → first_place p (take n us) < length (take n us) → first_place p (take n us) ≡ first_place p us
-  place_of_front n us below =
+  offset_of_prefix : (n : ℕ) (us : List ℕ) → first_offset p (take n us) < length (take n us) → first_offset p (take n us) ≡ first_offset p us
+  offset_of_prefix n us below =
       let q = λ (u : ℕ). not (p u) in
-      let front = take n us in
-      let apart : eqb (prefix_len q front) (length front) ≡ false = ne_eqb _ _ (λ (e : prefix_len q front ≡ length front). omega (arith, e, below)) in
-      let split = prefix_len-append q front (drop n us) in
-      let chosen : prefix_len q (front ++ drop n us) ≡ prefix_len q front = split ∙ ap (λ b. cond b (length front + prefix_len q (drop n us)) (prefix_len q front)) apart in
+      let prefix = take n us in
+      let apart : eqb (prefix_len q prefix) (length prefix) ≡ false = ne_eqb _ _ (λ (e : prefix_len q prefix ≡ length prefix). omega (arith, e, below)) in
+      let split = prefix_len-append q prefix (drop n us) in
+      let chosen : prefix_len q (prefix ++ drop n us) ≡ prefix_len q prefix = split ∙ ap (λ b. cond b (length prefix + prefix_len q (drop n us)) (prefix_len q prefix)) apart in
       sym chosen ∙ ap (prefix_len q) (take-append-drop n us)
 
   -- ---- a block of n from m on
 
   module _ (n : ℕ) (small : n ≤ 64) where
     block_long : (us : List ℕ) (m : ℕ) → m + n ≤ length us → length (take n (drop m us)) ≡ n
-    block_long us m room = simp (length-take, length-drop) (omega arith)
+    block_long us m space = simp (length-take, length-drop) (omega arith)
 
     none_in_block : (us : List ℕ) (m : ℕ) → NoneBefore (take n (drop m us)) n → NoneBefore (drop m us) n
     none_in_block us m h k l = subst (λ x. p x ≡ false) (get_or-take n (drop m us) k 0 l) (h k l)
 
     -- An empty mask.
     block_passed : (us : List ℕ) (m : ℕ) → m + n ≤ length us → NoneBefore us m → mask_l (map p (take n (drop m us))) ≡ 0 → NoneBefore us (m + n)
-    block_passed us m room before zero_mask =
+    block_passed us m space before zero_mask =
         let block = take n (drop m us) in
-        let all : first_place p block ≡ n = leading_from_mask_l p block zero_mask ∙ block_long us m room in
-        none_further us m n before (none_in_block us m (λ k l. none_to_place block k (omega (arith, all))))
+        let all : first_offset p block ≡ n = leading_from_mask_l p block zero_mask ∙ block_long us m space in
+        none_further us m n before (none_in_block us m (λ k l. none_to_offset block k (omega (arith, all))))
 
     -- A mask that is not empty: if no lane passed, its mask would be empty.
-    place_below : (block : List ℕ) → length block ≡ n → 0 < mask_l (map p block) → first_place p block < n
-    place_below block long some = ⊎_elim (λ l. l) (λ ge. absurd (omega (arith, some, empty_mask block (λ k l. none_to_place block k (omega (arith, ge, l, long)))))) (cases_lt (first_place p block) n)
+    offset_below : (block : List ℕ) → length block ≡ n → 0 < mask_l (map p block) → first_offset p block < n
+    offset_below block long some = ⊎_elim (λ l. l) (λ ge. absurd (omega (arith, some, empty_mask block (λ k l. none_to_offset block k (omega (arith, ge, l, long)))))) (cases_lt (first_offset p block) n)
 
     -- The lowest bit of a mask.
     block_stops : (us : List ℕ) (m : ℕ) → m + n ≤ length us → NoneBefore us m → 0 < mask_l (map p (take n (drop m us)))
-        → m + count_trailing_zeros 64 (mask_l (map p (take n (drop m us)))) ≡ first_place p us
-    block_stops us m room before some =
+        → m + count_trailing_zeros 64 (mask_l (map p (take n (drop m us)))) ≡ first_offset p us
+    block_stops us m space before some =
         let block = take n (drop m us) in
-        let long = block_long us m room in
-        let lowest : count_trailing_zeros 64 (mask_l (map p block)) ≡ first_place p block = trailing_mask_l p 64 block (omega (arith, long)) some in
-        let below : first_place p block < n = place_below block long some in
-        let here : first_place p block ≡ first_place p (drop m us) = place_of_front n (drop m us) (omega (arith, below, long)) in
-        ap (λ j. m + j) (lowest ∙ here) ∙ place_from us m (omega arith) before
+        let long = block_long us m space in
+        let lowest : count_trailing_zeros 64 (mask_l (map p block)) ≡ first_offset p block = trailing_mask_l p 64 block (omega (arith, long)) some in
+        let below : first_offset p block < n = offset_below block long some in
+        let here : first_offset p block ≡ first_offset p (drop m us) = offset_of_prefix n (drop m us) (omega (arith, below, long)) in
+        ap (λ j. m + j) (lowest ∙ here) ∙ offset_from us m (omega arith) before
 
     -- ---- the steps of a loop over the blocks
 
-    module _ (us : List ℕ) (blocks : List (List ℕ)) (front : blocks ≡ first_chunks n (length us / n) us) (count : length blocks ≡ length us / n) (fits : length us / n * n ≤ length us) where
+    module _ (us : List ℕ) (blocks : List (List ℕ)) (prefix : blocks ≡ first_chunks n (length us / n) us) (count : length blocks ≡ length us / n) (fits : length us / n * n ≤ length us) where
       block_is : (i : ℕ) (d : List ℕ) → i < length blocks → get_or blocks i d ≡ take n (drop (i * n) us)
-      block_is i d l = ap (λ bs. get_or bs i d) front ∙ block_at n (length us / n) i us d (omega (arith, count, l))
+      block_is i d l = ap (λ bs. get_or bs i d) prefix ∙ block_at n (length us / n) i us d (omega (arith, count, l))
 
-      pub hit : (i : ℕ) (d : List ℕ) (bits : ℕ) → i < length blocks → i * n + n ≤ length us → bits ≡ mask_l (map p (get_or blocks i d)) → bits ≢ 0 → NoneBefore us (i * n) → i * n + count_trailing_zeros 64 bits ≡ first_place p us
-      hit i d bits l room e set before =
+      pub hit : (i : ℕ) (d : List ℕ) (bits : ℕ) → i < length blocks → i * n + n ≤ length us → bits ≡ mask_l (map p (get_or blocks i d)) → bits ≢ 0 → NoneBefore us (i * n) → i * n + count_trailing_zeros 64 bits ≡ first_offset p us
+      hit i d bits l space e set before =
           let mask : bits ≡ mask_l (map p (take n (drop (i * n) us))) = e ∙ ap (λ bs. mask_l (map p bs)) (block_is i d l) in
-          ap (λ b. i * n + count_trailing_zeros 64 b) mask ∙ block_stops us (i * n) room before (omega (arith, mask, set))
+          ap (λ b. i * n + count_trailing_zeros 64 b) mask ∙ block_stops us (i * n) space before (omega (arith, mask, set))
 
       pub miss : (i : ℕ) (d : List ℕ) (bits : ℕ) → i < length blocks → i * n + n ≤ length us → i * n + n ≡ (i + 1) * n → bits ≡ mask_l (map p (get_or blocks i d)) → bits ≡ 0 → NoneBefore us (i * n) → NoneBefore us ((i + 1) * n)
-      miss i d bits l room next e clear before =
+      miss i d bits l space next e clear before =
           let mask : mask_l (map p (take n (drop (i * n) us))) ≡ 0 = sym (e ∙ ap (λ bs. mask_l (map p bs)) (block_is i d l)) ∙ clear in
-          subst (λ m. NoneBefore us m) next (block_passed us (i * n) room before mask)
+          subst (λ m. NoneBefore us m) next (block_passed us (i * n) space before mask)
 
 -- ---- what the lanes test
 

@@ -75,7 +75,7 @@ module _ (us : List ℕ) (fits : (k : ℕ) → Fits w16 (get_or us k 0)) where
   -- Equal masks of a block and of the block one unit after it.
   pub paired : (m i j : ℕ) → i ≡ 16 → j ≡ 16 → m + 17 ≤ length us → mask_l (map is_high (take i (drop m us))) ≡ mask_l (map is_low (take j (drop (m + 1) us)))
       → (k : ℕ) → k < 16 → is_high (get_or us (m + k) 0) ≡ is_low (get_or us (suc (m + k)) 0)
-  paired m i j ei ej room e k l =
+  paired m i j ei ej space e k l =
       let a : length (take i (drop m us)) ≡ 16 = simp (length-take, length-drop) (omega arith) in
       let b : length (take j (drop (m + 1) us)) ≡ 16 = simp (length-take, length-drop) (omega arith) in
       let h = same_lanes is_high is_low (take i (drop m us)) (take j (drop (m + 1) us)) (a ∙ sym b) e k (omega (arith, a, l)) in
@@ -85,7 +85,7 @@ module _ (us : List ℕ) (fits : (k : ℕ) → Fits w16 (get_or us k 0)) where
       sym (ap is_high left) ∙ h ∙ ap is_low right
 
   pub block : (m : ℕ) → m + 17 ≤ length us → ((k : ℕ) → k < 16 → is_high (get_or us (m + k) 0) ≡ is_low (get_or us (suc (m + k)) 0)) → UpTo m → UpTo (m + 16)
-  block m room same so_far = steps m 16 (omega arith) same so_far
+  block m space same so_far = steps m 16 (omega arith) same so_far
 
   pub even : (m : ℕ) → UpTo m → is_low (get_or us m 0) ≡ false → Text m
   even m (inl at) e = at.1

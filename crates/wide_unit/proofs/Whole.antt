@@ -7,7 +7,7 @@ use Rattle.wide_unit.specs.Segmentation.{Item, Char, Fault, units_of}
 use Rattle.wide_unit.specs.Items.{items, IsWellFormed, IsFirstFault, BeginsWithChars}
 use Rattle.wide_unit.specs.Laws.Items.{IsWellFormed-of_chars, units_of-items, units_of-chars}
 use Rattle.wide_unit.specs.Laws.Boundaries.{units_of-append}
-use Rattle.wide_unit.specs.Places.{chars_before}
+use Rattle.wide_unit.specs.Offsets.{chars_before}
 use Rattle.wide_unit.proofs.Faults.{IsFirstFault-of, first_fault-item}
 
 pub chars-none : (form : EncodingForm) (us : List ℕ) → BeginsWithChars form us us

@@ -30,7 +30,7 @@ chars form units = characters (items form units)
 
 -- The offset, in units, is between two items, or at an end.
 abbrev pub IsBoundary : EncodingForm → List ℕ → ℕ → Type 0
-IsBoundary form units place = (front back : List Item) × (items form units ≡ front ++ back) × (length (units_of form front) ≡ place)
+IsBoundary form units offset = (prefix back : List Item) × (items form units ≡ prefix ++ back) × (length (units_of form prefix) ≡ offset)
 
 -- The characters before the first fault.
 abbrev pub leading_characters : List Item → List ℕ

@@ -7,7 +7,7 @@ pub mod Utf32
 pub mod Lossy
 pub mod Policies
 pub mod Boundaries
-pub mod Places
+pub mod Offsets
 pub mod Splices
 pub mod Texts
 pub mod Encodings

@@ -4,7 +4,7 @@ pub mod LeadingByte
 pub mod CodePoint
 pub mod Segmentation
 pub mod Items
-pub mod Places
+pub mod Offsets
 pub mod Lossy
 pub mod Lines
 pub mod Texts
@@ -14,6 +14,6 @@ pub mod AnyUnits
 pub mod Range
 pub mod Nul
 pub mod Searches
-pub mod Mended
+pub mod Repaired
 pub mod Statements
 pub mod Laws

@@ -23,30 +23,30 @@ without_return (Fault u ∷ []) = Fault u ∷ []
 without_return (i ∷ j ∷ is) = i ∷ without_return (j ∷ is)
 
 -- The last fragment is no line if it is empty. Each other fragment loses a carriage return at its end.
-abbrev pub lines_of_pieces : List (List Item) → List (List Item)
-lines_of_pieces [] = []
-lines_of_pieces ([] ∷ []) = []
-lines_of_pieces ((i ∷ is) ∷ []) = (i ∷ is) ∷ []
-lines_of_pieces (p ∷ q ∷ ps) = without_return p ∷ lines_of_pieces (q ∷ ps)
+abbrev pub lines_of_substrings : List (List Item) → List (List Item)
+lines_of_substrings [] = []
+lines_of_substrings ([] ∷ []) = []
+lines_of_substrings ((i ∷ is) ∷ []) = (i ∷ is) ∷ []
+lines_of_substrings (p ∷ q ∷ ps) = without_return p ∷ lines_of_substrings (q ∷ ps)
 
 -- The items are split at each line feed, which belongs to no fragment.
 abbrev pub lines_of : List Item → List (List Item)
-lines_of is = lines_of_pieces (slice_split is_line_feed is)
+lines_of is = lines_of_substrings (slice_split is_line_feed is)
 
--- The lines, each with the offset, in units, at which it begins: the first at `place`, and each next one a unit after
+-- The lines, each with the offset, in units, at which it begins: the first at `offset`, and each next one a unit after
 -- the units of the fragment before.
-abbrev pub placed_pieces : EncodingForm → ℕ → List (List Item) → List (ℕ × List Item)
-placed_pieces form place [] = []
-placed_pieces form place ([] ∷ []) = []
-placed_pieces form place ((i ∷ is) ∷ []) = (place, i ∷ is) ∷ []
-placed_pieces form place (p ∷ q ∷ ps) = (place, without_return p) ∷ placed_pieces form (place + (length (units_of form p) + 1)) (q ∷ ps)
+abbrev pub placed_substrings : EncodingForm → ℕ → List (List Item) → List (ℕ × List Item)
+placed_substrings form offset [] = []
+placed_substrings form offset ([] ∷ []) = []
+placed_substrings form offset ((i ∷ is) ∷ []) = (offset, i ∷ is) ∷ []
+placed_substrings form offset (p ∷ q ∷ ps) = (offset, without_return p) ∷ placed_substrings form (offset + (length (units_of form p) + 1)) (q ∷ ps)
 
 abbrev pub placed_lines : EncodingForm → ℕ → List Item → List (ℕ × List Item)
-placed_lines form place is = placed_pieces form place (slice_split is_line_feed is)
+placed_lines form offset is = placed_substrings form offset (slice_split is_line_feed is)
 
 -- The first line of the items, and the items of the lines after it. `taken` is the number of units that were read.
 abbrev pub TakesLine : EncodingForm → List Item → List Item → List Item → ℕ → Type 0
-TakesLine form is line rest taken = (place : ℕ) → placed_lines form place is ≡ (place, line) ∷ placed_lines form (place + taken) rest
+TakesLine form is line rest taken = (offset : ℕ) → placed_lines form offset is ≡ (offset, line) ∷ placed_lines form (offset + taken) rest
 
 -- The first line of the units, and the units after it. Both are well formed if all units are.
 pub record IsFirstLine (form : EncodingForm) (units line rest : List ℕ) : Type 0 where

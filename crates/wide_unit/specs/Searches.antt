@@ -21,11 +21,11 @@ abbrev pub is_unit : ℕ → ℕ → Bool
 is_unit number u = nat_eq u number
 
 -- The index of the first unit that passes the test, or the length if none does.
-abbrev pub first_place : (ℕ → Bool) → List ℕ → ℕ
-first_place test us = prefix_len (λ u. not (test u)) us
+abbrev pub first_offset : (ℕ → Bool) → List ℕ → ℕ
+first_offset test us = prefix_len (λ u. not (test u)) us
 
 -- The index is that of the first unit of a kind, or the length if there is none.
-pub record IsFirstPlace (Kind : ℕ → Type 0) (us : List ℕ) (place : ℕ) : Type 0 where
-  pub within : place ≤ length us
-  pub before : (earlier : ℕ) → earlier < place → ¬ (Kind (slice_index us earlier))
-  pub here : place < length us → Kind (slice_index us place)
+pub record IsFirstOffset (Kind : ℕ → Type 0) (us : List ℕ) (offset : ℕ) : Type 0 where
+  pub within : offset ≤ length us
+  pub before : (earlier : ℕ) → earlier < offset → ¬ (Kind (slice_index us earlier))
+  pub here : offset < length us → Kind (slice_index us offset)

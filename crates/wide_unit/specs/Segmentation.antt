@@ -27,7 +27,7 @@ pub record IsSegmentation (form : EncodingForm) (items : List Item) (units : Lis
   -- A character is a scalar value, and a fault encodes no scalar value by itself.
   pub proper : All (IsItem form) items
   -- No fault directly precedes another one with which it is a pair.
-  pub unpaired : (front back : List Item) (h l : ℕ) → items ≡ front ++ Fault h ∷ Fault l ∷ back → ¬ (IsPair form h l)
+  pub unpaired : (prefix back : List Item) (h l : ℕ) → items ≡ prefix ++ Fault h ∷ Fault l ∷ back → ¬ (IsPair form h l)
 
 -- The two forms as the Standard defines them. On lists of code units, `IsSegmentation` is equivalent to these. UTF-16:
 -- each fault is a surrogate, and no high one directly precedes a low one.
@@ -35,7 +35,7 @@ pub record IsSegmentation16 (items : List Item) (units : List ℕ) : Type 0 wher
   pub joined : units_of Utf16 items ≡ units
   pub characters : (c : ℕ) → Contains items (Char c) → IsScalar c
   pub faults : (u : ℕ) → Contains items (Fault u) → (0xD800 ≤ u) × (u ≤ 0xDFFF)
-  pub unpaired : (front back : List Item) (h l : ℕ) → items ≡ front ++ Fault h ∷ Fault l ∷ back → IsHighSurrogate Utf16 h → ¬ (IsLowSurrogate Utf16 l)
+  pub unpaired : (prefix back : List Item) (h l : ℕ) → items ≡ prefix ++ Fault h ∷ Fault l ∷ back → IsHighSurrogate Utf16 h → ¬ (IsLowSurrogate Utf16 l)
 
 -- UTF-32: each fault is no scalar value.
 pub record IsSegmentation32 (items : List Item) (units : List ℕ) : Type 0 where

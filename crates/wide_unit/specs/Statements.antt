@@ -8,7 +8,7 @@ use Rattle.std.specs.Cmp.Lexicographic.{slice_cmp}
 use Rattle.wide_unit.specs.EncodingForm.{EncodingForm, Utf16, Utf32, encode, IsCodeUnit}
 use Rattle.wide_unit.specs.Segmentation.{Item, Char, Fault, IsSegmentation, IsSegmentation16, IsSegmentation32, IsLooseSegmentation}
 use Rattle.wide_unit.specs.Items.{items, chars, IsWellFormed, IsBoundary, first_fault, IsFirstFault}
-use Rattle.wide_unit.specs.Places.{IsPlaceOf, IsCharBoundary, chars_before}
+use Rattle.wide_unit.specs.Offsets.{IsOffsetOf, IsCharBoundary, chars_before}
 use Rattle.wide_unit.specs.Lossy.{lossy, lossy_by, past_faults, ends_in_fault, lossy_after}
 use Rattle.wide_unit.specs.declared.policy.Policy.{Policy}
 use Rattle.wide_unit.specs.declared.policy.Policy.TheVariants.{Each, Run, Skip}
@@ -76,8 +76,8 @@ abbrev pub LossyKeepsLength : Type 0
 LossyKeepsLength = (form : EncodingForm) (us : List ℕ) → length (encode form (lossy (items form us))) ≡ length us
 
 -- The units before the first fault are well formed, and lossy text begins with them unchanged.
-abbrev pub LossyKeepsFront : Type 0
-LossyKeepsFront = (form : EncodingForm) (us : List ℕ) (index item u : ℕ) → IsFirstFault form us index item u
+abbrev pub LossyKeepsPrefix : Type 0
+LossyKeepsPrefix = (form : EncodingForm) (us : List ℕ) (index item u : ℕ) → IsFirstFault form us index item u
     → IsWellFormed form (take index us) × (encode form (lossy (items form us)) ≡ take index us ++ encode form (lossy (items form (drop index us))))
 
 -- The encoding of characters is well formed, and decodes to them.
@@ -94,12 +94,12 @@ WellFormedIsEncoded = (form : EncodingForm) (us : List ℕ) → IsWellFormed for
 -- In well-formed units, an offset is a boundary exactly if it is the beginning or the end, or if the unit at it is no
 -- low surrogate.
 abbrev pub BoundariesAreSeen : Type 0
-BoundariesAreSeen = (form : EncodingForm) (us : List ℕ) (place : ℕ) → IsWellFormed form us → IsBoundary form us place ↔ IsCharBoundary form us place
+BoundariesAreSeen = (form : EncodingForm) (us : List ℕ) (offset : ℕ) → IsWellFormed form us → IsBoundary form us offset ↔ IsCharBoundary form us offset
 
 -- Only characters precede the first fault. Its index is their length in units, and its item number is their number.
-abbrev pub FirstFaultsAreBehindText : Type 0
-FirstFaultsAreBehindText = (form : EncodingForm) (us : List ℕ) (index item u : ℕ)
-    → IsFirstFault form us index item u ↔ ((front : List ℕ) × (rest : List Item) × (items form us ≡ map Char front ++ Fault u ∷ rest) × (length (encode form front) ≡ index) × (length front ≡ item))
+abbrev pub FirstFaultsAreAfterText : Type 0
+FirstFaultsAreAfterText = (form : EncodingForm) (us : List ℕ) (index item u : ℕ)
+    → IsFirstFault form us index item u ↔ ((prefix : List ℕ) × (rest : List Item) × (items form us ≡ map Char prefix ++ Fault u ∷ rest) × (length (encode form prefix) ≡ index) × (length prefix ≡ item))
 
 -- The item number of the first fault is the number of characters before its index.
 abbrev pub FirstFaultsAreCounted : Type 0
@@ -111,15 +111,15 @@ WellFormedOrFaulty = (form : EncodingForm) (us : List ℕ) → IsWellFormed form
 
 -- In well-formed units each character begins at one offset, after the units of those before it, and each boundary is
 -- such an offset.
-abbrev pub PlacesAreLengths : Type 0
-PlacesAreLengths = (form : EncodingForm) (us : List ℕ) (index place : ℕ) → IsWellFormed form us → IsPlaceOf form us index place ↔ (place ≡ length (encode form (take index (chars form us))))
+abbrev pub OffsetsAreLengths : Type 0
+OffsetsAreLengths = (form : EncodingForm) (us : List ℕ) (index offset : ℕ) → IsWellFormed form us → IsOffsetOf form us index offset ↔ (offset ≡ length (encode form (take index (chars form us))))
 
-abbrev pub BoundariesArePlaces : Type 0
-BoundariesArePlaces = (form : EncodingForm) (us : List ℕ) (place : ℕ) → IsWellFormed form us → IsBoundary form us place → IsPlaceOf form us (chars_before form us place) place
+abbrev pub BoundariesAreOffsets : Type 0
+BoundariesAreOffsets = (form : EncodingForm) (us : List ℕ) (offset : ℕ) → IsWellFormed form us → IsBoundary form us offset → IsOffsetOf form us (chars_before form us offset) offset
 
 -- Well-formed units that are split at a boundary are well formed.
 abbrev pub CutsAreWellFormed : Type 0
-CutsAreWellFormed = (form : EncodingForm) (us : List ℕ) (place : ℕ) → IsWellFormed form us → IsBoundary form us place → IsWellFormed form (take place us) × IsWellFormed form (drop place us)
+CutsAreWellFormed = (form : EncodingForm) (us : List ℕ) (offset : ℕ) → IsWellFormed form us → IsBoundary form us offset → IsWellFormed form (take offset us) × IsWellFormed form (drop offset us)
 
 -- The slice between two boundaries, and the units with other well-formed ones in its place, are well formed. Their
 -- characters are the slice of the characters, and the characters with those others in its place.
@@ -137,8 +137,8 @@ abbrev pub EncodingsAreCut : Type 0
 EncodingsAreCut = (form : EncodingForm) (cs : List ℕ) (i : ℕ)
     → (encode form (take i cs) ≡ take (length (encode form (take i cs))) (encode form cs)) × (encode form (drop i cs) ≡ drop (length (encode form (take i cs))) (encode form cs))
 
-abbrev pub PlacesGrow : Type 0
-PlacesGrow = (form : EncodingForm) (cs : List ℕ) (i j : ℕ) → i ≤ j → length (encode form (take i cs)) ≤ length (encode form (take j cs))
+abbrev pub OffsetsGrow : Type 0
+OffsetsGrow = (form : EncodingForm) (cs : List ℕ) (i j : ℕ) → i ≤ j → length (encode form (take i cs)) ≤ length (encode form (take j cs))
 
 -- The units of characters with others in place of some are the units with those of the others in that place.
 abbrev pub EncodingsAreSpliced : Type 0
@@ -180,8 +180,8 @@ UnendedIsOneLine = (form : EncodingForm) (us : List ℕ) → us ≢ [] → All (
 -- The first line feed among the units ends the first line, which loses a carriage return at its end. The lines after it
 -- are those of the units after it.
 abbrev pub FeedEndsLine : Type 0
-FeedEndsLine = (form : EncodingForm) (front back : List ℕ) → All (λ u. u ≢ line_feed) front
-    → lines_of (items form (front ++ line_feed ∷ back)) ≡ without_return (items form front) ∷ lines_of (items form back)
+FeedEndsLine = (form : EncodingForm) (prefix back : List ℕ) → All (λ u. u ≢ line_feed) prefix
+    → lines_of (items form (prefix ++ line_feed ∷ back)) ≡ without_return (items form prefix) ∷ lines_of (items form back)
 
 -- Lossy text under the policy that yields U+FFFD for each fault is lossy text without a policy.
 abbrev pub EachIsLossy : Type 0
@@ -192,19 +192,19 @@ abbrev pub CharactersPartLossy : Type 0
 CharactersPartLossy = (policy : Policy) (a b : List Item) (c : ℕ) → lossy_by policy (a ++ Char c ∷ b) ≡ lossy_by policy a ++ c ∷ lossy_by policy b
 
 -- A run of faults is one U+FFFD, or nothing. The faults that directly follow a fault yield none.
-abbrev pub RowsGiveOne : Type 0
-RowsGiveOne = (u : ℕ) (us : List ℕ) → lossy_by Run (map Fault (u ∷ us)) ≡ 0xFFFD ∷ []
+abbrev pub RunsGiveOne : Type 0
+RunsGiveOne = (u : ℕ) (us : List ℕ) → lossy_by Run (map Fault (u ∷ us)) ≡ 0xFFFD ∷ []
 
-abbrev pub RowsGiveNone : Type 0
-RowsGiveNone = (us : List ℕ) → lossy_by Skip (map Fault us) ≡ []
+abbrev pub RunsGiveNone : Type 0
+RunsGiveNone = (us : List ℕ) → lossy_by Skip (map Fault us) ≡ []
 
 abbrev pub RunsGoOn : Type 0
 RunsGoOn = (a b : List Item) (u : ℕ) → lossy_by Run (a ++ Fault u ∷ b) ≡ lossy_by Run (a ++ Fault u ∷ []) ++ lossy_by Run (past_faults b)
 
 -- The lossy text of concatenated lists is that of the first and that of the second after it, which depends only on
 -- whether a fault ends the first.
-abbrev pub LossyBehindNone : Type 0
-LossyBehindNone = (policy : Policy) (is : List Item) → lossy_after policy false is ≡ lossy_by policy is
+abbrev pub LossyAfterNone : Type 0
+LossyAfterNone = (policy : Policy) (is : List Item) → lossy_after policy false is ≡ lossy_by policy is
 
 abbrev pub LossyGoesOn : Type 0
 LossyGoesOn = (policy : Policy) (after : Bool) (a b : List Item) → lossy_after policy after (a ++ b) ≡ lossy_after policy after a ++ lossy_after policy (ends_in_fault after a) b

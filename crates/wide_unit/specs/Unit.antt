@@ -13,5 +13,5 @@ item_of number (Ok c) = Char c
 item_of number (Err u) = Fault (number u)
 
 -- The item of a result that reports a fault by its number.
-abbrev pub told_item : Result ℕ ℕ → Item
-told_item r = item_of (λ u. u) r
+abbrev pub reported_item : Result ℕ ℕ → Item
+reported_item r = item_of (λ u. u) r

@@ -14,8 +14,8 @@ pub fn same_units<C: Unit>(left: &[C], right: &[C]) -> bool
     if left.len() != right.len() {
         return false;
     }
-    for place in 0..left.len() {
-        if left[place].code() != right[place].code() {
+    for offset in 0..left.len() {
+        if left[offset].code() != right[offset].code() {
             return false;
         }
     }

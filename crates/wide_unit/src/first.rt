@@ -10,13 +10,13 @@ use crate::unit::Unit;
 /// Rust crate has no such call.
 pub fn first_of<C: Unit>(units: &[C], number: u32) -> Option<usize>
     ensures none { IfNone result (All (λ u. C.number u ≢ number) units.now) }
-    ensures before { IfSome result (λ place. All (λ u. C.number u ≢ number) (take place units.now)) }
-    ensures within { IfSome result (λ place. place < length units.now) }
-    ensures at { IfSome result (λ place. slice_index (map C.number units.now) place ≡ number) }
+    ensures before { IfSome result (λ offset. All (λ u. C.number u ≢ number) (take offset units.now)) }
+    ensures within { IfSome result (λ offset. offset < length units.now) }
+    ensures at { IfSome result (λ offset. slice_index (map C.number units.now) offset ≡ number) }
 {
-    let place = C::place_of(number, units);
-    if place < units.len() {
-        return Some(place);
+    let offset = C::offset_of(number, units);
+    if offset < units.len() {
+        return Some(offset);
     }
     None
 }

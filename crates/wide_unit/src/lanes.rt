@@ -3,7 +3,7 @@ ghost use Rattle.std.specs.Prelude.{◌≡◌, ◌≤◌, ◌<◌, ◌^◌, ℕ,
 ghost use Rattle.std.specs.List.{count_by};
 ghost use Rattle.std.specs.Simd.Lanes.{mask_l};
 ghost use Rattle.std.proofs.Common.{rules};
-ghost use Rattle.wide_unit.specs.Searches.{is_high, is_low, is_surrogate, is_no_scalar, is_unit, first_place};
+ghost use Rattle.wide_unit.specs.Searches.{is_high, is_low, is_surrogate, is_no_scalar, is_unit, first_offset};
 ghost use Rattle.wide_unit.specs.EncodingForm.{Utf16};
 ghost use Rattle.wide_unit.specs.Items.{BeginsWithChars};
 
@@ -29,7 +29,7 @@ trait Test<C: Copy, const N: usize>: Copy {
 // Returns the index of the first 16-bit unit that passes, or the length if there is none.
 #[inline(always)]
 fn first_of_16<T: Test<u16, 16>>(units: &[u16], test: T) -> usize
-    ensures { result ≡ first_place (T.passes test) units.now }
+    ensures { result ≡ first_offset (T.passes test) units.now }
 {
     let (blocks, _) = units.as_chunks::<16>();
     for (i, block) in blocks.iter().enumerate() {
@@ -49,7 +49,7 @@ fn first_of_16<T: Test<u16, 16>>(units: &[u16], test: T) -> usize
 // Returns the index of the first 32-bit unit that passes, or the length if there is none.
 #[inline(always)]
 fn first_of_32<T: Test<u32, 8>>(units: &[u32], test: T) -> usize
-    ensures { result ≡ first_place (T.passes test) units.now }
+    ensures { result ≡ first_offset (T.passes test) units.now }
 {
     let (blocks, _) = units.as_chunks::<8>();
     for (i, block) in blocks.iter().enumerate() {
@@ -149,28 +149,28 @@ impl Test<u32, 8> for Same<u32> {
 
 /// Returns the index of the first surrogate, or the length if there is none.
 pub fn first_surrogate(units: &[u16]) -> usize
-    ensures { result ≡ first_place is_surrogate units.now }
+    ensures { result ≡ first_offset is_surrogate units.now }
 {
     first_of_16(units, Surrogate)
 }
 
 /// Returns the index of the first unit that is no Unicode scalar value, or the length if there is none.
 pub fn first_no_scalar(units: &[u32]) -> usize
-    ensures { result ≡ first_place is_no_scalar units.now }
+    ensures { result ≡ first_offset is_no_scalar units.now }
 {
     first_of_32(units, NoScalar)
 }
 
 /// Returns the index of the first 16-bit unit that equals `unit`, or the length if there is none.
 pub(crate) fn first_same_16(units: &[u16], unit: u16) -> usize
-    ensures { result ≡ first_place (is_unit unit) units.now }
+    ensures { result ≡ first_offset (is_unit unit) units.now }
 {
     first_of_16(units, Same { unit })
 }
 
 /// Returns the index of the first 32-bit unit that equals `unit`, or the length if there is none.
 pub(crate) fn first_same_32(units: &[u32], unit: u32) -> usize
-    ensures { result ≡ first_place (is_unit unit) units.now }
+    ensures { result ≡ first_offset (is_unit unit) units.now }
 {
     first_of_32(units, Same { unit })
 }

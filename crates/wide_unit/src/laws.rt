@@ -4,7 +4,7 @@ ghost use Rattle.wide_unit.specs.EncodingForm.{Utf16, Utf32};
 ghost use Rattle.wide_unit.specs.Segmentation.{Char, Fault};
 ghost use Rattle.wide_unit.specs.Items.{items, IsFirstFault};
 ghost use Rattle.wide_unit.specs.Lossy.{lossy};
-ghost use Rattle.wide_unit.specs.Statements.{SegmentationExists, SegmentationIsUnique, SegmentationIsLiteral16, SegmentationIsLiteral32, LooseSegmentationsDiffer, ItemsJoinAfter, ItemsJoinBefore, EncodingIsWellFormed, EncodingDecodes, WellFormedIsEncoded, BoundariesAreSeen, FirstFaultsAreBehindText, FirstFaultsAreCounted, WellFormedOrFaulty, PlacesAreLengths, BoundariesArePlaces, CutsAreWellFormed, PartsAreWellFormed, SplicesAreWellFormed, EncodingsAreCut, PlacesGrow, EncodingsAreSpliced, FiltersAreWellFormed, EqualCharacters, Utf8IsStds, Units32AreItems, Items32Join, Items32Count, Items16Count, LossyIsScalars, LossyKeepsWellFormed, LossyIsWellFormed, LossyOnceIsEnough, LossyKeepsLength, LossyKeepsFront, EachIsLossy, CharactersPartLossy, RowsGiveOne, RowsGiveNone, RunsGoOn, LossyBehindNone, LossyGoesOn, PoliciesGiveScalars, PoliciesKeepWellFormed, PoliciesTwice, PoliciesNeverLengthen, CodePointOfText, CodePointOfNone, OrderAgreesWithEquality, NoUnitsNoLines, UnendedIsOneLine, FeedEndsLine};
+ghost use Rattle.wide_unit.specs.Statements.{SegmentationExists, SegmentationIsUnique, SegmentationIsLiteral16, SegmentationIsLiteral32, LooseSegmentationsDiffer, ItemsJoinAfter, ItemsJoinBefore, EncodingIsWellFormed, EncodingDecodes, WellFormedIsEncoded, BoundariesAreSeen, FirstFaultsAreAfterText, FirstFaultsAreCounted, WellFormedOrFaulty, OffsetsAreLengths, BoundariesAreOffsets, CutsAreWellFormed, PartsAreWellFormed, SplicesAreWellFormed, EncodingsAreCut, OffsetsGrow, EncodingsAreSpliced, FiltersAreWellFormed, EqualCharacters, Utf8IsStds, Units32AreItems, Items32Join, Items32Count, Items16Count, LossyIsScalars, LossyKeepsWellFormed, LossyIsWellFormed, LossyOnceIsEnough, LossyKeepsLength, LossyKeepsPrefix, EachIsLossy, CharactersPartLossy, RunsGiveOne, RunsGiveNone, RunsGoOn, LossyAfterNone, LossyGoesOn, PoliciesGiveScalars, PoliciesKeepWellFormed, PoliciesTwice, PoliciesNeverLengthen, CodePointOfText, CodePointOfNone, OrderAgreesWithEquality, NoUnitsNoLines, UnendedIsOneLine, FeedEndsLine};
 
 /// Each list of code units has exactly one segmentation (Unicode Standard, D84a and D85a).
 pub fn one_segmentation()
@@ -53,7 +53,7 @@ pub fn lossy_text()
     ensures well_formed { LossyIsWellFormed }
     ensures once { LossyOnceIsEnough }
     ensures length { LossyKeepsLength }
-    ensures front { LossyKeepsFront }
+    ensures prefix { LossyKeepsPrefix }
 {}
 
 /// Lossy text under a policy. The texts before and after a character are independent of each other. A run of faults
@@ -63,11 +63,11 @@ pub fn lossy_text()
 pub fn lossy_text_by_policy()
     ensures each { EachIsLossy }
     ensures parts { CharactersPartLossy }
-    ensures one { RowsGiveOne }
-    ensures none { RowsGiveNone }
+    ensures one { RunsGiveOne }
+    ensures none { RunsGiveNone }
     ensures on { RunsGoOn }
-    ensures behind_none { LossyBehindNone }
-    ensures behind { LossyGoesOn }
+    ensures after_none { LossyAfterNone }
+    ensures beyond { LossyGoesOn }
     ensures scalars { PoliciesGiveScalars }
     ensures keeps { PoliciesKeepWellFormed }
     ensures twice { PoliciesTwice }
@@ -91,16 +91,16 @@ pub fn boundaries()
 /// Only characters precede the first fault. Its index is their length in units, and its item number is their number.
 /// Units have no first fault exactly if they are well formed.
 pub fn first_faults()
-    ensures behind_text { FirstFaultsAreBehindText }
+    ensures after_text { FirstFaultsAreAfterText }
     ensures counted { FirstFaultsAreCounted }
     ensures none { WellFormedOrFaulty }
 {}
 
 /// In well-formed units each character begins at exactly one offset, the length in units of the characters before it.
 /// Each boundary is such an offset, or the end.
-pub fn places_of_characters()
-    ensures lengths { PlacesAreLengths }
-    ensures boundaries { BoundariesArePlaces }
+pub fn offsets_of_characters()
+    ensures lengths { OffsetsAreLengths }
+    ensures boundaries { BoundariesAreOffsets }
 {}
 
 /// Splitting or splicing well-formed units at boundaries, with well-formed units, yields well-formed units. Their
@@ -115,7 +115,7 @@ pub fn spliced_text()
 /// before end. These offsets grow with the characters. It holds for any list of numbers.
 pub fn encodings_of_edits()
     ensures cut { EncodingsAreCut }
-    ensures grow { PlacesGrow }
+    ensures grow { OffsetsGrow }
     ensures spliced { EncodingsAreSpliced }
 {}
 

@@ -24,15 +24,15 @@ pub fn split_line<C: Unit>(units: &[C]) -> Option<(&[C], &[C])>
     if units.is_empty() {
         return None;
     }
-    let Some(place) = first_of(units, 0xA) else {
+    let Some(offset) = first_of(units, 0xA) else {
         let (line, rest) = units.split_at(units.len());
         return Some((line, rest));
     };
-    let (_, rest) = units.split_at(place + 1);
-    if let [line @ .., last] = &units[..place] {
+    let (_, rest) = units.split_at(offset + 1);
+    if let [line @ .., last] = &units[..offset] {
         if last.code() == 0xD {
             return Some((line, rest));
         }
     }
-    Some((&units[..place], rest))
+    Some((&units[..offset], rest))
 }

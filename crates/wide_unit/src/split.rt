@@ -48,16 +48,16 @@ pub fn split_last<C: Unit>(units: &[C]) -> Option<(&[C], Result<char, C>)>
 {
     match units {
         [] => None,
-        [front @ .., last] => {
+        [prefix @ .., last] => {
             if let Some(c) = last.as_scalar() {
-                return Some((front, Ok(c)));
+                return Some((prefix, Ok(c)));
             }
-            if let [head @ .., first] = front {
+            if let [head @ .., first] = prefix {
                 if let Some(c) = first.pair_scalar(*last) {
                     return Some((head, Ok(c)));
                 }
             }
-            Some((front, Err(*last)))
+            Some((prefix, Err(*last)))
         }
     }
 }

@@ -8,7 +8,7 @@ ghost use Rattle.wide_unit.specs.Items.{items, characters, IsWellFormed, BeginsW
 ghost use Rattle.wide_unit.specs.Lossy.{lossy};
 ghost use Rattle.wide_unit.specs.Unit.{numbers_of};
 ghost use Rattle.wide_unit.specs.AnyUnits.{any_form, any_numbers};
-ghost use Rattle.wide_unit.specs.Searches.{IsFirstPlace, first_place, is_unit};
+ghost use Rattle.wide_unit.specs.Searches.{IsFirstOffset, first_offset, is_unit};
 ghost use Rattle.std.proofs.Common.{rules};
 ghost use Rattle.wide_unit.specs.Laws.Forms.{code_units-no_low_first};
 ghost use Rattle.wide_unit.specs.Laws.Items.{items-code_units, segmentation-unique};
@@ -17,7 +17,7 @@ use crate::any_units::AnyUnits;
 use crate::lanes::{
     count_low, first_no_scalar, first_same_16, first_same_32, first_surrogate, leading_pairs,
 };
-use crate::mending::{mend_16, mend_32};
+use crate::repair::{repair_16, repair_32};
 use crate::utf8::{length_as_utf16, length_as_utf32};
 
 /// A code unit: `u16` for UTF-16, `u32` for UTF-32 (Unicode Standard, D77).
@@ -77,7 +77,7 @@ pub trait Unit: Copy {
     /// Returns how many units precede the first one that encodes no character by itself, such as a surrogate in UTF-16,
     /// or the length if there is none. The search is vectorized.
     fn leading_scalars(units: &[Self]) -> usize
-        ensures { IsFirstPlace (IsFault form) (map number units.now) result };
+        ensures { IsFirstOffset (IsFault form) (map number units.now) result };
 
     /// Returns how many units at the beginning a vectorized check passes. All of them belong to characters, also to
     /// surrogate pairs. It returns 0 in UTF-32.
@@ -96,20 +96,20 @@ pub trait Unit: Copy {
 
     /// Returns the index of the first unit whose number is `code`, or the length if there is none. The search is
     /// vectorized.
-    fn place_of(code: u32, units: &[Self]) -> usize
-        ensures { result ≡ first_place (is_unit code) (map number units.now) };
+    fn offset_of(code: u32, units: &[Self]) -> usize
+        ensures { result ≡ first_offset (is_unit code) (map number units.now) };
 
-    /// Writes the units to the beginning of `mended`, with U+FFFD in place of each one that belongs to no character
+    /// Writes the units to the beginning of `repaired`, with U+FFFD in place of each one that belongs to no character
     /// (Unicode Standard, section 3.9, "U+FFFD Substitution of Maximal Subparts"). The elements after them are
     /// unchanged. It is vectorized.
     ///
     /// # Requires
     ///
-    /// `mended` is at least as long as `units`.
-    fn mend(units: &[Self], mended: &mut [Self])
-        requires { length units.now ≤ length mended.old }
-        ensures units { map number (take (length units.now) mended.new) ≡ encode form (lossy (items form (map number units.now))) }
-        ensures behind { drop (length units.now) mended.new ≡ drop (length units.now) mended.old };
+    /// `repaired` is at least as long as `units`.
+    fn repair(units: &[Self], repaired: &mut [Self])
+        requires { length units.now ≤ length repaired.old }
+        ensures units { map number (take (length units.now) repaired.new) ≡ encode form (lossy (items form (map number units.now))) }
+        ensures beyond { drop (length units.now) repaired.new ≡ drop (length units.now) repaired.old };
 
     /// Returns the units as those of their width, for code that differs by width.
     fn as_any(units: &[Self]) -> AnyUnits<'_>
@@ -235,7 +235,7 @@ impl Unit for u16 {
     }
 
     // No 16-bit unit is greater than FFFF.
-    fn place_of(code: u32, units: &[u16]) -> usize {
+    fn offset_of(code: u32, units: &[u16]) -> usize {
         if code <= 0xFFFF {
             first_same_16(units, code as u16)
         } else {
@@ -243,8 +243,8 @@ impl Unit for u16 {
         }
     }
 
-    fn mend(units: &[u16], mended: &mut [u16]) {
-        mend_16(units, mended);
+    fn repair(units: &[u16], repaired: &mut [u16]) {
+        repair_16(units, repaired);
     }
 
     #[inline]
@@ -338,12 +338,12 @@ impl Unit for u32 {
         units.len()
     }
 
-    fn place_of(code: u32, units: &[u32]) -> usize {
+    fn offset_of(code: u32, units: &[u32]) -> usize {
         first_same_32(units, code)
     }
 
-    fn mend(units: &[u32], mended: &mut [u32]) {
-        mend_32(units, mended);
+    fn repair(units: &[u32], repaired: &mut [u32]) {
+        repair_32(units, repaired);
     }
 
     #[inline]

@@ -1,14 +1,14 @@
 //! Checks whether units are well formed.
 ghost use Rattle.std.specs.Prelude.{◌<◌, ◌≤◌, ◌↔◌, length, map, IsNone, IfSome, IsOk, OnOk, IfErr};
 ghost use Rattle.wide_unit.specs.Items.{IsWellFormed, IsFirstFault, BeginsWithChars};
-ghost use Rattle.wide_unit.specs.Places.{text_before};
+ghost use Rattle.wide_unit.specs.Offsets.{text_before};
 
 use crate::split::split_first;
 use crate::unit::Unit;
 
 // Returns the units after those at the beginning that encode a character each.
 #[inline(always)]
-fn behind_scalars<C: Unit>(units: &[C]) -> &[C]
+fn after_scalars<C: Unit>(units: &[C]) -> &[C]
     ensures within { length result.now ≤ length units.now }
     ensures text { BeginsWithChars C.form (map C.number units.now) (map C.number result.now) }
 {
@@ -17,7 +17,7 @@ fn behind_scalars<C: Unit>(units: &[C]) -> &[C]
 
 // Returns the units after the blocks at the beginning that contain surrogate pairs and no fault.
 #[inline(always)]
-fn behind_pairs<C: Unit>(units: &[C]) -> &[C]
+fn after_pairs<C: Unit>(units: &[C]) -> &[C]
     ensures within { length result.now ≤ length units.now }
     ensures text { BeginsWithChars C.form (map C.number units.now) (map C.number result.now) }
 {
@@ -26,11 +26,11 @@ fn behind_pairs<C: Unit>(units: &[C]) -> &[C]
 
 // Returns the units after those at the beginning that the vectorized checks pass. All of these belong to characters.
 #[inline(always)]
-fn behind_blocks<C: Unit>(units: &[C]) -> &[C]
+fn after_blocks<C: Unit>(units: &[C]) -> &[C]
     ensures within { length result.now ≤ length units.now }
     ensures text { BeginsWithChars C.form (map C.number units.now) (map C.number result.now) }
 {
-    behind_pairs(behind_scalars(units))
+    after_pairs(after_scalars(units))
 }
 
 /// The first fault of ill-formed units (Unicode Standard, D84).
@@ -51,7 +51,7 @@ fn find_fault<C: Unit>(units: &[C]) -> Option<(usize, C)>
     ensures within { IfSome result (λ fault. fault.0 < length units.now) }
     ensures none { IsNone result ↔ IsWellFormed C.form (map C.number units.now) }
 {
-    let mut rest = behind_blocks(units);
+    let mut rest = after_blocks(units);
     while let Some((item, tail)) = split_first(rest) {
         if let Err(unit) = item {
             return Some((units.len() - rest.len(), unit));

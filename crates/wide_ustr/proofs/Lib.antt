@@ -1,4 +1,4 @@
 pub mod IndexedLemmas
-pub mod FaultRows
-mod LossyPieces
-pub mod PieceCounts
+pub mod FaultRuns
+mod LossyChunks
+pub mod SubstringCounts

@@ -5,10 +5,10 @@ use Rattle.wide_unit.specs.Segmentation.{Item, item_units}
 use Rattle.wide_unit.specs.Lossy.{lossy_char}
 use Rattle.wide_unit.specs.Unit.{item_of}
 
--- Each item with its offset, in units: the first at `place`, and each next one after the units of the one before.
+-- Each item with its offset, in units: the first at `offset`, and each next one after the units of the one before.
 abbrev pub indexed : EncodingForm → ℕ → List Item → List (ℕ × Item)
-indexed form place [] = []
-indexed form place (i ∷ is) = (place, i) ∷ indexed form (place + length (item_units form i)) is
+indexed form offset [] = []
+indexed form offset (i ∷ is) = (offset, i) ∷ indexed form (offset + length (item_units form i)) is
 
 module _ {C : Type 0} (number : C → ℕ) where
   -- An item that an index iterator yields, and its length in units.
@@ -24,4 +24,4 @@ abbrev pub lossy_at : ℕ × Item → ℕ × ℕ
 lossy_at r = (r.0, lossy_char r.1)
 
 abbrev pub indexed_lossy : EncodingForm → ℕ → List Item → List (ℕ × ℕ)
-indexed_lossy form place is = map lossy_at (indexed form place is)
+indexed_lossy form offset is = map lossy_at (indexed form offset is)

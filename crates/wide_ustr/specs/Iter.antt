@@ -5,7 +5,7 @@ use Rattle.wide_unit.specs.Segmentation.{Item}
 use Rattle.wide_unit.specs.Items.{items}
 use Rattle.wide_unit.specs.Lossy.{lossy}
 use Rattle.wide_ustr.specs.Indexed.{indexed, indexed_lossy}
-use Rattle.wide_ustr.specs.declared.places.Places.{Places}
+use Rattle.wide_ustr.specs.declared.offsets.Offsets.{Offsets}
 use Rattle.wide_ustr.specs.declared.iter.Chars.{Chars}
 use Rattle.wide_ustr.specs.declared.iter.CharsLossy.{CharsLossy}
 use Rattle.wide_ustr.specs.declared.iter.CharIndices.{CharIndices}
@@ -19,24 +19,24 @@ module _ {C : Type 0} where
   abbrev pub chars_lossy_rest : CharsLossy C → List C
   chars_lossy_rest s = s.rest.now
 
-  abbrev pub places_rest : Places C → List C
-  places_rest s = s.rest.now
+  abbrev pub offsets_rest : Offsets C → List C
+  offsets_rest s = s.rest.now
 
   abbrev pub indices_rest : CharIndices C → List C
-  indices_rest s = places_rest s.places
+  indices_rest s = offsets_rest s.offsets
 
   abbrev pub indices_lossy_rest : CharIndicesLossy C → List C
-  indices_lossy_rest s = places_rest s.places
+  indices_lossy_rest s = offsets_rest s.offsets
 
   -- The length in units of what was read from the front.
-  abbrev pub place_of : Places C → ℕ
-  place_of s = s.offset
+  abbrev pub position_of : Offsets C → ℕ
+  position_of s = s.offset
 
   abbrev pub offset_of : CharIndices C → ℕ
-  offset_of s = place_of s.places
+  offset_of s = position_of s.offsets
 
   abbrev pub lossy_offset_of : CharIndicesLossy C → ℕ
-  lossy_offset_of s = place_of s.places
+  lossy_offset_of s = position_of s.offsets
 
   module _ (form : EncodingForm) (number : C → ℕ) where
     -- What will be yielded.
@@ -46,11 +46,11 @@ module _ {C : Type 0} where
     abbrev pub lossy_left : CharsLossy C → List ℕ
     lossy_left s = lossy (items form (map number (chars_lossy_rest s)))
 
-    abbrev pub places_left : Places C → List (ℕ × Item)
-    places_left s = indexed form (place_of s) (items form (map number (places_rest s)))
+    abbrev pub offsets_left : Offsets C → List (ℕ × Item)
+    offsets_left s = indexed form (position_of s) (items form (map number (offsets_rest s)))
 
     abbrev pub indices_left : CharIndices C → List (ℕ × Item)
-    indices_left s = places_left s.places
+    indices_left s = offsets_left s.offsets
 
     abbrev pub indices_lossy_left : CharIndicesLossy C → List (ℕ × ℕ)
     indices_lossy_left s = indexed_lossy form (lossy_offset_of s) (items form (map number (indices_lossy_rest s)))

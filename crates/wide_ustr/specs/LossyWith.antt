@@ -10,15 +10,15 @@ use Rattle.wide_ustr.specs.declared.lossy_with.CharsLossyWith.{CharsLossyWith}
 
 -- The items are a run of faults, and then those of `rest`, which is empty or begins with a character.
 pub record BeginsPastFaults (is rest : List Item) : Type 0 where
-  pub row : List ℕ
-  pub joined : is ≡ map Fault row ++ rest
+  pub run : List ℕ
+  pub joined : is ≡ map Fault run ++ rest
   pub past : (rest ≡ []) ⊎ ((c : ℕ) × (tail : List Item) × (rest ≡ Char c ∷ tail))
 
 -- The items are those of `rest`, which is empty or ends with a character, and then a run of faults.
 pub record EndsBeforeFaults (is rest : List Item) : Type 0 where
-  pub row : List ℕ
-  pub joined : is ≡ rest ++ map Fault row
-  pub before : (rest ≡ []) ⊎ ((c : ℕ) × (front : List Item) × (rest ≡ front ++ Char c ∷ []))
+  pub run : List ℕ
+  pub joined : is ≡ rest ++ map Fault run
+  pub before : (rest ≡ []) ⊎ ((c : ℕ) × (prefix : List Item) × (rest ≡ prefix ++ Char c ∷ []))
 
 module _ {C : Type 0} where
   -- The units that were not read yet.

@@ -5,7 +5,7 @@ ghost use Rattle.wide_ustr.specs.View.{units_seen};
 
 use crate::view::UStr;
 use std::alloc::{AllocError, Allocator};
-use wide_blocks::{byte_len, byte_width, put_be_bytes, put_be_mark, put_le_bytes, put_le_mark};
+use wide_conversions::{byte_len, byte_width, put_be_bom, put_be_bytes, put_le_bom, put_le_bytes};
 use wide_error::OutOfMemory;
 use wide_unit::Unit;
 
@@ -59,12 +59,12 @@ impl<C: Unit> UStr<'_, C> {
     /// # Errors
     ///
     /// [`OutOfMemory`] if the allocation fails.
-    pub fn to_le_bytes_with_mark<A: Allocator>(self, alloc: A) -> Result<Vec<u8, A>, OutOfMemory>
+    pub fn to_le_bytes_with_bom<A: Allocator>(self, alloc: A) -> Result<Vec<u8, A>, OutOfMemory>
         ensures { IfOk result (λ bytes. bytes.items ≡ little_bytes_of C.form (byte_order_mark ∷ map C.number (units_seen self.entry))) }
     {
         let width = byte_width::<C>();
         let mut bytes = zeros(alloc, width + byte_len(self.units))?;
-        put_le_mark::<C>(&mut bytes);
+        put_le_bom::<C>(&mut bytes);
         put_le_bytes(self.units, &mut bytes[width..]);
         Ok(bytes)
     }
@@ -76,12 +76,12 @@ impl<C: Unit> UStr<'_, C> {
     /// # Errors
     ///
     /// [`OutOfMemory`] if the allocation fails.
-    pub fn to_be_bytes_with_mark<A: Allocator>(self, alloc: A) -> Result<Vec<u8, A>, OutOfMemory>
+    pub fn to_be_bytes_with_bom<A: Allocator>(self, alloc: A) -> Result<Vec<u8, A>, OutOfMemory>
         ensures { IfOk result (λ bytes. bytes.items ≡ big_bytes_of C.form (byte_order_mark ∷ map C.number (units_seen self.entry))) }
     {
         let width = byte_width::<C>();
         let mut bytes = zeros(alloc, width + byte_len(self.units))?;
-        put_be_mark::<C>(&mut bytes);
+        put_be_bom::<C>(&mut bytes);
         put_be_bytes(self.units, &mut bytes[width..]);
         Ok(bytes)
     }
@@ -95,8 +95,8 @@ impl<C: Unit> UStr<'_, C> {
     pub fn put_le_bytes(self, bytes: &mut [u8]) -> usize
         requires { unit_width C.form * length (units_seen self) ≤ length bytes.old }
         ensures len { result ≡ unit_width C.form * length (units_seen self.entry) }
-        ensures front { take result bytes.new ≡ little_bytes_of C.form (map C.number (units_seen self.entry)) }
-        ensures behind { drop result bytes.new ≡ drop result bytes.old }
+        ensures prefix { take result bytes.new ≡ little_bytes_of C.form (map C.number (units_seen self.entry)) }
+        ensures beyond { drop result bytes.new ≡ drop result bytes.old }
     {
         put_le_bytes(self.units, bytes);
         byte_len(self.units)
@@ -111,51 +111,51 @@ impl<C: Unit> UStr<'_, C> {
     pub fn put_be_bytes(self, bytes: &mut [u8]) -> usize
         requires { unit_width C.form * length (units_seen self) ≤ length bytes.old }
         ensures len { result ≡ unit_width C.form * length (units_seen self.entry) }
-        ensures front { take result bytes.new ≡ big_bytes_of C.form (map C.number (units_seen self.entry)) }
-        ensures behind { drop result bytes.new ≡ drop result bytes.old }
+        ensures prefix { take result bytes.new ≡ big_bytes_of C.form (map C.number (units_seen self.entry)) }
+        ensures beyond { drop result bytes.new ≡ drop result bytes.old }
     {
         put_be_bytes(self.units, bytes);
         byte_len(self.units)
     }
 
     /// Writes a BOM and the bytes of the units, little-endian (Unicode Standard, D98 and D101), at the start of
-    /// `bytes`, and returns how many bytes there are. The BOM is that of [`UStr::to_le_bytes_with_mark`]. The bytes
+    /// `bytes`, and returns how many bytes there are. The BOM is that of [`UStr::to_le_bytes_with_bom`]. The bytes
     /// after them are unchanged. The Rust crate has no such call.
     ///
     /// # Requires
     ///
     /// `bytes` has space for the BOM and the units: two bytes for each 16-bit unit, four for each 32-bit unit, and one
     /// unit more.
-    pub fn put_le_bytes_with_mark(self, bytes: &mut [u8]) -> usize
+    pub fn put_le_bytes_with_bom(self, bytes: &mut [u8]) -> usize
         requires { unit_width C.form * (length (units_seen self) + 1) ≤ length bytes.old }
         ensures len { result ≡ unit_width C.form * (length (units_seen self.entry) + 1) }
-        ensures front { take result bytes.new ≡ little_bytes_of C.form (byte_order_mark ∷ map C.number (units_seen self.entry)) }
-        ensures behind { drop result bytes.new ≡ drop result bytes.old }
+        ensures prefix { take result bytes.new ≡ little_bytes_of C.form (byte_order_mark ∷ map C.number (units_seen self.entry)) }
+        ensures beyond { drop result bytes.new ≡ drop result bytes.old }
     {
         let width = byte_width::<C>();
         let (mark, rest) = bytes.split_at_mut(width);
-        put_le_mark::<C>(mark);
+        put_le_bom::<C>(mark);
         put_le_bytes(self.units, rest);
         width + byte_len(self.units)
     }
 
     /// Writes a BOM and the bytes of the units, big-endian (Unicode Standard, D98 and D101), at the start of `bytes`,
-    /// and returns how many bytes there are. The BOM is that of [`UStr::to_be_bytes_with_mark`]. The bytes after them
+    /// and returns how many bytes there are. The BOM is that of [`UStr::to_be_bytes_with_bom`]. The bytes after them
     /// are unchanged. The Rust crate has no such call.
     ///
     /// # Requires
     ///
     /// `bytes` has space for the BOM and the units: two bytes for each 16-bit unit, four for each 32-bit unit, and one
     /// unit more.
-    pub fn put_be_bytes_with_mark(self, bytes: &mut [u8]) -> usize
+    pub fn put_be_bytes_with_bom(self, bytes: &mut [u8]) -> usize
         requires { unit_width C.form * (length (units_seen self) + 1) ≤ length bytes.old }
         ensures len { result ≡ unit_width C.form * (length (units_seen self.entry) + 1) }
-        ensures front { take result bytes.new ≡ big_bytes_of C.form (byte_order_mark ∷ map C.number (units_seen self.entry)) }
-        ensures behind { drop result bytes.new ≡ drop result bytes.old }
+        ensures prefix { take result bytes.new ≡ big_bytes_of C.form (byte_order_mark ∷ map C.number (units_seen self.entry)) }
+        ensures beyond { drop result bytes.new ≡ drop result bytes.old }
     {
         let width = byte_width::<C>();
         let (mark, rest) = bytes.split_at_mut(width);
-        put_be_mark::<C>(mark);
+        put_be_bom::<C>(mark);
         put_be_bytes(self.units, rest);
         width + byte_len(self.units)
     }

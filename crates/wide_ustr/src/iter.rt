@@ -6,7 +6,7 @@ ghost use Rattle.wide_unit.specs.Unit.{item_of};
 ghost use Rattle.wide_unit.specs.Lossy.{lossy_char as lossy_of};
 ghost use Rattle.wide_ustr.specs.Indexed.{indexed_item, taken_length};
 
-use crate::places::Places;
+use crate::offsets::Offsets;
 use std::alloc::AllocError;
 use std::iter::FusedIterator;
 use wide_unit::{Unit, split_first, split_last};
@@ -24,7 +24,7 @@ fn lossy_char<C: Unit>(item: Result<char, C>) -> char
 
 // Returns the item as a strict iterator yields it: the character, or an error for a fault.
 fn answer<C: FaultUnit>(item: Result<char, C>) -> Result<char, C::Fault>
-    ensures { item_of C.told result ≡ item_of C.number item }
+    ensures { item_of C.reported result ≡ item_of C.number item }
 {
     match item {
         Ok(c) => Ok(c),
@@ -61,7 +61,7 @@ impl<C: FaultUnit> Iterator for Chars<'_, C> {
 
     type Item = Result<char, C::Fault>;
 
-    ghost next_gives = { YieldsFirstBy (item_of C.told) (items_left C.form C.number) };
+    ghost next_gives = { YieldsFirstBy (item_of C.reported) (items_left C.form C.number) };
 
     ghost remaining = { λ s. at_most (length (chars_rest s)) };
 
@@ -85,7 +85,7 @@ impl<C: FaultUnit> Iterator for Chars<'_, C> {
 impl<C: FaultUnit> DoubleEndedIterator for Chars<'_, C> {
     ghost use Rattle.wide_ustr.specs.Iter.{items_left};
 
-    ghost next_back_gives = { YieldsLastBy (item_of C.told) (items_left C.form C.number) };
+    ghost next_back_gives = { YieldsLastBy (item_of C.reported) (items_left C.form C.number) };
 
     #[inline]
     fn next_back(&mut self) -> Option<Result<char, C::Fault>> {
@@ -170,7 +170,7 @@ impl<C: Unit> FusedIterator for CharsLossy<'_, C> {}
 /// which it begins. Made by [`UStr::char_indices`](crate::UStr::char_indices).
 #[derive(Debug, Drop)]
 pub struct CharIndices<'a, C> {
-    places: Places<'a, C>,
+    offsets: Offsets<'a, C>,
 }
 
 /// An iterator over the characters of a view of 16-bit units, with their offsets in units.
@@ -187,7 +187,7 @@ impl<'a, C: FaultUnit> CharIndices<'a, C> {
         ensures offset { offset_of result ≡ 0 }
     {
         CharIndices {
-            places: Places {
+            offsets: Offsets {
                 rest: units,
                 offset: 0,
             },
@@ -198,7 +198,7 @@ impl<'a, C: FaultUnit> CharIndices<'a, C> {
     pub fn offset(&self) -> usize
         ensures { result ≡ offset_of self.now }
     {
-        self.places.offset
+        self.offsets.offset
     }
 }
 
@@ -210,7 +210,7 @@ impl<C: Copy> Clone for CharIndices<'_, C> {
     /// Returns a copy that yields the same items and offsets.
     fn clone(&self) -> Result<Self, AllocError> {
         Ok(CharIndices {
-            places: self.places,
+            offsets: self.offsets,
         })
     }
 }
@@ -220,14 +220,14 @@ impl<C: FaultUnit> Iterator for CharIndices<'_, C> {
 
     type Item = (usize, Result<char, C::Fault>);
 
-    ghost next_gives = { λ s r t. YieldsFirstBy (indexed_item C.told) (indices_left C.form C.number) s r t × (offset_of t ≡ offset_of s + taken_length C.told C.form r) };
+    ghost next_gives = { λ s r t. YieldsFirstBy (indexed_item C.reported) (indices_left C.form C.number) s r t × (offset_of t ≡ offset_of s + taken_length C.reported C.form r) };
 
     ghost remaining = { λ s. at_most (length (indices_rest s)) };
 
     #[inline]
     fn next(&mut self) -> Option<(usize, Result<char, C::Fault>)> {
-        let (place, item) = self.places.first()?;
-        Some((place, answer(item)))
+        let (offset, item) = self.offsets.first()?;
+        Some((offset, answer(item)))
     }
 
     fn size_hint(&self) -> (usize, Option<usize>)
@@ -236,25 +236,25 @@ impl<C: FaultUnit> Iterator for CharIndices<'_, C> {
         ensures least { result.0 ≡ length (indices_rest self.now) / C.MAX_CHAR_LEN }
         ensures most { result.1 ≡ Some (length (indices_rest self.now)) }
     {
-        unit_hint(self.places.rest)
+        unit_hint(self.offsets.rest)
     }
 }
 
 impl<C: FaultUnit> DoubleEndedIterator for CharIndices<'_, C> {
     ghost use Rattle.wide_ustr.specs.Iter.{indices_left, offset_of};
 
-    ghost next_back_gives = { λ s r t. YieldsLastBy (indexed_item C.told) (indices_left C.form C.number) s r t × (offset_of t ≡ offset_of s) };
+    ghost next_back_gives = { λ s r t. YieldsLastBy (indexed_item C.reported) (indices_left C.form C.number) s r t × (offset_of t ≡ offset_of s) };
 
     #[inline]
     fn next_back(&mut self) -> Option<(usize, Result<char, C::Fault>)> {
-        let (place, item) = self.places.last()?;
-        Some((place, answer(item)))
+        let (offset, item) = self.offsets.last()?;
+        Some((offset, answer(item)))
     }
 }
 
 impl ExactSizeIterator for CharIndices<'_, u32> {
     fn len(&self) -> usize {
-        self.places.rest.len()
+        self.offsets.rest.len()
     }
 }
 
@@ -264,7 +264,7 @@ impl<C: FaultUnit> FusedIterator for CharIndices<'_, C> {}
 /// in units, at which it begins. Made by [`UStr::char_indices_lossy`](crate::UStr::char_indices_lossy).
 #[derive(Debug, Drop)]
 pub struct CharIndicesLossy<'a, C> {
-    places: Places<'a, C>,
+    offsets: Offsets<'a, C>,
 }
 
 /// An iterator over the lossy characters of a view of 16-bit units, with their offsets in units.
@@ -281,7 +281,7 @@ impl<'a, C: Unit> CharIndicesLossy<'a, C> {
         ensures offset { lossy_offset_of result ≡ 0 }
     {
         CharIndicesLossy {
-            places: Places {
+            offsets: Offsets {
                 rest: units,
                 offset: 0,
             },
@@ -292,7 +292,7 @@ impl<'a, C: Unit> CharIndicesLossy<'a, C> {
     pub fn offset(&self) -> usize
         ensures { result ≡ lossy_offset_of self.now }
     {
-        self.places.offset
+        self.offsets.offset
     }
 }
 
@@ -304,7 +304,7 @@ impl<C: Copy> Clone for CharIndicesLossy<'_, C> {
     /// Returns a copy that yields the same characters and offsets.
     fn clone(&self) -> Result<Self, AllocError> {
         Ok(CharIndicesLossy {
-            places: self.places,
+            offsets: self.offsets,
         })
     }
 }
@@ -320,8 +320,8 @@ impl<C: Unit> Iterator for CharIndicesLossy<'_, C> {
 
     #[inline]
     fn next(&mut self) -> Option<(usize, char)> {
-        let (place, item) = self.places.first()?;
-        Some((place, lossy_char(item)))
+        let (offset, item) = self.offsets.first()?;
+        Some((offset, lossy_char(item)))
     }
 
     fn size_hint(&self) -> (usize, Option<usize>)
@@ -330,7 +330,7 @@ impl<C: Unit> Iterator for CharIndicesLossy<'_, C> {
         ensures least { result.0 ≡ length (indices_lossy_rest self.now) / C.MAX_CHAR_LEN }
         ensures most { result.1 ≡ Some (length (indices_lossy_rest self.now)) }
     {
-        unit_hint(self.places.rest)
+        unit_hint(self.offsets.rest)
     }
 }
 
@@ -341,14 +341,14 @@ impl<C: Unit> DoubleEndedIterator for CharIndicesLossy<'_, C> {
 
     #[inline]
     fn next_back(&mut self) -> Option<(usize, char)> {
-        let (place, item) = self.places.last()?;
-        Some((place, lossy_char(item)))
+        let (offset, item) = self.offsets.last()?;
+        Some((offset, lossy_char(item)))
     }
 }
 
 impl ExactSizeIterator for CharIndicesLossy<'_, u32> {
     fn len(&self) -> usize {
-        self.places.rest.len()
+        self.offsets.rest.len()
     }
 }
 

@@ -9,7 +9,7 @@ mod line_indices;
 mod lines;
 mod lossy_text;
 mod lossy_with;
-mod places;
+mod offsets;
 mod search;
 mod split;
 mod text;
@@ -22,6 +22,6 @@ pub use iter::{
 };
 pub use line_indices::LineIndices;
 pub use lines::{LineView, Lines};
-pub use lossy_with::{CharsLossyWith, behind_faults};
+pub use lossy_with::{CharsLossyWith, after_faults};
 pub use split::{Split, SplitView};
 pub use view::{U16Str, U32Str, UStr, WideChar, WideStr};

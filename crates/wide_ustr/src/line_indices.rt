@@ -63,9 +63,9 @@ impl<V: LineView> Iterator for LineIndices<V> {
         let Some((line, rest)) = self.rest.first_line() else {
             return None;
         };
-        let place = self.len - self.rest.count_units();
+        let offset = self.len - self.rest.count_units();
         self.rest = rest;
-        Some((place, line))
+        Some((offset, line))
     }
 
     /// Returns no bounds, since the number of lines is unknown before the view is read.

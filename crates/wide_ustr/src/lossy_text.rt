@@ -3,14 +3,14 @@ ghost use Rattle.std.specs.Prelude.{◌≡◌, ◌++◌, ◌<◌, ◌≤◌, ◌
 ghost use Rattle.wide_unit.specs.EncodingForm.{code_units};
 ghost use Rattle.wide_unit.specs.Items.{IsWellFormed, items};
 ghost use Rattle.wide_unit.specs.Lossy.{lossy_by};
-ghost use Rattle.wide_unit.specs.Places.{text_of};
+ghost use Rattle.wide_unit.specs.Offsets.{text_of};
 ghost use Rattle.wide_unit.specs.Utf8.{utf8};
 ghost use Rattle.wide_ustr.specs.View.{units_seen};
 
 use crate::lossy_with::CharsLossyWith;
 use crate::view::UStr;
 use std::alloc::{AllocError, Allocator};
-use wide_blocks::{lossy_front, push_utf8, sound_len, utf8_len};
+use wide_conversions::{lossy_prefix, push_utf8, utf8_len, valid_len};
 use wide_unit::{AnyUnits, Policy, Unit};
 
 // How many units are repaired in one step.
@@ -34,28 +34,28 @@ impl<'a, C: Unit> CharsLossyWith<'a, C> {
 
     // Returns the next chunk of the text to come, as units: a prefix of the view's own units if they can be used
     // unchanged, and otherwise units that are written into `spare`.
-    fn next_piece<'m>(&mut self, spare: &'m mut [C]) -> Option<&'m [C]>
+    fn next_chunk<'m>(&mut self, spare: &'m mut [C]) -> Option<&'m [C]>
     where
         'a: 'm,
         requires { 2 ≤ length spare.old }
         ensures none { IfNone result (lossy_with_left C.form C.number self.old ≡ []) }
-        ensures well_formed { IfSome result (λ piece. IsWellFormed C.form (map C.number piece.now)) }
-        ensures text { IfSome result (λ piece. lossy_with_left C.form C.number self.old ≡ text_of C.form C.number piece.now ++ lossy_with_left C.form C.number self.new) }
-        ensures some { IfSome result (λ piece. 0 < length (text_of C.form C.number piece.now)) }
+        ensures well_formed { IfSome result (λ chunk. IsWellFormed C.form (map C.number chunk.now)) }
+        ensures text { IfSome result (λ chunk. lossy_with_left C.form C.number self.old ≡ text_of C.form C.number chunk.now ++ lossy_with_left C.form C.number self.new) }
+        ensures some { IfSome result (λ chunk. 0 < length (text_of C.form C.number chunk.now)) }
     {
         if self.rest.is_empty() {
             return None;
         }
         if self.policy == Policy::Each {
-            let (piece, rest) = lossy_front(self.rest, spare);
+            let (chunk, rest) = lossy_prefix(self.rest, spare);
             self.rest = rest;
-            return Some(piece);
+            return Some(chunk);
         }
-        let sound = sound_len(self.rest);
-        if sound > 0 {
-            let (piece, rest) = self.rest.split_at(sound);
+        let valid = valid_len(self.rest);
+        if valid > 0 {
+            let (chunk, rest) = self.rest.split_at(valid);
             self.rest = rest;
-            return Some(piece);
+            return Some(chunk);
         }
         let len = put_char(spare, self.next()?);
         Some(&spare[..len])
@@ -67,8 +67,8 @@ impl<'a, C: Unit> CharsLossyWith<'a, C> {
         ensures { result ≡ min (length (utf8 (lossy_with_left C.form C.number self.entry))) (2 ^ 64 - 1) }
     {
         let mut len = 0usize;
-        while let Some(piece) = self.next_piece(spare) {
-            len = len.saturating_add(utf8_len(piece));
+        while let Some(chunk) = self.next_chunk(spare) {
+            len = len.saturating_add(utf8_len(chunk));
         }
         len
     }
@@ -82,8 +82,8 @@ impl<'a, C: Unit> CharsLossyWith<'a, C> {
         requires { 2 ≤ length spare.old }
         ensures { OnOk result (text.new.items ≡ text.old.items ++ utf8 (lossy_with_left C.form C.number self.entry)) }
     {
-        while let Some(piece) = self.next_piece(spare) {
-            push_utf8(text, piece)?;
+        while let Some(chunk) = self.next_chunk(spare) {
+            push_utf8(text, chunk)?;
         }
         Ok(())
     }

@@ -9,8 +9,8 @@ use std::iter::FusedIterator;
 use wide_unit::{Policy, Unit, split_first, split_last};
 
 /// Returns the units after the longest run of faults at the beginning.
-pub fn behind_faults<C: Unit>(units: &[C]) -> &[C]
-    ensures row { BeginsPastFaults (items C.form (map C.number units.now)) (items C.form (map C.number result.now)) }
+pub fn after_faults<C: Unit>(units: &[C]) -> &[C]
+    ensures run { BeginsPastFaults (items C.form (map C.number units.now)) (items C.form (map C.number result.now)) }
     ensures within { length result.now ≤ length units.now }
 {
     let mut rest = units;
@@ -22,12 +22,12 @@ pub fn behind_faults<C: Unit>(units: &[C]) -> &[C]
 
 // Returns the units before the longest run of faults at the end.
 fn before_faults<C: Unit>(units: &[C]) -> &[C]
-    ensures row { EndsBeforeFaults (items C.form (map C.number units.now)) (items C.form (map C.number result.now)) }
+    ensures run { EndsBeforeFaults (items C.form (map C.number units.now)) (items C.form (map C.number result.now)) }
     ensures within { length result.now ≤ length units.now }
 {
     let mut rest = units;
-    while let Some((front, Err(_))) = split_last(rest) {
-        rest = front;
+    while let Some((prefix, Err(_))) = split_last(rest) {
+        rest = prefix;
     }
     rest
 }
@@ -99,7 +99,7 @@ impl<C: Unit> Iterator for CharsLossyWith<'_, C> {
                 Some(char::REPLACEMENT_CHARACTER)
             }
             (Err(_), Policy::Run) => {
-                self.rest = behind_faults(rest);
+                self.rest = after_faults(rest);
                 Some(char::REPLACEMENT_CHARACTER)
             }
             (Err(_), Policy::Skip) => self.first_character(),

@@ -1,7 +1,7 @@
 //! Searches in views of units.
 ghost use Rattle.std.specs.Prelude.{◌≡◌, ◌↔◌, ◌+◌, ◌++◌, ◌∷◌, [], ◌≤◌, ◌<◌, length, map, IsTrue, IsSome, IfNone, IfSome};
 ghost use Rattle.wide_unit.specs.EncodingForm.{code_units};
-ghost use Rattle.wide_search.specs.Parts.{StandsIn, IsFirstAt, IsLastAt, StandsNowhere, BeginsWith, EndsWith, IsFirstSplit, IsLastSplit};
+ghost use Rattle.wide_search.specs.Occurrences.{OccursIn, IsFirstAt, IsLastAt, OccursNowhere, BeginsWith, EndsWith, IsFirstSplit, IsLastSplit};
 ghost use Rattle.wide_ustr.specs.View.{units_seen};
 
 use crate::view::UStr;
@@ -9,24 +9,24 @@ use wide_unit::Unit;
 
 impl<C: Unit> UStr<'_, C> {
     /// Returns whether the view begins with the needle. It does if the needle is empty.
-    pub fn starts_with(self, part: UStr<'_, C>) -> bool
-        ensures { IsTrue result ↔ BeginsWith (units_seen part.entry) (units_seen self.entry) }
+    pub fn starts_with(self, needle: UStr<'_, C>) -> bool
+        ensures { IsTrue result ↔ BeginsWith (units_seen needle.entry) (units_seen self.entry) }
     {
-        wide_search::starts_with(self.as_slice(), part.as_slice())
+        wide_search::starts_with(self.as_slice(), needle.as_slice())
     }
 
     /// Returns whether the view ends with the needle. It does if the needle is empty.
-    pub fn ends_with(self, part: UStr<'_, C>) -> bool
-        ensures { IsTrue result ↔ EndsWith (units_seen part.entry) (units_seen self.entry) }
+    pub fn ends_with(self, needle: UStr<'_, C>) -> bool
+        ensures { IsTrue result ↔ EndsWith (units_seen needle.entry) (units_seen self.entry) }
     {
-        wide_search::ends_with(self.as_slice(), part.as_slice())
+        wide_search::ends_with(self.as_slice(), needle.as_slice())
     }
 
     /// Returns whether the needle occurs anywhere in the view, as [`UStr::find`] finds it.
-    pub fn contains(self, part: UStr<'_, C>) -> bool
-        ensures { IsTrue result ↔ StandsIn (units_seen part.entry) (units_seen self.entry) }
+    pub fn contains(self, needle: UStr<'_, C>) -> bool
+        ensures { IsTrue result ↔ OccursIn (units_seen needle.entry) (units_seen self.entry) }
     {
-        self.find(part).is_some()
+        self.find(needle).is_some()
     }
 
     /// Returns the offset, in units, of the first occurrence of the needle, or `None` if there is none. An empty needle
@@ -35,30 +35,30 @@ impl<C: Unit> UStr<'_, C> {
     /// The search for the first unit of the needle is vectorized; from there on, units are compared up to the first
     /// that differ. So in the worst case, where a long prefix of the needle occurs nearly everywhere, the time is
     /// proportional to the product of both lengths.
-    pub fn find(self, part: UStr<'_, C>) -> Option<usize>
-        ensures first { IfSome result (IsFirstAt (units_seen part.entry) (units_seen self.entry)) }
-        ensures none { IfNone result (StandsNowhere (units_seen part.entry) (units_seen self.entry)) }
-        ensures within { IfSome result (λ at. at + length (units_seen part.entry) ≤ length (units_seen self.entry)) }
+    pub fn find(self, needle: UStr<'_, C>) -> Option<usize>
+        ensures first { IfSome result (IsFirstAt (units_seen needle.entry) (units_seen self.entry)) }
+        ensures none { IfNone result (OccursNowhere (units_seen needle.entry) (units_seen self.entry)) }
+        ensures within { IfSome result (λ at. at + length (units_seen needle.entry) ≤ length (units_seen self.entry)) }
     {
-        wide_search::find(self.as_slice(), part.as_slice())
+        wide_search::find(self.as_slice(), needle.as_slice())
     }
 
     /// Returns the offset, in units, of the last occurrence of the needle, or `None` if there is none. An empty needle
     /// occurs at the end. Units may have any values, so the offset may be within a surrogate pair. The search goes
     /// through the units one by one, from the back.
-    pub fn rfind(self, part: UStr<'_, C>) -> Option<usize>
-        ensures last { IfSome result (IsLastAt (units_seen part.entry) (units_seen self.entry)) }
-        ensures none { IfNone result (StandsNowhere (units_seen part.entry) (units_seen self.entry)) }
-        ensures within { IfSome result (λ at. at + length (units_seen part.entry) ≤ length (units_seen self.entry)) }
+    pub fn rfind(self, needle: UStr<'_, C>) -> Option<usize>
+        ensures last { IfSome result (IsLastAt (units_seen needle.entry) (units_seen self.entry)) }
+        ensures none { IfNone result (OccursNowhere (units_seen needle.entry) (units_seen self.entry)) }
+        ensures within { IfSome result (λ at. at + length (units_seen needle.entry) ≤ length (units_seen self.entry)) }
     {
-        wide_search::rfind(self.as_slice(), part.as_slice())
+        wide_search::rfind(self.as_slice(), needle.as_slice())
     }
 
     /// Returns the offset, in units, of the first occurrence of the unit, or `None` if there is none. The unit may be
     /// half of a surrogate pair. The search is vectorized.
     pub fn find_unit(self, unit: C) -> Option<usize>
         ensures first { IfSome result (IsFirstAt (unit ∷ []) (units_seen self.entry)) }
-        ensures none { IfNone result (StandsNowhere (unit ∷ []) (units_seen self.entry)) }
+        ensures none { IfNone result (OccursNowhere (unit ∷ []) (units_seen self.entry)) }
         ensures within { IfSome result (λ at. at < length (units_seen self.entry)) }
     {
         wide_search::find_unit(self.as_slice(), unit)
@@ -68,7 +68,7 @@ impl<C: Unit> UStr<'_, C> {
     /// half of a surrogate pair. The search goes through the units one by one, from the back.
     pub fn rfind_unit(self, unit: C) -> Option<usize>
         ensures last { IfSome result (IsLastAt (unit ∷ []) (units_seen self.entry)) }
-        ensures none { IfNone result (StandsNowhere (unit ∷ []) (units_seen self.entry)) }
+        ensures none { IfNone result (OccursNowhere (unit ∷ []) (units_seen self.entry)) }
         ensures within { IfSome result (λ at. at < length (units_seen self.entry)) }
     {
         wide_search::rfind_unit(self.as_slice(), unit)
@@ -76,10 +76,10 @@ impl<C: Unit> UStr<'_, C> {
 
     /// Returns the offset, in units, of the first occurrence of the character, or `None` if there is none. Half of a
     /// surrogate pair is no character and is not found, so both the offset and the end of the character are between two
-    /// items (`wide_search::laws::parts_of_text`).
+    /// items (`wide_search::laws::needles_in_text`).
     pub fn find_char(self, c: char) -> Option<usize>
         ensures first { IfSome result (IsFirstAt (code_units C.form c) (map C.number (units_seen self.entry))) }
-        ensures none { IfNone result (StandsNowhere (code_units C.form c) (map C.number (units_seen self.entry))) }
+        ensures none { IfNone result (OccursNowhere (code_units C.form c) (map C.number (units_seen self.entry))) }
         ensures within { IfSome result (λ at. at + length (code_units C.form c) ≤ length (units_seen self.entry)) }
     {
         wide_search::find_char(self.as_slice(), c)
@@ -87,50 +87,50 @@ impl<C: Unit> UStr<'_, C> {
 
     /// Returns the offset, in units, of the last occurrence of the character, or `None` if there is none. Half of a
     /// surrogate pair is no character and is not found, so both the offset and the end of the character are between two
-    /// items (`wide_search::laws::parts_of_text`).
+    /// items (`wide_search::laws::needles_in_text`).
     pub fn rfind_char(self, c: char) -> Option<usize>
         ensures last { IfSome result (IsLastAt (code_units C.form c) (map C.number (units_seen self.entry))) }
-        ensures none { IfNone result (StandsNowhere (code_units C.form c) (map C.number (units_seen self.entry))) }
+        ensures none { IfNone result (OccursNowhere (code_units C.form c) (map C.number (units_seen self.entry))) }
         ensures within { IfSome result (λ at. at + length (code_units C.form c) ≤ length (units_seen self.entry)) }
     {
         wide_search::rfind_char(self.as_slice(), c)
     }
 
     /// Returns the view without the given prefix, or `None` if it does not begin with it.
-    pub fn strip_prefix(self, part: UStr<'_, C>) -> Option<Self>
-        ensures some { IsSome result ↔ BeginsWith (units_seen part.entry) (units_seen self.entry) }
-        ensures rest { IfSome result (λ rest. units_seen self.entry ≡ units_seen part.entry ++ units_seen rest) }
+    pub fn strip_prefix(self, needle: UStr<'_, C>) -> Option<Self>
+        ensures some { IsSome result ↔ BeginsWith (units_seen needle.entry) (units_seen self.entry) }
+        ensures rest { IfSome result (λ rest. units_seen self.entry ≡ units_seen needle.entry ++ units_seen rest) }
     {
-        let rest = wide_search::strip_prefix(self.as_slice(), part.as_slice())?;
+        let rest = wide_search::strip_prefix(self.as_slice(), needle.as_slice())?;
         Some(UStr::from_slice(rest))
     }
 
     /// Returns the view without the given suffix, or `None` if it does not end with it.
-    pub fn strip_suffix(self, part: UStr<'_, C>) -> Option<Self>
-        ensures some { IsSome result ↔ EndsWith (units_seen part.entry) (units_seen self.entry) }
-        ensures front { IfSome result (λ front. units_seen self.entry ≡ units_seen front ++ units_seen part.entry) }
+    pub fn strip_suffix(self, needle: UStr<'_, C>) -> Option<Self>
+        ensures some { IsSome result ↔ EndsWith (units_seen needle.entry) (units_seen self.entry) }
+        ensures prefix { IfSome result (λ prefix. units_seen self.entry ≡ units_seen prefix ++ units_seen needle.entry) }
     {
-        let front = wide_search::strip_suffix(self.as_slice(), part.as_slice())?;
-        Some(UStr::from_slice(front))
+        let prefix = wide_search::strip_suffix(self.as_slice(), needle.as_slice())?;
+        Some(UStr::from_slice(prefix))
     }
 
     /// Splits the view at the first occurrence of the needle, into what is before it and what is after it. Returns
     /// `None` if there is none.
-    pub fn split_once(self, part: UStr<'_, C>) -> Option<(Self, Self)>
-        ensures first { IfSome result (λ r. IsFirstSplit (units_seen part.entry) (units_seen self.entry) (units_seen r.0) (units_seen r.1)) }
-        ensures none { IfNone result (StandsNowhere (units_seen part.entry) (units_seen self.entry)) }
+    pub fn split_once(self, needle: UStr<'_, C>) -> Option<(Self, Self)>
+        ensures first { IfSome result (λ r. IsFirstSplit (units_seen needle.entry) (units_seen self.entry) (units_seen r.0) (units_seen r.1)) }
+        ensures none { IfNone result (OccursNowhere (units_seen needle.entry) (units_seen self.entry)) }
     {
-        let (front, rest) = wide_search::split_once(self.as_slice(), part.as_slice())?;
-        Some((UStr::from_slice(front), UStr::from_slice(rest)))
+        let (prefix, rest) = wide_search::split_once(self.as_slice(), needle.as_slice())?;
+        Some((UStr::from_slice(prefix), UStr::from_slice(rest)))
     }
 
     /// Splits the view at the last occurrence of the needle, into what is before it and what is after it. Returns
     /// `None` if there is none.
-    pub fn rsplit_once(self, part: UStr<'_, C>) -> Option<(Self, Self)>
-        ensures last { IfSome result (λ r. IsLastSplit (units_seen part.entry) (units_seen self.entry) (units_seen r.0) (units_seen r.1)) }
-        ensures none { IfNone result (StandsNowhere (units_seen part.entry) (units_seen self.entry)) }
+    pub fn rsplit_once(self, needle: UStr<'_, C>) -> Option<(Self, Self)>
+        ensures last { IfSome result (λ r. IsLastSplit (units_seen needle.entry) (units_seen self.entry) (units_seen r.0) (units_seen r.1)) }
+        ensures none { IfNone result (OccursNowhere (units_seen needle.entry) (units_seen self.entry)) }
     {
-        let (front, rest) = wide_search::rsplit_once(self.as_slice(), part.as_slice())?;
-        Some((UStr::from_slice(front), UStr::from_slice(rest)))
+        let (prefix, rest) = wide_search::rsplit_once(self.as_slice(), needle.as_slice())?;
+        Some((UStr::from_slice(prefix), UStr::from_slice(rest)))
     }
 }

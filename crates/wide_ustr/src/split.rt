@@ -2,14 +2,14 @@
 ghost use Rattle.std.specs.Prelude.{◌≡◌, ◌<◌, ◌≤◌, ◌+◌, ◌^◌, ◌∷◌, ℕ, List, [], length, None, IfNone, IfSome};
 ghost use Rattle.std.specs.Iterator.{YieldsFirstBy, at_most, UpTo};
 ghost use Rattle.std.specs.Iterator.SizeHint.{IsWithinCount};
-ghost use Rattle.wide_search.specs.Cut.{pieces};
-ghost use Rattle.wide_search.specs.Pieces.{ArePieces};
-ghost use Rattle.wide_ustr.specs.Split.{pieces_left, unit_pieces_left};
+ghost use Rattle.wide_search.specs.Cut.{substrings};
+ghost use Rattle.wide_search.specs.Substrings.{AreSubstrings};
+ghost use Rattle.wide_ustr.specs.Split.{substrings_left, unit_substrings_left};
 ghost use Rattle.wide_ustr.specs.View.{numbers_seen};
 
 use crate::view::UStr;
 use std::iter::FusedIterator;
-use wide_blocks::byte_len;
+use wide_conversions::byte_len;
 use wide_unit::Unit;
 
 /// A view that can be split at a separator of some type: units, or a character.
@@ -19,13 +19,13 @@ pub trait SplitView<P>: Copy {
     // The numbers of the view's units, and of the separator's.
     ghost numbers_seen: { Self → List ℕ };
 
-    ghost part_numbers: { P → List ℕ };
+    ghost needle_numbers: { P → List ℕ };
 
     /// Splits the view at the first occurrence of the separator, into what is before it and what is after it. Returns
     /// `None` if the separator does not occur, or has no units.
-    fn cut_first(self, part: P) -> Option<(Self, Self)>
-        ensures none { IfNone result (pieces (part_numbers part) (numbers_seen self) ≡ numbers_seen self ∷ []) }
-        ensures some { IfSome result (λ r. pieces (part_numbers part) (numbers_seen self) ≡ numbers_seen r.0 ∷ pieces (part_numbers part) (numbers_seen r.1)) };
+    fn cut_first(self, needle: P) -> Option<(Self, Self)>
+        ensures none { IfNone result (substrings (needle_numbers needle) (numbers_seen self) ≡ numbers_seen self ∷ []) }
+        ensures some { IfSome result (λ r. substrings (needle_numbers needle) (numbers_seen self) ≡ numbers_seen r.0 ∷ substrings (needle_numbers needle) (numbers_seen r.1)) };
 }
 
 /// An iterator over the substrings of a view between the occurrences of a separator, from the front. Made by
@@ -33,18 +33,18 @@ pub trait SplitView<P>: Copy {
 #[derive(Clone, Copy, Debug, Drop)]
 pub struct Split<V, P> {
     rest: Option<V>,
-    part: P,
+    needle: P,
 }
 
 impl<P: Copy, V: SplitView<P>> Split<V, P> {
     /// Creates an iterator over the substrings of the view. If the separator has no units, the whole view is the only
     /// substring.
-    pub fn new(view: V, part: P) -> Self
-        ensures { pieces_left V.numbers_seen V.part_numbers result ≡ pieces (V.part_numbers part) (V.numbers_seen view) }
+    pub fn new(view: V, needle: P) -> Self
+        ensures { substrings_left V.numbers_seen V.needle_numbers result ≡ substrings (V.needle_numbers needle) (V.numbers_seen view) }
     {
         Split {
             rest: Some(view),
-            part,
+            needle,
         }
     }
 }
@@ -52,26 +52,26 @@ impl<P: Copy, V: SplitView<P>> Split<V, P> {
 impl<P: Copy, V: SplitView<P>> Iterator for Split<V, P> {
     type Item = V;
 
-    ghost next_gives = { YieldsFirstBy V.numbers_seen (pieces_left V.numbers_seen V.part_numbers) };
+    ghost next_gives = { YieldsFirstBy V.numbers_seen (substrings_left V.numbers_seen V.needle_numbers) };
 
-    ghost remaining = { λ s. at_most (length (pieces_left V.numbers_seen V.part_numbers s)) };
+    ghost remaining = { λ s. at_most (length (substrings_left V.numbers_seen V.needle_numbers s)) };
 
     /// Returns the next substring. It reads the units, vectorized, up to those of the separator that ends the
     /// substring, and may read some after them.
     fn next(&mut self) -> Option<V> {
         let view = self.rest?;
-        let Some((piece, rest)) = view.cut_first(self.part) else {
+        let Some((substring, rest)) = view.cut_first(self.needle) else {
             self.rest = None;
             return Some(view);
         };
         self.rest = Some(rest);
-        Some(piece)
+        Some(substring)
     }
 
     /// Returns no bounds, since the number of substrings is unknown before the view is read.
     fn size_hint(&self) -> (usize, Option<usize>)
-        ensures lower { IsWithinCount result.0 (at_most (length (pieces_left V.numbers_seen V.part_numbers self.now))) }
-        ensures upper { IfSome result.1 (UpTo (at_most (length (pieces_left V.numbers_seen V.part_numbers self.now)))) }
+        ensures lower { IsWithinCount result.0 (at_most (length (substrings_left V.numbers_seen V.needle_numbers self.now))) }
+        ensures upper { IfSome result.1 (UpTo (at_most (length (substrings_left V.numbers_seen V.needle_numbers self.now)))) }
         ensures least { result.0 ≡ 0 }
         ensures most { result.1 ≡ None }
     {
@@ -84,13 +84,13 @@ impl<P: Copy, V: SplitView<P>> FusedIterator for Split<V, P> {}
 impl<'a, C: Unit> SplitView<UStr<'a, C>> for UStr<'_, C> {
     ghost numbers_seen = { numbers_seen C.number };
 
-    ghost part_numbers = { numbers_seen C.number };
+    ghost needle_numbers = { numbers_seen C.number };
 
-    fn cut_first(self, part: UStr<'a, C>) -> Option<(Self, Self)> {
-        if part.is_empty() {
+    fn cut_first(self, needle: UStr<'a, C>) -> Option<(Self, Self)> {
+        if needle.is_empty() {
             return None;
         }
-        self.split_once(part)
+        self.split_once(needle)
     }
 }
 
@@ -101,15 +101,15 @@ impl<C: Unit> UStr<'_, C> {
     /// occurrence is the first one after the one before, so occurrences do not overlap. If the separator occurs at the
     /// start, at the end, or twice in a row, the substring there is empty. If it does not occur, or is empty, the whole
     /// view is the only substring.
-    pub fn split<'p>(self, part: UStr<'p, C>) -> Split<Self, UStr<'p, C>>
-        ensures left { unit_pieces_left C.number result ≡ pieces (numbers_seen C.number part.entry) (numbers_seen C.number self.entry) }
-        ensures cut { 0 < length (units_seen part.entry) → ArePieces (numbers_seen C.number part.entry) (numbers_seen C.number self.entry) (unit_pieces_left C.number result) }
-        ensures empty { length (units_seen part.entry) ≡ 0 → unit_pieces_left C.number result ≡ numbers_seen C.number self.entry ∷ [] }
-        ensures most { length (unit_pieces_left C.number result) ≤ length (units_seen self.entry) + 1 }
-        ensures fits { length (unit_pieces_left C.number result) < 2 ^ 64 }
+    pub fn split<'p>(self, needle: UStr<'p, C>) -> Split<Self, UStr<'p, C>>
+        ensures left { unit_substrings_left C.number result ≡ substrings (numbers_seen C.number needle.entry) (numbers_seen C.number self.entry) }
+        ensures cut { 0 < length (units_seen needle.entry) → AreSubstrings (numbers_seen C.number needle.entry) (numbers_seen C.number self.entry) (unit_substrings_left C.number result) }
+        ensures empty { length (units_seen needle.entry) ≡ 0 → unit_substrings_left C.number result ≡ numbers_seen C.number self.entry ∷ [] }
+        ensures most { length (unit_substrings_left C.number result) ≤ length (units_seen self.entry) + 1 }
+        ensures fits { length (unit_substrings_left C.number result) < 2 ^ 64 }
     {
         // This call is for its contract: there are so few units that one more substring can be counted.
         let _bytes = byte_len(self.units);
-        Split::new(self, part)
+        Split::new(self, needle)
     }
 }

@@ -10,7 +10,7 @@ ghost use Rattle.wide_ustr.specs.View.{units_seen};
 use crate::lossy_text::lossy_string;
 use crate::view::UStr;
 use std::alloc::Allocator;
-use wide_blocks::utf8_string;
+use wide_conversions::utf8_string;
 use wide_error::OutOfMemory;
 use wide_unit::{Policy, Unit, check};
 use wide_utferror::{Utf16ConvertError, Utf32ConvertError, UtfError};

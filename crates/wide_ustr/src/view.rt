@@ -78,9 +78,9 @@ impl<'a, C> UStr<'a, C> {
         ensures some { R.has_bounds range → IsSome result ↔ IsInRange (units_seen self.entry) (R.start_bound range) (R.end_bound range) }
         ensures part { R.has_bounds range → IfSome result (λ part. units_seen part ≡ part_of (units_seen self.entry) (R.start_bound range) (R.end_bound range)) }
     {
-        let places = range_check(range, self.units.len())?;
+        let offsets = range_check(range, self.units.len())?;
         Some(UStr {
-            units: &self.units[places.start..places.end],
+            units: &self.units[offsets.start..offsets.end],
         })
     }
 
@@ -95,9 +95,9 @@ impl<'a, C> UStr<'a, C> {
         requires in_range { IsInRange (units_seen self) (R.start_bound range) (R.end_bound range) }
         ensures { units_seen result ≡ part_of (units_seen self.entry) (R.start_bound range) (R.end_bound range) }
     {
-        let places = slice::range(range, ..self.units.len());
+        let offsets = slice::range(range, ..self.units.len());
         UStr {
-            units: &self.units[places.start..places.end],
+            units: &self.units[offsets.start..offsets.end],
         }
     }
 
@@ -123,12 +123,12 @@ impl<'a, C> UStr<'a, C> {
     /// The offset is at most the length.
     pub fn split_at(self, mid: usize) -> (Self, Self)
         requires { mid ≤ length (units_seen self) }
-        ensures front { units_seen result.0 ≡ take mid (units_seen self.entry) }
+        ensures prefix { units_seen result.0 ≡ take mid (units_seen self.entry) }
         ensures back { units_seen result.1 ≡ drop mid (units_seen self.entry) }
         ensures joined { units_seen result.0 ++ units_seen result.1 ≡ units_seen self.entry }
     {
-        let (front, back) = self.units.split_at(mid);
-        (UStr { units: front }, UStr { units: back })
+        let (prefix, back) = self.units.split_at(mid);
+        (UStr { units: prefix }, UStr { units: back })
     }
 
     /// Returns a value whose `Display` prints the text of the view, with one U+FFFD for each unit that belongs to no

@@ -16,8 +16,8 @@ module _ {X : Type 0} (form : EncodingForm) (number : X → ℕ) (us rest : List
   next-is : next ≡ at + length (code_units form c)
   next-is = omega (arith, length-drop at us, long)
 
-  behind : drop next us ≡ rest
-  behind = ap (λ n. drop n us) next-is ∙ sym (drop-drop (length (code_units form c)) at us) ∙ sym left
+  beyond : drop next us ≡ rest
+  beyond = ap (λ n. drop n us) next-is ∙ sym (drop-drop (length (code_units form c)) at us) ∙ sym left
 
   pub char-units : map number (slice_range us at next) ≡ code_units form c
   char-units =
@@ -28,4 +28,4 @@ module _ {X : Type 0} (form : EncodingForm) (number : X → ℕ) (us rest : List
       ∙ ap (take (length (code_units form c))) joined ∙ take_at (code_units form c) (map number rest) (length (code_units form c)) refl
 
   pub char-rest : IsWellFormed form (map number (drop at us)) → IsWellFormed form (map number (drop next us))
-  char-rest well = subst (λ xs. IsWellFormed form (map number xs)) (sym behind) (well_formed-rest form (map number (drop at us)) (map number rest) well c is)
+  char-rest well = subst (λ xs. IsWellFormed form (map number xs)) (sym beyond) (well_formed-rest form (map number (drop at us)) (map number rest) well c is)

@@ -9,27 +9,27 @@ use Rattle.std.specs.List.Retain.{IsFiltered}
 use Rattle.wide_unit.specs.EncodingForm.{EncodingForm, code_units}
 use Rattle.wide_unit.specs.Items.{chars, IsWellFormed}
 use Rattle.wide_unit.specs.Laws.Ends.{IsWellFormed-code_units}
-use Rattle.wide_unit.specs.Laws.Places.{scalars-chars}
+use Rattle.wide_unit.specs.Laws.Offsets.{scalars-chars}
 use Rattle.wide_unit.specs.Laws.Splices.{IsWellFormed-nil, IsWellFormed-append, chars-nil, chars-append, chars-code_units}
 use Rattle.wide_ustring.proofs.Filters.{no_elements, one_element}
 
 -- A slice of a list that is copied to a lower index, over the elements before it.
 module _ {X : Type 0} (xs : List X) (from to onto : ℕ) (down : onto ≤ from) (forward : from ≤ to) (within : to ≤ length xs) where
-  front-long : length (take onto xs ++ slice_range xs from to) ≡ onto + (to - from)
-  front-long =
+  prefix-long : length (take onto xs ++ slice_range xs from to) ≡ onto + (to - from)
+  prefix-long =
       length-append (take onto xs) (slice_range xs from to)
       ∙ omega (arith, length-take-le onto xs (omega arith), length-take-le (to - from) (drop from xs) (omega (arith, length-drop from xs)))
 
   take-copied : take (onto + (to - from)) (copy_within xs from to onto) ≡ take onto xs ++ slice_range xs from to
-  take-copied = take_at (take onto xs ++ slice_range xs from to) (drop (onto + (to - from)) xs) (onto + (to - from)) front-long
+  take-copied = take_at (take onto xs ++ slice_range xs from to) (drop (onto + (to - from)) xs) (onto + (to - from)) prefix-long
 
   drop-copied : drop to (copy_within xs from to onto) ≡ drop to xs
-  drop-copied = drop-append-drop (onto + (to - from)) xs (take onto xs ++ slice_range xs from to) to (omega arith) front-long
+  drop-copied = drop-append-drop (onto + (to - from)) xs (take onto xs ++ slice_range xs from to) to (omega arith) prefix-long
 
   length-copied : length (copy_within xs from to onto) ≡ length xs
   length-copied =
       length-append (take onto xs ++ slice_range xs from to) (drop (onto + (to - from)) xs)
-      ∙ omega (arith, front-long, length-drop (onto + (to - from)) xs)
+      ∙ omega (arith, prefix-long, length-drop (onto + (to - from)) xs)
 
 drop_same : {X : Type 0} (xs ys : List X) (from to : ℕ) → from ≤ to → drop from xs ≡ drop from ys → drop to xs ≡ drop to ys
 drop_same xs ys from to forward e =
@@ -91,8 +91,8 @@ module _ {X P : Type 0} (form : EncodingForm) (number : X → ℕ) (answers : P 
       }
 
       module _ (units : map number (slice_range new at next) ≡ code_units form c) where
-        front : map number (take (kept + (next - at)) (copy_within new at next kept)) ≡ map number (take kept new) ++ code_units form c
-        front =
+        prefix : map number (take (kept + (next - at)) (copy_within new at next kept)) ≡ map number (take kept new) ++ code_units form c
+        prefix =
             ap (map number) (take-copied new at next kept so_far.below (omega arith) within) ∙ map-append number (take kept new) (slice_range new at next)
             ∙ ap (λ us. map number (take kept new) ++ us) units
 
@@ -103,7 +103,7 @@ module _ {X P : Type 0} (form : EncodingForm) (number : X → ℕ) (answers : P 
 
         longer : text (take (kept + (next - at)) (copy_within new at next kept)) ≡ text (take kept new) ++ c ∷ []
         longer =
-            ap (chars form) front ∙ chars-append form (map number (take kept new)) (code_units form c) so_far.kept_well_formed
+            ap (chars form) prefix ∙ chars-append form (map number (take kept new)) (code_units form c) so_far.kept_well_formed
             ∙ ap (λ cs. text (take kept new) ++ cs) (chars-code_units form c scalar)
 
         pub keeps : answers now c true later → FilteringChars first later old (copy_within new at next kept) (kept + (next - at)) next
@@ -115,6 +115,6 @@ module _ {X P : Type 0} (form : EncodingForm) (number : X → ℕ) (answers : P 
           below = omega (arith, so_far.below);
           length_same = length-copied new at next kept so_far.below (omega arith) within ∙ so_far.length_same;
           to_come = drop-copied new at next kept so_far.below (omega arith) within ∙ still_to_come;
-          kept_well_formed = subst (λ us. IsWellFormed form us) (sym front) (IsWellFormed-append form (map number (take kept new)) (code_units form c) so_far.kept_well_formed (IsWellFormed-code_units form c scalar));
+          kept_well_formed = subst (λ us. IsWellFormed form us) (sym prefix) (IsWellFormed-append form (map number (take kept new)) (code_units form c) so_far.kept_well_formed (IsWellFormed-code_units form c scalar));
           rest_well_formed = rest_still;
         }

@@ -15,7 +15,7 @@ pub all_written : {X : Type 0} (form : EncodingForm) (number : X → ℕ) (text 
     → encode form (chars text) ≡ map number (take count written) ++ encode form (chars (drop read text)) → map number written ≡ encode form (chars text)
 all_written form number text written read count long all within units =
     let rest : encode form (chars (drop read text)) ≡ [] = none_left form (drop read text) (omega (arith, all, length-drop read text)) in
-    let front : encode form (chars text) ≡ map number (take count written) = units ∙ ap (λ us. map number (take count written) ++ us) rest ∙ append-nil (map number (take count written)) in
+    let prefix : encode form (chars text) ≡ map number (take count written) = units ∙ ap (λ us. map number (take count written) ++ us) rest ∙ append-nil (map number (take count written)) in
     let counted : length (map number (take count written)) ≡ count = length-map (take count written) number ∙ length-take-le count written within in
-    let whole : take count written ≡ written = take_all count written (omega (arith, long, ap length front, counted)) in
-    ap (map number) (sym whole) ∙ sym front
+    let whole : take count written ≡ written = take_all count written (omega (arith, long, ap length prefix, counted)) in
+    ap (map number) (sym whole) ∙ sym prefix

@@ -19,28 +19,28 @@ module _ {X Y : Type 0} (f : X → Y) (old written : List X) (ys : List Y) (from
       is ∙ ap (λ us. us ++ ys) (map-append f (take from old) (drop to old) ∙ ap (λ us. us ++ map f (drop to old)) (sym (take-map f from old)) ∙ ap (λ us. take from (map f old) ++ us) (sym (drop-map f to old)))
       ∙ append_assoc (take from (map f old)) (drop to (map f old)) ys
 
-  front-long : length (take from (map f old)) ≡ from
-  front-long = length-take-le from (map f old) (omega (arith, length-map old f))
+  prefix-long : length (take from (map f old)) ≡ from
+  prefix-long = length-take-le from (map f old) (omega (arith, length-map old f))
 
   pub from-within : from ≤ length written
-  from-within = omega (arith, front-long, ap length split, length-map written f, length-append (take from (map f old)) (drop to (map f old) ++ ys))
+  from-within = omega (arith, prefix-long, ap length split, length-map written f, length-append (take from (map f old)) (drop to (map f old) ++ ys))
 
-  behind : drop from (map f written) ≡ drop to (map f old) ++ ys
-  behind = ap (drop from) split ∙ drop_at (take from (map f old)) (drop to (map f old) ++ ys) from front-long
+  beyond : drop from (map f written) ≡ drop to (map f old) ++ ys
+  beyond = ap (drop from) split ∙ drop_at (take from (map f old)) (drop to (map f old) ++ ys) from prefix-long
 
-  pub behind-within : length old - to ≤ length written - from
-  behind-within =
-      omega (arith, ap length behind, length-append (drop to (map f old)) ys, length-drop to (map f old), length-drop from (map f written), length-map old f, length-map written f)
+  pub beyond-within : length old - to ≤ length written - from
+  beyond-within =
+      omega (arith, ap length beyond, length-append (drop to (map f old)) ys, length-drop to (map f old), length-drop from (map f written), length-map old f, length-map written f)
 
   pub map-turned : (count : ℕ) → count ≡ length old - to → map f (take from written ++ (drop count (drop from written) ++ take count (drop from written))) ≡ splice (map f old) from to ys
   map-turned count e =
       let long : length (drop to (map f old)) ≡ count = omega (arith, length-drop to (map f old), length-map old f, e) in
       let last : map f (drop count (drop from written)) ≡ ys =
-      sym (drop-map f count (drop from written)) ∙ ap (drop count) (sym (drop-map f from written) ∙ behind) ∙ drop_at (drop to (map f old)) ys count long in
+      sym (drop-map f count (drop from written)) ∙ ap (drop count) (sym (drop-map f from written) ∙ beyond) ∙ drop_at (drop to (map f old)) ys count long in
       let moved : map f (take count (drop from written)) ≡ drop to (map f old) =
-      sym (take-map f count (drop from written)) ∙ ap (take count) (sym (drop-map f from written) ∙ behind) ∙ take_at (drop to (map f old)) ys count long in
+      sym (take-map f count (drop from written)) ∙ ap (take count) (sym (drop-map f from written) ∙ beyond) ∙ take_at (drop to (map f old)) ys count long in
       let first : map f (take from written) ≡ take from (map f old) =
-      sym (take-map f from written) ∙ ap (take from) split ∙ take_at (take from (map f old)) (drop to (map f old) ++ ys) from front-long in
+      sym (take-map f from written) ∙ ap (take from) split ∙ take_at (take from (map f old)) (drop to (map f old) ++ ys) from prefix-long in
       map-append f (take from written) (drop count (drop from written) ++ take count (drop from written))
       ∙ ap (λ us. us ++ map f (drop count (drop from written) ++ take count (drop from written))) first
       ∙ ap (λ us. take from (map f old) ++ us) (map-append f (drop count (drop from written)) (take count (drop from written)) ∙ ap (λ us. us ++ map f (take count (drop from written))) last ∙ ap (λ us. ys ++ us) moved)

@@ -18,5 +18,5 @@ module _ {C : Type 0} where
   ustring_len s = length s.units
 
   -- `more` additional units fit without allocating.
-  abbrev pub HasRoomFor : Units C → ℕ → Type 0
-  HasRoomFor s more = length s.units + more ≤ s.capacity
+  abbrev pub HasSpaceFor : Units C → ℕ → Type 0
+  HasSpaceFor s more = length s.units + more ≤ s.capacity

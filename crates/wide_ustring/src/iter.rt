@@ -4,7 +4,7 @@ ghost use Rattle.std.specs.Iterator.{at_most, UpTo};
 ghost use Rattle.std.specs.Iterator.SizeHint.{IsWithinCount};
 
 use crate::UString;
-use crate::room::cut;
+use crate::space::cut;
 use std::alloc::{Allocator, Global};
 use std::iter::FusedIterator;
 

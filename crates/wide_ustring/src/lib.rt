@@ -7,7 +7,7 @@ mod cow;
 mod display;
 pub mod extend;
 mod iter;
-mod room;
+mod space;
 mod ustring;
 mod view;
 

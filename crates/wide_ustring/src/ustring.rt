@@ -12,12 +12,12 @@ ghost use Rattle.wide_unit.specs.Utf8.{utf8};
 ghost use Rattle.wide_unit.specs.Range.{IsWithin, IsInRange, part_of, part_replaced};
 ghost use Rattle.wide_ustr.specs.View.{units_seen};
 ghost use Rattle.wide_unit.specs.Unit.{item_of};
-ghost use Rattle.wide_ustring.specs.Units.{ustring_len, HasRoomFor};
+ghost use Rattle.wide_ustring.specs.Units.{ustring_len, HasSpaceFor};
 ghost use Rattle.wide_ustring.specs.Drain.{DrainGives, DrainGivesBack, DrainStays, drain_rest, drain_leaves, drain_capacity, drain_lender};
 ghost use Rattle.wide_ustring.specs.Lends.{lends_units};
 ghost use Rattle.wide_ustring.specs.Taken.{item_code, TakesFirst, TakesLast};
 
-use crate::room::{cut, push_char, push_str, replace, replace_char, replace_str};
+use crate::space::{cut, push_char, push_str, replace, replace_char, replace_str};
 use crate::{Drain, UStrInUstring};
 use std::alloc::{Allocator, Global};
 use std::marker::Model;
@@ -106,7 +106,7 @@ impl<C: FaultUnit, A: Allocator> UString<C, A> {
     /// [`OutOfMemory`] if the allocation fails. It never fails if `capacity` is 0.
     pub fn with_capacity(alloc: A, capacity: usize) -> Result<Self, OutOfMemory>
         ensures units { IfOk result (λ s. s.units ≡ []) }
-        ensures room { IfOk result (λ s. capacity ≤ s.capacity) }
+        ensures space { IfOk result (λ s. capacity ≤ s.capacity) }
         ensures succeeds { capacity ≡ 0 → IsOk result }
     {
         let mut units = Vec::new(alloc);
@@ -206,9 +206,9 @@ impl<C: FaultUnit, A: Allocator> UString<C, A> {
     /// capacity.
     pub fn reserve(&mut self, more: usize) -> Result<(), OutOfMemory>
         ensures units { self.new.units ≡ self.old.units }
-        ensures room { OnOk result (HasRoomFor self.new more) }
+        ensures space { OnOk result (HasSpaceFor self.new more) }
         ensures err { OnErr result (self.new ≡ self.old) }
-        ensures succeeds { HasRoomFor self.old more → IsOk result }
+        ensures succeeds { HasSpaceFor self.old more → IsOk result }
         ensures capacity { self.old.capacity ≤ self.new.capacity }
     {
         self.units.reserve(more)?;
@@ -224,9 +224,9 @@ impl<C: FaultUnit, A: Allocator> UString<C, A> {
     /// capacity.
     pub fn reserve_exact(&mut self, more: usize) -> Result<(), OutOfMemory>
         ensures units { self.new.units ≡ self.old.units }
-        ensures room { OnOk result (self.new.capacity ≡ max self.old.capacity (ustring_len self.old + more)) }
+        ensures space { OnOk result (self.new.capacity ≡ max self.old.capacity (ustring_len self.old + more)) }
         ensures err { OnErr result (self.new ≡ self.old) }
-        ensures succeeds { HasRoomFor self.old more → IsOk result }
+        ensures succeeds { HasSpaceFor self.old more → IsOk result }
     {
         self.units.reserve_exact(more)?;
         Ok(())
@@ -278,7 +278,7 @@ impl<C: FaultUnit, A: Allocator> UString<C, A> {
     pub fn push_slice(&mut self, more: &[C]) -> Result<(), OutOfMemory>
         ensures ok { OnOk result (self.new.units ≡ self.old.units ++ more.now) }
         ensures err { OnErr result (self.new ≡ self.old) }
-        ensures succeeds { HasRoomFor self.old (length more.now) → IsOk result }
+        ensures succeeds { HasSpaceFor self.old (length more.now) → IsOk result }
         ensures capacity { self.old.capacity ≤ self.new.capacity }
     {
         self.units.reserve(more.len())?;
@@ -294,7 +294,7 @@ impl<C: FaultUnit, A: Allocator> UString<C, A> {
     pub fn push(&mut self, more: UStr<'_, C>) -> Result<(), OutOfMemory>
         ensures ok { OnOk result (self.new.units ≡ self.old.units ++ units_seen more.entry) }
         ensures err { OnErr result (self.new ≡ self.old) }
-        ensures succeeds { HasRoomFor self.old (length (units_seen more.entry)) → IsOk result }
+        ensures succeeds { HasSpaceFor self.old (length (units_seen more.entry)) → IsOk result }
         ensures capacity { self.old.capacity ≤ self.new.capacity }
     {
         self.push_slice(more.as_slice())
@@ -329,7 +329,7 @@ impl<C: FaultUnit, A: Allocator> UString<C, A> {
         requires { at ≤ ustring_len self.old }
         ensures ok { OnOk result (self.new.units ≡ splice self.old.units at at (units_seen more.entry)) }
         ensures err { OnErr result (self.new ≡ self.old) }
-        ensures succeeds { HasRoomFor self.old (length (units_seen more.entry)) → IsOk result }
+        ensures succeeds { HasSpaceFor self.old (length (units_seen more.entry)) → IsOk result }
         ensures capacity { self.old.capacity ≤ self.new.capacity }
     {
         replace(&mut self.units, at, at, more.as_slice())
@@ -362,8 +362,8 @@ impl<C: FaultUnit, A: Allocator> UString<C, A> {
         ensures capacity { self.old.capacity ≤ self.new.capacity }
     {
         let len = self.units.len();
-        let places = slice::range(range, ..len);
-        replace(&mut self.units, places.start, places.end, with.as_slice())
+        let offsets = slice::range(range, ..len);
+        replace(&mut self.units, offsets.start, offsets.end, with.as_slice())
     }
 
     /// Retains the units for which the closure returns true. It calls the closure once for each unit, in order.
@@ -439,13 +439,13 @@ impl<C: FaultUnit, A: Allocator> UString<C, A> {
         ensures stays { DrainStays result }
     {
         let len = self.units.len();
-        let places = slice::range(range, ..len);
+        let offsets = slice::range(range, ..len);
         Drain {
             string: self,
-            start: places.start,
-            front: places.start,
-            back: places.end,
-            end: places.end,
+            start: offsets.start,
+            front: offsets.start,
+            back: offsets.end,
+            end: offsets.end,
         }
     }
 
@@ -457,7 +457,7 @@ impl<C: FaultUnit, A: Allocator> UString<C, A> {
     pub fn push_char(&mut self, c: char) -> Result<(), OutOfMemory>
         ensures ok { OnOk result (map C.number self.new.units ≡ map C.number self.old.units ++ code_units C.form c) }
         ensures err { OnErr result (self.new ≡ self.old) }
-        ensures succeeds { HasRoomFor self.old (length (code_units C.form c)) → IsOk result }
+        ensures succeeds { HasSpaceFor self.old (length (code_units C.form c)) → IsOk result }
         ensures capacity { self.old.capacity ≤ self.new.capacity }
     {
         self.units.reserve(C::char_len(c))?;
@@ -473,7 +473,7 @@ impl<C: FaultUnit, A: Allocator> UString<C, A> {
     pub fn push_str(&mut self, text: &str) -> Result<(), OutOfMemory>
         ensures ok { OnOk result (map C.number self.new.units ≡ map C.number self.old.units ++ encode C.form (chars text.now)) }
         ensures err { OnErr result (self.new ≡ self.old) }
-        ensures succeeds { HasRoomFor self.old (length (encode C.form (chars text.now))) → IsOk result }
+        ensures succeeds { HasSpaceFor self.old (length (encode C.form (chars text.now))) → IsOk result }
         ensures capacity { self.old.capacity ≤ self.new.capacity }
     {
         push_str(&mut self.units, text)
@@ -488,7 +488,7 @@ impl<C: FaultUnit, A: Allocator> UString<C, A> {
     pub fn write_str(&mut self, text: &str) -> Result<(), OutOfMemory>
         ensures ok { OnOk result (map C.number self.new.units ≡ map C.number self.old.units ++ encode C.form (chars text.now)) }
         ensures err { OnErr result (self.new ≡ self.old) }
-        ensures succeeds { HasRoomFor self.old (length (encode C.form (chars text.now))) → IsOk result }
+        ensures succeeds { HasSpaceFor self.old (length (encode C.form (chars text.now))) → IsOk result }
         ensures capacity { self.old.capacity ≤ self.new.capacity }
     {
         self.push_str(text)
@@ -503,7 +503,7 @@ impl<C: FaultUnit, A: Allocator> UString<C, A> {
     pub fn write_char(&mut self, c: char) -> Result<(), OutOfMemory>
         ensures ok { OnOk result (map C.number self.new.units ≡ map C.number self.old.units ++ code_units C.form c) }
         ensures err { OnErr result (self.new ≡ self.old) }
-        ensures succeeds { HasRoomFor self.old (length (code_units C.form c)) → IsOk result }
+        ensures succeeds { HasSpaceFor self.old (length (code_units C.form c)) → IsOk result }
         ensures capacity { self.old.capacity ≤ self.new.capacity }
     {
         self.push_char(c)
@@ -522,7 +522,7 @@ impl<C: FaultUnit, A: Allocator> UString<C, A> {
         requires { at ≤ ustring_len self.old }
         ensures ok { OnOk result (map C.number self.new.units ≡ splice (map C.number self.old.units) at at (code_units C.form c)) }
         ensures err { OnErr result (self.new ≡ self.old) }
-        ensures succeeds { HasRoomFor self.old (length (code_units C.form c)) → IsOk result }
+        ensures succeeds { HasSpaceFor self.old (length (code_units C.form c)) → IsOk result }
         ensures capacity { self.old.capacity ≤ self.new.capacity }
     {
         replace_char(&mut self.units, at, at, c)
@@ -581,7 +581,7 @@ impl<C: FaultUnit, A: Allocator> UString<C, A> {
     pub fn pop_char(&mut self) -> Option<u32>
         ensures none { IsNone result ↔ (self.old.units ≡ []) }
         ensures taken { IfSome result (TakesLast C.form (map C.number self.old.units) (map C.number self.new.units)) }
-        ensures front { self.new.units ≡ take (ustring_len self.new) self.old.units }
+        ensures prefix { self.new.units ≡ take (ustring_len self.new) self.old.units }
         ensures capacity { self.new.capacity ≡ self.old.capacity }
     {
         let (rest, item) = split_last(self.units.as_slice())?;
@@ -598,15 +598,15 @@ impl<C: FaultUnit, A: Allocator> UString<C, A> {
     /// The offset is less than the length.
     pub fn remove_char(&mut self, at: usize) -> u32
         requires { at < ustring_len self.old }
-        ensures front { take at self.new.units ≡ take at self.old.units }
+        ensures prefix { take at self.new.units ≡ take at self.old.units }
         ensures taken { TakesFirst C.form (map C.number (drop at self.old.units)) (map C.number (drop at self.new.units)) result }
         ensures capacity { self.new.capacity ≡ self.old.capacity }
     {
-        let behind = &self.units.as_slice()[at..];
-        let Some((item, rest)) = split_first(behind) else {
+        let beyond = &self.units.as_slice()[at..];
+        let Some((item, rest)) = split_first(beyond) else {
             unreachable!()
         };
-        let end = at + (behind.len() - rest.len());
+        let end = at + (beyond.len() - rest.len());
         cut(&mut self.units, at, end);
         code_of(item)
     }

@@ -17,17 +17,17 @@ pub trait FaultUnit: Unit {
     type Fault: Copy;
 
     // The number of the unit that a fault holds.
-    ghost told: { Self.Fault → ℕ };
+    ghost reported: { Self.Fault → ℕ };
 
     /// Returns the fault for this unit.
     fn fault(self) -> Self::Fault
-        ensures { told result ≡ Self.number self };
+        ensures { reported result ≡ Self.number self };
 }
 
 impl FaultUnit for u16 {
     type Fault = DecodeUtf16Error;
 
-    ghost told = { λ unit. unit };
+    ghost reported = { λ unit. unit };
 
     #[inline]
     fn fault(self) -> DecodeUtf16Error {
@@ -38,7 +38,7 @@ impl FaultUnit for u16 {
 impl FaultUnit for u32 {
     type Fault = DecodeUtf32Error;
 
-    ghost told = { λ code. code };
+    ghost reported = { λ code. code };
 
     #[inline]
     fn fault(self) -> DecodeUtf32Error {
@@ -96,7 +96,7 @@ impl<C: FaultUnit, A: Allocator> UtfError<C, A> {
 
     /// Returns the first fault itself.
     pub fn cause(&self) -> C::Fault
-        ensures { C.told result ≡ C.number (unit_of self.now) }
+        ensures { C.reported result ≡ C.number (unit_of self.now) }
     {
         self.unit.fault()
     }

@@ -4,41 +4,41 @@ use Rattle.std.proofs.lemmas.List.{length-map, get_or-map, get_or-take, get_or_a
 use borrow.Author.Tests.{eqb-true}
 use Rattle.wide_unit.specs.EncodingForm.{EncodingForm, Utf16, Utf32, IsHighSurrogate, IsLowSurrogate}
 use Rattle.wide_unit.specs.Items.{items, IsWellFormed, IsBoundary}
-use Rattle.wide_unit.specs.Places.{IsCharBoundary}
+use Rattle.wide_unit.specs.Offsets.{IsCharBoundary}
 use Rattle.wide_utfstr.specs.Boundaries.{IsFloorBoundary, IsCeilBoundary}
 use Rattle.std.proofs.lemmas.Bool.{cases_eq}
 use Rattle.wide_unit.specs.Laws.Forms.{IsPair-parts}
 use Rattle.wide_unit.specs.Laws.Items.{IsCut}
 use Rattle.wide_unit.specs.Laws.Boundaries.{IsBoundary-at, IsBoundary-end, IsBoundary-of_cut, no-low_at_boundary}
-use Rattle.wide_unit.specs.Laws.Places.{IsBoundary-within}
+use Rattle.wide_unit.specs.Laws.Offsets.{IsBoundary-within}
 
-module _ {X : Type 0} (form : EncodingForm) (number : X → ℕ) (xs : List X) (place : ℕ) where
-  pub boundary-within : IsBoundary form (map number xs) place → place ≤ length xs
-  boundary-within at = omega (arith, IsBoundary-within form (map number xs) place at, length-map xs number)
+module _ {X : Type 0} (form : EncodingForm) (number : X → ℕ) (xs : List X) (offset : ℕ) where
+  pub boundary-within : IsBoundary form (map number xs) offset → offset ≤ length xs
+  boundary-within at = omega (arith, IsBoundary-within form (map number xs) offset at, length-map xs number)
 
   -- The offset is at the end or past it.
-  pub boundary_by_length : length xs ≤ place → IsTrue (nat_eq place (length xs)) ↔ IsBoundary form (map number xs) place
+  pub boundary_by_length : length xs ≤ offset → IsTrue (nat_eq offset (length xs)) ↔ IsBoundary form (map number xs) offset
   boundary_by_length past = (
-    λ same. let e : length (map number xs) ≡ place = omega (arith, length-map xs number, eqb-true place (length xs) same) in
+    λ same. let e : length (map number xs) ≡ offset = omega (arith, length-map xs number, eqb-true offset (length xs) same) in
         subst (λ n. IsBoundary form (map number xs) n) e (IsBoundary-end form (map number xs)),
-    λ at. let e : place ≡ length xs = omega (arith, boundary-within at) in eq-eqb place (length xs) e,
+    λ at. let e : offset ≡ length xs = omega (arith, boundary-within at) in eq-eqb offset (length xs) e,
   )
 
   -- The offset is before the end.
-  module _ (well : IsWellFormed form (map number xs)) (x : X) (here : place < length xs) (is : x ≡ get_or xs place x) where
-    within : place < length (map number xs)
+  module _ (well : IsWellFormed form (map number xs)) (x : X) (here : offset < length xs) (is : x ≡ get_or xs offset x) where
+    within : offset < length (map number xs)
     within = omega (arith, length-map xs number)
 
-    unit : get_or (map number xs) place 0 ≡ number x
-    unit = get_or-map number xs place x 0 here ∙ ap number (sym is)
+    unit : get_or (map number xs) offset 0 ≡ number x
+    unit = get_or-map number xs offset x 0 here ∙ ap number (sym is)
 
-    pub boundary_by_unit : (low : Bool) → IsTrue low ↔ IsLowSurrogate form (number x) → IsTrue (not low) ↔ IsBoundary form (map number xs) place
-    boundary_by_unit true tells = (
+    pub boundary_by_unit : (low : Bool) → IsTrue low ↔ IsLowSurrogate form (number x) → IsTrue (not low) ↔ IsBoundary form (map number xs) offset
+    boundary_by_unit true reports = (
       λ e. absurd cc,
-      λ at. absurd (no-low_at_boundary form (map number xs) place well within at (subst (λ u. IsLowSurrogate form u) (sym unit) (tells.0 refl))),
+      λ at. absurd (no-low_at_boundary form (map number xs) offset well within at (subst (λ u. IsLowSurrogate form u) (sym unit) (reports.0 refl))),
     )
-    boundary_by_unit false tells = (
-      λ e. IsBoundary-at form (map number xs) place (omega (arith, within)) (λ low. let e : false ≡ true = tells.1 (subst (λ u. IsLowSurrogate form u) unit low) in cc),
+    boundary_by_unit false reports = (
+      λ e. IsBoundary-at form (map number xs) offset (omega (arith, within)) (λ low. let e : false ≡ true = reports.1 (subst (λ u. IsLowSurrogate form u) unit low) in cc),
       λ at. refl,
     )
 
@@ -48,19 +48,19 @@ module _ (form : EncodingForm) (us : List ℕ) (n : ℕ) (well : IsWellFormed fo
   not_both Utf16 u high low = omega (arith, high, low)
   not_both Utf32 u high low = high
 
-  behind_low : IsLowSurrogate form (get_or us n 0) → IsCut form (take (n + 1) us) (drop (n + 1) us)
-  behind_low low front back h l e f pair =
-      let long : length front ≡ n = omega (arith, ap length e, length-append front (h ∷ []), length-take (n + 1) us) in
-      let unit : get_or us n 0 ≡ h = sym (get_or-take (n + 1) us n 0 (omega arith)) ∙ ap (λ xs. get_or xs n 0) e ∙ get_or_at front h [] 0 n long in
+  after_low : IsLowSurrogate form (get_or us n 0) → IsCut form (take (n + 1) us) (drop (n + 1) us)
+  after_low low prefix back h l e f pair =
+      let long : length prefix ≡ n = omega (arith, ap length e, length-append prefix (h ∷ []), length-take (n + 1) us) in
+      let unit : get_or us n 0 ≡ h = sym (get_or-take (n + 1) us n 0 (omega arith)) ∙ ap (λ xs. get_or xs n 0) e ∙ get_or_at prefix h [] 0 n long in
       not_both form h (IsPair-parts form h l pair).0 (subst (λ u. IsLowSurrogate form u) unit low)
 
-  pub behind-boundary : IsLowSurrogate form (get_or us n 0) → IsBoundary form us (n + 1)
-  behind-boundary low =
-      let b = IsBoundary-of_cut form (take (n + 1) us) (drop (n + 1) us) (behind_low low) in
+  pub beyond-boundary : IsLowSurrogate form (get_or us n 0) → IsBoundary form us (n + 1)
+  beyond-boundary low =
+      let b = IsBoundary-of_cut form (take (n + 1) us) (drop (n + 1) us) (after_low low) in
       (b.0, b.1, ap (λ xs. items form xs) (sym (take-append-drop (n + 1) us)) ∙ b.2, b.3 ∙ length-take-le (n + 1) us (omega arith))
 
   pub boundary_before : ¬ (IsCharBoundary form us (n + 1)) → IsCharBoundary form us n
-  boundary_before none = (omega arith, λ some within low. none (omega arith, λ _ _ second. no-low_at_boundary form us (n + 1) well below (behind-boundary low) second))
+  boundary_before none = (omega arith, λ some within low. none (omega arith, λ _ _ second. no-low_at_boundary form us (n + 1) well below (beyond-boundary low) second))
 
 above-of_other : (n other : ℕ) → n ≤ other → (other ≡ n → ⊥) → n + 1 ≤ other
 above-of_other n other l apart = grind (arith, l, apart)
@@ -70,12 +70,12 @@ below-of_other other n l apart = grind (arith, l, apart)
 
 -- If an offset is no boundary, the offset after it is one.
 module _ (form : EncodingForm) (us : List ℕ) (n : ℕ) (well : IsWellFormed form us) where
-  pub boundary_behind : n < length us → ¬ (IsCharBoundary form us n) → IsCharBoundary form us (n + 1)
-  boundary_behind here none = (omega (arith, here), λ some within second. none (omega (arith, here), λ _ _ low. no-low_at_boundary form us (n + 1) well within (behind-boundary form us n well within low) second))
+  pub boundary_after : n < length us → ¬ (IsCharBoundary form us n) → IsCharBoundary form us (n + 1)
+  boundary_after here none = (omega (arith, here), λ some within second. none (omega (arith, here), λ _ _ low. no-low_at_boundary form us (n + 1) well within (beyond-boundary form us n well within low) second))
 
-  pub behind-ceil : n < length us → ¬ (IsCharBoundary form us n) → IsCeilBoundary form us n (n + 1)
-  behind-ceil below none = record {
-    boundary = boundary_behind below none;
+  pub beyond-ceil : n < length us → ¬ (IsCharBoundary form us n) → IsCeilBoundary form us n (n + 1)
+  beyond-ceil below none = record {
+    boundary = boundary_after below none;
     not_before = λ l. omega arith;
     least = λ other here l. elim (cases_eq other n) [
       | inl same ↦ absurd (none (subst (λ k. IsCharBoundary form us k) same here))

@@ -4,9 +4,9 @@ use Rattle.std.specs.Iterator.{YieldsFirst, MakesProgress, at_most}
 use Rattle.std.specs.List.{list_all}
 use Rattle.std.specs.Prelude.{⊤}
 
-pub all-told : (cs : List ℕ) → list_all (λ c. true) cs ≡ true
-all-told [] = refl
-all-told (c ∷ cs) = all-told cs
+pub all-reported : (cs : List ℕ) → list_all (λ c. true) cs ≡ true
+all-reported [] = refl
+all-reported (c ∷ cs) = all-reported cs
 
 -- A call that returns the first of the remaining characters leaves fewer.
 pub progress-first : {S : Type 0} (left : S → List ℕ) (s t : S) (r : Option ℕ) → YieldsFirst left s r t → MakesProgress (λ _. ⊤) (λ u. at_most (length (left u))) s r t

@@ -9,8 +9,8 @@ use Rattle.std.proofs.lemmas.List.Concat.{flat_map-append}
 use Rattle.std.proofs.Math.Seq.{take-append_seam}
 use Rattle.wide_unit.specs.EncodingForm.{EncodingForm, code_units, encode}
 use Rattle.wide_unit.specs.Items.{chars, IsWellFormed}
-use Rattle.wide_unit.specs.Places.{IsCharBoundary}
-use Rattle.wide_unit.specs.Laws.Places.{IsPlaceOf-front}
+use Rattle.wide_unit.specs.Offsets.{IsCharBoundary}
+use Rattle.wide_unit.specs.Laws.Offsets.{IsOffsetOf-prefix}
 use Rattle.wide_unit.specs.declared.unit.Unit.{Ghosts}
 use Rattle.wide_unit.proofs.CharBoundaries.{IsCharBoundary-of}
 use Rattle.wide_utfstr.specs.Indexed.{indexed_chars}
@@ -19,16 +19,16 @@ use Rattle.wide_utfstr.specs.Iter.{indices_left, IndicesGive, IndicesGiveBack}
 encode-push : (form : EncodingForm) (cs : List ℕ) (c : ℕ) → encode form (cs ++ c ∷ []) ≡ encode form cs ++ code_units form c
 encode-push form cs c = flat_map-append (code_units form) cs (c ∷ []) ∙ ap (λ xs. encode form cs ++ xs) (append-nil (code_units form c))
 
-pub boundaries_from : (form : EncodingForm) (us front back : List ℕ) → IsWellFormed form us → chars form us ≡ front ++ back → All (λ at. IsCharBoundary form us at.0) (indexed_chars form (length (encode form front)) back)
-boundaries_from form us front [] well e = All-nil (λ at. IsCharBoundary form us at.0)
-boundaries_from form us front (c ∷ back) well e =
-    let first : take (length front) (chars form us) ≡ front = ap (take (length front)) e ∙ take-append_seam front (c ∷ back) in
-    let here : IsCharBoundary form us (length (encode form front)) =
-    subst (λ cs. IsCharBoundary form us (length (encode form cs))) first (IsCharBoundary-of form us (length (encode form (take (length front) (chars form us)))) well (IsPlaceOf-front form us well (length front)).boundary)
+pub boundaries_from : (form : EncodingForm) (us prefix back : List ℕ) → IsWellFormed form us → chars form us ≡ prefix ++ back → All (λ at. IsCharBoundary form us at.0) (indexed_chars form (length (encode form prefix)) back)
+boundaries_from form us prefix [] well e = All-nil (λ at. IsCharBoundary form us at.0)
+boundaries_from form us prefix (c ∷ back) well e =
+    let first : take (length prefix) (chars form us) ≡ prefix = ap (take (length prefix)) e ∙ take-append_seam prefix (c ∷ back) in
+    let here : IsCharBoundary form us (length (encode form prefix)) =
+    subst (λ cs. IsCharBoundary form us (length (encode form cs))) first (IsCharBoundary-of form us (length (encode form (take (length prefix) (chars form us)))) well (IsOffsetOf-prefix form us well (length prefix)).boundary)
     in
-    let next : length (encode form (front ++ c ∷ [])) ≡ length (encode form front) + length (code_units form c) = ap length (encode-push form front c) ∙ length-append (encode form front) (code_units form c) in
-    All-cons (λ at. IsCharBoundary form us at.0) (length (encode form front), c) (indexed_chars form (length (encode form front) + length (code_units form c)) back) here
-    (subst (λ n. All (λ at. IsCharBoundary form us at.0) (indexed_chars form n back)) next (boundaries_from form us (front ++ c ∷ []) back well (e ∙ sym (append_assoc front (c ∷ []) back))))
+    let next : length (encode form (prefix ++ c ∷ [])) ≡ length (encode form prefix) + length (code_units form c) = ap length (encode-push form prefix c) ∙ length-append (encode form prefix) (code_units form c) in
+    All-cons (λ at. IsCharBoundary form us at.0) (length (encode form prefix), c) (indexed_chars form (length (encode form prefix) + length (code_units form c)) back) here
+    (subst (λ n. All (λ at. IsCharBoundary form us at.0) (indexed_chars form n back)) next (boundaries_from form us (prefix ++ c ∷ []) back well (e ∙ sym (append_assoc prefix (c ∷ []) back))))
 
 pub indices_in_order : {C : Type 0} {g : Ghosts C} → YieldsInOrder (IndicesGive {C = C} {g = g}) (indices_left g.form g.number)
 indices_in_order {C} {g} p s = as_is p (indices_left g.form g.number p.from) (from_front (IndicesGive {C = C} {g = g})

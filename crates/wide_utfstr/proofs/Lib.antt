@@ -6,6 +6,6 @@ pub mod Counts
 mod Trims
 mod Trimmed
 mod Same
-mod SamePieces
+mod SameChunks
 mod Escaped
 mod Displayed

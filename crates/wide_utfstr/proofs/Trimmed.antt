@@ -6,16 +6,16 @@ use Rattle.std.specs.Prelude.{reverse}
 use Rattle.std.specs.List.{All}
 use Rattle.wide_utfstr.specs.Trim.{IsWhiteSpace, BeginsWithText, EndsWithText, IsTrimmedStart, IsTrimmedEnd, IsTrimmed}
 
-fronts-same : (front before rest left : List ℕ) → front ++ rest ≡ before ++ left → All IsWhiteSpace front → All IsWhiteSpace before → BeginsWithText rest → BeginsWithText left → rest ≡ left
-fronts-same [] [] rest left e white also begins starts = e
-fronts-same [] (c ∷ before) rest left e white also begins starts = absurd (begins c (before ++ left) e (All-head IsWhiteSpace c before also))
-fronts-same (c ∷ front) [] rest left e white also begins starts = absurd (starts c (front ++ rest) (sym e) (All-head IsWhiteSpace c front white))
-fronts-same (c ∷ front) (d ∷ before) rest left e white also begins starts =
-    let tails : front ++ rest ≡ before ++ left = cc in
-    fronts-same front before rest left tails (All-tail IsWhiteSpace c front white) (All-tail IsWhiteSpace d before also) begins starts
+prefixes-same : (prefix before rest left : List ℕ) → prefix ++ rest ≡ before ++ left → All IsWhiteSpace prefix → All IsWhiteSpace before → BeginsWithText rest → BeginsWithText left → rest ≡ left
+prefixes-same [] [] rest left e white also begins starts = e
+prefixes-same [] (c ∷ before) rest left e white also begins starts = absurd (begins c (before ++ left) e (All-head IsWhiteSpace c before also))
+prefixes-same (c ∷ prefix) [] rest left e white also begins starts = absurd (starts c (prefix ++ rest) (sym e) (All-head IsWhiteSpace c prefix white))
+prefixes-same (c ∷ prefix) (d ∷ before) rest left e white also begins starts =
+    let tails : prefix ++ rest ≡ before ++ left = cc in
+    prefixes-same prefix before rest left tails (All-tail IsWhiteSpace c prefix white) (All-tail IsWhiteSpace d before also) begins starts
 
 pub trimmed_start-same : (cs rest left : List ℕ) → IsTrimmedStart cs rest → IsTrimmedStart cs left → rest ≡ left
-trimmed_start-same cs rest left a b = fronts-same a.front b.front rest left (sym a.joined ∙ b.joined) a.white b.white a.longest b.longest
+trimmed_start-same cs rest left a b = prefixes-same a.prefix b.prefix rest left (sym a.joined ∙ b.joined) a.white b.white a.longest b.longest
 
 -- For the end, by the reversed lists.
 white-reverse : (cs : List ℕ) → All IsWhiteSpace cs → All IsWhiteSpace (reverse cs)
@@ -29,7 +29,7 @@ begins-reverse cs ends c others e = ends c (reverse others) (sym (reverse-revers
 
 pub trimmed_start-reverse : (cs rest : List ℕ) → IsTrimmedEnd cs rest → IsTrimmedStart (reverse cs) (reverse rest)
 trimmed_start-reverse cs rest a = record {
-  front = reverse a.back;
+  prefix = reverse a.back;
   joined = ap reverse a.joined ∙ reverse-append rest a.back;
   white = white-reverse a.back a.white;
   longest = begins-reverse rest a.longest;
@@ -42,9 +42,9 @@ trimmed_end-same cs rest left a b =
 
 -- For both ends: if nothing remains, all characters are White_Space. Otherwise the two ends are trimmed one after the
 -- other.
-white-back : (front back : List ℕ) → All IsWhiteSpace (front ++ back) → All IsWhiteSpace back
+white-back : (prefix back : List ℕ) → All IsWhiteSpace (prefix ++ back) → All IsWhiteSpace back
 white-back [] back white = white
-white-back (c ∷ front) back white = white-back front back (All-tail IsWhiteSpace c (front ++ back) white)
+white-back (c ∷ prefix) back white = white-back prefix back (All-tail IsWhiteSpace c (prefix ++ back) white)
 
 begins-more : (c : ℕ) (rest back : List ℕ) → BeginsWithText (c ∷ rest) → BeginsWithText (c ∷ rest ++ back)
 begins-more c rest back begins d others e white = begins c rest refl (subst IsWhiteSpace (sym (first e)) white)
@@ -53,15 +53,15 @@ begins-more c rest back begins d others e white = begins c rest refl (subst IsWh
     first e = cc
 
 start-of : (cs : List ℕ) (c : ℕ) (rest : List ℕ) (a : IsTrimmed cs (c ∷ rest)) → IsTrimmedStart cs (c ∷ rest ++ a.back)
-start-of cs c rest a = record { front = a.front; joined = a.joined; white = a.white_front; longest = begins-more c rest a.back a.first }
+start-of cs c rest a = record { prefix = a.prefix; joined = a.joined; white = a.white_prefix; longest = begins-more c rest a.back a.first }
 
 end-of : (cs mid rest : List ℕ) (a : IsTrimmed cs rest) → mid ≡ rest ++ a.back → IsTrimmedEnd mid rest
 end-of cs mid rest a e = record { back = a.back; joined = e; white = a.white_back; longest = a.last }
 
 not-all_white : (cs : List ℕ) (c : ℕ) (rest : List ℕ) → IsTrimmed cs [] → IsTrimmed cs (c ∷ rest) → ⊥
 not-all_white cs c rest none some =
-    let all : All IsWhiteSpace (some.front ++ (c ∷ rest ++ some.back)) = subst (All IsWhiteSpace) (sym none.joined ∙ some.joined) (All-append IsWhiteSpace none.front none.back none.white_front none.white_back) in
-    some.first c rest refl (All-head IsWhiteSpace c (rest ++ some.back) (white-back some.front (c ∷ rest ++ some.back) all))
+    let all : All IsWhiteSpace (some.prefix ++ (c ∷ rest ++ some.back)) = subst (All IsWhiteSpace) (sym none.joined ∙ some.joined) (All-append IsWhiteSpace none.prefix none.back none.white_prefix none.white_back) in
+    some.first c rest refl (All-head IsWhiteSpace c (rest ++ some.back) (white-back some.prefix (c ∷ rest ++ some.back) all))
 
 pub trimmed-same : (cs rest left : List ℕ) → IsTrimmed cs rest → IsTrimmed cs left → rest ≡ left
 trimmed-same cs [] [] a b = refl

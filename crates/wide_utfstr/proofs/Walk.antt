@@ -7,9 +7,9 @@ use Rattle.std.proofs.Math.Seq.{drop-append_seam}
 use Rattle.std.specs.Char.{IsScalar}
 use Rattle.wide_unit.specs.EncodingForm.{EncodingForm, code_units, encode}
 use Rattle.wide_unit.specs.Items.{items, chars, characters, IsWellFormed}
-use Rattle.wide_unit.specs.Places.{IsPlaceOf}
+use Rattle.wide_unit.specs.Offsets.{IsOffsetOf}
 use Rattle.wide_unit.specs.Laws.Ends.{items-append_left}
-use Rattle.wide_unit.specs.Laws.Places.{chars-encode, encode-chars, scalars-chars, IsPlaceOf-front}
+use Rattle.wide_unit.specs.Laws.Offsets.{chars-encode, encode-chars, scalars-chars, IsOffsetOf-prefix}
 use Rattle.wide_unit.specs.Laws.Policies.{characters-append}
 
 -- The rest of the units is the encoding of their characters from number `index` on, and the text has at least that
@@ -50,19 +50,19 @@ module _ (form : EncodingForm) (us : List ℕ) (well : IsWellFormed form us) whe
     left-shorter = omega (arith, left-length)
 
     -- The offset that was reached.
-    pub left-place : (place : ℕ) → place + length rest ≡ length us → IsPlaceOf form us index place
-    left-place place e =
-        let long : length (encode form (take index (chars form us))) ≡ place = omega (arith, left-length) in
-        subst (λ n. IsPlaceOf form us index n) long (IsPlaceOf-front form us well index)
+    pub left-offset : (offset : ℕ) → offset + length rest ≡ length us → IsOffsetOf form us index offset
+    left-offset offset e =
+        let long : length (encode form (take index (chars form us))) ≡ offset = omega (arith, left-length) in
+        subst (λ n. IsOffsetOf form us index n) long (IsOffsetOf-prefix form us well index)
 
     -- The rest after a prefix of so many characters.
-    pub left-front : (front others : List ℕ) (count : ℕ) → front ++ others ≡ rest → IsWellFormed form front → IsWellFormed form others → count ≡ length (chars form front) → count + index ≤ length (chars form us) × IsLeftFrom form us others (index + count)
-    left-front front others count joined before after counted =
-        let split : drop index (chars form us) ≡ chars form front ++ chars form others =
-        sym chars-left ∙ ap (chars form) (sym joined) ∙ ap characters (items-append_left form front others before) ∙ characters-append (items form front) (items form others)
+    pub left-prefix : (prefix others : List ℕ) (count : ℕ) → prefix ++ others ≡ rest → IsWellFormed form prefix → IsWellFormed form others → count ≡ length (chars form prefix) → count + index ≤ length (chars form us) × IsLeftFrom form us others (index + count)
+    left-prefix prefix others count joined before after counted =
+        let split : drop index (chars form us) ≡ chars form prefix ++ chars form others =
+        sym chars-left ∙ ap (chars form) (sym joined) ∙ ap characters (items-append_left form prefix others before) ∙ characters-append (items form prefix) (items form others)
         in
-        let later : drop (index + count) (chars form us) ≡ chars form others = sym (drop-drop count index (chars form us)) ∙ ap (drop count) split ∙ ap (λ n. drop n (chars form front ++ chars form others)) counted ∙ drop-append_seam (chars form front) (chars form others) in
-        let within : count + index ≤ length (chars form us) = omega (arith, left.within, counted, ap length split, length-append (chars form front) (chars form others), length-drop index (chars form us)) in (
+        let later : drop (index + count) (chars form us) ≡ chars form others = sym (drop-drop count index (chars form us)) ∙ ap (drop count) split ∙ ap (λ n. drop n (chars form prefix ++ chars form others)) counted ∙ drop-append_seam (chars form prefix) (chars form others) in
+        let within : count + index ≤ length (chars form us) = omega (arith, left.within, counted, ap length split, length-append (chars form prefix) (chars form others), length-drop index (chars form us)) in (
           within,
           record {
             characters = sym (encode-chars form others after) ∙ ap (encode form) (sym later);

@@ -8,7 +8,7 @@ use Rattle.std.specs.List.{flat_map, list_all}
 use Rattle.wide_unit.specs.Texts.{escape_debug}
 use Rattle.wide_unit.specs.Utf8.{utf8}
 use Rattle.wide_unit.specs.declared.unit.Unit.{Ghosts}
-use Rattle.wide_utfstr.specs.Hand.{hand_rest, hand_left}
+use Rattle.wide_utfstr.specs.Pending.{pending_rest, pending_left}
 use Rattle.wide_utfstr.specs.View.{text_seen}
 use Rattle.wide_utfstr.specs.declared.escapes.Escapes.{Escapes}
 use Rattle.wide_utfstr.specs.declared.escapes.EscapeUnicode.{EscapeUnicode}
@@ -27,11 +27,11 @@ module _ {C : Type 0} {g : Ghosts C} where
   -- The rest of the escape that was partly read, and the escapes of the characters after it, given the escape of each
   -- character.
   abbrev pub escapes_left : (ℕ → List ℕ) → Escapes C g → List ℕ
-  escapes_left escaped s = hand_rest escape_rest s.current ++ flat_map escaped (escapes_rest s)
+  escapes_left escaped s = pending_rest escape_rest s.current ++ flat_map escaped (escapes_rest s)
 
   -- A bound on the number of characters to be yielded: ten for each escape.
   abbrev pub escapes_most : Escapes C g → ℕ
-  escapes_most s = hand_left escape_left s.current + 10 * length (escapes_rest s)
+  escapes_most s = pending_left escape_left s.current + 10 * length (escapes_rest s)
 
   abbrev pub unicode_left : EscapeUnicode C g → List ℕ
   unicode_left s = escapes_left escape_unicode s.escapes

@@ -2,7 +2,7 @@
 use Rattle.std.specs.Prelude.{ℕ, ◌+◌, List, [], ◌∷◌, length}
 use Rattle.wide_unit.specs.EncodingForm.{EncodingForm, code_units}
 
--- Each character with its offset, in units: the first at `place`, and each next one after the units of the one before.
+-- Each character with its offset, in units: the first at `offset`, and each next one after the units of the one before.
 abbrev pub indexed_chars : EncodingForm → ℕ → List ℕ → List (ℕ × ℕ)
-indexed_chars form place [] = []
-indexed_chars form place (c ∷ cs) = (place, c) ∷ indexed_chars form (place + length (code_units form c)) cs
+indexed_chars form offset [] = []
+indexed_chars form offset (c ∷ cs) = (offset, c) ∷ indexed_chars form (offset + length (code_units form c)) cs

@@ -4,5 +4,5 @@ pub mod Trim
 pub mod Indexed
 pub mod Iter
 pub mod Split
-pub mod Hand
+pub mod Pending
 pub mod Escapes

@@ -2,16 +2,16 @@
 use Rattle.std.specs.Prelude.{ℕ, List}
 use Rattle.wide_unit.specs.EncodingForm.{EncodingForm, code_units}
 use Rattle.wide_unit.specs.declared.unit.Unit.{Ghosts}
-use Rattle.wide_ustr.specs.Split.{pieces_left}
+use Rattle.wide_ustr.specs.Split.{substrings_left}
 use Rattle.wide_ustr.specs.declared.split.Split.{Split}
 use Rattle.wide_utfstr.specs.View.{numbers_seen}
 use Rattle.wide_utfstr.specs.declared.view.UtfStr.{UtfStr}
 
 module _ {C : Type 0} {g : Ghosts C} where
   -- The substrings of text that is split at a text.
-  abbrev pub text_pieces_left : (C → ℕ) → Split (UtfStr C g) (UtfStr C g) → List (List ℕ)
-  text_pieces_left number s = pieces_left (numbers_seen number) (numbers_seen number) s
+  abbrev pub text_substrings_left : (C → ℕ) → Split (UtfStr C g) (UtfStr C g) → List (List ℕ)
+  text_substrings_left number s = substrings_left (numbers_seen number) (numbers_seen number) s
 
   -- The substrings of text that is split at a character.
-  abbrev pub char_pieces_left : EncodingForm → (C → ℕ) → Split (UtfStr C g) ℕ → List (List ℕ)
-  char_pieces_left form number s = pieces_left (numbers_seen number) (code_units form) s
+  abbrev pub char_substrings_left : EncodingForm → (C → ℕ) → Split (UtfStr C g) ℕ → List (List ℕ)
+  char_substrings_left form number s = substrings_left (numbers_seen number) (code_units form) s

@@ -15,9 +15,9 @@ EndsWithText cs = (c : ℕ) (others : List ℕ) → cs ≡ others ++ c ∷ [] �
 
 -- The rest of the characters after their longest prefix of White_Space.
 pub record IsTrimmedStart (cs rest : List ℕ) : Type 0 where
-  pub front : List ℕ
-  pub joined : cs ≡ front ++ rest
-  pub white : All IsWhiteSpace front
+  pub prefix : List ℕ
+  pub joined : cs ≡ prefix ++ rest
+  pub white : All IsWhiteSpace prefix
   pub longest : BeginsWithText rest
 
 -- The rest of the characters before their longest suffix of White_Space.
@@ -29,20 +29,20 @@ pub record IsTrimmedEnd (cs rest : List ℕ) : Type 0 where
 
 -- The rest of the characters between their longest prefix and their longest suffix of White_Space.
 pub record IsTrimmed (cs rest : List ℕ) : Type 0 where
-  pub front : List ℕ
+  pub prefix : List ℕ
   pub back : List ℕ
-  pub joined : cs ≡ front ++ (rest ++ back)
-  pub white_front : All IsWhiteSpace front
+  pub joined : cs ≡ prefix ++ (rest ++ back)
+  pub white_prefix : All IsWhiteSpace prefix
   pub white_back : All IsWhiteSpace back
   pub first : BeginsWithText rest
   pub last : EndsWithText rest
 
 -- `rest` is a suffix of the units, a prefix of them, or a sublist between other units.
 abbrev pub IsBackOf : {C : Type 0} → List C → List C → Type 0
-IsBackOf {C} us rest = (front : List C) × (us ≡ front ++ rest)
+IsBackOf {C} us rest = (prefix : List C) × (us ≡ prefix ++ rest)
 
-abbrev pub IsFrontOf : {C : Type 0} → List C → List C → Type 0
-IsFrontOf {C} us rest = (back : List C) × (us ≡ rest ++ back)
+abbrev pub IsPrefixOf : {C : Type 0} → List C → List C → Type 0
+IsPrefixOf {C} us rest = (back : List C) × (us ≡ rest ++ back)
 
 abbrev pub IsMiddleOf : {C : Type 0} → List C → List C → Type 0
-IsMiddleOf {C} us rest = (front : List C) × (back : List C) × (us ≡ front ++ (rest ++ back))
+IsMiddleOf {C} us rest = (prefix : List C) × (back : List C) × (us ≡ prefix ++ (rest ++ back))

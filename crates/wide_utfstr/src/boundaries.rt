@@ -10,30 +10,30 @@ impl<C: Unit> UtfStr<'_, C> {
     /// Returns the last character boundary at or before an offset in units. That is the offset itself, or the one
     /// before it if it is within a surrogate pair (Unicode Standard, D75), or the end if it is past the end. It reads
     /// at most one unit.
-    pub fn floor_char_boundary(self, place: usize) -> usize
-        ensures { IsFloorBoundary C.form (map C.number (units_seen self.entry)) place result }
+    pub fn floor_char_boundary(self, offset: usize) -> usize
+        ensures { IsFloorBoundary C.form (map C.number (units_seen self.entry)) offset result }
     {
-        if place >= self.len() {
+        if offset >= self.len() {
             self.len()
-        } else if self.is_char_boundary(place) {
-            place
+        } else if self.is_char_boundary(offset) {
+            offset
         } else {
-            place - 1
+            offset - 1
         }
     }
 
     /// Returns the first character boundary at or after an offset in units. That is the offset itself, or the one after
     /// it if it is within a surrogate pair (Unicode Standard, D75), or the end if it is past the end. It reads at most
     /// one unit.
-    pub fn ceil_char_boundary(self, place: usize) -> usize
-        ensures { IsCeilBoundary C.form (map C.number (units_seen self.entry)) place result }
+    pub fn ceil_char_boundary(self, offset: usize) -> usize
+        ensures { IsCeilBoundary C.form (map C.number (units_seen self.entry)) offset result }
     {
-        if place >= self.len() {
+        if offset >= self.len() {
             self.len()
-        } else if self.is_char_boundary(place) {
-            place
+        } else if self.is_char_boundary(offset) {
+            offset
         } else {
-            place + 1
+            offset + 1
         }
     }
 }

@@ -4,22 +4,22 @@ ghost use Rattle.std.specs.Str.{chars as str_chars};
 ghost use Rattle.wide_utfstr.specs.View.{text_seen};
 
 use crate::view::{Utf16Str, Utf32Str, UtfStr};
-use wide_blocks::{decode_front, encode_front};
+use wide_conversions::{to_utf8_prefix, utf16_to_scalars_prefix};
 use wide_unit::Unit;
 
 // The most bytes, or scalar values, that are compared in one step.
-const PIECE: usize = 256;
+const CHUNK: usize = 256;
 
 // Returns whether two texts have the same characters. In UTF-32 the units are the characters.
 fn same_text(narrow: Utf16Str<'_>, wide: Utf32Str<'_>) -> bool
     ensures { IsTrue result ↔ (text_seen narrow.entry ≡ text_seen wide.entry) }
 {
-    let mut piece = [0; PIECE];
+    let mut chunk = [0; CHUNK];
     let mut units = narrow.as_slice();
     let mut scalars = wide.as_slice();
-    'pieces: while !units.is_empty() {
-        let (read, written) = decode_front(units, &mut piece);
-        let Some(rest) = scalars.strip_prefix(&piece[..written]) else {
+    'chunks: while !units.is_empty() {
+        let (read, written) = utf16_to_scalars_prefix(units, &mut chunk);
+        let Some(rest) = scalars.strip_prefix(&chunk[..written]) else {
             return false;
         };
         (_, units) = units.split_at(read);
@@ -34,12 +34,12 @@ impl<C: Unit> UtfStr<'_, C> {
     pub fn eq_str(self, text: &str) -> bool
         ensures { IsTrue result ↔ (text_seen self.entry ≡ str_chars text.now) }
     {
-        let mut piece = [0; PIECE];
+        let mut chunk = [0; CHUNK];
         let mut ours = self.as_slice();
         let mut theirs = text.as_bytes();
-        'pieces: while !ours.is_empty() {
-            let (read, written) = encode_front(ours, &mut piece);
-            let Some(rest) = theirs.strip_prefix(&piece[..written]) else {
+        'chunks: while !ours.is_empty() {
+            let (read, written) = to_utf8_prefix(ours, &mut chunk);
+            let Some(rest) = theirs.strip_prefix(&chunk[..written]) else {
                 return false;
             };
             (_, ours) = ours.split_at(read);

@@ -10,7 +10,7 @@ ghost use Rattle.std.specs.List.{flat_map, list_all};
 ghost use Rattle.std.specs.Option.{ForSome};
 ghost use Rattle.wide_unit.specs.Texts.{escape_debug};
 ghost use Rattle.wide_unit.specs.Utf8.{utf8};
-ghost use Rattle.wide_utfstr.specs.Hand.{hand_rest};
+ghost use Rattle.wide_utfstr.specs.Pending.{pending_rest};
 ghost use Rattle.wide_utfstr.specs.View.{text_seen};
 
 use crate::view::UtfStr;
@@ -24,11 +24,11 @@ trait Escaping {
     // The escape of a character, and for which characters the contract specifies it.
     ghost escaped: { ℕ → List ℕ };
 
-    ghost is_told: { ℕ → Bool };
+    ghost is_reported: { ℕ → Bool };
 
     // Returns the escape of a character.
     fn escape(c: char) -> char::EscapeUnicode
-        ensures rest { is_told c ≡ true → escape_rest result ≡ escaped c }
+        ensures rest { is_reported c ≡ true → escape_rest result ≡ escaped c }
         ensures bound { escape_end result ≤ 10 }
         ensures some { 0 < escape_left result };
 }
@@ -39,7 +39,7 @@ struct AsUnicode;
 impl Escaping for AsUnicode {
     ghost escaped = { escape_unicode };
 
-    ghost is_told = { λ _. true };
+    ghost is_reported = { λ _. true };
 
     fn escape(c: char) -> char::EscapeUnicode {
         c.escape_unicode()
@@ -52,7 +52,7 @@ struct AsDefault;
 impl Escaping for AsDefault {
     ghost escaped = { escape_default };
 
-    ghost is_told = { λ _. true };
+    ghost is_reported = { λ _. true };
 
     fn escape(c: char) -> char::EscapeUnicode {
         c.escape_default()
@@ -65,7 +65,7 @@ struct AsDebug;
 impl Escaping for AsDebug {
     ghost escaped = { escape_debug };
 
-    ghost is_told = { is_ascii };
+    ghost is_reported = { is_ascii };
 
     fn escape(c: char) -> char::EscapeUnicode {
         c.escape_debug()
@@ -73,13 +73,13 @@ impl Escaping for AsDebug {
 }
 
 // Writes the rest of an escape that was partly read, if there is one.
-fn write_hand<W: fmt::Write>(
+fn write_pending<W: fmt::Write>(
     f: &mut fmt::Formatter<W>,
     current: Option<char::EscapeUnicode>,
 ) -> fmt::Result
     requires { ForSome current (λ e. escape_end e ≤ 10) }
-    ensures writes { WritesOnOk W.write_str_gives f.old result (encode_utf8_all (hand_rest escape_rest current)) f.new }
-    ensures styled { WritesStyledOnOk W.write_str_gives f.old result (encode_utf8_all (hand_rest escape_rest current)) f.new }
+    ensures writes { WritesOnOk W.write_str_gives f.old result (encode_utf8_all (pending_rest escape_rest current)) f.new }
+    ensures styled { WritesStyledOnOk W.write_str_gives f.old result (encode_utf8_all (pending_rest escape_rest current)) f.new }
 {
     match current {
         Some(escape) => write_escape(f, escape),
@@ -122,8 +122,8 @@ impl<'a, C: Unit> Escapes<'a, C> {
 
     // Returns the next character, with the characters that were not read yet escaped as `E` does it.
     fn next<E: Escaping>(&mut self) -> Option<char>
-        ensures first { list_all E.is_told (escapes_rest self.old) ≡ true → YieldsFirst (escapes_left E.escaped) self.old result self.new }
-        ensures told { list_all E.is_told (escapes_rest self.old) ≡ true → list_all E.is_told (escapes_rest self.new) ≡ true }
+        ensures first { list_all E.is_reported (escapes_rest self.old) ≡ true → YieldsFirst (escapes_left E.escaped) self.old result self.new }
+        ensures reported { list_all E.is_reported (escapes_rest self.old) ≡ true → list_all E.is_reported (escapes_rest self.new) ≡ true }
         ensures fewer { IfSome result (λ _. escapes_most self.new < escapes_most self.old) }
         ensures ended { IfNone result ((escapes_most self.old ≡ 0) × (escapes_most self.new ≡ 0)) }
     {
@@ -143,10 +143,10 @@ impl<'a, C: Unit> Escapes<'a, C> {
 
     // Writes the characters that were not read yet, escaped as `E` does it. It ignores the format options.
     fn write<E: Escaping, W: fmt::Write>(&self, f: &mut fmt::Formatter<W>) -> fmt::Result
-        ensures writes { list_all E.is_told (escapes_rest self.now) ≡ true → WritesOnOk W.write_str_gives f.old result (utf8 (escapes_left E.escaped self.now)) f.new }
-        ensures styled { list_all E.is_told (escapes_rest self.now) ≡ true → WritesStyledOnOk W.write_str_gives f.old result (utf8 (escapes_left E.escaped self.now)) f.new }
+        ensures writes { list_all E.is_reported (escapes_rest self.now) ≡ true → WritesOnOk W.write_str_gives f.old result (utf8 (escapes_left E.escaped self.now)) f.new }
+        ensures styled { list_all E.is_reported (escapes_rest self.now) ≡ true → WritesStyledOnOk W.write_str_gives f.old result (utf8 (escapes_left E.escaped self.now)) f.new }
     {
-        write_hand(f, self.current)?;
+        write_pending(f, self.current)?;
         for c in self.rest.chars() {
             write_escape(f, E::escape(c))?;
         }
@@ -155,7 +155,7 @@ impl<'a, C: Unit> Escapes<'a, C> {
 
     // Writes the characters that were not read yet, escaped as `E` does it, between quotes.
     fn write_quoted<E: Escaping, W: fmt::Write>(&self, f: &mut fmt::Formatter<W>) -> fmt::Result
-        ensures { list_all E.is_told (escapes_rest self.now) ≡ true → WritesOnOk W.write_str_gives f.old result (in_quotes (utf8 (escapes_left E.escaped self.now))) f.new }
+        ensures { list_all E.is_reported (escapes_rest self.now) ≡ true → WritesOnOk W.write_str_gives f.old result (in_quotes (utf8 (escapes_left E.escaped self.now))) f.new }
     {
         f.write_str("\"")?;
         self.write::<E, W>(f)?;

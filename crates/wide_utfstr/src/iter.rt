@@ -157,11 +157,11 @@ impl<C: Unit> Iterator for CharIndices<'_, C> {
     #[inline]
     fn next(&mut self) -> Option<(usize, char)> {
         let (c, others) = self.text.split_first_char()?;
-        let place = self.offset;
+        let offset = self.offset;
         let taken = self.text.len() - others.len();
         self.text = others;
-        self.offset = place + taken;
-        Some((place, c))
+        self.offset = offset + taken;
+        Some((offset, c))
     }
 
     fn size_hint(&self) -> (usize, Option<usize>)

@@ -5,7 +5,7 @@ ghost use Rattle.wide_utfstr.specs.View.{units_seen, text_seen};
 
 use crate::view::UtfStr;
 use std::alloc::Allocator;
-use wide_blocks::utf8_string;
+use wide_conversions::utf8_string;
 use wide_error::OutOfMemory;
 use wide_unit::Unit;
 

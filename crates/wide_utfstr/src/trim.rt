@@ -1,6 +1,6 @@
 //! Removal of White_Space at the ends of well-formed text.
 ghost use Rattle.wide_utfstr.specs.View.{units_seen, text_seen};
-ghost use Rattle.wide_utfstr.specs.Trim.{IsTrimmedStart, IsTrimmedEnd, IsTrimmed, IsBackOf, IsFrontOf, IsMiddleOf};
+ghost use Rattle.wide_utfstr.specs.Trim.{IsTrimmedStart, IsTrimmedEnd, IsTrimmed, IsBackOf, IsPrefixOf, IsMiddleOf};
 
 use crate::view::UtfStr;
 use wide_unit::Unit;
@@ -26,7 +26,7 @@ impl<C: Unit> UtfStr<'_, C> {
     /// is empty if all characters are White_Space. It reads that suffix and one more character.
     pub fn trim_end(self) -> Self
         ensures trimmed { IsTrimmedEnd (text_seen self.entry) (text_seen result) }
-        ensures part { IsFrontOf (units_seen self.entry) (units_seen result) }
+        ensures part { IsPrefixOf (units_seen self.entry) (units_seen result) }
     {
         let mut rest = self;
         while let Some((others, c)) = rest.split_last_char() {

@@ -5,7 +5,7 @@ ghost use Rattle.std.specs.List.{All};
 ghost use Rattle.wide_unit.specs.EncodingForm.{Utf16, Utf32, code_units, encode};
 ghost use Rattle.wide_unit.specs.Utf8.{utf8};
 ghost use Rattle.wide_unit.specs.Items.{chars, IsWellFormed, IsFirstFault, IsBoundary};
-ghost use Rattle.wide_unit.specs.Places.{IsPlaceOf, IsCharBoundary, IsTextPart, IsCharPart};
+ghost use Rattle.wide_unit.specs.Offsets.{IsOffsetOf, IsCharBoundary, IsTextPart, IsCharPart};
 ghost use Rattle.wide_utferror.specs.UtfError.{index_of, item_of, unit_of, vec_of};
 ghost use Rattle.wide_iter.specs.Encoder8.{bytes_left};
 ghost use Rattle.wide_iter.specs.Encoder16.{units_left as units16_left};
@@ -91,13 +91,13 @@ impl<'a, C: Unit> UtfStr<'a, C> {
     /// Returns whether an offset in units is a character boundary: it is between two characters, or at an end of the
     /// text. It is not one if it is within a surrogate pair (Unicode Standard, D75) or past the end. It reads at most
     /// the unit at the offset.
-    pub fn is_char_boundary(self, place: usize) -> bool
-        ensures boundary { IsTrue result ↔ IsBoundary C.form (map C.number (units_seen self.entry)) place }
-        ensures char_boundary { IsTrue result ↔ IsCharBoundary C.form (map C.number (units_seen self.entry)) place }
+    pub fn is_char_boundary(self, offset: usize) -> bool
+        ensures boundary { IsTrue result ↔ IsBoundary C.form (map C.number (units_seen self.entry)) offset }
+        ensures char_boundary { IsTrue result ↔ IsCharBoundary C.form (map C.number (units_seen self.entry)) offset }
     {
-        match self.units.get(place) {
+        match self.units.get(offset) {
             Some(unit) => !unit.is_low(),
-            None => place == self.units.len(),
+            None => offset == self.units.len(),
         }
     }
 
@@ -114,7 +114,7 @@ impl<'a, C: Unit> UtfStr<'a, C> {
     /// one block after it.
     pub fn unit_offset(self, index: usize) -> Option<usize>
         ensures some { IsSome result ↔ (index ≤ length (text_seen self.entry)) }
-        ensures place { IfSome result (IsPlaceOf C.form (map C.number (units_seen self.entry)) index) }
+        ensures offset { IfSome result (IsOffsetOf C.form (map C.number (units_seen self.entry)) index) }
         ensures char_boundary { IfSome result (IsCharBoundary C.form (map C.number (units_seen self.entry))) }
     {
         let mut rest = self;
@@ -126,8 +126,8 @@ impl<'a, C: Unit> UtfStr<'a, C> {
             } else {
                 BLOCK - 1
             };
-            let (front, others) = rest.split_at(end);
-            let count = front.char_count();
+            let (prefix, others) = rest.split_at(end);
+            let count = prefix.char_count();
             if count > index - passed {
                 break 'counted;
             }
@@ -149,10 +149,10 @@ impl<'a, C: Unit> UtfStr<'a, C> {
         ensures char_range { R.has_bounds range → IsSome result ↔ IsCharPart C.form C.number (units_seen self.entry) (R.start_bound range) (R.end_bound range) }
         ensures part { R.has_bounds range → IfSome result (λ part. units_seen part ≡ part_of (units_seen self.entry) (R.start_bound range) (R.end_bound range)) }
     {
-        let places = range_check(range, self.units.len())?;
-        if self.is_char_boundary(places.start) && self.is_char_boundary(places.end) {
+        let offsets = range_check(range, self.units.len())?;
+        if self.is_char_boundary(offsets.start) && self.is_char_boundary(offsets.end) {
             return Some(UtfStr {
-                units: &self.units[places.start..places.end],
+                units: &self.units[offsets.start..offsets.end],
             });
         }
         None
@@ -169,9 +169,9 @@ impl<'a, C: Unit> UtfStr<'a, C> {
         requires at_boundaries { IsCharPart C.form C.number (units_seen self) (R.start_bound range) (R.end_bound range) }
         ensures { units_seen result ≡ part_of (units_seen self.entry) (R.start_bound range) (R.end_bound range) }
     {
-        let places = slice::range(range, ..self.units.len());
+        let offsets = slice::range(range, ..self.units.len());
         UtfStr {
-            units: &self.units[places.start..places.end],
+            units: &self.units[offsets.start..offsets.end],
         }
     }
 
@@ -197,12 +197,12 @@ impl<'a, C: Unit> UtfStr<'a, C> {
     /// The offset is a character boundary: it is at most the length, and not between the two surrogates of a pair.
     pub fn split_at(self, mid: usize) -> (Self, Self)
         requires { IsCharBoundary C.form (map C.number (units_seen self)) mid }
-        ensures front { units_seen result.0 ≡ take mid (units_seen self.entry) }
+        ensures prefix { units_seen result.0 ≡ take mid (units_seen self.entry) }
         ensures back { units_seen result.1 ≡ drop mid (units_seen self.entry) }
         ensures joined { units_seen result.0 ++ units_seen result.1 ≡ units_seen self.entry }
     {
-        let (front, back) = self.units.split_at(mid);
-        (UtfStr { units: front }, UtfStr { units: back })
+        let (prefix, back) = self.units.split_at(mid);
+        (UtfStr { units: prefix }, UtfStr { units: back })
     }
 
     /// Returns an iterator over the characters, from both ends.

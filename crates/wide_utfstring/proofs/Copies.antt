@@ -9,8 +9,8 @@ use Rattle.wide_utferror.specs.declared.error.UtfError.{UtfError}
 use Rattle.wide_utfstring.specs.Faults.{IsFaultOf, IsFaultOfCopy}
 
 module _ (form : EncodingForm) (copy units : List ℕ) (same : copy ≡ units) where
-  pub fault-of_copy : {A : Type 0} (room : ℕ) (e : UtfError ℕ A)
-      → ((vec : Vec ℕ A) × (vec.items ≡ copy) × (vec_capacity vec ≡ room) × IsFaultOf form (λ u. u) vec e) → IsFaultOfCopy form units e
-  fault-of_copy room e told =
-      let (vec, items, capacity, fault) = told in
+  pub fault-of_copy : {A : Type 0} (space : ℕ) (e : UtfError ℕ A)
+      → ((vec : Vec ℕ A) × (vec.items ≡ copy) × (vec_capacity vec ≡ space) × IsFaultOf form (λ u. u) vec e) → IsFaultOfCopy form units e
+  fault-of_copy space e reported =
+      let (vec, items, capacity, fault) = reported in
       (subst (λ us. IsFirstFault form us (index_of e) (item_of e) (unit_of e)) (map-id vec.items ∙ items ∙ same) fault.0, vec, items ∙ same, fault.1)

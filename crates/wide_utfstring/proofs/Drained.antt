@@ -9,8 +9,8 @@ use Rattle.std.proofs.Math.Seq.{take-append_seam}
 use Rattle.std.specs.List.{splice}
 use Rattle.wide_unit.specs.EncodingForm.{EncodingForm, code_units, encode}
 use Rattle.wide_unit.specs.Items.{chars, IsWellFormed}
-use Rattle.wide_unit.specs.Places.{IsPlaceOf}
-use Rattle.wide_unit.specs.Laws.Places.{IsPlaceOf-front, encode-chars, IsWellFormed-take, IsWellFormed-drop, IsBoundary-within}
+use Rattle.wide_unit.specs.Offsets.{IsOffsetOf}
+use Rattle.wide_unit.specs.Laws.Offsets.{IsOffsetOf-prefix, encode-chars, IsWellFormed-take, IsWellFormed-drop, IsBoundary-within}
 use Rattle.wide_unit.specs.Laws.Splices.{chars-nil}
 
 -- A string without a range is shorter, or the range was empty.
@@ -40,19 +40,19 @@ module _ {X : Type 0} (xs : List X) (from to n : ℕ) (fits : from + n ≤ to) w
 -- Well-formed units by their first character, and by their last one.
 module _ (form : EncodingForm) (us : List ℕ) (well : IsWellFormed form us) (c : ℕ) (cs : List ℕ) where
   module _ (e : chars form us ≡ c ∷ cs) where
-    first_place : IsPlaceOf form us 1 (length (code_units form c))
-    first_place =
+    first_offset : IsOffsetOf form us 1 (length (code_units form c))
+    first_offset =
         let count : length (encode form (take 1 (chars form us))) ≡ length (code_units form c) = ap (λ ds. length (encode form (take 1 ds))) e ∙ ap length (append-nil (code_units form c)) in
-        subst (λ n. IsPlaceOf form us 1 n) count (IsPlaceOf-front form us well 1)
+        subst (λ n. IsOffsetOf form us 1 n) count (IsOffsetOf-prefix form us well 1)
 
     first_within : length (code_units form c) ≤ length us
-    first_within = IsBoundary-within form us (length (code_units form c)) first_place.boundary
+    first_within = IsBoundary-within form us (length (code_units form c)) first_offset.boundary
 
     first_well_formed : IsWellFormed form (drop (length (code_units form c)) us)
-    first_well_formed = IsWellFormed-drop form us well (length (code_units form c)) first_place.boundary
+    first_well_formed = IsWellFormed-drop form us well (length (code_units form c)) first_offset.boundary
 
     first_others : chars form (drop (length (code_units form c)) us) ≡ cs
-    first_others = first_place.rest ∙ ap (drop 1) e
+    first_others = first_offset.rest ∙ ap (drop 1) e
 
   module _ (e : chars form us ≡ cs ++ c ∷ []) where
     last_long : length us ≡ length (encode form cs) + length (code_units form c)
@@ -60,57 +60,57 @@ module _ (form : EncodingForm) (us : List ℕ) (well : IsWellFormed form us) (c 
         let joined : us ≡ encode form cs ++ (code_units form c ++ []) = sym (encode-chars form us well) ∙ ap (encode form) e ∙ flat_map-append (code_units form) cs (c ∷ []) in
         ap length joined ∙ length-append (encode form cs) (code_units form c ++ []) ∙ ap (λ us. length (encode form cs) + length us) (append-nil (code_units form c))
 
-    last_place : IsPlaceOf form us (length cs) (length us - length (code_units form c))
-    last_place =
-        let front : take (length cs) (chars form us) ≡ cs = ap (take (length cs)) e ∙ take-append_seam cs (c ∷ []) in
-        let count : length (encode form (take (length cs) (chars form us))) ≡ length us - length (code_units form c) = ap (λ ds. length (encode form ds)) front ∙ omega (arith, last_long) in
-        subst (λ n. IsPlaceOf form us (length cs) n) count (IsPlaceOf-front form us well (length cs))
+    last_offset : IsOffsetOf form us (length cs) (length us - length (code_units form c))
+    last_offset =
+        let prefix : take (length cs) (chars form us) ≡ cs = ap (take (length cs)) e ∙ take-append_seam cs (c ∷ []) in
+        let count : length (encode form (take (length cs) (chars form us))) ≡ length us - length (code_units form c) = ap (λ ds. length (encode form ds)) prefix ∙ omega (arith, last_long) in
+        subst (λ n. IsOffsetOf form us (length cs) n) count (IsOffsetOf-prefix form us well (length cs))
 
     last_within : length (code_units form c) ≤ length us
     last_within = omega (arith, last_long)
 
     last_well_formed : IsWellFormed form (take (length us - length (code_units form c)) us)
-    last_well_formed = IsWellFormed-take form us well (length us - length (code_units form c)) last_place.boundary
+    last_well_formed = IsWellFormed-take form us well (length us - length (code_units form c)) last_offset.boundary
 
     last_others : chars form (take (length us - length (code_units form c)) us) ≡ cs
-    last_others = last_place.front ∙ ap (take (length cs)) e ∙ take-append_seam cs (c ∷ [])
+    last_others = last_offset.prefix ∙ ap (take (length cs)) e ∙ take-append_seam cs (c ∷ [])
 
--- The units from `front` up to `back` after a character is removed from them.
-module _ {X : Type 0} (form : EncodingForm) (number : X → ℕ) (xs : List X) (front back : ℕ) (ordered : front ≤ back) (within : back ≤ length xs) (well : IsWellFormed form (map number (slice_range xs front back))) (c : ℕ) (cs : List ℕ) where
+-- The units from `prefix` up to `back` after a character is removed from them.
+module _ {X : Type 0} (form : EncodingForm) (number : X → ℕ) (xs : List X) (prefix back : ℕ) (ordered : prefix ≤ back) (within : back ≤ length xs) (well : IsWellFormed form (map number (slice_range xs prefix back))) (c : ℕ) (cs : List ℕ) where
   abbrev us : List ℕ
-  us = map number (slice_range xs front back)
+  us = map number (slice_range xs prefix back)
 
   abbrev n : ℕ
   n = length (code_units form c)
 
-  long : length us ≡ back - front
-  long = length-map (slice_range xs front back) number ∙ length-take-le (back - front) (drop front xs) (omega (arith, length-drop front xs))
+  long : length us ≡ back - prefix
+  long = length-map (slice_range xs prefix back) number ∙ length-take-le (back - prefix) (drop prefix xs) (omega (arith, length-drop prefix xs))
 
   module _ (e : chars form us ≡ c ∷ cs) where
-    front_room : front + n ≤ back
-    front_room = omega (arith, first_within form us well c cs e, long)
+    prefix_space : prefix + n ≤ back
+    prefix_space = omega (arith, first_within form us well c cs e, long)
 
-    from_front : map number (slice_range xs (front + n) back) ≡ drop n us
-    from_front = ap (map number) (slice-from xs front back n front_room) ∙ sym (drop-map number n (slice_range xs front back))
+    from_front : map number (slice_range xs (prefix + n) back) ≡ drop n us
+    from_front = ap (map number) (slice-from xs prefix back n prefix_space) ∙ sym (drop-map number n (slice_range xs prefix back))
 
-    front_well_formed : IsWellFormed form (map number (slice_range xs (front + n) back))
-    front_well_formed = subst (λ vs. IsWellFormed form vs) (sym from_front) (first_well_formed form us well c cs e)
+    prefix_well_formed : IsWellFormed form (map number (slice_range xs (prefix + n) back))
+    prefix_well_formed = subst (λ vs. IsWellFormed form vs) (sym from_front) (first_well_formed form us well c cs e)
 
-    front_others : chars form (map number (slice_range xs (front + n) back)) ≡ cs
-    front_others = ap (chars form) from_front ∙ first_others form us well c cs e
+    prefix_others : chars form (map number (slice_range xs (prefix + n) back)) ≡ cs
+    prefix_others = ap (chars form) from_front ∙ first_others form us well c cs e
 
   module _ (e : chars form us ≡ cs ++ c ∷ []) where
-    back_room : front + n ≤ back
-    back_room = omega (arith, last_within form us well c cs e, long)
+    back_space : prefix + n ≤ back
+    back_space = omega (arith, last_within form us well c cs e, long)
 
-    to_back : map number (slice_range xs front (back - n)) ≡ take (length us - n) us
+    to_back : map number (slice_range xs prefix (back - n)) ≡ take (length us - n) us
     to_back =
-        ap (map number) (slice-to xs front back n back_room) ∙ sym (take-map number (back - front - n) (slice_range xs front back)) ∙ ap (λ k. take (k - n) us) (sym long)
+        ap (map number) (slice-to xs prefix back n back_space) ∙ sym (take-map number (back - prefix - n) (slice_range xs prefix back)) ∙ ap (λ k. take (k - n) us) (sym long)
 
-    back_well_formed : IsWellFormed form (map number (slice_range xs front (back - n)))
+    back_well_formed : IsWellFormed form (map number (slice_range xs prefix (back - n)))
     back_well_formed = subst (λ vs. IsWellFormed form vs) (sym to_back) (last_well_formed form us well c cs e)
 
-    back_others : chars form (map number (slice_range xs front (back - n))) ≡ cs
+    back_others : chars form (map number (slice_range xs prefix (back - n))) ≡ cs
     back_others = ap (chars form) to_back ∙ last_others form us well c cs e
 
 -- For a string of `total` units, which may have lost some.
@@ -123,47 +123,47 @@ module _ {X Y : Type 0} (xs : List X) (total : ℕ) (there gone : Y) where
 
 -- The units that were not read yet; none once the range is removed.
 abbrev pub left_of : {X : Type 0} → List X → ℕ → ℕ → ℕ → List X
-left_of xs total front back = if nat_eq (length xs) total then slice_range xs front back else []
+left_of xs total prefix back = if nat_eq (length xs) total then slice_range xs prefix back else []
 
 module _ {X : Type 0} (form : EncodingForm) (number : X → ℕ) (xs : List X) (total : ℕ) where
-  module _ (front back : ℕ) where
+  module _ (prefix back : ℕ) where
     -- A character of `n` units was removed from the range, which now is from `first` up to `last` and has the
     -- characters `cs`.
     pub record IsTaken (n first last : ℕ) (cs : List ℕ) : Type 0 where
-      pub fits : front + n ≤ back
+      pub fits : prefix + n ≤ back
       pub part : length xs ≡ total → IsWellFormed form (map number (slice_range xs first last))
       pub rest : chars form (map number (left_of xs total first last)) ≡ cs
 
-    not_gone : (cs : List ℕ) → chars form (map number (left_of xs total front back)) ≡ cs → (cs ≡ [] → ⊥) → length xs ≡ total
+    not_gone : (cs : List ℕ) → chars form (map number (left_of xs total prefix back)) ≡ cs → (cs ≡ [] → ⊥) → length xs ≡ total
     not_gone cs e some = elim (cases_eq (length xs) total) [
       | inl same ↦ same
-      | inr other ↦ absurd (some (sym e ∙ ap (λ ys. chars form (map number ys)) (once_gone xs total (slice_range xs front back) [] other) ∙ chars-nil form))
+      | inr other ↦ absurd (some (sym e ∙ ap (λ ys. chars form (map number ys)) (once_gone xs total (slice_range xs prefix back) [] other) ∙ chars-nil form))
     ]
 
-    module _ (ordered : front ≤ back) (within : back ≤ total) (well : length xs ≡ total → IsWellFormed form (map number (slice_range xs front back))) (c : ℕ) (cs : List ℕ) (n : ℕ) (takes : n ≡ length (code_units form c)) where
-      there : length xs ≡ total → (ds : List ℕ) → chars form (map number (left_of xs total front back)) ≡ ds → chars form (map number (slice_range xs front back)) ≡ ds
-      there whole ds e = ap (λ ys. chars form (map number ys)) (sym (while_whole xs total (slice_range xs front back) [] whole)) ∙ e
+    module _ (ordered : prefix ≤ back) (within : back ≤ total) (well : length xs ≡ total → IsWellFormed form (map number (slice_range xs prefix back))) (c : ℕ) (cs : List ℕ) (n : ℕ) (takes : n ≡ length (code_units form c)) where
+      there : length xs ≡ total → (ds : List ℕ) → chars form (map number (left_of xs total prefix back)) ≡ ds → chars form (map number (slice_range xs prefix back)) ≡ ds
+      there whole ds e = ap (λ ys. chars form (map number ys)) (sym (while_whole xs total (slice_range xs prefix back) [] whole)) ∙ e
 
-      pub front_taken : chars form (map number (left_of xs total front back)) ≡ c ∷ cs → IsTaken n (front + n) back cs
-      front_taken e =
+      pub prefix_taken : chars form (map number (left_of xs total prefix back)) ≡ c ∷ cs → IsTaken n (prefix + n) back cs
+      prefix_taken e =
           let whole : length xs ≡ total = not_gone (c ∷ cs) e (λ f. cc) in
           let within_xs : back ≤ length xs = omega arith in
-          let e : chars form (map number (slice_range xs front back)) ≡ c ∷ cs = there whole (c ∷ cs) e in
-          let fits = front_room form number xs front back ordered within_xs (well whole) c cs e in
+          let e : chars form (map number (slice_range xs prefix back)) ≡ c ∷ cs = there whole (c ∷ cs) e in
+          let fits = prefix_space form number xs prefix back ordered within_xs (well whole) c cs e in
           rw takes (record {
             fits = fits;
-            part = λ _. front_well_formed form number xs front back ordered within_xs (well whole) c cs e;
-            rest = ap (λ ys. chars form (map number ys)) (while_whole xs total (slice_range xs (front + length (code_units form c)) back) [] whole) ∙ front_others form number xs front back ordered within_xs (well whole) c cs e;
+            part = λ _. prefix_well_formed form number xs prefix back ordered within_xs (well whole) c cs e;
+            rest = ap (λ ys. chars form (map number ys)) (while_whole xs total (slice_range xs (prefix + length (code_units form c)) back) [] whole) ∙ prefix_others form number xs prefix back ordered within_xs (well whole) c cs e;
           })
 
-      pub back_taken : chars form (map number (left_of xs total front back)) ≡ cs ++ c ∷ [] → IsTaken n front (back - n) cs
+      pub back_taken : chars form (map number (left_of xs total prefix back)) ≡ cs ++ c ∷ [] → IsTaken n prefix (back - n) cs
       back_taken e =
           let whole : length xs ≡ total = not_gone (cs ++ c ∷ []) e (λ f. push_not_nil cs c f) in
           let within_xs : back ≤ length xs = omega arith in
-          let e : chars form (map number (slice_range xs front back)) ≡ cs ++ c ∷ [] = there whole (cs ++ c ∷ []) e in
-          let fits = back_room form number xs front back ordered within_xs (well whole) c cs e in
+          let e : chars form (map number (slice_range xs prefix back)) ≡ cs ++ c ∷ [] = there whole (cs ++ c ∷ []) e in
+          let fits = back_space form number xs prefix back ordered within_xs (well whole) c cs e in
           rw takes (record {
             fits = fits;
-            part = λ _. back_well_formed form number xs front back ordered within_xs (well whole) c cs e;
-            rest = ap (λ ys. chars form (map number ys)) (while_whole xs total (slice_range xs front (back - length (code_units form c))) [] whole) ∙ back_others form number xs front back ordered within_xs (well whole) c cs e;
+            part = λ _. back_well_formed form number xs prefix back ordered within_xs (well whole) c cs e;
+            rest = ap (λ ys. chars form (map number ys)) (while_whole xs total (slice_range xs prefix (back - length (code_units form c))) [] whole) ∙ back_others form number xs prefix back ordered within_xs (well whole) c cs e;
           })

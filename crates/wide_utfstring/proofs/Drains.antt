@@ -7,7 +7,7 @@ use Rattle.wide_unit.specs.declared.unit.Unit.{Ghosts}
 use Rattle.wide_unit.specs.EncodingForm.{code_units}
 use Rattle.wide_utfstring.specs.Drain.{drain_rest, DrainGives, DrainGivesBack, DrainKeeps, DrainStays}
 use Rattle.wide_utfstring.specs.declared.iter.DrainUtf.{DrainUtf}
-use Rattle.wide_utfstring.proofs.Drained.{IsTaken, front_taken, back_taken}
+use Rattle.wide_utfstring.proofs.Drained.{IsTaken, prefix_taken, back_taken}
 
 module _ {C A F : Type 0} {f : Faults C F} {g : Ghosts C} where
   pub drain_in_order : YieldsInOrder (DrainGives {C = C} {A = A} {F = F} {f = f} {g = g}) drain_rest
@@ -29,7 +29,7 @@ module _ {C A F : Type 0} {f : Faults C F} {g : Ghosts C} where
   -- What remains after a character is taken from the front or from the back.
   module _ (d : DrainUtf C A F f g) (c : ℕ) (cs : List ℕ) (n : ℕ) (takes : n ≡ length (code_units g.form c)) where
     pub drain_first : drain_rest d ≡ c ∷ cs → IsTaken g.form g.number d.string.now.units d.total d.front d.back n (d.front + n) d.back cs
-    drain_first e = front_taken g.form g.number d.string.now.units d.total d.front d.back (omega (arith, d.ordered)) (omega (arith, d.ordered)) d.part c cs n takes e
+    drain_first e = prefix_taken g.form g.number d.string.now.units d.total d.front d.back (omega (arith, d.ordered)) (omega (arith, d.ordered)) d.part c cs n takes e
 
     pub drain_last : drain_rest d ≡ cs ++ c ∷ [] → IsTaken g.form g.number d.string.now.units d.total d.front d.back n d.front (d.back - n) cs
     drain_last e = back_taken g.form g.number d.string.now.units d.total d.front d.back (omega (arith, d.ordered)) (omega (arith, d.ordered)) d.part c cs n takes e

@@ -5,8 +5,8 @@ use Rattle.std.specs.List.{repeat}
 use Rattle.std.proofs.lemmas.List.{map-append, take_all, take-map, drop-map, length-map}
 use Rattle.wide_unit.specs.EncodingForm.{EncodingForm}
 use Rattle.wide_unit.specs.Items.{chars, IsBoundary, IsWellFormed}
-use Rattle.wide_unit.specs.Places.{chars_before}
-use Rattle.wide_unit.specs.Laws.Places.{IsPlaceOf-boundary}
+use Rattle.wide_unit.specs.Offsets.{chars_before}
+use Rattle.wide_unit.specs.Laws.Offsets.{IsOffsetOf-boundary}
 use Rattle.wide_unit.specs.Laws.Splices.{IsWellFormed-nil, IsWellFormed-append, IsWellFormed-map_take}
 use Rattle.wide_ustring.specs.Units.{Units}
 
@@ -29,20 +29,20 @@ module _ {X : Type 0} (form : EncodingForm) (number : X → ℕ) where
   repeated (suc n) xs well = joined xs (repeat n xs) well (repeated n xs well)
 
   -- A prefix that ends at a boundary, or past the end, is well formed.
-  pub front_of : (xs : List X) (len : ℕ) → IsWellFormed form (map number xs) → (length xs ≤ len) ⊎ IsBoundary form (map number xs) len → IsWellFormed form (map number (take len xs))
-  front_of xs len well (inl past) = subst (λ ys. IsWellFormed form (map number ys)) (sym (take_all len xs past)) well
-  front_of xs len well (inr at) = IsWellFormed-map_take form number xs well len at
+  pub prefix_of : (xs : List X) (len : ℕ) → IsWellFormed form (map number xs) → (length xs ≤ len) ⊎ IsBoundary form (map number xs) len → IsWellFormed form (map number (take len xs))
+  prefix_of xs len well (inl past) = subst (λ ys. IsWellFormed form (map number ys)) (sym (take_all len xs past)) well
+  prefix_of xs len well (inr at) = IsWellFormed-map_take form number xs well len at
 
   -- The characters of such a prefix.
-  pub front_text : (xs : List X) (len : ℕ) → IsWellFormed form (map number xs) → (length xs ≤ len) ⊎ IsBoundary form (map number xs) len
+  pub prefix_text : (xs : List X) (len : ℕ) → IsWellFormed form (map number xs) → (length xs ≤ len) ⊎ IsBoundary form (map number xs) len
       → chars form (map number (take len xs)) ≡ take (chars_before form (map number xs) len) (chars form (map number xs))
-  front_text xs len well (inl past) =
+  prefix_text xs len well (inl past) =
       let us = map number xs in
       let whole : take len us ≡ us = take_all len us (omega (arith, past, length-map xs number)) in
       ap (chars form) (ap (map number) (take_all len xs past)) ∙ sym (ap (λ vs. take (length (chars form vs)) (chars form us)) whole ∙ take_all (length (chars form us)) (chars form us) (omega arith))
-  front_text xs len well (inr at) = ap (chars form) (sym (take-map number len xs)) ∙ (IsPlaceOf-boundary form (map number xs) well len at).front
+  prefix_text xs len well (inr at) = ap (chars form) (sym (take-map number len xs)) ∙ (IsOffsetOf-boundary form (map number xs) well len at).prefix
 
   -- The characters after a boundary.
-  pub rest_text : (xs : List X) (place : ℕ) → IsWellFormed form (map number xs) → IsBoundary form (map number xs) place
-      → chars form (map number (drop place xs)) ≡ drop (chars_before form (map number xs) place) (chars form (map number xs))
-  rest_text xs place well at = ap (chars form) (sym (drop-map number place xs)) ∙ (IsPlaceOf-boundary form (map number xs) well place at).rest
+  pub rest_text : (xs : List X) (offset : ℕ) → IsWellFormed form (map number xs) → IsBoundary form (map number xs) offset
+      → chars form (map number (drop offset xs)) ≡ drop (chars_before form (map number xs) offset) (chars form (map number xs))
+  rest_text xs offset well at = ap (chars form) (sym (drop-map number offset xs)) ∙ (IsOffsetOf-boundary form (map number xs) well offset at).rest

@@ -10,14 +10,14 @@ use Rattle.wide_unit.specs.EncodingForm.{EncodingForm, code_units, encode}
 use Rattle.wide_unit.specs.Segmentation.{Item, Char, Fault}
 use Rattle.wide_unit.specs.Items.{items, characters, IsWellFormed, IsFirstFault}
 use Rattle.wide_unit.specs.Lossy.{lossy, lossy_runs, lossy_by}
-use Rattle.wide_unit.specs.Laws.Policies.{encode-lossy_by, well_formed-lossy_by, lossy_by-split, characters-append, characters-of_row}
+use Rattle.wide_unit.specs.Laws.Policies.{encode-lossy_by, well_formed-lossy_by, lossy_by-split, characters-append, characters-of_run}
 use Rattle.wide_unit.specs.Laws.Ends.{items-append_left}
 use Rattle.wide_unit.specs.declared.policy.Policy.{Policy}
 use Rattle.wide_unit.specs.declared.policy.Policy.TheVariants.{Each, Run, Skip}
 use Rattle.wide_unit.specs.declared.unit.Unit.{Ghosts}
-use Rattle.wide_unit.proofs.Faults.{first_fault-not_well_formed, first_fault-front, first_fault-first}
+use Rattle.wide_unit.proofs.Faults.{first_fault-not_well_formed, first_fault-prefix, first_fault-first}
 use Rattle.wide_ustr.specs.LossyWith.{BeginsPastFaults}
-use Rattle.wide_ustr.proofs.FaultRows.{runs_first}
+use Rattle.wide_ustr.proofs.FaultRuns.{runs_first}
 use Rattle.wide_ustring.specs.Units.{Units}
 use Rattle.wide_utfstr.specs.View.{units_seen}
 use Rattle.wide_utfstr.specs.declared.view.UtfStr.{UtfStr}
@@ -26,98 +26,98 @@ use Rattle.wide_utfstring.specs.declared.cow.CowUtfStr.TheVariants.{Borrowed, Ow
 
 -- If a list consists of a prefix and filler, writing other elements over the filler gives the prefix and those
 -- elements.
-pub taken_back : {C : Type 0} (now front fill ys more : List C) (index m k n : ℕ) → now ≡ take m front ++ fill → length front ≡ index → index ≤ m → n ≡ index + length ys → take n (put_mid index k now ys ++ more) ≡ front ++ ys
-taken_back now front fill ys more index m k n is long within all =
-    let begins : now ≡ front ++ fill = is ∙ ap (λ xs. xs ++ fill) (take_all m front (omega arith)) in
-    let enough : index ≤ length now = omega (arith, ap length begins, length-append front fill) in
+pub taken_back : {C : Type 0} (now prefix fill ys more : List C) (index m k n : ℕ) → now ≡ take m prefix ++ fill → length prefix ≡ index → index ≤ m → n ≡ index + length ys → take n (put_mid index k now ys ++ more) ≡ prefix ++ ys
+taken_back now prefix fill ys more index m k n is long within all =
+    let begins : now ≡ prefix ++ fill = is ∙ ap (λ xs. xs ++ fill) (take_all m prefix (omega arith)) in
+    let enough : index ≤ length now = omega (arith, ap length begins, length-append prefix fill) in
     let filled : n ≤ length (put_mid index k now ys) = omega (arith, length-append (take index now) (ys ++ post_of index k now), length-append ys (post_of index k now), length-take index now) in
-    let first : take index now ≡ front = ap (take index) begins ∙ ap (λ n. take n (front ++ fill)) (sym long) ∙ take-append_seam front fill in
+    let first : take index now ≡ prefix = ap (take index) begins ∙ ap (λ n. take n (prefix ++ fill)) (sym long) ∙ take-append_seam prefix fill in
     take-append-le n (put_mid index k now ys) more filled ∙ take-put_mid index k now ys n all enough ∙ ap (λ xs. xs ++ ys) first
 
 -- A well-formed prefix and the repaired rest make up the lossy text.
-pub mended_text : {C : Type 0} (form : EncodingForm) (number : C → ℕ) (units front rest ys : List C) → front ++ rest ≡ units → IsWellFormed form (map number front) → length ys ≡ length rest
-    → map number (take (length rest) ys) ≡ encode form (lossy (items form (map number rest))) → map number (front ++ ys) ≡ encode form (lossy (items form (map number units)))
-mended_text form number units front rest ys whole well long mended =
-    map-append number front ys ∙ ap (λ us. map number front ++ us) (ap (map number) (sym (take_all (length rest) ys (omega arith))) ∙ mended)
-    ∙ lossy_by-split Each form number units front rest whole well
+pub repaired_text : {C : Type 0} (form : EncodingForm) (number : C → ℕ) (units prefix rest ys : List C) → prefix ++ rest ≡ units → IsWellFormed form (map number prefix) → length ys ≡ length rest
+    → map number (take (length rest) ys) ≡ encode form (lossy (items form (map number rest))) → map number (prefix ++ ys) ≡ encode form (lossy (items form (map number units)))
+repaired_text form number units prefix rest ys whole well long repaired =
+    map-append number prefix ys ∙ ap (λ us. map number prefix ++ us) (ap (map number) (sym (take_all (length rest) ys (omega arith))) ∙ repaired)
+    ∙ lossy_by-split Each form number units prefix rest whole well
 
 -- What replaces a run of faults in the text.
-abbrev pub for_row : Policy → List ℕ
-for_row Run = 0xFFFD ∷ []
-for_row _ = []
+abbrev pub for_run : Policy → List ℕ
+for_run Run = 0xFFFD ∷ []
+for_run _ = []
 
-module _ (policy : Policy) (by_rows : policy ≢ Each) where
-  past_row : (row : List ℕ) (u : ℕ) (is rest : List Item) → is ≡ map Fault (u ∷ row) ++ rest → BeginsPastFaults is rest → lossy_by policy is ≡ for_row policy ++ lossy_by policy rest
-  past_row = go policy by_rows
+module _ (policy : Policy) (by_runs : policy ≢ Each) where
+  past_run : (run : List ℕ) (u : ℕ) (is rest : List Item) → is ≡ map Fault (u ∷ run) ++ rest → BeginsPastFaults is rest → lossy_by policy is ≡ for_run policy ++ lossy_by policy rest
+  past_run = go policy by_runs
     where
-      go : (policy : Policy) → policy ≢ Each → (row : List ℕ) (u : ℕ) (is rest : List Item) → is ≡ map Fault (u ∷ row) ++ rest → BeginsPastFaults is rest → lossy_by policy is ≡ for_row policy ++ lossy_by policy rest
-      go Each isnt row u is rest e begins = absurd (isnt refl)
-      go Run isnt row u is rest e begins = ap lossy_runs e ∙ runs_first (map Fault row ++ rest) rest u (record { row = row; joined = refl; past = begins.past })
-      go Skip isnt row u is rest e begins = ap characters e ∙ characters-append (map Fault (u ∷ row)) rest ∙ ap (λ cs. cs ++ characters rest) (characters-of_row (u ∷ row))
+      go : (policy : Policy) → policy ≢ Each → (run : List ℕ) (u : ℕ) (is rest : List Item) → is ≡ map Fault (u ∷ run) ++ rest → BeginsPastFaults is rest → lossy_by policy is ≡ for_run policy ++ lossy_by policy rest
+      go Each isnt run u is rest e begins = absurd (isnt refl)
+      go Run isnt run u is rest e begins = ap lossy_runs e ∙ runs_first (map Fault run ++ rest) rest u (record { run = run; joined = refl; past = begins.past })
+      go Skip isnt run u is rest e begins = ap characters e ∙ characters-append (map Fault (u ∷ run)) rest ∙ ap (λ cs. cs ++ characters rest) (characters-of_run (u ∷ run))
 
 -- A run of faults at the beginning is not empty.
-row-some : (row : List ℕ) (u : ℕ) (is js rest : List Item) → is ≡ Fault u ∷ js → is ≡ map Fault row ++ rest → (rest ≡ []) ⊎ ((c : ℕ) × (tail : List Item) × (rest ≡ Char c ∷ tail))
+run-some : (run : List ℕ) (u : ℕ) (is js rest : List Item) → is ≡ Fault u ∷ js → is ≡ map Fault run ++ rest → (rest ≡ []) ⊎ ((c : ℕ) × (tail : List Item) × (rest ≡ Char c ∷ tail))
     → (v : ℕ) × (more : List ℕ) × (is ≡ map Fault (v ∷ more) ++ rest)
-row-some [] u is js rest head joined past = elim past [
+run-some [] u is js rest head joined past = elim past [
   | inl none ↦ (let clash : Fault u ∷ js ≡ [] = sym head ∙ joined ∙ none in cc)
   | inr some ↦ (let clash : Fault u ∷ js ≡ Char some.0 ∷ some.1 = sym head ∙ joined ∙ some.2 in cc)
 ]
-row-some (v ∷ more) u is js rest head joined past = (v, more, joined)
+run-some (v ∷ more) u is js rest head joined past = (v, more, joined)
 
 module _ (policy : Policy) (form : EncodingForm) where
-  pub with_one : (us : List ℕ) → policy ≡ Run → us ++ code_units form 0xFFFD ≡ us ++ encode form (for_row policy)
+  pub with_one : (us : List ℕ) → policy ≡ Run → us ++ code_units form 0xFFFD ≡ us ++ encode form (for_run policy)
   with_one us is = rw is (ap (λ vs. us ++ vs) (sym (append-nil (code_units form 0xFFFD))))
 
-  pub with_none : (us : List ℕ) → (policy ≡ Run → ⊥) → us ≡ us ++ encode form (for_row policy)
+  pub with_none : (us : List ℕ) → (policy ≡ Run → ⊥) → us ≡ us ++ encode form (for_run policy)
   with_none us isnt = go policy isnt
     where
-      go : (policy : Policy) → (policy ≡ Run → ⊥) → us ≡ us ++ encode form (for_row policy)
+      go : (policy : Policy) → (policy ≡ Run → ⊥) → us ≡ us ++ encode form (for_run policy)
       go Each isnt = sym (append-nil us)
       go Run isnt = absurd (isnt refl)
       go Skip isnt = sym (append-nil us)
 
 -- The units before the first fault are well formed.
-pub front_well_formed : {C : Type 0} (form : EncodingForm) (number : C → ℕ) (rest : List C) (index item u : ℕ) → IsFirstFault form (map number rest) index item u → IsWellFormed form (map number (take index rest))
-front_well_formed form number rest index item u fault = subst (IsWellFormed form) (take-map number index rest) (first_fault-front form (map number rest) index item u fault)
+pub prefix_well_formed : {C : Type 0} (form : EncodingForm) (number : C → ℕ) (rest : List C) (index item u : ℕ) → IsFirstFault form (map number rest) index item u → IsWellFormed form (map number (take index rest))
+prefix_well_formed form number rest index item u fault = subst (IsWellFormed form) (take-map number index rest) (first_fault-prefix form (map number rest) index item u fault)
 
-module _ {C : Type 0} (policy : Policy) (form : EncodingForm) (number : C → ℕ) (units rest behind : List C) (index item u : ℕ)
-    (fault : IsFirstFault form (map number rest) index item u) (begins : BeginsPastFaults (items form (map number (drop index rest))) (items form (map number behind))) where
-  row : (v : ℕ) × (more : List ℕ) × (items form (map number (drop index rest)) ≡ map Fault (v ∷ more) ++ items form (map number behind))
-  row =
+module _ {C : Type 0} (policy : Policy) (form : EncodingForm) (number : C → ℕ) (units rest beyond : List C) (index item u : ℕ)
+    (fault : IsFirstFault form (map number rest) index item u) (begins : BeginsPastFaults (items form (map number (drop index rest))) (items form (map number beyond))) where
+  run : (v : ℕ) × (more : List ℕ) × (items form (map number (drop index rest)) ≡ map Fault (v ∷ more) ++ items form (map number beyond))
+  run =
       let first = first_fault-first form (map number rest) index item u fault in
-      row-some begins.row u (items form (map number (drop index rest))) first.0 (items form (map number behind)) (ap (items form) (sym (drop-map number index rest)) ∙ first.1) begins.joined begins.past
+      run-some begins.run u (items form (map number (drop index rest))) first.0 (items form (map number beyond)) (ap (items form) (sym (drop-map number index rest)) ∙ first.1) begins.joined begins.past
 
-  front : IsWellFormed form (map number (take index rest))
-  front = front_well_formed form number rest index item u fault
+  prefix : IsWellFormed form (map number (take index rest))
+  prefix = prefix_well_formed form number rest index item u fault
 
   -- Appending the units before a fault and the replacement of its run keeps the invariant: the text made so far and the
   -- lossy text of the rest make up the whole lossy text.
-  pub lossy_row : policy ≢ Each → (text : List C) (more : List ℕ) → map number text ++ encode form (lossy_by policy (items form (map number rest))) ≡ encode form (lossy_by policy (items form (map number units)))
-      → more ≡ map number (text ++ take index rest) ++ encode form (for_row policy) → more ++ encode form (lossy_by policy (items form (map number behind))) ≡ encode form (lossy_by policy (items form (map number units)))
-  lossy_row by_rows text more so_far now =
-      let left = lossy_by policy (items form (map number behind)) in
-      let gap = encode form (for_row policy) in
+  pub lossy_run : policy ≢ Each → (text : List C) (more : List ℕ) → map number text ++ encode form (lossy_by policy (items form (map number rest))) ≡ encode form (lossy_by policy (items form (map number units)))
+      → more ≡ map number (text ++ take index rest) ++ encode form (for_run policy) → more ++ encode form (lossy_by policy (items form (map number beyond))) ≡ encode form (lossy_by policy (items form (map number units)))
+  lossy_run by_runs text more so_far now =
+      let left = lossy_by policy (items form (map number beyond)) in
+      let gap = encode form (for_run policy) in
       let piece = map number (take index rest) in
-      let faults : lossy_by policy (items form (map number (drop index rest))) ≡ for_row policy ++ left = past_row policy by_rows row.1 row.0 _ _ row.2 begins in
+      let faults : lossy_by policy (items form (map number (drop index rest))) ≡ for_run policy ++ left = past_run policy by_runs run.1 run.0 _ _ run.2 begins in
       let parts : encode form (lossy_by policy (items form (map number rest))) ≡ piece ++ (gap ++ encode form left) =
-      sym (lossy_by-split policy form number rest (take index rest) (drop index rest) (take-append-drop index rest) front) ∙ ap (λ cs. piece ++ encode form cs) faults ∙ ap (λ us. piece ++ us) (flat_map-append (code_units form) (for_row policy) left)
+      sym (lossy_by-split policy form number rest (take index rest) (drop index rest) (take-append-drop index rest) prefix) ∙ ap (λ cs. piece ++ encode form cs) faults ∙ ap (λ us. piece ++ us) (flat_map-append (code_units form) (for_run policy) left)
       in
       ap (λ us. us ++ encode form left) (now ∙ ap (λ us. us ++ gap) (map-append number text (take index rest)))
       ∙ append_assoc (map number text ++ piece) gap (encode form left) ∙ append_assoc (map number text) piece (gap ++ encode form left)
       ∙ ap (λ us. map number text ++ us) (sym parts) ∙ so_far
 
   -- The rest after the run has fewer items.
-  pub fewer_items : length (items form (map number behind)) < length (items form (map number rest))
+  pub fewer_items : length (items form (map number beyond)) < length (items form (map number rest))
   fewer_items =
       let whole : items form (map number rest) ≡ items form (map number (take index rest)) ++ items form (map number (drop index rest)) =
-      ap (λ us. items form (map number us)) (sym (take-append-drop index rest)) ∙ ap (items form) (map-append number (take index rest) (drop index rest)) ∙ items-append_left form _ _ front
+      ap (λ us. items form (map number us)) (sym (take-append-drop index rest)) ∙ ap (items form) (map-append number (take index rest) (drop index rest)) ∙ items-append_left form _ _ prefix
       in
       omega (
         arith,
         ap length whole,
         length-append (items form (map number (take index rest))) (items form (map number (drop index rest))),
-        ap length row.2,
-        length-append (map Fault (row.0 ∷ row.1)) (items form (map number behind)),
+        ap length run.2,
+        length-append (map Fault (run.0 ∷ run.1)) (items form (map number beyond)),
       )
 
 module _ {C A F : Type 0} {g : Ghosts C} (policy : Policy) (form : EncodingForm) (number : C → ℕ) (units : List C) where

@@ -7,9 +7,9 @@ use Rattle.std.proofs.Math.Seq.{drop-append_seam}
 use Rattle.wide_unit.specs.EncodingForm.{EncodingForm, code_units}
 use Rattle.wide_unit.specs.Segmentation.{Item, Char, Fault, units_of}
 use Rattle.wide_unit.specs.Items.{items, characters, chars, IsWellFormed, IsBoundary}
-use Rattle.wide_unit.specs.Places.{chars_before}
+use Rattle.wide_unit.specs.Offsets.{chars_before}
 use Rattle.wide_unit.specs.Laws.Items.{units_of-items}
-use Rattle.wide_unit.specs.Laws.Places.{scalars-chars, IsPlaceOf-boundary, IsWellFormed-take, IsWellFormed-drop}
+use Rattle.wide_unit.specs.Laws.Offsets.{scalars-chars, IsOffsetOf-boundary, IsWellFormed-take, IsWellFormed-drop}
 use Rattle.wide_unit.specs.Laws.Splices.{IsWellFormed-append, chars-append}
 use Rattle.wide_ustring.specs.Taken.{item_code, TakesFirst}
 use Rattle.wide_unit.specs.Laws.WellFormed.{no_first_fault, well_formed-rest}
@@ -28,7 +28,7 @@ module _ (form : EncodingForm) (us vs : List ℕ) (well : IsWellFormed form us) 
       let first : chars form us ≡ code ∷ chars form vs = ap characters (takes_char taken) in
       subst (λ cs. IsScalar (get_or cs 0 0)) first (scalars-chars form us well 0 0 (subst (λ cs. 0 < length cs) (sym first) (omega arith)))
 
-module _ (form : EncodingForm) (us vs : List ℕ) (at : ℕ) (well : IsWellFormed form us) (boundary : IsBoundary form us at) (front : take at vs ≡ take at us) (c : ℕ) (taken : TakesFirst form (drop at us) (drop at vs) c) where
+module _ (form : EncodingForm) (us vs : List ℕ) (at : ℕ) (well : IsWellFormed form us) (boundary : IsBoundary form us at) (prefix : take at vs ≡ take at us) (c : ℕ) (taken : TakesFirst form (drop at us) (drop at vs) c) where
   abbrev number : ℕ
   number = chars_before form us at
 
@@ -39,13 +39,13 @@ module _ (form : EncodingForm) (us vs : List ℕ) (at : ℕ) (well : IsWellForme
   rest-well_formed = well_formed-rest form (drop at us) (drop at vs) (IsWellFormed-drop form us well at boundary) c was
 
   rest-chars : drop number (chars form us) ≡ c ∷ chars form (drop at vs)
-  rest-chars = sym (IsPlaceOf-boundary form us well at boundary).rest ∙ ap characters was
+  rest-chars = sym (IsOffsetOf-boundary form us well at boundary).rest ∙ ap characters was
 
   others-chars : drop (number + 1) (chars form us) ≡ chars form (drop at vs)
   others-chars = sym (drop-drop 1 number (chars form us)) ∙ ap (drop 1) rest-chars
 
   left : vs ≡ take at us ++ drop at vs
-  left = sym (take-append-drop at vs) ∙ ap (λ xs. xs ++ drop at vs) front
+  left = sym (take-append-drop at vs) ∙ ap (λ xs. xs ++ drop at vs) prefix
 
   pub removed-well_formed : IsWellFormed form vs
   removed-well_formed =
@@ -57,7 +57,7 @@ module _ (form : EncodingForm) (us vs : List ℕ) (at : ℕ) (well : IsWellForme
   pub removed-text : chars form vs ≡ splice (chars form us) number (number + 1) []
   removed-text =
       ap (chars form) left ∙ chars-append form (take at us) (drop at vs) (IsWellFormed-take form us well at boundary)
-      ∙ ap (λ cs. cs ++ chars form (drop at vs)) (IsPlaceOf-boundary form us well at boundary).front ∙ ap (λ cs. take number (chars form us) ++ cs) (sym others-chars)
+      ∙ ap (λ cs. cs ++ chars form (drop at vs)) (IsOffsetOf-boundary form us well at boundary).prefix ∙ ap (λ cs. take number (chars form us) ++ cs) (sym others-chars)
 
   pub removed-units : vs ≡ splice us at (at + length (code_units form c)) []
   removed-units =
@@ -65,13 +65,13 @@ module _ (form : EncodingForm) (us vs : List ℕ) (at : ℕ) (well : IsWellForme
       let joined : drop at us ≡ code_units form c ++ drop at vs =
       sym (units_of-items form (drop at us)) ∙ ap (units_of form) was ∙ ap (λ xs. code_units form c ++ xs) (units_of-items form (drop at vs))
       in
-      let behind : drop (at + n) us ≡ drop at vs = sym (drop-drop n at us) ∙ ap (drop n) joined ∙ drop-append_seam (code_units form c) (drop at vs) in
-      left ∙ ap (λ xs. take at us ++ xs) (sym behind)
+      let beyond : drop (at + n) us ≡ drop at vs = sym (drop-drop n at us) ∙ ap (drop n) joined ∙ drop-append_seam (code_units form c) (drop at vs) in
+      left ∙ ap (λ xs. take at us ++ xs) (sym beyond)
 
 -- Removal of the first character, for units of any type, by their numbers.
 module _ {X : Type 0} (form : EncodingForm) (number : X → ℕ) (xs ys : List X) (at c : ℕ) where
   pub taken_of_map : TakesFirst form (map number (drop at xs)) (map number (drop at ys)) c → TakesFirst form (drop at (map number xs)) (drop at (map number ys)) c
   taken_of_map taken = rw (drop-map number at xs, drop-map number at ys) taken
 
-  pub front_of_map : take at ys ≡ take at xs → take at (map number ys) ≡ take at (map number xs)
-  front_of_map front = take-map number at ys ∙ ap (map number) front ∙ sym (take-map number at xs)
+  pub prefix_of_map : take at ys ≡ take at xs → take at (map number ys) ≡ take at (map number xs)
+  prefix_of_map prefix = take-map number at ys ∙ ap (map number) prefix ∙ sym (take-map number at xs)

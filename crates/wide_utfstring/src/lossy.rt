@@ -13,7 +13,7 @@ use std::alloc::Allocator;
 use wide_error::OutOfMemory;
 use wide_ucstr::UCStr;
 use wide_unit::{FirstFault, Policy, check};
-use wide_ustr::{UStr, behind_faults};
+use wide_ustr::{UStr, after_faults};
 use wide_ustring::UString;
 use wide_utferror::FaultUnit;
 use wide_utfstr::UtfStr;
@@ -73,24 +73,24 @@ impl<C: FaultUnit, A: Allocator> UtfString<C, A> {
         ensures capacity { IfOk result (λ s. length units.now ≤ s.capacity) }
     {
         match policy {
-            Policy::Each => UtfString::mended_copy(alloc, units, fault.index),
-            Policy::Run | Policy::Skip => { UtfString::copy_by_rows(alloc, units, fault, policy) }
+            Policy::Each => UtfString::repaired_copy(alloc, units, fault.index),
+            Policy::Run | Policy::Skip => { UtfString::copy_by_runs(alloc, units, fault, policy) }
         }
     }
 
     // Returns a copy of units that are well formed before `index`, with each fault replaced by U+FFFD.
-    fn mended_copy(alloc: A, units: &[C], index: usize) -> Result<Self, OutOfMemory>
+    fn repaired_copy(alloc: A, units: &[C], index: usize) -> Result<Self, OutOfMemory>
         requires within { index ≤ length units.now }
-        requires front { IsWellFormed C.form (map C.number (take index units.now)) }
+        requires prefix { IsWellFormed C.form (map C.number (take index units.now)) }
         ensures made { IfOk result (λ s. map C.number s.units ≡ encode C.form (lossy (items C.form (map C.number units.now)))) }
         ensures capacity { IfOk result (λ s. length units.now ≤ s.capacity) }
     {
-        let (front, rest) = units.split_at(index);
+        let (prefix, rest) = units.split_at(index);
         let mut text = Vec::new(alloc);
         text.reserve_exact(units.len())?;
-        text.extend_from_slice(front)?;
+        text.extend_from_slice(prefix)?;
         text.resize(units.len(), C::NUL)?;
-        C::mend(rest, &mut text[index..]);
+        C::repair(rest, &mut text[index..]);
         Ok(UtfString {
             string: UString::from_vec(text),
         })
@@ -98,13 +98,13 @@ impl<C: FaultUnit, A: Allocator> UtfString<C, A> {
 
     // Returns a copy of units whose first fault is given, with each longest run of faults replaced as the policy says.
     // It copies the text between the runs as a whole.
-    fn copy_by_rows(
+    fn copy_by_runs(
         alloc: A,
         units: &[C],
         fault: FirstFault<C>,
         policy: Policy,
     ) -> Result<Self, OutOfMemory>
-        requires rows { policy ≢ Each }
+        requires runs { policy ≢ Each }
         requires fault { IsFirstFault C.form (map C.number units.now) fault.index fault.item (C.number fault.unit) }
         requires within { fault.index < length units.now }
         ensures made { IfOk result (λ s. map C.number s.units ≡ encode C.form (lossy_by policy (items C.form (map C.number units.now)))) }
@@ -114,12 +114,12 @@ impl<C: FaultUnit, A: Allocator> UtfString<C, A> {
         let mut rest = units;
         let mut found = Err(fault);
         while let Err(fault) = found {
-            let (front, faults) = rest.split_at(fault.index);
-            text.push_utfstr(UtfStr::from_slice_unchecked(front))?;
+            let (prefix, faults) = rest.split_at(fault.index);
+            text.push_utfstr(UtfStr::from_slice_unchecked(prefix))?;
             if let Policy::Run = policy {
                 text.push(char::REPLACEMENT_CHARACTER)?;
             }
-            rest = behind_faults(faults);
+            rest = after_faults(faults);
             found = check(rest);
         }
         text.push_utfstr(UtfStr::from_slice_unchecked(rest))?;

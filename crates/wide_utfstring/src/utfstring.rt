@@ -3,16 +3,16 @@ ghost use Rattle.std.specs.Prelude.{◌≡◌, ◌==◌, ◌+◌, ◌-◌, ◌<�
 ghost use Rattle.wide_unit.specs.EncodingForm.{code_units, encode};
 ghost use Rattle.wide_unit.specs.Items.{chars, IsWellFormed};
 ghost use Rattle.wide_unit.specs.Utf8.{utf8};
-ghost use Rattle.wide_unit.specs.Places.{text_of, text_before, text_spliced, IsCharPart, text_replaced};
+ghost use Rattle.wide_unit.specs.Offsets.{text_of, text_before, text_spliced, IsCharPart, text_replaced};
 ghost use Rattle.wide_unit.specs.Range.{IsWithin, part_of, part_replaced};
 ghost use Rattle.std.specs.List.{splice};
 ghost use Rattle.std.specs.List.Retain.{IsFiltered};
 ghost use Rattle.std.specs.Range.Bound.{start_index, end_index};
 ghost use Rattle.std.specs.Str.{chars as str_chars};
 ghost use Rattle.wide_ustr.specs.View.{units_seen as ustr_units};
-ghost use Rattle.wide_ustring.specs.Units.{ustring_len, HasRoomFor};
+ghost use Rattle.wide_ustring.specs.Units.{ustring_len, HasSpaceFor};
 ghost use Rattle.wide_ucstr.specs.CString.{contents};
-ghost use Rattle.wide_unit.specs.Places.{IsCharBoundary, IsCharRange};
+ghost use Rattle.wide_unit.specs.Offsets.{IsCharBoundary, IsCharRange};
 ghost use Rattle.wide_utfstr.specs.View.{units_seen, text_seen};
 ghost use Rattle.wide_utferror.specs.UtfError.{index_of};
 ghost use Rattle.wide_utfstring.specs.Faults.{IsFaultOf};
@@ -85,7 +85,7 @@ impl<C: FaultUnit, A: Allocator> UtfString<C, A> {
     /// [`OutOfMemory`] if the allocation fails. It never fails if `capacity` is 0.
     pub fn with_capacity(alloc: A, capacity: usize) -> Result<Self, OutOfMemory>
         ensures units { IfOk result (λ s. s.units ≡ []) }
-        ensures room { IfOk result (λ s. capacity ≤ s.capacity) }
+        ensures space { IfOk result (λ s. capacity ≤ s.capacity) }
         ensures succeeds { capacity ≡ 0 → IsOk result }
     {
         Ok(UtfString {
@@ -297,10 +297,10 @@ impl<C: FaultUnit, A: Allocator> UtfString<C, A> {
     /// capacity.
     pub fn reserve(&mut self, more: usize) -> Result<(), OutOfMemory>
         ensures units { self.new.units ≡ self.old.units }
-        ensures room { OnOk result (HasRoomFor self.new more) }
+        ensures space { OnOk result (HasSpaceFor self.new more) }
         ensures capacity { self.old.capacity ≤ self.new.capacity }
         ensures err { OnErr result (self.new ≡ self.old) }
-        ensures succeeds { HasRoomFor self.old more → IsOk result }
+        ensures succeeds { HasSpaceFor self.old more → IsOk result }
     {
         self.string.reserve(more)
     }
@@ -314,9 +314,9 @@ impl<C: FaultUnit, A: Allocator> UtfString<C, A> {
     /// capacity.
     pub fn reserve_exact(&mut self, more: usize) -> Result<(), OutOfMemory>
         ensures units { self.new.units ≡ self.old.units }
-        ensures room { OnOk result (self.new.capacity ≡ max self.old.capacity (ustring_len self.old + more)) }
+        ensures space { OnOk result (self.new.capacity ≡ max self.old.capacity (ustring_len self.old + more)) }
         ensures err { OnErr result (self.new ≡ self.old) }
-        ensures succeeds { HasRoomFor self.old more → IsOk result }
+        ensures succeeds { HasSpaceFor self.old more → IsOk result }
     {
         self.string.reserve_exact(more)
     }
@@ -338,7 +338,7 @@ impl<C: FaultUnit, A: Allocator> UtfString<C, A> {
         ensures units { OnOk result (map C.number self.new.units ≡ map C.number self.old.units ++ code_units C.form c) }
         ensures text { OnOk result (text_of C.form C.number self.new.units ≡ text_of C.form C.number self.old.units ++ c ∷ []) }
         ensures err { OnErr result (self.new ≡ self.old) }
-        ensures succeeds { HasRoomFor self.old (length (code_units C.form c)) → IsOk result }
+        ensures succeeds { HasSpaceFor self.old (length (code_units C.form c)) → IsOk result }
         ensures capacity { self.old.capacity ≤ self.new.capacity }
     {
         self.string.push_char(c)
@@ -354,7 +354,7 @@ impl<C: FaultUnit, A: Allocator> UtfString<C, A> {
         ensures units { OnOk result (map C.number self.new.units ≡ map C.number self.old.units ++ code_units C.form c) }
         ensures text { OnOk result (text_of C.form C.number self.new.units ≡ text_of C.form C.number self.old.units ++ c ∷ []) }
         ensures err { OnErr result (self.new ≡ self.old) }
-        ensures succeeds { HasRoomFor self.old (length (code_units C.form c)) → IsOk result }
+        ensures succeeds { HasSpaceFor self.old (length (code_units C.form c)) → IsOk result }
         ensures capacity { self.old.capacity ≤ self.new.capacity }
     {
         self.push(c)
@@ -369,7 +369,7 @@ impl<C: FaultUnit, A: Allocator> UtfString<C, A> {
         ensures units { OnOk result (map C.number self.new.units ≡ map C.number self.old.units ++ encode C.form (str_chars text.now)) }
         ensures text { OnOk result (text_of C.form C.number self.new.units ≡ text_of C.form C.number self.old.units ++ str_chars text.now) }
         ensures err { OnErr result (self.new ≡ self.old) }
-        ensures succeeds { HasRoomFor self.old (length (encode C.form (str_chars text.now))) → IsOk result }
+        ensures succeeds { HasSpaceFor self.old (length (encode C.form (str_chars text.now))) → IsOk result }
         ensures capacity { self.old.capacity ≤ self.new.capacity }
     {
         self.string.push_str(text)
@@ -385,7 +385,7 @@ impl<C: FaultUnit, A: Allocator> UtfString<C, A> {
         ensures units { OnOk result (map C.number self.new.units ≡ map C.number self.old.units ++ encode C.form (str_chars text.now)) }
         ensures text { OnOk result (text_of C.form C.number self.new.units ≡ text_of C.form C.number self.old.units ++ str_chars text.now) }
         ensures err { OnErr result (self.new ≡ self.old) }
-        ensures succeeds { HasRoomFor self.old (length (encode C.form (str_chars text.now))) → IsOk result }
+        ensures succeeds { HasSpaceFor self.old (length (encode C.form (str_chars text.now))) → IsOk result }
         ensures capacity { self.old.capacity ≤ self.new.capacity }
     {
         self.push_str(text)
@@ -400,7 +400,7 @@ impl<C: FaultUnit, A: Allocator> UtfString<C, A> {
         ensures units { OnOk result (self.new.units ≡ self.old.units ++ units_seen text.entry) }
         ensures text { OnOk result (text_of C.form C.number self.new.units ≡ text_of C.form C.number self.old.units ++ text_seen text.entry) }
         ensures err { OnErr result (self.new ≡ self.old) }
-        ensures succeeds { HasRoomFor self.old (length (units_seen text.entry)) → IsOk result }
+        ensures succeeds { HasSpaceFor self.old (length (units_seen text.entry)) → IsOk result }
         ensures capacity { self.old.capacity ≤ self.new.capacity }
     {
         self.string.push(text.as_ustr())
@@ -410,7 +410,7 @@ impl<C: FaultUnit, A: Allocator> UtfString<C, A> {
     pub fn pop(&mut self) -> Option<char>
         ensures none { IsNone result ↔ (self.old.units ≡ []) }
         ensures taken { IfSome result (λ c. text_of C.form C.number self.old.units ≡ text_of C.form C.number self.new.units ++ c ∷ []) }
-        ensures front { self.new.units ≡ take (ustring_len self.new) self.old.units }
+        ensures prefix { self.new.units ≡ take (ustring_len self.new) self.old.units }
         ensures capacity { self.new.capacity ≡ self.old.capacity }
     {
         let (rest, item) = split_last(self.string.as_slice())?;
@@ -434,7 +434,7 @@ impl<C: FaultUnit, A: Allocator> UtfString<C, A> {
         ensures units { OnOk result (map C.number self.new.units ≡ splice (map C.number self.old.units) at at (code_units C.form c)) }
         ensures text { OnOk result (text_of C.form C.number self.new.units ≡ text_spliced C.form C.number self.old.units at at (c ∷ [])) }
         ensures err { OnErr result (self.new ≡ self.old) }
-        ensures succeeds { HasRoomFor self.old (length (code_units C.form c)) → IsOk result }
+        ensures succeeds { HasSpaceFor self.old (length (code_units C.form c)) → IsOk result }
         ensures capacity { self.old.capacity ≤ self.new.capacity }
     {
         self.string.insert_char(at, c)
@@ -454,7 +454,7 @@ impl<C: FaultUnit, A: Allocator> UtfString<C, A> {
         ensures units { OnOk result (self.new.units ≡ splice self.old.units at at (units_seen text.entry)) }
         ensures text { OnOk result (text_of C.form C.number self.new.units ≡ text_spliced C.form C.number self.old.units at at (text_seen text.entry)) }
         ensures err { OnErr result (self.new ≡ self.old) }
-        ensures succeeds { HasRoomFor self.old (length (units_seen text.entry)) → IsOk result }
+        ensures succeeds { HasSpaceFor self.old (length (units_seen text.entry)) → IsOk result }
         ensures capacity { self.old.capacity ≤ self.new.capacity }
     {
         self.string.insert_ustr(at, text.as_ustr())
@@ -645,14 +645,14 @@ impl<C: FaultUnit, A: Allocator> UtfString<C, A> {
         ensures stays { DrainStays result }
     {
         let len = self.string.len();
-        let places = slice::range(range, ..len);
+        let offsets = slice::range(range, ..len);
         DrainUtf {
             string: self,
             total: len,
-            start: places.start,
-            front: places.start,
-            back: places.end,
-            end: places.end,
+            start: offsets.start,
+            front: offsets.start,
+            back: offsets.end,
+            end: offsets.end,
         }
     }
 

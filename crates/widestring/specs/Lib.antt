@@ -3,7 +3,7 @@
 pub use Rattle.wide_unit.specs.EncodingForm
 pub use Rattle.wide_unit.specs.Segmentation
 pub use Rattle.wide_unit.specs.Items
-pub use Rattle.wide_unit.specs.Places
+pub use Rattle.wide_unit.specs.Offsets
 pub use Rattle.wide_unit.specs.Range
 pub use Rattle.wide_unit.specs.Lossy
 pub use Rattle.wide_unit.specs.Lines
@@ -15,12 +15,12 @@ pub use Rattle.wide_unit.specs.Utf8
 pub use Rattle.wide_unit.specs.CodePoint
 pub use Rattle.wide_unit.specs.Searches
 pub use Rattle.wide_unit.specs.Statements
-pub use Rattle.wide_search.specs.Parts
-pub use Rattle.wide_search.specs.Pieces as SearchPieces
+pub use Rattle.wide_search.specs.Occurrences
+pub use Rattle.wide_search.specs.Substrings as SearchSubstrings
 pub use Rattle.wide_search.specs.Cut as SearchCut
 pub use Rattle.wide_search.specs.Statements as SearchStatements
 pub use Rattle.wide_unit.specs.UnitBytes
-pub use Rattle.wide_error.specs.Nul as NulPlaces
+pub use Rattle.wide_error.specs.Nul as NulOffsets
 pub use Rattle.wide_error.specs.NulError
 pub use Rattle.wide_error.specs.UCStringError
 pub use Rattle.wide_error.specs.Texts as ErrorTexts
@@ -59,7 +59,7 @@ pub use Rattle.wide_ucstr.specs.Faults as CStringFaults
 pub use Rattle.wide_ucstr.specs.Statements as CStringStatements
 pub use Rattle.wide_ucstring.specs.CowCString
 pub use Rattle.wide_ucstring.specs.Made
-pub use Rattle.wide_ucstring.specs.Refused
+pub use Rattle.wide_ucstring.specs.Rejected
 pub use Rattle.wide_utfstr.specs.View
 pub use Rattle.wide_utfstr.specs.Iter
 pub use Rattle.wide_utfstr.specs.Split as TextSplit
@@ -78,7 +78,7 @@ pub use Rattle.wide_bytes.specs.Bytes
 pub use Rattle.wide_bytes.specs.Devices
 pub use Rattle.wide_bytes.specs.FromRead
 pub use Rattle.wide_bytes.specs.FromWrite
-pub use Rattle.wide_bytes.specs.Pieces
+pub use Rattle.wide_bytes.specs.Chunks
 pub use Rattle.wide_bytes.specs.Run
 pub use Rattle.wide_bytes.specs.Transcoded
 pub use Rattle.wide_bytes.specs.UnitsOfBytes

@@ -68,16 +68,16 @@ enum WideLossy {
 };
 
 /*
- * Byte orders of UTF-16 in bytes: little endian, the low byte first, or big endian. WIDE_NO_MARK is not an order:
- * wide_bytes_order returns it if there is no BOM.
+ * Byte orders of UTF-16 in bytes: little endian, the low byte first, or big endian. WIDE_NO_BOM is not an order:
+ * wide_utf16_bytes_order returns it if there is no BOM.
  *
- * An order is passed as a 32-bit number. For any other number, also for WIDE_NO_MARK, wide_bytes_certain and
- * wide_bytes_ends_in_fault return 0, and the other functions return WIDE_FAULT. A buffer is unchanged then.
+ * An order is passed as a 32-bit number. For any other number, also for WIDE_NO_BOM, wide_utf16_bytes_complete and
+ * wide_utf16_bytes_end_in_fault return 0, and the other functions return WIDE_FAULT. A buffer is unchanged then.
  */
 enum WideOrder {
     WIDE_LITTLE_ENDIAN = 0,
     WIDE_BIG_ENDIAN = 1,
-    WIDE_NO_MARK = 2
+    WIDE_NO_BOM = 2
 };
 
 /* Returns the offset of the first ill-formed unit of UTF-16, or `length` if there is none. */
@@ -157,60 +157,60 @@ size_t wide_utf16_to_utf8_lossy_with(const uint16_t *units, size_t length, uint3
  * UTF-16 in bytes (Unicode Standard, D96 and D97). `length` is in bytes. The bytes need no alignment. Only whole units
  * are read: an odd last byte is ignored, unless a function says otherwise.
  *
- * A stream is converted chunk by chunk. Once the first two bytes have been read, call wide_bytes_order. If there is a
- * BOM, drop its two bytes. If it returns WIDE_NO_MARK, choose an order. The caller keeps three things: the order, a
+ * A stream is converted chunk by chunk. Once the first two bytes have been read, call wide_utf16_bytes_order. If there
+ * is a BOM, drop its two bytes. If it returns WIDE_NO_BOM, choose an order. The caller keeps three things: the order, a
  * number `after_fault`, which is 0 at first, and a buffer. The buffer starts with the bytes left over from the previous
  * chunk, none at first, and the bytes of the next chunk follow them. For each chunk:
  *
- *     certain = wide_bytes_certain(buffer, length, order);
- *     needed = wide_bytes_to_utf8_lossy_with(buffer, certain, order, policy, after_fault, text, capacity);
- *     after_fault = wide_bytes_ends_in_fault(buffer, certain, order, after_fault);
- *     memmove(buffer, buffer + certain, length - certain);
+ *     complete = wide_utf16_bytes_complete(buffer, length, order);
+ *     needed = wide_utf16_bytes_to_utf8_lossy_with(buffer, complete, order, policy, after_fault, text, capacity);
+ *     after_fault = wide_utf16_bytes_end_in_fault(buffer, complete, order, after_fault);
+ *     memmove(buffer, buffer + complete, length - complete);
  *
  * If `needed` is greater than the capacity, repeat the second line with a larger buffer before the third line: it takes
  * the old `after_fault`. At the end of the stream convert all bytes that are left, at most three. The results, one
  * after another, are the text of the whole stream. If an odd number of bytes is left, the stream ends in half a unit.
  *
- * A chunk had ill-formed units if wide_bytes_first_fault of its `certain` bytes is less than certain / 2. The same call
- * finds ill-formed units in the bytes left at the end. `after_fault` reports only the last unit. A reader that rejects
- * ill-formed units calls wide_bytes_to_utf8 instead of the lossy function, stops at WIDE_FAULT, and needs no
- * `after_fault`.
+ * A chunk had ill-formed units if wide_utf16_bytes_first_fault of its `complete` bytes is less than complete / 2. The
+ * same call finds ill-formed units in the bytes left at the end. `after_fault` reports only the last unit. A reader
+ * that rejects ill-formed units calls wide_utf16_bytes_to_utf8 instead of the lossy function, stops at WIDE_FAULT, and
+ * needs no `after_fault`.
  */
 
-/* Returns the order of the BOM at the start (Unicode Standard, section 23.8), or WIDE_NO_MARK if there is none. */
-uint32_t wide_bytes_order(const uint8_t *bytes, size_t length);
+/* Returns the order of the BOM at the start (Unicode Standard, section 23.8), or WIDE_NO_BOM if there is none. */
+uint32_t wide_utf16_bytes_order(const uint8_t *bytes, size_t length);
 
 /*
  * Returns how many bytes at the start are whole units whose meaning no later bytes can change: all whole units, except
  * a last high surrogate. At most three bytes follow them. Returns 0 if the order is invalid.
  */
-size_t wide_bytes_certain(const uint8_t *bytes, size_t length, uint32_t order);
+size_t wide_utf16_bytes_complete(const uint8_t *bytes, size_t length, uint32_t order);
 
 /*
  * Returns the offset, in units, of the first ill-formed unit, or length / 2 if there is none. Returns WIDE_FAULT if the
  * order is invalid.
  */
-size_t wide_bytes_first_fault(const uint8_t *bytes, size_t length, uint32_t order);
+size_t wide_utf16_bytes_first_fault(const uint8_t *bytes, size_t length, uint32_t order);
 
 /*
  * Returns 1 if the last whole unit is ill-formed, and 0 if it is not. If there are no whole units, it returns 0 if
  * `after_fault` is 0, and else 1. `after_fault` describes the unit before the bytes: 0 if it is well formed or there is
  * none, any other number if it is ill-formed. Returns 0 if the order is invalid.
  */
-uint32_t wide_bytes_ends_in_fault(const uint8_t *bytes, size_t length, uint32_t order, uint32_t after_fault);
+uint32_t wide_utf16_bytes_end_in_fault(const uint8_t *bytes, size_t length, uint32_t order, uint32_t after_fault);
 
 /*
  * Converts bytes of well-formed UTF-16 to UTF-8. Returns WIDE_FAULT if the number of bytes is odd, the units are
  * ill-formed, or the order is invalid.
  */
-size_t wide_bytes_to_utf8(const uint8_t *bytes, size_t length, uint32_t order, uint8_t *text, size_t capacity);
+size_t wide_utf16_bytes_to_utf8(const uint8_t *bytes, size_t length, uint32_t order, uint8_t *text, size_t capacity);
 
 /*
  * Converts the whole units of any bytes to UTF-8, and replaces ill-formed units by the policy. `after_fault` describes
  * the unit before the bytes: 0 if it is well formed or there is none, any other number if it is ill-formed. Returns
  * WIDE_FAULT if the order or the policy is invalid.
  */
-size_t wide_bytes_to_utf8_lossy_with(const uint8_t *bytes, size_t length, uint32_t order, uint32_t policy, uint32_t after_fault, uint8_t *text, size_t capacity);
+size_t wide_utf16_bytes_to_utf8_lossy_with(const uint8_t *bytes, size_t length, uint32_t order, uint32_t policy, uint32_t after_fault, uint8_t *text, size_t capacity);
 
 /* Converts well-formed UTF-32 to UTF-8. Returns WIDE_FAULT if the units are ill-formed. */
 size_t wide_utf32_to_utf8(const uint32_t *units, size_t length, uint8_t *text, size_t capacity);

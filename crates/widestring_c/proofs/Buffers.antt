@@ -20,13 +20,13 @@ module _ (first : List ℕ) (from : ℕ) (all : List ℕ) where
 
   module _ (old new bs rest : List ℕ) (at end : ℕ) where
     pub one_more : Puts first from all at old (bs ++ rest) → end ≡ min (at + length bs) (2 ^ 64 - 1) → (end ≤ length old → take end new ≡ take at old ++ bs) → length new ≡ length old → Puts first from all end new rest
-    one_more w place text room =
+    one_more w offset text space =
         let longer : length (bs ++ rest) ≡ length bs + length rest = length-append bs rest in
         record {
-          most = omega (arith, place);
-          counted = omega (arith, w.most, w.counted, place, longer);
+          most = omega (arith, offset);
+          counted = omega (arith, w.most, w.counted, offset, longer);
           written = λ fits.
-              ap (λ xs. xs ++ rest) (text (omega (arith, fits, room))) ∙ append_assoc (take at old) bs rest ∙ w.written (omega (arith, fits, room, place, w.most));
+              ap (λ xs. xs ++ rest) (text (omega (arith, fits, space))) ∙ append_assoc (take at old) bs rest ∙ w.written (omega (arith, fits, space, offset, w.most));
         }
 
   pub counted_all : (out : List ℕ) (at : ℕ) → Puts first from all at out [] → at ≡ min (from + length all) (2 ^ 64 - 1)
@@ -38,14 +38,14 @@ module _ (first : List ℕ) (from : ℕ) (all : List ℕ) where
 -- one more chunk of elements that stand for numbers
 module _ {X : Type 0} (number : X → ℕ) where
   pub one_more_by : (first : List ℕ) (from : ℕ) (all : List ℕ) (old new : List X) (bs rest : List ℕ) (at end : ℕ) → Puts first from all at (map number old) (bs ++ rest) → end ≡ min (at + length bs) (2 ^ 64 - 1) → (end ≤ length old → map number (take end new) ≡ map number (take at old) ++ bs) → length new ≡ length old → Puts first from all end (map number new) rest
-  one_more_by first from all old new bs rest at end w place text room =
-      one_more first from all (map number old) (map number new) bs rest at end w place
+  one_more_by first from all old new bs rest at end w offset text space =
+      one_more first from all (map number old) (map number new) bs rest at end w offset
       (λ fits. take-map number end new ∙ text (omega (arith, fits, length-map old number)) ∙ ap (λ xs. xs ++ bs) (sym (take-map number at old)))
-      (omega (arith, room, length-map new number, length-map old number))
+      (omega (arith, space, length-map new number, length-map old number))
 
   pub one_more_of : (first : List ℕ) (from : ℕ) (all : List ℕ) (old new bs : List X) (rest : List ℕ) (at end : ℕ) → Puts first from all at (map number old) (map number bs ++ rest) → end ≡ min (at + length bs) (2 ^ 64 - 1) → (end ≤ length old → take end new ≡ take at old ++ bs) → length new ≡ length old → Puts first from all end (map number new) rest
-  one_more_of first from all old new bs rest at end w place text room =
-      one_more_by first from all old new (map number bs) rest at end w (omega (arith, place, length-map bs number)) (λ fits. ap (map number) (text fits) ∙ map-append number (take at old) bs) room
+  one_more_of first from all old new bs rest at end w offset text space =
+      one_more_by first from all old new (map number bs) rest at end w (omega (arith, offset, length-map bs number)) (λ fits. ap (map number) (text fits) ∙ map-append number (take at old) bs) space
 
   pub written_all_of : (first : List X) (from : ℕ) (all : List ℕ) (out : List X) (at : ℕ) → Puts (map number first) from all at (map number out) [] → at ≤ length out → map number (take at out) ≡ map number (take from first) ++ all
   written_all_of first from all out at w fits =
@@ -54,11 +54,11 @@ module _ {X : Type 0} (number : X → ℕ) where
 pub nothing_written : (all out : List ℕ) → Writing all 0 out all
 nothing_written all out = record { most = omega arith; counted = omega arith; written = λ fits. refl }
 
-pub counted_front : (all out : List ℕ) (at : ℕ) → Writing all at out [] → at ≡ min (length all) (2 ^ 64 - 1)
-counted_front all out at w = omega (arith, counted_all [] 0 all out at w)
+pub counted_prefix : (all out : List ℕ) (at : ℕ) → Writing all at out [] → at ≡ min (length all) (2 ^ 64 - 1)
+counted_prefix all out at w = omega (arith, counted_all [] 0 all out at w)
 
 -- the elements after the offset are unchanged after one more chunk
-pub behind_more : {X : Type 0} (first old new : List X) (more at end : ℕ) → at ≤ 2 ^ 64 - 1 → end ≡ min (at + more) (2 ^ 64 - 1) → drop at old ≡ drop at first → drop end new ≡ drop end old → drop end new ≡ drop end first
-behind_more first old new more at end most place before put =
-    let sum : at + (end - at) ≡ end = omega (arith, place, most) in
+pub after_more : {X : Type 0} (first old new : List X) (more at end : ℕ) → at ≤ 2 ^ 64 - 1 → end ≡ min (at + more) (2 ^ 64 - 1) → drop at old ≡ drop at first → drop end new ≡ drop end old → drop end new ≡ drop end first
+after_more first old new more at end most offset before put =
+    let sum : at + (end - at) ≡ end = omega (arith, offset, most) in
     put ∙ subst (λ e. drop e old ≡ drop e first) sum (sym (drop-drop (end - at) at old) ∙ ap (drop (end - at)) before ∙ drop-drop (end - at) at first)

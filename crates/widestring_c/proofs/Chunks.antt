@@ -11,17 +11,17 @@ use Rattle.wide_unit.specs.Utf8.{utf8, utf8_bytes}
 use Rattle.wide_unit.specs.Laws.Items.{items-nil}
 use Rattle.wide_unit.specs.declared.policy.Policy.{Policy}
 use Rattle.wide_unit.specs.declared.policy.Policy.TheVariants.{Each, Run, Skip}
-use Rattle.wide_blocks.specs.Parts.{IsLossyFront, none, utf8_items, utf8_items-divide, utf8_items-unique}
-use Rattle.wide_blocks.proofs.LossyItems.{lossy-behind_text, lossy-rest}
+use Rattle.wide_conversions.specs.Utf8Items.{IsLossyPrefix, none, utf8_items, utf8_items-divide, utf8_items-unique}
+use Rattle.wide_conversions.proofs.LossyItems.{lossy-after_text, lossy-rest}
 
 -- the text of the prefix, the units of some items after it, and the text of the rest
-pub lossy_front : (form : EncodingForm) (policy : Policy) (bs us : List ℕ) (n m : ℕ) (after between next : Bool) → n ≤ length bs → IsUtf8 (take n bs) → (n ≡ 0 → between ≡ after) → (1 ≤ n → between ≡ false)
-    → IsLossyFront form policy (drop n bs) m between next [] us
+pub lossy_prefix : (form : EncodingForm) (policy : Policy) (bs us : List ℕ) (n m : ℕ) (after between next : Bool) → n ≤ length bs → IsUtf8 (take n bs) → (n ≡ 0 → between ≡ after) → (1 ≤ n → between ≡ false)
+    → IsLossyPrefix form policy (drop n bs) m between next [] us
     → encode form (lossy_after policy after (utf8_items bs)) ≡ encode form (chars (take n bs)) ++ (us ++ encode form (lossy_after policy next (utf8_items (drop m (drop n bs)))))
-lossy_front form policy bs us n m after between next within text same other items =
+lossy_prefix form policy bs us n m after between next within text same other items =
     let cs = chars (take n bs) in
     let rest = lossy_after policy between (utf8_items (drop n bs)) in
-    ap (encode form) (lossy-behind_text policy bs n after between within text same other) ∙ flat_map-append (code_units form) cs rest ∙ ap (λ vs. encode form cs ++ vs) (lossy-rest form policy (drop n bs) [] us m between next items)
+    ap (encode form) (lossy-after_text policy bs n after between within text same other) ∙ flat_map-append (code_units form) cs rest ∙ ap (λ vs. encode form cs ++ vs) (lossy-rest form policy (drop n bs) [] us m between next items)
 
 -- no bytes have no lossy text
 pub no_text : (policy : Policy) (after : Bool) → lossy_after policy after [] ≡ []

@@ -9,7 +9,7 @@ use Rattle.wide_bytes.specs.Encoded.{IsCutShort}
 use Rattle.wide_bytes.specs.declared.order.BoM.{BoM}
 use Rattle.wide_bytes.proofs.Certain.{high-cut}
 use Rattle.wide_bytes.proofs.Pairs.{length-units_in}
-use Rattle.wide_bytes.proofs.UnitsHeld.{units_in-take}
+use Rattle.wide_bytes.proofs.UnitsPending.{units_in-take}
 
 -- a unit and its two bytes
 unit-at : (order : BoM) (q : ℕ) (bytes : List ℕ) → 2 * q + 2 ≤ length bytes → get_or (units_in order bytes) q 0 ≡ unit_in order (get_or bytes (2 * q) 0) (get_or bytes (2 * q + 1) 0)
@@ -39,36 +39,36 @@ cut-before_high order bytes n u even long is high more =
     subst (λ m. IsCut Utf16 (units_in order (take m bytes)) (units_in order (drop m bytes ++ more))) twice (high-cut order bytes (units_in order bytes) (n / 2) refl (omega (arith, twice, long)) first more)
 
 -- no pair is split after a unit that is not a high surrogate
-behind-plain : (us vs : List ℕ) (q : ℕ) → length us ≡ suc q → get_or us q 0 / 0x400 ≢ 54 → IsCut Utf16 us vs
-behind-plain us vs q long plain front back h l ends begins pair =
-    let at : length front ≡ q = omega (arith, long, ap length ends, length-append front (h ∷ [])) in
-    let last : get_or us q 0 ≡ h = ap (λ xs. get_or xs q 0) ends ∙ ap (λ m. get_or (front ++ h ∷ []) m 0) (sym at ∙ omega arith) ∙ get_or-append-add front (h ∷ []) 0 0 in
+beyond-plain : (us vs : List ℕ) (q : ℕ) → length us ≡ suc q → get_or us q 0 / 0x400 ≢ 54 → IsCut Utf16 us vs
+beyond-plain us vs q long plain prefix back h l ends begins pair =
+    let at : length prefix ≡ q = omega (arith, long, ap length ends, length-append prefix (h ∷ [])) in
+    let last : get_or us q 0 ≡ h = ap (λ xs. get_or xs q 0) ends ∙ ap (λ m. get_or (prefix ++ h ∷ []) m 0) (sym at ∙ omega arith) ∙ get_or-append-add prefix (h ∷ []) 0 0 in
     let is : IsHighSurrogate Utf16 h = (IsPair-parts Utf16 h l pair).0 in
     plain (omega (arith, last, is.0, is.1))
 
 no-units : (vs : List ℕ) → IsCut Utf16 [] vs
 no-units vs [] back h l ends begins pair = absurd cc
-no-units vs (x ∷ front) back h l ends begins pair = absurd cc
+no-units vs (x ∷ prefix) back h l ends begins pair = absurd cc
 
-pub cut-at_front : (order : BoM) (bytes vs : List ℕ) → IsCut Utf16 (units_in order (take 0 bytes)) vs
+pub cut-at_prefix : (order : BoM) (bytes vs : List ℕ) → IsCut Utf16 (units_in order (take 0 bytes)) vs
 unfolding units_in
-cut-at_front order bytes vs = no-units vs
+cut-at_prefix order bytes vs = no-units vs
 
-pub cut-behind_plain : (order : BoM) (bytes : List ℕ) (n u : ℕ) → n % 2 ≡ 0 → 2 ≤ n → n ≤ length bytes → u ≡ unit_in order (get_or bytes (n - 2) 0) (get_or bytes (n - 1) 0) → u / 0x400 ≢ 54
+pub cut-after_plain : (order : BoM) (bytes : List ℕ) (n u : ℕ) → n % 2 ≡ 0 → 2 ≤ n → n ≤ length bytes → u ≡ unit_in order (get_or bytes (n - 2) 0) (get_or bytes (n - 1) 0) → u / 0x400 ≢ 54
     → (vs : List ℕ) → IsCut Utf16 (units_in order (take n bytes)) vs
-cut-behind_plain order bytes n u even some within is plain vs =
+cut-after_plain order bytes n u even some within is plain vs =
     let q = n / 2 - 1 in
-    let front = units_in order (take n bytes) in
-    let long : length front ≡ suc q = omega (arith, length-units_in order (take n bytes), length-take-le n bytes within) in
+    let prefix = units_in order (take n bytes) in
+    let long : length prefix ≡ suc q = omega (arith, length-units_in order (take n bytes), length-take-le n bytes within) in
     let halves : 2 * (n / 2) ≡ n = omega (arith, even) in
-    let taken : front ≡ take (n / 2) (units_in order bytes) = ap (λ m. units_in order (take m bytes)) (sym halves) ∙ units_in-take order (n / 2) bytes in
+    let taken : prefix ≡ take (n / 2) (units_in order bytes) = ap (λ m. units_in order (take m bytes)) (sym halves) ∙ units_in-take order (n / 2) bytes in
     let at : (n - 2) / 2 ≡ q = omega (arith, even, some) in
     let next : n - 2 + 1 ≡ n - 1 = omega (arith, some) in
-    let last : get_or front q 0 ≡ u =
+    let last : get_or prefix q 0 ≡ u =
     ap (λ xs. get_or xs q 0) taken ∙ get_or-take (n / 2) (units_in order bytes) q 0 (omega (arith, some, even)) ∙ ap (λ m. get_or (units_in order bytes) m 0) (sym at) ∙ unit-of order (n - 2) bytes (omega (arith, even, some)) (omega (arith, some, within))
     ∙ ap (λ m. unit_in order (get_or bytes (n - 2) 0) (get_or bytes m 0)) next ∙ sym is
     in
-    behind-plain front vs q long (λ e. plain (ap (λ v. v / 0x400) (sym last) ∙ e))
+    beyond-plain prefix vs q long (λ e. plain (ap (λ v. v / 0x400) (sym last) ∙ e))
 
 -- ---- what is left after such an offset
 
@@ -79,9 +79,9 @@ cut-short order (a ∷ b ∷ []) short high = high (omega arith)
 cut-short order (a ∷ b ∷ c ∷ []) short high = high (omega arith)
 cut-short order (a ∷ b ∷ c ∷ d ∷ rest) short high = absurd (omega arith)
 
-pub cut-short_behind : (order : BoM) (bytes : List ℕ) (n : ℕ) → n ≤ length bytes → length bytes < n + 4 → (n + 2 ≤ length bytes → IsHighSurrogate Utf16 (unit_in order (get_or bytes n 0) (get_or bytes (n + 1) 0)))
+pub cut-short_after : (order : BoM) (bytes : List ℕ) (n : ℕ) → n ≤ length bytes → length bytes < n + 4 → (n + 2 ≤ length bytes → IsHighSurrogate Utf16 (unit_in order (get_or bytes n 0) (get_or bytes (n + 1) 0)))
     → IsCutShort order (drop n bytes)
-cut-short_behind order bytes n within short high =
+cut-short_after order bytes n within short high =
     let long = length-drop n bytes in
     let first : get_or bytes n 0 ≡ get_or (drop n bytes) 0 0 = ap (λ m. get_or bytes m 0) (omega arith) ∙ sym (get_or-drop n bytes 0 0) in
     let second : get_or bytes (n + 1) 0 ≡ get_or (drop n bytes) 1 0 = sym (get_or-drop n bytes 1 0) in

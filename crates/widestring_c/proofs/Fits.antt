@@ -13,11 +13,11 @@ use Rattle.wide_unit.specs.declared.policy.Policy.{Policy}
 use Rattle.wide_unit.specs.declared.policy.Policy.TheVariants.{Each, Run, Skip}
 use Rattle.wide_unit.specs.Laws.Forms.{one_unit, two_units}
 use Rattle.wide_unit.specs.Laws.Lossy.{length-lossy}
-use Rattle.wide_unit.specs.Laws.Places.{encode-chars}
+use Rattle.wide_unit.specs.Laws.Offsets.{encode-chars}
 use Rattle.wide_unit.specs.Laws.Utf8.{utf8-encode_utf8_all}
 use Rattle.wide_unit.specs.Laws.Utf32.{encode32}
-use Rattle.wide_blocks.specs.Laws.Parts.{shorter-part}
-use Rattle.wide_blocks.specs.Parts.{AreUtf8Items, none, character, part, utf8_items, utf8_items-divide}
+use Rattle.wide_conversions.specs.Laws.Utf8Items.{shorter-part}
+use Rattle.wide_conversions.specs.Utf8Items.{AreUtf8Items, none, character, part, utf8_items, utf8_items-divide}
 use Rattle.widestring_c.proofs.Windows.{bytes_of}
 
 -- a character has at least as many bytes in UTF-8 as units in the other forms

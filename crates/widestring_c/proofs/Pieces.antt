@@ -20,39 +20,39 @@ use Rattle.widestring_c.proofs.Chunks.{no_text}
 
 -- half a unit has no units, so no pair is split before it
 pub cut-before_half : (order : BoM) (us bytes : List ℕ) → length bytes < 2 → IsCut Utf16 us (units_in order bytes)
-cut-before_half order us bytes short front back h l ends begins pair = let none : [] ≡ l ∷ back = sym (units_in-short order bytes short) ∙ begins in absurd cc
+cut-before_half order us bytes short prefix back h l ends begins pair = let none : [] ≡ l ∷ back = sym (units_in-short order bytes short) ∙ begins in absurd cc
 
 pub cut-before_none : (order : BoM) (us bytes : List ℕ) → IsCut Utf16 us (units_in order (bytes ++ [])) → IsCut Utf16 us (units_in order bytes)
 cut-before_none order us bytes cut = subst (λ bs. IsCut Utf16 us (units_in order bs)) (append-nil bytes) cut
 
 -- the items of a chunk and of the bytes after it
-items-joined : (order : BoM) (front back : List ℕ) → length front % 2 ≡ 0 → IsCut Utf16 (units_in order front) (units_in order back)
-    → items Utf16 (units_in order (front ++ back)) ≡ items Utf16 (units_in order front) ++ items Utf16 (units_in order back)
-items-joined order front back even cut = ap (items Utf16) (units_in-append order front back even) ∙ items-append Utf16 (units_in order front) (units_in order back) cut
+items-joined : (order : BoM) (prefix back : List ℕ) → length prefix % 2 ≡ 0 → IsCut Utf16 (units_in order prefix) (units_in order back)
+    → items Utf16 (units_in order (prefix ++ back)) ≡ items Utf16 (units_in order prefix) ++ items Utf16 (units_in order back)
+items-joined order prefix back even cut = ap (items Utf16) (units_in-append order prefix back even) ∙ items-append Utf16 (units_in order prefix) (units_in order back) cut
 
-even-front : (bytes : List ℕ) (n : ℕ) → n % 2 ≡ 0 → n ≤ length bytes → length (take n bytes) % 2 ≡ 0
-even-front bytes n even within = omega (arith, even, length-take-le n bytes within)
+even-prefix : (bytes : List ℕ) (n : ℕ) → n % 2 ≡ 0 → n ≤ length bytes → length (take n bytes) % 2 ≡ 0
+even-prefix bytes n even within = omega (arith, even, length-take-le n bytes within)
 
 pub items-parted : (order : BoM) (bytes : List ℕ) (n : ℕ) → n % 2 ≡ 0 → n ≤ length bytes → IsCut Utf16 (units_in order (take n bytes)) (units_in order (drop n bytes))
     → items Utf16 (units_in order bytes) ≡ items Utf16 (units_in order (take n bytes)) ++ items Utf16 (units_in order (drop n bytes))
 items-parted order bytes n even within cut =
-    ap (λ bs. items Utf16 (units_in order bs)) (sym (take-append-drop n bytes)) ∙ items-joined order (take n bytes) (drop n bytes) (even-front bytes n even within) cut
+    ap (λ bs. items Utf16 (units_in order bs)) (sym (take-append-drop n bytes)) ∙ items-joined order (take n bytes) (drop n bytes) (even-prefix bytes n even within) cut
 
 -- ---- lossy text
 
 module _ (policy : Policy) (after : Bool) where
-  pub text-joined : (order : BoM) (front back : List ℕ) → length front % 2 ≡ 0 → IsCut Utf16 (units_in order front) (units_in order back)
-      → lossy_text policy after (units_in order (front ++ back)) ≡ lossy_text policy after (units_in order front) ++ lossy_text policy (faulty after (units_in order front)) (units_in order back)
-  text-joined order front back even cut =
-      let a = items Utf16 (units_in order front) in
+  pub text-joined : (order : BoM) (prefix back : List ℕ) → length prefix % 2 ≡ 0 → IsCut Utf16 (units_in order prefix) (units_in order back)
+      → lossy_text policy after (units_in order (prefix ++ back)) ≡ lossy_text policy after (units_in order prefix) ++ lossy_text policy (faulty after (units_in order prefix)) (units_in order back)
+  text-joined order prefix back even cut =
+      let a = items Utf16 (units_in order prefix) in
       let b = items Utf16 (units_in order back) in
-      ap (λ is. utf8 (lossy_after policy after is)) (items-joined order front back even cut) ∙ ap utf8 (lossy_after-append policy after a b)
+      ap (λ is. utf8 (lossy_after policy after is)) (items-joined order prefix back even cut) ∙ ap utf8 (lossy_after-append policy after a b)
       ∙ flat_map-append utf8_bytes (lossy_after policy after a) (lossy_after policy (ends_in_fault after a) b)
 
   pub text-parted : (order : BoM) (bytes : List ℕ) (n : ℕ) → n % 2 ≡ 0 → n ≤ length bytes → IsCut Utf16 (units_in order (take n bytes)) (units_in order (drop n bytes))
       → lossy_text policy after (units_in order bytes) ≡ lossy_text policy after (units_in order (take n bytes)) ++ lossy_text policy (faulty after (units_in order (take n bytes))) (units_in order (drop n bytes))
   text-parted order bytes n even within cut =
-      ap (λ bs. lossy_text policy after (units_in order bs)) (sym (take-append-drop n bytes)) ∙ text-joined order (take n bytes) (drop n bytes) (even-front bytes n even within) cut
+      ap (λ bs. lossy_text policy after (units_in order bs)) (sym (take-append-drop n bytes)) ∙ text-joined order (take n bytes) (drop n bytes) (even-prefix bytes n even within) cut
 
   pub no_text-left : (order : BoM) (bytes : List ℕ) → length bytes < 2 → lossy_text policy after (units_in order bytes) ≡ []
   no_text-left order bytes short =
@@ -60,19 +60,19 @@ module _ (policy : Policy) (after : Bool) where
 
 -- ---- whether the last unit is ill-formed
 
-pub last-joined : (after : Bool) (order : BoM) (front back : List ℕ) → length front % 2 ≡ 0 → IsCut Utf16 (units_in order front) (units_in order back)
-    → faulty after (units_in order (front ++ back)) ≡ faulty (faulty after (units_in order front)) (units_in order back)
-last-joined after order front back even cut =
-    ap (λ is. ends_in_fault after is) (items-joined order front back even cut) ∙ ends_in_fault-append after (items Utf16 (units_in order front)) (items Utf16 (units_in order back))
+pub last-joined : (after : Bool) (order : BoM) (prefix back : List ℕ) → length prefix % 2 ≡ 0 → IsCut Utf16 (units_in order prefix) (units_in order back)
+    → faulty after (units_in order (prefix ++ back)) ≡ faulty (faulty after (units_in order prefix)) (units_in order back)
+last-joined after order prefix back even cut =
+    ap (λ is. ends_in_fault after is) (items-joined order prefix back even cut) ∙ ends_in_fault-append after (items Utf16 (units_in order prefix)) (items Utf16 (units_in order back))
 
 ends-any : (a b : Bool) (is : List Item) → 1 ≤ length is → ends_in_fault a is ≡ ends_in_fault b is
 ends-any a b [] some = absurd (omega arith)
 ends-any a b (Char c ∷ is) some = refl
 ends-any a b (Fault u ∷ is) some = refl
 
-pub ends-behind : (after : Bool) (order : BoM) (bytes : List ℕ) (n : ℕ) → n % 2 ≡ 0 → n + 2 ≤ length bytes → IsCut Utf16 (units_in order (take n bytes)) (units_in order (drop n bytes))
+pub ends-beyond : (after : Bool) (order : BoM) (bytes : List ℕ) (n : ℕ) → n % 2 ≡ 0 → n + 2 ≤ length bytes → IsCut Utf16 (units_in order (take n bytes)) (units_in order (drop n bytes))
     → faulty after (units_in order bytes) ≡ faulty after (units_in order (drop n bytes))
-ends-behind after order bytes n even within cut =
+ends-beyond after order bytes n even within cut =
     let a = items Utf16 (units_in order (take n bytes)) in
     let b = items Utf16 (units_in order (drop n bytes)) in
     let some : 1 ≤ length b = omega (arith, within, length-items16 (units_in order (drop n bytes)), length-units_in order (drop n bytes), length-drop n bytes) in
@@ -92,24 +92,24 @@ pub record Passed (us : List ℕ) (passed : ℕ) (left : List ℕ) : Type 0 wher
 pub none-passed : (us : List ℕ) → Passed us 0 us
 none-passed us = record { cs = []; parted = refl; long = refl }
 
-module _ (us : List ℕ) (passed : ℕ) (left : List ℕ) (p : Passed us passed left) (front back : List ℕ) (parts : items Utf16 left ≡ items Utf16 front ++ items Utf16 back) where
-  pub more-passed : (n : ℕ) → IsWellFormed Utf16 front → length front ≡ n → Passed us (passed + n) back
+module _ (us : List ℕ) (passed : ℕ) (left : List ℕ) (p : Passed us passed left) (prefix back : List ℕ) (parts : items Utf16 left ≡ items Utf16 prefix ++ items Utf16 back) where
+  pub more-passed : (n : ℕ) → IsWellFormed Utf16 prefix → length prefix ≡ n → Passed us (passed + n) back
   more-passed n well long =
-      let ds = chars Utf16 front in
-      let is : items Utf16 front ≡ map Char ds = chars-of_well_formed Utf16 front well in
+      let ds = chars Utf16 prefix in
+      let is : items Utf16 prefix ≡ map Char ds = chars-of_well_formed Utf16 prefix well in
       let joined : items Utf16 us ≡ map Char (p.cs ++ ds) ++ items Utf16 back =
       p.parted ∙ ap (λ is. map Char p.cs ++ is) (parts ∙ ap (λ is. is ++ items Utf16 back) is) ∙ sym (append_assoc (map Char p.cs) (map Char ds) (items Utf16 back))
       ∙ ap (λ is. is ++ items Utf16 back) (sym (map-append Char p.cs ds))
       in
       let counted : length (encode Utf16 (p.cs ++ ds)) ≡ passed + n =
       ap length (flat_map-append (code_units Utf16) p.cs ds) ∙ length-append (encode Utf16 p.cs) (encode Utf16 ds) ∙ ap (λ m. m + length (encode Utf16 ds)) p.long
-      ∙ ap (λ vs. passed + length vs) (encode-of_items Utf16 ds front is) ∙ ap (λ m. passed + m) long
+      ∙ ap (λ vs. passed + length vs) (encode-of_items Utf16 ds prefix is) ∙ ap (λ m. passed + m) long
       in
       record { cs = p.cs ++ ds; parted = joined; long = counted }
 
-  pub fault-behind : (n item u : ℕ) → IsFirstFault Utf16 front n item u → IsFirstFault Utf16 us (passed + n) (length p.cs + item) u
-  fault-behind n item u fault =
-      let (ds, rest, split, at, number) = first_fault-split Utf16 front n item u fault in
+  pub fault-beyond : (n item u : ℕ) → IsFirstFault Utf16 prefix n item u → IsFirstFault Utf16 us (passed + n) (length p.cs + item) u
+  fault-beyond n item u fault =
+      let (ds, rest, split, at, number) = first_fault-split Utf16 prefix n item u fault in
       let joined : items Utf16 us ≡ map Char (p.cs ++ ds) ++ Fault u ∷ (rest ++ items Utf16 back) =
       p.parted ∙ ap (λ is. map Char p.cs ++ is) (parts ∙ ap (λ is. is ++ items Utf16 back) split ∙ append_assoc (map Char ds) (Fault u ∷ rest) (items Utf16 back))
       ∙ sym (append_assoc (map Char p.cs) (map Char ds) (Fault u ∷ (rest ++ items Utf16 back))) ∙ ap (λ is. is ++ Fault u ∷ (rest ++ items Utf16 back)) (sym (map-append Char p.cs ds))
@@ -136,25 +136,25 @@ char-split (i ∷ a) b (c ∷ cs) e =
     let s = char-split a b cs tail in
     (c ∷ s.0, s.1, ap (λ j. j ∷ a) same ∙ ap (λ is. Char c ∷ is) s.2, s.3)
 
-module _ (order : BoM) (front back : List ℕ) (even : length front % 2 ≡ 0) (cut : IsCut Utf16 (units_in order front) (units_in order back)) where
-  pub well_formed-joined : IsWellFormedIn order front → IsWellFormedIn order back → IsWellFormedIn order (front ++ back)
+module _ (order : BoM) (prefix back : List ℕ) (even : length prefix % 2 ≡ 0) (cut : IsCut Utf16 (units_in order prefix) (units_in order back)) where
+  pub well_formed-joined : IsWellFormedIn order prefix → IsWellFormedIn order back → IsWellFormedIn order (prefix ++ back)
   well_formed-joined a b =
-      let us = units_in order front in
+      let us = units_in order prefix in
       let vs = units_in order back in
-      let items_of : items Utf16 (units_in order (front ++ back)) ≡ map Char (chars Utf16 us ++ chars Utf16 vs) =
-      items-joined order front back even cut ∙ ap (λ is. is ++ items Utf16 vs) (chars-of_well_formed Utf16 us a.1) ∙ ap (λ is. map Char (chars Utf16 us) ++ is) (chars-of_well_formed Utf16 vs b.1)
+      let items_of : items Utf16 (units_in order (prefix ++ back)) ≡ map Char (chars Utf16 us ++ chars Utf16 vs) =
+      items-joined order prefix back even cut ∙ ap (λ is. is ++ items Utf16 vs) (chars-of_well_formed Utf16 us a.1) ∙ ap (λ is. map Char (chars Utf16 us) ++ is) (chars-of_well_formed Utf16 vs b.1)
       ∙ sym (map-append Char (chars Utf16 us) (chars Utf16 vs))
       in
-      (omega (arith, even, b.0, length-append front back), IsWellFormed-of_chars Utf16 (units_in order (front ++ back)) (chars Utf16 us ++ chars Utf16 vs) items_of)
+      (omega (arith, even, b.0, length-append prefix back), IsWellFormed-of_chars Utf16 (units_in order (prefix ++ back)) (chars Utf16 us ++ chars Utf16 vs) items_of)
 
-  pub well_formed-parted : IsWellFormedIn order (front ++ back) → IsWellFormedIn order front × IsWellFormedIn order back
+  pub well_formed-parted : IsWellFormedIn order (prefix ++ back) → IsWellFormedIn order prefix × IsWellFormedIn order back
   well_formed-parted w =
-      let both = units_in order (front ++ back) in
-      let s = char-split (items Utf16 (units_in order front)) (items Utf16 (units_in order back)) (chars Utf16 both) (sym (chars-of_well_formed Utf16 both w.1) ∙ items-joined order front back even cut) in
-      ((even, IsWellFormed-of_chars Utf16 (units_in order front) s.0 s.2), (omega (arith, even, w.0, length-append front back), IsWellFormed-of_chars Utf16 (units_in order back) s.1 s.3))
+      let both = units_in order (prefix ++ back) in
+      let s = char-split (items Utf16 (units_in order prefix)) (items Utf16 (units_in order back)) (chars Utf16 both) (sym (chars-of_well_formed Utf16 both w.1) ∙ items-joined order prefix back even cut) in
+      ((even, IsWellFormed-of_chars Utf16 (units_in order prefix) s.0 s.2), (omega (arith, even, w.0, length-append prefix back), IsWellFormed-of_chars Utf16 (units_in order back) s.1 s.3))
 
-  pub strict-joined : text_in order (front ++ back) ≡ text_in order front ++ text_in order back
+  pub strict-joined : text_in order (prefix ++ back) ≡ text_in order prefix ++ text_in order back
   strict-joined =
-      let a = items Utf16 (units_in order front) in
+      let a = items Utf16 (units_in order prefix) in
       let b = items Utf16 (units_in order back) in
-      ap (λ is. utf8 (characters is)) (items-joined order front back even cut) ∙ ap utf8 (characters-append a b) ∙ flat_map-append utf8_bytes (characters a) (characters b)
+      ap (λ is. utf8 (characters is)) (items-joined order prefix back even cut) ∙ ap utf8 (characters-append a b) ∙ flat_map-append utf8_bytes (characters a) (characters b)

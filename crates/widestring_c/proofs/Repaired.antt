@@ -1,4 +1,4 @@
--- Repaired units are those that `mend` writes.
+-- Repaired units are those that `repair` writes.
 use Rattle.std.proofs.Common.{◌≡◌, ◌<◌, ◌-◌, ◌^◌, ◌∙◌, ℕ, List, sym, ap, map, length, min, take, arith}
 use Rattle.std.proofs.lemmas.List.{map-id}
 use Rattle.wide_unit.specs.EncodingForm.{EncodingForm, Utf32, encode}

@@ -39,8 +39,8 @@ length-window xs ys at len within long = omega (arith, within, long, length-appe
 -- so these units are the next ones of the result
 pub one_window : {X : Type 0} (number : X → ℕ) (first : List ℕ) (from : ℕ) (all : List ℕ) (old ys : List X) (rest : List ℕ) (at len n : ℕ) → Puts first from all at (map number old) (map number (take n ys) ++ rest)
     → at + len ≤ length old → length old < 2 ^ 64 - 1 → length ys ≡ len → n ≤ len → Puts first from all (at + n) (map number (put_mid at len old ys)) rest
-one_window number first from all old ys rest at len n puts within room long short =
-    one_more_of number first from all old (put_mid at len old ys) (take n ys) rest at (at + n) puts (omega (arith, within, room, long, short, length-take n ys)) (λ fits. take-window old ys at len n (omega arith) (omega (arith, long, short))) (length-window old ys at len within long)
+one_window number first from all old ys rest at len n puts within space long short =
+    one_more_of number first from all old (put_mid at len old ys) (take n ys) rest at (at + n) puts (omega (arith, within, space, long, short, length-take n ys)) (λ fits. take-window old ys at len n (omega arith) (omega (arith, long, short))) (length-window old ys at len within long)
 
 -- elements after `end` are unchanged if those after `at` are, and `at ≤ end`
 pub drop-later : {X : Type 0} (old new : List X) (at end : ℕ) → at ≤ end → drop at new ≡ drop at old → drop end new ≡ drop end old

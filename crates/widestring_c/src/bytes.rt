@@ -4,19 +4,19 @@ ghost use Rattle.wide_unit.specs.EncodingForm.{Utf16, IsHighSurrogate};
 ghost use Rattle.wide_unit.specs.Items.{IsFirstFault, IsWellFormed, chars};
 ghost use Rattle.wide_unit.specs.Utf8.{utf8};
 ghost use Rattle.wide_unit.specs.Laws.Items.{IsCut};
-ghost use Rattle.wide_bytes.specs.Bytes.{mark_of, unit_in, units_in};
+ghost use Rattle.wide_bytes.specs.Bytes.{bom_of, unit_in, units_in};
 ghost use Rattle.wide_bytes.specs.Encoded.{IsCutShort};
 ghost use Rattle.widestring_c.specs.Bytes.{IsWellFormedBy, IsWellFormedIn, bytes_faulty, bytes_text, is_set, number_of_flag, number_of_mark, order_and_policy, order_named, text_in};
 ghost use Rattle.widestring_c.specs.Policies.{policy_of};
 
 use crate::policies::policy_of;
-use crate::to_utf8::{LARGE, put_lossy_behind};
-use wide_blocks::sound_len;
+use crate::to_utf8::{LARGE, put_lossy_after};
 use wide_bytes::{BoM, byte_order, ends_in_fault, fill_units, unit_in};
+use wide_conversions::valid_len;
 use wide_unit::Policy;
 
 // How many units are read at a time.
-const PIECE: usize = 1024;
+const CHUNK: usize = 1024;
 
 // Returns the byte order with this number, or `None` if there is none.
 fn order_named(number: u32) -> Option<BoM>
@@ -36,21 +36,21 @@ fn is_set(flag: u32) -> bool
     flag != 0
 }
 
-// Returns how many of the first `front` bytes may be converted before the bytes after them are known: all, except a
+// Returns how many of the first `prefix` bytes may be converted before the bytes after them are known: all, except a
 // last high surrogate, which may begin a pair.
-fn uncut_len(order: BoM, bytes: &[u8], front: usize) -> usize
-    requires within { front ≤ length bytes.now }
-    requires even { front % 2 ≡ 0 }
-    ensures within { result ≤ front }
+fn uncut_len(order: BoM, bytes: &[u8], prefix: usize) -> usize
+    requires within { prefix ≤ length bytes.now }
+    requires even { prefix % 2 ≡ 0 }
+    ensures within { result ≤ prefix }
     ensures even { result % 2 ≡ 0 }
-    ensures one_unit { result < front → result + 2 ≡ front }
-    ensures high { result < front → IsHighSurrogate Utf16 (unit_in order (slice_index bytes.now result) (slice_index bytes.now (result + 1))) }
+    ensures one_unit { result < prefix → result + 2 ≡ prefix }
+    ensures high { result < prefix → IsHighSurrogate Utf16 (unit_in order (slice_index bytes.now result) (slice_index bytes.now (result + 1))) }
     ensures cut { (more : List ℕ) → IsCut Utf16 (units_in order (take result bytes.now)) (units_in order (drop result bytes.now ++ more)) }
 {
-    if front >= 2 && unit_in(order, bytes[front - 2], bytes[front - 1]) / 0x400 == 54 {
-        front - 2
+    if prefix >= 2 && unit_in(order, bytes[prefix - 2], bytes[prefix - 1]) / 0x400 == 54 {
+        prefix - 2
     } else {
-        front
+        prefix
     }
 }
 
@@ -64,9 +64,9 @@ fn certain_len(order: BoM, bytes: &[u8]) -> usize
     uncut_len(order, bytes, bytes.len() / 2 * 2)
 }
 
-// Returns how many bytes to read next: all whole units if they fit into `PIECE` units, or else as many as fit without
+// Returns how many bytes to read next: all whole units if they fit into `CHUNK` units, or else as many as fit without
 // splitting a surrogate pair.
-fn piece_len(order: BoM, bytes: &[u8]) -> usize
+fn chunk_len(order: BoM, bytes: &[u8]) -> usize
     requires { 2 ≤ length bytes.now }
     ensures some { 2 ≤ result }
     ensures within { result ≤ length bytes.now }
@@ -74,15 +74,15 @@ fn piece_len(order: BoM, bytes: &[u8]) -> usize
     ensures even { result % 2 ≡ 0 }
     ensures cut { IsCut Utf16 (units_in order (take result bytes.now)) (units_in order (drop result bytes.now)) }
 {
-    if bytes.len() <= 2 * PIECE {
+    if bytes.len() <= 2 * CHUNK {
         bytes.len() / 2 * 2
     } else {
-        uncut_len(order, bytes, 2 * PIECE)
+        uncut_len(order, bytes, 2 * CHUNK)
     }
 }
 
 // Converts the units in bytes to UTF-8, chunk by chunk, at the start of `text`, and replaces ill-formed units by the
-// policy. `after_fault` says whether the unit before the bytes is ill-formed. `units` and `piece` are scratch arrays.
+// policy. `after_fault` says whether the unit before the bytes is ill-formed. `units` and `chunk` are scratch arrays.
 fn put_bytes_by(
     order: BoM,
     bytes: &[u8],
@@ -90,24 +90,24 @@ fn put_bytes_by(
     after_fault: bool,
     text: &mut [u8],
     units: &mut [u16],
-    piece: &mut [u8],
+    chunk: &mut [u8],
 ) -> usize
     requires units { 1024 ≤ length units.old }
-    requires piece { 64 ≤ length piece.old }
+    requires chunk { 64 ≤ length chunk.old }
     ensures len { result ≡ min (length (bytes_text order policy after_fault bytes.now)) (2 ^ 64 - 1) }
     ensures text { result ≤ length text.old → take result text.new ≡ bytes_text order policy after_fault bytes.now }
-    ensures behind { drop result text.new ≡ drop result text.old }
+    ensures beyond { drop result text.new ≡ drop result text.old }
 {
     let mut at = 0;
     let mut rest = bytes;
     let mut after = after_fault;
-    'pieces: while rest.len() >= 2 {
-        let (front, behind) = rest.split_at(piece_len(order, rest));
-        fill_units(order, front, units);
-        let read = &units[..front.len() / 2];
-        at = put_lossy_behind(read, policy, after, text, at, piece);
+    'chunks: while rest.len() >= 2 {
+        let (prefix, beyond) = rest.split_at(chunk_len(order, rest));
+        fill_units(order, prefix, units);
+        let read = &units[..prefix.len() / 2];
+        at = put_lossy_after(read, policy, after, text, at, chunk);
         after = ends_in_fault(read, after);
-        rest = behind;
+        rest = beyond;
     }
     at
 }
@@ -117,10 +117,10 @@ fn put_bytes(order: BoM, bytes: &[u8], policy: Policy, after_fault: bool, text: 
     ensures len { result ≡ length (bytes_text order policy after_fault bytes.now) }
     ensures fits { result < 2 ^ 64 - 1 }
     ensures text { result ≤ length text.old → take result text.new ≡ bytes_text order policy after_fault bytes.now }
-    ensures behind { drop result text.new ≡ drop result text.old }
+    ensures beyond { drop result text.new ≡ drop result text.old }
 {
-    let mut units = [0; PIECE];
-    let mut piece = [0; LARGE];
+    let mut units = [0; CHUNK];
+    let mut chunk = [0; LARGE];
     put_bytes_by(
         order,
         bytes,
@@ -128,13 +128,13 @@ fn put_bytes(order: BoM, bytes: &[u8], policy: Policy, after_fault: bool, text: 
         after_fault,
         text,
         &mut units,
-        &mut piece,
+        &mut chunk,
     )
 }
 
 // Returns how many units precede the first fault, or how many whole units there are if there is no fault. `units` is a
 // scratch array.
-fn sound_units(order: BoM, bytes: &[u8], units: &mut [u16]) -> usize
+fn valid_units(order: BoM, bytes: &[u8], units: &mut [u16]) -> usize
     requires { 1024 ≤ length units.old }
     ensures well_formed { (result ≡ length bytes.now / 2) ↔ IsWellFormed Utf16 (units_in order bytes.now) }
     ensures fault { result < length bytes.now / 2 → (item unit : ℕ) × IsFirstFault Utf16 (units_in order bytes.now) result item unit }
@@ -142,32 +142,32 @@ fn sound_units(order: BoM, bytes: &[u8], units: &mut [u16]) -> usize
 {
     let mut passed = 0;
     let mut rest = bytes;
-    'pieces: while rest.len() >= 2 {
-        let (front, behind) = rest.split_at(piece_len(order, rest));
-        fill_units(order, front, units);
-        let read = &units[..front.len() / 2];
-        let len = sound_len(read);
+    'chunks: while rest.len() >= 2 {
+        let (prefix, beyond) = rest.split_at(chunk_len(order, rest));
+        fill_units(order, prefix, units);
+        let read = &units[..prefix.len() / 2];
+        let len = valid_len(read);
         passed += len;
         if len < read.len() {
             return passed;
         }
-        rest = behind;
+        rest = beyond;
     }
     passed
 }
 
 // Converts bytes of well-formed UTF-16 to UTF-8 at the start of `text`, and returns the length of the result in bytes.
 // Returns `None` if half a unit is left or the units are ill-formed.
-fn put_sound_bytes(order: BoM, bytes: &[u8], text: &mut [u8]) -> Option<usize>
-    ensures sound { IfSome result (λ len. IsWellFormedIn order bytes.now) }
+fn put_valid_bytes(order: BoM, bytes: &[u8], text: &mut [u8]) -> Option<usize>
+    ensures valid { IfSome result (λ len. IsWellFormedIn order bytes.now) }
     ensures fault { IfNone result (IsWellFormedIn order bytes.now → ⊥) }
     ensures len { IfSome result (λ len. len ≡ length (text_in order bytes.now)) }
     ensures text { IfSome result (λ len. len ≤ length text.old → take len text.new ≡ text_in order bytes.now) }
     ensures fits { IfSome result (λ len. len < 2 ^ 64 - 1) }
     ensures unchanged { IfNone result (text.new ≡ text.old) }
-    ensures behind { IfSome result (λ len. drop len text.new ≡ drop len text.old) }
+    ensures beyond { IfSome result (λ len. drop len text.new ≡ drop len text.old) }
 {
-    if bytes.len() % 2 == 0 && sound_units(order, bytes, &mut [0; PIECE]) == bytes.len() / 2 {
+    if bytes.len() % 2 == 0 && valid_units(order, bytes, &mut [0; CHUNK]) == bytes.len() / 2 {
         // In well-formed units there is nothing for a policy to replace.
         Some(put_bytes(order, bytes, Policy::Each, false, text))
     } else {
@@ -192,8 +192,8 @@ fn ends_bytes(order: BoM, bytes: &[u8], after_fault: bool) -> bool
 /// Returns the byte order of the BOM at the start (Unicode Standard, section 23.8): 0 for little endian, 1 for big
 /// endian, 2 if there is no BOM. The caller drops the two bytes of the BOM: they do not belong to the text.
 #[unsafe(no_mangle)]
-pub extern "C" fn wide_bytes_order(bytes: &[u8]) -> u32
-    ensures { result ≡ number_of_mark (mark_of bytes.now) }
+pub extern "C" fn wide_utf16_bytes_order(bytes: &[u8]) -> u32
+    ensures { result ≡ number_of_mark (bom_of bytes.now) }
 {
     match byte_order(bytes) {
         Some(BoM::Little) => 0,
@@ -206,7 +206,7 @@ pub extern "C" fn wide_bytes_order(bytes: &[u8]) -> u32
 /// bytes can change: all whole units, except a last high surrogate. The order is 0 for little endian and 1 for big
 /// endian. For any other number it returns 0, so that a caller who continues from there stays within the bytes.
 #[unsafe(no_mangle)]
-pub extern "C" fn wide_bytes_certain(bytes: &[u8], order: u32) -> usize
+pub extern "C" fn wide_utf16_bytes_complete(bytes: &[u8], order: u32) -> usize
     ensures within { result ≤ length bytes.now }
     ensures even { result % 2 ≡ 0 }
     ensures rest { IfSome (order_named order) (λ o. IsCutShort o (drop result bytes.now)) }
@@ -228,7 +228,7 @@ pub extern "C" fn wide_bytes_certain(bytes: &[u8], order: u32) -> usize
 /// bytes after the result are unchanged. For any other order or policy it returns `usize::MAX` and leaves `text`
 /// unchanged.
 #[unsafe(no_mangle)]
-pub extern "C" fn wide_bytes_to_utf8_lossy_with(
+pub extern "C" fn wide_utf16_bytes_to_utf8_lossy_with(
     bytes: &[u8],
     order: u32,
     policy: u32,
@@ -240,7 +240,7 @@ pub extern "C" fn wide_bytes_to_utf8_lossy_with(
     ensures no_fault { IfSome (order_and_policy order policy) (λ by. result < 2 ^ 64 - 1) }
     ensures other { IfNone (order_and_policy order policy) (result ≡ 2 ^ 64 - 1) }
     ensures unchanged { IfNone (order_and_policy order policy) (text.new ≡ text.old) }
-    ensures behind { drop result text.new ≡ drop result text.old }
+    ensures beyond { drop result text.new ≡ drop result text.old }
 {
     match (order_named(order), policy_of(policy)) {
         (Some(order), Some(policy)) => put_bytes(order, bytes, policy, is_set(after_fault), text),
@@ -252,7 +252,7 @@ pub extern "C" fn wide_bytes_to_utf8_lossy_with(
 /// `after_fault` is 0, and else 1. `after_fault` is 0 if the unit before the bytes is well formed or there is none, and
 /// another number if it is ill-formed. If the order is neither 0 nor 1, it returns 0.
 #[unsafe(no_mangle)]
-pub extern "C" fn wide_bytes_ends_in_fault(bytes: &[u8], order: u32, after_fault: u32) -> u32
+pub extern "C" fn wide_utf16_bytes_end_in_fault(bytes: &[u8], order: u32, after_fault: u32) -> u32
     ensures last { IfSome (order_named order) (λ o. result ≡ number_of_flag (bytes_faulty o (is_set after_fault) bytes.now)) }
     ensures other { IfNone (order_named order) (result ≡ 0) }
 {
@@ -267,16 +267,16 @@ pub extern "C" fn wide_bytes_ends_in_fault(bytes: &[u8], order: u32, after_fault
 /// If half a unit is left, the units are ill-formed, or the order is neither 0 nor 1, it returns `usize::MAX` and
 /// leaves `text` unchanged.
 #[unsafe(no_mangle)]
-pub extern "C" fn wide_bytes_to_utf8(bytes: &[u8], order: u32, text: &mut [u8]) -> usize
+pub extern "C" fn wide_utf16_bytes_to_utf8(bytes: &[u8], order: u32, text: &mut [u8]) -> usize
     ensures len { IfSome (order_named order) (λ o. IsWellFormedIn o bytes.now → result ≡ length (text_in o bytes.now)) }
     ensures text { IfSome (order_named order) (λ o. IsWellFormedIn o bytes.now → result ≤ length text.old → take result text.new ≡ text_in o bytes.now) }
     ensures no_fault { IsWellFormedBy order bytes.now → result < 2 ^ 64 - 1 }
     ensures fault { (IsWellFormedBy order bytes.now → ⊥) → result ≡ 2 ^ 64 - 1 }
     ensures unchanged { (IsWellFormedBy order bytes.now → ⊥) → text.new ≡ text.old }
-    ensures behind { drop result text.new ≡ drop result text.old }
+    ensures beyond { drop result text.new ≡ drop result text.old }
 {
     match order_named(order) {
-        Some(order) => put_sound_bytes(order, bytes, text).unwrap_or(usize::MAX),
+        Some(order) => put_valid_bytes(order, bytes, text).unwrap_or(usize::MAX),
         None => usize::MAX,
     }
 }
@@ -285,14 +285,14 @@ pub extern "C" fn wide_bytes_to_utf8(bytes: &[u8], order: u32, text: &mut [u8]) 
 /// Standard, D91, D96 and D97), or the number of whole units if there is none. If the order is neither 0 nor 1, it
 /// returns `usize::MAX`.
 #[unsafe(no_mangle)]
-pub extern "C" fn wide_bytes_first_fault(bytes: &[u8], order: u32) -> usize
+pub extern "C" fn wide_utf16_bytes_first_fault(bytes: &[u8], order: u32) -> usize
     ensures well_formed { IfSome (order_named order) (λ o. (result ≡ length bytes.now / 2) ↔ IsWellFormed Utf16 (units_in o bytes.now)) }
     ensures fault { IfSome (order_named order) (λ o. result < length bytes.now / 2 → (item unit : ℕ) × IsFirstFault Utf16 (units_in o bytes.now) result item unit) }
     ensures within { IfSome (order_named order) (λ o. result ≤ length bytes.now / 2) }
     ensures other { IfNone (order_named order) (result ≡ 2 ^ 64 - 1) }
 {
     match order_named(order) {
-        Some(order) => sound_units(order, bytes, &mut [0; PIECE]),
+        Some(order) => valid_units(order, bytes, &mut [0; CHUNK]),
         None => usize::MAX,
     }
 }

@@ -6,7 +6,7 @@ ghost use Rattle.wide_unit.specs.Utf8.{utf8};
 ghost use Rattle.wide_bytes.specs.Bytes.{units_in};
 ghost use Rattle.wide_bytes.specs.declared.order.BoM.TheVariants.{Little};
 
-use crate::{wide_bytes_to_utf8_lossy_with, wide_utf8_to_utf16_lossy, wide_utf16_to_utf8};
+use crate::{wide_utf8_to_utf16_lossy, wide_utf16_bytes_to_utf8_lossy_with, wide_utf16_to_utf8};
 use wide_unit::laws;
 
 /// Rejects a surrogate pair followed by an unpaired high surrogate, and leaves the buffer unchanged.
@@ -27,7 +27,7 @@ pub fn one_replacement_of_a_run(bytes: &[u8], text: &mut [u8]) -> usize
     ensures text { take result text.new ≡ utf8 (0xFFFD ∷ []) }
 {
     laws::worked_items();
-    wide_bytes_to_utf8_lossy_with(bytes, 0, 1, 0, text)
+    wide_utf16_bytes_to_utf8_lossy_with(bytes, 0, 1, 0, text)
 }
 
 /// Writes nothing for two surrogates in the wrong order after an ill-formed unit: they continue its run.
@@ -36,7 +36,7 @@ pub fn run_that_goes_on(bytes: &[u8], text: &mut [u8]) -> usize
     ensures { result ≡ 0 }
 {
     laws::worked_items();
-    wide_bytes_to_utf8_lossy_with(bytes, 0, 1, 1, text)
+    wide_utf16_bytes_to_utf8_lossy_with(bytes, 0, 1, 1, text)
 }
 
 /// Counts one UTF-16 unit for bytes whose lossy text is one U+FFFD, however many bytes there are.

@@ -4,12 +4,14 @@ ghost use Rattle.std.specs.Str.{IsUtf8, IsValidUpTo, chars as str_chars};
 ghost use Rattle.std.specs.Str.Lossy.{utf8_lossy};
 ghost use Rattle.wide_unit.specs.EncodingForm.{Utf16, encode};
 ghost use Rattle.wide_unit.specs.Lossy.{lossy_by};
-ghost use Rattle.wide_blocks.specs.Parts.{utf8_items};
+ghost use Rattle.wide_conversions.specs.Utf8Items.{utf8_items};
 ghost use Rattle.widestring_c.specs.Policies.{policy_of};
 
+use crate::caller_buffer::put_items;
 use crate::policies::policy_of;
-use crate::rooms::put_items;
-use wide_blocks::{decode_utf8_front, first_chunk, is_after_fault, lossy_utf8_front};
+use wide_conversions::{
+    first_utf8_chunk, from_utf8_lossy_prefix, from_utf8_prefix, is_after_fault,
+};
 use wide_unit::{Policy, Unit};
 
 // Sizes of the array, in units, that converted units are copied from: small for a short input, so that less of it is
@@ -24,26 +26,26 @@ const WINDOW: usize = 256;
 // Decodes text to the offset `at` of the buffer, chunk by chunk, and returns the offset after it, as `put_items` does.
 // Decoding may overwrite units after those that it reports. So it writes directly to the buffer only where the rest of
 // the text will overwrite them: four bytes yield at least one unit.
-fn put_text<C: Unit>(text: &[u8], units: &mut [C], at: usize, piece: &mut [C]) -> usize
+fn put_text<C: Unit>(text: &[u8], units: &mut [C], at: usize, chunk: &mut [C]) -> usize
     requires text { IsUtf8 text.now }
-    requires room { length units.old < 2 ^ 64 - 1 }
-    requires piece { 2 ≤ length piece.old }
-    ensures place { result ≡ min (at + length (encode C.form (str_chars text.now))) (2 ^ 64 - 1) }
+    requires space { length units.old < 2 ^ 64 - 1 }
+    requires chunk { 2 ≤ length chunk.old }
+    ensures offset { result ≡ min (at + length (encode C.form (str_chars text.now))) (2 ^ 64 - 1) }
     ensures units { result ≤ length units.old → map C.number (take result units.new) ≡ map C.number (take at units.old) ++ encode C.form (str_chars text.now) }
-    ensures room { length units.new ≡ length units.old }
-    ensures behind { drop result units.new ≡ drop result units.old }
+    ensures space { length units.new ≡ length units.old }
+    ensures beyond { drop result units.new ≡ drop result units.old }
 {
     let mut at = at;
     let mut rest = text;
     'windows: while rest.len() / 4 >= WINDOW && units.len().saturating_sub(at) >= WINDOW {
         let len = (rest.len() / 4).min(units.len() - at);
-        let (read, written) = decode_utf8_front(rest, &mut units[at..at + len]);
+        let (read, written) = from_utf8_prefix(rest, &mut units[at..at + len]);
         at += written;
         (_, rest) = rest.split_at(read);
     }
-    'pieces: while !rest.is_empty() {
-        let (read, written) = decode_utf8_front(rest, piece);
-        at = put_items(units, at, &piece[..written]);
+    'chunks: while !rest.is_empty() {
+        let (read, written) = from_utf8_prefix(rest, chunk);
+        at = put_items(units, at, &chunk[..written]);
         (_, rest) = rest.split_at(read);
     }
     at
@@ -58,31 +60,31 @@ fn text_len(text: &[u8]) -> usize
     if text.len() <= FEW {
         return 0;
     }
-    first_chunk(text).0
+    first_utf8_chunk(text).0
 }
 
 // Converts any bytes at the start of the buffer, and replaces maximal subparts of ill-formed sequences by the policy.
 // Returns how many units the result has.
-fn put_lossy<C: Unit>(text: &[u8], policy: Policy, units: &mut [C], piece: &mut [C]) -> usize
-    requires room { length units.old < 2 ^ 64 - 1 }
-    requires piece { 16 ≤ length piece.old }
+fn put_lossy<C: Unit>(text: &[u8], policy: Policy, units: &mut [C], chunk: &mut [C]) -> usize
+    requires space { length units.old < 2 ^ 64 - 1 }
+    requires chunk { 16 ≤ length chunk.old }
     ensures len { result ≡ length (encode C.form (lossy_by policy (utf8_items text.now))) }
     ensures fits { result < 2 ^ 64 - 1 }
     ensures units { result ≤ length units.old → map C.number (take result units.new) ≡ encode C.form (lossy_by policy (utf8_items text.now)) }
-    ensures behind { drop result units.new ≡ drop result units.old }
+    ensures beyond { drop result units.new ≡ drop result units.old }
 {
     let mut at = 0;
     let mut rest = text;
     let mut after = false;
-    'fronts: while !rest.is_empty() {
+    'prefixes: while !rest.is_empty() {
         let len = text_len(rest);
-        let (front, behind) = rest.split_at(len);
-        at = put_text(front, units, at, piece);
+        let (prefix, beyond) = rest.split_at(len);
+        at = put_text(prefix, units, at, chunk);
         let before = is_after_fault(after, len);
-        let (read, written, is_after) = lossy_utf8_front(behind, policy, before, piece);
-        at = put_items(units, at, &piece[..written]);
+        let (read, written, is_after) = from_utf8_lossy_prefix(beyond, policy, before, chunk);
+        at = put_items(units, at, &chunk[..written]);
         after = is_after;
-        (_, rest) = behind.split_at(read);
+        (_, rest) = beyond.split_at(read);
     }
     at
 }
@@ -92,7 +94,7 @@ fn put_lossy_16(text: &[u8], policy: Policy, units: &mut [u16]) -> usize
     ensures len { result ≡ length (encode Utf16 (lossy_by policy (utf8_items text.now))) }
     ensures fits { result < 2 ^ 64 - 1 }
     ensures units { result ≤ length units.old → take result units.new ≡ encode Utf16 (lossy_by policy (utf8_items text.now)) }
-    ensures behind { drop result units.new ≡ drop result units.old }
+    ensures beyond { drop result units.new ≡ drop result units.old }
 {
     if text.len() <= FEW {
         put_lossy(text, policy, units, &mut [0; FEW])
@@ -105,7 +107,7 @@ fn put_lossy_32(text: &[u8], policy: Policy, units: &mut [u32]) -> usize
     ensures len { result ≡ length (lossy_by policy (utf8_items text.now)) }
     ensures fits { result < 2 ^ 64 - 1 }
     ensures units { result ≤ length units.old → take result units.new ≡ lossy_by policy (utf8_items text.now) }
-    ensures behind { drop result units.new ≡ drop result units.old }
+    ensures beyond { drop result units.new ≡ drop result units.old }
 {
     if text.len() <= FEW {
         put_lossy(text, policy, units, &mut [0; FEW])
@@ -122,7 +124,7 @@ pub extern "C" fn wide_utf8_first_fault(text: &[u8]) -> usize
     ensures fault { result < length text.now → IsValidUpTo text.now result }
     ensures within { result ≤ length text.now }
 {
-    first_chunk(text).0
+    first_utf8_chunk(text).0
 }
 
 /// Converts well-formed UTF-8 to UTF-16. Returns how many units the result has. If `units` is at least that long, the
@@ -135,9 +137,9 @@ pub extern "C" fn wide_utf8_to_utf16(text: &[u8], units: &mut [u16]) -> usize
     ensures fault { (IsUtf8 text.now → ⊥) → result ≡ 2 ^ 64 - 1 }
     ensures no_fault { IsUtf8 text.now → result < 2 ^ 64 - 1 }
     ensures unchanged { (IsUtf8 text.now → ⊥) → units.new ≡ units.old }
-    ensures behind { drop result units.new ≡ drop result units.old }
+    ensures beyond { drop result units.new ≡ drop result units.old }
 {
-    let (_, broken) = first_chunk(text);
+    let (_, broken) = first_utf8_chunk(text);
     if broken > 0 {
         usize::MAX
     } else if text.len() <= FEW {
@@ -157,9 +159,9 @@ pub extern "C" fn wide_utf8_to_utf32(text: &[u8], units: &mut [u32]) -> usize
     ensures fault { (IsUtf8 text.now → ⊥) → result ≡ 2 ^ 64 - 1 }
     ensures no_fault { IsUtf8 text.now → result < 2 ^ 64 - 1 }
     ensures unchanged { (IsUtf8 text.now → ⊥) → units.new ≡ units.old }
-    ensures behind { drop result units.new ≡ drop result units.old }
+    ensures beyond { drop result units.new ≡ drop result units.old }
 {
-    let (_, broken) = first_chunk(text);
+    let (_, broken) = first_utf8_chunk(text);
     if broken > 0 {
         usize::MAX
     } else if text.len() <= FEW {
@@ -180,7 +182,7 @@ pub extern "C" fn wide_utf8_to_utf16_lossy(text: &[u8], units: &mut [u16]) -> us
     ensures len { result ≡ length (encode Utf16 (str_chars (utf8_lossy text.now))) }
     ensures no_fault { result < 2 ^ 64 - 1 }
     ensures units { result ≤ length units.old → take result units.new ≡ encode Utf16 (str_chars (utf8_lossy text.now)) }
-    ensures behind { drop result units.new ≡ drop result units.old }
+    ensures beyond { drop result units.new ≡ drop result units.old }
 {
     put_lossy_16(text, Policy::Each, units)
 }
@@ -195,7 +197,7 @@ pub extern "C" fn wide_utf8_to_utf32_lossy(text: &[u8], units: &mut [u32]) -> us
     ensures len { result ≡ length (str_chars (utf8_lossy text.now)) }
     ensures no_fault { result < 2 ^ 64 - 1 }
     ensures units { result ≤ length units.old → take result units.new ≡ str_chars (utf8_lossy text.now) }
-    ensures behind { drop result units.new ≡ drop result units.old }
+    ensures beyond { drop result units.new ≡ drop result units.old }
 {
     put_lossy_32(text, Policy::Each, units)
 }
@@ -216,7 +218,7 @@ pub extern "C" fn wide_utf8_to_utf16_lossy_with(
     ensures units { IfSome (policy_of policy) (λ p. result ≤ length units.old → take result units.new ≡ encode Utf16 (lossy_by p (utf8_items text.now))) }
     ensures other { IfNone (policy_of policy) (result ≡ 2 ^ 64 - 1) }
     ensures unchanged { IfNone (policy_of policy) (units.new ≡ units.old) }
-    ensures behind { drop result units.new ≡ drop result units.old }
+    ensures beyond { drop result units.new ≡ drop result units.old }
 {
     match policy_of(policy) {
         Some(policy) => put_lossy_16(text, policy, units),
@@ -240,7 +242,7 @@ pub extern "C" fn wide_utf8_to_utf32_lossy_with(
     ensures units { IfSome (policy_of policy) (λ p. result ≤ length units.old → take result units.new ≡ lossy_by p (utf8_items text.now)) }
     ensures other { IfNone (policy_of policy) (result ≡ 2 ^ 64 - 1) }
     ensures unchanged { IfNone (policy_of policy) (units.new ≡ units.old) }
-    ensures behind { drop result units.new ≡ drop result units.old }
+    ensures beyond { drop result units.new ≡ drop result units.old }
 {
     match policy_of(policy) {
         Some(policy) => put_lossy_32(text, policy, units),

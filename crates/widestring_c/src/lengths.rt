@@ -7,7 +7,7 @@ ghost use Rattle.wide_unit.specs.Items.{IsWellFormed, chars};
 ghost use Rattle.wide_unit.specs.Utf8.{utf8};
 
 use std::str;
-use wide_blocks::{first_chunk, utf8_len};
+use wide_conversions::{first_utf8_chunk, utf8_len};
 use wide_unit::{Unit, check, length_as_utf16, length_as_utf32};
 
 /// Returns the length in bytes of well-formed UTF-16 (Unicode Standard, D91) in UTF-8 (D92), or `usize::MAX` if the
@@ -46,7 +46,7 @@ pub extern "C" fn wide_utf8_utf16_length(text: &[u8]) -> usize
     ensures fault { (IsUtf8 text.now → ⊥) → result ≡ 2 ^ 64 - 1 }
     ensures no_fault { IsUtf8 text.now → result < 2 ^ 64 - 1 }
 {
-    let (_, broken) = first_chunk(text);
+    let (_, broken) = first_utf8_chunk(text);
     if broken > 0 {
         return usize::MAX;
     }
@@ -62,7 +62,7 @@ pub extern "C" fn wide_utf8_char_count(text: &[u8]) -> usize
     ensures fault { (IsUtf8 text.now → ⊥) → result ≡ 2 ^ 64 - 1 }
     ensures no_fault { IsUtf8 text.now → result < 2 ^ 64 - 1 }
 {
-    let (_, broken) = first_chunk(text);
+    let (_, broken) = first_utf8_chunk(text);
     if broken > 0 {
         return usize::MAX;
     }

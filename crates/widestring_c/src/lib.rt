@@ -6,30 +6,30 @@
 #![tactic(auto)]
 
 mod between;
+#[cfg(test)]
+mod buffer_cases;
 mod bytes;
 #[cfg(test)]
-mod bytes_rows;
+mod bytes_cases;
+mod caller_buffer;
 pub mod examples;
 mod from_utf8;
 pub mod laws;
-mod lengths;
 #[cfg(test)]
-mod lengths_rows;
+mod length_cases;
+mod lengths;
 mod policies;
 mod repair;
-#[cfg(test)]
-mod room_rows;
-mod rooms;
 mod search;
 #[cfg(test)]
-mod search_rows;
+mod search_cases;
 mod to_utf8;
 mod version;
 
 pub use between::{wide_utf16_to_utf32, wide_utf32_to_utf16};
 pub use bytes::{
-    wide_bytes_certain, wide_bytes_ends_in_fault, wide_bytes_first_fault, wide_bytes_order,
-    wide_bytes_to_utf8, wide_bytes_to_utf8_lossy_with,
+    wide_utf16_bytes_complete, wide_utf16_bytes_end_in_fault, wide_utf16_bytes_first_fault,
+    wide_utf16_bytes_order, wide_utf16_bytes_to_utf8, wide_utf16_bytes_to_utf8_lossy_with,
 };
 pub use from_utf8::{
     wide_utf8_first_fault, wide_utf8_to_utf16, wide_utf8_to_utf16_lossy,

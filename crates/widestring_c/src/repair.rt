@@ -13,10 +13,10 @@ use wide_unit::Unit;
 pub extern "C" fn wide_utf16_repair(units: &[u16], repaired: &mut [u16]) -> usize
     ensures len { result ≡ length units.now }
     ensures units { result ≤ length repaired.old → take result repaired.new ≡ encode Utf16 (lossy (items Utf16 units.now)) }
-    ensures behind { drop result repaired.new ≡ drop result repaired.old }
+    ensures beyond { drop result repaired.new ≡ drop result repaired.old }
 {
     if units.len() <= repaired.len() {
-        u16::mend(units, repaired);
+        u16::repair(units, repaired);
     }
     units.len()
 }
@@ -28,10 +28,10 @@ pub extern "C" fn wide_utf16_repair(units: &[u16], repaired: &mut [u16]) -> usiz
 pub extern "C" fn wide_utf32_repair(units: &[u32], repaired: &mut [u32]) -> usize
     ensures len { result ≡ length units.now }
     ensures units { result ≤ length repaired.old → take result repaired.new ≡ lossy (items Utf32 units.now) }
-    ensures behind { drop result repaired.new ≡ drop result repaired.old }
+    ensures beyond { drop result repaired.new ≡ drop result repaired.old }
 {
     if units.len() <= repaired.len() {
-        u32::mend(units, repaired);
+        u32::repair(units, repaired);
     }
     units.len()
 }

@@ -3,7 +3,7 @@ ghost use Rattle.std.specs.Prelude.{◌≡◌, ◌<◌, ◌≤◌, ◌-◌, ◌^
 ghost use Rattle.wide_unit.specs.EncodingForm.{Utf16, Utf32};
 ghost use Rattle.wide_unit.specs.Items.{IsFirstFault, IsWellFormed};
 ghost use Rattle.wide_unit.specs.Nul.{HasNoNul, IsFirstNul};
-ghost use Rattle.wide_search.specs.Parts.{IsFirstAt, StandsNowhere};
+ghost use Rattle.wide_search.specs.Occurrences.{IsFirstAt, OccursNowhere};
 
 use wide_search::{find, find_unit};
 use wide_unit::{check, first_nul};
@@ -84,7 +84,7 @@ pub extern "C" fn wide_utf32_first_nul(units: &[u32]) -> usize
 #[unsafe(no_mangle)]
 pub extern "C" fn wide_utf16_find_unit(units: &[u16], unit: u16) -> usize
     ensures first { result < length units.now → IsFirstAt (unit ∷ []) units.now result }
-    ensures none { result ≡ length units.now → StandsNowhere (unit ∷ []) units.now }
+    ensures none { result ≡ length units.now → OccursNowhere (unit ∷ []) units.now }
     ensures within { result ≤ length units.now }
 {
     find_unit(units, unit).unwrap_or(units.len())
@@ -95,7 +95,7 @@ pub extern "C" fn wide_utf16_find_unit(units: &[u16], unit: u16) -> usize
 #[unsafe(no_mangle)]
 pub extern "C" fn wide_utf16_find(units: &[u16], part: &[u16]) -> usize
     ensures first { result < 2 ^ 64 - 1 → IsFirstAt part.now units.now result }
-    ensures none { result ≡ 2 ^ 64 - 1 → StandsNowhere part.now units.now }
+    ensures none { result ≡ 2 ^ 64 - 1 → OccursNowhere part.now units.now }
 {
     find(units, part).unwrap_or(usize::MAX)
 }
@@ -104,7 +104,7 @@ pub extern "C" fn wide_utf16_find(units: &[u16], part: &[u16]) -> usize
 #[unsafe(no_mangle)]
 pub extern "C" fn wide_utf32_find_unit(units: &[u32], unit: u32) -> usize
     ensures first { result < length units.now → IsFirstAt (unit ∷ []) units.now result }
-    ensures none { result ≡ length units.now → StandsNowhere (unit ∷ []) units.now }
+    ensures none { result ≡ length units.now → OccursNowhere (unit ∷ []) units.now }
     ensures within { result ≤ length units.now }
 {
     find_unit(units, unit).unwrap_or(units.len())
@@ -115,7 +115,7 @@ pub extern "C" fn wide_utf32_find_unit(units: &[u32], unit: u32) -> usize
 #[unsafe(no_mangle)]
 pub extern "C" fn wide_utf32_find(units: &[u32], part: &[u32]) -> usize
     ensures first { result < 2 ^ 64 - 1 → IsFirstAt part.now units.now result }
-    ensures none { result ≡ 2 ^ 64 - 1 → StandsNowhere part.now units.now }
+    ensures none { result ≡ 2 ^ 64 - 1 → OccursNowhere part.now units.now }
 {
     find(units, part).unwrap_or(usize::MAX)
 }

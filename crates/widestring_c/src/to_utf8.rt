@@ -6,11 +6,11 @@ ghost use Rattle.wide_unit.specs.Lossy.{lossy, lossy_after, lossy_by};
 ghost use Rattle.wide_unit.specs.Utf8.{utf8};
 ghost use Rattle.widestring_c.specs.Policies.{policy_of};
 
+use crate::caller_buffer::put_items;
 use crate::policies::policy_of;
-use crate::rooms::put_items;
-use wide_blocks::{encode_front, is_after_fault, lossy_front, sound_len};
-use wide_from_utf16::{encode_whole, is_marked};
+use wide_conversions::{is_after_fault, lossy_prefix, to_utf8_prefix, valid_len};
 use wide_unit::{Policy, Unit, check};
+use wide_utf16_to_utf8::{checked_utf16_to_utf8, writes_replacement};
 
 // Inputs of up to `FEW` and `MANY` units are converted in arrays of `SMALL` and `MIDDLE` bytes, longer ones in one of
 // `LARGE`, before the result is copied to the buffer. A small array takes less time to clear.
@@ -29,19 +29,19 @@ const REPLACEMENT: [u8; 3] = [0xef, 0xbf, 0xbd];
 
 // Converts well-formed units to UTF-8 at the offset `at` of the buffer, chunk by chunk, and returns the offset after
 // the result, as `put_items` does.
-fn put_pieces<C: Unit>(units: &[C], text: &mut [u8], at: usize, piece: &mut [u8]) -> usize
+fn put_chunks<C: Unit>(units: &[C], text: &mut [u8], at: usize, chunk: &mut [u8]) -> usize
     requires well_formed { IsWellFormed C.form (map C.number units.now) }
-    requires piece { 64 ≤ length piece.old }
-    ensures place { result ≡ min (at + length (utf8 (chars C.form (map C.number units.now)))) (2 ^ 64 - 1) }
+    requires chunk { 64 ≤ length chunk.old }
+    ensures offset { result ≡ min (at + length (utf8 (chars C.form (map C.number units.now)))) (2 ^ 64 - 1) }
     ensures text { result ≤ length text.old → take result text.new ≡ take at text.old ++ utf8 (chars C.form (map C.number units.now)) }
-    ensures room { length text.new ≡ length text.old }
-    ensures behind { drop result text.new ≡ drop result text.old }
+    ensures space { length text.new ≡ length text.old }
+    ensures beyond { drop result text.new ≡ drop result text.old }
 {
     let mut at = at;
     let mut rest = units;
-    'pieces: while !rest.is_empty() {
-        let (read, written) = encode_front(rest, piece);
-        at = put_items(text, at, &piece[..written]);
+    'chunks: while !rest.is_empty() {
+        let (read, written) = to_utf8_prefix(rest, chunk);
+        at = put_items(text, at, &chunk[..written]);
         (_, rest) = rest.split_at(read);
     }
     at
@@ -52,20 +52,20 @@ fn put_pieces<C: Unit>(units: &[C], text: &mut [u8], at: usize, piece: &mut [u8]
 // into a `usize` then.
 fn put_checked<C: Unit>(units: &[C], text: &mut [u8]) -> Option<usize>
     requires { 4 * length units.now < 2 ^ 64 - 1 }
-    ensures sound { IfSome result (λ len. IsWellFormed C.form (map C.number units.now)) }
+    ensures valid { IfSome result (λ len. IsWellFormed C.form (map C.number units.now)) }
     ensures fault { IfNone result (IsWellFormed C.form (map C.number units.now) → ⊥) }
     ensures len { IfSome result (λ len. len ≡ length (utf8 (chars C.form (map C.number units.now)))) }
     ensures fits { IfSome result (λ len. len < 2 ^ 64 - 1) }
     ensures text { IfSome result (λ len. len ≤ length text.old → take len text.new ≡ utf8 (chars C.form (map C.number units.now))) }
     ensures unchanged { IfNone result (text.new ≡ text.old) }
-    ensures behind { IfSome result (λ len. drop len text.new ≡ drop len text.old) }
+    ensures beyond { IfSome result (λ len. drop len text.new ≡ drop len text.old) }
 {
     match check(units) {
         Ok(()) => {
             if units.len() <= FEW {
-                Some(put_pieces(units, text, 0, &mut [0; SMALL]))
+                Some(put_chunks(units, text, 0, &mut [0; SMALL]))
             } else {
-                Some(put_pieces(units, text, 0, &mut [0; LARGE]))
+                Some(put_chunks(units, text, 0, &mut [0; LARGE]))
             }
         }
         Err(_fault) => None,
@@ -73,32 +73,32 @@ fn put_checked<C: Unit>(units: &[C], text: &mut [u8]) -> Option<usize>
 }
 
 // Checks and converts a short run of UTF-16 in one pass. The array must hold the result.
-fn put_whole(units: &[u16], text: &mut [u8], piece: &mut [u8]) -> Option<usize>
-    requires { 3 * length units.now + 4 ≤ length piece.old }
-    ensures sound { IfSome result (λ len. IsWellFormed Utf16 units.now) }
+fn put_whole(units: &[u16], text: &mut [u8], chunk: &mut [u8]) -> Option<usize>
+    requires { 3 * length units.now + 4 ≤ length chunk.old }
+    ensures valid { IfSome result (λ len. IsWellFormed Utf16 units.now) }
     ensures fault { IfNone result (IsWellFormed Utf16 units.now → ⊥) }
     ensures len { IfSome result (λ len. len ≡ length (utf8 (chars Utf16 units.now))) }
     ensures fits { IfSome result (λ len. len < 2 ^ 64 - 1) }
     ensures text { IfSome result (λ len. len ≤ length text.old → take len text.new ≡ utf8 (chars Utf16 units.now)) }
     ensures unchanged { IfNone result (text.new ≡ text.old) }
-    ensures behind { IfSome result (λ len. drop len text.new ≡ drop len text.old) }
+    ensures beyond { IfSome result (λ len. drop len text.new ≡ drop len text.old) }
 {
-    match encode_whole(units, piece) {
-        Some(len) => Some(put_items(text, 0, &piece[..len])),
+    match checked_utf16_to_utf8(units, chunk) {
+        Some(len) => Some(put_items(text, 0, &chunk[..len])),
         None => None,
     }
 }
 
 // Checks and converts UTF-16. A short input is checked and converted in one pass, in an array whose size fits. A longer
 // one is checked first.
-fn put_sound(units: &[u16], text: &mut [u8]) -> Option<usize>
-    ensures sound { IfSome result (λ len. IsWellFormed Utf16 units.now) }
+fn put_valid(units: &[u16], text: &mut [u8]) -> Option<usize>
+    ensures valid { IfSome result (λ len. IsWellFormed Utf16 units.now) }
     ensures fault { IfNone result (IsWellFormed Utf16 units.now → ⊥) }
     ensures len { IfSome result (λ len. len ≡ length (utf8 (chars Utf16 units.now))) }
     ensures fits { IfSome result (λ len. len < 2 ^ 64 - 1) }
     ensures text { IfSome result (λ len. len ≤ length text.old → take len text.new ≡ utf8 (chars Utf16 units.now)) }
     ensures unchanged { IfNone result (text.new ≡ text.old) }
-    ensures behind { IfSome result (λ len. drop len text.new ≡ drop len text.old) }
+    ensures beyond { IfSome result (λ len. drop len text.new ≡ drop len text.old) }
 {
     if units.len() <= FEW {
         return put_whole(units, text, &mut [0; SMALL]);
@@ -109,35 +109,35 @@ fn put_sound(units: &[u16], text: &mut [u8]) -> Option<usize>
     put_checked(units, text)
 }
 
-// Converts any UTF-16 to UTF-8 at the start of the buffer, with U+FFFD for each ill-formed unit. `spare` and `piece`
+// Converts any UTF-16 to UTF-8 at the start of the buffer, with U+FFFD for each ill-formed unit. `spare` and `chunk`
 // are scratch arrays.
-fn put_fronts(units: &[u16], text: &mut [u8], spare: &mut [u16], piece: &mut [u8]) -> usize
+fn put_prefixes(units: &[u16], text: &mut [u8], spare: &mut [u16], chunk: &mut [u8]) -> usize
     requires spare { 2 ≤ length spare.old }
-    requires piece { 64 ≤ length piece.old }
+    requires chunk { 64 ≤ length chunk.old }
     ensures len { result ≡ min (length (utf8 (lossy (items Utf16 units.now)))) (2 ^ 64 - 1) }
     ensures text { result ≤ length text.old → take result text.new ≡ utf8 (lossy (items Utf16 units.now)) }
-    ensures behind { drop result text.new ≡ drop result text.old }
+    ensures beyond { drop result text.new ≡ drop result text.old }
 {
     let mut at = 0;
     let mut rest = units;
-    'fronts: while !rest.is_empty() {
-        let (front, behind) = lossy_front(rest, spare);
-        at = put_pieces(front, text, at, piece);
-        rest = behind;
+    'prefixes: while !rest.is_empty() {
+        let (prefix, beyond) = lossy_prefix(rest, spare);
+        at = put_chunks(prefix, text, at, chunk);
+        rest = beyond;
     }
     at
 }
 
 // Converts at most 32 units of any UTF-16, with U+FFFD for each ill-formed unit. It repairs all units at once.
-fn put_mended(units: &[u16], text: &mut [u8]) -> usize
+fn put_repaired(units: &[u16], text: &mut [u8]) -> usize
     requires { length units.now ≤ 32 }
     ensures len { result ≡ min (length (utf8 (lossy (items Utf16 units.now)))) (2 ^ 64 - 1) }
     ensures text { result ≤ length text.old → take result text.new ≡ utf8 (lossy (items Utf16 units.now)) }
-    ensures behind { drop result text.new ≡ drop result text.old }
+    ensures beyond { drop result text.new ≡ drop result text.old }
 {
-    let mut mended = [0; FEW];
-    u16::mend(units, &mut mended);
-    put_pieces(&mended[..units.len()], text, 0, &mut [0; SMALL])
+    let mut repaired = [0; FEW];
+    u16::repair(units, &mut repaired);
+    put_chunks(&repaired[..units.len()], text, 0, &mut [0; SMALL])
 }
 
 // Converts any UTF-16 to UTF-8, with U+FFFD for each ill-formed unit, with arrays whose sizes fit the input.
@@ -145,47 +145,47 @@ fn put_lossy(units: &[u16], text: &mut [u8]) -> usize
     ensures len { result ≡ length (utf8 (lossy (items Utf16 units.now))) }
     ensures fits { result < 2 ^ 64 - 1 }
     ensures text { result ≤ length text.old → take result text.new ≡ utf8 (lossy (items Utf16 units.now)) }
-    ensures behind { drop result text.new ≡ drop result text.old }
+    ensures beyond { drop result text.new ≡ drop result text.old }
 {
     if units.len() <= FEW {
-        put_mended(units, text)
+        put_repaired(units, text)
     } else {
-        put_fronts(units, text, &mut [0; MANY], &mut [0; LARGE])
+        put_prefixes(units, text, &mut [0; MANY], &mut [0; LARGE])
     }
 }
 
 // Converts any units to UTF-8 at the offset `at` of the buffer, replaces faults by the policy, and returns the offset
 // after the result, as `put_items` does. Well-formed units between faults are converted together. `after_fault` says
 // whether the unit before these is ill-formed.
-pub(crate) fn put_lossy_behind<C: Unit>(
+pub(crate) fn put_lossy_after<C: Unit>(
     units: &[C],
     policy: Policy,
     after_fault: bool,
     text: &mut [u8],
     at: usize,
-    piece: &mut [u8],
+    chunk: &mut [u8],
 ) -> usize
-    requires piece { 64 ≤ length piece.old }
-    ensures place { result ≡ min (at + length (utf8 (lossy_after policy after_fault (items C.form (map C.number units.now))))) (2 ^ 64 - 1) }
+    requires chunk { 64 ≤ length chunk.old }
+    ensures offset { result ≡ min (at + length (utf8 (lossy_after policy after_fault (items C.form (map C.number units.now))))) (2 ^ 64 - 1) }
     ensures text { result ≤ length text.old → take result text.new ≡ take at text.old ++ utf8 (lossy_after policy after_fault (items C.form (map C.number units.now))) }
-    ensures room { length text.new ≡ length text.old }
-    ensures behind { drop result text.new ≡ drop result text.old }
+    ensures space { length text.new ≡ length text.old }
+    ensures beyond { drop result text.new ≡ drop result text.old }
 {
     let mut at = at;
     let mut rest = units;
     let mut after = after_fault;
     'faults: while !rest.is_empty() {
-        let len = sound_len(rest);
-        let (front, behind) = rest.split_at(len);
-        at = put_pieces(front, text, at, piece);
-        if behind.is_empty() {
+        let len = valid_len(rest);
+        let (prefix, beyond) = rest.split_at(len);
+        at = put_chunks(prefix, text, at, chunk);
+        if beyond.is_empty() {
             return at;
         }
-        if is_marked(policy, is_after_fault(after, len)) {
+        if writes_replacement(policy, is_after_fault(after, len)) {
             at = put_items(text, at, &REPLACEMENT);
         }
         after = true;
-        (_, rest) = behind.split_at(1);
+        (_, rest) = beyond.split_at(1);
     }
     at
 }
@@ -196,9 +196,9 @@ fn put_lossy_by<C: Unit>(units: &[C], policy: Policy, text: &mut [u8]) -> usize
     ensures len { result ≡ length (utf8 (lossy_by policy (items C.form (map C.number units.now)))) }
     ensures fits { result < 2 ^ 64 - 1 }
     ensures text { result ≤ length text.old → take result text.new ≡ utf8 (lossy_by policy (items C.form (map C.number units.now))) }
-    ensures behind { drop result text.new ≡ drop result text.old }
+    ensures beyond { drop result text.new ≡ drop result text.old }
 {
-    put_lossy_behind(units, policy, false, text, 0, &mut [0; LARGE])
+    put_lossy_after(units, policy, false, text, 0, &mut [0; LARGE])
 }
 
 /// Converts well-formed UTF-16 (Unicode Standard, D91) to UTF-8 (D92). Returns the length of the result in bytes. If
@@ -211,9 +211,9 @@ pub extern "C" fn wide_utf16_to_utf8(units: &[u16], text: &mut [u8]) -> usize
     ensures fault { (IsWellFormed Utf16 units.now → ⊥) → result ≡ 2 ^ 64 - 1 }
     ensures no_fault { IsWellFormed Utf16 units.now → result < 2 ^ 64 - 1 }
     ensures unchanged { (IsWellFormed Utf16 units.now → ⊥) → text.new ≡ text.old }
-    ensures behind { drop result text.new ≡ drop result text.old }
+    ensures beyond { drop result text.new ≡ drop result text.old }
 {
-    put_sound(units, text).unwrap_or(usize::MAX)
+    put_valid(units, text).unwrap_or(usize::MAX)
 }
 
 /// Converts any UTF-16 to UTF-8, and writes U+FFFD for each ill-formed unit. Returns the length of the result in bytes.
@@ -223,9 +223,9 @@ pub extern "C" fn wide_utf16_to_utf8_lossy(units: &[u16], text: &mut [u8]) -> us
     ensures len { result ≡ length (utf8 (lossy (items Utf16 units.now))) }
     ensures no_fault { result < 2 ^ 64 - 1 }
     ensures text { result ≤ length text.old → take result text.new ≡ utf8 (lossy (items Utf16 units.now)) }
-    ensures behind { drop result text.new ≡ drop result text.old }
+    ensures beyond { drop result text.new ≡ drop result text.old }
 {
-    match put_sound(units, text) {
+    match put_valid(units, text) {
         Some(len) => len,
         None => put_lossy(units, text),
     }
@@ -247,7 +247,7 @@ pub extern "C" fn wide_utf16_to_utf8_lossy_with(
     ensures text { IfSome (policy_of policy) (λ p. result ≤ length text.old → take result text.new ≡ utf8 (lossy_by p (items Utf16 units.now))) }
     ensures other { IfNone (policy_of policy) (result ≡ 2 ^ 64 - 1) }
     ensures unchanged { IfNone (policy_of policy) (text.new ≡ text.old) }
-    ensures behind { drop result text.new ≡ drop result text.old }
+    ensures beyond { drop result text.new ≡ drop result text.old }
 {
     match policy_of(policy) {
         Some(Policy::Each) => wide_utf16_to_utf8_lossy(units, text),
@@ -266,7 +266,7 @@ pub extern "C" fn wide_utf32_to_utf8(units: &[u32], text: &mut [u8]) -> usize
     ensures fault { (IsWellFormed Utf32 units.now → ⊥) → result ≡ 2 ^ 64 - 1 }
     ensures no_fault { IsWellFormed Utf32 units.now → result < 2 ^ 64 - 1 }
     ensures unchanged { (IsWellFormed Utf32 units.now → ⊥) → text.new ≡ text.old }
-    ensures behind { drop result text.new ≡ drop result text.old }
+    ensures beyond { drop result text.new ≡ drop result text.old }
 {
     put_checked(units, text).unwrap_or(usize::MAX)
 }
@@ -279,7 +279,7 @@ pub extern "C" fn wide_utf32_to_utf8_lossy(units: &[u32], text: &mut [u8]) -> us
     ensures len { result ≡ length (utf8 (lossy (items Utf32 units.now))) }
     ensures no_fault { result < 2 ^ 64 - 1 }
     ensures text { result ≤ length text.old → take result text.new ≡ utf8 (lossy (items Utf32 units.now)) }
-    ensures behind { drop result text.new ≡ drop result text.old }
+    ensures beyond { drop result text.new ≡ drop result text.old }
 {
     put_lossy_by(units, Policy::Each, text)
 }
@@ -300,7 +300,7 @@ pub extern "C" fn wide_utf32_to_utf8_lossy_with(
     ensures text { IfSome (policy_of policy) (λ p. result ≤ length text.old → take result text.new ≡ utf8 (lossy_by p (items Utf32 units.now))) }
     ensures other { IfNone (policy_of policy) (result ≡ 2 ^ 64 - 1) }
     ensures unchanged { IfNone (policy_of policy) (text.new ≡ text.old) }
-    ensures behind { drop result text.new ≡ drop result text.old }
+    ensures beyond { drop result text.new ≡ drop result text.old }
 {
     match policy_of(policy) {
         Some(policy) => put_lossy_by(units, policy, text),

@@ -24,14 +24,14 @@ pub fn take_all_wide<C: FaultUnit>(text: &mut UtfString<C>) {
 }
 
 /// Removes this many characters at the beginning of UTF-16, if there are as many.
-pub fn drop_front(text: &mut Utf16String, count: usize) {
+pub fn drop_prefix(text: &mut Utf16String, count: usize) {
     if let Some(end) = text.as_utfstr().unit_offset(count) {
         text.drain(..end);
     }
 }
 
 /// Removes this many characters at the beginning at any width, if there are as many.
-pub fn drop_front_wide<C: FaultUnit>(text: &mut UtfString<C>, count: usize) {
+pub fn drop_prefix_wide<C: FaultUnit>(text: &mut UtfString<C>, count: usize) {
     if let Some(end) = text.as_utfstr().unit_offset(count) {
         text.drain(..end);
     }

@@ -47,7 +47,7 @@ pub fn literal_with_a_nul(alloc: Global, text: &str) -> bool
 /// The units are 61, 0 and 62.
 pub fn inner_nul_of_a_vector(units: Vec<u16>) -> Option<(usize, Option<Vec<u16>>)>
     requires { units.items ≡ 0x61 ∷ 0 ∷ 0x62 ∷ [] }
-    ensures handed_back { IfSome result (λ told. (told.0 ≡ 1) × IfSome told.1 (λ vec. vec.items ≡ 0x61 ∷ 0 ∷ 0x62 ∷ [])) }
+    ensures handed_back { IfSome result (λ reported. (reported.0 ≡ 1) × IfSome reported.1 (λ vec. vec.items ≡ 0x61 ∷ 0 ∷ 0x62 ∷ [])) }
     ensures some { IsSome result }
 {
     match U16CString::from_vec(units) {

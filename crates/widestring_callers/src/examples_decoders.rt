@@ -2,7 +2,7 @@
 ghost use Rattle.std.specs.Prelude.{◌≡◌, ◌∷◌, [], Some, None, IfOk, map};
 ghost use Rattle.std.specs.Option.{option_map};
 ghost use Rattle.widestring.specs.Segmentation.{Char, Fault};
-ghost use Rattle.widestring.specs.Unit.{told_item};
+ghost use Rattle.widestring.specs.Unit.{reported_item};
 
 use std::alloc::Global;
 use widestring::Policy;
@@ -32,7 +32,7 @@ pub fn replacement_of_the_text(alloc: Global) -> Result<Vec<Option<char>>, OutOf
 pub fn pair_from_the_back(
     alloc: Global,
 ) -> Result<Vec<Option<Result<char, DecodeUtf16Error>>>, OutOfMemory>
-    ensures { IfOk result (λ answers. map (option_map told_item) answers.items ≡ Some (Char 0x1_F600) ∷ None ∷ []) }
+    ensures { IfOk result (λ answers. map (option_map reported_item) answers.items ≡ Some (Char 0x1_F600) ∷ None ∷ []) }
 {
     laws::worked_items();
     read_ends16(alloc, &[0xD83D, 0xDE00], &[End::Back, End::Back])
@@ -42,7 +42,7 @@ pub fn pair_from_the_back(
 pub fn surrogates_of_utf32(
     alloc: Global,
 ) -> Result<Vec<Option<Result<char, DecodeUtf32Error>>>, OutOfMemory>
-    ensures { IfOk result (λ answers. map (option_map told_item) answers.items ≡ Some (Fault 0xD800) ∷ Some (Fault 0xDC00) ∷ []) }
+    ensures { IfOk result (λ answers. map (option_map reported_item) answers.items ≡ Some (Fault 0xD800) ∷ Some (Fault 0xDC00) ∷ []) }
 {
     laws::worked_items();
     laws::units_of_utf32();
@@ -53,7 +53,7 @@ pub fn surrogates_of_utf32(
 pub fn faults_from_both_ends(
     alloc: Global,
 ) -> Result<Vec<Option<Result<char, DecodeUtf16Error>>>, OutOfMemory>
-    ensures { IfOk result (λ answers. map (option_map told_item) answers.items ≡ Some (Fault 0xDE00) ∷ Some (Fault 0xD83D) ∷ None ∷ []) }
+    ensures { IfOk result (λ answers. map (option_map reported_item) answers.items ≡ Some (Fault 0xDE00) ∷ Some (Fault 0xD83D) ∷ None ∷ []) }
 {
     laws::worked_items();
     read_ends16(

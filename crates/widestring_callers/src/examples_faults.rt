@@ -8,7 +8,7 @@ use widestring::unit::laws;
 use widestring::{U16Str, Utf16Str};
 
 /// Finds the high surrogate after a pair: two units and one character precede it.
-pub fn fault_behind_a_pair() -> Option<(usize, usize, u16)>
+pub fn fault_after_a_pair() -> Option<(usize, usize, u16)>
     ensures { result ≡ Some (2, 1, 0xD800) }
 {
     laws::worked_fault();

@@ -103,7 +103,7 @@ pub fn put_whole_or_not(string: &mut U16String) -> bool
 /// # Requires
 ///
 /// The units are 61.
-pub fn capacity_behind_a_unit(string: &mut U16String) -> Option<usize>
+pub fn capacity_after_a_unit(string: &mut U16String) -> Option<usize>
     requires { string.old.units ≡ 0x61 ∷ [] }
     ensures { IfSome result (λ capacity. 11 ≤ capacity) }
 {

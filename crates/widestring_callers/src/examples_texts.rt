@@ -8,7 +8,7 @@ use widestring::unit::laws;
 use widestring::utfstring::CowUtfStr;
 
 /// Replaces each of two high surrogates after a pair by U+FFFD, and leaves the pair unchanged.
-pub fn mended_units(alloc: Global) -> Result<Utf16String, OutOfMemory>
+pub fn repaired_units(alloc: Global) -> Result<Utf16String, OutOfMemory>
     ensures { IfOk result (λ text. text.units ≡ 0xD83D ∷ 0xDE00 ∷ 0xFFFD ∷ 0xFFFD ∷ []) }
 {
     laws::worked_lossy();
@@ -44,7 +44,7 @@ pub fn last_of_a_pair(text: &mut Utf16String) -> Option<char>
 /// # Requires
 ///
 /// The text is one pair.
-pub fn letter_behind_a_pair(text: &mut Utf16String) -> Result<(), OutOfMemory>
+pub fn letter_after_a_pair(text: &mut Utf16String) -> Result<(), OutOfMemory>
     requires { text.old.units ≡ 0xD83D ∷ 0xDE00 ∷ [] }
     ensures { OnOk result (text.new.units ≡ 0xD83D ∷ 0xDE00 ∷ 0x61 ∷ []) }
 {

@@ -14,7 +14,7 @@ pub fn faulty_unit(units: &[u16]) -> Option<u16> {
 }
 
 /// Returns the units before the first fault.
-pub fn sound_part(units: &[u32]) -> &[u32] {
+pub fn valid_part(units: &[u32]) -> &[u32] {
     match Utf32Str::from_slice(units) {
         Ok(_) => units,
         Err(fault) => &units[..fault.index()],

@@ -82,8 +82,8 @@ pub fn edit_now<T: TextEdit>(
     ensures reply { IfOk result (λ reply. answer_of reply ≡ (step (T.text text.old) edit.entry).1) }
     ensures err { OnErr result (T.text text.new ≡ T.text text.old) }
 {
-    let room = text.prepare(alloc, edit)?;
-    Ok(text.apply(edit, room))
+    let space = text.prepare(alloc, edit)?;
+    Ok(text.apply(edit, space))
 }
 
 /// Makes any edits of two texts with the same characters, which have the same characters afterwards.
@@ -157,8 +157,8 @@ pub fn find_edited(
 }
 
 /// Returns the units before a character of a text with an offset index.
-pub fn front_of<'a>(marked: &'a Marked16, index: usize, steps: &mut Steps) -> Option<&'a [u16]>
-    ensures front { IfSome result (λ front. chars Utf16 front.now ≡ take index (marked_text marked.now)) }
+pub fn prefix_of<'a>(marked: &'a Marked16, index: usize, steps: &mut Steps) -> Option<&'a [u16]>
+    ensures prefix { IfSome result (λ prefix. chars Utf16 prefix.now ≡ take index (marked_text marked.now)) }
     ensures steps { AddsAtMost steps.old steps.new 126 }
 {
     let at = marked.unit_offset(index, steps)?;

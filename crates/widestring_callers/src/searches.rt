@@ -1,9 +1,9 @@
 //! Texts split and edited at the results of searches.
 ghost use Rattle.std.specs.Prelude.{◌≡◌, ◌≤◌, length};
 ghost use Rattle.widestring.specs.EncodingForm.{Utf16, code_units};
-ghost use Rattle.widestring.specs.SearchCut.{pieces};
-ghost use Rattle.widestring.specs.SearchPieces.{ArePieces};
-ghost use Rattle.widestring.specs.TextSplit.{char_pieces_left, text_pieces_left};
+ghost use Rattle.widestring.specs.SearchCut.{substrings};
+ghost use Rattle.widestring.specs.SearchSubstrings.{AreSubstrings};
+ghost use Rattle.widestring.specs.TextSplit.{char_substrings_left, text_substrings_left};
 ghost use Rattle.widestring.specs.View.{units_seen};
 
 use widestring::error::{FaultUnit, OutOfMemory};
@@ -15,9 +15,9 @@ use widestring::{U16CStr, U16Str, Utf16Str, Utf16String};
 /// Returns the text before the first occurrence of a needle, and the text after it.
 pub fn around<'a>(text: Utf16Str<'a>, part: Utf16Str<'_>) -> Option<(Utf16Str<'a>, Utf16Str<'a>)> {
     let at = text.find(part)?;
-    let (front, _) = text.split_at(at);
+    let (prefix, _) = text.split_at(at);
     let (_, rest) = text.split_at(at + part.len());
-    Some((front, rest))
+    Some((prefix, rest))
 }
 
 /// Returns the text before the last occurrence of a needle, and the text after it, at any width.
@@ -26,13 +26,13 @@ pub fn around_last<'a, C: Unit>(
     part: UtfStr<'_, C>,
 ) -> Option<(UtfStr<'a, C>, UtfStr<'a, C>)> {
     let at = text.rfind(part)?;
-    let (front, _) = text.split_at(at);
+    let (prefix, _) = text.split_at(at);
     let (_, rest) = text.split_at(at + part.len());
-    Some((front, rest))
+    Some((prefix, rest))
 }
 
 /// Returns the text after the first occurrence of a needle, by a range.
-pub fn behind<'a>(text: Utf16Str<'a>, part: Utf16Str<'_>) -> Option<Utf16Str<'a>> {
+pub fn beyond<'a>(text: Utf16Str<'a>, part: Utf16Str<'_>) -> Option<Utf16Str<'a>> {
     let at = text.find(part)?;
     let Some(rest) = text.get(at + part.len()..) else {
         unreachable!()
@@ -41,7 +41,7 @@ pub fn behind<'a>(text: Utf16Str<'a>, part: Utf16Str<'_>) -> Option<Utf16Str<'a>
 }
 
 /// Returns the text after the last occurrence of a character, at any width.
-pub fn behind_char<C: Unit>(text: UtfStr<'_, C>, c: char) -> Option<UtfStr<'_, C>> {
+pub fn after_char<C: Unit>(text: UtfStr<'_, C>, c: char) -> Option<UtfStr<'_, C>> {
     let at = text.rfind_char(c)?;
     let (_, rest) = text.split_at(at + C::char_len(c));
     Some(rest)
@@ -71,7 +71,7 @@ pub fn cut_from(text: &mut Utf16String, part: Utf16Str<'_>) {
 }
 
 /// Removes the text after the first occurrence of a character.
-pub fn cut_behind(text: &mut Utf16String, c: char) {
+pub fn cut_after(text: &mut Utf16String, c: char) {
     if let Some(at) = text.as_utfstr().find_char(c) {
         text.drain(at + u16::char_len(c)..);
     }
@@ -81,16 +81,16 @@ pub fn cut_behind(text: &mut Utf16String, c: char) {
 pub fn at_most<C: Unit>(text: UtfStr<'_, C>, units: usize) -> UtfStr<'_, C>
     ensures { length (units_seen result) ≤ units }
 {
-    let (front, _) = text.split_at(text.floor_char_boundary(units));
-    front
+    let (prefix, _) = text.split_at(text.floor_char_boundary(units));
+    prefix
 }
 
 /// Returns at least this many units of the text, if there are as many, without splitting a character.
 pub fn at_least<C: Unit>(text: UtfStr<'_, C>, units: usize) -> UtfStr<'_, C>
     ensures { units ≤ length (units_seen text.entry) → units ≤ length (units_seen result) }
 {
-    let (front, _) = text.split_at(text.ceil_char_boundary(units));
-    front
+    let (prefix, _) = text.split_at(text.ceil_char_boundary(units));
+    prefix
 }
 
 /// Returns a key and its value, if the text has an equals sign.
@@ -103,7 +103,7 @@ pub fn key_and_value<'a>(
 }
 
 /// Returns how many substrings a character separates.
-pub fn count_pieces(text: Utf16Str<'_>, c: char) -> usize {
+pub fn count_substrings(text: Utf16Str<'_>, c: char) -> usize {
     let mut count = 0_usize;
     for _ in text.split_char(c) {
         count = count.saturating_add(1);
@@ -115,15 +115,15 @@ pub fn count_pieces(text: Utf16Str<'_>, c: char) -> usize {
 pub fn before_unit(units: U16Str<'_>, unit: u16) -> U16Str<'_> {
     match units.find_unit(unit) {
         Some(at) => {
-            let (front, _) = units.split_at(at);
-            front
+            let (prefix, _) = units.split_at(at);
+            prefix
         }
         None => units,
     }
 }
 
 /// Returns the units after a prefix, or all units if they do not begin with it.
-pub fn without_front<'a>(units: U16Str<'a>, part: U16Str<'_>) -> U16Str<'a> {
+pub fn without_prefix<'a>(units: U16Str<'a>, part: U16Str<'_>) -> U16Str<'a> {
     units.strip_prefix(part).unwrap_or(units)
 }
 
@@ -140,9 +140,9 @@ pub fn last_part<'a>(path: U16CStr<'a>, slash: char) -> U16Str<'a> {
 
 /// Returns the offset of the first line that equals `mark`.
 pub fn line_of(text: Utf16Str<'_>, mark: Utf16Str<'_>) -> Option<usize> {
-    for (place, line) in text.line_indices() {
+    for (offset, line) in text.line_indices() {
         if line == mark {
-            return Some(place);
+            return Some(offset);
         }
     }
     None
@@ -194,9 +194,9 @@ pub fn parted_at_line<'a>(
     text: Utf16Str<'a>,
     mark: Utf16Str<'_>,
 ) -> Option<(Utf16Str<'a>, Utf16Str<'a>)> {
-    for (place, line) in text.line_indices() {
+    for (offset, line) in text.line_indices() {
         if line == mark {
-            return Some(text.split_at(place));
+            return Some(text.split_at(offset));
         }
     }
     None
@@ -217,13 +217,13 @@ pub fn insert_before_remembered(
     mark: char,
     c: char,
 ) -> Result<(), OutOfMemory> {
-    let mut place = None;
+    let mut offset = None;
     for (at, found) in text.as_utfstr().char_indices() {
         if found == mark {
-            place = Some(at);
+            offset = Some(at);
         }
     }
-    match place {
+    match offset {
         Some(at) if text.as_utfstr().is_char_boundary(at) => text.insert(at, c),
         _ => Ok(()),
     }
@@ -262,14 +262,14 @@ pub fn count_lines(text: Utf16Str<'_>) -> usize {
 
 /// Returns the fields of a line between commas, which are the substrings of its units.
 pub fn fields<'a>(line: Utf16Str<'a>, comma: Utf16Str<'a>) -> Split<Utf16Str<'a>, Utf16Str<'a>>
-    ensures { text_pieces_left (λ u. u) result ≡ pieces (units_seen comma.entry) (units_seen line.entry) }
+    ensures { text_substrings_left (λ u. u) result ≡ substrings (units_seen comma.entry) (units_seen line.entry) }
 {
     line.split(comma)
 }
 
 /// Returns the fields of a line between characters, which are the substrings of its units.
 pub fn fields_between(line: Utf16Str<'_>, c: char) -> Split<Utf16Str<'_>, char>
-    ensures { ArePieces (code_units Utf16 c) (units_seen line.entry) (char_pieces_left Utf16 (λ u. u) result) }
+    ensures { AreSubstrings (code_units Utf16 c) (units_seen line.entry) (char_substrings_left Utf16 (λ u. u) result) }
 {
     line.split_char(c)
 }

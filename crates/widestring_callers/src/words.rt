@@ -2,11 +2,11 @@
 ghost use Rattle.std.specs.Prelude.{◌≡◌, IfOk, OnOk, IfErr, false};
 ghost use Rattle.std.specs.Char.Escape.{escape_unicode};
 ghost use Rattle.std.specs.List.{flat_map};
-ghost use Rattle.widestring.specs.Bytes.{units_of_bytes, is_odd, mark_of};
+ghost use Rattle.widestring.specs.Bytes.{units_of_bytes, is_odd, bom_of};
 ghost use Rattle.widestring.specs.CStringView as c_view;
 ghost use Rattle.widestring.specs.EncodingForm.{Utf16, Utf32};
 ghost use Rattle.widestring.specs.Escapes.{unicode_left};
-ghost use Rattle.widestring.specs.Include.{TellsOfBytes};
+ghost use Rattle.widestring.specs.Include.{ReportsOfBytes};
 ghost use Rattle.widestring.specs.Items.{items, IsWellFormed};
 ghost use Rattle.widestring.specs.Iter.{chars_rest};
 ghost use Rattle.widestring.specs.Lines.{lines_of};
@@ -76,7 +76,7 @@ pub fn numbered(text: Utf16Str<'_>) -> EscapeUnicode<'_, u16>
 
 /// Returns the byte order of a BOM, and the units after it.
 pub fn marked_units(bytes: &[u8]) -> (Option<BoM>, UnitsOfBytes<'_>)
-    ensures mark { result.0 ≡ mark_of bytes.now }
+    ensures mark { result.0 ≡ bom_of bytes.now }
     ensures units { units_left result.1 ≡ units_of_bytes bytes.now }
 {
     (byte_order(bytes), units_of_bytes(bytes))
@@ -91,7 +91,7 @@ pub fn text_of_bytes(alloc: Global, bytes: &[u8]) -> Result<Utf16String, Utf16By
     ensures string { IfOk result (λ s. s.units ≡ units_of_bytes bytes.now) }
     ensures even { OnOk result (is_odd bytes.now ≡ false) }
     ensures text { OnOk result (IsWellFormed Utf16 (units_of_bytes bytes.now)) }
-    ensures told { IfErr result (TellsOfBytes bytes.now) }
+    ensures reported { IfErr result (ReportsOfBytes bytes.now) }
 {
     include_utf16str(alloc, bytes)
 }

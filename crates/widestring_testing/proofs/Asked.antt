@@ -19,22 +19,22 @@ use Rattle.widestring_testing.specs.contracts.limited.Ration.{the_row}
 use Rattle.widestring_testing.specs.contracts.limited.Ration.refuses as asked
 
 abbrev pub lent : Lft → ℕ × ℕ → Ration → Fml
-lent κ place ration = hidden_shr the_row κ ration place.0 place.1
+lent κ offset ration = hidden_shr the_row κ ration offset.0 offset.1
 
 module _ {M : Type 1} {𝓤 : Ura M} (𝓛 : Logic 𝓤) (at_mem : Memory → SProp 𝓤) (run : Routine → Fun 𝓤) where
   abbrev pub Asks : Contract 𝓤
   Asks = triple_of 𝓛 asked.signature (asked.spec 𝓛 at_mem run)
 
-module _ {M : Type 1} {𝓤 : Ura M} (𝓛 : Logic 𝓤) (at_mem : Memory → SProp 𝓤) (run : Routine → Fun 𝓤) (κ : Lft) (q : Share) (place : ℕ × ℕ) (ration : Ration) where
+module _ {M : Type 1} {𝓤 : Ura M} (𝓛 : Logic 𝓤) (at_mem : Memory → SProp 𝓤) (run : Routine → Fun 𝓤) (κ : Lft) (q : Share) (offset : ℕ × ℕ) (ration : Ration) where
   open 𝓛 use {H, A}
 
   abbrev pub picked : (Asks 𝓛 at_mem run).Ghost
-  picked = (((κ, tt), (q, tt), tt, (record { ref_ptr = place; now = ration }, tt), (vptr place.0 place.1 ∷ [], tt)), tt)
+  picked = (((κ, tt), (q, tt), tt, (record { ref_ptr = offset; now = ration }, tt), (vptr offset.0 offset.1 ∷ [], tt)), tt)
 
-  pub asking : ent 𝓤 (sep 𝓤 (sem 𝓛 (lent κ place ration)) (A.lft κ q)) ((Asks 𝓛 at_mem run).pre picked)
+  pub asking : ent 𝓤 (sep 𝓤 (sem 𝓛 (lent κ offset ration)) (A.lft κ q)) ((Asks 𝓛 at_mem run).pre picked)
   asking =
-      qed 𝓛 (‵ (lent κ place ration) ∷ ‵ (flft κ q) ∷ []) ∵
-      feq_i ! (List Val) (vptr place.0 place.1 ∷ []) _ refl $ fjoin ! $ nothing ! $ move ! (1 ∷ 0 ∷ []) $ fjoin ! $
+      qed 𝓛 (‵ (lent κ offset ration) ∷ ‵ (flft κ q) ∷ []) ∵
+      feq_i ! (List Val) (vptr offset.0 offset.1 ∷ []) _ refl $ fjoin ! $ nothing ! $ move ! (1 ∷ 0 ∷ []) $ fjoin ! $
       nothing ! $ move ! (2 ∷ 0 ∷ []) $ join ! $ join ! $ nothing ! $ move ! (1 ∷ 0 ∷ []) $ join ! $ done !
 
   pub answer : (v : Val) → ent 𝓤 ((Asks 𝓛 at_mem run).post picked v) (H.⇛ (ex 𝓤 (λ (refused : Bool). guard 𝓤 (v ≡ vbool refused) (A.lft κ q))))

@@ -8,7 +8,7 @@ use wide_bytes::ByteSink;
 
 /// A sink over memory that takes at most `step` bytes in a call, or a pseudo-random number of them if `step` is 0.
 ///
-/// Once it has as many bytes as `room` allows, it fails at each call: by an error, or by taking none.
+/// Once it has as many bytes as `space` allows, it fails at each call: by an error, or by taking none.
 #[derive(Drop)]
 pub struct SlowSink {
     /// The bytes that it took.
@@ -16,7 +16,7 @@ pub struct SlowSink {
     /// How many bytes a call takes at most.
     pub step: usize,
     /// How many bytes it takes before it fails. `None` means no limit.
-    pub room: Option<usize>,
+    pub space: Option<usize>,
     /// Whether it fails by taking no bytes.
     pub takes_none: bool,
     /// How many calls there were.
@@ -29,13 +29,13 @@ pub struct SlowSink {
 
 impl SlowSink {
     /// Creates a sink that has taken nothing.
-    pub fn new(alloc: Global, step: usize, room: Option<usize>, takes_none: bool) -> SlowSink
+    pub fn new(alloc: Global, step: usize, space: Option<usize>, takes_none: bool) -> SlowSink
         ensures failed { result.failed ≡ false }
     {
         SlowSink {
             bytes: Vec::new(alloc),
             step,
-            room,
+            space,
             takes_none,
             calls: 0,
             seed: 1,
@@ -44,9 +44,9 @@ impl SlowSink {
     }
 
     // Returns how many more bytes it takes.
-    fn room_left(&self) -> usize {
-        match self.room {
-            Some(room) => room.saturating_sub(self.bytes.len()),
+    fn space_left(&self) -> usize {
+        match self.space {
+            Some(space) => space.saturating_sub(self.bytes.len()),
             None => usize::MAX,
         }
     }
@@ -59,8 +59,8 @@ impl ByteSink for SlowSink {
 
     fn put(&mut self, bytes: &[u8]) -> io::Result<usize> {
         self.calls = self.calls.saturating_add(1);
-        let room = self.room_left();
-        if room == 0 {
+        let space = self.space_left();
+        if space == 0 {
             if !self.takes_none {
                 self.failed = true;
                 return Err(io::Error::other("a fault"));
@@ -72,7 +72,7 @@ impl ByteSink for SlowSink {
         }
         self.seed = next_seed(self.seed);
         let most = step_by(self.step, self.seed).max(1);
-        let n = most.min(bytes.len()).min(room);
+        let n = most.min(bytes.len()).min(space);
         if self.bytes.extend_from_slice(&bytes[..n]).is_err() {
             self.failed = true;
             return Err(io::Error::other("out of memory"));

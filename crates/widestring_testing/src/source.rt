@@ -57,7 +57,7 @@ impl<'a> SlowSource<'a> {
     }
 
     /// Creates a source of these bytes that fails after them.
-    pub fn failing_behind(bytes: &'a [u8], step: usize) -> SlowSource<'a>
+    pub fn failing_after(bytes: &'a [u8], step: usize) -> SlowSource<'a>
         ensures failed { result.failed ≡ false }
         ensures ended { result.ended ≡ false }
     {

@@ -2,5 +2,5 @@
 use Rattle.std.specs.Prelude.{ℕ, List}
 use Rattle.widestring_tests.specs.declared.callers.Front.{Front}
 
-abbrev pub front_rest : Front → List ℕ
-front_rest s = s.rest.now
+abbrev pub prefix_rest : Front → List ℕ
+prefix_rest s = s.rest.now

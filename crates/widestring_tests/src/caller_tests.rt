@@ -1,7 +1,7 @@
 //! Tests of the callers at concrete units.
 use crate::all_hold::all_hold;
 use crate::callers::{
-    Front, all_of, all_of_front, all_of_source, all_of32, first_of, last_lossy_of32, last_of,
+    Front, all_of, all_of_prefix, all_of_source, all_of32, first_of, last_lossy_of32, last_of,
     lossy_of, lossy_of16, text_of,
 };
 use crate::encoders::{bytes_of, last_unit_of, units_of};
@@ -23,7 +23,7 @@ fn callers_of_decoders(rt: HostRuntime) -> Result<(), Fail> {
         last_of(UNITS.to_vec(alloc)?) == Some(Err(fault)),
         all_of(alloc, &UNITS)?.len() == 3,
         all_of_source(alloc, source)?.len() == 3,
-        all_of_front(alloc, source)?.len() == 3,
+        all_of_prefix(alloc, source)?.len() == 3,
         all_of32(alloc, &wide)?.len() == 4,
         last_lossy_of32(&wide) == Some('\u{1f600}'),
         last_lossy_of32(&wide[..3]) == Some('\u{fffd}'),

@@ -6,8 +6,8 @@ ghost use Rattle.widestring.specs.EncodingForm.{Utf16, Utf32, IsCodeUnit};
 ghost use Rattle.widestring.specs.Items.{items};
 ghost use Rattle.widestring.specs.Lossy.{lossy};
 ghost use Rattle.widestring.specs.Segmentation.{Item};
-ghost use Rattle.widestring.specs.Unit.{told_item};
-ghost use Rattle.widestring_tests.specs.Front.{front_rest};
+ghost use Rattle.widestring.specs.Unit.{reported_item};
+ghost use Rattle.widestring_tests.specs.Front.{prefix_rest};
 ghost use Rattle.widestring.specs.Transcoded.{transcoded, Clean};
 ghost use Rattle.wide_bytes.specs.declared.mode.Mode.TheVariants.{Strict};
 
@@ -33,14 +33,14 @@ pub fn text_of(alloc: Global, bytes: &[u8]) -> Result<Vec<u8>, TranscodeError>
 
 /// Returns the first item of a vector of units, and consumes the vector.
 pub fn first_of(units: Vec<u16>) -> Option<Result<char, DecodeUtf16Error>>
-    ensures { MatchOption result (items Utf16 units.items ≡ []) (λ r. (more : List Item) × (items Utf16 units.items ≡ told_item r ∷ more)) }
+    ensures { MatchOption result (items Utf16 units.items ≡ []) (λ r. (more : List Item) × (items Utf16 units.items ≡ reported_item r ∷ more)) }
 {
     decode_utf16(units).next()
 }
 
 /// Returns the last item of a vector of units, and consumes the vector.
 pub fn last_of(units: Vec<u16>) -> Option<Result<char, DecodeUtf16Error>>
-    ensures { MatchOption result (items Utf16 units.items ≡ []) (λ r. (more : List Item) × (items Utf16 units.items ≡ more ++ told_item r ∷ [])) }
+    ensures { MatchOption result (items Utf16 units.items ≡ []) (λ r. (more : List Item) × (items Utf16 units.items ≡ more ++ reported_item r ∷ [])) }
 {
     decode_utf16(units).next_back()
 }
@@ -54,7 +54,7 @@ pub fn all_of(
     alloc: Global,
     units: &[u16],
 ) -> Result<Vec<Result<char, DecodeUtf16Error>>, AllocError>
-    ensures { IfOk result (λ v. map told_item v.items ≡ items Utf16 units.now) }
+    ensures { IfOk result (λ v. map reported_item v.items ≡ items Utf16 units.now) }
 {
     decode_utf16(units.iter().copied()).collect(alloc)
 }
@@ -74,7 +74,7 @@ pub fn all_of_source<I: Iterator<Item = u16>>(
 ) -> Result<Vec<Result<char, DecodeUtf16Error>>, AllocError>
     requires can { I.can_next units }
     requires ends { IsFinite (I.remaining units) }
-    ensures { (rest : I → List ℕ) → GivesFirst (IsCodeUnit Utf16) I.next_gives rest → IfOk result (λ v. map told_item v.items ≡ items Utf16 (rest units)) }
+    ensures { (rest : I → List ℕ) → GivesFirst (IsCodeUnit Utf16) I.next_gives rest → IfOk result (λ v. map reported_item v.items ≡ items Utf16 (rest units)) }
 {
     decode_utf16(units).collect(alloc)
 }
@@ -89,9 +89,9 @@ pub struct Front<'a> {
 impl Iterator for Front<'_> {
     type Item = u16;
 
-    ghost next_gives = { YieldsFirst front_rest };
+    ghost next_gives = { YieldsFirst prefix_rest };
 
-    ghost remaining = { item_count front_rest };
+    ghost remaining = { item_count prefix_rest };
 
     fn next(&mut self) -> Option<u16> {
         let (first, others) = self.rest.split_first()?;
@@ -105,11 +105,11 @@ impl Iterator for Front<'_> {
 /// # Errors
 ///
 /// [`AllocError`] if an allocation fails.
-pub fn all_of_front(
+pub fn all_of_prefix(
     alloc: Global,
     units: Front<'_>,
 ) -> Result<Vec<Result<char, DecodeUtf16Error>>, AllocError>
-    ensures { IfOk result (λ v. map told_item v.items ≡ items Utf16 (front_rest units.entry)) }
+    ensures { IfOk result (λ v. map reported_item v.items ≡ items Utf16 (prefix_rest units.entry)) }
 {
     decode_utf16(units).collect(alloc)
 }
@@ -123,7 +123,7 @@ pub fn all_of32(
     alloc: Global,
     units: &[u32],
 ) -> Result<Vec<Result<char, DecodeUtf32Error>>, AllocError>
-    ensures { IfOk result (λ v. map told_item v.items ≡ items Utf32 units.now) }
+    ensures { IfOk result (λ v. map reported_item v.items ≡ items Utf32 units.now) }
 {
     decode_utf32(units.iter().copied()).collect(alloc)
 }

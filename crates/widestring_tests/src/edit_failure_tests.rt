@@ -125,10 +125,10 @@ fn is_prepared(alloc: Global, edit: Edit<'_>) -> bool {
         Ok(marked) => marked,
         Err(is_right) => return is_right,
     };
-    let Ok(room) = first.prepare(alloc, edit) else {
+    let Ok(space) = first.prepare(alloc, edit) else {
         return first.as_utfstr().eq_str(TEXT) & (first.marks() == [65].as_slice());
     };
-    let reply = first.apply(edit, room);
+    let reply = first.apply(edit, space);
     let Ok(mut list) = TEXT.chars().collect::<Vec<char>>(alloc) else {
         return true;
     };

@@ -12,7 +12,7 @@ fn is_utf16(list: &[char], units: &[u16]) -> bool {
     let mut rest = units;
     for c in list {
         match rest.strip_prefix(c.encode_utf16(&mut [0; 2])) {
-            Some(behind) => rest = behind,
+            Some(beyond) => rest = beyond,
             None => return false,
         }
     }
@@ -28,9 +28,9 @@ fn is_utf32(list: &[char], units: &[u32]) -> bool {
 fn are_marks(list: &[char], marks: &[usize]) -> bool {
     let mut units = 0usize;
     let mut rest = marks.iter();
-    for (place, c) in list.iter().enumerate() {
+    for (offset, c) in list.iter().enumerate() {
         units = units.saturating_add(c.len_utf16());
-        if place % 64 == 63 && rest.next() != Some(&units) {
+        if offset % 64 == 63 && rest.next() != Some(&units) {
             return false;
         }
     }

@@ -17,7 +17,7 @@ fn of_units() {
     unit::laws::encoded_characters();
     unit::laws::boundaries();
     unit::laws::first_faults();
-    unit::laws::places_of_characters();
+    unit::laws::offsets_of_characters();
     unit::laws::spliced_text();
     unit::laws::encodings_of_edits();
     unit::laws::filtered_text();

@@ -11,6 +11,8 @@ mod all_hold;
 mod caller_tests;
 pub mod callers;
 #[cfg(test)]
+mod chunk_tests;
+#[cfg(test)]
 mod device_tests;
 #[cfg(test)]
 mod edit_failure_tests;
@@ -22,11 +24,9 @@ mod error_tests;
 #[cfg(test)]
 mod law_tests;
 #[cfg(test)]
-mod offset_tests;
+mod offsets;
 #[cfg(test)]
 mod paths;
-#[cfg(test)]
-mod piece_tests;
 #[cfg(test)]
 mod plain;
 #[cfg(test)]

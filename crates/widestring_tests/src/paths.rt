@@ -53,7 +53,7 @@ pub mod search {
 }
 
 pub mod search_laws {
-    pub use widestring::search::laws::{one_list_of_pieces, one_place, parts_of_text};
+    pub use widestring::search::laws::{needles_in_text, one_list_of_substrings, one_offset};
 }
 
 pub mod ucstr {
@@ -93,9 +93,9 @@ pub mod unit_laws {
     pub use widestring::unit::laws::{
         boundaries, code_points_of_text, encoded_characters, encodings_of_edits, equal_characters,
         filtered_text, first_faults, items_of_utf16, joined_items, lines_of_units, lossy_text,
-        lossy_text_by_policy, neighbours_matter, one_segmentation, order_agrees,
-        places_of_characters, segmentations_by_form, spliced_text, units_of_utf32,
-        utf8_of_characters, worked_fault, worked_items, worked_lossy,
+        lossy_text_by_policy, neighbours_matter, offsets_of_characters, one_segmentation,
+        order_agrees, segmentations_by_form, spliced_text, units_of_utf32, utf8_of_characters,
+        worked_fault, worked_items, worked_lossy,
     };
 }
 
@@ -104,7 +104,7 @@ pub mod ustr {
         CharIndices, CharIndicesLossy, CharIndicesLossyUtf16, CharIndicesLossyUtf32,
         CharIndicesUtf16, CharIndicesUtf32, Chars, CharsLossy, CharsLossyUtf16, CharsLossyUtf32,
         CharsLossyWith, CharsUtf16, CharsUtf32, Display, DisplaySkipping, LineIndices, LineView,
-        Lines, Split, SplitView, U16Str, U32Str, UStr, WideChar, WideStr, behind_faults,
+        Lines, Split, SplitView, U16Str, U32Str, UStr, WideChar, WideStr, after_faults,
     };
 }
 

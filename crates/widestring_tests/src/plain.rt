@@ -4,16 +4,16 @@ use std::alloc::{AllocError, Global};
 use widestring::edit::{Edit, Reply};
 
 // Makes an edit at an offset.
-fn edit_at(list: &mut Vec<char>, place: usize, edit: Edit<'_>) -> Result<Reply, AllocError> {
-    if place > list.len() {
+fn edit_at(list: &mut Vec<char>, offset: usize, edit: Edit<'_>) -> Result<Reply, AllocError> {
+    if offset > list.len() {
         return Ok(Reply::BadPlace);
     }
     match edit {
-        Edit::Insert(_, c) => list.insert(place, c)?,
-        Edit::InsertStr(_, text) => drop(list.splice(place..place, text.chars())?),
-        Edit::SplitOff(_) => return Ok(Reply::Chars(list.split_off(place)?)),
-        _ if place == list.len() => return Ok(Reply::BadPlace),
-        _ => return Ok(Reply::Char(list.remove(place))),
+        Edit::Insert(_, c) => list.insert(offset, c)?,
+        Edit::InsertStr(_, text) => drop(list.splice(offset..offset, text.chars())?),
+        Edit::SplitOff(_) => return Ok(Reply::Chars(list.split_off(offset)?)),
+        _ if offset == list.len() => return Ok(Reply::BadPlace),
+        _ => return Ok(Reply::Char(list.remove(offset))),
     }
     Ok(Reply::Done)
 }
@@ -54,10 +54,10 @@ pub fn edit_list(alloc: Global, list: &mut Vec<char>, edit: Edit<'_>) -> Result<
         Edit::Clear => list.clear(),
         Edit::Drain(from, to) => return edit_range(alloc, list, from, to, None),
         Edit::Replace(from, to, text) => return edit_range(alloc, list, from, to, Some(text)),
-        Edit::Insert(place, _)
-        | Edit::InsertStr(place, _)
-        | Edit::Remove(place)
-        | Edit::SplitOff(place) => return edit_at(list, place, edit),
+        Edit::Insert(offset, _)
+        | Edit::InsertStr(offset, _)
+        | Edit::Remove(offset)
+        | Edit::SplitOff(offset) => return edit_at(list, offset, edit),
     }
     Ok(Reply::Done)
 }

@@ -87,7 +87,7 @@ impl Random {
     }
 
     // Returns an offset in a list of this many characters, mostly close to an end.
-    fn place(&mut self, count: usize) -> usize {
+    fn offset(&mut self, count: usize) -> usize {
         match self.below(10) {
             0 => 0,
             1 => count.saturating_sub(1),
@@ -114,19 +114,19 @@ impl Random {
 
     // Returns an edit of a list of this many characters.
     pub fn edit(&mut self, count: usize) -> Edit<'static> {
-        let place = self.place(count);
+        let offset = self.offset(count);
         match self.below(12) {
             0 => Edit::Push(self.pick(&CHARS)),
             1 => Edit::PushStr(self.pick(&TEXTS)),
             2 => Edit::Pop,
-            3 => Edit::Truncate(place),
-            4 => Edit::Insert(place, self.pick(&CHARS)),
-            5 => Edit::InsertStr(place, self.pick(&TEXTS)),
-            6 => Edit::Remove(place),
+            3 => Edit::Truncate(offset),
+            4 => Edit::Insert(offset, self.pick(&CHARS)),
+            5 => Edit::InsertStr(offset, self.pick(&TEXTS)),
+            6 => Edit::Remove(offset),
             7 => Edit::Retain(self.pick(&KEPT)),
-            8 => Edit::Drain(place, self.place(count)),
-            9 => Edit::Replace(place, self.place(count), self.pick(&TEXTS)),
-            10 => Edit::SplitOff(place),
+            8 => Edit::Drain(offset, self.offset(count)),
+            9 => Edit::Replace(offset, self.offset(count), self.pick(&TEXTS)),
+            10 => Edit::SplitOff(offset),
             _ => Edit::Clear,
         }
     }

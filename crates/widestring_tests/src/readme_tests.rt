@@ -38,10 +38,10 @@ fn damaged(rt: HostRuntime) -> Result<(), Fail> {
     let mut lines = lossy.as_utfstr().lines();
     assert!(rt; lines.next().is_some_and(|line| line.eq_str("a😀\u{fffd}")));
     assert!(rt; lines.next().is_some_and(|line| line.trim().eq_str("b")));
-    let mut mended = lossy.into_owned(rt.alloc())?;
-    mended.retain(|c| c != '\u{fffd}');
-    mended.push_str("\r\n")?;
-    let text = mended.as_utfstr().to_string(rt.alloc())?;
+    let mut repaired = lossy.into_owned(rt.alloc())?;
+    repaired.retain(|c| c != '\u{fffd}');
+    repaired.push_str("\r\n")?;
+    let text = repaired.as_utfstr().to_string(rt.alloc())?;
     assert_eq!(rt; text.as_str(), "a😀\r\n b\r\n");
     Ok(())
 }

@@ -109,10 +109,10 @@ impl Iterator for Faulty<'_> {
 // Returns whether an extension adds the characters before a fault, and none after it.
 fn is_kept(alloc: Global, before: usize) -> bool {
     let mut read = [Some('a'), Some('😀'), Some('b'), Some('c')];
-    let Some(place) = read.get_mut(before) else {
+    let Some(offset) = read.get_mut(before) else {
         return false;
     };
-    *place = None;
+    *offset = None;
     let has_failed = Cell::new(false);
     let mut string = Utf32String::new(alloc);
     let answer = string.extend_chars(Faulty {

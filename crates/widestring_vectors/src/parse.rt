@@ -167,7 +167,7 @@ pub fn kind(question: &str) -> Result<(u8, &str), NoAnswer> {
 }
 
 /// Returns how many calls a word has, all of them from the front.
-pub fn front_calls(word: &str) -> Result<usize, NoAnswer> {
+pub fn prefix_calls(word: &str) -> Result<usize, NoAnswer> {
     for letter in word.bytes() {
         if letter != b'F' {
             return Err(NoAnswer::Unparsed);
@@ -190,10 +190,10 @@ fn bound(text: &str) -> Result<Bound<usize>, NoAnswer> {
     if text == "-" {
         return Ok(Bound::Unbounded);
     }
-    let (kind, place) = kind(text)?;
+    let (kind, position) = kind(text)?;
     match kind {
-        b'i' => Ok(Bound::Included(value(place)?)),
-        b'e' => Ok(Bound::Excluded(value(place)?)),
+        b'i' => Ok(Bound::Included(value(position)?)),
+        b'e' => Ok(Bound::Excluded(value(position)?)),
         _ => Err(NoAnswer::Unparsed),
     }
 }

@@ -17,26 +17,26 @@ struct Case<'a> {
     list: &'a str,
     question: &'a str,
     expected: &'a str,
-    mended: Option<Mended<'a>>,
+    repaired: Option<Mended<'a>>,
 }
 
 // Parses a case about a list. Returns `None` if it is not one.
 fn parse_case<'a>(list: &'a str, text: &'a str) -> Option<Case<'a>> {
     let (question, answer) = text.split_once('=')?;
-    let Some((expected, mended)) = answer.split_once('~') else {
+    let Some((expected, repaired)) = answer.split_once('~') else {
         return Some(Case {
             list,
             question,
             expected: answer,
-            mended: None,
+            repaired: None,
         });
     };
-    let (fault, own) = mended.split_once('~')?;
+    let (fault, own) = repaired.split_once('~')?;
     Some(Case {
         list,
         question,
         expected,
-        mended: Some(Mended { fault, own }),
+        repaired: Some(Mended { fault, own }),
     })
 }
 
@@ -45,7 +45,7 @@ fn parse_case<'a>(list: &'a str, text: &'a str) -> Option<Case<'a>> {
 pub struct Replay {
     family: Family,
     agree: u64,
-    mended: u64,
+    repaired: u64,
     differ: u64,
     first: Option<String>,
 }
@@ -56,7 +56,7 @@ impl Replay {
         Replay {
             family,
             agree: 0,
-            mended: 0,
+            repaired: 0,
             differ: 0,
             first: None,
         }
@@ -118,14 +118,14 @@ impl Replay {
         if got != case.expected {
             return self.different(alloc, case, got);
         }
-        let Some(mended) = case.mended else {
+        let Some(repaired) = case.repaired else {
             self.agree = self.agree.saturating_add(1);
             return Ok(());
         };
-        if self.family.fault() != Some(mended.fault) || mended.own == case.expected {
-            return self.unparsed(alloc, case.list, mended.fault);
+        if self.family.fault() != Some(repaired.fault) || repaired.own == case.expected {
+            return self.unparsed(alloc, case.list, repaired.fault);
         }
-        self.mended = self.mended.saturating_add(1);
+        self.repaired = self.repaired.saturating_add(1);
         Ok(())
     }
 
@@ -159,8 +159,11 @@ impl fmt::Display for Replay {
     fn fmt<W: fmt::Write>(&self, f: &mut fmt::Formatter<W>) -> fmt::Result {
         let name = self.family.name();
         let agree = self.agree;
-        let mended = self.mended;
+        let repaired = self.repaired;
         let differ = self.differ;
-        write!(f, "{name}: {agree} agree, {mended} mended, {differ} differ")
+        write!(
+            f,
+            "{name}: {agree} agree, {repaired} mended, {differ} differ"
+        )
     }
 }

@@ -7,19 +7,19 @@ use widestring::error::{ContainsNul, DecodeUtf16Error, DecodeUtf32Error, FaultUn
 use widestring::unit::Unit;
 
 /// A unit that can be parsed, and read from its fault.
-pub trait ToldUnit: FaultUnit + FromHex + PartialEq + 'static {
+pub trait ReportedUnit: FaultUnit + FromHex + PartialEq + 'static {
     /// Returns the number of the unit that a fault reports.
-    fn told(fault: Self::Fault) -> u32;
+    fn reported(fault: Self::Fault) -> u32;
 }
 
-impl ToldUnit for u16 {
-    fn told(fault: DecodeUtf16Error) -> u32 {
+impl ReportedUnit for u16 {
+    fn reported(fault: DecodeUtf16Error) -> u32 {
         u32::from(fault.unpaired_surrogate())
     }
 }
 
-impl ToldUnit for u32 {
-    fn told(fault: DecodeUtf32Error) -> u32 {
+impl ReportedUnit for u32 {
+    fn reported(fault: DecodeUtf32Error) -> u32 {
         fault.invalid_code_point()
     }
 }
@@ -70,18 +70,18 @@ impl Answer {
     }
 
     // Adds a character in hexadecimal, or an ill-formed unit after a `!`.
-    fn read<C: ToldUnit>(&mut self, read: Result<char, C::Fault>) {
+    fn read<C: ReportedUnit>(&mut self, read: Result<char, C::Fault>) {
         match read {
             Ok(c) => self.hex(u64::from(u32::from(c))),
             Err(fault) => {
                 self.word("!");
-                self.hex(u64::from(C::told(fault)));
+                self.hex(u64::from(C::reported(fault)));
             }
         }
     }
 
     /// Adds an item: a character in hexadecimal, an ill-formed unit after a `!`, or a `-` for none.
-    pub fn item<C: ToldUnit>(&mut self, item: Option<Result<char, C::Fault>>) {
+    pub fn item<C: ReportedUnit>(&mut self, item: Option<Result<char, C::Fault>>) {
         self.gap();
         match item {
             None => self.word("-"),
@@ -91,13 +91,13 @@ impl Answer {
 
     /// Adds an item with its index before it, or a `-` for none, and after it a `@` and the offset that the iterator
     /// then reports.
-    pub fn place<C: ToldUnit>(
+    pub fn position<C: ReportedUnit>(
         &mut self,
-        place: Option<(usize, Result<char, C::Fault>)>,
+        position: Option<(usize, Result<char, C::Fault>)>,
         offset: usize,
     ) {
         self.gap();
-        match place {
+        match position {
             None => self.word("-"),
             Some((index, read)) => {
                 self.hex(index as u64);
@@ -110,24 +110,24 @@ impl Answer {
     }
 
     /// Adds the index, the item number and the unit of a first fault.
-    pub fn first_fault<C: ToldUnit, A: Allocator>(&mut self, fault: &UtfError<C, A>) {
-        self.told_fault(fault.index(), fault.item(), C::told(fault.cause()));
+    pub fn first_fault<C: ReportedUnit, A: Allocator>(&mut self, fault: &UtfError<C, A>) {
+        self.reported_fault(fault.index(), fault.item(), C::reported(fault.cause()));
     }
 
     /// Adds the index, the item number and the unit of a first fault that has no error value of its own.
-    pub fn told_fault(&mut self, index: usize, item: usize, unit: u32) {
-        self.fault_place(index, item);
+    pub fn reported_fault(&mut self, index: usize, item: usize, unit: u32) {
+        self.fault_offset(index, item);
         self.word(":");
         self.hex(u64::from(unit));
     }
 
     /// Adds the index and the item number of a first fault.
-    pub fn fault_at<C: ToldUnit, A: Allocator>(&mut self, fault: &UtfError<C, A>) {
-        self.fault_place(fault.index(), fault.item());
+    pub fn fault_at<C: ReportedUnit, A: Allocator>(&mut self, fault: &UtfError<C, A>) {
+        self.fault_offset(fault.index(), fault.item());
     }
 
     // Adds an index and an item number after a `!`.
-    fn fault_place(&mut self, index: usize, item: usize) {
+    fn fault_offset(&mut self, index: usize, item: usize) {
         self.gap();
         self.word("!");
         self.hex(index as u64);

@@ -3,7 +3,7 @@ use Rattle.std.specs.Prelude.{◌≡◌, ◌⊎◌, ℕ, Bool, List, [], ◌∷�
 use Rattle.std.specs.Io.KnownBytes.{Appends}
 use Rattle.std.specs.declared.string.String.{String}
 use Rattle.wide_bytes.specs.Bytes.{units_of_bytes}
-use Rattle.wide_bytes.specs.Pieces.{WantsRoom}
+use Rattle.wide_bytes.specs.Chunks.{WantsSpace}
 use Rattle.wide_bytes.specs.Run.{AtEnd, Ends, IsBeginningOf, Moves, ReportsAtOnce, fails_to_read, fails_to_write}
 use Rattle.wide_bytes.specs.Transcoded.{transcoded_under}
 use Rattle.wide_error.specs.Texts.{transcode_error_text}
@@ -53,7 +53,7 @@ pub record Utf8Run (policy : Option Policy) (left left' held held' : Option (Lis
   pub written : List ℕ
   pub moves : Moves left left' held held' bytes written
   pub ends : Ends answer ended (transcoded_under policy) bytes written
-  pub room : WantsRoom answer (units_of_bytes bytes)
+  pub space : WantsSpace answer (units_of_bytes bytes)
   pub reports : ReportsAtOnce answer ended (transcoded_under policy) bytes
   pub at_end : AtEnd answer left'
   pub source_failed : read_failed ≡ fails_to_read answer

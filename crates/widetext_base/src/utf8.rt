@@ -49,9 +49,9 @@ pub fn write_utf8<S: ByteSource, K: ByteSink, F: ByteSink>(
     faults: &mut F,
     policy: Option<Policy>,
 ) -> u8
-    requires source_sound { S.has_failed source.old ≡ false }
+    requires source_unfailed { S.has_failed source.old ≡ false }
     requires source_open { S.has_ended source.old ≡ false }
-    requires sink_sound { K.has_failed sink.old ≡ false }
+    requires sink_unfailed { K.has_failed sink.old ≡ false }
     ensures run { Utf8Run policy (S.left source.old) (S.left source.new) (K.held sink.old) (K.held sink.new) (S.has_ended source.new) (S.has_failed source.new) (K.has_failed sink.new) (F.held faults.old) (F.held faults.new) result }
     ensures quiet { result ≡ 0 → faults.new ≡ faults.old }
     ensures statuses { result ≤ 1 }
@@ -79,10 +79,10 @@ pub fn command<S: ByteSource, K: ByteSink, F: ByteSink>(
     sink: &mut K,
     faults: &mut F,
 ) -> u8
-    requires source_sound { S.has_failed source.old ≡ false }
+    requires source_unfailed { S.has_failed source.old ≡ false }
     requires source_open { S.has_ended source.old ≡ false }
-    requires sink_sound { K.has_failed sink.old ≡ false }
-    requires faults_sound { F.has_failed faults.old ≡ false }
+    requires sink_unfailed { K.has_failed sink.old ≡ false }
+    requires faults_unfailed { F.has_failed faults.old ≡ false }
 
     // The subcommand `utf8`, with or without an option: the status is that of one run of `transcode`, or of
     // `transcode_with` under the policy.

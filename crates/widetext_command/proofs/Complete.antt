@@ -72,8 +72,8 @@ pub record NextUnit (piece : List ℕ) (more : Bool) (rest : List ℕ) : Type 0 
 
 comma_found : (word : List ℕ) (u : ℕ) (q : ℕ × ℕ) → IsUnit word u → FindsChar 44 word (Some q) → ⊥
 comma_found word u q is found =
-    let behind = drop_at_char 44 word q.0 q.1 found.1 (omega arith) in
-    let longer = ap length behind in
+    let beyond = drop_at_char 44 word q.0 q.1 found.1 (omega arith) in
+    let longer = ap length beyond in
     no_separator 16 44 word (omega arith) is.0.1 q.0 (omega (arith, length-drop q.0 word)) (found.1.byte (omega arith))
 
 pub next_unit : (word piece : List ℕ) (more : Bool) (rest us : List ℕ) → IsSplitAtFirstMatch (FindsChar 44) word piece more rest → AreUnits word us → NextUnit piece more rest
@@ -92,7 +92,7 @@ next_unit word piece more rest (u ∷ v ∷ us) cut are = first_unit word piece 
   where
     first_unit : (word piece : List ℕ) (more : Bool) (rest : List ℕ) (u : ℕ) (us : List ℕ) (o : Option (ℕ × ℕ)) → FindsChar 44 word o
         → MatchOption o ((piece ≡ word) × (more ≡ false)) (λ q. 0 < q.1 → (piece ≡ take q.0 word) × (more ≡ true) × (rest ≡ drop q.1 word))
-        → (digits : List ℕ) × (behind : List ℕ) × (word ≡ digits ++ 44 ∷ behind) × IsUnit digits u × AreUnits behind us → NextUnit piece more rest
+        → (digits : List ℕ) × (beyond : List ℕ) × (word ≡ digits ++ 44 ∷ beyond) × IsUnit digits u × AreUnits beyond us → NextUnit piece more rest
     first_unit word piece more rest u us None found parts are = absurd (finds_char_after 44 word are.0 are.1 None found (omega arith) are.2 (no_separator 16 44 are.0 (omega arith) are.3.0.1))
     first_unit word piece more rest u us (Some q) found parts are =
         let cut = finds_char_after 44 word are.0 are.1 (Some q) found (omega arith) are.2 (no_separator 16 44 are.0 (omega arith) are.3.0.1) in

@@ -20,10 +20,10 @@ pub fn answered<S: ByteSource, K: ByteSink, F: ByteSink>(
     faults: &mut F,
 ) -> u8
     requires ends { AsksForEnds words.now }
-    requires source_sound { S.has_failed source.old ≡ false }
+    requires source_unfailed { S.has_failed source.old ≡ false }
     requires source_open { S.has_ended source.old ≡ false }
-    requires sink_sound { K.has_failed sink.old ≡ false }
-    requires faults_sound { F.has_failed faults.old ≡ false }
+    requires sink_unfailed { K.has_failed sink.old ≡ false }
+    requires faults_unfailed { F.has_failed faults.old ≡ false }
     ensures written { result ≡ 0 → WritesEnds words.now (K.held sink.old) (K.held sink.new) }
     ensures refused { result ≡ 1 → K.has_failed sink.new ≡ false → sink.new ≡ sink.old }
     ensures unread { source.new ≡ source.old }
@@ -45,10 +45,10 @@ pub fn edited<S: ByteSource, K: ByteSink, F: ByteSink>(
     faults: &mut F,
 ) -> u8
     requires edit { AsksForEdits words.now }
-    requires source_sound { S.has_failed source.old ≡ false }
+    requires source_unfailed { S.has_failed source.old ≡ false }
     requires source_open { S.has_ended source.old ≡ false }
-    requires sink_sound { K.has_failed sink.old ≡ false }
-    requires faults_sound { F.has_failed faults.old ≡ false }
+    requires sink_unfailed { K.has_failed sink.old ≡ false }
+    requires faults_unfailed { F.has_failed faults.old ≡ false }
     ensures written { result ≡ 0 → WritesEdits words.now (K.held sink.old) (K.held sink.new) }
     ensures refused { result ≡ 1 → K.has_failed sink.new ≡ false → sink.new ≡ sink.old }
     ensures unread { source.new ≡ source.old }

@@ -3,7 +3,7 @@
 ghost use Rattle.std.specs.Prelude.{◌≡◌, ◌≢◌, ◌≤◌, ◌++◌, Option, IfErr, OnOk, OnErr, false, true, string_bytes};
 ghost use Rattle.std.specs.Io.KnownBytes.{Appends};
 ghost use Rattle.std.specs.Option.{option_map};
-ghost use Rattle.wide_unit.specs.Unit.{told_item};
+ghost use Rattle.wide_unit.specs.Unit.{reported_item};
 ghost use Rattle.wide_unit.specs.declared.policy.Policy.{Policy};
 ghost use Rattle.wide_error.specs.Texts.{transcode_error_text};
 ghost use Rattle.widetext_base.specs.Command.{AppendsPrefix, AsksForUtf8, AsksForNoUtf8, Says, Utf8Run};
@@ -26,7 +26,7 @@ fn push_answer(
     lines: &mut String,
     answer: &Option<Result<char, DecodeUtf16Error>>,
 ) -> Result<(), AllocError>
-    ensures { OnOk result (string_bytes lines.new ≡ string_bytes lines.old ++ answer_line (option_map told_item answer.now)) }
+    ensures { OnOk result (string_bytes lines.new ≡ string_bytes lines.old ++ answer_line (option_map reported_item answer.now)) }
 {
     match answer {
         Some(Ok(c)) => writeln!(lines, "U+{:04X}", u32::from(*c)),
@@ -45,7 +45,7 @@ fn write_answers<K: ByteSink>(
 ) -> Result<(), TranscodeError>
     requires { K.has_failed sink.old ≡ false }
     ensures written { OnOk result (Appends (K.held sink.old) (K.held sink.new) (ends_lines units.now ends.now)) }
-    ensures sound { OnOk result (K.has_failed sink.new ≡ false) }
+    ensures valid { OnOk result (K.has_failed sink.new ≡ false) }
     ensures refused { OnErr result (K.has_failed sink.new ≡ false → sink.new ≡ sink.old) }
     ensures begun { OnErr result (K.has_failed sink.new ≡ true → AppendsPrefix (K.held sink.old) (K.held sink.new) (ends_lines units.now ends.now)) }
     ensures refusal { IfErr result (λ error. error ≡ refusal_of (K.has_failed sink.new)) }
@@ -67,7 +67,7 @@ fn write_edits<K: ByteSink>(
 ) -> Result<(), TranscodeError>
     requires { K.has_failed sink.old ≡ false }
     ensures written { OnOk result (IsEdited text.now words.now (K.held sink.old) (K.held sink.new)) }
-    ensures sound { OnOk result (K.has_failed sink.new ≡ false) }
+    ensures valid { OnOk result (K.has_failed sink.new ≡ false) }
     ensures refused { OnErr result (K.has_failed sink.new ≡ false → sink.new ≡ sink.old) }
     ensures begun { OnErr result (K.has_failed sink.new ≡ true → IsEditedInPart text.now words.now (K.held sink.old) (K.held sink.new)) }
     ensures refusal { IfErr result (λ error. error ≡ refusal_of (K.has_failed sink.new)) }
@@ -84,7 +84,7 @@ fn write_lines<K: ByteSink>(
 ) -> Result<(), TranscodeError>
     requires { K.has_failed sink.old ≡ false }
     ensures written { OnOk result (IsWritten (K.held sink.old) (K.held sink.new) request.now) }
-    ensures sound { OnOk result (K.has_failed sink.new ≡ false) }
+    ensures valid { OnOk result (K.has_failed sink.new ≡ false) }
     ensures refused { OnErr result (K.has_failed sink.new ≡ false → sink.new ≡ sink.old) }
     ensures begun { OnErr result (K.has_failed sink.new ≡ true → IsWrittenInPart (K.held sink.old) (K.held sink.new) request.now) }
     ensures refusal { IfErr result (λ error. error ≡ refusal_of (K.has_failed sink.new)) }
@@ -112,10 +112,10 @@ pub fn command<S: ByteSource, K: ByteSink, F: ByteSink>(
     sink: &mut K,
     faults: &mut F,
 ) -> u8
-    requires source_sound { S.has_failed source.old ≡ false }
+    requires source_unfailed { S.has_failed source.old ≡ false }
     requires source_open { S.has_ended source.old ≡ false }
-    requires sink_sound { K.has_failed sink.old ≡ false }
-    requires faults_sound { F.has_failed faults.old ≡ false }
+    requires sink_unfailed { K.has_failed sink.old ≡ false }
+    requires faults_unfailed { F.has_failed faults.old ≡ false }
 
     // The subcommand `utf8`, with or without an option: the status is that of one run of `transcode`, or of
     // `transcode_with` under the policy.

@@ -27,10 +27,10 @@ pub fn command<S: ByteSource, K: ByteSink, F: ByteSink>(
     sink: &mut K,
     faults: &mut F,
 ) -> u8
-    requires source_sound { S.has_failed source.old ≡ false }
+    requires source_unfailed { S.has_failed source.old ≡ false }
     requires source_open { S.has_ended source.old ≡ false }
-    requires sink_sound { K.has_failed sink.old ≡ false }
-    requires faults_sound { F.has_failed faults.old ≡ false }
+    requires sink_unfailed { K.has_failed sink.old ≡ false }
+    requires faults_unfailed { F.has_failed faults.old ≡ false }
 {
     match program {
         Program::Whole => widetext_command::command(alloc, words, source, sink, faults),
@@ -102,10 +102,10 @@ pub fn run<'a>(
     mut sink: SlowSink,
     mut said: SlowSink,
 ) -> Result<Ended<'a>, AllocError>
-    requires source_sound { source.failed ≡ false }
+    requires source_unfailed { source.failed ≡ false }
     requires source_open { source.ended ≡ false }
-    requires sink_sound { sink.failed ≡ false }
-    requires said_sound { said.failed ≡ false }
+    requires sink_unfailed { sink.failed ≡ false }
+    requires said_valid { said.failed ≡ false }
 {
     let words = strings(alloc, words)?;
     let status = command(alloc, program, &words, &mut source, &mut sink, &mut said);

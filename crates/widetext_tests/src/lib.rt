@@ -3,16 +3,16 @@
 #![tactic(auto)]
 
 #[cfg(test)]
-mod argument_rows;
+mod argument_cases;
 #[cfg(test)]
 mod driver;
 #[cfg(test)]
-mod fault_rows;
+mod fault_cases;
 #[cfg(test)]
-mod line_rows;
+mod line_cases;
 #[cfg(test)]
-mod long_rows;
+mod long_cases;
 #[cfg(test)]
-mod memory_rows;
+mod memory_cases;
 #[cfg(test)]
-mod utf8_rows;
+mod utf8_cases;

@@ -3,72 +3,72 @@ use Rattle.std.proofs.Common.{◌≡◌, ℕ, ◌+◌, ◌<◌, ◌≤◌, List,
 use Rattle.std.specs.Prelude.{map}
 use Rattle.std.proofs.lemmas.List.{length-map, map-append, take-map, drop-map, length-take-le}
 use Rattle.std.proofs.Math.Seq.{take-append_seam, drop-append_seam}
-use Rattle.wide_search.specs.Parts.{StandsNowhere, IsFirstAt, IsFirstSplit}
-use Rattle.wide_search.specs.Pieces.{ArePieces}
-use Rattle.wide_search.specs.Cut.{pieces, pieces-are, pieces-whole}
-use Rattle.wide_search.specs.Laws.Stands.{pieces-unique, parted}
+use Rattle.wide_search.specs.Occurrences.{OccursNowhere, IsFirstAt, IsFirstSplit}
+use Rattle.wide_search.specs.Substrings.{AreSubstrings}
+use Rattle.wide_search.specs.Cut.{substrings, substrings-are, substrings-whole}
+use Rattle.wide_search.specs.Laws.Occurrences.{substrings-unique, parted}
 use Rattle.wide_search.specs.Laws.Numbers.{first-numbers, nowhere-numbers}
 
 -- If the separator does not occur, the list is the only substring.
-pub pieces-none : (part whole : List ℕ) → StandsNowhere part whole → pieces part whole ≡ whole ∷ []
-pieces-none [] whole nowhere = pieces-whole whole
-pieces-none (p ∷ part) whole nowhere = pieces-unique (p ∷ part) (pieces (p ∷ part) whole) (whole ∷ []) whole (pieces-are (p ∷ part) whole (omega arith)) (refl, nowhere)
+pub substrings-none : (needle whole : List ℕ) → OccursNowhere needle whole → substrings needle whole ≡ whole ∷ []
+substrings-none [] whole nowhere = substrings-whole whole
+substrings-none (p ∷ needle) whole nowhere = substrings-unique (p ∷ needle) (substrings (p ∷ needle) whole) (whole ∷ []) whole (substrings-are (p ∷ needle) whole (omega arith)) (refl, nowhere)
 
 -- A first substring, and those of what follows the separator.
-are-before : (part whole front rest : List ℕ) (ps : List (List ℕ)) → IsFirstSplit part whole front rest → ArePieces part rest ps → ArePieces part whole (front ∷ ps)
-are-before part whole front rest [] split are = absurd are
-are-before part whole front rest (p ∷ ps) split are =
-    let at : take (length front) whole ≡ front = ap (take (length front)) split.joined ∙ take-append_seam front (part ++ rest) in
-    let long : length front + length part ≡ length (front ++ part) = sym (length-append front part) in
-    let behind : drop (length front + length part) whole ≡ rest =
-    ap (λ n. drop n whole) long ∙ ap (λ xs. drop (length (front ++ part)) xs) (split.joined ∙ sym (append_assoc front part rest)) ∙ drop-append_seam (front ++ part) rest in
-    (split.first, sym at, subst (λ xs. ArePieces part xs (p ∷ ps)) (sym behind) are)
+are-before : (needle whole prefix rest : List ℕ) (ps : List (List ℕ)) → IsFirstSplit needle whole prefix rest → AreSubstrings needle rest ps → AreSubstrings needle whole (prefix ∷ ps)
+are-before needle whole prefix rest [] split are = absurd are
+are-before needle whole prefix rest (p ∷ ps) split are =
+    let at : take (length prefix) whole ≡ prefix = ap (take (length prefix)) split.joined ∙ take-append_seam prefix (needle ++ rest) in
+    let long : length prefix + length needle ≡ length (prefix ++ needle) = sym (length-append prefix needle) in
+    let beyond : drop (length prefix + length needle) whole ≡ rest =
+    ap (λ n. drop n whole) long ∙ ap (λ xs. drop (length (prefix ++ needle)) xs) (split.joined ∙ sym (append_assoc prefix needle rest)) ∙ drop-append_seam (prefix ++ needle) rest in
+    (split.first, sym at, subst (λ xs. AreSubstrings needle xs (p ∷ ps)) (sym beyond) are)
 
-pub pieces-first : (part whole front rest : List ℕ) → 0 < length part → IsFirstSplit part whole front rest → pieces part whole ≡ front ∷ pieces part rest
-pieces-first part whole front rest some split =
-    pieces-unique part (pieces part whole) (front ∷ pieces part rest) whole (pieces-are part whole some) (are-before part whole front rest (pieces part rest) split (pieces-are part rest some))
+pub substrings-first : (needle whole prefix rest : List ℕ) → 0 < length needle → IsFirstSplit needle whole prefix rest → substrings needle whole ≡ prefix ∷ substrings needle rest
+substrings-first needle whole prefix rest some split =
+    substrings-unique needle (substrings needle whole) (prefix ∷ substrings needle rest) whole (substrings-are needle whole some) (are-before needle whole prefix rest (substrings needle rest) split (substrings-are needle rest some))
 
 -- For units of any width, by their numbers.
-module _ {X : Type 0} (number : X → ℕ) (same : (x y : X) → number x ≡ number y → x ≡ y) (part us : List X) where
-  pub pieces-nowhere : StandsNowhere part us → pieces (map number part) (map number us) ≡ map number us ∷ []
-  pieces-nowhere nowhere = pieces-none (map number part) (map number us) (nowhere-numbers number same part us nowhere)
+module _ {X : Type 0} (number : X → ℕ) (same : (x y : X) → number x ≡ number y → x ≡ y) (needle us : List X) where
+  pub substrings-nowhere : OccursNowhere needle us → substrings (map number needle) (map number us) ≡ map number us ∷ []
+  substrings-nowhere nowhere = substrings-none (map number needle) (map number us) (nowhere-numbers number same needle us nowhere)
 
-  pub pieces-empty : part ≡ [] → pieces (map number part) (map number us) ≡ map number us ∷ []
-  pieces-empty e = ap (λ xs. pieces (map number xs) (map number us)) e ∙ pieces-whole (map number us)
+  pub substrings-empty : needle ≡ [] → substrings (map number needle) (map number us) ≡ map number us ∷ []
+  substrings-empty e = ap (λ xs. substrings (map number xs) (map number us)) e ∙ substrings-whole (map number us)
 
-  pub split-numbers : (front rest : List X) → IsFirstSplit part us front rest → IsFirstSplit (map number part) (map number us) (map number front) (map number rest)
-  split-numbers front rest split = record {
-    joined = ap (map number) split.joined ∙ map-append number front (part ++ rest) ∙ ap (λ xs. map number front ++ xs) (map-append number part rest);
-    first = subst (λ n. IsFirstAt (map number part) (map number us) n) (sym (length-map front number)) (first-numbers number same part us (length front) split.first);
+  pub split-numbers : (prefix rest : List X) → IsFirstSplit needle us prefix rest → IsFirstSplit (map number needle) (map number us) (map number prefix) (map number rest)
+  split-numbers prefix rest split = record {
+    joined = ap (map number) split.joined ∙ map-append number prefix (needle ++ rest) ∙ ap (λ xs. map number prefix ++ xs) (map-append number needle rest);
+    first = subst (λ n. IsFirstAt (map number needle) (map number us) n) (sym (length-map prefix number)) (first-numbers number same needle us (length prefix) split.first);
   }
 
-  pub pieces-split : (front rest : List X) → 0 < length part → IsFirstSplit part us front rest → pieces (map number part) (map number us) ≡ map number front ∷ pieces (map number part) (map number rest)
-  pieces-split front rest some split = pieces-first (map number part) (map number us) (map number front) (map number rest) (omega (arith, some, length-map part number)) (split-numbers front rest split)
+  pub substrings-split : (prefix rest : List X) → 0 < length needle → IsFirstSplit needle us prefix rest → substrings (map number needle) (map number us) ≡ map number prefix ∷ substrings (map number needle) (map number rest)
+  substrings-split prefix rest some split = substrings-first (map number needle) (map number us) (map number prefix) (map number rest) (omega (arith, some, length-map needle number)) (split-numbers prefix rest split)
 
-pub pieces-cut : {X : Type 0} (number : X → ℕ) (part us : List X) → 0 < length part → ArePieces (map number part) (map number us) (pieces (map number part) (map number us))
-pieces-cut number part us some = pieces-are (map number part) (map number us) (omega (arith, some, length-map part number))
+pub substrings-cut : {X : Type 0} (number : X → ℕ) (needle us : List X) → 0 < length needle → AreSubstrings (map number needle) (map number us) (substrings (map number needle) (map number us))
+substrings-cut number needle us some = substrings-are (map number needle) (map number us) (omega (arith, some, length-map needle number))
 
 -- Splitting at the first occurrence of a separator, given by its numbers, among those of units.
-pub split-at : {X : Type 0} (number : X → ℕ) (part : List ℕ) (us front rest : List X) (at n : ℕ) → n ≡ length part → IsFirstAt part (map number us) at → front ≡ take at us → rest ≡ drop (at + n) us
-    → IsFirstSplit part (map number us) (map number front) (map number rest)
-split-at number part us front rest at n count first is_front is_rest =
-    let before : take at (map number us) ≡ map number front = take-map number at us ∙ ap (map number) (sym is_front) in
-    let behind : drop (at + length part) (map number us) ≡ map number rest =
+pub split-at : {X : Type 0} (number : X → ℕ) (needle : List ℕ) (us prefix rest : List X) (at n : ℕ) → n ≡ length needle → IsFirstAt needle (map number us) at → prefix ≡ take at us → rest ≡ drop (at + n) us
+    → IsFirstSplit needle (map number us) (map number prefix) (map number rest)
+split-at number needle us prefix rest at n count first is_prefix is_rest =
+    let before : take at (map number us) ≡ map number prefix = take-map number at us ∙ ap (map number) (sym is_prefix) in
+    let beyond : drop (at + length needle) (map number us) ≡ map number rest =
     ap (λ k. drop (at + k) (map number us)) (sym count) ∙ drop-map number (at + n) us ∙ ap (map number) (sym is_rest) in
-    let long : at ≡ length (map number front) = sym (length-take-le at (map number us) (omega (arith, first.here.within))) ∙ ap length before in
+    let long : at ≡ length (map number prefix) = sym (length-take-le at (map number us) (omega (arith, first.here.within))) ∙ ap length before in
     record {
-      joined = parted part (map number us) at first.here ∙ ap (λ xs. xs ++ (part ++ drop (at + length part) (map number us))) before ∙ ap (λ xs. map number front ++ (part ++ xs)) behind;
-      first = subst (λ k. IsFirstAt part (map number us) k) long first;
+      joined = parted needle (map number us) at first.here ∙ ap (λ xs. xs ++ (needle ++ drop (at + length needle) (map number us))) before ∙ ap (λ xs. map number prefix ++ (needle ++ xs)) beyond;
+      first = subst (λ k. IsFirstAt needle (map number us) k) long first;
     }
 
 -- There is at most one substring more than there are units.
-are-at_most : (part whole : List ℕ) (ps : List (List ℕ)) → 0 < length part → ArePieces part whole ps → length ps ≤ length whole + 1
-are-at_most part whole [] some are = absurd are
-are-at_most part whole (p ∷ []) some are = omega arith
-are-at_most part whole (p ∷ q ∷ ps) some are =
-    let n = length p + length part in
-    omega (arith, some, are.0.here.within, length-drop n whole, are-at_most part (drop n whole) (q ∷ ps) some are.2)
+are-at_most : (needle whole : List ℕ) (ps : List (List ℕ)) → 0 < length needle → AreSubstrings needle whole ps → length ps ≤ length whole + 1
+are-at_most needle whole [] some are = absurd are
+are-at_most needle whole (p ∷ []) some are = omega arith
+are-at_most needle whole (p ∷ q ∷ ps) some are =
+    let n = length p + length needle in
+    omega (arith, some, are.0.here.within, length-drop n whole, are-at_most needle (drop n whole) (q ∷ ps) some are.2)
 
-pub pieces-at_most : (part whole : List ℕ) → length (pieces part whole) ≤ length whole + 1
-pieces-at_most [] whole = omega (arith, ap length (pieces-whole whole))
-pieces-at_most (p ∷ part) whole = are-at_most (p ∷ part) whole (pieces (p ∷ part) whole) (omega arith) (pieces-are (p ∷ part) whole (omega arith))
+pub substrings-at_most : (needle whole : List ℕ) → length (substrings needle whole) ≤ length whole + 1
+substrings-at_most [] whole = omega (arith, ap length (substrings-whole whole))
+substrings-at_most (p ∷ needle) whole = are-at_most (p ∷ needle) whole (substrings (p ∷ needle) whole) (omega arith) (substrings-are (p ∷ needle) whole (omega arith))

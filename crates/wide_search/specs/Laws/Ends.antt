@@ -6,42 +6,42 @@ use Rattle.wide_unit.specs.Items.{IsBoundary, IsWellFormed}
 use Rattle.wide_unit.specs.Laws.Items.{IsCut}
 use Rattle.wide_unit.specs.Laws.Boundaries.{IsBoundary-of_cut}
 use Rattle.wide_unit.specs.Laws.Ends.{IsCut-after, IsCut-before, ends-after}
-use Rattle.wide_search.specs.Parts.{StandsAt}
-use Rattle.wide_search.specs.Laws.Stands.{parted}
+use Rattle.wide_search.specs.Occurrences.{OccursAt}
+use Rattle.wide_search.specs.Laws.Occurrences.{parted}
 
 -- If no pair is split before a needle that is not empty, none is split before what begins with it.
-cut-before_part : (form : EncodingForm) (front part rest : List ℕ) → 0 < length part → IsCut form front part → IsCut form front (part ++ rest)
-cut-before_part form front [] rest some cut = absurd (omega (arith, some))
-cut-before_part form front (x ∷ xs) rest some cut = λ before back h l e f. let same : l ≡ x = cc in rw same (cut before xs h x e refl)
+cut-before_needle : (form : EncodingForm) (prefix needle rest : List ℕ) → 0 < length needle → IsCut form prefix needle → IsCut form prefix (needle ++ rest)
+cut-before_needle form prefix [] rest some cut = absurd (omega (arith, some))
+cut-before_needle form prefix (x ∷ xs) rest some cut = λ before back h l e f. let same : l ≡ x = cc in rw same (cut before xs h x e refl)
 
-not_nil : (part : List ℕ) → 0 < length part → part ≡ [] → ⊥
+not_nil : (needle : List ℕ) → 0 < length needle → needle ≡ [] → ⊥
 not_nil [] some e = omega (arith, some)
 not_nil (x ∷ xs) some e = cc
 
 -- If no pair is split after a needle that is not empty, none is split after what ends with it.
-cut-behind_part : (form : EncodingForm) (front part rest : List ℕ) → 0 < length part → IsCut form part rest → IsCut form (front ++ part) rest
-cut-behind_part form front part rest some cut = λ before back h l e f. let at = ends-after front part before h (not_nil part some) e in cut at.0 back h l at.1 f
+cut-after_needle : (form : EncodingForm) (prefix needle rest : List ℕ) → 0 < length needle → IsCut form needle rest → IsCut form (prefix ++ needle) rest
+cut-after_needle form prefix needle rest some cut = λ before back h l e f. let at = ends-after prefix needle before h (not_nil needle some) e in cut at.0 back h l at.1 f
 
-module _ (form : EncodingForm) (part us : List ℕ) (at : ℕ) (well : IsWellFormed form part) (some : 0 < length part) (stands : StandsAt part us at) where
-  abbrev front : List ℕ
-  front = take at us
+module _ (form : EncodingForm) (needle us : List ℕ) (at : ℕ) (well : IsWellFormed form needle) (some : 0 < length needle) (occurs : OccursAt needle us at) where
+  abbrev prefix : List ℕ
+  prefix = take at us
 
   abbrev rest : List ℕ
-  rest = drop (at + length part) us
+  rest = drop (at + length needle) us
 
-  length-front : length front ≡ at
-  length-front = length-take-le at us (omega (arith, stands.within))
+  length-prefix : length prefix ≡ at
+  length-prefix = length-take-le at us (omega (arith, occurs.within))
 
-  joined : front ++ (part ++ rest) ≡ us
-  joined = sym (parted part us at stands)
+  joined : prefix ++ (needle ++ rest) ≡ us
+  joined = sym (parted needle us at occurs)
 
-  pub IsBoundary-part : IsBoundary form us at
-  IsBoundary-part =
-      let b = IsBoundary-of_cut form front (part ++ rest) (cut-before_part form front part rest some (IsCut-before form front part well)) in
-      subst (λ n. IsBoundary form us n) length-front (subst (λ xs. IsBoundary form xs (length front)) joined b)
+  pub IsBoundary-needle : IsBoundary form us at
+  IsBoundary-needle =
+      let b = IsBoundary-of_cut form prefix (needle ++ rest) (cut-before_needle form prefix needle rest some (IsCut-before form prefix needle well)) in
+      subst (λ n. IsBoundary form us n) length-prefix (subst (λ xs. IsBoundary form xs (length prefix)) joined b)
 
-  pub IsBoundary-behind_part : IsBoundary form us (at + length part)
-  IsBoundary-behind_part =
-      let b = IsBoundary-of_cut form (front ++ part) rest (cut-behind_part form front part rest some (IsCut-after form part rest well)) in
-      let long : length (front ++ part) ≡ at + length part = length-append front part ∙ ap (λ n. n + length part) length-front in
-      subst (λ n. IsBoundary form us n) long (subst (λ xs. IsBoundary form xs (length (front ++ part))) (append_assoc front part rest ∙ joined) b)
+  pub IsBoundary-after_needle : IsBoundary form us (at + length needle)
+  IsBoundary-after_needle =
+      let b = IsBoundary-of_cut form (prefix ++ needle) rest (cut-after_needle form prefix needle rest some (IsCut-after form needle rest well)) in
+      let long : length (prefix ++ needle) ≡ at + length needle = length-append prefix needle ∙ ap (λ n. n + length needle) length-prefix in
+      subst (λ n. IsBoundary form us n) long (subst (λ xs. IsBoundary form xs (length (prefix ++ needle))) (append_assoc prefix needle rest ∙ joined) b)

@@ -24,7 +24,7 @@ abbrev Proper : EncodingForm → List Item → Type 0
 Proper form items = All (IsItem form) items
 
 abbrev Unpaired : EncodingForm → List Item → Type 0
-Unpaired form items = (front back : List Item) (h l : ℕ) → items ≡ front ++ Fault h ∷ Fault l ∷ back → ¬ (IsPair form h l)
+Unpaired form items = (prefix back : List Item) (h l : ℕ) → items ≡ prefix ++ Fault h ∷ Fault l ∷ back → ¬ (IsPair form h l)
 
 may_precede-from : (form : EncodingForm) (i : Item) (items : List Item) → Unpaired form (i ∷ items) → MayPrecede form i items
 may_precede-from form (Char c) items un = tt
@@ -35,19 +35,19 @@ may_precede-from form (Fault h) (Fault l ∷ items) un = un [] items h l refl
 chain-from : (form : EncodingForm) (items : List Item) → Proper form items → Unpaired form items → Chain form items
 chain-from form [] proper un = tt
 chain-from form (i ∷ items) proper un =
-    (proper 0 i (omega arith), may_precede-from form i items un, chain-from form items (λ k d within. proper (suc k) d (omega arith)) (λ front back h l e. un (i ∷ front) back h l (ap (λ is. i ∷ is) e)))
+    (proper 0 i (omega arith), may_precede-from form i items un, chain-from form items (λ k d within. proper (suc k) d (omega arith)) (λ prefix back h l e. un (i ∷ prefix) back h l (ap (λ is. i ∷ is) e)))
 
 proper-from : (form : EncodingForm) (items : List Item) → Chain form items → Proper form items
 proper-from form [] chain k d within = absurd (omega arith)
 proper-from form (i ∷ items) chain zero d within = chain.0
 proper-from form (i ∷ items) chain (suc k) d within = proper-from form items chain.2 k d (omega arith)
 
-unpaired-from : (form : EncodingForm) (items front back : List Item) (h l : ℕ) → Chain form items → items ≡ front ++ Fault h ∷ Fault l ∷ back → ¬ (IsPair form h l)
+unpaired-from : (form : EncodingForm) (items prefix back : List Item) (h l : ℕ) → Chain form items → items ≡ prefix ++ Fault h ∷ Fault l ∷ back → ¬ (IsPair form h l)
 unpaired-from form [] [] back h l chain e = absurd cc
-unpaired-from form [] (j ∷ front) back h l chain e = absurd cc
-unpaired-from form (i ∷ items) (j ∷ front) back h l chain e =
-    let rest : items ≡ front ++ Fault h ∷ Fault l ∷ back = cc in
-    unpaired-from form items front back h l chain.2 rest
+unpaired-from form [] (j ∷ prefix) back h l chain e = absurd cc
+unpaired-from form (i ∷ items) (j ∷ prefix) back h l chain e =
+    let rest : items ≡ prefix ++ Fault h ∷ Fault l ∷ back = cc in
+    unpaired-from form items prefix back h l chain.2 rest
 unpaired-from form (i ∷ items) [] back h l chain e =
     let head : i ≡ Fault h = cc in
     let rest : items ≡ Fault l ∷ back = cc in
@@ -58,7 +58,7 @@ pub chain_of : (form : EncodingForm) (items : List Item) (units : List ℕ) → 
 chain_of form items units seg = chain-from form items seg.proper seg.unpaired
 
 pub IsSegmentation-of_chain : (form : EncodingForm) (items : List Item) (units : List ℕ) → Chain form items → units_of form items ≡ units → IsSegmentation form items units
-IsSegmentation-of_chain form items units chain joined = record { joined = joined; proper = proper-from form items chain; unpaired = λ front back h l e. unpaired-from form items front back h l chain e }
+IsSegmentation-of_chain form items units chain joined = record { joined = joined; proper = proper-from form items chain; unpaired = λ prefix back h l e. unpaired-from form items prefix back h l chain e }
 
 -- An item has at least one unit.
 pub nonempty : (form : EncodingForm) (i : Item) (xs : List ℕ) → item_units form i ++ xs ≡ [] → ⊥

@@ -14,7 +14,7 @@ use Rattle.wide_unit.specs.Laws.Chains.{MayPrecede, Chain, chain_of, IsSegmentat
 
 -- Splitting between the two lists splits no pair.
 abbrev pub IsCut : EncodingForm → List ℕ → List ℕ → Type 0
-IsCut form a b = (front back : List ℕ) (h l : ℕ) → a ≡ front ++ h ∷ [] → b ≡ l ∷ back → ¬ (IsPair form h l)
+IsCut form a b = (prefix back : List ℕ) (h l : ℕ) → a ≡ prefix ++ h ∷ [] → b ≡ l ∷ back → ¬ (IsPair form h l)
 
 -- Each list of units has exactly one segmentation.
 pub segmentation-unique : (form : EncodingForm) (is js : List Item) (units : List ℕ) → IsSegmentation form is units → IsSegmentation form js units → is ≡ js
@@ -42,9 +42,9 @@ precedes_across form (Fault h) (Fault l ∷ b) cut = cut [] (units_of form b) h 
 chain-append : (form : EncodingForm) (a b : List Item) → Chain form a → Chain form b → IsCut form (units_of form a) (units_of form b) → Chain form (a ++ b)
 chain-append form [] b ca cb cut = cb
 chain-append form (i ∷ []) b ca cb cut =
-    (ca.0, precedes_across form i b (λ front back h l e f. cut front back h l (append-nil (item_units form i) ∙ e) f), cb)
+    (ca.0, precedes_across form i b (λ prefix back h l e f. cut prefix back h l (append-nil (item_units form i) ∙ e) f), cb)
 chain-append form (i ∷ j ∷ a) b ca cb cut =
-    (ca.0, may_precede-append form i j a b ca.1, chain-append form (j ∷ a) b ca.2 cb (λ front back h l e f. cut (item_units form i ++ front) back h l (ap (λ xs. item_units form i ++ xs) e ∙ sym (append_assoc (item_units form i) front (h ∷ []))) f))
+    (ca.0, may_precede-append form i j a b ca.1, chain-append form (j ∷ a) b ca.2 cb (λ prefix back h l e f. cut (item_units form i ++ prefix) back h l (ap (λ xs. item_units form i ++ xs) e ∙ sym (append_assoc (item_units form i) prefix (h ∷ []))) f))
   where
     may_precede-append : (form : EncodingForm) (i j : Item) (a b : List Item) → MayPrecede form i (j ∷ a) → MayPrecede form i (j ∷ a ++ b)
     may_precede-append form (Char c) j a b may = tt

@@ -8,34 +8,34 @@ use Rattle.std.proofs.lemmas.List.Splits.{slice_split_none, slice_split_at}
 use Rattle.wide_unit.specs.EncodingForm.{EncodingForm, Utf16, Utf32, code_units, IsPair}
 use Rattle.wide_unit.specs.Segmentation.{Item, Char, Fault, units_of}
 use Rattle.wide_unit.specs.Items.{items, IsWellFormed}
-use Rattle.wide_unit.specs.Lines.{line_feed, carriage_return, is_line_feed, without_return, lines_of_pieces, lines_of, placed_pieces, placed_lines, TakesLine, IsFirstLine}
+use Rattle.wide_unit.specs.Lines.{line_feed, carriage_return, is_line_feed, without_return, lines_of_substrings, lines_of, placed_substrings, placed_lines, TakesLine, IsFirstLine}
 use Rattle.wide_unit.specs.Laws.Forms.{IsPair-parts}
 use Rattle.wide_unit.specs.Laws.Items.{IsCut, items-append, items-nil, units_of-items}
-use Rattle.wide_unit.specs.Laws.Ends.{items-front_char, items-back_char}
+use Rattle.wide_unit.specs.Laws.Ends.{items-prefix_char, items-back_char}
 use Rattle.wide_unit.specs.Laws.Boundaries.{units_of-append}
 
 pub lines-nil : lines_of [] ≡ []
 lines-nil = refl
 
-one_piece : (is : List Item) → is ≢ [] → lines_of_pieces (is ∷ []) ≡ is ∷ []
-one_piece [] some = absurd (some refl)
-one_piece (i ∷ is) some = refl
+one_substring : (is : List Item) → is ≢ [] → lines_of_substrings (is ∷ []) ≡ is ∷ []
+one_substring [] some = absurd (some refl)
+one_substring (i ∷ is) some = refl
 
 -- A text without a line feed is one line.
 pub lines-unended : (is : List Item) → is ≢ [] → All (λ i. is_line_feed i ≡ false) is → lines_of is ≡ is ∷ []
-lines-unended is some none = ap lines_of_pieces (slice_split_none is_line_feed is none) ∙ one_piece is some
+lines-unended is some none = ap lines_of_substrings (slice_split_none is_line_feed is none) ∙ one_substring is some
 
-two_pieces : (p : List Item) (ps : List (List Item)) → (ps ≡ [] → ⊥) → lines_of_pieces (p ∷ ps) ≡ without_return p ∷ lines_of_pieces ps
-two_pieces p [] some = absurd (some refl)
-two_pieces p (q ∷ ps) some = refl
+two_substrings : (p : List Item) (ps : List (List Item)) → (ps ≡ [] → ⊥) → lines_of_substrings (p ∷ ps) ≡ without_return p ∷ lines_of_substrings ps
+two_substrings p [] some = absurd (some refl)
+two_substrings p (q ∷ ps) some = refl
 
-one_placed : (form : EncodingForm) (place : ℕ) (is : List Item) → is ≢ [] → placed_pieces form place (is ∷ []) ≡ (place, is) ∷ []
-one_placed form place [] some = absurd (some refl)
-one_placed form place (i ∷ is) some = refl
+one_placed : (form : EncodingForm) (offset : ℕ) (is : List Item) → is ≢ [] → placed_substrings form offset (is ∷ []) ≡ (offset, is) ∷ []
+one_placed form offset [] some = absurd (some refl)
+one_placed form offset (i ∷ is) some = refl
 
-two_placed : (form : EncodingForm) (place : ℕ) (p : List Item) (ps : List (List Item)) → (ps ≡ [] → ⊥) → placed_pieces form place (p ∷ ps) ≡ (place, without_return p) ∷ placed_pieces form (place + (length (units_of form p) + 1)) ps
-two_placed form place p [] some = absurd (some refl)
-two_placed form place p (q ∷ ps) some = refl
+two_placed : (form : EncodingForm) (offset : ℕ) (p : List Item) (ps : List (List Item)) → (ps ≡ [] → ⊥) → placed_substrings form offset (p ∷ ps) ≡ (offset, without_return p) ∷ placed_substrings form (offset + (length (units_of form p) + 1)) ps
+two_placed form offset p [] some = absurd (some refl)
+two_placed form offset p (q ∷ ps) some = refl
 
 onto-some : (i : Item) (ps : List (List Item)) → onto_first i ps ≡ [] → ⊥
 onto-some i [] e = cc
@@ -45,29 +45,29 @@ cond-some : (b : Bool) (xs ys : List (List Item)) → (xs ≡ [] → ⊥) → (y
 cond-some true xs ys some other e = some e
 cond-some false xs ys some other e = other e
 
-pub pieces-some : (is : List Item) → slice_split is_line_feed is ≡ [] → ⊥
-pieces-some [] e = cc
-pieces-some (i ∷ is) e = cond-some (is_line_feed i) ([] ∷ slice_split is_line_feed is) (onto_first i (slice_split is_line_feed is)) (λ f. cc) (onto-some i (slice_split is_line_feed is)) e
+pub substrings-some : (is : List Item) → slice_split is_line_feed is ≡ [] → ⊥
+substrings-some [] e = cc
+substrings-some (i ∷ is) e = cond-some (is_line_feed i) ([] ∷ slice_split is_line_feed is) (onto_first i (slice_split is_line_feed is)) (λ f. cc) (onto-some i (slice_split is_line_feed is)) e
 
 -- The first line feed ends the first line.
 pub lines-ended : (is rest : List Item) → All (λ i. is_line_feed i ≡ false) is → lines_of (is ++ Char line_feed ∷ rest) ≡ without_return is ∷ lines_of rest
 lines-ended is rest none =
-    ap lines_of_pieces (slice_split_at is_line_feed is (Char line_feed) rest none refl) ∙ two_pieces is (slice_split is_line_feed rest) (pieces-some rest)
+    ap lines_of_substrings (slice_split_at is_line_feed is (Char line_feed) rest none refl) ∙ two_substrings is (slice_split is_line_feed rest) (substrings-some rest)
 
-none_placed : (form : EncodingForm) (place : ℕ) (ps : List (List Item)) → lines_of_pieces ps ≡ [] → placed_pieces form place ps ≡ []
-none_placed form place [] e = refl
-none_placed form place ([] ∷ []) e = refl
-none_placed form place ((i ∷ is) ∷ []) e = cc
-none_placed form place (p ∷ q ∷ ps) e = cc
+none_placed : (form : EncodingForm) (offset : ℕ) (ps : List (List Item)) → lines_of_substrings ps ≡ [] → placed_substrings form offset ps ≡ []
+none_placed form offset [] e = refl
+none_placed form offset ([] ∷ []) e = refl
+none_placed form offset ((i ∷ is) ∷ []) e = cc
+none_placed form offset (p ∷ q ∷ ps) e = cc
 
 -- If there are no lines, there are none with offsets.
-pub placed-none : (form : EncodingForm) (place : ℕ) (is : List Item) → lines_of is ≡ [] → placed_lines form place is ≡ []
-placed-none form place is e = none_placed form place (slice_split is_line_feed is) e
+pub placed-none : (form : EncodingForm) (offset : ℕ) (is : List Item) → lines_of is ≡ [] → placed_lines form offset is ≡ []
+placed-none form offset is e = none_placed form offset (slice_split is_line_feed is) e
 
-placed-ended : (form : EncodingForm) (is rest : List Item) (place : ℕ) → All (λ i. is_line_feed i ≡ false) is
-    → placed_lines form place (is ++ Char line_feed ∷ rest) ≡ (place, without_return is) ∷ placed_lines form (place + (length (units_of form is) + 1)) rest
-placed-ended form is rest place none =
-    ap (placed_pieces form place) (slice_split_at is_line_feed is (Char line_feed) rest none refl) ∙ two_placed form place is (slice_split is_line_feed rest) (pieces-some rest)
+placed-ended : (form : EncodingForm) (is rest : List Item) (offset : ℕ) → All (λ i. is_line_feed i ≡ false) is
+    → placed_lines form offset (is ++ Char line_feed ∷ rest) ≡ (offset, without_return is) ∷ placed_lines form (offset + (length (units_of form is) + 1)) rest
+placed-ended form is rest offset none =
+    ap (placed_substrings form offset) (slice_split_at is_line_feed is (Char line_feed) rest none refl) ∙ two_placed form offset is (slice_split is_line_feed rest) (substrings-some rest)
 
 pub without-return : (is : List Item) → without_return (is ++ Char carriage_return ∷ []) ≡ is
 without-return [] = refl
@@ -79,11 +79,11 @@ keeps : (c : ℕ) (b : Bool) → eqb c carriage_return ≡ b → (c ≡ carriage
 keeps c true e other = absurd (other (eqb-true c carriage_return e))
 keeps c false e other = refl
 
-pub without-none : (is : List Item) → ((front : List Item) → is ≡ front ++ Char carriage_return ∷ [] → ⊥) → without_return is ≡ is
+pub without-none : (is : List Item) → ((prefix : List Item) → is ≡ prefix ++ Char carriage_return ∷ [] → ⊥) → without_return is ≡ is
 without-none [] other = refl
 without-none (Char c ∷ []) other = keeps c (eqb c carriage_return) refl (λ e. other [] (ap (λ d. Char d ∷ []) e))
 without-none (Fault u ∷ []) other = refl
-without-none (i ∷ j ∷ is) other = ap (λ js. i ∷ js) (without-none (j ∷ is) (λ front e. other (i ∷ front) (ap (λ js. i ∷ js) e)))
+without-none (i ∷ j ∷ is) other = ap (λ js. i ∷ js) (without-none (j ∷ is) (λ prefix e. other (i ∷ prefix) (ap (λ js. i ∷ js) e)))
 
 -- A line feed in a list of units is a separate item.
 pub one_feed : (form : EncodingForm) → code_units form line_feed ≡ line_feed ∷ []
@@ -98,14 +98,14 @@ no_pair_with_feed : (form : EncodingForm) (h : ℕ) → IsPair form h line_feed 
 no_pair_with_feed Utf16 h pair = let low = (IsPair-parts Utf16 h line_feed pair).1 in absurd (omega (arith, low.0))
 no_pair_with_feed Utf32 h pair = (IsPair-parts Utf32 h line_feed pair).1
 
-module _ (form : EncodingForm) (front back : List ℕ) where
-  pub items-at_feed : items form (front ++ line_feed ∷ back) ≡ items form front ++ Char line_feed ∷ items form back
+module _ (form : EncodingForm) (prefix back : List ℕ) where
+  pub items-at_feed : items form (prefix ++ line_feed ∷ back) ≡ items form prefix ++ Char line_feed ∷ items form back
   items-at_feed =
-      let cut : IsCut form front (line_feed ∷ back) = λ ends starts h l e f pair. let same : line_feed ≡ l = cc in no_pair_with_feed form h (subst (λ u. IsPair form h u) (sym same) pair) in
-      items-append form front (line_feed ∷ back) cut ∙ ap (λ is. items form front ++ is) (ap (λ us. items form (us ++ back)) (sym (one_feed form)) ∙ items-front_char form line_feed back refl)
+      let cut : IsCut form prefix (line_feed ∷ back) = λ ends starts h l e f pair. let same : line_feed ≡ l = cc in no_pair_with_feed form h (subst (λ u. IsPair form h u) (sym same) pair) in
+      items-append form prefix (line_feed ∷ back) cut ∙ ap (λ is. items form prefix ++ is) (ap (λ us. items form (us ++ back)) (sym (one_feed form)) ∙ items-prefix_char form line_feed back refl)
 
-  pub items-before_return : items form (front ++ carriage_return ∷ []) ≡ items form front ++ Char carriage_return ∷ []
-  items-before_return = ap (λ us. items form (front ++ us)) (sym (one_return form)) ∙ items-back_char form front carriage_return refl
+  pub items-before_return : items form (prefix ++ carriage_return ∷ []) ≡ items form prefix ++ Char carriage_return ∷ []
+  items-before_return = ap (λ us. items form (prefix ++ us)) (sym (one_return form)) ∙ items-back_char form prefix carriage_return refl
 
 All-right : (P : ℕ → Type 0) (xs ys : List ℕ) → All P (xs ++ ys) → All P ys
 All-right P [] ys all = all
@@ -127,55 +127,55 @@ feed-item form (Fault u ∷ is) none = All-cons (λ i. is_line_feed i ≡ false)
 pub items-no_feed : (form : EncodingForm) (us : List ℕ) → All (λ u. u ≢ line_feed) us → All (λ i. is_line_feed i ≡ false) (items form us)
 items-no_feed form us none = feed-item form (items form us) (subst (λ vs. All (λ u. u ≢ line_feed) vs) (sym (units_of-items form us)) none)
 
-pub items-no_return : (form : EncodingForm) (us : List ℕ) → ((front : List ℕ) → us ≡ front ++ carriage_return ∷ [] → ⊥) → (front : List Item) → items form us ≡ front ++ Char carriage_return ∷ [] → ⊥
-items-no_return form us other front e =
-    other (units_of form front) (sym (units_of-items form us) ∙ ap (λ is. units_of form is) e ∙ units_of-append form front (Char carriage_return ∷ []) ∙ ap (λ vs. units_of form front ++ vs) (append-nil (code_units form carriage_return) ∙ one_return form))
+pub items-no_return : (form : EncodingForm) (us : List ℕ) → ((prefix : List ℕ) → us ≡ prefix ++ carriage_return ∷ [] → ⊥) → (prefix : List Item) → items form us ≡ prefix ++ Char carriage_return ∷ [] → ⊥
+items-no_return form us other prefix e =
+    other (units_of form prefix) (sym (units_of-items form us) ∙ ap (λ is. units_of form is) e ∙ units_of-append form prefix (Char carriage_return ∷ []) ∙ ap (λ vs. units_of form prefix ++ vs) (append-nil (code_units form carriage_return) ∙ one_return form))
 
 -- A list of at least one unit has at least one item.
 pub some_items : (form : EncodingForm) (us : List ℕ) → us ≢ [] → items form us ≢ []
 some_items form us some e = some (sym (units_of-items form us) ∙ ap (λ js. units_of form js) e)
 
--- The lines of units whose first line feed follows the units `front`.
-pub lines-at_feed : (form : EncodingForm) (front back : List ℕ) → All (λ u. u ≢ line_feed) front
-    → lines_of (items form (front ++ line_feed ∷ back)) ≡ without_return (items form front) ∷ lines_of (items form back)
-lines-at_feed form front back none =
-    ap lines_of (items-at_feed form front back) ∙ lines-ended (items form front) (items form back) (items-no_feed form front none)
+-- The lines of units whose first line feed follows the units `prefix`.
+pub lines-at_feed : (form : EncodingForm) (prefix back : List ℕ) → All (λ u. u ≢ line_feed) prefix
+    → lines_of (items form (prefix ++ line_feed ∷ back)) ≡ without_return (items form prefix) ∷ lines_of (items form back)
+lines-at_feed form prefix back none =
+    ap lines_of (items-at_feed form prefix back) ∙ lines-ended (items form prefix) (items form back) (items-no_feed form prefix none)
 
-module _ (form : EncodingForm) (us front back : List ℕ) (split : us ≡ front ++ line_feed ∷ back) (none : All (λ u. u ≢ line_feed) front) where
-  feed-items : items form us ≡ items form front ++ Char line_feed ∷ items form back
-  feed-items = ap (items form) split ∙ items-at_feed form front back
+module _ (form : EncodingForm) (us prefix back : List ℕ) (split : us ≡ prefix ++ line_feed ∷ back) (none : All (λ u. u ≢ line_feed) prefix) where
+  feed-items : items form us ≡ items form prefix ++ Char line_feed ∷ items form back
+  feed-items = ap (items form) split ∙ items-at_feed form prefix back
 
-  feed-lines : lines_of (items form us) ≡ without_return (items form front) ∷ lines_of (items form back)
-  feed-lines = ap (λ vs. lines_of (items form vs)) split ∙ lines-at_feed form front back none
+  feed-lines : lines_of (items form us) ≡ without_return (items form prefix) ∷ lines_of (items form back)
+  feed-lines = ap (λ vs. lines_of (items form vs)) split ∙ lines-at_feed form prefix back none
 
-  feed-placed : TakesLine form (items form us) (without_return (items form front)) (items form back) (length us - length back)
-  feed-placed place =
-      let taken : length (units_of form (items form front)) + 1 ≡ length us - length back = omega (arith, ap length (units_of-items form front), ap length split, length-append front (line_feed ∷ back)) in
-      ap (placed_lines form place) feed-items ∙ placed-ended form (items form front) (items form back) place (items-no_feed form front none)
-      ∙ ap (λ n. (place, without_return (items form front)) ∷ placed_lines form (place + n) (items form back)) taken
+  feed-placed : TakesLine form (items form us) (without_return (items form prefix)) (items form back) (length us - length back)
+  feed-placed offset =
+      let taken : length (units_of form (items form prefix)) + 1 ≡ length us - length back = omega (arith, ap length (units_of-items form prefix), ap length split, length-append prefix (line_feed ∷ back)) in
+      ap (placed_lines form offset) feed-items ∙ placed-ended form (items form prefix) (items form back) offset (items-no_feed form prefix none)
+      ∙ ap (λ n. (offset, without_return (items form prefix)) ∷ placed_lines form (offset + n) (items form back)) taken
 
-  front-well_formed : IsWellFormed form us → IsWellFormed form front
-  front-well_formed well = record { no_fault = λ u at. well.no_fault u (subst (λ is. Contains is (Fault u)) (sym feed-items) (Contains-append_left (items form front) (Char line_feed ∷ items form back) (Fault u) at)) }
+  prefix-well_formed : IsWellFormed form us → IsWellFormed form prefix
+  prefix-well_formed well = record { no_fault = λ u at. well.no_fault u (subst (λ is. Contains is (Fault u)) (sym feed-items) (Contains-append_left (items form prefix) (Char line_feed ∷ items form back) (Fault u) at)) }
 
   back-well_formed : IsWellFormed form us → IsWellFormed form back
   back-well_formed well = record {
     no_fault = λ u at.
-        well.no_fault u (subst (λ is. Contains is (Fault u)) (sym feed-items) (Contains-append_right (items form front) (Char line_feed ∷ items form back) (Fault u) (Contains-append_right (Char line_feed ∷ []) (items form back) (Fault u) at)));
+        well.no_fault u (subst (λ is. Contains is (Fault u)) (sym feed-items) (Contains-append_right (items form prefix) (Char line_feed ∷ items form back) (Fault u) (Contains-append_right (Char line_feed ∷ []) (items form back) (Fault u) at)));
   }
 
-  pub IsFirstLine-feed : ((line : List ℕ) → front ≡ line ++ carriage_return ∷ [] → ⊥) → IsFirstLine form us front back
+  pub IsFirstLine-feed : ((line : List ℕ) → prefix ≡ line ++ carriage_return ∷ [] → ⊥) → IsFirstLine form us prefix back
   IsFirstLine-feed other = record {
-    lines = feed-lines ∙ ap (λ is. is ∷ lines_of (items form back)) (without-none (items form front) (items-no_return form front other));
-    well_formed = λ well. (front-well_formed well, back-well_formed well);
-    placed = subst (λ is. TakesLine form (items form us) is (items form back) (length us - length back)) (without-none (items form front) (items-no_return form front other)) feed-placed;
+    lines = feed-lines ∙ ap (λ is. is ∷ lines_of (items form back)) (without-none (items form prefix) (items-no_return form prefix other));
+    well_formed = λ well. (prefix-well_formed well, back-well_formed well);
+    placed = subst (λ is. TakesLine form (items form us) is (items form back) (length us - length back)) (without-none (items form prefix) (items-no_return form prefix other)) feed-placed;
   }
 
-  pub IsFirstLine-return : (line : List ℕ) → front ≡ line ++ carriage_return ∷ [] → IsFirstLine form us line back
+  pub IsFirstLine-return : (line : List ℕ) → prefix ≡ line ++ carriage_return ∷ [] → IsFirstLine form us line back
   IsFirstLine-return line e =
-      let ends : items form front ≡ items form line ++ Char carriage_return ∷ [] = ap (items form) e ∙ items-before_return form line [] in
+      let ends : items form prefix ≡ items form line ++ Char carriage_return ∷ [] = ap (items form) e ∙ items-before_return form line [] in
       record {
         lines = feed-lines ∙ ap (λ is. without_return is ∷ lines_of (items form back)) ends ∙ ap (λ is. is ∷ lines_of (items form back)) (without-return (items form line));
-        well_formed = λ well. (record { no_fault = λ u at. (front-well_formed well).no_fault u (subst (λ is. Contains is (Fault u)) (sym ends) (Contains-append_left (items form line) (Char carriage_return ∷ []) (Fault u) at)) }, back-well_formed well);
+        well_formed = λ well. (record { no_fault = λ u at. (prefix-well_formed well).no_fault u (subst (λ is. Contains is (Fault u)) (sym ends) (Contains-append_left (items form line) (Char carriage_return ∷ []) (Fault u) at)) }, back-well_formed well);
         placed = subst (λ is. TakesLine form (items form us) is (items form back) (length us - length back)) (ap without_return ends ∙ without-return (items form line)) feed-placed;
       }
 
@@ -187,7 +187,7 @@ IsFirstLine-whole form us some none =
     record {
       lines = lines-unended is full (items-no_feed form us none) ∙ ap (λ ls. is ∷ ls) (sym no_more);
       well_formed = λ well. (well, record { no_fault = λ u at. let in_nil : Contains [] (Fault u) = subst (λ js. Contains js (Fault u)) (items-nil form) at in absurd (omega (arith, in_nil.1)) });
-      placed = λ place.
-          let nothing : placed_lines form (place + (length us - 0)) (items form []) ≡ [] = ap (placed_lines form (place + (length us - 0))) (items-nil form) in
-          ap (placed_pieces form place) (slice_split_none is_line_feed is (items-no_feed form us none)) ∙ one_placed form place is full ∙ ap (λ ls. (place, is) ∷ ls) (sym nothing);
+      placed = λ offset.
+          let nothing : placed_lines form (offset + (length us - 0)) (items form []) ≡ [] = ap (placed_lines form (offset + (length us - 0))) (items-nil form) in
+          ap (placed_substrings form offset) (slice_split_none is_line_feed is (items-no_feed form us none)) ∙ one_placed form offset is full ∙ ap (λ ls. (offset, is) ∷ ls) (sym nothing);
     }

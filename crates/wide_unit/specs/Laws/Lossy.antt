@@ -12,7 +12,7 @@ use Rattle.wide_unit.specs.Lossy.{lossy, lossy_char}
 use Rattle.wide_unit.specs.Laws.Chains.{Chain}
 use Rattle.wide_unit.specs.Laws.Items.{items-chain, chars-of_well_formed, encode-of_items, units_of-items}
 use Rattle.wide_unit.specs.Laws.Ends.{items-append_left}
-use Rattle.wide_unit.specs.Laws.Places.{IsWellFormed-encode}
+use Rattle.wide_unit.specs.Laws.Offsets.{IsWellFormed-encode}
 
 pub lossy-chars : (cs : List ℕ) → lossy (map Char cs) ≡ cs
 lossy-chars [] = refl

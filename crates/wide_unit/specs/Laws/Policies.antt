@@ -12,7 +12,7 @@ use Rattle.wide_unit.specs.Lossy.{lossy, lossy_char, lossy_runs, lossy_by, past_
 use Rattle.wide_unit.specs.Laws.Chains.{Chain}
 use Rattle.wide_unit.specs.Laws.Items.{items-chain, chars-of_well_formed, encode-of_items, items-encode, units_of-items}
 use Rattle.wide_unit.specs.Laws.Ends.{items-append_left}
-use Rattle.wide_unit.specs.Laws.Places.{IsWellFormed-encode}
+use Rattle.wide_unit.specs.Laws.Offsets.{IsWellFormed-encode}
 use Rattle.wide_unit.specs.Laws.Lossy.{lossy-chars, scalars-lossy}
 use Rattle.wide_unit.specs.declared.policy.Policy.{Policy}
 use Rattle.wide_unit.specs.declared.policy.Policy.TheVariants.{Each, Run, Skip}
@@ -76,13 +76,13 @@ ends_in_fault-append after (Char c ∷ a) b = ends_in_fault-append false a b
 ends_in_fault-append after (Fault u ∷ a) b = ends_in_fault-append true a b
 
 -- A run of faults only.
-pub runs-of_row : (u : ℕ) (us : List ℕ) → lossy_runs (map Fault (u ∷ us)) ≡ 0xFFFD ∷ []
-runs-of_row u [] = refl
-runs-of_row u (v ∷ us) = runs-of_row v us
+pub runs-of_run : (u : ℕ) (us : List ℕ) → lossy_runs (map Fault (u ∷ us)) ≡ 0xFFFD ∷ []
+runs-of_run u [] = refl
+runs-of_run u (v ∷ us) = runs-of_run v us
 
-pub characters-of_row : (us : List ℕ) → characters (map Fault us) ≡ []
-characters-of_row [] = refl
-characters-of_row (u ∷ us) = characters-of_row us
+pub characters-of_run : (us : List ℕ) → characters (map Fault us) ≡ []
+characters-of_run [] = refl
+characters-of_run (u ∷ us) = characters-of_run us
 
 -- Well-formed text.
 pub lossy_by-chars : (policy : Policy) (cs : List ℕ) → lossy_by policy (map Char cs) ≡ cs
@@ -124,11 +124,11 @@ pub well_formed-lossy_by : (policy : Policy) (form : EncodingForm) (us : List �
 well_formed-lossy_by policy form us = IsWellFormed-encode form (lossy_by policy (items form us)) (scalars-lossy_by policy form us)
 
 -- After characters, which are unchanged.
-pub behind-chars : (policy : Policy) (cs : List ℕ) (is : List Item) → lossy_by policy (map Char cs ++ is) ≡ cs ++ lossy_by policy is
-behind-chars policy [] is = refl
-behind-chars Each (c ∷ cs) is = ap (λ l. c ∷ l) (behind-chars Each cs is)
-behind-chars Run (c ∷ cs) is = ap (λ l. c ∷ l) (behind-chars Run cs is)
-behind-chars Skip (c ∷ cs) is = ap (λ l. c ∷ l) (behind-chars Skip cs is)
+pub beyond-chars : (policy : Policy) (cs : List ℕ) (is : List Item) → lossy_by policy (map Char cs ++ is) ≡ cs ++ lossy_by policy is
+beyond-chars policy [] is = refl
+beyond-chars Each (c ∷ cs) is = ap (λ l. c ∷ l) (beyond-chars Each cs is)
+beyond-chars Run (c ∷ cs) is = ap (λ l. c ∷ l) (beyond-chars Run cs is)
+beyond-chars Skip (c ∷ cs) is = ap (λ l. c ∷ l) (beyond-chars Skip cs is)
 
 pub lossy_after-chars : (policy : Policy) (after : Bool) (cs : List ℕ) → lossy_after policy after (map Char cs) ≡ cs
 lossy_after-chars Each after cs = lossy_by-chars Each cs
@@ -138,17 +138,17 @@ lossy_after-chars Run false cs = lossy_by-chars Run cs
 lossy_after-chars Skip after cs = lossy_by-chars Skip cs
 
 -- The lossy text of units by their numbers, whose first units are well formed and are unchanged.
-pub lossy_by-split : {C : Type 0} (policy : Policy) (form : EncodingForm) (number : C → ℕ) (units front back : List C) → front ++ back ≡ units → IsWellFormed form (map number front)
-    → map number front ++ encode form (lossy_by policy (items form (map number back))) ≡ encode form (lossy_by policy (items form (map number units)))
-lossy_by-split policy form number units front back e well =
-    let a = map number front in
+pub lossy_by-split : {C : Type 0} (policy : Policy) (form : EncodingForm) (number : C → ℕ) (units prefix back : List C) → prefix ++ back ≡ units → IsWellFormed form (map number prefix)
+    → map number prefix ++ encode form (lossy_by policy (items form (map number back))) ≡ encode form (lossy_by policy (items form (map number units)))
+lossy_by-split policy form number units prefix back e well =
+    let a = map number prefix in
     let b = map number back in
     let cs = chars form a in
     let left = lossy_by policy (items form b) in
     let joined : items form (map number units) ≡ map Char cs ++ items form b =
-    ap (λ us. items form (map number us)) (sym e) ∙ ap (items form) (map-append number front back) ∙ items-append_left form a b well ∙ ap (λ is. is ++ items form b) (chars-of_well_formed form a well)
+    ap (λ us. items form (map number us)) (sym e) ∙ ap (items form) (map-append number prefix back) ∙ items-append_left form a b well ∙ ap (λ is. is ++ items form b) (chars-of_well_formed form a well)
     in
-    sym (ap (λ is. encode form (lossy_by policy is)) joined ∙ ap (encode form) (behind-chars policy cs (items form b)) ∙ flat_map-append (code_units form) cs left
+    sym (ap (λ is. encode form (lossy_by policy is)) joined ∙ ap (encode form) (beyond-chars policy cs (items form b)) ∙ flat_map-append (code_units form) cs left
     ∙ ap (λ us. us ++ encode form left) (encode-of_items form cs a (chars-of_well_formed form a well)))
 
 -- Lossy text of lossy text is the same.

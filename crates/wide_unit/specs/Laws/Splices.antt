@@ -10,10 +10,10 @@ use Rattle.std.proofs.Math.Seq.{take-append_seam}
 use Rattle.wide_unit.specs.EncodingForm.{EncodingForm, code_units}
 use Rattle.wide_unit.specs.Segmentation.{Item, Char, Fault}
 use Rattle.wide_unit.specs.Items.{items, characters, chars, IsWellFormed, IsBoundary}
-use Rattle.wide_unit.specs.Places.{chars_before}
+use Rattle.wide_unit.specs.Offsets.{chars_before}
 use Rattle.wide_unit.specs.Laws.Items.{items-nil, items-code_units, chars-of_well_formed, IsWellFormed-of_chars}
 use Rattle.wide_unit.specs.Laws.Ends.{items-append_left, items-append_right}
-use Rattle.wide_unit.specs.Laws.Places.{IsPlaceOf-boundary, chars_before-within, IsWellFormed-take, IsWellFormed-drop}
+use Rattle.wide_unit.specs.Laws.Offsets.{IsOffsetOf-boundary, chars_before-within, IsWellFormed-take, IsWellFormed-drop}
 
 characters-append : (is js : List Item) → characters (is ++ js) ≡ characters is ++ characters js
 characters-append [] js = refl
@@ -62,8 +62,8 @@ module _ (form : EncodingForm) (us : List ℕ) (from to : ℕ) (well : IsWellFor
       let i = chars_before form us from in
       let j = chars_before form us to in
       let part = chars form (slice_range us from to) in
-      let rest_from = (IsPlaceOf-boundary form us well from at_from).rest in
-      let rest_to = (IsPlaceOf-boundary form us well to at_to).rest in
+      let rest_from = (IsOffsetOf-boundary form us well from at_from).rest in
+      let rest_to = (IsOffsetOf-boundary form us well to at_to).rest in
       let joined : drop i (chars form us) ≡ part ++ drop j (chars form us) =
       sym rest_from ∙ ap (chars form) (drop_split us from to forward) ∙ chars-append form (slice_range us from to) (drop to us) (IsWellFormed-part forward) ∙ ap (λ cs. part ++ cs) rest_to
       in
@@ -82,9 +82,9 @@ module _ (form : EncodingForm) (us : List ℕ) (from to : ℕ) (well : IsWellFor
 
     pub chars-splice : chars form (splice us from to new) ≡ splice (chars form us) (chars_before form us from) (chars_before form us to) (chars form new)
     chars-splice =
-        let front = (IsPlaceOf-boundary form us well from at_from).front in
-        let rest = (IsPlaceOf-boundary form us well to at_to).rest in
-        chars-append form (take from us) (new ++ drop to us) (IsWellFormed-take form us well from at_from) ∙ ap (λ cs. cs ++ chars form (new ++ drop to us)) front
+        let prefix = (IsOffsetOf-boundary form us well from at_from).prefix in
+        let rest = (IsOffsetOf-boundary form us well to at_to).rest in
+        chars-append form (take from us) (new ++ drop to us) (IsWellFormed-take form us well from at_from) ∙ ap (λ cs. cs ++ chars form (new ++ drop to us)) prefix
         ∙ ap (λ cs. take (chars_before form us from) (chars form us) ++ cs) (chars-append form new (drop to us) inserted ∙ ap (λ cs. chars form new ++ cs) rest)
 
 -- Slices and splices of a list, element by element.
@@ -100,11 +100,11 @@ module _ {X Y : Type 0} (f : X → Y) (xs : List X) (from to : ℕ) where
 -- For units of any type.
 module _ {X : Type 0} (form : EncodingForm) (number : X → ℕ) (xs : List X) where
   module _ (well : IsWellFormed form (map number xs)) where
-    pub IsWellFormed-map_take : (place : ℕ) → IsBoundary form (map number xs) place → IsWellFormed form (map number (take place xs))
-    IsWellFormed-map_take place at = subst (λ us. IsWellFormed form us) (take-map number place xs) (IsWellFormed-take form (map number xs) well place at)
+    pub IsWellFormed-map_take : (offset : ℕ) → IsBoundary form (map number xs) offset → IsWellFormed form (map number (take offset xs))
+    IsWellFormed-map_take offset at = subst (λ us. IsWellFormed form us) (take-map number offset xs) (IsWellFormed-take form (map number xs) well offset at)
 
-    pub IsWellFormed-map_drop : (place : ℕ) → IsBoundary form (map number xs) place → IsWellFormed form (map number (drop place xs))
-    IsWellFormed-map_drop place at = subst (λ us. IsWellFormed form us) (drop-map number place xs) (IsWellFormed-drop form (map number xs) well place at)
+    pub IsWellFormed-map_drop : (offset : ℕ) → IsBoundary form (map number xs) offset → IsWellFormed form (map number (drop offset xs))
+    IsWellFormed-map_drop offset at = subst (λ us. IsWellFormed form us) (drop-map number offset xs) (IsWellFormed-drop form (map number xs) well offset at)
 
     module _ (from to : ℕ) (at_from : IsBoundary form (map number xs) from) (at_to : IsBoundary form (map number xs) to) where
       pub IsWellFormed-map_part : from ≤ to → IsWellFormed form (map number (slice_range xs from to))

@@ -14,7 +14,7 @@ use Rattle.wide_unit.specs.EncodingForm.{EncodingForm, encode}
 use Rattle.wide_unit.specs.Items.{chars, IsWellFormed}
 use Rattle.wide_unit.specs.Utf8.{utf8}
 use Rattle.wide_unit.specs.Laws.Utf8.{utf8-encode_utf8_all}
-use Rattle.wide_unit.specs.Laws.Places.{chars-encode, IsWellFormed-encode, scalars-chars}
+use Rattle.wide_unit.specs.Laws.Offsets.{chars-encode, IsWellFormed-encode, scalars-chars}
 
 pub All-of_all_scalars : (cs : List ℕ) → all_scalars cs ≡ true → All IsScalar cs
 All-of_all_scalars [] h k d within = absurd (omega (arith, within))

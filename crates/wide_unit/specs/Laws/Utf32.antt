@@ -11,7 +11,7 @@ use Rattle.wide_unit.specs.Laws.Items.{items-append, items-nil, encode-of_items,
 use Rattle.wide_unit.specs.Laws.Ends.{items-first_char, items-first_fault}
 
 pub items32-append : (a b : List ℕ) → items Utf32 (a ++ b) ≡ items Utf32 a ++ items Utf32 b
-items32-append a b = items-append Utf32 a b (λ front back h l e f. no_pair32 h l)
+items32-append a b = items-append Utf32 a b (λ prefix back h l e f. no_pair32 h l)
 
 pub items32-char : (u : ℕ) (us : List ℕ) → IsScalar u → items Utf32 (u ∷ us) ≡ Char u ∷ items Utf32 us
 items32-char u us is = items-first_char Utf32 (u ∷ us) us u u refl is refl

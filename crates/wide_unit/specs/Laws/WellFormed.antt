@@ -19,8 +19,8 @@ module _ (form : EncodingForm) (us vs : List ℕ) (well : IsWellFormed form us) 
       contains-push [] i = (0, omega arith, refl)
       contains-push (j ∷ is) i = let at = contains-push is i in (suc at.0, omega (arith, at.1), at.2)
 
-  pub well_formed-front : (c : ℕ) → items form us ≡ items form vs ++ Char c ∷ [] → IsWellFormed form vs
-  well_formed-front c e = record { no_fault = λ u at. well.no_fault u (subst (λ is. Contains is (Fault u)) (sym e) (contains-left (items form vs) (Char c ∷ []) (Fault u) at)) }
+  pub well_formed-prefix : (c : ℕ) → items form us ≡ items form vs ++ Char c ∷ [] → IsWellFormed form vs
+  well_formed-prefix c e = record { no_fault = λ u at. well.no_fault u (subst (λ is. Contains is (Fault u)) (sym e) (contains-left (items form vs) (Char c ∷ []) (Fault u) at)) }
     where
       contains-left : (is js : List Item) (i : Item) → Contains is i → Contains (is ++ js) i
       contains-left [] js i at = absurd (omega (arith, at.1))

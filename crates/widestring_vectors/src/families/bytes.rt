@@ -20,22 +20,22 @@ fn put<C: Unit>(memory: Memory<'_>, units: &[C], question: &str) -> Result<Strin
         "le" => (view.to_le_bytes(heap)?, view.put_le_bytes(&mut buffer)),
         "be" => (view.to_be_bytes(heap)?, view.put_be_bytes(&mut buffer)),
         "lem" => (
-            view.to_le_bytes_with_mark(heap)?,
-            view.put_le_bytes_with_mark(&mut buffer),
+            view.to_le_bytes_with_bom(heap)?,
+            view.put_le_bytes_with_bom(&mut buffer),
         ),
         "bem" => (
-            view.to_be_bytes_with_mark(heap)?,
-            view.put_be_bytes_with_mark(&mut buffer),
+            view.to_be_bytes_with_bom(heap)?,
+            view.put_be_bytes_with_bom(&mut buffer),
         ),
         _ => return Err(NoAnswer::Unparsed),
     };
-    let (bytes, behind) = buffer.split_at(count.min(404));
+    let (bytes, beyond) = buffer.split_at(count.min(404));
     let mut answer = Answer::new(memory.alloc);
     answer.bytes(&made);
     answer.part();
     answer.bytes(bytes);
     answer.part();
-    answer.decided(behind.iter().all(|byte| *byte == 0xaa));
+    answer.decided(beyond.iter().all(|byte| *byte == 0xaa));
     answer.finish()
 }
 

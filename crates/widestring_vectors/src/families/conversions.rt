@@ -14,7 +14,7 @@
 //! `?`. Lossy text of which a policy leaves nothing may also make one.
 use crate::families::pieces;
 use crate::parse::{self, Memory, NoAnswer};
-use crate::show::{Answer, ToldUnit};
+use crate::show::{Answer, ReportedUnit};
 use std::alloc::Allocator;
 use widestring::bytes::include_utf16str;
 use widestring::error::{
@@ -140,7 +140,7 @@ fn lossy_c_string<C: FaultUnit>(
 }
 
 /// Returns the answer to a question about the lossy text of units.
-pub fn lossy<C: ToldUnit>(
+pub fn lossy<C: ReportedUnit>(
     memory: Memory<'_>,
     list: &str,
     question: &str,
@@ -160,7 +160,7 @@ pub fn lossy<C: ToldUnit>(
 }
 
 // Adds a text in UTF-8, or the fault of ill-formed units.
-fn told<C: ToldUnit>(
+fn reported<C: ReportedUnit>(
     memory: Memory<'_>,
     left: u64,
     made: Result<String<&Heap>, UtfError<C>>,
@@ -177,7 +177,7 @@ fn told<C: ToldUnit>(
 }
 
 // Adds the string of a copy, or the fault with the copy.
-fn copied<'a, C: ToldUnit>(
+fn copied<'a, C: ReportedUnit>(
     memory: Memory<'a>,
     left: u64,
     made: Result<UtfString<C, &'a Heap>, UtfError<C, &'a Heap>>,
@@ -215,7 +215,7 @@ fn file(memory: Memory<'_>, bytes: &[u8]) -> Result<String, NoAnswer> {
 }
 
 // Adds bytes, which must be in a block of their size.
-fn stored<C: ToldUnit>(
+fn stored<C: ReportedUnit>(
     memory: Memory<'_>,
     view: UStr<'_, C>,
     question: &str,
@@ -224,8 +224,8 @@ fn stored<C: ToldUnit>(
     let bytes = match question {
         "L" => view.to_le_bytes(heap)?,
         "B" => view.to_be_bytes(heap)?,
-        "LM" => view.to_le_bytes_with_mark(heap)?,
-        "BM" => view.to_be_bytes_with_mark(heap)?,
+        "LM" => view.to_le_bytes_with_bom(heap)?,
+        "BM" => view.to_be_bytes_with_bom(heap)?,
         _ => return Err(NoAnswer::Unparsed),
     };
     if bytes.capacity() != bytes.len() {
@@ -235,7 +235,7 @@ fn stored<C: ToldUnit>(
 }
 
 // Returns the answer to a question that either width has.
-fn of_either_width<C: ToldUnit>(
+fn of_either_width<C: ReportedUnit>(
     memory: Memory<'_>,
     units: &[C],
     question: &str,
@@ -282,7 +282,7 @@ pub fn text16(memory: Memory<'_>, list: &str, question: &str) -> Result<String, 
     match question {
         "s" => {
             let made = U16Str::from_slice(&units).to_string(heap);
-            told(memory, left, found16(made)?)
+            reported(memory, left, found16(made)?)
         }
         "f" => {
             let made = Utf16String::from_ustr(heap, U16Str::from_slice(&units));
@@ -290,7 +290,7 @@ pub fn text16(memory: Memory<'_>, list: &str, question: &str) -> Result<String, 
         }
         "c" => {
             let string = pieces::c_string(units)?;
-            told(memory, left, found16(string.as_ucstr().to_string(heap))?)
+            reported(memory, left, found16(string.as_ucstr().to_string(heap))?)
         }
         "g" => {
             let string = pieces::c_string(units)?;
@@ -308,7 +308,7 @@ pub fn text32(memory: Memory<'_>, list: &str, question: &str) -> Result<String, 
     match question {
         "s" => {
             let made = U32Str::from_slice(&units).to_string(heap);
-            told(memory, left, found32(made)?)
+            reported(memory, left, found32(made)?)
         }
         "f" => {
             let made = Utf32String::from_ustr(heap, U32Str::from_slice(&units));
@@ -316,7 +316,7 @@ pub fn text32(memory: Memory<'_>, list: &str, question: &str) -> Result<String, 
         }
         "c" => {
             let string = pieces::c_string(units)?;
-            told(memory, left, found32(string.as_ucstr().to_string(heap))?)
+            reported(memory, left, found32(string.as_ucstr().to_string(heap))?)
         }
         "g" => {
             let string = pieces::c_string(units)?;

@@ -40,7 +40,7 @@ fn source<'a>(word: &str, bytes: &'a [u8]) -> Result<SlowSource<'a>, NoAnswer>
     match pace(word)? {
         (step, None) => Ok(SlowSource::new(bytes, step)),
         (step, Some(given)) => match bytes.get(..given) {
-            Some(front) => Ok(SlowSource::failing_behind(front, step)),
+            Some(prefix) => Ok(SlowSource::failing_after(prefix, step)),
             None => Err(NoAnswer::Unparsed),
         },
     }
@@ -53,10 +53,10 @@ fn sink(alloc: Global, word: &str) -> Result<SlowSink, NoAnswer>
     let Some((word, how)) = word.split_at_checked(word.len().saturating_sub(1)) else {
         return Err(NoAnswer::Unparsed);
     };
-    let (step, room) = pace(word)?;
+    let (step, space) = pace(word)?;
     match how {
-        "x" => Ok(SlowSink::new(alloc, step, room, false)),
-        "z" => Ok(SlowSink::new(alloc, step, room, true)),
+        "x" => Ok(SlowSink::new(alloc, step, space, false)),
+        "z" => Ok(SlowSink::new(alloc, step, space, true)),
         _ => Err(NoAnswer::Unparsed),
     }
 }
@@ -68,7 +68,7 @@ fn show(answer: &mut Answer, ending: Result<(), TranscodeError>) -> Result<(), N
         Err(TranscodeError::Read) => answer.word("read"),
         Err(TranscodeError::Write) => answer.word("write"),
         Err(TranscodeError::Utf16 { index, item, unit }) => {
-            answer.told_fault(index, item, u32::from(unit))
+            answer.reported_fault(index, item, u32::from(unit))
         }
         Err(TranscodeError::OutOfMemory) => return Err(NoAnswer::OutOfMemory),
     }

@@ -38,12 +38,12 @@ fn parts_of(kind: u8, more: &str) -> Result<(usize, usize, &str), NoAnswer> {
             Ok((0, 0, ""))
         }
         b't' | b'r' | b'o' => Ok((parse::value(more)?, 0, "")),
-        _ => parts_behind_place(kind, more),
+        _ => parts_after_offset(kind, more),
     }
 }
 
 // Returns the arguments of an edit with a colon after its first offset.
-fn parts_behind_place(kind: u8, more: &str) -> Result<(usize, usize, &str), NoAnswer> {
+fn parts_after_offset(kind: u8, more: &str) -> Result<(usize, usize, &str), NoAnswer> {
     let (first, rest) = parse::parts(more)?;
     let first = parse::value(first)?;
     match kind {
@@ -87,20 +87,20 @@ impl Written {
     }
 
     fn edit(&self) -> Result<Edit<'_>, NoAnswer> {
-        let place = self.first;
+        let position = self.first;
         Ok(match self.kind {
             b'c' => Edit::Push(self.only_char()?),
             b's' => Edit::PushStr(self.text.as_str()),
             b'p' => Edit::Pop,
             b'l' => Edit::Clear,
             b'k' => Edit::Retain(self.chars.as_slice()),
-            b't' => Edit::Truncate(place),
-            b'i' => Edit::Insert(place, self.only_char()?),
-            b'j' => Edit::InsertStr(place, self.text.as_str()),
-            b'r' => Edit::Remove(place),
-            b'o' => Edit::SplitOff(place),
-            b'd' => Edit::Drain(place, self.second),
-            _ => Edit::Replace(place, self.second, self.text.as_str()),
+            b't' => Edit::Truncate(position),
+            b'i' => Edit::Insert(position, self.only_char()?),
+            b'j' => Edit::InsertStr(position, self.text.as_str()),
+            b'r' => Edit::Remove(position),
+            b'o' => Edit::SplitOff(position),
+            b'd' => Edit::Drain(position, self.second),
+            _ => Edit::Replace(position, self.second, self.text.as_str()),
         })
     }
 }

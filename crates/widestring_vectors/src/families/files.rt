@@ -24,7 +24,7 @@ fn order(answer: &mut Answer, order: Option<BoM>) {
 fn parts(answer: &mut Answer, bytes: &[u8]) {
     let parts = utf16_of_bytes(bytes);
     order(answer, Some(parts.order));
-    answer.decided(parts.is_marked);
+    answer.decided(parts.has_bom);
     answer.part();
     for unit in parts.units {
         answer.unit(Some(unit));

@@ -1,12 +1,16 @@
 //! Whether units are well formed. A question is empty, and the answer is `ok`, or the index, the item number and the
 //! unit of the first fault.
 use crate::parse::{self, NoAnswer};
-use crate::show::{Answer, ToldUnit};
+use crate::show::{Answer, ReportedUnit};
 use std::alloc::Global;
 use widestring::utfstr::UtfStr;
 
 /// Returns the answer: whether units of either width are well formed.
-pub fn checked<C: ToldUnit>(alloc: Global, list: &str, question: &str) -> Result<String, NoAnswer> {
+pub fn checked<C: ReportedUnit>(
+    alloc: Global,
+    list: &str,
+    question: &str,
+) -> Result<String, NoAnswer> {
     parse::no_question(question)?;
     let units = parse::list::<C>(alloc, list)?;
     let mut answer = Answer::new(alloc);

@@ -151,7 +151,7 @@ pub fn lossy_utf32(alloc: Global, list: &str, word: &str) -> Result<String, NoAn
 }
 
 // Returns the answer: the bounds of an encoder, at first and after each call from the front.
-macro_rules! front_bounds_of {
+macro_rules! prefix_bounds_of {
     ($alloc:expr, $iterator:expr, $calls:expr) => {{
         let mut iterator = $iterator;
         let mut answer = Answer::new($alloc);
@@ -165,25 +165,25 @@ macro_rules! front_bounds_of {
 }
 
 fn of_encoded8(alloc: Global, chars: &[char], calls: usize) -> Result<String, NoAnswer> {
-    front_bounds_of!(alloc, encode_utf8(chars.iter().copied()), calls)
+    prefix_bounds_of!(alloc, encode_utf8(chars.iter().copied()), calls)
 }
 
 /// Returns the answer: the bounds of an encoder to UTF-8 over the copied characters of a slice. A question is a word of
 /// calls, all from the front.
 pub fn of_utf8_encoder(alloc: Global, list: &str, word: &str) -> Result<String, NoAnswer> {
-    let calls = parse::front_calls(word)?;
+    let calls = parse::prefix_calls(word)?;
     let chars = parse::list::<char>(alloc, list)?;
     of_encoded8(alloc, &chars, calls)
 }
 
 fn of_encoded16(alloc: Global, chars: &[char], calls: usize) -> Result<String, NoAnswer> {
-    front_bounds_of!(alloc, encode_utf16(chars.iter().copied()), calls)
+    prefix_bounds_of!(alloc, encode_utf16(chars.iter().copied()), calls)
 }
 
 /// Returns the answer: the bounds of an encoder to UTF-16 over the copied characters of a slice. A question is a word
 /// of calls, all from the front.
 pub fn of_utf16_encoder(alloc: Global, list: &str, word: &str) -> Result<String, NoAnswer> {
-    let calls = parse::front_calls(word)?;
+    let calls = parse::prefix_calls(word)?;
     let chars = parse::list::<char>(alloc, list)?;
     of_encoded16(alloc, &chars, calls)
 }

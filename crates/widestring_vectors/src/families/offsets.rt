@@ -1,46 +1,50 @@
 //! The items of a view with the index of each, from both ends, and after each item the offset that the iterator
 //! reports. A question is a letter, `c` for items and `l` for lossy ones, and then a word of calls.
 use crate::parse::{self, NoAnswer};
-use crate::show::{Answer, ToldUnit};
+use crate::show::{Answer, ReportedUnit};
 use std::alloc::Global;
 use widestring::iter::End;
 use widestring::ustr::UStr;
 
 // Returns the answer: items and their indices.
-fn of_items<C: ToldUnit>(
+fn of_items<C: ReportedUnit>(
     alloc: Global,
     view: UStr<'_, C>,
     calls: &[End],
 ) -> Result<String, NoAnswer> {
-    let mut places = view.char_indices();
+    let mut offsets = view.char_indices();
     let mut answer = Answer::new(alloc);
     for end in calls {
-        let place = asked!(places, end);
-        answer.place::<C>(place, places.offset());
+        let position = asked!(offsets, end);
+        answer.position::<C>(position, offsets.offset());
     }
     answer.finish()
 }
 
 // Returns the answer: lossy items and their indices.
-fn of_characters<C: ToldUnit>(
+fn of_characters<C: ReportedUnit>(
     alloc: Global,
     view: UStr<'_, C>,
     calls: &[End],
 ) -> Result<String, NoAnswer> {
-    let mut places = view.char_indices_lossy();
+    let mut offsets = view.char_indices_lossy();
     let mut answer = Answer::new(alloc);
     for end in calls {
-        let place = match asked!(places, end) {
+        let position = match asked!(offsets, end) {
             None => None,
             Some((index, c)) => Some((index, Ok(c))),
         };
-        answer.place::<C>(place, places.offset());
+        answer.position::<C>(position, offsets.offset());
     }
     answer.finish()
 }
 
 /// Returns the answer to a question about the indices of the items of units of either width.
-pub fn places<C: ToldUnit>(alloc: Global, list: &str, question: &str) -> Result<String, NoAnswer> {
+pub fn offsets<C: ReportedUnit>(
+    alloc: Global,
+    list: &str,
+    question: &str,
+) -> Result<String, NoAnswer> {
     let (kind, word) = parse::kind(question)?;
     let calls = parse::calls(alloc, word)?;
     let units = parse::list::<C>(alloc, list)?;

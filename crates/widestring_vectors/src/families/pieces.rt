@@ -1,7 +1,7 @@
 //! Items that strings are extended by and made of. They are separated by commas, and each is a list of units.
 use crate::families::ucstring::text_of;
 use crate::parse::{self, FromHex, NoAnswer};
-use crate::show::ToldUnit;
+use crate::show::ReportedUnit;
 use std::alloc::Global;
 use widestring::error::FaultUnit;
 use widestring::ucstr::UCStr;
@@ -213,7 +213,7 @@ pub fn cow_utfstrs<C: FaultUnit>(
 
 // Returns whether `before` is followed by the first of the items, each whole, and as many as the capacity allows, but
 // not all.
-fn are_whole_items<C: ToldUnit>(
+fn are_whole_items<C: ReportedUnit>(
     alloc: Global,
     before: &[C],
     (after, capacity): (&[C], usize),
@@ -237,7 +237,7 @@ fn are_whole_items<C: ToldUnit>(
 
 /// Returns whether a call whose request failed left units and capacity unchanged or, if it takes items, added the items
 /// that the capacity allows.
-pub fn is_kept<C: ToldUnit>(
+pub fn is_kept<C: ReportedUnit>(
     alloc: Global,
     call: &str,
     before: (&[C], usize),

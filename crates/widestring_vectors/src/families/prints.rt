@@ -8,7 +8,7 @@
 //!
 //! - For units, `debug` is the view; `display` and `skipping` are the values that print its text; `chars`, `lossy`,
 //!   `each`, `run` and `skip` are its characters; `string` is the string of them, `box` the boxed string, and `cow` the
-//!   view as a borrowed string; `mended` is what lossy text prints, `fault` the error of ill-formed units, `refused`
+//!   view as a borrowed string; `repaired` is what lossy text prints, `fault` the error of ill-formed units, `refused`
 //!   that of units that are not a C string, and `escape` what characters print as escapes.
 //! - For a C string there are `c_debug`, `c_display`, `c_skipping`, `c_string`, `c_box` and `c_cow`; for text
 //!   `t_debug`, `t_string`, `t_box`, `t_chars`, the three escapes `escape_debug`, `escape_default` and
@@ -278,7 +278,7 @@ fn of_escapes<C: Width>(
     macro_rules! escaped {
         ($escape:expr) => {{
             let mut escape = $escape;
-            for _call in 0..parse::front_calls(more)? {
+            for _call in 0..parse::prefix_calls(more)? {
                 let _c = escape.next();
             }
             both(alloc, answer, &escape)

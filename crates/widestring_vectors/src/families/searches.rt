@@ -31,9 +31,9 @@ macro_rules! searched {
         $answer.count($view.find_char($c));
         $answer.count($view.rfind_char($c));
         $answer.count($view.strip_prefix($part).map(|rest| rest.len()));
-        $answer.count($view.strip_suffix($part).map(|front| front.len()));
+        $answer.count($view.strip_suffix($part).map(|prefix| prefix.len()));
         for halves in [$view.split_once($part), $view.rsplit_once($part)] {
-            $answer.count(halves.map(|(front, _)| front.len()));
+            $answer.count(halves.map(|(prefix, _)| prefix.len()));
             $answer.count(halves.map(|(_, rest)| rest.len()));
         }
         $answer.part();
@@ -103,15 +103,15 @@ fn in_text<C: FaultUnit>(
     text: UtfStr<'_, C>,
     part: UtfStr<'_, C>,
     c: char,
-    place: usize,
+    position: usize,
 ) {
     searched!(answer, text, part, c);
     for piece in text.split_char(c) {
         answer.count(Some(piece.len()));
     }
     answer.part();
-    answer.count(Some(text.floor_char_boundary(place)));
-    answer.count(Some(text.ceil_char_boundary(place)));
+    answer.count(Some(text.floor_char_boundary(position)));
+    answer.count(Some(text.ceil_char_boundary(position)));
 }
 
 /// Returns the answer to a question about searches in units of either width.
@@ -121,16 +121,16 @@ pub fn found<C: FaultUnit + FromHex>(
     question: &str,
 ) -> Result<String, NoAnswer> {
     let (part, rest) = parse::parts(question)?;
-    let (c, place) = parse::parts(rest)?;
+    let (c, position) = parse::parts(rest)?;
     let c = parse::value::<char>(c)?;
-    let place = parse::value::<usize>(place)?;
+    let position = parse::value::<usize>(position)?;
     let units = parse::list::<C>(alloc, list)?;
     let part = parse::list::<C>(alloc, part)?;
     let mut answer = Answer::new(alloc);
     answer.word(&in_all(alloc, &units, &part, c)?);
     if let (Ok(text), Ok(part)) = (UtfStr::from_slice(&units), UtfStr::from_slice(&part)) {
         answer.part();
-        in_text(&mut answer, text, part, c, place);
+        in_text(&mut answer, text, part, c, position);
     }
     answer.finish()
 }

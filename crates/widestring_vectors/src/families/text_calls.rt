@@ -3,7 +3,7 @@
 use crate::families::pieces::{self, Text};
 use crate::families::ustring_calls::has_capacity;
 use crate::parse::{self, Memory, NoAnswer};
-use crate::show::{Answer, ToldUnit};
+use crate::show::{Answer, ReportedUnit};
 use std::mem;
 use widestring::error::OutOfMemory;
 use widestring::ucstring::UCString;
@@ -12,7 +12,7 @@ use widestring::utfstring::{CowUtfStr, UtfStrInUtfstring, UtfString};
 use widestring_testing::Heap;
 
 // Extends a string by items.
-fn extend<C: ToldUnit>(
+fn extend<C: ReportedUnit>(
     memory: Memory<'_>,
     string: &mut Text<'_, C>,
     kind: &str,
@@ -43,7 +43,7 @@ fn extend<C: ToldUnit>(
 }
 
 // Makes a string of items. The error is the string of the items before the request that failed.
-fn made_of<'a, C: ToldUnit>(
+fn made_of<'a, C: ReportedUnit>(
     memory: Memory<'a>,
     kind: &str,
     items: &str,
@@ -75,7 +75,7 @@ fn made_of<'a, C: ToldUnit>(
 }
 
 // Replaces a string by the string of items. If a request fails, by that of the items before it.
-fn collect<'a, C: ToldUnit>(
+fn collect<'a, C: ReportedUnit>(
     memory: Memory<'a>,
     string: &mut Text<'a, C>,
     kind: &str,
@@ -94,7 +94,7 @@ fn collect<'a, C: ToldUnit>(
 }
 
 // Makes a call that takes a text.
-fn with_text<'a, C: ToldUnit>(
+fn with_text<'a, C: ReportedUnit>(
     memory: Memory<'a>,
     string: &mut Text<'a, C>,
     name: &str,
@@ -108,7 +108,7 @@ fn with_text<'a, C: ToldUnit>(
 }
 
 // Makes a call that takes a number, and adds whether the capacity is then as its contract says.
-fn with_number<'a, C: ToldUnit>(
+fn with_number<'a, C: ReportedUnit>(
     memory: Memory<'a>,
     string: &mut Text<'a, C>,
     answer: &mut Answer,
@@ -132,7 +132,7 @@ fn with_number<'a, C: ToldUnit>(
 }
 
 // Replaces a range by a text.
-fn splice<C: ToldUnit>(
+fn splice<C: ReportedUnit>(
     memory: Memory<'_>,
     string: &mut Text<'_, C>,
     more: &str,
@@ -149,12 +149,15 @@ fn splice<C: ToldUnit>(
 }
 
 // Makes an owned string of a borrowed one.
-fn owned<'a, C: ToldUnit>(heap: &'a Heap, view: UtfStr<'_, C>) -> Result<Text<'a, C>, OutOfMemory> {
+fn owned<'a, C: ReportedUnit>(
+    heap: &'a Heap,
+    view: UtfStr<'_, C>,
+) -> Result<Text<'a, C>, OutOfMemory> {
     CowUtfStr::Borrowed(view).into_owned(heap)
 }
 
 // Makes an owned string of an owned one.
-fn kept<'a, C: ToldUnit>(
+fn kept<'a, C: ReportedUnit>(
     memory: Memory<'a>,
     text: Text<'a, C>,
 ) -> Result<Text<'a, C>, OutOfMemory> {
@@ -163,7 +166,7 @@ fn kept<'a, C: ToldUnit>(
 }
 
 // Makes a call that converts a string to a type that holds the same units, and back.
-fn turn<'a, C: ToldUnit>(
+fn turn<'a, C: ReportedUnit>(
     memory: Memory<'a>,
     string: &mut Text<'a, C>,
     name: &str,
@@ -194,7 +197,7 @@ fn turn<'a, C: ToldUnit>(
 }
 
 // Makes a string of the contents of a C string, which are checked first.
-fn of_contents<'a, C: ToldUnit>(ended: UCString<C, &'a Heap>) -> Result<Text<'a, C>, NoAnswer> {
+fn of_contents<'a, C: ReportedUnit>(ended: UCString<C, &'a Heap>) -> Result<Text<'a, C>, NoAnswer> {
     let Ok(_contents) = UtfStr::from_ucstr(ended.as_ucstr()) else {
         return Err(NoAnswer::Unparsed);
     };
@@ -202,7 +205,7 @@ fn of_contents<'a, C: ToldUnit>(ended: UCString<C, &'a Heap>) -> Result<Text<'a,
 }
 
 // Makes a string of a C string of the same units.
-fn of_c_string<'a, C: ToldUnit>(
+fn of_c_string<'a, C: ReportedUnit>(
     memory: Memory<'a>,
     string: &mut Text<'a, C>,
     name: &str,
@@ -225,7 +228,7 @@ fn of_c_string<'a, C: ToldUnit>(
 }
 
 // Makes a call that takes nothing.
-fn alone<'a, C: ToldUnit>(
+fn alone<'a, C: ReportedUnit>(
     memory: Memory<'a>,
     string: &mut Text<'a, C>,
     answer: &mut Answer,
@@ -256,7 +259,7 @@ fn alone<'a, C: ToldUnit>(
 }
 
 /// Makes a call by its name, and adds what it returns.
-pub fn named<'a, C: ToldUnit>(
+pub fn named<'a, C: ReportedUnit>(
     memory: Memory<'a>,
     string: &mut Text<'a, C>,
     answer: &mut Answer,

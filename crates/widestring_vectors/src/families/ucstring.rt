@@ -9,7 +9,7 @@
 //! a view; or the offset of an inner NUL and the vector that the error returns.
 use crate::families::{pieces, ucstring_calls};
 use crate::parse::{self, Memory, NoAnswer};
-use crate::show::{Answer, ToldUnit};
+use crate::show::{Answer, ReportedUnit};
 use std::alloc::Global;
 use widestring::error::{FaultUnit, NulError, UCStringError};
 use widestring::ucstr::UCStr;
@@ -55,7 +55,7 @@ fn view_cut<C: FaultUnit>(alloc: Global, units: &[C]) -> Result<Answer, NoAnswer
 }
 
 // Adds what a C string holds. The error is the vector that an allocation failure returns, if it returns one.
-fn show<'a, C: ToldUnit>(
+fn show<'a, C: ReportedUnit>(
     answer: &mut Answer,
     made: Made<'a, C>,
 ) -> Result<(), Option<Vec<C, &'a Heap>>> {
@@ -68,7 +68,10 @@ fn show<'a, C: ToldUnit>(
 }
 
 /// Returns the answer: a C string of a copy.
-pub fn copied<'a, C: ToldUnit>(memory: Memory<'a>, made: Made<'a, C>) -> Result<Answer, NoAnswer> {
+pub fn copied<'a, C: ReportedUnit>(
+    memory: Memory<'a>,
+    made: Made<'a, C>,
+) -> Result<Answer, NoAnswer> {
     let mut answer = Answer::new(memory.alloc);
     match show(&mut answer, made) {
         Ok(()) => Ok(answer),
@@ -81,7 +84,7 @@ pub fn copied<'a, C: ToldUnit>(memory: Memory<'a>, made: Made<'a, C>) -> Result<
 }
 
 // Returns the answer: a C string of a vector.
-fn of_vec<C: ToldUnit>(
+fn of_vec<C: ReportedUnit>(
     memory: Memory<'_>,
     call: &str,
     units: &[C],
@@ -111,7 +114,7 @@ fn of_vec<C: ToldUnit>(
 }
 
 // Returns the answer: a C string of a copy of units.
-fn of_units<'a, C: ToldUnit>(
+fn of_units<'a, C: ReportedUnit>(
     memory: Memory<'a>,
     call: &str,
     units: &[C],
@@ -128,7 +131,7 @@ fn of_units<'a, C: ToldUnit>(
 }
 
 // Returns the answer: a C string of a text.
-fn of_text<'a, C: ToldUnit>(
+fn of_text<'a, C: ReportedUnit>(
     memory: Memory<'a>,
     call: &str,
     text: &str,
@@ -144,7 +147,7 @@ fn of_text<'a, C: ToldUnit>(
 }
 
 // Returns the answer to a call, and the number of its requests.
-fn answer_to<C: ToldUnit>(
+fn answer_to<C: ReportedUnit>(
     memory: Memory<'_>,
     call: &str,
     units: &[C],
@@ -160,7 +163,7 @@ fn answer_to<C: ToldUnit>(
 }
 
 /// Returns the answer: the C string that a constructor makes, or its error.
-pub fn made<C: ToldUnit>(
+pub fn made<C: ReportedUnit>(
     memory: Memory<'_>,
     list: &str,
     question: &str,

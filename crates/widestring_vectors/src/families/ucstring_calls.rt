@@ -2,7 +2,7 @@
 //! C string. The answer is the units that the call returns, and after a `#` the number of its requests.
 use crate::families::pieces;
 use crate::parse::{self, Memory, NoAnswer};
-use crate::show::{Answer, ToldUnit};
+use crate::show::{Answer, ReportedUnit};
 use widestring::error::OutOfMemory;
 use widestring::ucstr::UCStr;
 use widestring::ucstring::{CowUCStr, UCStrInUcstring, UCString};
@@ -11,7 +11,7 @@ use widestring_testing::Heap;
 type CString<'a, C> = UCString<C, &'a Heap>;
 
 // Copies a C string. Returns `None` if the call is not one that copies.
-fn copy<'a, C: ToldUnit>(
+fn copy<'a, C: ReportedUnit>(
     heap: &'a Heap,
     string: &CString<'a, C>,
     name: &str,
@@ -28,7 +28,7 @@ fn copy<'a, C: ToldUnit>(
 }
 
 // Makes an owned C string of a borrowed one.
-fn owned<'a, C: ToldUnit>(
+fn owned<'a, C: ReportedUnit>(
     heap: &'a Heap,
     view: UCStr<'_, C>,
 ) -> Result<CString<'a, C>, OutOfMemory> {
@@ -36,7 +36,7 @@ fn owned<'a, C: ToldUnit>(
 }
 
 // Makes an owned C string of an owned one.
-fn kept<'a, C: ToldUnit>(
+fn kept<'a, C: ReportedUnit>(
     heap: &'a Heap,
     string: CString<'a, C>,
 ) -> Result<CString<'a, C>, OutOfMemory> {
@@ -45,7 +45,7 @@ fn kept<'a, C: ToldUnit>(
 }
 
 // Returns the vector of a call that consumes the C string.
-fn taken<'a, C: ToldUnit>(
+fn taken<'a, C: ReportedUnit>(
     heap: &'a Heap,
     string: CString<'a, C>,
     name: &str,
@@ -62,7 +62,7 @@ fn taken<'a, C: ToldUnit>(
 
 // Adds the units of a C string that was in a box. If the allocation of the box fails, the C string must be returned
 // unchanged.
-fn boxed<'a, C: ToldUnit>(
+fn boxed<'a, C: ReportedUnit>(
     answer: &mut Answer,
     string: CString<'a, C>,
     contents: &[C],
@@ -85,7 +85,7 @@ fn boxed<'a, C: ToldUnit>(
 }
 
 /// Returns the answer: what a call of the C string of these contents returns.
-pub fn called<C: ToldUnit>(
+pub fn called<C: ReportedUnit>(
     memory: Memory<'_>,
     contents: Vec<C>,
     call: &str,

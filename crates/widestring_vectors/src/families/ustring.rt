@@ -99,8 +99,8 @@ pub fn insert<C: FaultUnit + FromHex>(
     question: &str,
 ) -> Result<String, NoAnswer> {
     let (before, more) = parse::parts(question)?;
-    let (kind, place) = parse::kind(before)?;
-    let at = parse::value::<usize>(place)?;
+    let (kind, position) = parse::kind(before)?;
+    let at = parse::value::<usize>(position)?;
     let string = string::<C>(alloc, list)?;
     match kind {
         b'c' => insert_char(alloc, string, at, more),

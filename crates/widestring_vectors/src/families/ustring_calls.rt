@@ -6,7 +6,7 @@
 //! requests. A string that would be too long is a `-`, with no request.
 use crate::families::pieces::{self, Units};
 use crate::parse::{self, Memory, NoAnswer};
-use crate::show::{Answer, ToldUnit};
+use crate::show::{Answer, ReportedUnit};
 use widestring::error::OutOfMemory;
 use widestring::ucstring::{UStringInUcstring, UStringOverUcstrs};
 use widestring::unit::range_check;
@@ -16,7 +16,7 @@ use widestring::utfstring::{UStringInUtfstring, UStringOverUtfstrs};
 use widestring_testing::Heap;
 
 // Extends a string by items of text.
-fn extend_by_text<C: ToldUnit>(
+fn extend_by_text<C: ReportedUnit>(
     memory: Memory<'_>,
     string: &mut Units<'_, C>,
     kind: &str,
@@ -42,7 +42,7 @@ fn extend_by_text<C: ToldUnit>(
 }
 
 // Extends a string by items of any units.
-fn extend_by_units<C: ToldUnit>(
+fn extend_by_units<C: ReportedUnit>(
     memory: Memory<'_>,
     string: &mut Units<'_, C>,
     kind: &str,
@@ -71,7 +71,7 @@ fn extend_by_units<C: ToldUnit>(
 }
 
 // Makes a string of items of text. The error is the string of the items before the request that failed.
-fn made_of_text<'a, C: ToldUnit>(
+fn made_of_text<'a, C: ReportedUnit>(
     memory: Memory<'a>,
     kind: &str,
     items: &str,
@@ -95,7 +95,7 @@ fn made_of_text<'a, C: ToldUnit>(
 }
 
 // Makes a string of items of any units. The error is the string of the items before the request that failed.
-fn made_of_units<'a, C: ToldUnit>(
+fn made_of_units<'a, C: ReportedUnit>(
     memory: Memory<'a>,
     kind: &str,
     items: &str,
@@ -122,7 +122,7 @@ fn made_of_units<'a, C: ToldUnit>(
 }
 
 // Replaces a string by the string of items. If a request fails, by that of the items before it.
-fn collect<'a, C: ToldUnit>(
+fn collect<'a, C: ReportedUnit>(
     memory: Memory<'a>,
     string: &mut Units<'a, C>,
     kind: &str,
@@ -141,7 +141,7 @@ fn collect<'a, C: ToldUnit>(
 }
 
 // Makes a call that takes a text.
-fn with_text<'a, C: ToldUnit>(
+fn with_text<'a, C: ReportedUnit>(
     memory: Memory<'a>,
     string: &mut Units<'a, C>,
     name: &str,
@@ -156,7 +156,7 @@ fn with_text<'a, C: ToldUnit>(
 }
 
 // Makes a call that takes a number, and adds whether the capacity is then as its contract says.
-fn with_number<'a, C: ToldUnit>(
+fn with_number<'a, C: ReportedUnit>(
     memory: Memory<'a>,
     string: &mut Units<'a, C>,
     answer: &mut Answer,
@@ -189,7 +189,7 @@ pub fn has_capacity(name: &str, number: usize, len: usize, before: usize, after:
 }
 
 // Makes a call that takes units.
-fn with_units<C: ToldUnit>(
+fn with_units<C: ReportedUnit>(
     string: &mut Units<'_, C>,
     name: &str,
     units: &[C],
@@ -202,12 +202,15 @@ fn with_units<C: ToldUnit>(
 }
 
 // Makes an owned string of a borrowed one.
-fn owned<'a, C: ToldUnit>(heap: &'a Heap, view: UStr<'_, C>) -> Result<Units<'a, C>, OutOfMemory> {
+fn owned<'a, C: ReportedUnit>(
+    heap: &'a Heap,
+    view: UStr<'_, C>,
+) -> Result<Units<'a, C>, OutOfMemory> {
     CowUStr::Borrowed(view).into_owned(heap)
 }
 
 // Makes an owned string of an owned one.
-fn kept<'a, C: ToldUnit>(
+fn kept<'a, C: ReportedUnit>(
     memory: Memory<'a>,
     string: Units<'a, C>,
 ) -> Result<Units<'a, C>, OutOfMemory> {
@@ -216,7 +219,7 @@ fn kept<'a, C: ToldUnit>(
 }
 
 // Makes a call that takes nothing and may allocate.
-fn alone<'a, C: ToldUnit>(
+fn alone<'a, C: ReportedUnit>(
     memory: Memory<'a>,
     string: &mut Units<'a, C>,
     answer: &mut Answer,
@@ -246,7 +249,10 @@ fn alone<'a, C: ToldUnit>(
 }
 
 // Makes a box of a string, and a string of that, whose capacity must be its length.
-fn boxed<'a, C: ToldUnit>(memory: Memory<'a>, string: &mut Units<'a, C>) -> Result<(), NoAnswer> {
+fn boxed<'a, C: ReportedUnit>(
+    memory: Memory<'a>,
+    string: &mut Units<'a, C>,
+) -> Result<(), NoAnswer> {
     match std::mem::replace(string, UString::new(memory.heap)).into_boxed_ustr() {
         Ok(boxed) => {
             let len = boxed.as_ustr().len();
@@ -265,7 +271,7 @@ fn boxed<'a, C: ToldUnit>(memory: Memory<'a>, string: &mut Units<'a, C>) -> Resu
 }
 
 // Makes a call that takes nothing and does not allocate.
-fn without_memory<C: ToldUnit>(
+fn without_memory<C: ReportedUnit>(
     string: &mut Units<'_, C>,
     answer: &mut Answer,
     name: &str,
@@ -283,7 +289,7 @@ fn without_memory<C: ToldUnit>(
 }
 
 // Makes a call at an offset, if it is within bounds.
-fn at_offset<'a, C: ToldUnit>(
+fn at_offset<'a, C: ReportedUnit>(
     string: &mut Units<'a, C>,
     answer: &mut Answer,
     name: &str,
@@ -299,7 +305,7 @@ fn at_offset<'a, C: ToldUnit>(
 }
 
 // Makes a call at an offset that takes more arguments.
-fn put_in<C: ToldUnit>(
+fn put_in<C: ReportedUnit>(
     memory: Memory<'_>,
     string: &mut Units<'_, C>,
     name: &str,
@@ -323,7 +329,7 @@ fn put_in<C: ToldUnit>(
 }
 
 // Makes a call at a range.
-fn at_range<C: ToldUnit>(
+fn at_range<C: ReportedUnit>(
     memory: Memory<'_>,
     string: &mut Units<'_, C>,
     answer: &mut Answer,
@@ -350,7 +356,7 @@ fn at_range<C: ToldUnit>(
 }
 
 // Makes a call, and adds what it returns.
-fn call<'a, C: ToldUnit>(
+fn call<'a, C: ReportedUnit>(
     memory: Memory<'a>,
     string: &mut Units<'a, C>,
     answer: &mut Answer,
@@ -395,7 +401,7 @@ fn call<'a, C: ToldUnit>(
 
 // Makes a call of a script, and adds what it returns, leaves and requests. Adds a `?` if a request failed and the
 // string is then not as the contract says.
-fn step<'a, C: ToldUnit>(
+fn step<'a, C: ReportedUnit>(
     memory: Memory<'a>,
     string: &mut Units<'a, C>,
     answer: &mut Answer,
@@ -424,7 +430,7 @@ fn step<'a, C: ToldUnit>(
 }
 
 /// Returns the answer: what the calls of a script return, leave and request.
-pub fn script<C: ToldUnit>(
+pub fn script<C: ReportedUnit>(
     memory: Memory<'_>,
     list: &str,
     question: &str,

@@ -25,7 +25,7 @@ use crate::families::pieces::{self, Text};
 use crate::families::text_calls;
 use crate::families::ucstring::text_of;
 use crate::parse::{self, FromHex, Memory, NoAnswer};
-use crate::show::{Answer, ToldUnit};
+use crate::show::{Answer, ReportedUnit};
 use std::alloc::Global;
 use std::ops::Bound;
 use widestring::error::{FaultUnit, UtfError};
@@ -221,8 +221,8 @@ fn put_in<C: FaultUnit + FromHex>(
     kind: u8,
     more: &str,
 ) -> Result<(), NoAnswer> {
-    let (place, more) = parse::parts(more)?;
-    let at = parse::value(place)?;
+    let (position, more) = parse::parts(more)?;
+    let at = parse::value(position)?;
     if kind == b'i' {
         return insert(string, answer, at, more);
     }
@@ -267,7 +267,7 @@ fn call_in<C: FaultUnit + FromHex>(
 }
 
 // Makes a call, and adds what it returns.
-fn call<'a, C: ToldUnit>(
+fn call<'a, C: ReportedUnit>(
     memory: Memory<'a>,
     string: &mut Text<'a, C>,
     answer: &mut Answer,
@@ -294,7 +294,7 @@ fn call<'a, C: ToldUnit>(
 }
 
 // Returns whether a call whose request failed left the string as its contract says.
-fn is_kept<C: ToldUnit>(
+fn is_kept<C: ReportedUnit>(
     alloc: Global,
     call: &str,
     before: (&[C], usize),
@@ -308,7 +308,7 @@ fn is_kept<C: ToldUnit>(
 }
 
 // Makes a call of a script, and adds what it returns. A text that would be too long is a `-`, with no request.
-fn step<'a, C: ToldUnit>(
+fn step<'a, C: ReportedUnit>(
     memory: Memory<'a>,
     string: &mut Text<'a, C>,
     answer: &mut Answer,
@@ -334,7 +334,7 @@ fn step<'a, C: ToldUnit>(
 
 // Returns the answer: what the calls after the first return and leave, if there are any, and how many requests each
 // makes, if the question asks for that.
-fn edited<'a, C: ToldUnit>(
+fn edited<'a, C: ReportedUnit>(
     memory: Memory<'a>,
     mut string: Text<'a, C>,
     calls: Option<&str>,
@@ -359,7 +359,7 @@ fn edited<'a, C: ToldUnit>(
 }
 
 // Returns the answer: the fault of ill-formed units.
-fn refused<'a, C: ToldUnit>(
+fn refused<'a, C: ReportedUnit>(
     alloc: Global,
     error: UtfError<C, &'a Heap>,
 ) -> Result<String, NoAnswer> {
@@ -371,7 +371,7 @@ fn refused<'a, C: ToldUnit>(
 }
 
 // Makes the string of a vector, of a string of any units or of a C string.
-fn of_vec<'a, C: ToldUnit>(
+fn of_vec<'a, C: ReportedUnit>(
     kind: &str,
     units: Vec<C, &'a Heap>,
 ) -> Result<Result<Text<'a, C>, UtfError<C, &'a Heap>>, NoAnswer> {
@@ -387,7 +387,7 @@ fn of_vec<'a, C: ToldUnit>(
 }
 
 /// Returns the answer: what the calls of a script return, and the units that each leaves.
-pub fn script<C: ToldUnit>(
+pub fn script<C: ReportedUnit>(
     memory: Memory<'_>,
     list: &str,
     question: &str,

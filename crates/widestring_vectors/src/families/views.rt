@@ -41,8 +41,8 @@ macro_rules! part_of {
 // Adds both halves of a view.
 macro_rules! halves {
     ($answer:expr, $halves:expr) => {{
-        let (front, back) = $halves;
-        $answer.units(front.as_slice());
+        let (prefix, back) = $halves;
+        $answer.units(prefix.as_slice());
         $answer.part();
         $answer.units(back.as_slice());
     }};

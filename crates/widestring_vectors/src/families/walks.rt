@@ -9,7 +9,7 @@
 //! the lines, and `lengths` for the length of each iterator that has one, at first and after a call from the back.
 use crate::families::width::Width;
 use crate::parse::{self, Memory, NoAnswer};
-use crate::show::{Answer, ToldUnit};
+use crate::show::{Answer, ReportedUnit};
 use std::alloc::Global;
 use widestring::iter::{End, decode_utf32, decode_utf32_lossy, encode_utf32};
 use widestring::ucstr::UCStr;
@@ -54,7 +54,7 @@ macro_rules! encoded {
     }};
 }
 
-fn chars<C: ToldUnit>(
+fn chars<C: ReportedUnit>(
     alloc: Global,
     chars: Chars<'_, C>,
     steps: &[Option<End>],
@@ -67,7 +67,7 @@ fn chars<C: ToldUnit>(
     )
 }
 
-fn lossy<C: ToldUnit>(
+fn lossy<C: ReportedUnit>(
     alloc: Global,
     chars: CharsLossy<'_, C>,
     steps: &[Option<End>],
@@ -80,7 +80,7 @@ fn lossy<C: ToldUnit>(
     )
 }
 
-fn lossy_with<C: ToldUnit>(
+fn lossy_with<C: ReportedUnit>(
     alloc: Global,
     chars: CharsLossyWith<'_, C>,
     steps: &[Option<End>],
@@ -93,7 +93,7 @@ fn lossy_with<C: ToldUnit>(
     )
 }
 
-fn indices<C: ToldUnit>(
+fn indices<C: ReportedUnit>(
     alloc: Global,
     indices: CharIndices<'_, C>,
     steps: &[Option<End>],
@@ -102,11 +102,11 @@ fn indices<C: ToldUnit>(
         alloc,
         steps,
         indices = indices,
-        |answer, item| answer.place::<C>(item, indices.offset())
+        |answer, item| answer.position::<C>(item, indices.offset())
     )
 }
 
-fn lossy_indices<C: ToldUnit>(
+fn lossy_indices<C: ReportedUnit>(
     alloc: Global,
     indices: CharIndicesLossy<'_, C>,
     steps: &[Option<End>],
@@ -115,11 +115,11 @@ fn lossy_indices<C: ToldUnit>(
         alloc,
         steps,
         indices = indices,
-        |answer, item| answer.place::<C>(item.map(|(index, c)| (index, Ok(c))), indices.offset())
+        |answer, item| answer.position::<C>(item.map(|(index, c)| (index, Ok(c))), indices.offset())
     )
 }
 
-fn text_chars<C: ToldUnit>(
+fn text_chars<C: ReportedUnit>(
     alloc: Global,
     text: UtfStr<'_, C>,
     steps: &[Option<End>],
@@ -132,7 +132,7 @@ fn text_chars<C: ToldUnit>(
     )
 }
 
-fn text_indices<C: ToldUnit>(
+fn text_indices<C: ReportedUnit>(
     alloc: Global,
     text: UtfStr<'_, C>,
     steps: &[Option<End>],
@@ -141,7 +141,7 @@ fn text_indices<C: ToldUnit>(
         alloc,
         steps,
         indices = text.char_indices(),
-        |answer, item| answer.place::<C>(item.map(|(index, c)| (index, Ok(c))), indices.offset())
+        |answer, item| answer.position::<C>(item.map(|(index, c)| (index, Ok(c))), indices.offset())
     )
 }
 
@@ -159,7 +159,7 @@ pub fn code_units(
     )
 }
 
-fn utf8<C: ToldUnit>(
+fn utf8<C: ReportedUnit>(
     alloc: Global,
     text: UtfStr<'_, C>,
     steps: &[Option<End>],
@@ -227,14 +227,14 @@ pub fn lengths32(answer: &mut Answer, units: &[u32]) -> Result<(), NoAnswer> {
 }
 
 // Returns the answer: the bounds of the lines of units, alone and with their offsets.
-fn line_bounds<C: ToldUnit>(alloc: Global, view: UStr<'_, C>) -> Result<String, NoAnswer> {
+fn line_bounds<C: ReportedUnit>(alloc: Global, view: UStr<'_, C>) -> Result<String, NoAnswer> {
     let mut answer = Answer::new(alloc);
     answer.bounds(view.lines_lossy().size_hint());
     answer.bounds(view.line_indices_lossy().size_hint());
     answer.finish()
 }
 
-fn of_units<C: ToldUnit>(
+fn of_units<C: ReportedUnit>(
     alloc: Global,
     view: UStr<'_, C>,
     word: &str,
@@ -253,7 +253,7 @@ fn of_units<C: ToldUnit>(
     }
 }
 
-fn of_contents<C: ToldUnit>(
+fn of_contents<C: ReportedUnit>(
     alloc: Global,
     view: UCStr<'_, C>,
     word: &str,

@@ -4,7 +4,7 @@
 //! whose signatures name a view would need a manual proof.
 use crate::families::{prints, walks};
 use crate::parse::{FromHex, NoAnswer};
-use crate::show::{Answer, ToldUnit};
+use crate::show::{Answer, ReportedUnit};
 use std::alloc::Global;
 use std::hash::Hash;
 use widestring::iter::End;
@@ -12,7 +12,7 @@ use widestring::utfstr::UtfStr;
 use widestring::{U16CStr, U32CStr, Utf16Str, Utf16String, Utf32Str, Utf32String};
 
 /// Returns the text of units.
-pub fn as_text<C: ToldUnit>(units: &[C]) -> Result<UtfStr<'_, C>, NoAnswer> {
+pub fn as_text<C: ReportedUnit>(units: &[C]) -> Result<UtfStr<'_, C>, NoAnswer> {
     match UtfStr::from_slice(units) {
         Ok(text) => Ok(text),
         Err(_) => Err(NoAnswer::Unparsed),
@@ -20,7 +20,7 @@ pub fn as_text<C: ToldUnit>(units: &[C]) -> Result<UtfStr<'_, C>, NoAnswer> {
 }
 
 /// A width of units.
-pub trait Width: ToldUnit + FromHex + Ord + Hash + 'static {
+pub trait Width: ReportedUnit + FromHex + Ord + Hash + 'static {
     /// Adds the units of the empty C string, with its NUL.
     fn show_no_contents(answer: &mut Answer);
 

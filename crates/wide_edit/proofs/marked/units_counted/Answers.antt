@@ -2,12 +2,12 @@ use Rattle.std.proofs.Common.{ap, arith, length, subst}
 use Rattle.std.proofs.lemmas.List.{map-id}
 use Rattle.wide_unit.specs.EncodingForm.{Utf16}
 use Rattle.wide_unit.specs.Items.{chars}
-use Rattle.wide_unit.specs.Laws.Places.{place-IsPlaceOf}
-use Rattle.wide_unit.specs.Places.{IsPlaceOf}
+use Rattle.wide_unit.specs.Laws.Offsets.{offset-IsOffsetOf}
+use Rattle.wide_unit.specs.Offsets.{IsOffsetOf}
 use Rattle.wide_edit.specs.Found.{first_number}
 use Rattle.wide_edit.proofs.Lengths.{size-cut}
 use Rattle.wide_edit.proofs.Marking.{well-formed, whole-size}
-use Rattle.wide_edit.proofs.Places.{found_some}
+use Rattle.wide_edit.proofs.Offsets.{found_some}
 use Rattle.wide_edit.proofs.marked.units_counted.Goals as goal
 
 pub returns-in-Some : goal.returns-in-Some
@@ -16,6 +16,6 @@ returns-in-Some c =
     let i = c.in-SplitOff.field-0 in
     let well = well-formed us c.recall.ensures.well_formed in
     let found = found_some Utf16 us (first_number c.args.edit) c.args.start c.in-Some.at c.requires c.in-Some.is in
-    let place = subst (λ edit. IsPlaceOf Utf16 us (first_number edit) c.in-Some.at) c.in-SplitOff.is found.place in
+    let offset = subst (λ edit. IsOffsetOf Utf16 us (first_number edit) c.in-Some.at) c.in-SplitOff.is found.offset in
     rw c.in-SplitOff.is
-    (omega (arith, c.unit_count-len.ensures.count, ap length (map-id us), whole-size us well, size-cut Utf16 (chars Utf16 us) i, place-IsPlaceOf Utf16 us well i c.in-Some.at place))
+    (omega (arith, c.unit_count-len.ensures.count, ap length (map-id us), whole-size us well, size-cut Utf16 (chars Utf16 us) i, offset-IsOffsetOf Utf16 us well i c.in-Some.at offset))

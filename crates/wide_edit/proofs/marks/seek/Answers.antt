@@ -3,8 +3,8 @@ use Rattle.std.specs.Prelude.{slice_index_or}
 use Rattle.std.proofs.lemmas.List.{map-id}
 use Rattle.wide_unit.specs.EncodingForm.{Utf16}
 use Rattle.wide_unit.specs.Items.{chars}
-use Rattle.wide_unit.specs.Places.{IsCharBoundary}
-use Rattle.wide_unit.specs.Laws.Places.{IsPlaceOf-front}
+use Rattle.wide_unit.specs.Offsets.{IsCharBoundary}
+use Rattle.wide_unit.specs.Laws.Offsets.{IsOffsetOf-prefix}
 use Rattle.wide_utfstr.specs.View.{units_seen}
 use Rattle.wide_edit.specs.Marks.{mark}
 use Rattle.wide_edit.proofs.Marking.{mark-at, well-formed, char-boundary}
@@ -25,4 +25,4 @@ returns-clause-rest c =
     let us = units_seen c.args.text in
     let found = slice_index_or c.args.marks.now (c.args.number - 1) 0 in
     c.chars-2.ensures.characters ∙ ap (λ vs. chars Utf16 (map (λ u. u) vs)) c.split_at.ensures.back ∙ ap (chars Utf16) (map-id (drop found us)) ∙ ap (λ n. chars Utf16 (drop n us)) (returns-clause-at c)
-    ∙ (IsPlaceOf-front Utf16 us (well-formed us c.args.text.well_formed) (64 * c.args.number)).rest
+    ∙ (IsOffsetOf-prefix Utf16 us (well-formed us c.args.text.well_formed) (64 * c.args.number)).rest

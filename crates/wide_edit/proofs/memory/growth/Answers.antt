@@ -2,12 +2,12 @@ use Rattle.std.proofs.Common.{◌≤◌, ◌-◌, arith, subst, map, length, ◌
 use Rattle.std.specs.Prelude.{nat_eq}
 use Rattle.std.specs.List.{list_any}
 use Rattle.std.specs.Str.{chars}
-use Rattle.wide_unit.specs.Laws.Places.{place-IsPlaceOf}
+use Rattle.wide_unit.specs.Laws.Offsets.{offset-IsOffsetOf}
 use Rattle.wide_edit.specs.Found.{first_number}
-use Rattle.wide_unit.specs.Places.{text_of}
+use Rattle.wide_unit.specs.Offsets.{text_of}
 use Rattle.wide_edit.proofs.Made.{in_place, past, in_range}
 use Rattle.wide_edit.proofs.Lengths.{size-splice, size-one, size-take, size-without, size-filter, size-remove, size-drain, size-split}
-use Rattle.wide_edit.proofs.Places.{found_some, found_none, range-forward}
+use Rattle.wide_edit.proofs.Offsets.{found_some, found_none, range-forward}
 use Rattle.wide_edit.proofs.memory.growth.Goals as goal
 
 pub overflow_sub-range : goal.overflow_sub-range
@@ -79,7 +79,7 @@ returns-in-Some-range_at g c =
     let j = c.in-Replace.to in
     let well = c.recall.ensures.well_formed in
     rw (c.in-Replace.is, in_range i j (length l) r.forward r.within)
-    (omega (arith, size-splice form l (chars c.in-Replace.text.now) i j, c.recall.ensures.count, place-IsPlaceOf form us well i _ r.starts, place-IsPlaceOf form us well j _ r.ends, range-forward form number s.units well i j _ _ r.forward r.starts r.ends, c.text_len-in-Some-range_at.ensures, c.saturating_sub.ensures))
+    (omega (arith, size-splice form l (chars c.in-Replace.text.now) i j, c.recall.ensures.count, offset-IsOffsetOf form us well i _ r.starts, offset-IsOffsetOf form us well j _ r.ends, range-forward form number s.units well i j _ _ r.forward r.starts r.ends, c.text_len-in-Some-range_at.ensures, c.saturating_sub.ensures))
 
 pub returns-in-None-range_at : goal.returns-in-None-range_at
 returns-in-None-range_at g c =

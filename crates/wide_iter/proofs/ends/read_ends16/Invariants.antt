@@ -2,11 +2,11 @@ use Rattle.std.proofs.Common.{map, drop}
 use Rattle.std.specs.Option.{option_map}
 use Rattle.wide_unit.specs.EncodingForm.{Utf16}
 use Rattle.wide_unit.specs.Items.{items}
-use Rattle.wide_unit.specs.Unit.{told_item}
+use Rattle.wide_unit.specs.Unit.{reported_item}
 use Rattle.wide_iter.specs.Decoder16.{items_left}
 use Rattle.wide_iter.specs.Sources.{copied_rest}
 use Rattle.wide_iter.proofs.Turns.{ReadSoFar}
 use Rattle.wide_iter.proofs.ends.read_ends16.Given as goal
 
 abbrev pub invariant-loop-end : goal.invariant-loop-end
-invariant-loop-end g l = ReadSoFar (items Utf16 l.units) l.ends (drop l.end-index l.ends) (map (option_map told_item) l.given.items) (items_left copied_rest l.decoder)
+invariant-loop-end g l = ReadSoFar (items Utf16 l.units) l.ends (drop l.end-index l.ends) (map (option_map reported_item) l.given.items) (items_left copied_rest l.decoder)

@@ -1,7 +1,7 @@
 use Rattle.std.proofs.Common.{rules, ◌≡◌, ◌∷◌, ◌++◌, ◌∙◌, [], ap}
 use Rattle.wide_unit.specs.EncodingForm.{Utf32}
 use Rattle.wide_unit.specs.Items.{items}
-use Rattle.wide_unit.specs.Unit.{told_item}
+use Rattle.wide_unit.specs.Unit.{reported_item}
 use Rattle.wide_iter.specs.Decoder32.{items32_left}
 use Rattle.wide_iter.proofs.Turns.{turn_front, turn_back, read_none, read_all}
 use Rattle.wide_iter.specs.Sources.{copied_rest}
@@ -16,15 +16,15 @@ loop-end-preserved g c =
     let pushed : c.push.new.self.items ≡ c.loop-end.answered.items ++ c.match-end.answer ∷ [] = search rules in
     elim c.match-end.branch [
       | in-Front w ↦
-          rw w.decoder-is (turn_front all told_item c.args.ends.now c.loop-end.end-index c.loop-end.answered.items c.push.new.self.items w.next-answer.result left (items32_left copied_rest w.next-answer.new.self) c.loop-end.invariant c.loop-end-test.true (rw w.answer-is at pushed) _ w.in-Front.is (w.next-answer.ensures.steps.at copied_rest copied_gives_first))
+          rw w.decoder-is (turn_front all reported_item c.args.ends.now c.loop-end.end-index c.loop-end.answered.items c.push.new.self.items w.next-answer.result left (items32_left copied_rest w.next-answer.new.self) c.loop-end.invariant c.loop-end-test.true (rw w.answer-is at pushed) _ w.in-Front.is (w.next-answer.ensures.steps.at copied_rest copied_gives_first))
       | in-Back w ↦
-          rw w.decoder-is (turn_back all told_item c.args.ends.now c.loop-end.end-index c.loop-end.answered.items c.push.new.self.items w.next_back-answer.result left (items32_left copied_rest w.next_back-answer.new.self) c.loop-end.invariant c.loop-end-test.true (rw w.answer-is at pushed) _ w.in-Back.is (w.next_back-answer.ensures.steps.at copied_rest copied_gives_last))
+          rw w.decoder-is (turn_back all reported_item c.args.ends.now c.loop-end.end-index c.loop-end.answered.items c.push.new.self.items w.next_back-answer.result left (items32_left copied_rest w.next_back-answer.new.self) c.loop-end.invariant c.loop-end-test.true (rw w.answer-is at pushed) _ w.in-Back.is (w.next_back-answer.ensures.steps.at copied_rest copied_gives_last))
     ]
 
 pub loop-end-init : goal.loop-end-init
 loop-end-init g c =
     let left : items32_left copied_rest c.decode_utf32-decoder.result ≡ items Utf32 c.args.units.now = c.decode_utf32-decoder.ensures.items copied_rest ∙ ap (items Utf32) (search rules) in
-    read_none _ told_item _ _ _ (search rules) left
+    read_none _ reported_item _ _ _ (search rules) left
 
 pub returns-clause-answers : goal.returns-clause-answers
-returns-clause-answers g c = read_all _ told_item _ _ _ _ c.loop-end-test.false c.loop-end.invariant
+returns-clause-answers g c = read_all _ reported_item _ _ _ _ c.loop-end-test.false c.loop-end.invariant

@@ -1,5 +1,5 @@
-use Rattle.wide_search.proofs.Places.{begins-told}
+use Rattle.wide_search.proofs.Offsets.{begins-reported}
 use Rattle.wide_search.proofs.units.starts_with.Goals as goal
 
 pub returns : goal.returns
-returns g c = begins-told c.args.part.now c.args.units.now c.split_at.result.0.now c.split_at.ensures.front c.same_units.ensures
+returns g c = begins-reported c.args.needle.now c.args.units.now c.split_at.result.0.now c.split_at.ensures.front c.same_units.ensures

@@ -5,5 +5,5 @@ abbrev pub invariant-loop-c : goal.invariant-loop-c
 invariant-loop-c g l = record {
   so_far : l.units.items ≡ take l.c-index l.chars;
   len : vec_len l.units ≡ l.c-index;
-  room : length l.chars + 1 ≤ vec_capacity l.units;
+  space : length l.chars + 1 ≤ vec_capacity l.units;
 }

@@ -5,8 +5,8 @@ use Rattle.wide_unit.proofs.compare.same_units.Goals as goal
 pub returns-then-code : goal.returns-then-code
 returns-then-code g c = grind (arith, common_steps)
 
-pub loop-place-preserved : goal.loop-place-preserved
-loop-place-preserved g c = grind (arith, common_steps)
+pub loop-offset-preserved : goal.loop-offset-preserved
+loop-offset-preserved g c = grind (arith, common_steps)
 
 pub returns : goal.returns
 returns g c = grind (arith, common_steps)

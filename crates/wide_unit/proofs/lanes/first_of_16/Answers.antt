@@ -1,5 +1,5 @@
 use Rattle.std.proofs.Common.{arith, rules, length}
-use Rattle.wide_unit.proofs.Masks.{hit, miss, place_is}
+use Rattle.wide_unit.proofs.Masks.{hit, miss, offset_is}
 use Rattle.wide_unit.proofs.lanes.first_of_16.Goals as goal
 
 pub returns-then-bits-ne0 : goal.returns-then-bits-ne0
@@ -13,7 +13,7 @@ loop-i-preserved g c =
     miss (g.T.Test.passes c.args.test) 16 (omega arith) c.args.units.now a.result.0.now a.ensures.front a.ensures.front_len (omega arith) c.loop-i.i _ c.bits-bits.result c.loop-i-test.true (omega (arith, a.ensures.front_len, c.loop-i-test.true)) (omega arith) c.bits-bits.ensures c.if-bits-ne0.false c.loop-i.invariant
 
 pub returns-then-accepts : goal.returns-then-accepts
-returns-then-accepts g c = place_is (g.T.Test.passes c.args.test) c.args.units.now c.loop-k.k (omega arith) c.loop-k.invariant (λ _. search rules)
+returns-then-accepts g c = offset_is (g.T.Test.passes c.args.test) c.args.units.now c.loop-k.k (omega arith) c.loop-k.invariant (λ _. search rules)
 
 pub returns : goal.returns
-returns g c = place_is (g.T.Test.passes c.args.test) c.args.units.now (length c.args.units.now) (omega arith) (λ k l. c.loop-k.invariant k (omega arith)) (λ l. absurd (omega arith))
+returns g c = offset_is (g.T.Test.passes c.args.test) c.args.units.now (length c.args.units.now) (omega arith) (λ k l. c.loop-k.invariant k (omega arith)) (λ l. absurd (omega arith))

@@ -2,4 +2,4 @@ use Rattle.wide_unit.proofs.CharBoundaries.{IsBoundary-of_char, IsCharBoundary-o
 use Rattle.wide_unit.proofs.laws.boundaries.Goals as goal
 
 pub returns : goal.returns
-returns c = λ form us place well. (λ at. IsCharBoundary-of form us place well at, λ here. IsBoundary-of_char form us place here)
+returns c = λ form us offset well. (λ at. IsCharBoundary-of form us offset well at, λ here. IsBoundary-of_char form us offset here)

@@ -1,4 +1,4 @@
-use Rattle.wide_unit.specs.Laws.Places.{IsWellFormed-encode, chars-encode}
+use Rattle.wide_unit.specs.Laws.Offsets.{IsWellFormed-encode, chars-encode}
 use Rattle.wide_unit.specs.Laws.Texts.{scalars-picked}
 use Rattle.wide_unit.proofs.laws.filtered_text.Goals as goal
 

@@ -11,4 +11,4 @@ pub returns-clause-unended : goal.returns-clause-unended
 returns-clause-unended c form us some none = lines-unended _ (some_items form us some) (items-no_feed form us none)
 
 pub returns-clause-ended : goal.returns-clause-ended
-returns-clause-ended c form front back none = lines-at_feed form front back none
+returns-clause-ended c form prefix back none = lines-at_feed form prefix back none

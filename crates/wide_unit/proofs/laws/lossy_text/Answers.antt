@@ -1,5 +1,5 @@
 use Rattle.wide_unit.specs.Laws.Lossy.{scalars-lossy, encode-lossy, well_formed-lossy, lossy-twice, length-lossy}
-use Rattle.wide_unit.proofs.Faults.{first_fault-front, lossy-behind_front}
+use Rattle.wide_unit.proofs.Faults.{first_fault-prefix, lossy-after_prefix}
 use Rattle.wide_unit.proofs.laws.lossy_text.Goals as goal
 
 pub returns-clause-scalars : goal.returns-clause-scalars
@@ -17,5 +17,5 @@ returns-clause-once c = lossy-twice
 pub returns-clause-length : goal.returns-clause-length
 returns-clause-length c = length-lossy
 
-pub returns-clause-front : goal.returns-clause-front
-returns-clause-front c = λ form us index item u fault. (first_fault-front form us index item u fault, lossy-behind_front form us index item u fault)
+pub returns-clause-prefix : goal.returns-clause-prefix
+returns-clause-prefix c = λ form us index item u fault. (first_fault-prefix form us index item u fault, lossy-after_prefix form us index item u fault)

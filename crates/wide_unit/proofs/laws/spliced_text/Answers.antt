@@ -1,9 +1,9 @@
-use Rattle.wide_unit.specs.Laws.Places.{IsWellFormed-take, IsWellFormed-drop}
+use Rattle.wide_unit.specs.Laws.Offsets.{IsWellFormed-take, IsWellFormed-drop}
 use Rattle.wide_unit.specs.Laws.Splices.{IsWellFormed-part, chars-part, IsWellFormed-splice, chars-splice}
 use Rattle.wide_unit.proofs.laws.spliced_text.Goals as goal
 
 pub returns-clause-cuts : goal.returns-clause-cuts
-returns-clause-cuts c = λ form us place well at. (IsWellFormed-take form us well place at, IsWellFormed-drop form us well place at)
+returns-clause-cuts c = λ form us offset well at. (IsWellFormed-take form us well offset at, IsWellFormed-drop form us well offset at)
 
 pub returns-clause-parts : goal.returns-clause-parts
 returns-clause-parts c =

@@ -27,22 +27,22 @@ returns-then-code-eq13-clause-first g c =
     let form = g.C.Unit.form in
     let number = g.C.Unit.number in
     let xs = c.args.units.now in
-    let place = c.in-Some.place in
-    let line = take (length (take place xs) - 1) (take place xs) in
+    let offset = c.in-Some.offset in
+    let line = take (length (take offset xs) - 1) (take offset xs) in
     subst (λ rs. IsFirstLine form (map number xs) (map number line) (map number rs)) (sym c.split_at-2.ensures.back)
-    (first_line-return form number xs place c.in-Some.ensures.within c.in-Some.ensures.at c.in-Some.ensures.before c.last-item.result c.in-len1-up.len_at_least c.last-item.is (sym c.code.ensures ∙ c.if-code-eq13.true))
+    (first_line-return form number xs offset c.in-Some.ensures.within c.in-Some.ensures.at c.in-Some.ensures.before c.last-item.result c.in-len1-up.len_at_least c.last-item.is (sym c.code.ensures ∙ c.if-code-eq13.true))
 
 pub returns-clause-first : goal.returns-clause-first
 returns-clause-first g c =
     let form = g.C.Unit.form in
     let number = g.C.Unit.number in
     let xs = c.args.units.now in
-    let place = c.in-Some.place in
-    subst (λ rs. IsFirstLine form (map number xs) (map number (take place xs)) (map number rs)) (sym c.split_at-2.ensures.back)
-    (first_line-feed form number xs place c.in-Some.ensures.within c.in-Some.ensures.at c.in-Some.ensures.before (λ front x e return. elim c.if-units-place-lt1.branch [
+    let offset = c.in-Some.offset in
+    subst (λ rs. IsFirstLine form (map number xs) (map number (take offset xs)) (map number rs)) (sym c.split_at-2.ensures.back)
+    (first_line-feed form number xs offset c.in-Some.ensures.within c.in-Some.ensures.at c.in-Some.ensures.before (λ prefix x e return. elim c.if-units-offset-lt1.branch [
       | in_default-2 w ↦ omega (arith, w.in_default-2.len_below, ap length e, simp length-append at (ap length e))
       | in-len1-up+else-code-eq13 w ↦
-          let same = same_last (take place xs) front x w.last-item.result e (last_rest (take place xs) w.last-item.result w.in-len1-up.len_at_least w.last-item.is) in
+          let same = same_last (take offset xs) prefix x w.last-item.result e (last_rest (take offset xs) w.last-item.result w.in-len1-up.len_at_least w.last-item.is) in
           w.if-code-eq13.false (w.code.ensures ∙ ap number (sym same) ∙ return)
     ]))
 

@@ -2,13 +2,13 @@ use Rattle.std.proofs.Common.{◌≡◌, subst, ap, sym, ◌∙◌}
 use Rattle.std.specs.Prelude.{length}
 use Rattle.std.proofs.lemmas.List.{take-map}
 use Rattle.wide_unit.specs.Items.{IsWellFormed, chars}
-use Rattle.wide_unit.specs.Places.{text_before}
-use Rattle.wide_unit.proofs.Faults.{first_fault-front}
+use Rattle.wide_unit.specs.Offsets.{text_before}
+use Rattle.wide_unit.proofs.Faults.{first_fault-prefix}
 use Rattle.wide_unit.proofs.validation.check.Goals as goal
 
 pub char_count-item-requires : goal.char_count-item-requires
 char_count-item-requires g c =
-    subst (IsWellFormed g.C.Unit.form) (take-map g.C.Unit.number c.in-Some.found.0 c.args.units.now) (first_fault-front _ _ _ _ _ c.in-Some.ensures.some)
+    subst (IsWellFormed g.C.Unit.form) (take-map g.C.Unit.number c.in-Some.found.0 c.args.units.now) (first_fault-prefix _ _ _ _ _ c.in-Some.ensures.some)
 
 pub returns-clause-err : goal.returns-clause-err
 returns-clause-err g c =

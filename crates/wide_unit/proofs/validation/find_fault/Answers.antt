@@ -1,7 +1,7 @@
 use Rattle.std.proofs.Common.{◌≡◌, ◌-◌, ◌∷◌, map, length, ap, subst, arith, refl, ◌∙◌}
 use Rattle.std.proofs.lemmas.List.{length-map}
 use Rattle.wide_unit.specs.Items.{items, IsFirstFault}
-use Rattle.wide_unit.specs.Places.{text_before}
+use Rattle.wide_unit.specs.Offsets.{text_before}
 use Rattle.wide_unit.specs.Segmentation.{Char, Fault}
 use Rattle.wide_unit.specs.Unit.{item_of}
 use Rattle.wide_unit.proofs.Front.{first_of_nil}

@@ -1,6 +1,6 @@
 use Rattle.std.proofs.Common.{◌∙◌, ap, sym}
 use Rattle.wide_unit.specs.Unit.{numbers_of}
-use Rattle.wide_ustr.proofs.LossyPieces.{one_unit, two_units}
+use Rattle.wide_ustr.proofs.LossyChunks.{one_unit, two_units}
 use Rattle.wide_ustr.proofs.lossy_text.put_char.Goals as goal
 
 pub returns-in_default-clause-units : goal.returns-in_default-clause-units

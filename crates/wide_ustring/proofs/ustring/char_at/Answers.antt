@@ -9,25 +9,25 @@ pub unreachable-requires-in_default-item : goal.unreachable-requires-in_default-
 unreachable-requires-in_default-item g c =
     let form = g.C.Unit.form in
     let number = g.C.Unit.number in
-    let behind = c.in-Some.rest.now in
-    no_first_fault form (map number (drop c.args.at c.args.units.now)) (map number behind) c.requires.well_formed (number c.in_default-item.field-0)
+    let beyond = c.in-Some.rest.now in
+    no_first_fault form (map number (drop c.args.at c.args.units.now)) (map number beyond) c.requires.well_formed (number c.in_default-item.field-0)
     (rw (c.in_default-item.is, take_rest c.args.units.now c.args.at) at c.in-Some.ensures.some)
 
 pub returns-clause-units : goal.returns-clause-units
 returns-clause-units g c =
     let form = g.C.Unit.form in
     let number = g.C.Unit.number in
-    let behind = c.in-Some.rest.now in
+    let beyond = c.in-Some.rest.now in
     let ensured = rw (c.in-Ok.is, take_rest c.args.units.now c.args.at) at c.in-Some.ensures in
-    char-units form number c.args.units.now behind c.args.at c.in-Ok.c c.requires.below ensured.some ensured.rest ensured.length
+    char-units form number c.args.units.now beyond c.args.at c.in-Ok.c c.requires.below ensured.some ensured.rest ensured.length
 
 pub returns-clause-rest : goal.returns-clause-rest
 returns-clause-rest g c =
     let form = g.C.Unit.form in
     let number = g.C.Unit.number in
-    let behind = c.in-Some.rest.now in
+    let beyond = c.in-Some.rest.now in
     let ensured = rw (c.in-Ok.is, take_rest c.args.units.now c.args.at) at c.in-Some.ensures in
-    char-rest form number c.args.units.now behind c.args.at c.in-Ok.c c.requires.below ensured.some ensured.rest ensured.length c.requires.well_formed
+    char-rest form number c.args.units.now beyond c.args.at c.in-Ok.c c.requires.below ensured.some ensured.rest ensured.length c.requires.well_formed
 
 pub returns-clause-first : goal.returns-clause-first
 returns-clause-first g c = grind (arith, common_steps)

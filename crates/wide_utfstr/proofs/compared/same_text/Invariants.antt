@@ -4,11 +4,11 @@ use Rattle.wide_unit.specs.Items.{IsWellFormed, chars}
 use Rattle.wide_utfstr.specs.View.{text_seen}
 use Rattle.wide_utfstr.proofs.compared.same_text.Given as goal
 
-abbrev pub invariant-pieces : goal.invariant-pieces
-invariant-pieces l = record {
+abbrev pub invariant-chunks : goal.invariant-chunks
+invariant-chunks l = record {
   well_formed : IsWellFormed Utf16 l.units;
   same : (text_seen l.narrow ≡ text_seen l.wide) ↔ (chars Utf16 l.units ≡ l.scalars);
 }
 
-abbrev pub decreases-pieces : goal.decreases-pieces
-decreases-pieces l = length l.units
+abbrev pub decreases-chunks : goal.decreases-chunks
+decreases-chunks l = length l.units

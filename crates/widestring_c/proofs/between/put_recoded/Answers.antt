@@ -3,52 +3,52 @@ use Rattle.wide_unit.specs.EncodingForm.{EncodingForm, encode}
 use Rattle.wide_unit.specs.Items.{IsWellFormed, chars}
 use Rattle.wide_unit.specs.Laws.Items.{items-nil}
 use Rattle.wide_unit.specs.Items.{characters}
-use Rattle.widestring_c.proofs.Buffers.{Puts, nothing_yet, one_more_of, behind_more, counted_all, written_all_of}
+use Rattle.widestring_c.proofs.Buffers.{Puts, nothing_yet, one_more_of, after_more, counted_all, written_all_of}
 use Rattle.widestring_c.proofs.between.put_recoded.Goals as goal
 
 none_left : {X : Type 0} (form out : EncodingForm) (number : X → ℕ) (us : List X) → length us ≡ 0 → encode out (chars form (map number us)) ≡ []
 none_left form out number [] none = ap (λ is. encode out (characters is)) (items-nil form)
 none_left form out number (u ∷ us) none = absurd (omega arith)
 
-pub pieces-init : goal.pieces-init
-pieces-init g c = record {
+pub chunks-init : goal.chunks-init
+chunks-init g c = record {
   well_formed = c.requires.well_formed;
-  so_far = nothing_yet (map g.D.Unit.number c.args.room.now) 0 (encode g.D.Unit.form (chars g.C.Unit.form (map g.C.Unit.number c.args.units.now))) (omega arith);
-  room = refl;
-  behind = refl;
+  so_far = nothing_yet (map g.D.Unit.number c.args.space.now) 0 (encode g.D.Unit.form (chars g.C.Unit.form (map g.C.Unit.number c.args.units.now))) (omega arith);
+  space = refl;
+  beyond = refl;
 }
 
-pub pieces-preserved : goal.pieces-preserved
-pieces-preserved g c =
+pub chunks-preserved : goal.chunks-preserved
+chunks-preserved g c =
     let form = g.C.Unit.form in
     let number = g.C.Unit.number in
     let out = g.D.Unit.form in
-    let first = map g.D.Unit.number c.args.room.now in
+    let first = map g.D.Unit.number c.args.space.now in
     let all = encode out (chars form (map number c.args.units.now)) in
-    let e = c.recode_front-read.ensures in
+    let e = c.between_forms_prefix-read.ensures in
     let put = c.put_items-at.ensures in
-    let piece = take c.recode_front-read.result.1 c.recode_front-read.new.out in
+    let chunk = take c.between_forms_prefix-read.result.1 c.between_forms_prefix-read.new.out in
     let left = c.split_at.result.1.now in
-    let parts : encode out (chars form (map number c.pieces.rest.now)) ≡ map g.D.Unit.number piece ++ encode out (chars form (map number left)) = e.units ∙ ap (λ us. map g.D.Unit.number piece ++ encode out (chars form (map number us))) (sym c.split_at.ensures.back) in
-    let before : Puts first 0 all c.pieces.at (map g.D.Unit.number c.pieces.room) (map g.D.Unit.number piece ++ encode out (chars form (map number left))) = subst (λ us. Puts first 0 all c.pieces.at (map g.D.Unit.number c.pieces.room) us) parts c.pieces.invariant.so_far in
+    let parts : encode out (chars form (map number c.chunks.rest.now)) ≡ map g.D.Unit.number chunk ++ encode out (chars form (map number left)) = e.units ∙ ap (λ us. map g.D.Unit.number chunk ++ encode out (chars form (map number us))) (sym c.split_at.ensures.back) in
+    let before : Puts first 0 all c.chunks.at (map g.D.Unit.number c.chunks.space) (map g.D.Unit.number chunk ++ encode out (chars form (map number left))) = subst (λ us. Puts first 0 all c.chunks.at (map g.D.Unit.number c.chunks.space) us) parts c.chunks.invariant.so_far in
     record {
       well_formed = subst (λ us. IsWellFormed form (map number us)) (sym c.split_at.ensures.back) e.rest;
-      so_far = one_more_of g.D.Unit.number first 0 all c.pieces.room c.put_items-at.new.room piece (encode out (chars form (map number left))) c.pieces.at c.put_items-at.result before put.place put.items put.room;
-      room = put.room ∙ c.pieces.invariant.room;
-      behind = behind_more c.args.room.now c.pieces.room c.put_items-at.new.room (length piece) c.pieces.at c.put_items-at.result before.most put.place c.pieces.invariant.behind put.behind;
+      so_far = one_more_of g.D.Unit.number first 0 all c.chunks.space c.put_items-at.new.space chunk (encode out (chars form (map number left))) c.chunks.at c.put_items-at.result before put.offset put.items put.space;
+      space = put.space ∙ c.chunks.invariant.space;
+      beyond = after_more c.args.space.now c.chunks.space c.put_items-at.new.space (length chunk) c.chunks.at c.put_items-at.result before.most put.offset c.chunks.invariant.beyond put.beyond;
     }
 
 pub returns-clause-len : goal.returns-clause-len
 returns-clause-len g c =
-    let first = map g.D.Unit.number c.args.room.now in
+    let first = map g.D.Unit.number c.args.space.now in
     let all = encode g.D.Unit.form (chars g.C.Unit.form (map g.C.Unit.number c.args.units.now)) in
-    let none : length c.pieces.rest.now ≡ 0 = grind (arith, c.is_empty.ensures, c.pieces-test.false) in
-    omega (arith, counted_all first 0 all (map g.D.Unit.number c.pieces.room) c.pieces.at (subst (λ us. Puts first 0 all c.pieces.at (map g.D.Unit.number c.pieces.room) us) (none_left g.C.Unit.form g.D.Unit.form g.C.Unit.number c.pieces.rest.now none) c.pieces.invariant.so_far))
+    let none : length c.chunks.rest.now ≡ 0 = grind (arith, c.is_empty.ensures, c.chunks-test.false) in
+    omega (arith, counted_all first 0 all (map g.D.Unit.number c.chunks.space) c.chunks.at (subst (λ us. Puts first 0 all c.chunks.at (map g.D.Unit.number c.chunks.space) us) (none_left g.C.Unit.form g.D.Unit.form g.C.Unit.number c.chunks.rest.now none) c.chunks.invariant.so_far))
 
 pub returns-clause-units : goal.returns-clause-units
 returns-clause-units g c = λ fits.
-    let first = map g.D.Unit.number c.args.room.now in
+    let first = map g.D.Unit.number c.args.space.now in
     let all = encode g.D.Unit.form (chars g.C.Unit.form (map g.C.Unit.number c.args.units.now)) in
-    let none : length c.pieces.rest.now ≡ 0 = grind (arith, c.is_empty.ensures, c.pieces-test.false) in
-    written_all_of g.D.Unit.number c.args.room.now 0 all c.pieces.room c.pieces.at (subst (λ us. Puts first 0 all c.pieces.at (map g.D.Unit.number c.pieces.room) us) (none_left g.C.Unit.form g.D.Unit.form g.C.Unit.number c.pieces.rest.now none) c.pieces.invariant.so_far)
-    (omega (arith, fits, c.pieces.invariant.room))
+    let none : length c.chunks.rest.now ≡ 0 = grind (arith, c.is_empty.ensures, c.chunks-test.false) in
+    written_all_of g.D.Unit.number c.args.space.now 0 all c.chunks.space c.chunks.at (subst (λ us. Puts first 0 all c.chunks.at (map g.D.Unit.number c.chunks.space) us) (none_left g.C.Unit.form g.D.Unit.form g.C.Unit.number c.chunks.rest.now none) c.chunks.invariant.so_far)
+    (omega (arith, fits, c.chunks.invariant.space))

@@ -4,13 +4,13 @@ use Rattle.wide_unit.specs.Items.{IsWellFormed, chars}
 use Rattle.widestring_c.proofs.Buffers.{Puts}
 use Rattle.widestring_c.proofs.between.put_recoded.Given as goal
 
-abbrev pub invariant-pieces : goal.invariant-pieces
-invariant-pieces g l = record {
+abbrev pub invariant-chunks : goal.invariant-chunks
+invariant-chunks g l = record {
   well_formed : IsWellFormed g.C.Unit.form (map g.C.Unit.number l.rest);
-  so_far : Puts (map g.D.Unit.number l.fn.room) 0 (encode g.D.Unit.form (chars g.C.Unit.form (map g.C.Unit.number l.units))) l.at (map g.D.Unit.number l.room) (encode g.D.Unit.form (chars g.C.Unit.form (map g.C.Unit.number l.rest)));
-  room : length l.room ≡ length l.fn.room;
-  behind : drop l.at l.room ≡ drop l.at l.fn.room;
+  so_far : Puts (map g.D.Unit.number l.fn.space) 0 (encode g.D.Unit.form (chars g.C.Unit.form (map g.C.Unit.number l.units))) l.at (map g.D.Unit.number l.space) (encode g.D.Unit.form (chars g.C.Unit.form (map g.C.Unit.number l.rest)));
+  space : length l.space ≡ length l.fn.space;
+  beyond : drop l.at l.space ≡ drop l.at l.fn.space;
 }
 
-abbrev pub decreases-pieces : goal.decreases-pieces
-decreases-pieces g l = length l.rest
+abbrev pub decreases-chunks : goal.decreases-chunks
+decreases-chunks g l = length l.rest

@@ -1,8 +1,8 @@
 use Rattle.std.proofs.Common.{arith}
-use Rattle.widestring_c.proofs.Cuts.{cut-short_behind}
+use Rattle.widestring_c.proofs.Cuts.{cut-short_after}
 use Rattle.widestring_c.proofs.bytes.certain_len.Goals as goal
 
 pub returns-clause-rest : goal.returns-clause-rest
 returns-clause-rest c =
     let e = c.uncut_len.ensures in
-    cut-short_behind c.args.order c.args.bytes.now c.uncut_len.result (grind (arith, e.within)) (grind (arith, e.within, e.one_unit)) (λ some. e.high (omega (arith, some)))
+    cut-short_after c.args.order c.args.bytes.now c.uncut_len.result (grind (arith, e.within)) (grind (arith, e.within, e.one_unit)) (λ some. e.high (omega (arith, some)))

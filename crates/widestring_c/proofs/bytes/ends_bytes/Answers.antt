@@ -3,7 +3,7 @@ use Rattle.wide_unit.specs.EncodingForm.{Utf16}
 use Rattle.wide_unit.specs.Laws.Items.{IsCut}
 use Rattle.wide_bytes.specs.Bytes.{units_in}
 use Rattle.wide_bytes.specs.Lossied.{faulty}
-use Rattle.widestring_c.proofs.Pieces.{cut-before_none, ends-behind, none-last}
+use Rattle.widestring_c.proofs.Pieces.{cut-before_none, ends-beyond, none-last}
 use Rattle.widestring_c.proofs.bytes.ends_bytes.Goals as goal
 
 pub returns-then-bytes-lt2 : goal.returns-then-bytes-lt2
@@ -17,4 +17,4 @@ returns c =
     let e = c.uncut_len.ensures in
     let cut : IsCut Utf16 (units_in o (take n bytes)) (units_in o (drop n bytes)) = cut-before_none o (units_in o (take n bytes)) (drop n bytes) (e.cut []) in
     let within : n + 2 ≤ length bytes = omega (arith, e.within, c.if-bytes-lt2.false) in
-    c.ends_in_fault.ensures ∙ ap (λ us. faulty c.args.after_fault us) (c.fill_units.ensures ∙ ap (λ bs. units_in o bs) c.split_at.ensures.back) ∙ sym (ends-behind c.args.after_fault o bytes n e.even within cut)
+    c.ends_in_fault.ensures ∙ ap (λ us. faulty c.args.after_fault us) (c.fill_units.ensures ∙ ap (λ bs. units_in o bs) c.split_at.ensures.back) ∙ sym (ends-beyond c.args.after_fault o bytes n e.even within cut)

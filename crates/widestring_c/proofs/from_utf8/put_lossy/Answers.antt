@@ -2,41 +2,41 @@ use Rattle.std.proofs.Common.{◌≡◌, ◌++◌, [], ap, sym, ◌∙◌, subst
 use Rattle.std.specs.Str.{chars}
 use Rattle.wide_unit.specs.EncodingForm.{encode}
 use Rattle.wide_unit.specs.Lossy.{lossy_after, lossy_by}
-use Rattle.wide_blocks.specs.Parts.{IsLossyFront, utf8_items}
-use Rattle.widestring_c.proofs.Buffers.{Puts, one_more_by, one_more_of, behind_more, counted_all, written_all_of}
-use Rattle.widestring_c.proofs.Chunks.{lossy_end, lossy_front}
+use Rattle.wide_conversions.specs.Utf8Items.{IsLossyPrefix, utf8_items}
+use Rattle.widestring_c.proofs.Buffers.{Puts, one_more_by, one_more_of, after_more, counted_all, written_all_of}
+use Rattle.widestring_c.proofs.Chunks.{lossy_end, lossy_prefix}
 use Rattle.widestring_c.proofs.Fits.{units-lossy_by}
 use Rattle.widestring_c.proofs.from_utf8.put_lossy.Goals as goal
 
-pub fronts-preserved : goal.fronts-preserved
-fronts-preserved g c =
+pub prefixes-preserved : goal.prefixes-preserved
+prefixes-preserved g c =
     let form = g.C.Unit.form in
     let number = g.C.Unit.number in
     let policy = c.args.policy in
     let first = map number c.args.units.now in
     let all = encode form (lossy_by policy (utf8_items c.args.text.now)) in
-    let bs = c.fronts.rest.now in
-    let front = c.split_at.result.0.now in
-    let behind = c.split_at.result.1.now in
+    let bs = c.prefixes.rest.now in
+    let prefix = c.split_at.result.0.now in
+    let beyond = c.split_at.result.1.now in
     let put = c.put_text-at in
-    let read = c.lossy_utf8_front-read in
-    let piece = take read.result.1 read.new.units in
-    let tail = c.split_at-in-fronts.result.1.now in
+    let read = c.from_utf8_lossy_prefix-read in
+    let chunk = take read.result.1 read.new.units in
+    let tail = c.split_at-in-prefixes.result.1.now in
     let more = c.put_items-at in
     let left = encode form (lossy_after policy read.result.2 (utf8_items tail)) in
-    let items = subst (λ xs. IsLossyFront form policy xs read.result.0 c.is_after_fault-before.result read.result.2 [] (map number piece)) c.split_at.ensures.back read.ensures.units in
-    let parts : encode form (lossy_after policy c.fronts.after (utf8_items bs)) ≡ encode form (chars front) ++ (map number piece ++ left) =
-    lossy_front form policy bs (map number piece) c.text_len-len.result read.result.0 c.fronts.after c.is_after_fault-before.result read.result.2 c.text_len-len.ensures.within c.text_len-len.ensures.text c.is_after_fault-before.ensures.same c.is_after_fault-before.ensures.other items
-    ∙ ap (λ xs. encode form (chars xs) ++ (map number piece ++ encode form (lossy_after policy read.result.2 (utf8_items (drop read.result.0 (drop c.text_len-len.result bs)))))) (sym c.split_at.ensures.front)
-    ∙ ap (λ xs. encode form (chars front) ++ (map number piece ++ encode form (lossy_after policy read.result.2 (utf8_items xs)))) (ap (drop read.result.0) (sym c.split_at.ensures.back) ∙ sym c.split_at-in-fronts.ensures.back)
+    let items = subst (λ xs. IsLossyPrefix form policy xs read.result.0 c.is_after_fault-before.result read.result.2 [] (map number chunk)) c.split_at.ensures.back read.ensures.units in
+    let parts : encode form (lossy_after policy c.prefixes.after (utf8_items bs)) ≡ encode form (chars prefix) ++ (map number chunk ++ left) =
+    lossy_prefix form policy bs (map number chunk) c.text_len-len.result read.result.0 c.prefixes.after c.is_after_fault-before.result read.result.2 c.text_len-len.ensures.within c.text_len-len.ensures.text c.is_after_fault-before.ensures.same c.is_after_fault-before.ensures.other items
+    ∙ ap (λ xs. encode form (chars xs) ++ (map number chunk ++ encode form (lossy_after policy read.result.2 (utf8_items (drop read.result.0 (drop c.text_len-len.result bs)))))) (sym c.split_at.ensures.front)
+    ∙ ap (λ xs. encode form (chars prefix) ++ (map number chunk ++ encode form (lossy_after policy read.result.2 (utf8_items xs)))) (ap (drop read.result.0) (sym c.split_at.ensures.back) ∙ sym c.split_at-in-prefixes.ensures.back)
     in
-    let before : Puts first 0 all c.fronts.at (map number c.fronts.units) (encode form (chars front) ++ (map number piece ++ left)) = subst (λ us. Puts first 0 all c.fronts.at (map number c.fronts.units) us) parts c.fronts.invariant.so_far in
-    let text : Puts first 0 all put.result (map number put.new.units) (map number piece ++ left) = one_more_by number first 0 all c.fronts.units put.new.units (encode form (chars front)) (map number piece ++ left) c.fronts.at put.result before put.ensures.place put.ensures.units put.ensures.room in
+    let before : Puts first 0 all c.prefixes.at (map number c.prefixes.units) (encode form (chars prefix) ++ (map number chunk ++ left)) = subst (λ us. Puts first 0 all c.prefixes.at (map number c.prefixes.units) us) parts c.prefixes.invariant.so_far in
+    let text : Puts first 0 all put.result (map number put.new.units) (map number chunk ++ left) = one_more_by number first 0 all c.prefixes.units put.new.units (encode form (chars prefix)) (map number chunk ++ left) c.prefixes.at put.result before put.ensures.offset put.ensures.units put.ensures.space in
     record {
-      so_far = one_more_of number first 0 all put.new.units more.new.room piece left put.result more.result text more.ensures.place more.ensures.items more.ensures.room;
-      room = more.ensures.room ∙ put.ensures.room ∙ c.fronts.invariant.room;
-      behind = behind_more c.args.units.now put.new.units more.new.room (length piece) put.result more.result text.most more.ensures.place
-          (behind_more c.args.units.now c.fronts.units put.new.units _ c.fronts.at put.result before.most put.ensures.place c.fronts.invariant.behind put.ensures.behind) more.ensures.behind;
+      so_far = one_more_of number first 0 all put.new.units more.new.space chunk left put.result more.result text more.ensures.offset more.ensures.items more.ensures.space;
+      space = more.ensures.space ∙ put.ensures.space ∙ c.prefixes.invariant.space;
+      beyond = after_more c.args.units.now put.new.units more.new.space (length chunk) put.result more.result text.most more.ensures.offset
+          (after_more c.args.units.now c.prefixes.units put.new.units _ c.prefixes.at put.result before.most put.ensures.offset c.prefixes.invariant.beyond put.ensures.beyond) more.ensures.beyond;
     }
 
 pub returns-clause-len : goal.returns-clause-len
@@ -44,8 +44,8 @@ returns-clause-len g c =
     let number = g.C.Unit.number in
     let first = map number c.args.units.now in
     let all = encode g.C.Unit.form (lossy_by c.args.policy (utf8_items c.args.text.now)) in
-    let none : length c.fronts.rest.now ≡ 0 = grind (arith, c.is_empty.ensures, c.fronts-test.false) in
-    let counted = counted_all first 0 all (map number c.fronts.units) c.fronts.at (subst (λ us. Puts first 0 all c.fronts.at (map number c.fronts.units) us) (lossy_end g.C.Unit.form c.args.policy c.fronts.after c.fronts.rest.now none) c.fronts.invariant.so_far) in
+    let none : length c.prefixes.rest.now ≡ 0 = grind (arith, c.is_empty.ensures, c.prefixes-test.false) in
+    let counted = counted_all first 0 all (map number c.prefixes.units) c.prefixes.at (subst (λ us. Puts first 0 all c.prefixes.at (map number c.prefixes.units) us) (lossy_end g.C.Unit.form c.args.policy c.prefixes.after c.prefixes.rest.now none) c.prefixes.invariant.so_far) in
     omega (arith, counted, units-lossy_by g.C.Unit.form c.args.policy c.args.text.now)
 
 pub returns-clause-fits : goal.returns-clause-fits
@@ -53,8 +53,8 @@ returns-clause-fits g c =
     let number = g.C.Unit.number in
     let first = map number c.args.units.now in
     let all = encode g.C.Unit.form (lossy_by c.args.policy (utf8_items c.args.text.now)) in
-    let none : length c.fronts.rest.now ≡ 0 = grind (arith, c.is_empty.ensures, c.fronts-test.false) in
-    let counted = counted_all first 0 all (map number c.fronts.units) c.fronts.at (subst (λ us. Puts first 0 all c.fronts.at (map number c.fronts.units) us) (lossy_end g.C.Unit.form c.args.policy c.fronts.after c.fronts.rest.now none) c.fronts.invariant.so_far) in
+    let none : length c.prefixes.rest.now ≡ 0 = grind (arith, c.is_empty.ensures, c.prefixes-test.false) in
+    let counted = counted_all first 0 all (map number c.prefixes.units) c.prefixes.at (subst (λ us. Puts first 0 all c.prefixes.at (map number c.prefixes.units) us) (lossy_end g.C.Unit.form c.args.policy c.prefixes.after c.prefixes.rest.now none) c.prefixes.invariant.so_far) in
     omega (arith, counted, units-lossy_by g.C.Unit.form c.args.policy c.args.text.now)
 
 pub returns-clause-units : goal.returns-clause-units
@@ -62,5 +62,5 @@ returns-clause-units g c = λ fits.
     let number = g.C.Unit.number in
     let first = map number c.args.units.now in
     let all = encode g.C.Unit.form (lossy_by c.args.policy (utf8_items c.args.text.now)) in
-    let none : length c.fronts.rest.now ≡ 0 = grind (arith, c.is_empty.ensures, c.fronts-test.false) in
-    written_all_of number c.args.units.now 0 all c.fronts.units c.fronts.at (subst (λ us. Puts first 0 all c.fronts.at (map number c.fronts.units) us) (lossy_end g.C.Unit.form c.args.policy c.fronts.after c.fronts.rest.now none) c.fronts.invariant.so_far) (omega (arith, fits, c.fronts.invariant.room))
+    let none : length c.prefixes.rest.now ≡ 0 = grind (arith, c.is_empty.ensures, c.prefixes-test.false) in
+    written_all_of number c.args.units.now 0 all c.prefixes.units c.prefixes.at (subst (λ us. Puts first 0 all c.prefixes.at (map number c.prefixes.units) us) (lossy_end g.C.Unit.form c.args.policy c.prefixes.after c.prefixes.rest.now none) c.prefixes.invariant.so_far) (omega (arith, fits, c.prefixes.invariant.space))

@@ -11,22 +11,22 @@ invariant-windows g l =
     record {
       text : IsUtf8 l.rest;
       so_far : Puts (map g.C.Unit.number l.fn.units) l.fn.at (encode g.C.Unit.form (chars l.text)) l.at (map g.C.Unit.number l.units) (encode g.C.Unit.form (chars l.rest));
-      room : length l.units ≡ length l.fn.units;
-      behind : drop end l.units ≡ drop end l.fn.units;
+      space : length l.units ≡ length l.fn.units;
+      beyond : drop end l.units ≡ drop end l.fn.units;
     }
 
 abbrev pub decreases-windows : goal.decreases-windows
 decreases-windows g l = length l.rest
 
-abbrev pub invariant-pieces : goal.invariant-pieces
-invariant-pieces g l =
+abbrev pub invariant-chunks : goal.invariant-chunks
+invariant-chunks g l =
     let end = min (l.fn.at + length (encode g.C.Unit.form (chars l.text))) (2 ^ 64 - 1) in
     record {
       text : IsUtf8 l.rest;
       so_far : Puts (map g.C.Unit.number l.fn.units) l.fn.at (encode g.C.Unit.form (chars l.text)) l.at (map g.C.Unit.number l.units) (encode g.C.Unit.form (chars l.rest));
-      room : length l.units ≡ length l.fn.units;
-      behind : drop end l.units ≡ drop end l.fn.units;
+      space : length l.units ≡ length l.fn.units;
+      beyond : drop end l.units ≡ drop end l.fn.units;
     }
 
-abbrev pub decreases-pieces : goal.decreases-pieces
-decreases-pieces g l = length l.rest
+abbrev pub decreases-chunks : goal.decreases-chunks
+decreases-chunks g l = length l.rest

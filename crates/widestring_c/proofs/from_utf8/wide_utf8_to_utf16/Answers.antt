@@ -5,22 +5,22 @@ use Rattle.widestring_c.proofs.Fits.{units-text}
 use Rattle.widestring_c.proofs.from_utf8.wide_utf8_to_utf16.Goals as goal
 
 pub returns-then-broken-gt0-clause-len : goal.returns-then-broken-gt0-clause-len
-returns-then-broken-gt0-clause-len c = λ text. absurd (not_text c.args.text.now _ (c.first_chunk-broken.ensures.fault (omega arith)) text)
+returns-then-broken-gt0-clause-len c = λ text. absurd (not_text c.args.text.now _ (c.first_utf8_chunk-broken.ensures.fault (omega arith)) text)
 
 pub returns-then-broken-gt0-clause-units : goal.returns-then-broken-gt0-clause-units
-returns-then-broken-gt0-clause-units c = λ text. absurd (not_text c.args.text.now _ (c.first_chunk-broken.ensures.fault (omega arith)) text)
+returns-then-broken-gt0-clause-units c = λ text. absurd (not_text c.args.text.now _ (c.first_utf8_chunk-broken.ensures.fault (omega arith)) text)
 
 pub returns-then-broken-gt0-clause-no_fault : goal.returns-then-broken-gt0-clause-no_fault
-returns-then-broken-gt0-clause-no_fault c = λ text. absurd (not_text c.args.text.now _ (c.first_chunk-broken.ensures.fault (omega arith)) text)
+returns-then-broken-gt0-clause-no_fault c = λ text. absurd (not_text c.args.text.now _ (c.first_utf8_chunk-broken.ensures.fault (omega arith)) text)
 
 pub returns-then-text-le-FEW-clause-len : goal.returns-then-text-le-FEW-clause-len
-returns-then-text-le-FEW-clause-len c = λ text. omega (arith, c.put_text.ensures.place, units-text Utf16 c.args.text.now text)
+returns-then-text-le-FEW-clause-len c = λ text. omega (arith, c.put_text.ensures.offset, units-text Utf16 c.args.text.now text)
 
 pub returns-then-text-le-FEW-clause-no_fault : goal.returns-then-text-le-FEW-clause-no_fault
-returns-then-text-le-FEW-clause-no_fault c = λ text. omega (arith, c.put_text.ensures.place, units-text Utf16 c.args.text.now text)
+returns-then-text-le-FEW-clause-no_fault c = λ text. omega (arith, c.put_text.ensures.offset, units-text Utf16 c.args.text.now text)
 
 pub returns-else-text-le-FEW-clause-len : goal.returns-else-text-le-FEW-clause-len
-returns-else-text-le-FEW-clause-len c = λ text. omega (arith, c.put_text-else-text-le-FEW.ensures.place, units-text Utf16 c.args.text.now text)
+returns-else-text-le-FEW-clause-len c = λ text. omega (arith, c.put_text-else-text-le-FEW.ensures.offset, units-text Utf16 c.args.text.now text)
 
 pub returns-else-text-le-FEW-clause-no_fault : goal.returns-else-text-le-FEW-clause-no_fault
-returns-else-text-le-FEW-clause-no_fault c = λ text. omega (arith, c.put_text-else-text-le-FEW.ensures.place, units-text Utf16 c.args.text.now text)
+returns-else-text-le-FEW-clause-no_fault c = λ text. omega (arith, c.put_text-else-text-le-FEW.ensures.offset, units-text Utf16 c.args.text.now text)

@@ -6,10 +6,10 @@ use Rattle.widestring_c.proofs.Fits.{units-text}
 use Rattle.widestring_c.proofs.lengths.wide_utf8_utf16_length.Goals as goal
 
 pub returns-then-broken-gt0-clause-len : goal.returns-then-broken-gt0-clause-len
-returns-then-broken-gt0-clause-len c = λ text. absurd (not_text c.args.text.now _ (c.first_chunk-broken.ensures.fault (omega arith)) text)
+returns-then-broken-gt0-clause-len c = λ text. absurd (not_text c.args.text.now _ (c.first_utf8_chunk-broken.ensures.fault (omega arith)) text)
 
 pub returns-then-broken-gt0-clause-no_fault : goal.returns-then-broken-gt0-clause-no_fault
-returns-then-broken-gt0-clause-no_fault c = λ text. absurd (not_text c.args.text.now _ (c.first_chunk-broken.ensures.fault (omega arith)) text)
+returns-then-broken-gt0-clause-no_fault c = λ text. absurd (not_text c.args.text.now _ (c.first_utf8_chunk-broken.ensures.fault (omega arith)) text)
 
 pub returns-clause-no_fault : goal.returns-clause-no_fault
 returns-clause-no_fault c = λ text. omega (arith, c.length_as_utf16.ensures, ap (λ bs. length (encode Utf16 (chars bs))) c.from_utf8_unchecked.ensures, units-text Utf16 c.args.text.now text)

@@ -4,4 +4,4 @@ use Rattle.widestring_c.proofs.Repaired.{repaired}
 use Rattle.widestring_c.proofs.repair.wide_utf16_repair.Goals as goal
 
 pub returns-then-units-repaired-clause-units : goal.returns-then-units-repaired-clause-units
-returns-then-units-repaired-clause-units c = λ _. repaired Utf16 c.args.units.now c.mend.new.mended (length c.args.units.now) c.mend.ensures.units
+returns-then-units-repaired-clause-units c = λ _. repaired Utf16 c.args.units.now c.repair.new.repaired (length c.args.units.now) c.repair.ensures.units

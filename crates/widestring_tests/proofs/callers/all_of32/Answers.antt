@@ -2,7 +2,7 @@ use Rattle.std.proofs.Common.{rules, ◌≡◌, ap, ◌∙◌}
 use Rattle.std.proofs.lemmas.Iterator.Consumers.{map_from_collect}
 use Rattle.wide_unit.specs.Items.{items}
 use Rattle.wide_unit.specs.EncodingForm.{Utf32}
-use Rattle.wide_unit.specs.Unit.{told_item}
+use Rattle.wide_unit.specs.Unit.{reported_item}
 use Rattle.wide_iter.specs.Decoder32.{items32_left}
 use Rattle.wide_iter.specs.Sources.{copied_rest}
 use Rattle.wide_iter.proofs.Sources.{copied_gives_first}
@@ -13,4 +13,4 @@ pub returns : goal.returns
 returns c =
     let made = c.decode_utf32.ensures in
     let left : items32_left copied_rest c.decode_utf32.result ≡ items Utf32 c.args.units.now = made.items copied_rest ∙ ap (items Utf32) (search rules) in
-    map_from_collect c.collect.result c.collect.ensures.ran (YieldsList-over _ _ told_item items32_left copied_rest copied_gives_first _ left)
+    map_from_collect c.collect.result c.collect.ensures.ran (YieldsList-over _ _ reported_item items32_left copied_rest copied_gives_first _ left)

@@ -8,7 +8,7 @@ use Rattle.wide_iter.proofs.Runs.{YieldsList-over}
 use Rattle.widestring_tests.proofs.callers.lossy_of.Goals as goal
 
 pub returns : goal.returns
-returns g c = λ rest tells.
+returns g c = λ rest reports.
     let made = c.decode_utf16_lossy.ensures in
     let left : lossy16_left rest c.decode_utf16_lossy.result ≡ lossy (items Utf16 (rest c.args.units)) = made.items rest ∙ ap (λ s. lossy (items Utf16 (rest s))) made.source in
-    items_from_collect c.collect.result c.collect.ensures.ran (YieldsList-over _ _ (λ x. x) lossy16_left rest tells _ left)
+    items_from_collect c.collect.result c.collect.ensures.ran (YieldsList-over _ _ (λ x. x) lossy16_left rest reports _ left)

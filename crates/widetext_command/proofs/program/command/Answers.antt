@@ -9,7 +9,7 @@ pub returns-in-Some-clause-unknown : goal.returns-in-Some-clause-unknown
 returns-in-Some-clause-unknown g c = λ unknown. absurd (unknown.no_utf8 c.in-Some.policy (c.parse_utf8.ensures.utf8_alone c.in-Some.policy (search rules)))
 
 pub returns-in-Some-clause-whole : goal.returns-in-Some-clause-whole
-returns-in-Some-clause-whole g c = λ other one sound. absurd (other c.in-Some.policy (c.parse_utf8.ensures.utf8_alone c.in-Some.policy (search rules)))
+returns-in-Some-clause-whole g c = λ other one valid. absurd (other c.in-Some.policy (c.parse_utf8.ensures.utf8_alone c.in-Some.policy (search rules)))
 
 pub returns-in-Some-clause-ends : goal.returns-in-Some-clause-ends
 returns-in-Some-clause-ends g c = λ asks zero. absurd (ends_no_utf8 _ asks c.in-Some.policy (c.parse_utf8.ensures.utf8_alone c.in-Some.policy (search rules)))

@@ -6,30 +6,30 @@ use Rattle.wide_iter.proofs.lossy_with.LossyWithDoubleEndedIterator.next_back.Go
 pub returns-in-Some-Ok-clause-steps : goal.returns-in-Some-Ok-clause-steps
 returns-in-Some-Ok-clause-steps g c =
     record {
-      at = λ number rest tells. let char = item_last number rest tells _ _ _ (rw c.in-Some-Ok.field-0-is at c.in-Some-Ok.ensures.steps) in
+      at = λ number rest reports. let char = item_last number rest reports _ _ _ (rw c.in-Some-Ok.field-0-is at c.in-Some-Ok.ensures.steps) in
           rw (sym c.take.ensures.value ∙ c.in_default.is, c.take.ensures.after) (char_last _ _ [] _ _ _ char);
     }
 
 pub returns-in-Run-clause-steps : goal.returns-in-Run-clause-steps
 returns-in-Run-clause-steps g c =
     record {
-      at = λ number rest tells. let fault = item_last number rest tells _ _ _ (rw c.in-Some-Err.field-0-is at c.in-Some-Err.ensures.steps) in
-          rw (sym c.take.ensures.value ∙ c.in_default.is) (run_last _ _ _ _ _ _ _ c.in-Run.is fault (c.last_character-self.ensures.takes.at number rest tells));
+      at = λ number rest reports. let fault = item_last number rest reports _ _ _ (rw c.in-Some-Err.field-0-is at c.in-Some-Err.ensures.steps) in
+          rw (sym c.take.ensures.value ∙ c.in_default.is) (run_last _ _ _ _ _ _ _ c.in-Run.is fault (c.last_character-self.ensures.takes.at number rest reports));
     }
 
 pub returns-in-Some-last_character-clause-steps : goal.returns-in-Some-last_character-clause-steps
 returns-in-Some-last_character-clause-steps g c =
     record {
-      at = λ number rest tells. let fault = item_last number rest tells _ _ _ (rw c.in-Some-Err.field-0-is at c.in-Some-Err.ensures.steps) in
-          rw (sym c.take.ensures.value ∙ c.in_default.is, c.take.ensures.after) (skip_last _ _ _ _ _ _ _ c.in-Skip.is fault (c.in-Some-last_character.ensures.takes.at number rest tells));
+      at = λ number rest reports. let fault = item_last number rest reports _ _ _ (rw c.in-Some-Err.field-0-is at c.in-Some-Err.ensures.steps) in
+          rw (sym c.take.ensures.value ∙ c.in_default.is, c.take.ensures.after) (skip_last _ _ _ _ _ _ _ c.in-Skip.is fault (c.in-Some-last_character.ensures.takes.at number rest reports));
     }
 
 pub returns-in-Some-Err-clause-steps : goal.returns-in-Some-Err-clause-steps
 returns-in-Some-Err-clause-steps g c =
     record {
-      at = λ number rest tells. let fault = item_last number rest tells _ _ _ (rw c.in-Some-Err.field-0-is at c.in-Some-Err.ensures.steps) in
-          let hand = c.take-in-None-last_character.ensures in
-          rw (sym c.take.ensures.value ∙ c.in_default.is, c.take.ensures.after, hand.value, hand.after) (skip_to_front _ _ _ _ _ _ c.in-Skip.is fault (c.in-None-last_character.ensures.takes.at number rest tells));
+      at = λ number rest reports. let fault = item_last number rest reports _ _ _ (rw c.in-Some-Err.field-0-is at c.in-Some-Err.ensures.steps) in
+          let lookahead = c.take-in-None-last_character.ensures in
+          rw (sym c.take.ensures.value ∙ c.in_default.is, c.take.ensures.after, lookahead.value, lookahead.after) (skip_to_front _ _ _ _ _ _ c.in-Skip.is fault (c.in-None-last_character.ensures.takes.at number rest reports));
     }
 
 pub returns-in-Each-clause-steps : goal.returns-in-Each-clause-steps

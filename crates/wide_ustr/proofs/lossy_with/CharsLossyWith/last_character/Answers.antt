@@ -10,14 +10,14 @@ pub returns-in-Ok-clause-last : goal.returns-in-Ok-clause-last
 returns-in-Ok-clause-last g c =
     let form = g.C.Unit.form in
     let number = g.C.Unit.number in
-    let front = items form (map number c.in-Some.rest.now) in
-    let end : items form (map number c.loop-rest.self.rest.now) ≡ front ++ Char c.in-Ok.c ∷ [] = c.in-Some.ensures.some ∙ ap (λ r. front ++ item_of number r ∷ []) c.in-Ok.is in
-    c.loop-rest.invariant.0 ∙ ap characters end ∙ characters-append front (Char c.in-Ok.c ∷ [])
+    let prefix = items form (map number c.in-Some.rest.now) in
+    let end : items form (map number c.loop-rest.self.rest.now) ≡ prefix ++ Char c.in-Ok.c ∷ [] = c.in-Some.ensures.some ∙ ap (λ r. prefix ++ item_of number r ∷ []) c.in-Ok.is in
+    c.loop-rest.invariant.0 ∙ ap characters end ∙ characters-append prefix (Char c.in-Ok.c ∷ [])
 
 pub loop-rest-preserved : goal.loop-rest-preserved
 loop-rest-preserved g c =
     let form = g.C.Unit.form in
     let number = g.C.Unit.number in
-    let front = items form (map number c.in-Some.rest.now) in
-    let end : items form (map number c.loop-rest.self.rest.now) ≡ front ++ Fault (number c.in_default-item.field-0) ∷ [] = c.in-Some.ensures.some ∙ ap (λ r. front ++ item_of number r ∷ []) c.in_default-item.is in
-    (c.loop-rest.invariant.0 ∙ ap characters end ∙ characters-append front (Fault (number c.in_default-item.field-0) ∷ []) ∙ append-nil (characters front), c.loop-rest.invariant.1, omega (arith, c.loop-rest.invariant.2, c.in-Some.ensures.shorter))
+    let prefix = items form (map number c.in-Some.rest.now) in
+    let end : items form (map number c.loop-rest.self.rest.now) ≡ prefix ++ Fault (number c.in_default-item.field-0) ∷ [] = c.in-Some.ensures.some ∙ ap (λ r. prefix ++ item_of number r ∷ []) c.in_default-item.is in
+    (c.loop-rest.invariant.0 ∙ ap characters end ∙ characters-append prefix (Fault (number c.in_default-item.field-0) ∷ []) ∙ append-nil (characters prefix), c.loop-rest.invariant.1, omega (arith, c.loop-rest.invariant.2, c.in-Some.ensures.shorter))

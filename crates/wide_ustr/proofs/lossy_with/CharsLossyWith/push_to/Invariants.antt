@@ -3,9 +3,9 @@ use Rattle.wide_unit.specs.Utf8.{utf8}
 use Rattle.wide_ustr.specs.LossyWith.{lossy_with_left}
 use Rattle.wide_ustr.proofs.lossy_with.CharsLossyWith.push_to.Given as goal
 
-abbrev pub invariant-loop-piece : goal.invariant-loop-piece
-invariant-loop-piece g l =
+abbrev pub invariant-loop-chunk : goal.invariant-loop-chunk
+invariant-loop-chunk g l =
     (2 ≤ length l.spare) × (l.text.items ++ utf8 (lossy_with_left g.C.Unit.form g.C.Unit.number l.self) ≡ l.fn.text.items ++ utf8 (lossy_with_left g.C.Unit.form g.C.Unit.number l.fn.self))
 
-abbrev pub decreases-loop-piece : goal.decreases-loop-piece
-decreases-loop-piece g l = length (lossy_with_left g.C.Unit.form g.C.Unit.number l.self)
+abbrev pub decreases-loop-chunk : goal.decreases-loop-chunk
+decreases-loop-chunk g l = length (lossy_with_left g.C.Unit.form g.C.Unit.number l.self)

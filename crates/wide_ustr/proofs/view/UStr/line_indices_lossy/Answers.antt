@@ -1,5 +1,5 @@
 use Rattle.std.proofs.Common.{ap, arith, length, map}
-use Rattle.wide_unit.proofs.LinePlaces.{placed-at_most, IsBoundary-lines}
+use Rattle.wide_unit.proofs.LineOffsets.{placed-at_most, IsBoundary-lines}
 use Rattle.wide_ustr.specs.View.{units_seen}
 use Rattle.wide_ustr.proofs.view.UStr.line_indices_lossy.Goals as goal
 

@@ -1,5 +1,5 @@
 use Rattle.std.proofs.Common.{ap, arith, length}
-use Rattle.wide_unit.proofs.LinePlaces.{lines-at_most}
+use Rattle.wide_unit.proofs.LineOffsets.{lines-at_most}
 use Rattle.wide_ustr.specs.View.{units_seen}
 use Rattle.wide_ustr.proofs.view.UStr.lines_lossy.Goals as goal
 

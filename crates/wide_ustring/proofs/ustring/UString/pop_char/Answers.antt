@@ -8,5 +8,5 @@ returns-clause-none g c = grind (arith, common_steps)
 pub returns-clause-taken : goal.returns-clause-taken
 returns-clause-taken g c = grind (arith, common_steps)
 
-pub returns-clause-front : goal.returns-clause-front
-returns-clause-front g c = grind (arith, common_steps)
+pub returns-clause-prefix : goal.returns-clause-prefix
+returns-clause-prefix g c = grind (arith, common_steps)

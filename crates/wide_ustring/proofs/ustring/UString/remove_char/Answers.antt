@@ -17,8 +17,8 @@ overflow_sub-end g c = grind (arith, common_steps)
 pub cut-requires-clause-within : goal.cut-requires-clause-within
 cut-requires-clause-within g c = grind (arith, common_steps)
 
-pub returns-clause-front : goal.returns-clause-front
-returns-clause-front g c = grind (arith, common_steps)
+pub returns-clause-prefix : goal.returns-clause-prefix
+returns-clause-prefix g c = grind (arith, common_steps)
 
 pub returns-clause-taken : goal.returns-clause-taken
 returns-clause-taken g c = grind (arith, common_steps)

@@ -10,12 +10,12 @@ loop-at-preserved g c =
       | then-wanted w ↦ record {
         callable = search of_calls;
         filtered = rw (w.units-is, w.kept-is) (keeps _ _ _ _ _ _ _ c.loop-at.invariant.filtered _ _ more c.index-unit.ensures (rw w.if-wanted.true at c.keep-wanted.ensures));
-        room = ap vec_capacity w.units-is ∙ c.loop-at.invariant.room;
+        space = ap vec_capacity w.units-is ∙ c.loop-at.invariant.space;
       }
       | else-wanted w ↦ record {
         callable = search of_calls;
         filtered = rw (w.units-is, w.kept-is) (drops _ _ _ _ _ _ _ c.loop-at.invariant.filtered _ _ more c.index-unit.ensures (rw w.if-wanted.false at c.keep-wanted.ensures));
-        room = ap vec_capacity w.units-is ∙ c.loop-at.invariant.room;
+        space = ap vec_capacity w.units-is ∙ c.loop-at.invariant.space;
       }
     ]
 

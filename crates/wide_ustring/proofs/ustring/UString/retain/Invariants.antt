@@ -6,5 +6,5 @@ abbrev pub invariant-loop-at : goal.invariant-loop-at
 invariant-loop-at g l = record {
   callable : goal.F-IsAlwaysCallable g l.keep;
   filtered : Filtering (goal.F-step g) l.initial.keep l.keep l.initial.units.items l.units.items l.kept l.at;
-  room : vec_capacity l.units ≡ vec_capacity l.initial.units;
+  space : vec_capacity l.units ≡ vec_capacity l.initial.units;
 }

@@ -7,7 +7,7 @@ pub loop-at-init : goal.loop-at-init
 loop-at-init g c = record {
   callable = search of_calls;
   filtered = begins g.C.Unit.form g.C.Unit.number (goal.F-step g) _ _ (subst (λ s. IsWellFormed g.C.Unit.form (map g.C.Unit.number s.units)) (sym c.self.view_is) c.requires.well_formed);
-  room = refl;
+  space = refl;
 }
 
 pub char_at-c-requires-clause-well_formed : goal.char_at-c-requires-clause-well_formed
@@ -20,7 +20,7 @@ loop-at-preserved-then-wanted g c =
     let read = rw c.as_slice.ensures.value at c.char_at-c.ensures in record {
       callable = search of_calls;
       filtered = rw c.copy_within.ensures.items (keeps g.C.Unit.form g.C.Unit.number (goal.F-step g) _ _ _ _ _ _ c.loop-at.invariant.filtered _ c.char_at-c.result.0 c.char_at-c.result.1 read.after read.within read.first read.rest read.units (rw c.if-wanted.true at c.keep-wanted.ensures));
-      room = cc;
+      space = cc;
     }
 
 pub loop-at-preserved : goal.loop-at-preserved
@@ -28,7 +28,7 @@ loop-at-preserved g c =
     let read = rw c.as_slice.ensures.value at c.char_at-c.ensures in record {
       callable = search of_calls;
       filtered = drops g.C.Unit.form g.C.Unit.number (goal.F-step g) _ _ _ _ _ _ c.loop-at.invariant.filtered _ c.char_at-c.result.0 c.char_at-c.result.1 read.after read.within read.first read.rest (rw c.if-wanted.false at c.keep-wanted.ensures);
-      room = c.loop-at.invariant.room;
+      space = c.loop-at.invariant.space;
     }
 
 pub returns-clause-filtered : goal.returns-clause-filtered

@@ -2,14 +2,14 @@ use Rattle.std.proofs.Common.{◌≡◌, ◌↔◌, ◌++◌, ap, sym, ◌∙◌
 use Rattle.std.specs.Str.{chars as str_chars}
 use Rattle.wide_unit.specs.Items.{chars}
 use Rattle.wide_unit.specs.Utf8.{utf8}
-use Rattle.wide_unit.specs.Laws.Places.{scalars-chars}
-use Rattle.wide_blocks.proofs.Utf8Texts.{no_text}
+use Rattle.wide_unit.specs.Laws.Offsets.{scalars-chars}
+use Rattle.wide_conversions.proofs.Utf8Texts.{no_text}
 use Rattle.wide_utfstr.specs.View.{text_seen}
-use Rattle.wide_utfstr.proofs.SamePieces.{same_bytes, same_behind, no_longer_same, same_at_end}
+use Rattle.wide_utfstr.proofs.SameChunks.{same_bytes, same_after, no_longer_same, same_at_end}
 use Rattle.wide_utfstr.proofs.view.UtfStr.eq_str.Goals as goal
 
-pub pieces-init : goal.pieces-init
-pieces-init g c =
+pub chunks-init : goal.chunks-init
+chunks-init g c =
     let form = g.C.Unit.form in
     let number = g.C.Unit.number in
     let same = same_bytes (text_seen c.args.self) c.args.text.now (scalars-chars form (map number c.args.self.units.now) c.args.self.well_formed) c.utf8.text in
@@ -23,22 +23,22 @@ pub returns-in_default : goal.returns-in_default
 returns-in_default g c =
     let form = g.C.Unit.form in
     let number = g.C.Unit.number in
-    no_longer_same (utf8 (chars form (map number c.pieces.ours.now))) c.pieces.theirs.now c.pieces.invariant.same (take c.encode_front-read.result.1 c.encode_front-read.new.text)
-    (utf8 (chars form (map number (drop c.encode_front-read.result.0 c.pieces.ours.now)))) c.encode_front-read.ensures.text c.in_default.ensures.cases
+    no_longer_same (utf8 (chars form (map number c.chunks.ours.now))) c.chunks.theirs.now c.chunks.invariant.same (take c.to_utf8_prefix-read.result.1 c.to_utf8_prefix-read.new.text)
+    (utf8 (chars form (map number (drop c.to_utf8_prefix-read.result.0 c.chunks.ours.now)))) c.to_utf8_prefix-read.ensures.text c.in_default.ensures.cases
 
-pub pieces-preserved : goal.pieces-preserved
-pieces-preserved g c =
+pub chunks-preserved : goal.chunks-preserved
+chunks-preserved g c =
     let form = g.C.Unit.form in
     let number = g.C.Unit.number in
     let left = c.split_at.ensures.back in
     record {
-      well_formed = rw left c.encode_front-read.ensures.rest;
-      same = same_behind (utf8 (chars form (map number c.pieces.ours.now))) c.pieces.theirs.now c.pieces.invariant.same (take c.encode_front-read.result.1 c.encode_front-read.new.text)
-          (utf8 (chars form (map number c.split_at.result.1.now))) c.in-Some.rest.now (c.encode_front-read.ensures.text ∙ ap (λ us. take c.encode_front-read.result.1 c.encode_front-read.new.text ++ utf8 (chars form (map number us))) (sym left))
+      well_formed = rw left c.to_utf8_prefix-read.ensures.rest;
+      same = same_after (utf8 (chars form (map number c.chunks.ours.now))) c.chunks.theirs.now c.chunks.invariant.same (take c.to_utf8_prefix-read.result.1 c.to_utf8_prefix-read.new.text)
+          (utf8 (chars form (map number c.split_at.result.1.now))) c.in-Some.rest.now (c.to_utf8_prefix-read.ensures.text ∙ ap (λ us. take c.to_utf8_prefix-read.result.1 c.to_utf8_prefix-read.new.text ++ utf8 (chars form (map number us))) (sym left))
           c.in-Some.ensures.cases.0 c.in-Some.ensures.cases.1;
     }
 
 pub returns : goal.returns
 returns g c =
-    let none : length c.pieces.ours.now ≡ 0 = grind (arith, c.is_empty.ensures, c.pieces-test.false) in
-    same_at_end (utf8 (chars g.C.Unit.form (map g.C.Unit.number c.pieces.ours.now))) c.pieces.theirs.now c.pieces.invariant.same c.is_empty-2.result (no_text g.C.Unit.form g.C.Unit.number c.pieces.ours.now none) c.is_empty-2.ensures
+    let none : length c.chunks.ours.now ≡ 0 = grind (arith, c.is_empty.ensures, c.chunks-test.false) in
+    same_at_end (utf8 (chars g.C.Unit.form (map g.C.Unit.number c.chunks.ours.now))) c.chunks.theirs.now c.chunks.invariant.same c.is_empty-2.result (no_text g.C.Unit.form g.C.Unit.number c.chunks.ours.now none) c.is_empty-2.ensures

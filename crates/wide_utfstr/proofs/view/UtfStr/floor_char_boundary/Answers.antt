@@ -7,5 +7,5 @@ use Rattle.wide_utfstr.proofs.view.UtfStr.floor_char_boundary.Goals as goal
 pub returns-else-is_char_boundary : goal.returns-else-is_char_boundary
 returns-else-is_char_boundary g c =
     let us = map g.C.Unit.number (units_seen c.args.self) in
-    let below : c.args.place < length us = omega (arith, c.if-place-len.false, c.len.ensures, length-map (units_seen c.args.self) g.C.Unit.number) in
-    before-floor g.C.Unit.form us c.args.place c.args.self.well_formed below (λ here. let no : false ≡ true = c.if-is_char_boundary.ensures.char_boundary.1 here in cc)
+    let below : c.args.offset < length us = omega (arith, c.if-offset-len.false, c.len.ensures, length-map (units_seen c.args.self) g.C.Unit.number) in
+    before-floor g.C.Unit.form us c.args.offset c.args.self.well_formed below (λ here. let no : false ≡ true = c.if-is_char_boundary.ensures.char_boundary.1 here in cc)

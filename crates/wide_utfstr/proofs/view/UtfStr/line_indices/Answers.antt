@@ -1,5 +1,5 @@
 use Rattle.std.proofs.Common.{ap, arith, length, map}
-use Rattle.wide_unit.proofs.LinePlaces.{placed-at_most, IsCharBoundary-lines}
+use Rattle.wide_unit.proofs.LineOffsets.{placed-at_most, IsCharBoundary-lines}
 use Rattle.wide_utfstr.specs.View.{units_seen}
 use Rattle.wide_utfstr.proofs.view.UtfStr.line_indices.Goals as goal
 

@@ -1,5 +1,5 @@
 use Rattle.std.proofs.Common.{ap, arith, length}
-use Rattle.wide_unit.proofs.LinePlaces.{lines-at_most}
+use Rattle.wide_unit.proofs.LineOffsets.{lines-at_most}
 use Rattle.wide_utfstr.specs.View.{units_seen}
 use Rattle.wide_utfstr.proofs.view.UtfStr.lines.Goals as goal
 

@@ -1,7 +1,7 @@
 use Rattle.std.proofs.Common.{◌∷◌, [], ◌++◌, ap, ◌∙◌, map}
 use Rattle.wide_unit.specs.Items.{items, characters}
 use Rattle.wide_unit.specs.Unit.{item_of}
-use Rattle.wide_unit.specs.Laws.WellFormed.{no_last_fault, well_formed-front, characters-push}
+use Rattle.wide_unit.specs.Laws.WellFormed.{no_last_fault, well_formed-prefix, characters-push}
 use Rattle.wide_utfstr.proofs.view.UtfStr.split_last_char.Goals as goal
 
 pub invariant_of-result : goal.invariant_of-result
@@ -9,7 +9,7 @@ invariant_of-result g c =
     let form = g.C.Unit.form in
     let number = g.C.Unit.number in
     let rest = map number c.in_ok-rest.rest.now in
-    record { well_formed = well_formed-front form (map number c.args.self.units.now) rest c.args.self.well_formed c.in-Ok.c (c.in_ok-rest.ensures.some ∙ ap (λ r. items form rest ++ item_of number r ∷ []) c.in-Ok.is) }
+    record { well_formed = well_formed-prefix form (map number c.args.self.units.now) rest c.args.self.well_formed c.in-Ok.c (c.in_ok-rest.ensures.some ∙ ap (λ r. items form rest ++ item_of number r ∷ []) c.in-Ok.is) }
 
 pub unreachable-requires : goal.unreachable-requires
 unreachable-requires g c =

@@ -1,5 +1,5 @@
 use Rattle.std.proofs.Common.{◌≡◌, ◌-◌, refl, sym, ◌∙◌, ap, subst, map, length}
-use Rattle.wide_unit.specs.Places.{IsCharBoundary}
+use Rattle.wide_unit.specs.Offsets.{IsCharBoundary}
 use Rattle.wide_search.proofs.Texts.{ends-start}
 use Rattle.wide_utfstr.specs.View.{units_seen}
 use Rattle.wide_utfstr.proofs.view.UtfStr.strip_suffix.Goals as goal
@@ -9,5 +9,5 @@ split_at-requires g c =
     let form = g.C.Unit.form in
     let number = g.C.Unit.number in
     let us = units_seen c.args.self in
-    let at : c.len.result - c.len-2.result ≡ length us - length (units_seen c.args.part) = ap (λ n. n - c.len-2.result) c.len.ensures ∙ ap (λ n. length us - n) c.len-2.ensures in
-    subst (λ n. IsCharBoundary form (map number us) n) (sym at) (ends-start form number us c.args.self.well_formed (units_seen c.args.part) c.args.part.well_formed (c.if-not-ends_with.ensures.0 refl))
+    let at : c.len.result - c.len-2.result ≡ length us - length (units_seen c.args.needle) = ap (λ n. n - c.len-2.result) c.len.ensures ∙ ap (λ n. length us - n) c.len-2.ensures in
+    subst (λ n. IsCharBoundary form (map number us) n) (sym at) (ends-start form number us c.args.self.well_formed (units_seen c.args.needle) c.args.needle.well_formed (c.if-not-ends_with.ensures.0 refl))

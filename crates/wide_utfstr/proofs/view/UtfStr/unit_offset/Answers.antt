@@ -1,9 +1,9 @@
 use Rattle.std.proofs.Common.{◌≡◌, ℕ, ◌+◌, ◌-◌, ◌<◌, ◌≤◌, ◌↔◌, Option, Some, None, IsSome, map, length, subst, sym, ap, ◌∙◌, ◌++◌, arith}
 use Rattle.std.proofs.lemmas.List.{length-map, map-append}
 use Rattle.wide_unit.specs.Items.{chars}
-use Rattle.wide_unit.specs.Places.{IsPlaceOf, IsCharBoundary}
+use Rattle.wide_unit.specs.Offsets.{IsOffsetOf, IsCharBoundary}
 use Rattle.wide_unit.proofs.CharBoundaries.{IsCharBoundary-of}
-use Rattle.wide_utfstr.proofs.Walk.{left-front, left-all, left-none, left-more, left-shorter, left-place}
+use Rattle.wide_utfstr.proofs.Walk.{left-prefix, left-all, left-none, left-more, left-shorter, left-offset}
 use Rattle.wide_utfstr.proofs.Boundary.{boundary_before}
 use Rattle.wide_utfstr.proofs.view.UtfStr.unit_offset.Goals.{then-is_char_boundary, else-is_char_boundary}
 use Rattle.wide_utfstr.proofs.view.UtfStr.unit_offset.Goals as goal
@@ -31,12 +31,12 @@ pub counted-preserved : goal.counted-preserved
 counted-preserved g c =
     let form = g.C.Unit.form in
     let number = g.C.Unit.number in
-    let front = c.split_at.result.0 in
+    let prefix = c.split_at.result.0 in
     let others = c.split_at.result.1 in
     let us = map number c.args.self.units.now in
-    let joined : map number front.units.now ++ map number others.units.now ≡ map number c.counted.rest.units.now = sym (map-append number front.units.now others.units.now) ∙ ap (map number) c.split_at.ensures.joined in
+    let joined : map number prefix.units.now ++ map number others.units.now ≡ map number c.counted.rest.units.now = sym (map-append number prefix.units.now others.units.now) ∙ ap (map number) c.split_at.ensures.joined in
     let step =
-    left-front form us c.args.self.well_formed (map number c.counted.rest.units.now) c.counted.passed c.counted.invariant.1 (map number front.units.now) (map number others.units.now) c.char_count-count.result joined front.well_formed
+    left-prefix form us c.args.self.well_formed (map number c.counted.rest.units.now) c.counted.passed c.counted.invariant.1 (map number prefix.units.now) (map number others.units.now) c.char_count-count.result joined prefix.well_formed
     others.well_formed c.char_count-count.ensures
     in
     (omega (arith, c.if-count-index.false, c.counted.invariant.0), step.1)
@@ -64,8 +64,8 @@ overflow_sub-result g c =
     omega
     (arith, left-shorter g.C.Unit.form (map number us) c.args.self.well_formed (map number rest) c.loop-number._number c.loop-number.invariant, length-map us number, length-map rest number)
 
-pub returns-clause-place : goal.returns-clause-place
-returns-clause-place g c =
+pub returns-clause-offset : goal.returns-clause-offset
+returns-clause-offset g c =
     let us = c.args.self.units.now in
     let rest = c.loop-number.rest.units.now in
     let form = g.C.Unit.form in
@@ -73,10 +73,10 @@ returns-clause-place g c =
     let shorter : length rest ≤ length us = overflow_sub-result g c in
     let joined : (length us - length rest) + length (map number rest) ≡ length (map number us) = omega (arith, length-map us number, length-map rest number) in
     let reached : c.loop-number._number ≡ c.args.index = omega arith in
-    subst (λ k. IsPlaceOf form (map number us) k (length us - length rest)) reached
-    (left-place form (map number us) c.args.self.well_formed (map number rest) c.loop-number._number c.loop-number.invariant (length us - length rest) joined)
+    subst (λ k. IsOffsetOf form (map number us) k (length us - length rest)) reached
+    (left-offset form (map number us) c.args.self.well_formed (map number rest) c.loop-number._number c.loop-number.invariant (length us - length rest) joined)
 
 pub returns-clause-char_boundary : goal.returns-clause-char_boundary
 returns-clause-char_boundary g c =
     let us = c.args.self.units.now in
-    IsCharBoundary-of g.C.Unit.form (map g.C.Unit.number us) (length us - length c.loop-number.rest.units.now) c.args.self.well_formed (returns-clause-place g c).boundary
+    IsCharBoundary-of g.C.Unit.form (map g.C.Unit.number us) (length us - length c.loop-number.rest.units.now) c.args.self.well_formed (returns-clause-offset g c).boundary

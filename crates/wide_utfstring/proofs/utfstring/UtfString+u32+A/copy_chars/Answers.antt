@@ -17,11 +17,11 @@ loop-c-init g c =
     in
     record {
       copied = ap (λ cs. cs ++ chars_left Utf32 (λ u. u) c.into_iter-c-iterator.result) c.in_ok-chars.ensures.items;
-      room = omega (arith, ap (λ s. length s.units) c.self.view_is, ap length c.in_ok-chars.ensures.items, ap length left, ap length same, c.len.ensures, c.in_ok-chars.ensures.capacity);
+      space = omega (arith, ap (λ s. length s.units) c.self.view_is, ap length c.in_ok-chars.ensures.items, ap length left, ap length same, c.len.ensures, c.in_ok-chars.ensures.capacity);
     }
 
 pub push_reserved-requires : goal.push_reserved-requires
-push_reserved-requires g c = omega (arith, ap length c.in-Some.ensures.steps, c.loop-c.invariant.room, c.loop-c.chars.ok)
+push_reserved-requires g c = omega (arith, ap length c.in-Some.ensures.steps, c.loop-c.invariant.space, c.loop-c.chars.ok)
 
 pub loop-c-preserved : goal.loop-c-preserved
 loop-c-preserved g c =
@@ -30,7 +30,7 @@ loop-c-preserved g c =
       copied =
           ap (λ cs. cs ++ rest) c.push_reserved.ensures.items ∙ append_assoc c.loop-c.chars.items (c.in-Some.c ∷ []) rest ∙ ap (λ cs. c.loop-c.chars.items ++ cs) (sym c.in-Some.ensures.steps)
           ∙ c.loop-c.invariant.copied;
-      room = omega (arith, ap length c.push_reserved.ensures.items, length-append c.loop-c.chars.items (c.in-Some.c ∷ []), ap length c.in-Some.ensures.steps, c.loop-c.invariant.room, c.push_reserved.ensures.capacity);
+      space = omega (arith, ap length c.push_reserved.ensures.items, length-append c.loop-c.chars.items (c.in-Some.c ∷ []), ap length c.in-Some.ensures.steps, c.loop-c.invariant.space, c.push_reserved.ensures.capacity);
     }
 
 pub returns : goal.returns

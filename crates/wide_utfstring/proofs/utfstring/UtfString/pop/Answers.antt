@@ -2,7 +2,7 @@ use Rattle.std.proofs.Common.{◌≡◌, [], ◌∷◌, ◌++◌, map, length, t
 use Rattle.wide_unit.specs.Segmentation.{Char}
 use Rattle.wide_unit.specs.Items.{items, characters, IsWellFormed}
 use Rattle.wide_unit.specs.Unit.{item_of}
-use Rattle.wide_unit.specs.Laws.WellFormed.{no_last_fault, well_formed-front, characters-push}
+use Rattle.wide_unit.specs.Laws.WellFormed.{no_last_fault, well_formed-prefix, characters-push}
 use Rattle.wide_utfstring.proofs.utfstring.UtfString.pop.Goals as goal
 
 pub unreachable-requires : goal.unreachable-requires
@@ -23,7 +23,7 @@ invariant_of-self g c =
     let well : IsWellFormed form us = rw c.as_slice.ensures c.self.invariant in
     let split : items form us ≡ items form rest ++ Char c.in-Ok.c ∷ [] = c.in_ok-rest.ensures.some ∙ ap (λ r. items form rest ++ item_of number r ∷ []) c.in-Ok.is in
     let left : c.truncate.new.self.units ≡ c.in_ok-rest.rest.now = c.truncate.ensures.units ∙ ap (take (length c.in_ok-rest.rest.now)) (sym c.as_slice.ensures) ∙ sym c.in_ok-rest.ensures.rest in
-    rw left (well_formed-front form us rest well c.in-Ok.c split)
+    rw left (well_formed-prefix form us rest well c.in-Ok.c split)
 
 pub returns-clause-taken : goal.returns-clause-taken
 returns-clause-taken g c =

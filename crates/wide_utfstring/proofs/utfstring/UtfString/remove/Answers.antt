@@ -1,8 +1,8 @@
 use Rattle.std.proofs.Common.{map, drop}
 use Rattle.wide_unit.specs.Items.{IsBoundary}
-use Rattle.wide_unit.specs.Laws.Places.{IsWellFormed-drop}
+use Rattle.wide_unit.specs.Laws.Offsets.{IsWellFormed-drop}
 use Rattle.wide_unit.proofs.CharBoundaries.{IsBoundary-of_char}
-use Rattle.wide_utfstring.proofs.Removed.{taken-scalar, removed-well_formed, removed-units, removed-text, removed-taken, taken_of_map, front_of_map}
+use Rattle.wide_utfstring.proofs.Removed.{taken-scalar, removed-well_formed, removed-units, removed-text, removed-taken, taken_of_map, prefix_of_map}
 use Rattle.wide_utfstring.proofs.utfstring.UtfString.remove.Goals as goal
 
 pub unreachable-requires : goal.unreachable-requires
@@ -24,9 +24,9 @@ invariant_of-self g c =
     let ys = c.remove_char-code.new.self.units in
     let code = c.remove_char-code.result in
     let at : IsBoundary form (map number xs) c.args.at = IsBoundary-of_char g.C.Unit.form (map g.C.Unit.number c.self.inside.string.units) c.args.at (rw (← c.self.view_is) at c.requires.boundary) in
-    let front = front_of_map form number xs ys c.args.at code c.remove_char-code.ensures.front in
+    let prefix = prefix_of_map form number xs ys c.args.at code c.remove_char-code.ensures.prefix in
     let taken = taken_of_map form number xs ys c.args.at code c.remove_char-code.ensures.taken in
-    removed-well_formed form (map number xs) (map number ys) c.args.at c.self.invariant at front code taken
+    removed-well_formed form (map number xs) (map number ys) c.args.at c.self.invariant at prefix code taken
 
 pub returns-clause-units : goal.returns-clause-units
 returns-clause-units g c =
@@ -36,9 +36,9 @@ returns-clause-units g c =
     let ys = c.remove_char-code.new.self.units in
     let code = c.remove_char-code.result in
     let at : IsBoundary form (map number xs) c.args.at = IsBoundary-of_char g.C.Unit.form (map g.C.Unit.number c.self.inside.string.units) c.args.at (rw (← c.self.view_is) at c.requires.boundary) in
-    let front = front_of_map form number xs ys c.args.at code c.remove_char-code.ensures.front in
+    let prefix = prefix_of_map form number xs ys c.args.at code c.remove_char-code.ensures.prefix in
     let taken = taken_of_map form number xs ys c.args.at code c.remove_char-code.ensures.taken in
-    rw (← c.self.view_is, c.in-Some.ensures.value.1) (removed-units form (map number xs) (map number ys) c.args.at c.self.invariant at front code taken)
+    rw (← c.self.view_is, c.in-Some.ensures.value.1) (removed-units form (map number xs) (map number ys) c.args.at c.self.invariant at prefix code taken)
 
 pub returns-clause-text : goal.returns-clause-text
 returns-clause-text g c =
@@ -48,9 +48,9 @@ returns-clause-text g c =
     let ys = c.remove_char-code.new.self.units in
     let code = c.remove_char-code.result in
     let at : IsBoundary form (map number xs) c.args.at = IsBoundary-of_char g.C.Unit.form (map g.C.Unit.number c.self.inside.string.units) c.args.at (rw (← c.self.view_is) at c.requires.boundary) in
-    let front = front_of_map form number xs ys c.args.at code c.remove_char-code.ensures.front in
+    let prefix = prefix_of_map form number xs ys c.args.at code c.remove_char-code.ensures.prefix in
     let taken = taken_of_map form number xs ys c.args.at code c.remove_char-code.ensures.taken in
-    rw (← c.self.view_is) (removed-text form (map number xs) (map number ys) c.args.at c.self.invariant at front code taken)
+    rw (← c.self.view_is) (removed-text form (map number xs) (map number ys) c.args.at c.self.invariant at prefix code taken)
 
 pub returns-clause-taken : goal.returns-clause-taken
 returns-clause-taken g c =
@@ -60,6 +60,6 @@ returns-clause-taken g c =
     let ys = c.remove_char-code.new.self.units in
     let code = c.remove_char-code.result in
     let at : IsBoundary form (map number xs) c.args.at = IsBoundary-of_char g.C.Unit.form (map g.C.Unit.number c.self.inside.string.units) c.args.at (rw (← c.self.view_is) at c.requires.boundary) in
-    let front = front_of_map form number xs ys c.args.at code c.remove_char-code.ensures.front in
+    let prefix = prefix_of_map form number xs ys c.args.at code c.remove_char-code.ensures.prefix in
     let taken = taken_of_map form number xs ys c.args.at code c.remove_char-code.ensures.taken in
-    rw (← c.self.view_is, c.in-Some.ensures.value.1) (removed-taken form (map number xs) (map number ys) c.args.at c.self.invariant at front code taken)
+    rw (← c.self.view_is, c.in-Some.ensures.value.1) (removed-taken form (map number xs) (map number ys) c.args.at c.self.invariant at prefix code taken)

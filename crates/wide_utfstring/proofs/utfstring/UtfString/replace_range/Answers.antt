@@ -2,7 +2,7 @@ use Rattle.std.proofs.Common.{map, ap, ◌∙◌, arith}
 use Rattle.std.proofs.lemmas.Grind.{common_steps}
 use Rattle.std.specs.List.{splice}
 use Rattle.wide_unit.specs.Items.{chars}
-use Rattle.wide_unit.specs.Places.{chars_before, IsTextRange}
+use Rattle.wide_unit.specs.Offsets.{chars_before, IsTextRange}
 use Rattle.wide_unit.specs.Laws.Splices.{IsWellFormed-map_splice, chars-map_splice}
 use Rattle.wide_ustr.specs.View.{units_seen}
 use Rattle.wide_ustring.specs.Units.{ustring_len}

@@ -4,7 +4,7 @@ use Rattle.std.specs.Str.{chars as str_chars}
 use Rattle.std.proofs.lemmas.List.{length-map}
 use Rattle.wide_unit.specs.EncodingForm.{encode}
 use Rattle.wide_unit.specs.Items.{chars}
-use Rattle.wide_unit.specs.Places.{chars_before, IsTextRange}
+use Rattle.wide_unit.specs.Offsets.{chars_before, IsTextRange}
 use Rattle.wide_unit.specs.Laws.Splices.{IsWellFormed-splice, chars-splice}
 use Rattle.wide_unit.specs.Laws.Texts.{IsWellFormed-text, chars-text}
 use Rattle.wide_unit.proofs.CharBoundaries.{IsTextRange-of_chars}

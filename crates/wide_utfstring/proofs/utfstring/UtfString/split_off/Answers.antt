@@ -1,9 +1,9 @@
 use Rattle.std.proofs.Common.{map, inr, arith}
 use Rattle.std.proofs.lemmas.List.{length-map}
-use Rattle.wide_unit.specs.Laws.Places.{IsBoundary-within}
+use Rattle.wide_unit.specs.Laws.Offsets.{IsBoundary-within}
 use Rattle.wide_unit.specs.Laws.Splices.{IsWellFormed-map_take, IsWellFormed-map_drop}
 use Rattle.wide_unit.proofs.CharBoundaries.{IsBoundary-of_char}
-use Rattle.wide_utfstring.proofs.Edits.{front_text, rest_text}
+use Rattle.wide_utfstring.proofs.Edits.{prefix_text, rest_text}
 use Rattle.wide_utfstring.proofs.utfstring.UtfString.split_off.Goals as goal
 
 pub split_off-requires : goal.split_off-requires
@@ -28,4 +28,4 @@ returns-clause-rest_text g c =
 pub returns-clause-text : goal.returns-clause-text
 returns-clause-text g c =
     rw (← c.self.view_is, c.in_ok-split_off.ensures.ok)
-    (front_text g.C.Unit.form g.C.Unit.number c.self.inside.string.units c.args.at c.self.invariant (inr (IsBoundary-of_char g.C.Unit.form (map g.C.Unit.number c.self.inside.string.units) c.args.at (rw (← c.self.view_is) at c.requires))))
+    (prefix_text g.C.Unit.form g.C.Unit.number c.self.inside.string.units c.args.at c.self.invariant (inr (IsBoundary-of_char g.C.Unit.form (map g.C.Unit.number c.self.inside.string.units) c.args.at (rw (← c.self.view_is) at c.requires))))

@@ -1,0 +1,392 @@
+//! Tests the crate against std, with random texts: REFERENCE_COUNT of each kind, or 100,000, from REFERENCE_SEED.
+use std::fmt::Debug;
+use widestring_proved::*;
+
+const POLICIES: [Lossy; 3] = [Lossy::Each, Lossy::Run, Lossy::Skip];
+
+/// Text as std reads it: characters, and `None` for each fault.
+type Items = Vec<Option<char>>;
+
+struct Numbers(u64);
+
+impl Numbers {
+    fn new() -> Self {
+        Self(0x9e37_79b9_7f4a_7c15_u64.wrapping_mul(2 * asked("REFERENCE_SEED", 1) + 1))
+    }
+
+    fn below(&mut self, bound: u32) -> u32 {
+        self.0 ^= self.0 << 13;
+        self.0 ^= self.0 >> 7;
+        self.0 ^= self.0 << 17;
+        (self.0 >> 33) as u32 % bound
+    }
+
+    /// A text as std has it: mostly ASCII, and characters below a bound.
+    fn text(&mut self) -> String {
+        let bound = [0x80, 0x800, 0x1_0000, 0x11_0000][self.below(4) as usize];
+        let most = [
+            20,
+            20,
+            20,
+            20,
+            20,
+            20,
+            150,
+            if self.below(16) == 0 { 6000 } else { 600 },
+        ][self.below(8) as usize];
+        let length = self.below(most);
+        (0..length)
+            .filter_map(|_| {
+                let bound = if self.below(4) == 0 { bound } else { 0x80 };
+                char::from_u32(self.below(bound))
+            })
+            .collect()
+    }
+
+    /// In every second case replaces some elements by others of any value; cuts some texts at a random offset.
+    fn broken<T: Copy>(&mut self, mut items: Vec<T>, any: impl Fn(u32) -> T) -> Vec<T> {
+        for _ in 0..if self.below(2) == 0 { 0 } else { self.below(8) } {
+            let wild = match self.below(3) {
+                0 => 0xd800 + self.below(0x800),
+                1 => self.below(0x12_0000),
+                _ => self.below(u32::MAX),
+            };
+            let at = self.below(items.len() as u32 + 1) as usize;
+            items.insert(at, any(wild));
+        }
+        if self.below(8) == 0 {
+            items.truncate(self.below(items.len() as u32 + 1) as usize);
+        }
+        items
+    }
+}
+
+fn asked(name: &str, otherwise: u64) -> u64 {
+    std::env::var(name).map_or(otherwise, |text| text.parse().expect("a number"))
+}
+
+fn lossy_of(items: &Items, policy: Lossy) -> String {
+    let mut text = String::new();
+    let mut after = false;
+    for item in items {
+        match item {
+            Some(c) => text.push(*c),
+            None if policy == Lossy::Each || policy == Lossy::Run && !after => {
+                text.push('\u{fffd}')
+            }
+            None => {}
+        }
+        after = item.is_none();
+    }
+    text
+}
+
+/// Returns the text if it has no fault.
+fn valid<T>(items: &Items, offset: Option<usize>, make: impl Fn(&str) -> T) -> Result<T, Fault> {
+    match offset {
+        None => Ok(make(&lossy_of(items, Lossy::Skip))),
+        Some(offset) => Err(Fault { offset }),
+    }
+}
+
+/// Calls a function with buffers that fit exactly, are longer, shorter and empty, with a filler after each. It
+/// must return the length if the text fits, an error with the length if it does not, and a fault with each of them.
+fn fills<T: Copy + PartialEq + Debug>(
+    wanted: Result<&[T], Fault>,
+    filler: T,
+    call: impl Fn(&mut [T]) -> Result<usize, IntoError>,
+) {
+    let needed = wanted.map_or(7, <[T]>::len);
+    for size in [needed, needed + 9, needed / 2, needed.saturating_sub(1), 0] {
+        let mut all = vec![filler; size + 70];
+        let (buffer, rest) = all.split_at_mut(size);
+        let result = call(buffer);
+        assert!(rest.iter().all(|item| *item == filler));
+        match wanted {
+            Ok(items) if items.len() <= size => {
+                assert_eq!(result, Ok(needed));
+                assert_eq!(&buffer[..needed], items);
+                assert!(buffer[needed..].iter().all(|item| *item == filler));
+            }
+            Ok(_) => assert_eq!(result, Err(IntoError::Short(Short { needed }))),
+            Err(fault) => {
+                assert_eq!(result, Err(IntoError::Fault(fault)));
+                assert!(buffer.iter().all(|item| *item == filler));
+            }
+        }
+    }
+}
+
+fn utf16_of(text: &str) -> Vec<u16> {
+    text.encode_utf16().collect()
+}
+
+fn utf32_of(text: &str) -> Vec<u32> {
+    text.chars().map(u32::from).collect()
+}
+
+/// The items of bytes, and the offset of the first fault.
+fn utf8_items(text: &[u8]) -> (Items, Option<usize>) {
+    let mut items = Items::new();
+    for chunk in text.utf8_chunks() {
+        items.extend(chunk.valid().chars().map(Some));
+        items.extend((!chunk.invalid().is_empty()).then_some(None));
+    }
+    let offset = std::str::from_utf8(text)
+        .err()
+        .map(|error| error.valid_up_to());
+    (items, offset)
+}
+
+fn check_utf8(text: &[u8]) {
+    let (items, offset) = utf8_items(text);
+    let (units, wide) = (
+        valid(&items, offset, utf16_of),
+        valid(&items, offset, utf32_of),
+    );
+    assert_eq!(utf8_first_fault(text), offset);
+    assert_eq!(
+        utf8_char_count(text),
+        offset.is_none().then_some(items.len())
+    );
+    assert_eq!(utf8_to_utf16(text), units);
+    assert_eq!(utf8_to_utf32(text), wide);
+    assert_eq!(
+        utf8_to_utf16_lossy(text, Lossy::Each),
+        utf16_of(&String::from_utf8_lossy(text))
+    );
+    fills(units.as_deref().map_err(|fault| *fault), 0xa5a5, |buffer| {
+        utf8_to_utf16_into(text, buffer)
+    });
+    fills(
+        wide.as_deref().map_err(|fault| *fault),
+        0xa5a5_a5a5,
+        |buffer| utf8_to_utf32_into(text, buffer),
+    );
+    for policy in POLICIES {
+        check_utf8_lossy(text, policy, &lossy_of(&items, policy));
+    }
+}
+
+fn check_utf8_lossy(text: &[u8], policy: Lossy, lossy: &str) {
+    let (units, wide) = (utf16_of(lossy), utf32_of(lossy));
+    assert_eq!(utf8_to_utf16_lossy(text, policy), units);
+    assert_eq!(utf8_to_utf32_lossy(text, policy), wide);
+    fills(Ok(&units), 0xa5a5, |buffer| {
+        Ok(utf8_to_utf16_lossy_into(text, policy, buffer)?)
+    });
+    fills(Ok(&wide), 0xa5a5_a5a5, |buffer| {
+        Ok(utf8_to_utf32_lossy_into(text, policy, buffer)?)
+    });
+}
+
+/// The first offset of a needle, by std's windows.
+fn offset_of<T: PartialEq>(items: &[T], needle: &[T]) -> Option<usize> {
+    match needle.len() {
+        0 => Some(0),
+        length => items.windows(length).position(|window| window == needle),
+    }
+}
+
+fn check_utf16(units: &[u16], numbers: &mut Numbers) {
+    let items: Items = char::decode_utf16(units.iter().copied())
+        .map(Result::ok)
+        .collect();
+    let item = items.iter().position(Option::is_none);
+    let offset = item.map(|item| items[..item].iter().flatten().map(|c| c.len_utf16()).sum());
+    let text = valid(&items, offset, str::to_owned);
+    assert_eq!(text.clone().ok(), String::from_utf16(units).ok());
+    assert_eq!(utf16_first_fault(units), offset);
+    assert_eq!(utf16_first_fault_item(units), item);
+    assert_eq!(
+        utf16_char_count(units),
+        offset.is_none().then_some(items.len())
+    );
+    assert_eq!(utf16_to_utf8(units), text);
+    assert_eq!(utf16_to_utf32(units), valid(&items, offset, utf32_of));
+    assert_eq!(
+        utf16_repair(units),
+        utf16_of(&String::from_utf16_lossy(units))
+    );
+    fills(
+        text.as_ref()
+            .map(|text| text.as_bytes())
+            .map_err(|fault| *fault),
+        0xa5,
+        |buffer| utf16_to_utf8_into(units, buffer),
+    );
+    for policy in POLICIES {
+        let lossy = lossy_of(&items, policy);
+        assert_eq!(utf16_to_utf8_lossy(units, policy), lossy);
+        fills(Ok(lossy.as_bytes()), 0xa5, |buffer| {
+            Ok(utf16_to_utf8_lossy_into(units, policy, buffer)?)
+        });
+    }
+    check_searches16(units, numbers);
+    check_bytes(units, &items, numbers);
+}
+
+/// Units as bytes, with or without half a unit after them, in one chunk and in two, the second of which starts with
+/// what the first left.
+fn check_bytes(units: &[u16], items: &Items, numbers: &mut Numbers) {
+    let order = [Order::Little, Order::Big][numbers.below(2) as usize];
+    let put = |unit: &u16| match order {
+        Order::Little => unit.to_le_bytes(),
+        Order::Big => unit.to_be_bytes(),
+    };
+    let mut bytes: Vec<u8> = units.iter().flat_map(put).collect();
+    bytes.resize(bytes.len() + numbers.below(2) as usize, 0x61);
+    let offset = utf16_first_fault(units);
+    let is_whole = bytes.len() % 2 == 0;
+    let fault = offset.or((!is_whole).then_some(units.len()));
+    assert_eq!(utf16_bytes_first_fault(&bytes, order), offset);
+    assert_eq!(
+        utf16_bytes_to_utf8(&bytes, order),
+        valid(items, fault, str::to_owned)
+    );
+    let is_high = units.last().is_some_and(|unit| unit >> 10 == 0x36);
+    assert_eq!(
+        utf16_bytes_complete(&bytes, order),
+        2 * (units.len() - usize::from(is_high))
+    );
+    let is_last = items.last().is_none_or(Option::is_none);
+    assert_eq!(utf16_bytes_end_in_fault(&bytes, order, true), is_last);
+    let with_bom = [&put(&0xfeff)[..], &bytes].concat();
+    assert_eq!(utf16_bytes_order(&with_bom), Some(order));
+    assert_eq!(utf16_bytes_order(b"ab"), None);
+    let cut = utf16_bytes_complete(
+        &bytes[..numbers.below(bytes.len() as u32 + 1) as usize],
+        order,
+    );
+    let (prefix, rest) = bytes.split_at(cut);
+    let after = utf16_bytes_end_in_fault(prefix, order, false);
+    for policy in POLICIES {
+        let wanted = lossy_of(items, policy);
+        assert_eq!(
+            utf16_bytes_to_utf8_lossy(&bytes, order, policy, false),
+            wanted
+        );
+        let texts = [(prefix, false), (rest, after)]
+            .map(|(chunk, after)| utf16_bytes_to_utf8_lossy(chunk, order, policy, after));
+        assert_eq!(texts.concat(), wanted);
+    }
+}
+
+fn check_searches16(units: &[u16], numbers: &mut Numbers) {
+    let at = numbers.below(units.len() as u32 + 1) as usize;
+    let needle = &units[at..(at + numbers.below(9) as usize).min(units.len())];
+    assert_eq!(utf16_find(units, needle), offset_of(units, needle));
+    assert_eq!(utf16_find_unit(units, 0x7a), offset_of(units, &[0x7a]));
+    assert_eq!(utf16_first_nul(units), offset_of(units, &[0]));
+}
+
+fn check_utf32(units: &[u32], numbers: &mut Numbers) {
+    let items: Items = units.iter().map(|unit| char::from_u32(*unit)).collect();
+    let offset = items.iter().position(Option::is_none);
+    let text = valid(&items, offset, str::to_owned);
+    assert_eq!(utf32_first_fault(units), offset);
+    assert_eq!(utf32_first_fault_item(units), offset);
+    assert_eq!(
+        utf32_char_count(units),
+        offset.is_none().then_some(items.len())
+    );
+    assert_eq!(utf32_to_utf8(units), text);
+    assert_eq!(utf32_to_utf16(units), valid(&items, offset, utf16_of));
+    assert_eq!(
+        utf32_repair(units),
+        utf32_of(&lossy_of(&items, Lossy::Each))
+    );
+    fills(
+        text.as_ref()
+            .map(|text| text.as_bytes())
+            .map_err(|fault| *fault),
+        0xa5,
+        |buffer| utf32_to_utf8_into(units, buffer),
+    );
+    for policy in POLICIES {
+        let lossy = lossy_of(&items, policy);
+        assert_eq!(utf32_to_utf8_lossy(units, policy), lossy);
+        fills(Ok(lossy.as_bytes()), 0xa5, |buffer| {
+            Ok(utf32_to_utf8_lossy_into(units, policy, buffer)?)
+        });
+    }
+    check_searches32(units, numbers);
+}
+
+fn check_searches32(units: &[u32], numbers: &mut Numbers) {
+    let at = numbers.below(units.len() as u32 + 1) as usize;
+    let needle = &units[at..(at + numbers.below(9) as usize).min(units.len())];
+    assert_eq!(utf32_find(units, needle), offset_of(units, needle));
+    assert_eq!(utf32_find_unit(units, 0x7a), offset_of(units, &[0x7a]));
+    assert_eq!(utf32_first_nul(units), offset_of(units, &[0]));
+}
+
+#[test]
+fn version_is_the_crates() {
+    let number = env!("CARGO_PKG_VERSION")
+        .split('.')
+        .fold(0, |number, field| {
+            256 * number + field.parse::<u32>().expect("a number")
+        });
+    assert_eq!(version(), number);
+}
+
+/// What a function that writes into a buffer returns can be used to slice the buffer: if the text is longer, it is an
+/// error with the length.
+#[test]
+fn short_buffers() {
+    let short = Short { needed: 6 };
+    let error = IntoError::Short(short);
+    assert_eq!(
+        utf16_to_utf8_into(&[0x3042, 0x3042], &mut [0; 2]),
+        Err(error)
+    );
+    assert_eq!(
+        utf32_to_utf8_into(&[0x3042, 0x3042], &mut [0; 5]),
+        Err(error)
+    );
+    assert_eq!(utf8_to_utf16_into(b"abcdef", &mut [0; 5]), Err(error));
+    assert_eq!(utf8_to_utf32_into(b"abcdef", &mut []), Err(error));
+    assert_eq!(
+        utf16_to_utf8_lossy_into(&[0x3042, 0xd800], Lossy::Each, &mut [0; 5]),
+        Err(short)
+    );
+    assert_eq!(
+        utf32_to_utf8_lossy_into(&[0x3042, 0xd800], Lossy::Run, &mut [0; 2]),
+        Err(short)
+    );
+    assert_eq!(
+        utf8_to_utf16_lossy_into(b"abcde\xff", Lossy::Each, &mut [0; 5]),
+        Err(short)
+    );
+    assert_eq!(
+        utf8_to_utf32_lossy_into(b"abcde\xff", Lossy::Each, &mut []),
+        Err(short)
+    );
+    assert_eq!(utf16_to_utf8_into(&[], &mut []), Ok(0));
+    assert_eq!(
+        utf16_to_utf8_lossy_into(&[0xd800], Lossy::Skip, &mut []),
+        Ok(0)
+    );
+    let fault = Fault { offset: 1 };
+    assert_eq!(fault.to_string(), "ill-formed at offset 1");
+    assert_eq!(
+        utf16_to_utf8_into(&[0x61, 0xd800], &mut []),
+        Err(IntoError::Fault(fault))
+    );
+    assert_eq!(error.to_string(), "the text needs a buffer of 6 elements");
+    assert_eq!(IntoError::from(fault).to_string(), fault.to_string());
+}
+
+#[test]
+fn texts() {
+    let mut numbers = Numbers::new();
+    for _ in 0..asked("REFERENCE_COUNT", 100_000) {
+        let text = numbers.text();
+        check_utf8(&numbers.broken(text.clone().into_bytes(), |wild| wild as u8));
+        let units = numbers.broken(utf16_of(&text), |wild| wild as u16);
+        check_utf16(&units, &mut numbers);
+        let wide = numbers.broken(utf32_of(&text), |wild| wild);
+        check_utf32(&wide, &mut numbers);
+    }
+}

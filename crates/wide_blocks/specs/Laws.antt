@@ -1,2 +1,0 @@
--- Proofs that definitions of this crate cite.
-pub mod Parts

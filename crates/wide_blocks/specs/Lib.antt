@@ -1,7 +1,0 @@
-pub mod Mixed
-pub mod Scalars
-pub mod Lengths
-pub mod Decoded
-pub mod Following
-pub mod Laws
-pub mod Parts

@@ -1,6 +1,0 @@
-use Rattle.wide_bytes.specs.declared.order.BoM.TheVariants.{Little}
-use Rattle.wide_bytes.proofs.UnitsHeld.{AreUnitsOf}
-use Rattle.wide_bytes.proofs.filled.fill_little.Given as goal
-
-abbrev pub invariant-loop-k : goal.invariant-loop-k
-invariant-loop-k l = AreUnitsOf Little l.bytes l.units l.k

@@ -1,0 +1,2 @@
+-- Proofs that definitions of this crate cite.
+pub mod Utf8Items

@@ -1,0 +1,176 @@
+//! Finds the first ill-formed sequence in UTF-8 (Unicode Standard, section 3.9, D92, D93b and Table 3-7). Vectorized by
+//! the compiler: for each byte, it checks against the three bytes before whether this byte may follow them.
+
+ghost use Rattle.std.specs.Prelude.{◌≡◌, ◌+◌, ◌-◌, ◌<◌, ◌≤◌, ℕ, IsTrue, drop, length, map, slice_index, take};
+ghost use Rattle.std.specs.Str.{IsUtf8, IsValidUpTo, chars as str_chars};
+ghost use Rattle.std.specs.Str.Lossy.{utf8_invalid_len, utf8_valid_len};
+ghost use Rattle.wide_unit.specs.Segmentation.{Char};
+ghost use Rattle.wide_conversions.specs.Following.{CanFollow, IsWholeUpTo};
+ghost use Rattle.wide_conversions.specs.Utf8Items.{HasFirstPart, utf8_items};
+
+use std::str;
+
+// How many bytes are checked in one step.
+const BLOCK: usize = 64;
+
+// Returns how many rules of Table 3-7 a byte breaks after three others, of which `first` is the nearest. It checks all
+// rules without branches, so that the compiler can vectorize a loop of calls.
+#[inline(always)]
+fn broken_rules(third: u8, second: u8, first: u8, byte: u8) -> u8
+    ensures { result ≡ 0 → CanFollow third second first byte }
+{
+    let due = u8::from(0xf0 <= third) + u8::from(0xe0 <= second) + u8::from(0xc0 <= first);
+    let trails = u8::from(byte / 0x40 == 2);
+    let below_a0 = u8::from(byte < 0xa0);
+    let below_90 = u8::from(byte < 0x90);
+    u8::from(due != trails)
+        + u8::from(byte / 2 == 0x60)
+        + u8::from(0xf5 <= byte)
+        + u8::from(u8::from(first == 0xe0) + below_a0 == 2)
+        + u8::from(below_a0 < u8::from(first == 0xed))
+        + u8::from(u8::from(first == 0xf0) + below_90 == 2)
+        + u8::from(below_90 < u8::from(first == 0xf4))
+}
+
+// Returns whether all bytes of a block, and the three before it, are ASCII.
+#[inline(always)]
+fn is_ascii(block: &[u8]) -> bool
+    requires { length block.now ≡ 67 }
+    ensures { IsTrue result → (k : ℕ) → k < 67 → slice_index block.now k < 0x80 }
+{
+    let mut bits = 0;
+    for k in 0..67 {
+        bits |= block[k];
+    }
+    bits < 0x80
+}
+
+// Returns whether all of 128 bytes are ASCII.
+#[inline(always)]
+fn are_ascii(bytes: &[u8]) -> bool
+    requires { length bytes.now ≡ 128 }
+    ensures { IsTrue result → (k : ℕ) → k < 128 → slice_index bytes.now k < 0x80 }
+{
+    let mut bits = 0;
+    for k in 0..128 {
+        bits |= bytes[k];
+    }
+    bits < 0x80
+}
+
+// Returns the length of a prefix that is ASCII, in bytes, a multiple of 128. It ends before the first block of 128
+// bytes that is not all ASCII or not complete. A block consists of whole vectors, with no byte left over.
+#[inline(always)]
+fn ascii_len(text: &[u8]) -> usize
+    ensures within { result ≤ length text.now }
+    ensures ascii { (k : ℕ) → k < result → slice_index text.now k < 0x80 }
+{
+    let mut len = 0;
+    'runs: while text.len() - len >= 128 && are_ascii(&text[len..len + 128]) {
+        len += 128;
+    }
+    len
+}
+
+// Returns whether each byte of a block may follow the three bytes before it.
+#[inline(always)]
+fn follow(block: &[u8]) -> bool
+    requires { length block.now ≡ 67 }
+    ensures { IsTrue result → (k : ℕ) → k < 64 → CanFollow (slice_index block.now k) (slice_index block.now (k + 1)) (slice_index block.now (k + 2)) (slice_index block.now (k + 3)) }
+{
+    let mut broken = 0;
+    for k in 0..64 {
+        broken |= broken_rules(block[k], block[k + 1], block[k + 2], block[k + 3]);
+    }
+    broken == 0
+}
+
+// Returns whether each byte of a block may follow the three bytes before it. It checks first whether all are ASCII,
+// which is faster.
+#[inline(always)]
+fn is_valid(block: &[u8]) -> bool
+    requires { length block.now ≡ 67 }
+    ensures { IsTrue result → (k : ℕ) → k < 64 → CanFollow (slice_index block.now k) (slice_index block.now (k + 1)) (slice_index block.now (k + 2)) (slice_index block.now (k + 3)) }
+{
+    is_ascii(block) || follow(block)
+}
+
+// Returns the length of a run of bytes, each of which may follow the three bytes before it: a block, and if that is
+// ASCII, also the ASCII after it. Returns 0 if a byte of the block may not.
+#[inline(always)]
+fn followed_len(text: &[u8]) -> usize
+    requires { 67 ≤ length text.now }
+    ensures within { result + 3 ≤ length text.now }
+    ensures follow { (k : ℕ) → k < result → CanFollow (slice_index text.now k) (slice_index text.now (k + 1)) (slice_index text.now (k + 2)) (slice_index text.now (k + 3)) }
+{
+    if is_ascii(&text[..BLOCK + 3]) {
+        return BLOCK + ascii_len(&text[BLOCK + 3..]);
+    }
+    if follow(&text[..BLOCK + 3]) { BLOCK } else { 0 }
+}
+
+// Returns the offset of the last character before `end` if that character is incomplete at `end`, and otherwise `end`.
+#[inline(always)]
+fn whole_len(text: &[u8], end: usize) -> usize
+    requires some { 3 ≤ end }
+    requires within { end ≤ length text.now }
+    ensures { IsWholeUpTo text.now end result }
+{
+    if 0xc0 <= text[end - 1] {
+        end - 1
+    } else if 0xe0 <= text[end - 2] {
+        end - 2
+    } else if 0xf0 <= text[end - 3] {
+        end - 3
+    } else {
+        end
+    }
+}
+
+// Returns the length of a well-formed prefix, in bytes.
+fn checked_len(text: &[u8]) -> usize
+    ensures within { result ≤ length text.now }
+    ensures text { IsUtf8 (take result text.now) }
+{
+    if text.len() < BLOCK {
+        return 0;
+    }
+    let mut first = [0; BLOCK + 3];
+    first[3..].copy_from_slice(&text[..BLOCK]);
+    if !is_valid(&first) {
+        return 0;
+    }
+    let mut end = BLOCK;
+    'chunks: while text.len() - end >= BLOCK {
+        let more = followed_len(&text[end - 3..]);
+        if more == 0 {
+            return whole_len(text, end);
+        }
+        end += more;
+    }
+    whole_len(text, end)
+}
+
+/// Returns the length of the longest prefix that is well-formed UTF-8 (Unicode Standard, D92), and the length of the
+/// fault after it, an ill-formed sequence that one U+FFFD replaces (D93b, as std's `Utf8Chunks`). Both are counted in
+/// bytes. If all bytes are well formed, it returns their number and 0. The check is vectorized.
+pub fn first_utf8_chunk(text: &[u8]) -> (usize, usize)
+    ensures within { result.0 + result.1 ≤ length text.now }
+    ensures len { result.0 ≡ utf8_valid_len text.now }
+    ensures prefix { IsUtf8 (take result.0 text.now) }
+    ensures all { result.1 ≡ 0 → result.0 ≡ length text.now }
+    ensures well_formed { result.1 ≡ 0 → IsUtf8 text.now }
+    ensures fault { 0 < result.1 → IsValidUpTo text.now result.0 }
+    ensures part { 0 < result.1 → result.1 ≡ utf8_invalid_len (drop result.0 text.now) }
+    ensures characters { result.1 ≡ 0 → utf8_items text.now ≡ map Char (str_chars text.now) }
+    ensures items { 0 < result.1 → HasFirstPart text.now result.0 result.1 }
+{
+    let checked = checked_len(text);
+    match str::from_utf8(&text[checked..]) {
+        Ok(_text) => (text.len(), 0),
+        Err(fault) => {
+            let valid = checked + fault.valid_up_to();
+            (valid, fault.error_len().unwrap_or(text.len() - valid))
+        }
+    }
+}

@@ -1,0 +1,54 @@
+-- The errors of constructors of C strings, and the vectors that the errors hold.
+use Rattle.std.specs.Prelude.{◌≡◌, ℕ, ◌+◌, ◌<◌, ◌≤◌, List, length, map, Option, Some, None, vec_capacity}
+use Rattle.std.specs.declared.vec.Vec.{Vec}
+use Rattle.wide_unit.specs.Nul.{HasNoNul, IsFirstNul}
+use Rattle.wide_error.specs.Nul.{position_of, vec_of}
+use Rattle.wide_error.specs.declared.nul.UCStringError.{UCStringError}
+use Rattle.wide_error.specs.declared.nul.UCStringError.TheVariants.{ContainsNul, OutOfMemory}
+
+-- The first NUL is at this offset, before the last unit.
+abbrev pub IsInnerNul : List ℕ → ℕ → Type 0
+IsInnerNul us offset = IsFirstNul us offset × (offset + 1 < length us)
+
+-- The error holds a vector with the units and the capacity of the one that was passed.
+abbrev pub HandsBack : {C A : Type 0} → Vec C A → Option (Vec C A) → Type 0
+HandsBack units None = ⊥
+HandsBack units (Some vec) = (vec.items ≡ units.items) × (vec_capacity vec ≡ vec_capacity units)
+
+-- The vector has no NUL and no spare capacity for one.
+abbrev pub LacksSpace : {C A : Type 0} → (C → ℕ) → Vec C A → Type 0
+LacksSpace number units = HasNoNul (map number units.items) × (vec_capacity units ≤ length units.items)
+
+module _ {C A : Type 0} (number : C → ℕ) where
+  module _ (units : Vec C A) where
+    -- A vector was passed, and the error holds it. `RejectsInnerNul` is for a constructor that rejects a NUL before the
+    -- last unit, `IsOutOfSpace` for one that rejects no NUL.
+    abbrev pub RejectsInnerNul : UCStringError C A → Type 0
+    RejectsInnerNul (ContainsNul e) = IsInnerNul (map number units.items) (position_of e) × HandsBack units (vec_of e)
+    RejectsInnerNul (OutOfMemory vec) = LacksSpace number units × HandsBack units vec
+
+    abbrev pub IsOutOfSpace : UCStringError C A → Type 0
+    IsOutOfSpace (ContainsNul e) = ⊥
+    IsOutOfSpace (OutOfMemory vec) = LacksSpace number units × HandsBack units vec
+
+  module _ (us : List ℕ) where
+    -- The error holds the copy that was made.
+    abbrev pub IsCopy : Option (Vec C A) → Type 0
+    IsCopy None = ⊥
+    IsCopy (Some vec) = map number vec.items ≡ us
+
+    -- No vector was passed. If a NUL was rejected, the error holds the copy that was made; if the allocation for the
+    -- copy failed, it holds no vector. `RejectsInnerNulOfCopy` is for a constructor that rejects a NUL before the last
+    -- unit, `RejectsNulOfCopy` for one that rejects any NUL.
+    abbrev pub RejectsInnerNulOfCopy : UCStringError C A → Type 0
+    RejectsInnerNulOfCopy (ContainsNul e) = IsInnerNul us (position_of e) × IsCopy (vec_of e)
+    RejectsInnerNulOfCopy (OutOfMemory vec) = vec ≡ None
+
+    abbrev pub RejectsNulOfCopy : UCStringError C A → Type 0
+    RejectsNulOfCopy (ContainsNul e) = IsFirstNul us (position_of e) × IsCopy (vec_of e)
+    RejectsNulOfCopy (OutOfMemory vec) = vec ≡ None
+
+-- No vector was passed, and no NUL is rejected: the only error is that the allocation failed, and it holds no vector.
+abbrev pub IsWantOfMemory : {C A : Type 0} → UCStringError C A → Type 0
+IsWantOfMemory (ContainsNul e) = ⊥
+IsWantOfMemory (OutOfMemory vec) = vec ≡ None

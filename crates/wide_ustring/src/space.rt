@@ -1,0 +1,147 @@
+//! Edits of a vector of units, in place. Each edit allocates before it moves a unit.
+ghost use Rattle.std.specs.Prelude.{◌≡◌, ◌+◌, ◌-◌, ◌≤◌, ◌++◌, length, map, take, drop, IsOk, OnOk, OnErr, vec_len, vec_capacity};
+ghost use Rattle.std.specs.List.{splice, remove_range};
+ghost use Rattle.std.specs.Str.{chars};
+ghost use Rattle.wide_unit.specs.EncodingForm.{code_units, encode};
+
+use std::alloc::Allocator;
+use wide_conversions::from_utf8_prefix;
+use wide_error::OutOfMemory;
+use wide_unit::Unit;
+
+// Removes the units from `from` up to `to`. Each unit after them moves once.
+pub(crate) fn cut<C: Copy, A: Allocator>(units: &mut Vec<C, A>, from: usize, to: usize)
+    requires forward { from ≤ to }
+    requires within { to ≤ vec_len units.old }
+    ensures units { units.new.items ≡ remove_range units.old.items from to }
+    ensures capacity { vec_capacity units.new ≡ vec_capacity units.old }
+{
+    let len = units.len();
+    units.copy_within(to.., from);
+    units.truncate(len - (to - from));
+}
+
+// Replaces the units from `from` up to `to` by a gap of `count` units, whose values are unspecified. Each unit after
+// them moves once.
+pub(crate) fn open<C: Unit, A: Allocator>(
+    units: &mut Vec<C, A>,
+    from: usize,
+    to: usize,
+    count: usize,
+) -> Result<(), OutOfMemory>
+    requires forward { from ≤ to }
+    requires within { to ≤ vec_len units.old }
+    ensures prefix { OnOk result (take from units.new.items ≡ take from units.old.items) }
+    ensures rest { OnOk result (drop (from + count) units.new.items ≡ drop to units.old.items) }
+    ensures len { OnOk result (vec_len units.new + (to - from) ≡ vec_len units.old + count) }
+    ensures err { OnErr result ((units.new.items ≡ units.old.items) × (vec_capacity units.new ≡ vec_capacity units.old)) }
+    ensures succeeds { vec_len units.old + count ≤ vec_capacity units.old + (to - from) → IsOk result }
+    ensures capacity { vec_capacity units.old ≤ vec_capacity units.new }
+{
+    let len = units.len();
+    let more = count.saturating_sub(to - from);
+    units.reserve(more)?;
+    units.resize(len + more, C::NUL)?;
+    units.copy_within(to..len, from + count);
+    units.truncate(from + count + (len - to));
+    Ok(())
+}
+
+// Replaces the units from `from` up to `to` by other units. Each unit after them moves once.
+pub(crate) fn replace<C: Unit, A: Allocator>(
+    units: &mut Vec<C, A>,
+    from: usize,
+    to: usize,
+    with: &[C],
+) -> Result<(), OutOfMemory>
+    requires forward { from ≤ to }
+    requires within { to ≤ vec_len units.old }
+    ensures ok { OnOk result (units.new.items ≡ splice units.old.items from to with.now) }
+    ensures err { OnErr result ((units.new.items ≡ units.old.items) × (vec_capacity units.new ≡ vec_capacity units.old)) }
+    ensures succeeds { vec_len units.old + length with.now ≤ vec_capacity units.old + (to - from) → IsOk result }
+    ensures capacity { vec_capacity units.old ≤ vec_capacity units.new }
+{
+    open(units, from, to, with.len())?;
+    units
+        .slice_mut(from..from + with.len())
+        .copy_from_slice(with);
+    Ok(())
+}
+
+// Replaces the units from `from` up to `to` by the units of a character. Each unit after them moves once.
+pub(crate) fn replace_char<C: Unit, A: Allocator>(
+    units: &mut Vec<C, A>,
+    from: usize,
+    to: usize,
+    c: char,
+) -> Result<(), OutOfMemory>
+    requires forward { from ≤ to }
+    requires within { to ≤ vec_len units.old }
+    ensures ok { OnOk result (map C.number units.new.items ≡ splice (map C.number units.old.items) from to (code_units C.form c)) }
+    ensures err { OnErr result ((units.new.items ≡ units.old.items) × (vec_capacity units.new ≡ vec_capacity units.old)) }
+    ensures succeeds { vec_len units.old + length (code_units C.form c) ≤ vec_capacity units.old + (to - from) → IsOk result }
+    ensures capacity { vec_capacity units.old ≤ vec_capacity units.new }
+{
+    let (first, second) = C::encode_char(c);
+    open(units, from, to, C::char_len(c))?;
+    units[from] = first;
+    if let Some(second) = second {
+        units[from + 1] = second;
+    }
+    Ok(())
+}
+
+// Appends the units of a character, in spare capacity.
+pub(crate) fn push_char<C: Unit, A: Allocator>(units: &mut Vec<C, A>, c: char)
+    requires { vec_len units.old + length (code_units C.form c) ≤ vec_capacity units.old }
+    ensures units { map C.number units.new.items ≡ map C.number units.old.items ++ code_units C.form c }
+    ensures len { vec_len units.new ≡ vec_len units.old + length (code_units C.form c) }
+    ensures capacity { vec_capacity units.new ≡ vec_capacity units.old }
+{
+    let (first, second) = C::encode_char(c);
+    units.push_reserved(first);
+    if let Some(second) = second {
+        units.push_reserved(second);
+    }
+}
+
+// Appends the units of a text.
+pub(crate) fn push_str<C: Unit, A: Allocator>(
+    units: &mut Vec<C, A>,
+    text: &str,
+) -> Result<(), OutOfMemory>
+    ensures ok { OnOk result (map C.number units.new.items ≡ map C.number units.old.items ++ encode C.form (chars text.now)) }
+    ensures err { OnErr result ((units.new.items ≡ units.old.items) × (vec_capacity units.new ≡ vec_capacity units.old)) }
+    ensures succeeds { vec_len units.old + length (encode C.form (chars text.now)) ≤ vec_capacity units.old → IsOk result }
+    ensures capacity { vec_capacity units.old ≤ vec_capacity units.new }
+{
+    let len = units.len();
+    let more = C::text_len(text);
+    units.reserve(more)?;
+    units.resize(len + more, C::NUL)?;
+    from_utf8_prefix(text.as_bytes(), units.slice_mut(len..));
+    Ok(())
+}
+
+// Replaces the units from `from` up to `to` by the units of a text. They are written at the end, and then rotated
+// before the units that follow `to`.
+pub(crate) fn replace_str<C: Unit, A: Allocator>(
+    units: &mut Vec<C, A>,
+    from: usize,
+    to: usize,
+    text: &str,
+) -> Result<(), OutOfMemory>
+    requires forward { from ≤ to }
+    requires within { to ≤ vec_len units.old }
+    ensures ok { OnOk result (map C.number units.new.items ≡ splice (map C.number units.old.items) from to (encode C.form (chars text.now))) }
+    ensures err { OnErr result ((units.new.items ≡ units.old.items) × (vec_capacity units.new ≡ vec_capacity units.old)) }
+    ensures succeeds { vec_len units.old + length (encode C.form (chars text.now)) ≤ vec_capacity units.old + (to - from) → IsOk result }
+    ensures capacity { vec_capacity units.old ≤ vec_capacity units.new }
+{
+    let beyond = units.len() - to;
+    units.reserve(C::text_len(text).saturating_sub(to - from))?;
+    cut(units, from, to);
+    push_str(units, text)?;
+    units.slice_mut(from..).rotate_left(beyond);
+    Ok(())
+}

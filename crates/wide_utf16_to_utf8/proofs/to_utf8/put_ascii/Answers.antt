@@ -1,0 +1,19 @@
+use Rattle.std.proofs.Common.{◌≡◌, ◌∙◌, ◌++◌, ap, length, take, arith, length-set, ℕ}
+use Rattle.std.proofs.lemmas.List.{take_all}
+use Rattle.wide_utf16_to_utf8.proofs.Shuffles.{same-more}
+use Rattle.wide_utf16_to_utf8.proofs.Tables.{same-lists}
+use Rattle.wide_utf16_to_utf8.proofs.Tables.{stored-block}
+use Rattle.wide_utf16_to_utf8.proofs.to_utf8.put_ascii.Goals as goal
+
+pub loop-k-preserved : goal.loop-k-preserved
+loop-k-preserved c = record {
+  long = omega (arith, c.loop-k.invariant.long, length-set {A = ℕ});
+  same = same-more c.loop-k.bytes c.args.block.now c.loop-k.k (omega (arith, c.loop-k.invariant.long)) c.loop-k.invariant.same;
+}
+
+pub returns : goal.returns
+returns c =
+    let long = c.loop-k.invariant.long in
+    let whole : take 16 c.loop-k.bytes ≡ c.loop-k.bytes = take_all 16 c.loop-k.bytes (omega arith) in
+    let same : c.loop-k.bytes ≡ c.args.block.now = same-lists c.loop-k.bytes c.args.block.now (omega (arith, c.requires.whole)) (λ k within. c.loop-k.invariant.same k (omega arith)) in
+    stored-block 16 c.args.out.now (take 16 c.loop-k.bytes) c.args.at (ap length whole ∙ long) c.requires.space ∙ ap (λ bs. take c.args.at c.args.out.now ++ bs) (whole ∙ same)

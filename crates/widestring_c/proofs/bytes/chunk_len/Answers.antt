@@ -1,0 +1,14 @@
+use Rattle.std.proofs.Common.{◌*◌, ◌/◌, [], length, take, drop, arith, length-drop}
+use Rattle.wide_bytes.specs.Bytes.{units_in}
+use Rattle.widestring_c.proofs.Pieces.{cut-before_half, cut-before_none}
+use Rattle.widestring_c.proofs.bytes.chunk_len.Goals as goal
+
+pub returns-then-bytes-clause-cut : goal.returns-then-bytes-clause-cut
+returns-then-bytes-clause-cut c =
+    let n = length c.args.bytes.now / 2 * 2 in
+    cut-before_half c.args.order (units_in c.args.order (take n c.args.bytes.now)) (drop n c.args.bytes.now) (omega (arith, length-drop n c.args.bytes.now))
+
+pub returns-else-bytes-clause-cut : goal.returns-else-bytes-clause-cut
+returns-else-bytes-clause-cut c =
+    let n = c.uncut_len.result in
+    cut-before_none c.args.order (units_in c.args.order (take n c.args.bytes.now)) (drop n c.args.bytes.now) (c.uncut_len.ensures.cut [])
