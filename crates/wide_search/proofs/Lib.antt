@@ -1,2 +1,5 @@
 pub mod Offsets
 pub mod Texts
+mod PairLanes
+mod Ranges
+mod Probing

@@ -4,3 +4,4 @@ pub mod Cut
 pub mod Sought
 pub mod Statements
 pub mod Laws
+pub mod Probes

@@ -9,6 +9,7 @@
 mod chars;
 pub mod laws;
 mod needle;
+mod pairs;
 mod search;
 mod units;
 

@@ -2,18 +2,27 @@
 ghost use Rattle.std.specs.Prelude.{◌≡◌, ◌↔◌, ◌∷◌, [], ℕ, List, length, map, IsTrue, MatchOption};
 ghost use Rattle.wide_unit.specs.EncodingForm.{code_units};
 ghost use Rattle.wide_search.specs.Occurrences.{OccursAt};
+ghost use Rattle.wide_search.specs.Probes.{IsProbe};
 ghost use Rattle.wide_search.specs.Sought.{units_of_few};
 
 use wide_unit::{Unit, same_units};
+
+// The first and the last unit of a needle, and how many units the last one is from the first.
+#[derive(Clone, Copy)]
+pub(crate) struct Probe<C> {
+    pub(crate) first: C,
+    pub(crate) last: C,
+    pub(crate) distance: usize,
+}
 
 // The units of a needle.
 pub(crate) trait Needle<C: Unit>: Copy {
     // The units.
     ghost sought: { Self → List C };
 
-    // Returns the first unit, or `None` if there is none.
-    fn first(self) -> Option<C>
-        ensures { MatchOption result (sought self ≡ []) (λ u. (rest : List C) × (sought self ≡ u ∷ rest)) };
+    // Returns the first and the last unit, or `None` if there is none.
+    fn probe(self) -> Option<Probe<C>>
+        ensures { MatchOption result (sought self ≡ []) (IsProbe (sought self)) };
 
     // Returns the number of units.
     fn len(self) -> usize
@@ -33,8 +42,13 @@ pub(crate) struct Slice<'a, C> {
 impl<C: Unit> Needle<C> for Slice<'_, C> {
     ghost sought = { λ needle. needle.units.now };
 
-    fn first(self) -> Option<C> {
-        self.units.first().copied()
+    fn probe(self) -> Option<Probe<C>> {
+        let distance = self.units.len().checked_sub(1)?;
+        Some(Probe {
+            first: self.units[0],
+            last: self.units[distance],
+            distance,
+        })
     }
 
     fn len(self) -> usize {
@@ -80,8 +94,16 @@ impl<C: Unit> Few<C> {
 impl<C: Unit> Needle<C> for Few<C> {
     ghost sought = { units_of_few };
 
-    fn first(self) -> Option<C> {
-        Some(self.first)
+    fn probe(self) -> Option<Probe<C>> {
+        let (last, distance) = match self.second {
+            None => (self.first, 0),
+            Some(second) => (second, 1),
+        };
+        Some(Probe {
+            first: self.first,
+            last,
+            distance,
+        })
     }
 
     fn len(self) -> usize {

@@ -53,8 +53,9 @@ pub fn strip_suffix<'a, C: Unit>(units: &'a [C], needle: &[C]) -> Option<&'a [C]
 /// Returns the offset in units of the first occurrence of the needle, or `None` if it does not occur. An empty needle
 /// occurs at the beginning.
 ///
-/// The search for the first unit of the needle is vectorized. From there on, units are compared up to the first
-/// difference. The worst case is the product of both lengths, if a long prefix of the needle occurs nearly everywhere.
+/// The search for an offset at which both the first and the last unit of the needle stand is vectorized. Only there are
+/// units compared, up to the first difference. The worst case is the product of both lengths, if a long prefix of the
+/// needle and its last unit occur nearly everywhere.
 pub fn find<C: Unit>(units: &[C], needle: &[C]) -> Option<usize>
     ensures first { IfSome result (IsFirstAt needle.now units.now) }
     ensures none { IfNone result (OccursNowhere needle.now units.now) }
@@ -66,7 +67,7 @@ pub fn find<C: Unit>(units: &[C], needle: &[C]) -> Option<usize>
 /// Returns the offset in units of the last occurrence of the needle, or `None` if it does not occur. An empty needle
 /// occurs at the end.
 ///
-/// It tries each offset from the back. The worst case is the product of both lengths.
+/// The search is vectorized like that of [`find`], and goes from the back. The worst case is the product of both lengths.
 pub fn rfind<C: Unit>(units: &[C], needle: &[C]) -> Option<usize>
     ensures last { IfSome result (IsLastAt needle.now units.now) }
     ensures none { IfNone result (OccursNowhere needle.now units.now) }

@@ -38,9 +38,9 @@ impl<'a, C: FaultUnit> UCStr<'a, C> {
     /// if there is none. An empty needle occurs at the start. Units may have any values but 0, so the offset may be
     /// within a surrogate pair.
     ///
-    /// The search for the first unit of the needle is vectorized; from there on, units are compared up to the first
-    /// that differ. So in the worst case, where a long prefix of the needle occurs nearly everywhere, the time is
-    /// proportional to the product of both lengths.
+    /// The search for an offset at which both the first and the last unit of the needle stand is vectorized; only there
+    /// are units compared, up to the first that differ. So in the worst case, where a long prefix of the needle and its
+    /// last unit occur nearly everywhere, the time is proportional to the product of both lengths.
     pub fn find(self, needle: UCStr<'_, C>) -> Option<usize>
         ensures first { IfSome result (IsFirstAt (contents_seen needle.entry) (contents_seen self.entry)) }
         ensures none { IfNone result (OccursNowhere (contents_seen needle.entry) (contents_seen self.entry)) }
@@ -51,8 +51,7 @@ impl<'a, C: FaultUnit> UCStr<'a, C> {
 
     /// Returns the offset, in units, of the last occurrence of the needle, without its NUL, in the contents, or `None`
     /// if there is none. An empty needle occurs at the end of the contents, before the NUL. Units may have any values
-    /// but 0, so the offset may be within a surrogate pair. The search goes through the units one by one, from the
-    /// back.
+    /// but 0, so the offset may be within a surrogate pair. The search is vectorized, and goes from the back.
     pub fn rfind(self, needle: UCStr<'_, C>) -> Option<usize>
         ensures last { IfSome result (IsLastAt (contents_seen needle.entry) (contents_seen self.entry)) }
         ensures none { IfNone result (OccursNowhere (contents_seen needle.entry) (contents_seen self.entry)) }
@@ -72,8 +71,7 @@ impl<'a, C: FaultUnit> UCStr<'a, C> {
     }
 
     /// Returns the offset, in units, of the last occurrence of the unit in the contents, or `None` if there is none. A
-    /// NUL is never found. The unit may be half of a surrogate pair. The search goes through the units one by one, from
-    /// the back.
+    /// NUL is never found. The unit may be half of a surrogate pair. The search is vectorized, and goes from the back.
     pub fn rfind_unit(self, unit: C) -> Option<usize>
         ensures last { IfSome result (IsLastAt (unit ∷ []) (contents_seen self.entry)) }
         ensures none { IfNone result (OccursNowhere (unit ∷ []) (contents_seen self.entry)) }

@@ -38,9 +38,9 @@ impl<C: Unit> UtfStr<'_, C> {
     /// Returns the offset, in units, of the first occurrence of the needle, or `None` if there is none. An empty needle
     /// occurs at the start. The offset and the end of the occurrence are character boundaries.
     ///
-    /// The search for the first unit of the needle is vectorized; from there on, units are compared up to the first
-    /// that differ. So in the worst case, where a long prefix of the needle occurs nearly everywhere, the time is
-    /// proportional to the product of both lengths.
+    /// The search for an offset at which both the first and the last unit of the needle stand is vectorized; only there
+    /// are units compared, up to the first that differ. So in the worst case, where a long prefix of the needle and its
+    /// last unit occur nearly everywhere, the time is proportional to the product of both lengths.
     pub fn find(self, needle: UtfStr<'_, C>) -> Option<usize>
         ensures first { IfSome result (IsFirstAt (units_seen needle.entry) (units_seen self.entry)) }
         ensures none { IfNone result (OccursNowhere (units_seen needle.entry) (units_seen self.entry)) }
@@ -52,8 +52,8 @@ impl<C: Unit> UtfStr<'_, C> {
     }
 
     /// Returns the offset, in units, of the last occurrence of the needle, or `None` if there is none. An empty needle
-    /// occurs at the end. The offset and the end of the occurrence are character boundaries. The search goes through
-    /// the units one by one, from the back.
+    /// occurs at the end. The offset and the end of the occurrence are character boundaries. The search is vectorized,
+    /// and goes from the back.
     pub fn rfind(self, needle: UtfStr<'_, C>) -> Option<usize>
         ensures last { IfSome result (IsLastAt (units_seen needle.entry) (units_seen self.entry)) }
         ensures none { IfNone result (OccursNowhere (units_seen needle.entry) (units_seen self.entry)) }

@@ -1,0 +1,62 @@
+-- An occurrence has the two units of a probe.
+use Rattle.std.proofs.Common.{◌≡◌, ◌≢◌, ℕ, ◌+◌, ◌<◌, true, List, [], ◌∷◌, length, get_or, map, take, drop, refl, sym, ap, ◌∙◌, subst, arith, length-drop, length-take}
+use Rattle.std.proofs.Common.{get_or-drop, get_or-take}
+use Rattle.std.specs.List.{All}
+use Rattle.wide_search.specs.Occurrences.{OccursAt}
+use Rattle.wide_search.specs.Probes.{are_units, StandAt, IsProbe}
+use Rattle.wide_search.specs.declared.needle.Probe.{Probe}
+use Rattle.wide_search.proofs.Ranges.{number-at}
+
+both-true : (m n u v : ℕ) → u ≡ m → v ≡ n → are_units m n u v ≡ true
+both-true m n u v e e2 = grind (arith, e, e2)
+
+plus-zero : (at : ℕ) → at ≡ at + 0
+plus-zero at = omega arith
+
+swap : (m n : ℕ) → m + n ≡ n + m
+swap m n = omega arith
+
+module _ {X : Type 0} (number : X → ℕ) where
+  first-of : (xs : List X) (u : X) → take 1 xs ≡ u ∷ [] → get_or xs 0 u ≡ u
+  first-of [] u e = refl
+  first-of (x ∷ xs) u e = cc e
+
+  head-of : (xs : List X) (u : X) → xs ≡ u ∷ [] → get_or xs 0 u ≡ u
+  head-of [] u e = refl
+  head-of (x ∷ xs) u e = cc e
+
+  ends : (needle : List X) (probe : Probe X) → IsProbe needle probe → get_or needle probe.distance probe.last ≡ probe.last
+  ends needle probe is =
+      let e : get_or (drop probe.distance needle) 0 probe.last ≡ get_or needle (probe.distance + 0) probe.last = get_or-drop probe.distance needle 0 probe.last in
+      let none : probe.distance + 0 ≡ probe.distance = omega arith in
+      sym (ap (λ n. get_or needle n probe.last) none) ∙ sym e ∙ head-of (drop probe.distance needle) probe.last is.last
+
+  -- The unit of an occurrence at a distance from its beginning.
+  unit-in : (needle us : List X) (at j : ℕ) (d : X) → OccursAt needle us at → j < length needle → get_or us (at + j) d ≡ get_or needle j d
+  unit-in needle us at j d occurs l =
+      sym (get_or-drop at us j d) ∙ sym (get_or-take (length needle) (drop at us) j d l) ∙ ap (λ xs. get_or xs j d) occurs.same
+
+  pub stands : (needle us : List X) (probe : Probe X) (at n : ℕ) → IsProbe needle probe → OccursAt needle us at → at < n
+      → (front back : List X) → front ≡ take n us → back ≡ take n (drop probe.distance us)
+      → StandAt (number probe.first) (number probe.last) (map number front) (map number back) at
+  stands needle us probe at n is occurs below front back front-is back-is =
+      let long : length needle ≡ probe.distance + 1 = is.length in
+      let within : at < length front = subst (λ xs. at < length xs) (sym front-is) (simp length-take (omega (arith, below, long, occurs.within))) in
+      let within2 : at < length back = subst (λ xs. at < length xs) (sym back-is) (simp (length-take, length-drop) (omega (arith, below, long, occurs.within))) in
+      let first : get_or front at probe.first ≡ probe.first =
+      ap (λ xs. get_or xs at probe.first) front-is ∙ get_or-take n us at probe.first below
+      ∙ ap (λ n. get_or us n probe.first) (plus-zero at) ∙ unit-in needle us at 0 probe.first occurs (omega (arith, long)) ∙ first-of needle probe.first is.first in
+      let last : get_or back at probe.last ≡ probe.last =
+      ap (λ xs. get_or xs at probe.last) back-is ∙ get_or-take n (drop probe.distance us) at probe.last below ∙ get_or-drop probe.distance us at probe.last
+      ∙ ap (λ n. get_or us n probe.last) (swap probe.distance at) ∙ unit-in needle us at probe.distance probe.last occurs (omega (arith, long)) ∙ ends needle probe is in
+      both-true (number probe.first) (number probe.last) (get_or (map number front) at 0) (get_or (map number back) at 0)
+      (number-at number front at probe.first within ∙ ap number first) (number-at number back at probe.last within2 ∙ ap number last)
+
+  -- No unit of this number is at the index of an occurrence of a needle that begins with it.
+  pub begins-not : (needle us : List X) (probe : Probe X) (v n k : ℕ) → v ≡ number probe.first → IsProbe needle probe → All (λ x. number x ≢ v) (take n us) → k < n → ¬ (OccursAt needle us k)
+  begins-not needle us probe v n k code is none l occurs =
+      let long : length needle ≡ probe.distance + 1 = is.length in
+      let within : k < length (take n us) = simp length-take (omega (arith, l, long, occurs.within)) in
+      let here : get_or (take n us) k probe.first ≡ probe.first =
+      get_or-take n us k probe.first l ∙ ap (λ n. get_or us n probe.first) (plus-zero k) ∙ unit-in needle us k 0 probe.first occurs (omega (arith, long)) ∙ first-of needle probe.first is.first in
+      none k probe.first within (ap number here ∙ sym code)

@@ -1,0 +1,18 @@
+-- Two units at a distance from each other, by which a search finds where a needle may occur.
+use Rattle.std.specs.Prelude.{◌≡◌, ◌+◌, ◌&&◌, [], ◌∷◌, ℕ, Bool, List, length, take, drop, slice_index, true}
+use Rattle.wide_unit.specs.Searches.{is_unit}
+use Rattle.wide_search.specs.declared.needle.Probe.{Probe}
+
+-- The first unit of the needle, its last one, and how far the last one is from the first.
+pub record IsProbe {C : Type 0} (needle : List C) (probe : Probe C) : Type 0 where
+  pub first : take 1 needle ≡ probe.first ∷ []
+  pub last : drop probe.distance needle ≡ probe.last ∷ []
+  pub length : length needle ≡ probe.distance + 1
+
+-- Whether two units have these numbers.
+abbrev pub are_units : (first last : ℕ) → ℕ → ℕ → Bool
+are_units first last u v = is_unit first u && is_unit last v
+
+-- The elements of both lists at an index have these numbers.
+abbrev pub StandAt : (first last : ℕ) → (front back : List ℕ) → ℕ → Type 0
+StandAt first last front back k = are_units first last (slice_index front k) (slice_index back k) ≡ true
