@@ -5,6 +5,5 @@ pub mod Drains
 pub mod Filters
 pub mod CharAt
 pub mod CharFilters
-pub mod Turned
 pub mod Repeats
 pub mod Extends

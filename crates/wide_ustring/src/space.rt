@@ -9,20 +9,22 @@ use wide_conversions::from_utf8_prefix;
 use wide_error::OutOfMemory;
 use wide_unit::Unit;
 
-// Removes the units from `from` up to `to`. Each unit after them moves once.
+// Removes the units from `from` up to `to`. Each unit after them moves once. If there are none, no unit moves.
 pub(crate) fn cut<C: Copy, A: Allocator>(units: &mut Vec<C, A>, from: usize, to: usize)
     requires forward { from ≤ to }
     requires within { to ≤ vec_len units.old }
     ensures units { units.new.items ≡ remove_range units.old.items from to }
     ensures capacity { vec_capacity units.new ≡ vec_capacity units.old }
 {
-    let len = units.len();
-    units.copy_within(to.., from);
-    units.truncate(len - (to - from));
+    if from < to {
+        let len = units.len();
+        units.copy_within(to.., from);
+        units.truncate(len - (to - from));
+    }
 }
 
 // Replaces the units from `from` up to `to` by a gap of `count` units, whose values are unspecified. Each unit after
-// them moves once.
+// them moves once. If they are as many as the gap, no unit moves.
 pub(crate) fn open<C: Unit, A: Allocator>(
     units: &mut Vec<C, A>,
     from: usize,
@@ -38,12 +40,16 @@ pub(crate) fn open<C: Unit, A: Allocator>(
     ensures succeeds { vec_len units.old + count ≤ vec_capacity units.old + (to - from) → IsOk result }
     ensures capacity { vec_capacity units.old ≤ vec_capacity units.new }
 {
+    let gap = to - from;
+    if count <= gap {
+        cut(units, from + count, to);
+        return Ok(());
+    }
     let len = units.len();
-    let more = count.saturating_sub(to - from);
+    let more = count - gap;
     units.reserve(more)?;
     units.resize(len + more, C::NUL)?;
-    units.copy_within(to..len, from + count);
-    units.truncate(from + count + (len - to));
+    units.copy_within(to..len, to + more);
     Ok(())
 }
 
@@ -105,6 +111,14 @@ pub(crate) fn push_char<C: Unit, A: Allocator>(units: &mut Vec<C, A>, c: char)
     }
 }
 
+// Writes the units of a text over units of the same number.
+fn write_str<C: Unit>(units: &mut [C], text: &str)
+    requires { length units.old ≡ length (encode C.form (chars text.now)) }
+    ensures { map C.number units.new ≡ encode C.form (chars text.now) }
+{
+    from_utf8_prefix(text.as_bytes(), units);
+}
+
 // Appends the units of a text.
 pub(crate) fn push_str<C: Unit, A: Allocator>(
     units: &mut Vec<C, A>,
@@ -119,12 +133,12 @@ pub(crate) fn push_str<C: Unit, A: Allocator>(
     let more = C::text_len(text);
     units.reserve(more)?;
     units.resize(len + more, C::NUL)?;
-    from_utf8_prefix(text.as_bytes(), units.slice_mut(len..));
+    write_str(units.slice_mut(len..), text);
     Ok(())
 }
 
-// Replaces the units from `from` up to `to` by the units of a text. They are written at the end, and then rotated
-// before the units that follow `to`.
+// Replaces the units from `from` up to `to` by the units of a text. They are written into a gap of their length. Each
+// unit after them moves once.
 pub(crate) fn replace_str<C: Unit, A: Allocator>(
     units: &mut Vec<C, A>,
     from: usize,
@@ -138,10 +152,8 @@ pub(crate) fn replace_str<C: Unit, A: Allocator>(
     ensures succeeds { vec_len units.old + length (encode C.form (chars text.now)) ≤ vec_capacity units.old + (to - from) → IsOk result }
     ensures capacity { vec_capacity units.old ≤ vec_capacity units.new }
 {
-    let beyond = units.len() - to;
-    units.reserve(C::text_len(text).saturating_sub(to - from))?;
-    cut(units, from, to);
-    push_str(units, text)?;
-    units.slice_mut(from..).rotate_left(beyond);
+    let count = C::text_len(text);
+    open(units, from, to, count)?;
+    write_str(units.slice_mut(from..from + count), text);
     Ok(())
 }
