@@ -1,11 +1,18 @@
 -- The character that begins at an offset in units, by the first item from there on.
-use Rattle.std.proofs.Common.{◌≡◌, ℕ, ◌+◌, ◌-◌, ◌<◌, List, ◌∷◌, ◌++◌, length, map, take, drop, slice_range, refl, sym, ap, ◌∙◌, subst, arith, length-drop}
+use Rattle.std.proofs.Common.{◌≡◌, ℕ, ◌+◌, ◌-◌, ◌<◌, ◌≤◌, List, ◌∷◌, ◌++◌, inl, inr, length, map, take, drop, slice_range, refl, sym, ap, ◌∙◌, subst, arith, length-drop}
 use Rattle.std.proofs.lemmas.List.{drop-drop, take-map, take_at}
 use Rattle.wide_unit.specs.EncodingForm.{EncodingForm, code_units}
 use Rattle.wide_unit.specs.Segmentation.{Char, units_of}
 use Rattle.wide_unit.specs.Items.{items, IsWellFormed}
+use Rattle.wide_unit.specs.Laws.Forms.{code_units-cases}
 use Rattle.wide_unit.specs.Laws.Items.{units_of-items}
 use Rattle.wide_unit.specs.Laws.WellFormed.{well_formed-rest}
+
+few_units : (form : EncodingForm) (c : ℕ) → length (code_units form c) ≤ 2
+few_units form c = elim (code_units-cases form c) [
+  | inl one ↦ rw one.1 (omega arith)
+  | inr two ↦ rw two.2 (omega arith)
+]
 
 -- Decoding at the offset returned the character, and the units after it.
 module _ {X : Type 0} (form : EncodingForm) (number : X → ℕ) (us rest : List X) (at c : ℕ) (below : at < length us)
@@ -15,6 +22,9 @@ module _ {X : Type 0} (form : EncodingForm) (number : X → ℕ) (us rest : List
 
   next-is : next ≡ at + length (code_units form c)
   next-is = omega (arith, length-drop at us, long)
+
+  pub char-near : next ≤ at + 2
+  char-near = omega (arith, next-is, few_units form c)
 
   beyond : drop next us ≡ rest
   beyond = ap (λ n. drop n us) next-is ∙ sym (drop-drop (length (code_units form c)) at us) ∙ sym left

@@ -6,4 +6,5 @@ pub mod Filters
 pub mod CharAt
 pub mod CharFilters
 pub mod Repeats
+pub mod Copied
 pub mod Extends

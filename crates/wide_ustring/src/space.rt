@@ -1,6 +1,6 @@
 //! Edits of a vector of units, in place. Each edit allocates before it moves a unit.
-ghost use Rattle.std.specs.Prelude.{◌≡◌, ◌+◌, ◌-◌, ◌≤◌, ◌++◌, length, map, take, drop, IsOk, OnOk, OnErr, vec_len, vec_capacity};
-ghost use Rattle.std.specs.List.{splice, remove_range};
+ghost use Rattle.std.specs.Prelude.{◌≡◌, ◌+◌, ◌-◌, ◌<◌, ◌≤◌, ◌++◌, length, map, take, drop, IsOk, OnOk, OnErr, vec_len, vec_capacity};
+ghost use Rattle.std.specs.List.{splice, remove_range, copy_within};
 ghost use Rattle.std.specs.Str.{chars};
 ghost use Rattle.wide_unit.specs.EncodingForm.{code_units, encode};
 
@@ -40,13 +40,13 @@ pub(crate) fn open<C: Unit, A: Allocator>(
     ensures succeeds { vec_len units.old + count ≤ vec_capacity units.old + (to - from) → IsOk result }
     ensures capacity { vec_capacity units.old ≤ vec_capacity units.new }
 {
-    let gap = to - from;
-    if count <= gap {
+    let removed = to - from;
+    if count <= removed {
         cut(units, from + count, to);
         return Ok(());
     }
     let len = units.len();
-    let more = count - gap;
+    let more = count - removed;
     units.reserve(more)?;
     units.resize(len + more, C::NUL)?;
     units.copy_within(to..len, to + more);
@@ -95,6 +95,29 @@ pub(crate) fn replace_char<C: Unit, A: Allocator>(
         units[from + 1] = second;
     }
     Ok(())
+}
+
+// Copies the units of a character, from `from` up to `to`, to an offset before them or to where they are.
+pub(crate) fn copy_char<C: Copy, A: Allocator>(
+    units: &mut Vec<C, A>,
+    from: usize,
+    to: usize,
+    onto: usize,
+)
+    requires down { onto ≤ from }
+    requires some { from < to }
+    requires few { to ≤ from + 2 }
+    requires within { to ≤ vec_len units.old }
+    ensures units { units.new.items ≡ copy_within units.old.items from to onto }
+    ensures capacity { vec_capacity units.new ≡ vec_capacity units.old }
+{
+    if onto < from {
+        let first = units[from];
+        let last = units[to - 1];
+        units[onto] = first;
+        // The only unit of a character is written twice, so that the length needs no test.
+        units[onto + (to - 1 - from)] = last;
+    }
 }
 
 // Appends the units of a character, in spare capacity.

@@ -17,7 +17,7 @@ ghost use Rattle.wide_ustring.specs.Drain.{DrainGives, DrainGivesBack, DrainStay
 ghost use Rattle.wide_ustring.specs.Lends.{lends_units};
 ghost use Rattle.wide_ustring.specs.Taken.{item_code, TakesFirst, TakesLast};
 
-use crate::space::{cut, push_char, push_str, replace, replace_char, replace_str};
+use crate::space::{copy_char, cut, push_char, push_str, replace, replace_char, replace_str};
 use crate::{Drain, UStrInUstring};
 use std::alloc::{Allocator, Global};
 use std::marker::Model;
@@ -79,6 +79,7 @@ fn char_at<C: Unit>(units: &[C], at: usize) -> (char, usize)
     ensures first { text_chars C.form (map C.number (drop at units.now)) ≡ result.0 ∷ text_chars C.form (map C.number (drop result.1 units.now)) }
     ensures rest { IsWellFormed C.form (map C.number (drop result.1 units.now)) }
     ensures after { at < result.1 }
+    ensures near { result.1 ≤ at + 2 }
     ensures within { result.1 ≤ length units.now }
 {
     let Some((item, rest)) = split_first(&units[at..]) else {
@@ -411,7 +412,7 @@ impl<C: FaultUnit, A: Allocator> UString<C, A> {
             let (c, next) = char_at(units.as_slice(), at);
             let wanted = keep(c);
             if wanted {
-                units.copy_within(at..next, kept);
+                copy_char(units, at, next, kept);
                 kept += next - at;
             }
             at = next;

@@ -2,7 +2,7 @@ use Rattle.std.proofs.Common.{map, drop, arith}
 use Rattle.std.proofs.lemmas.Grind.{common_steps}
 use Rattle.std.proofs.lemmas.List.{take_rest}
 use Rattle.wide_unit.specs.Laws.WellFormed.{no_first_fault}
-use Rattle.wide_ustring.proofs.CharAt.{char-units, char-rest}
+use Rattle.wide_ustring.proofs.CharAt.{char-near, char-rest, char-units}
 use Rattle.wide_ustring.proofs.ustring.char_at.Goals as goal
 
 pub unreachable-requires-in_default-item : goal.unreachable-requires-in_default-item
@@ -31,3 +31,11 @@ returns-clause-rest g c =
 
 pub returns-clause-first : goal.returns-clause-first
 returns-clause-first g c = grind (arith, common_steps)
+
+pub returns-clause-near : goal.returns-clause-near
+returns-clause-near g c =
+    let form = g.C.Unit.form in
+    let number = g.C.Unit.number in
+    let beyond = c.in-Some.rest.now in
+    let ensured = rw (c.in-Ok.is, take_rest c.args.units.now c.args.at) at c.in-Some.ensures in
+    char-near form number c.args.units.now beyond c.args.at c.in-Ok.c c.requires.below ensured.some ensured.rest ensured.length

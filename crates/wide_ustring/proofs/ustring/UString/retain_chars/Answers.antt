@@ -19,7 +19,7 @@ pub loop-at-preserved-then-wanted : goal.loop-at-preserved-then-wanted
 loop-at-preserved-then-wanted g c =
     let read = rw c.as_slice.ensures.value at c.char_at-c.ensures in record {
       callable = search of_calls;
-      filtered = rw c.copy_within.ensures.items (keeps g.C.Unit.form g.C.Unit.number (goal.F-step g) _ _ _ _ _ _ c.loop-at.invariant.filtered _ c.char_at-c.result.0 c.char_at-c.result.1 read.after read.within read.first read.rest read.units (rw c.if-wanted.true at c.keep-wanted.ensures));
+      filtered = rw c.copy_char.ensures.units (keeps g.C.Unit.form g.C.Unit.number (goal.F-step g) _ _ _ _ _ _ c.loop-at.invariant.filtered _ c.char_at-c.result.0 c.char_at-c.result.1 read.after read.within read.first read.rest read.units (rw c.if-wanted.true at c.keep-wanted.ensures));
       space = cc;
     }
 
