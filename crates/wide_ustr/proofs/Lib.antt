@@ -2,3 +2,4 @@ pub mod IndexedLemmas
 pub mod FaultRuns
 mod LossyChunks
 pub mod SubstringCounts
+pub mod TextChunks

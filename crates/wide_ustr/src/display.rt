@@ -5,6 +5,7 @@ ghost use Rattle.wide_ustr.specs.View.{units_seen};
 
 use crate::iter::{Chars, CharsLossy};
 use crate::lossy_with::CharsLossyWith;
+use crate::text_chunks::write_text;
 use crate::view::UStr;
 use std::fmt;
 use wide_unit::{Unit, split_first, write_escape};
@@ -30,10 +31,7 @@ impl<C: Unit> fmt::Display for Display<'_, C> {
     ghost styled_output = { λ d _. Some (display_text C.form (map C.number (units_seen (displayed d)))) };
 
     fn fmt<W: fmt::Write>(&self, f: &mut fmt::Formatter<W>) -> fmt::Result {
-        for c in self.view.chars_lossy() {
-            f.write_char(c)?;
-        }
-        Ok(())
+        write_text(f, self.view.units)
     }
 }
 

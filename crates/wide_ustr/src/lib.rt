@@ -13,6 +13,7 @@ mod offsets;
 mod search;
 mod split;
 mod text;
+mod text_chunks;
 mod view;
 
 pub use display::{Display, DisplaySkipping};

@@ -1,0 +1,92 @@
+//! Writes the text of units to a formatter in UTF-8, chunk by chunk (Unicode Standard, section 3.9, D92). It encodes
+//! each chunk into an array on the stack by the vectorized conversion, and writes it as one string.
+ghost use Rattle.std.specs.Prelude.{◌≤◌, length, map};
+ghost use Rattle.std.specs.Fmt.{WritesStyledOnOk};
+ghost use Rattle.wide_unit.specs.Items.{IsWellFormed, chars};
+ghost use Rattle.wide_unit.specs.Texts.{display_text};
+ghost use Rattle.wide_unit.specs.Utf8.{utf8};
+
+use std::{fmt, str};
+use wide_conversions::{lossy_prefix, to_utf8_prefix};
+use wide_unit::{AnyUnits, Unit};
+
+// The array on the stack has `SMALL` bytes for at most `FEW` units, and `LARGE` bytes for more. A small array takes
+// less time to clear.
+const FEW: usize = 32;
+
+const SMALL: usize = 100;
+
+const LARGE: usize = 388;
+
+// How many units are repaired in one step, if there are faults among them.
+const SPARE: usize = 64;
+
+// Writes the text of well-formed units.
+fn write_valid<C: Unit, W: fmt::Write>(
+    f: &mut fmt::Formatter<W>,
+    units: &[C],
+    chunk: &mut [u8],
+) -> fmt::Result
+    requires well_formed { IsWellFormed C.form (map C.number units.now) }
+    requires space { 64 ≤ length chunk.old }
+    ensures { WritesStyledOnOk W.write_str_gives f.old result (utf8 (chars C.form (map C.number units.now))) f.new }
+{
+    let mut rest = units;
+    'chunks: while !rest.is_empty() {
+        let (read, written) = to_utf8_prefix(rest, chunk);
+        // The bytes were written as UTF-8, so they need no check.
+        f.write_str(unsafe { str::from_utf8_unchecked(&chunk[..written]) })?;
+        rest = &rest[read..];
+    }
+    Ok(())
+}
+
+// Writes the text of units, with U+FFFD for each fault. Units that cannot be used unchanged are repaired in the buffer
+// `spare`.
+fn write_lossy<C: Unit, W: fmt::Write>(
+    f: &mut fmt::Formatter<W>,
+    units: &[C],
+    spare: &mut [C],
+    chunk: &mut [u8],
+) -> fmt::Result
+    requires spare { 2 ≤ length spare.old }
+    requires space { 64 ≤ length chunk.old }
+    ensures { WritesStyledOnOk W.write_str_gives f.old result (display_text C.form (map C.number units.now)) f.new }
+{
+    let mut rest = units;
+    'prefixes: while !rest.is_empty() {
+        let (valid, others) = lossy_prefix(rest, spare);
+        write_valid(f, valid, chunk)?;
+        rest = others;
+    }
+    Ok(())
+}
+
+fn write_chunks<C: Unit, W: fmt::Write>(
+    f: &mut fmt::Formatter<W>,
+    units: &[C],
+    chunk: &mut [u8],
+) -> fmt::Result
+    requires { 64 ≤ length chunk.old }
+    ensures { WritesStyledOnOk W.write_str_gives f.old result (display_text C.form (map C.number units.now)) f.new }
+{
+    match C::as_any(units) {
+        AnyUnits::U16(units) => write_lossy(f, units, &mut [0; SPARE], chunk),
+        AnyUnits::U32(units) => write_lossy(f, units, &mut [0; SPARE], chunk),
+    }
+}
+
+// Writes the text of units, with U+FFFD for each fault. It returns an error of the sink at once, and then writes
+// nothing more.
+pub(crate) fn write_text<C: Unit, W: fmt::Write>(
+    f: &mut fmt::Formatter<W>,
+    units: &[C],
+) -> fmt::Result
+    ensures { WritesStyledOnOk W.write_str_gives f.old result (display_text C.form (map C.number units.now)) f.new }
+{
+    if units.len() <= FEW {
+        write_chunks(f, units, &mut [0; SMALL])
+    } else {
+        write_chunks(f, units, &mut [0; LARGE])
+    }
+}
