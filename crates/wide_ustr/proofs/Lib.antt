@@ -3,3 +3,4 @@ pub mod FaultRuns
 mod LossyChunks
 pub mod SubstringCounts
 pub mod TextChunks
+pub mod EscapedChunks

@@ -3,12 +3,13 @@ ghost use Rattle.std.specs.Prelude.{map, Some};
 ghost use Rattle.wide_unit.specs.Texts.{display_text, skipping_text, debug_output, lossy_debug_output};
 ghost use Rattle.wide_ustr.specs.View.{units_seen};
 
+use crate::escaped_chunks::{write_debug, write_lossy_debug};
 use crate::iter::{Chars, CharsLossy};
 use crate::lossy_with::CharsLossyWith;
 use crate::text_chunks::write_text;
 use crate::view::UStr;
 use std::fmt;
-use wide_unit::{Unit, split_first, write_escape};
+use wide_unit::{Policy, Unit};
 
 /// A value that prints the text of a view, with one U+FFFD for each unit that belongs to no character (Unicode
 /// Standard, section 3.9). Made by [`UStr::display`](crate::UStr::display).
@@ -68,16 +69,7 @@ impl<C: Unit> fmt::Debug for UStr<'_, C> {
     ghost debug_output = { λ view. debug_output C.form (map C.number (units_seen view)) };
 
     fn fmt<W: fmt::Write>(&self, f: &mut fmt::Formatter<W>) -> fmt::Result {
-        f.write_str("\"")?;
-        let mut rest = self.units;
-        while let Some((item, tail)) = split_first(rest) {
-            match item {
-                Ok(c) => write_escape(f, c.escape_debug())?,
-                Err(unit) => write!(f, "\\<{:X}>", unit.code())?,
-            }
-            rest = tail;
-        }
-        f.write_str("\"")
+        write_debug(f, self.units)
     }
 }
 
@@ -117,11 +109,10 @@ impl<C: Unit> fmt::Debug for CharsLossy<'_, C> {
     ghost debug_output = { λ s. lossy_debug_output C.form (map C.number (chars_lossy_rest s)) };
 
     fn fmt<W: fmt::Write>(&self, f: &mut fmt::Formatter<W>) -> fmt::Result {
-        f.write_str("\"")?;
-        for c in UStr::from_slice(self.rest).chars_lossy() {
-            write_escape(f, c.escape_debug())?;
-        }
-        f.write_str("\"")
+        write_lossy_debug(
+            f,
+            UStr::from_slice(self.rest).chars_lossy_with(Policy::Each),
+        )
     }
 }
 
@@ -131,10 +122,6 @@ impl<C: Unit> fmt::Debug for CharsLossyWith<'_, C> {
     ghost debug_output = { lossy_with_debug_output C.form C.number };
 
     fn fmt<W: fmt::Write>(&self, f: &mut fmt::Formatter<W>) -> fmt::Result {
-        f.write_str("\"")?;
-        for c in UStr::from_slice(self.rest).chars_lossy_with(self.policy) {
-            write_escape(f, c.escape_debug())?;
-        }
-        f.write_str("\"")
+        write_lossy_debug(f, UStr::from_slice(self.rest).chars_lossy_with(self.policy))
     }
 }

@@ -3,6 +3,7 @@
 
 mod bytes;
 mod display;
+mod escaped_chunks;
 mod iter;
 pub mod laws;
 mod line_indices;

@@ -12,17 +12,17 @@ use wide_unit::{AnyUnits, Unit};
 
 // The array on the stack has `SMALL` bytes for at most `FEW` units, and `LARGE` bytes for more. A small array takes
 // less time to clear.
-const FEW: usize = 32;
+pub(crate) const FEW: usize = 32;
 
-const SMALL: usize = 100;
+pub(crate) const SMALL: usize = 100;
 
-const LARGE: usize = 388;
+pub(crate) const LARGE: usize = 388;
 
 // How many units are repaired in one step, if there are faults among them.
 const SPARE: usize = 64;
 
 // Writes the text of well-formed units.
-fn write_valid<C: Unit, W: fmt::Write>(
+pub(crate) fn write_valid<C: Unit, W: fmt::Write>(
     f: &mut fmt::Formatter<W>,
     units: &[C],
     chunk: &mut [u8],

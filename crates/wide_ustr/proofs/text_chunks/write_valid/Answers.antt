@@ -1,4 +1,4 @@
-use Rattle.std.proofs.Common.{◌≡◌, ◌++◌, drop, ap, sym, ◌∙◌, arith, length, map, take, refl, true}
+use Rattle.std.proofs.Common.{◌≡◌, ◌++◌, drop, ap, sym, ◌∙◌, arith, length, map, refl, true}
 use Rattle.std.proofs.lemmas.List.{take_rest}
 use Rattle.wide_unit.specs.Items.{chars}
 use Rattle.wide_unit.specs.Utf8.{utf8}
