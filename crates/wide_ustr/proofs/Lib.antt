@@ -4,3 +4,4 @@ mod LossyChunks
 pub mod SubstringCounts
 pub mod TextChunks
 pub mod EscapedChunks
+pub mod KeptTexts

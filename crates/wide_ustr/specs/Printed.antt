@@ -1,12 +1,12 @@
--- The view that is printed, and the characters that debug text does not escape.
-use Rattle.std.specs.Prelude.{◌≡◌, ℕ, true, List, ◌++◌, map}
+-- The view that is printed, which of its characters are, and which characters debug text does not escape.
+use Rattle.std.specs.Prelude.{◌≡◌, ℕ, Bool, true, false, List, ◌++◌, map}
 use Rattle.std.specs.Char.{IsScalar}
 use Rattle.std.specs.Fmt.{HasWritten, IsPlainFormatter}
-use Rattle.std.specs.List.{All, flat_map, list_all}
+use Rattle.std.specs.List.{All, filter, flat_map, list_all}
 use Rattle.std.specs.declared.fmt.Formatter.{Formatter}
 use Rattle.wide_unit.specs.EncodingForm.{EncodingForm, encode}
 use Rattle.wide_unit.specs.Segmentation.{Item, Char}
-use Rattle.wide_unit.specs.Texts.{debug_item, is_plain}
+use Rattle.wide_unit.specs.Texts.{debug_item, is_kept, is_plain}
 use Rattle.wide_unit.specs.Utf8.{utf8}
 use Rattle.wide_ustr.specs.declared.view.UStr.{UStr}
 use Rattle.wide_ustr.specs.declared.display.Display.{Display}
@@ -18,6 +18,11 @@ module _ {C : Type 0} where
 
   abbrev pub displayed_skipping : DisplaySkipping C → UStr C
   displayed_skipping d = d.view
+
+-- The characters that are printed: all, or all but U+FFFD if `skips` is set.
+abbrev pub shown : Bool → List ℕ → List ℕ
+shown true cs = filter is_kept cs
+shown false cs = cs
 
 -- The debug text of the characters is the characters themselves, if they are ASCII. Of others nothing is specified.
 abbrev pub AreUnescaped : List ℕ → Type 0

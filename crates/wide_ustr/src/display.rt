@@ -32,7 +32,7 @@ impl<C: Unit> fmt::Display for Display<'_, C> {
     ghost styled_output = { λ d _. Some (display_text C.form (map C.number (units_seen (displayed d)))) };
 
     fn fmt<W: fmt::Write>(&self, f: &mut fmt::Formatter<W>) -> fmt::Result {
-        write_text(f, self.view.units)
+        write_text(f, self.view.units, false)
     }
 }
 
@@ -56,12 +56,7 @@ impl<C: Unit> fmt::Display for DisplaySkipping<'_, C> {
     ghost styled_output = { λ d _. Some (skipping_text C.form (map C.number (units_seen (displayed_skipping d)))) };
 
     fn fmt<W: fmt::Write>(&self, f: &mut fmt::Formatter<W>) -> fmt::Result {
-        for shown in self.view.chars_lossy() {
-            if shown != char::REPLACEMENT_CHARACTER {
-                f.write_char(shown)?;
-            }
-        }
-        Ok(())
+        write_text(f, self.view.units, true)
     }
 }
 

@@ -2,13 +2,16 @@
 //! each chunk into an array on the stack by the vectorized conversion, and writes it as one string.
 ghost use Rattle.std.specs.Prelude.{◌≤◌, length, map};
 ghost use Rattle.std.specs.Fmt.{WritesStyledOnOk};
-ghost use Rattle.wide_unit.specs.Items.{IsWellFormed, chars};
-ghost use Rattle.wide_unit.specs.Texts.{display_text};
+ghost use Rattle.std.specs.List.{filter};
+ghost use Rattle.wide_unit.specs.Items.{IsWellFormed, chars, items};
+ghost use Rattle.wide_unit.specs.Lossy.{lossy};
+ghost use Rattle.wide_unit.specs.Texts.{is_kept};
 ghost use Rattle.wide_unit.specs.Utf8.{utf8};
+ghost use Rattle.wide_ustr.specs.Printed.{shown};
 
 use std::{fmt, str};
 use wide_conversions::{lossy_prefix, to_utf8_prefix};
-use wide_unit::{AnyUnits, Unit};
+use wide_unit::{AnyUnits, Unit, first_of};
 
 // The array on the stack has `SMALL` bytes for at most `FEW` units, and `LARGE` bytes for more. A small array takes
 // less time to clear.
@@ -41,22 +44,60 @@ pub(crate) fn write_valid<C: Unit, W: fmt::Write>(
     Ok(())
 }
 
-// Writes the text of units, with U+FFFD for each fault. Units that cannot be used unchanged are repaired in the buffer
-// `spare`.
+// Writes the text of well-formed units without U+FFFD.
+fn write_kept<C: Unit, W: fmt::Write>(
+    f: &mut fmt::Formatter<W>,
+    units: &[C],
+    chunk: &mut [u8],
+) -> fmt::Result
+    requires well_formed { IsWellFormed C.form (map C.number units.now) }
+    requires space { 64 ≤ length chunk.old }
+    ensures { WritesStyledOnOk W.write_str_gives f.old result (utf8 (filter is_kept (chars C.form (map C.number units.now)))) f.new }
+{
+    let mut rest = units;
+    'parts: while let Some(offset) = first_of(rest, char::REPLACEMENT_CHARACTER as u32) {
+        let (part, others) = rest.split_at(offset);
+        write_valid(f, part, chunk)?;
+        rest = &others[1..];
+    }
+    write_valid(f, rest, chunk)
+}
+
+// Writes the text of well-formed units, without U+FFFD if `skips` is set.
+fn write_shown<C: Unit, W: fmt::Write>(
+    f: &mut fmt::Formatter<W>,
+    units: &[C],
+    skips: bool,
+    chunk: &mut [u8],
+) -> fmt::Result
+    requires well_formed { IsWellFormed C.form (map C.number units.now) }
+    requires space { 64 ≤ length chunk.old }
+    ensures { WritesStyledOnOk W.write_str_gives f.old result (utf8 (shown skips (chars C.form (map C.number units.now)))) f.new }
+{
+    if skips {
+        write_kept(f, units, chunk)
+    } else {
+        write_valid(f, units, chunk)
+    }
+}
+
+// Writes the text of units, with U+FFFD for each fault, or without any U+FFFD if `skips` is set. Units that cannot be
+// used unchanged are repaired in the buffer `spare`.
 fn write_lossy<C: Unit, W: fmt::Write>(
     f: &mut fmt::Formatter<W>,
     units: &[C],
+    skips: bool,
     spare: &mut [C],
     chunk: &mut [u8],
 ) -> fmt::Result
     requires spare { 2 ≤ length spare.old }
     requires space { 64 ≤ length chunk.old }
-    ensures { WritesStyledOnOk W.write_str_gives f.old result (display_text C.form (map C.number units.now)) f.new }
+    ensures { WritesStyledOnOk W.write_str_gives f.old result (utf8 (shown skips (lossy (items C.form (map C.number units.now))))) f.new }
 {
     let mut rest = units;
     'prefixes: while !rest.is_empty() {
         let (valid, others) = lossy_prefix(rest, spare);
-        write_valid(f, valid, chunk)?;
+        write_shown(f, valid, skips, chunk)?;
         rest = others;
     }
     Ok(())
@@ -65,28 +106,30 @@ fn write_lossy<C: Unit, W: fmt::Write>(
 fn write_chunks<C: Unit, W: fmt::Write>(
     f: &mut fmt::Formatter<W>,
     units: &[C],
+    skips: bool,
     chunk: &mut [u8],
 ) -> fmt::Result
     requires { 64 ≤ length chunk.old }
-    ensures { WritesStyledOnOk W.write_str_gives f.old result (display_text C.form (map C.number units.now)) f.new }
+    ensures { WritesStyledOnOk W.write_str_gives f.old result (utf8 (shown skips (lossy (items C.form (map C.number units.now))))) f.new }
 {
     match C::as_any(units) {
-        AnyUnits::U16(units) => write_lossy(f, units, &mut [0; SPARE], chunk),
-        AnyUnits::U32(units) => write_lossy(f, units, &mut [0; SPARE], chunk),
+        AnyUnits::U16(units) => write_lossy(f, units, skips, &mut [0; SPARE], chunk),
+        AnyUnits::U32(units) => write_lossy(f, units, skips, &mut [0; SPARE], chunk),
     }
 }
 
-// Writes the text of units, with U+FFFD for each fault. It returns an error of the sink at once, and then writes
-// nothing more.
+// Writes the text of units, with U+FFFD for each fault, or without any U+FFFD if `skips` is set. It returns an error of
+// the sink at once, and then writes nothing more.
 pub(crate) fn write_text<C: Unit, W: fmt::Write>(
     f: &mut fmt::Formatter<W>,
     units: &[C],
+    skips: bool,
 ) -> fmt::Result
-    ensures { WritesStyledOnOk W.write_str_gives f.old result (display_text C.form (map C.number units.now)) f.new }
+    ensures { WritesStyledOnOk W.write_str_gives f.old result (utf8 (shown skips (lossy (items C.form (map C.number units.now))))) f.new }
 {
     if units.len() <= FEW {
-        write_chunks(f, units, &mut [0; SMALL])
+        write_chunks(f, units, skips, &mut [0; SMALL])
     } else {
-        write_chunks(f, units, &mut [0; LARGE])
+        write_chunks(f, units, skips, &mut [0; LARGE])
     }
 }

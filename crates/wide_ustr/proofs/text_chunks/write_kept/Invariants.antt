@@ -1,0 +1,21 @@
+use Rattle.std.proofs.Common.{length, map}
+use Rattle.std.specs.Fmt.{IsFlush}
+use Rattle.std.specs.List.{filter}
+use Rattle.wide_unit.specs.Items.{IsWellFormed, chars}
+use Rattle.wide_unit.specs.Texts.{is_kept}
+use Rattle.wide_unit.specs.Utf8.{utf8}
+use Rattle.wide_unit.proofs.Printed.{HasPrintedStyled}
+use Rattle.wide_ustr.proofs.text_chunks.write_kept.Given as goal
+
+abbrev pub invariant-parts : goal.invariant-parts
+invariant-parts g l =
+    let form = g.C.Unit.form in
+    let number = g.C.Unit.number in
+    record {
+      well_formed : IsWellFormed form (map number l.rest);
+      printed : IsFlush l.initial.f
+          → HasPrintedStyled g.W.Write.write_str_gives l.initial.f (utf8 (filter is_kept (chars form (map number l.units)))) (utf8 (filter is_kept (chars form (map number l.rest)))) l.f;
+    }
+
+abbrev pub decreases-parts : goal.decreases-parts
+decreases-parts g l = length l.rest
