@@ -14,7 +14,23 @@ use crate::text_chunks::{FEW, LARGE, SMALL, write_valid};
 use std::fmt;
 use wide_unit::{Unit, split_first, write_escape};
 
-// Returns whether `{:?}` prints the character unchanged. ASCII needs no look-up in the tables of printable characters.
+// Returns whether a character is in one of these blocks or parts of blocks, in which each code point is a letter, a
+// symbol or a punctuation mark, and no combining one: Latin, spacing modifiers, Greek and Cyrillic, general
+// punctuation, arrows and mathematical operators, CJK punctuation, kana, CJK ideographs, Hangul syllables, fullwidth
+// forms, pictographs. No version of the Unicode Standard can make them unprintable, as they are assigned.
+#[inline(always)]
+fn is_printable(code: u32) -> bool {
+    match code {
+        0xA1..=0xAC | 0xAE..=0x2FF | 0x3A3..=0x482 | 0x48A..=0x52F => true,
+        0x4E00..=0x9FFF | 0xAC00..=0xD7A3 | 0x3400..=0x4DBF => true,
+        0x3041..=0x3096 | 0x309B..=0x30FF | 0x3001..=0x3029 | 0xFF01..=0xFF9D => true,
+        0x2010..=0x2027 | 0x2030..=0x205E | 0x2190..=0x2426 | 0x1F300..=0x1F64F => true,
+        _ => false,
+    }
+}
+
+// Returns whether `{:?}` prints the character unchanged. ASCII and the most frequent other characters need no look-up
+// in the tables of printable characters, which takes some hundred nanoseconds.
 #[inline(always)]
 fn is_unescaped(c: char) -> bool
     ensures { IsTrue result → AreUnescaped (c ∷ []) }
@@ -23,7 +39,7 @@ fn is_unescaped(c: char) -> bool
     if code < 0x80 {
         return 0x20 <= code && code < 0x7F && c != '"' && c != '\'' && c != '\\';
     }
-    c.escape_debug().next() == Some(c)
+    is_printable(code) || c.escape_debug().next() == Some(c)
 }
 
 // Returns the units after the first character, if `{:?}` prints that character unchanged.
