@@ -111,3 +111,28 @@ lossy-run_items policy is left cs e = ap (map Char) (lossy-run policy is left cs
 
 pub lossy-run_shorter : (policy : Policy) (is left : List Item) (cs : List ℕ) → is ≡ map Char cs ++ left → length (lossy_by policy left) ≤ length (lossy_by policy is)
 lossy-run_shorter policy is left cs e = omega (arith, ap length (lossy-run policy is left cs e), length-append cs (lossy_by policy left))
+
+-- The escapes of two characters.
+pub escape-quote : 92 ∷ 34 ∷ [] ≡ debug_item (Char 34)
+unfolding utf8_bytes
+escape-quote = refl
+
+pub escape-single : 92 ∷ 39 ∷ [] ≡ debug_item (Char 39)
+unfolding utf8_bytes
+escape-single = refl
+
+pub escape-backslash : 92 ∷ 92 ∷ [] ≡ debug_item (Char 92)
+unfolding utf8_bytes
+escape-backslash = refl
+
+pub escape-line_feed : 92 ∷ 110 ∷ [] ≡ debug_item (Char 10)
+unfolding utf8_bytes
+escape-line_feed = refl
+
+pub escape-return : 92 ∷ 114 ∷ [] ≡ debug_item (Char 13)
+unfolding utf8_bytes
+escape-return = refl
+
+pub escape-tab : 92 ∷ 116 ∷ [] ≡ debug_item (Char 9)
+unfolding utf8_bytes
+escape-tab = refl

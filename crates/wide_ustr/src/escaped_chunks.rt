@@ -66,6 +66,21 @@ fn split_unescaped<C: Unit>(units: &[C]) -> (&[C], &[C])
     units.split_at(units.len() - rest.len())
 }
 
+// Writes a character as `{:?}` escapes it. The most frequent escapes are one write.
+fn write_escaped<W: fmt::Write>(f: &mut fmt::Formatter<W>, c: char) -> fmt::Result
+    ensures { is_plain (Char c) ≡ true → WritesOnOk W.write_str_gives f.old result (debug_item (Char c)) f.new }
+{
+    match c {
+        '"' => f.write_str("\\\""),
+        '\'' => f.write_str("\\'"),
+        '\\' => f.write_str("\\\\"),
+        '\n' => f.write_str("\\n"),
+        '\r' => f.write_str("\\r"),
+        '\t' => f.write_str("\\t"),
+        _ => write_escape(f, c.escape_debug()),
+    }
+}
+
 // Writes a character as `{:?}` escapes it, or the number of a fault as `\<H>`.
 fn write_item<C: Unit, W: fmt::Write>(
     f: &mut fmt::Formatter<W>,
@@ -74,7 +89,7 @@ fn write_item<C: Unit, W: fmt::Write>(
     ensures { is_plain (item_of C.number item) ≡ true → WritesOnOk W.write_str_gives f.old result (debug_item (item_of C.number item)) f.new }
 {
     match item {
-        Ok(c) => write_escape(f, c.escape_debug()),
+        Ok(c) => write_escaped(f, c),
         Err(unit) => write!(f, "\\<{:X}>", unit.code()),
     }
 }
@@ -124,7 +139,7 @@ fn write_chars<C: Unit, W: fmt::Write>(
     f.write_str("\"")?;
     chars.rest = write_run(f, chars.rest, chunk)?;
     'chars: while let Some(c) = chars.next() {
-        write_escape(f, c.escape_debug())?;
+        write_escaped(f, c)?;
         chars.rest = write_run(f, chars.rest, chunk)?;
     }
     f.write_str("\"")

@@ -9,6 +9,7 @@ ghost use Rattle.wide_unit.specs.Texts.{is_kept};
 ghost use Rattle.wide_unit.specs.Utf8.{utf8};
 ghost use Rattle.wide_ustr.specs.Printed.{shown};
 
+use crate::view::UStr;
 use std::{fmt, str};
 use wide_conversions::{lossy_prefix, to_utf8_prefix};
 use wide_unit::{AnyUnits, Unit, first_of};
@@ -21,11 +22,25 @@ pub(crate) const SMALL: usize = 100;
 
 pub(crate) const LARGE: usize = 388;
 
+// Fewer units are written character by character, in less time than the vectorized conversion takes to begin.
+const BLOCK: usize = 4;
+
 // How many units are repaired in one step, if there are faults among them.
 const SPARE: usize = 64;
 
-// Writes the text of well-formed units.
-pub(crate) fn write_valid<C: Unit, W: fmt::Write>(
+// Writes the text of units character by character, with U+FFFD for each fault.
+fn write_each<C: Unit, W: fmt::Write>(f: &mut fmt::Formatter<W>, units: &[C]) -> fmt::Result
+    ensures { WritesStyledOnOk W.write_str_gives f.old result (utf8 (lossy (items C.form (map C.number units.now)))) f.new }
+{
+    let view = UStr { units };
+    for c in view.chars_lossy() {
+        f.write_char(c)?;
+    }
+    Ok(())
+}
+
+// Writes the text of well-formed units chunk by chunk.
+fn write_blocks<C: Unit, W: fmt::Write>(
     f: &mut fmt::Formatter<W>,
     units: &[C],
     chunk: &mut [u8],
@@ -42,6 +57,23 @@ pub(crate) fn write_valid<C: Unit, W: fmt::Write>(
         rest = &rest[read..];
     }
     Ok(())
+}
+
+// Writes the text of well-formed units.
+pub(crate) fn write_valid<C: Unit, W: fmt::Write>(
+    f: &mut fmt::Formatter<W>,
+    units: &[C],
+    chunk: &mut [u8],
+) -> fmt::Result
+    requires well_formed { IsWellFormed C.form (map C.number units.now) }
+    requires space { 64 ≤ length chunk.old }
+    ensures { WritesStyledOnOk W.write_str_gives f.old result (utf8 (chars C.form (map C.number units.now))) f.new }
+{
+    if units.len() < BLOCK {
+        write_each(f, units)
+    } else {
+        write_blocks(f, units, chunk)
+    }
 }
 
 // Writes the text of well-formed units without U+FFFD.

@@ -1,10 +1,8 @@
-use Rattle.std.proofs.Common.{map, ap, arith, length, refl, subst, true}
-use Rattle.std.specs.Char.Iter.{escape_rest}
-use Rattle.std.specs.Fmt.{HasWritten}
+use Rattle.std.proofs.Common.{map, ap, arith, length, refl, true}
 use Rattle.wide_unit.specs.Segmentation.{Char}
 use Rattle.wide_unit.specs.Items.{items}
 use Rattle.wide_unit.specs.Lossy.{lossy_by}
-use Rattle.wide_unit.proofs.Debugged.{quoted-none, quoted-more, quoted-all, escape-bytes}
+use Rattle.wide_unit.proofs.Debugged.{quoted-none, quoted-more, quoted-all}
 use Rattle.wide_ustr.specs.LossyWith.{lossy_with_left}
 use Rattle.wide_ustr.proofs.EscapedChunks.{quoted-run, lossy-run_items, lossy-run_shorter}
 use Rattle.wide_ustr.proofs.escaped_chunks.write_chars.Goals as goal
@@ -36,9 +34,7 @@ chars-preserved g c =
     let is = items form (map number c.next.new.self.rest.now) in
     let left = items form (map number c.in_ok-chars-2.field-0.now) in
     let run = c.in_ok-chars-2.ensures.run in
-    let xs = escape_rest c.escape_debug.result in
-    let next = quoted-more (Char c.in-Some.c) (map Char (lossy_by policy is)) c.chars.invariant (ap (λ cs. map Char cs) c.in-Some.ensures.steps)
-    (λ ascii plain. subst (λ bs. HasWritten g.W.Write.write_str_gives c.chars.f bs c.write_escape.new.f) (escape-bytes c.in-Some.c xs ascii c.escape_debug.ensures.rest) (c.in_ok-write_escape.ensures.writes plain (refl {a = true}))) in
+    let next = quoted-more (Char c.in-Some.c) (map Char (lossy_by policy is)) c.chars.invariant (ap (λ cs. map Char cs) c.in-Some.ensures.steps) (λ ascii plain. c.in_ok-write_escaped.ensures ascii plain (refl {a = true})) in
     quoted-run (map Char run.cs) (map Char (lossy_by policy left)) next (lossy-run_items policy is left run.cs run.joined) run.wrote
 
 pub returns : goal.returns

@@ -3,7 +3,7 @@ use Rattle.std.specs.Fmt.{IsFlush}
 use Rattle.wide_unit.specs.Items.{IsWellFormed, chars}
 use Rattle.wide_unit.specs.Utf8.{utf8}
 use Rattle.wide_unit.proofs.Printed.{HasPrintedStyled}
-use Rattle.wide_ustr.proofs.text_chunks.write_valid.Given as goal
+use Rattle.wide_ustr.proofs.text_chunks.write_blocks.Given as goal
 
 abbrev pub invariant-chunks : goal.invariant-chunks
 invariant-chunks g l =

@@ -1,0 +1,19 @@
+use Rattle.std.proofs.Common.{◌++◌, ap, ◌∙◌, encode_utf8, refl, true}
+use Rattle.wide_unit.specs.Utf8.{utf8}
+use Rattle.wide_unit.specs.Laws.Utf8.{utf8_bytes-encode_utf8}
+use Rattle.wide_unit.proofs.Printed.{styled-none, styled-more, styled-all}
+use Rattle.wide_ustr.specs.Iter.{lossy_left}
+use Rattle.wide_ustr.proofs.text_chunks.write_each.Goals as goal
+
+pub loop-c-init : goal.loop-c-init
+loop-c-init g c = λ flush. styled-none _ _ flush (ap utf8 (ap (lossy_left g.C.Unit.form g.C.Unit.number) c.into_iter-c-iterator.ensures.into_iter_gives ∙ c.chars_lossy-c-items.ensures))
+
+pub loop-c-preserved : goal.loop-c-preserved
+loop-c-preserved g c = λ flush.
+    let left = lossy_left g.C.Unit.form g.C.Unit.number in
+    let so_far = c.loop-c.invariant flush in
+    styled-more (encode_utf8 c.in-Some.c) (utf8 (left c.next.new.self)) so_far (c.in_ok-write_char.ensures.styled so_far.wrote.flush (refl {a = true}))
+    (ap utf8 c.in-Some.ensures.steps ∙ ap (λ bs. bs ++ utf8 (left c.next.new.self)) (utf8_bytes-encode_utf8 c.in-Some.c))
+
+pub returns : goal.returns
+returns g c = λ flush _. styled-all (c.loop-c.invariant flush) (ap utf8 c.in-None.ensures.steps.0)
