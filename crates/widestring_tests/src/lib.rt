@@ -13,6 +13,8 @@ pub mod callers;
 #[cfg(test)]
 mod chunk_tests;
 #[cfg(test)]
+mod debug_tests;
+#[cfg(test)]
 mod device_tests;
 #[cfg(test)]
 mod edit_failure_tests;
