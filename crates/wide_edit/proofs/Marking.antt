@@ -103,7 +103,7 @@ offset-within n (SplitOff i) = omega arith
 offset-within n Clear = omega arith
 
 module _ (l : List ℕ) where
-  take-splice : (p i j : ℕ) (m : List ℕ) → p ≤ i → p ≤ length l → take p (splice l i j m) ≡ take p l
+  pub take-splice : (p i j : ℕ) (m : List ℕ) → p ≤ i → p ≤ length l → take p (splice l i j m) ≡ take p l
   take-splice p i j m le within = take-append-le p (take i l) (m ++ drop j l) (omega (arith, length-take i l)) ∙ take-take p i l le
 
   pub step-keeps : (e : Edit) → take (edit_offset (length l) e) (step l e).0 ≡ take (edit_offset (length l) e) l
@@ -157,7 +157,7 @@ module _ (old new : List ℕ) (p : ℕ) (within : p ≤ length old) (same : take
   mark-same : (j : ℕ) → 64 * j ≤ p → mark old j ≡ mark new j
   mark-same j le = ap (size Utf16) (sym (take-take (64 * j) p old le) ∙ ap (take (64 * j)) (sym same) ∙ take-take (64 * j) p new le)
 
-  same-marks : (k : ℕ) → k ≤ p / 64 → take k (marks_of old) ≡ take k (marks_of new)
+  pub same-marks : (k : ℕ) → k ≤ p / 64 → take k (marks_of old) ≡ take k (marks_of new)
   same-marks k le =
       take-map-range_with_len (mark old) 1 (length old / 64) k (omega (arith, within))
       ∙ map-same (mark old) (mark new) 1 k (λ j lt. mark-same j (omega (arith, lt)))

@@ -1,5 +1,5 @@
 -- The offset index of a UTF-16 text: the offsets, in units, of every 64th character.
-use Rattle.std.specs.Prelude.{ℕ, ◌+◌, ◌-◌, ◌*◌, ◌/◌, ◌≤◌, List, map, take, drop, length, min, refl}
+use Rattle.std.specs.Prelude.{◌≡◌, ℕ, ◌+◌, ◌-◌, ◌*◌, ◌/◌, ◌<◌, ◌≤◌, List, map, take, drop, length, slice_index, min, refl}
 use Rattle.std.specs.Coded.{Coded, code_by, coded×, coded_ℕ}
 use Rattle.std.specs.List.{range_with_len}
 use Rattle.wide_unit.specs.EncodingForm.{Utf16, encode}
@@ -9,6 +9,10 @@ use Rattle.wide_edit.specs.Step.{step}
 use Rattle.wide_edit.specs.Edited.{CanHold}
 use Rattle.wide_edit.specs.declared.edits.Edit.{Edit}
 use Rattle.wide_edit.specs.declared.edits.Edit.TheVariants.{Push, PushStr, Pop, Truncate, Insert, InsertStr, Remove, Retain, Drain, Replace, SplitOff, Clear}
+
+-- The unit offset of character number `index`: the length in units of the characters before it.
+abbrev pub offset : List ℕ → ℕ → ℕ
+offset cs index = length (encode Utf16 (take index cs))
 
 -- Entry number `k` of the index of these characters: the length in units of the first `64 * k`.
 abbrev pub mark : List ℕ → ℕ → ℕ
@@ -85,3 +89,28 @@ marked_text m = chars Utf16 m.string.units
 pub record IsMarkedReady (m : Marked) (edit : Edit) : Type 0 where
   pub units : CanHold Utf16 m.string (step (marked_text m) edit).0
   pub marks : length (step (marked_text m) edit).0 / 64 ≤ m.marks_space
+
+-- An edit replaces the characters from index `from` up to index `to`: those before them stay as they are, and those
+-- after them are the last ones of the new characters.
+pub record Replaces (old new : List ℕ) (from to : ℕ) : Type 0 where
+  pub fits : length old + from ≤ length new + to
+  pub prefix : take from new ≡ take from old
+  pub rest : drop (length new + to - length old) new ≡ drop to old
+
+-- As many units follow character number `index` as follow an offset in a text of `units` units.
+abbrev pub IsMoved : List ℕ → ℕ → ℕ → ℕ → Type 0
+IsMoved cs index units at = offset cs index + units ≡ length (encode Utf16 cs) + at
+
+module _ (cs : List ℕ) (count units : ℕ) where
+  -- These characters are those of a text of `count` characters and `units` units whose characters from index `from`, at
+  -- offset `start`, up to index `to`, at offset `end`, were replaced.
+  pub record IsEdited (from to start end : ℕ) : Type 0 where
+    pub forward : from ≤ to
+    pub within : to ≤ count
+    pub fits : count + from ≤ length cs + to
+    pub starts : start ≡ offset cs from
+    pub ends : IsMoved cs (length cs + to - count) units end
+
+  -- From index `to` on, the entries are those of that text.
+  abbrev pub AreMoved : ℕ → List ℕ → Type 0
+  AreMoved to marks = (k : ℕ) → to ≤ 64 * (k + 1) → k < length marks → IsMoved cs (length cs + 64 * (k + 1) - count) units (slice_index marks k)

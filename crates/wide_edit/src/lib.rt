@@ -9,6 +9,8 @@ mod marked;
 mod marks;
 mod memory;
 mod operations;
+mod passing;
+mod shifting;
 mod utf;
 
 pub use counting::Steps;

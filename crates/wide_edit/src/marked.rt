@@ -1,5 +1,5 @@
 //! A UTF-16 string with an offset index, as a text that can be edited.
-ghost use Rattle.std.specs.Prelude.{◌≡◌, ◌+◌, ◌*◌, ◌/◌, ◌<◌, ◌≤◌, ◌↔◌, length, IsSome, IfSome, IsOk, OnOk, IfOk, IfErr, vec_capacity};
+ghost use Rattle.std.specs.Prelude.{◌≡◌, ◌+◌, ◌*◌, ◌/◌, ◌<◌, ◌≤◌, ◌↔◌, length, take, IsSome, IfSome, IsOk, OnOk, IfOk, IfErr, vec_capacity};
 ghost use Rattle.wide_unit.specs.EncodingForm.{Utf16, encode};
 ghost use Rattle.wide_unit.specs.Items.{chars};
 ghost use Rattle.wide_unit.specs.Offsets.{IsOffsetOf, IsCharBoundary};
@@ -7,8 +7,8 @@ ghost use Rattle.wide_utfstr.specs.View.{units_seen};
 ghost use Rattle.wide_edit.specs.Step.{step, answer_of};
 ghost use Rattle.wide_edit.specs.Edited.{CanHold, IsMade, HasReplySpace};
 ghost use Rattle.wide_edit.specs.Found.{first_number, second_number, IsFoundAt};
-ghost use Rattle.wide_edit.specs.Counted.{AddsAtMost};
-ghost use Rattle.wide_edit.specs.Marks.{marks_of, edit_offset, units_after, units_split_off, marked_capacity, marked_units, marked_text, IsMarkedReady};
+ghost use Rattle.wide_edit.specs.Counted.{counted, AddsAtMost};
+ghost use Rattle.wide_edit.specs.Marks.{mark, marks_of, edit_offset, units_after, units_split_off, marked_capacity, marked_units, marked_text, IsMarkedReady, IsEdited, AreMoved};
 
 use crate::counting::Steps;
 use crate::edits::{Edit, Reply, TextEdit};
@@ -16,6 +16,7 @@ use crate::lookup::{numbers_of, recall};
 use crate::marks::{count_from, find_from, repair, units_from};
 use crate::memory::prepare_at;
 use crate::operations::apply_at;
+use crate::shifting::{Range16, count_if_few, replaced_range, shift};
 use std::alloc::Global;
 use std::marker::Model;
 use wide_error::OutOfMemory;
@@ -26,8 +27,8 @@ use wide_utfstring::Utf16String;
 /// and so on, and of the end if the number of characters is a positive multiple of 64.
 ///
 /// A character is found by its index from the last entry that is not past it, so that fewer than 64 characters are
-/// read. An edit keeps the entries that are not past its first character, and counts the later ones again from the last
-/// of these.
+/// read. An edit keeps the entries that are not past its first character. If it replaces few characters by few, it moves
+/// the later ones, else it counts them again from the last of these.
 #[derive(Drop)]
 pub struct Marked16 {
     string: Utf16String,
@@ -132,7 +133,49 @@ fn apply16(
     apply_at(string, edit, start, end, space)
 }
 
-// Makes the edit, and counts the index entries after its first character again.
+// Counts the entries after the first `kept` ones again.
+fn recount(text: Utf16Str<'_>, marks: &mut Vec<usize>, kept: usize, steps: &mut Steps)
+    requires within { kept ≤ length marks.old.items }
+    requires some { take kept marks.old.items ≡ take kept (marks_of (chars Utf16 (units_seen text))) }
+    requires space { length (chars Utf16 (units_seen text)) / 64 ≤ vec_capacity marks.old }
+    ensures marks { marks.new.items ≡ marks_of (chars Utf16 (units_seen text.entry)) }
+    ensures space { vec_capacity marks.new ≡ vec_capacity marks.old }
+    ensures grows { counted steps.old ≤ counted steps.new }
+    ensures steps { counted steps.new + mark (chars Utf16 (units_seen text.entry)) kept ≡ counted steps.old + length (units_seen text.entry) }
+{
+    marks.truncate(kept);
+    repair(text, marks, steps);
+}
+
+// Makes the entries those of a text whose characters in a range were replaced by others. The text had `count`
+// characters and `units` units before. If both are few, the entries after them are moved.
+fn update(
+    text: Utf16Str<'_>,
+    marks: &mut Vec<usize>,
+    range: Range16,
+    kept: usize,
+    count: usize,
+    units: usize,
+    steps: &mut Steps,
+)
+    requires edited { IsEdited (chars Utf16 (units_seen text)) count units range.from range.to range.start range.end }
+    requires long { length marks.old.items ≡ count / 64 }
+    requires some { take (range.from / 64) marks.old.items ≡ take (range.from / 64) (marks_of (chars Utf16 (units_seen text))) }
+    requires kept { kept ≤ range.from / 64 }
+    requires moved { AreMoved (chars Utf16 (units_seen text)) count units range.to marks.old.items }
+    requires space { length (chars Utf16 (units_seen text)) / 64 ≤ vec_capacity marks.old }
+    ensures marks { marks.new.items ≡ marks_of (chars Utf16 (units_seen text.entry)) }
+    ensures space { vec_capacity marks.new ≡ vec_capacity marks.old }
+    ensures grows { counted steps.old ≤ counted steps.new }
+    ensures steps { counted steps.new + mark (chars Utf16 (units_seen text.entry)) kept ≤ counted steps.old + 63 + length (units_seen text.entry) }
+{
+    match count_if_few(text, range, count, units, steps) {
+        Some(total) => shift(text, marks, range, count, units, total, steps),
+        None => recount(text, marks, kept, steps),
+    }
+}
+
+// Makes the edit, and updates the index entries after its first character.
 fn apply_to(
     string: &mut Utf16String,
     marks: &mut Vec<usize>,
@@ -157,9 +200,13 @@ fn apply_to(
     let kept = offset_in(edit, count) / 64;
     // The edit may read the units after the last entry that is retained, and no others.
     steps.tick(units_from(string.as_utfstr(), marks.as_slice(), kept));
+    let range = replaced_range(string, edit, count, start, end, steps);
+    let units = string.len();
     let reply = apply16(string, edit, start, end, space);
-    marks.truncate(kept);
-    repair(string.as_utfstr(), marks, steps);
+    match range {
+        Some(range) => update(string.as_utfstr(), marks, range, kept, count, units, steps),
+        None => recount(string.as_utfstr(), marks, kept, steps),
+    }
     reply
 }
 

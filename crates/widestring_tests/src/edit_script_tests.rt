@@ -4,7 +4,7 @@ use crate::random::Random;
 use std::alloc::Global;
 use widestring::edit::{Edit, Marked16, Reply, Steps, TextEdit, run, run_both};
 use widestring::error::FaultUnit;
-use widestring::utfstring::UtfString;
+use widestring::utfstring::{UtfStrInUtfstring, UtfString};
 use widestring::{Utf16String, Utf32String};
 
 // Returns whether units of UTF-16 are std's encoding of the characters.
@@ -158,5 +158,48 @@ fn agrees(alloc: Global, seed: u64) -> bool {
 fn random_scripts(rt: HostRuntime) {
     for seed in 0..20_000 {
         assert!(rt; agrees(rt.alloc(), seed), "the script of seed {seed}");
+    }
+}
+
+// Makes an edit of a string with an offset index, and returns whether the index is then that of a new one of its text.
+fn keeps_index(alloc: Global, text: &mut Marked16, edit: Edit<'_>) -> bool {
+    let Ok(space) = text.prepare(alloc, edit) else {
+        return false;
+    };
+    let _reply = text.apply(edit, space);
+    let Ok(copy) = text.as_utfstr().to_utfstring(alloc) else {
+        return false;
+    };
+    match Marked16::new(alloc, copy) {
+        Ok(new) => text.marks() == new.marks(),
+        Err(_refused) => false,
+    }
+}
+
+// Returns whether twenty small edits of a long text each leave the index of the text.
+fn keep_index(alloc: Global, seed: u64) -> bool {
+    let mut random = Random::new(seed);
+    let Ok(text) = random.long_text(alloc) else {
+        return false;
+    };
+    let Ok(string) = Utf16String::from_str(alloc, text.as_str()) else {
+        return false;
+    };
+    let Ok(mut marked) = Marked16::new(alloc, string) else {
+        return false;
+    };
+    for _ in 0..20 {
+        let edit = random.small_edit(TextEdit::char_count(&marked));
+        if !keeps_index(alloc, &mut marked, edit) {
+            return false;
+        }
+    }
+    true
+}
+
+#[test]
+fn small_edits_of_long_texts(rt: HostRuntime) {
+    for seed in 0..120 {
+        assert!(rt; keep_index(rt.alloc(), seed), "the edits of seed {seed}");
     }
 }

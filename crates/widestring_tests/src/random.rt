@@ -130,4 +130,53 @@ impl Random {
             _ => Edit::Clear,
         }
     }
+
+    // Returns an offset in a list of this many characters: close to an end, to a multiple of 64, or anywhere.
+    fn near_offset(&mut self, count: usize) -> usize {
+        match self.below(4) {
+            0 => self.below(70),
+            1 => count.saturating_sub(self.below(70)),
+            2 => (self.below(count / 64 + 1) * 64 + self.below(3)).saturating_sub(1),
+            _ => self.below(count.saturating_add(2)),
+        }
+    }
+
+    // Returns an edit that replaces characters of a list of this many characters by others, mostly few by few.
+    pub fn small_edit(&mut self, count: usize) -> Edit<'static> {
+        let from = self.near_offset(count);
+        let to = from.saturating_add(self.below(40));
+        match self.below(8) {
+            0 => Edit::Push(self.pick(&CHARS)),
+            1 => Edit::PushStr(self.pick(&TEXTS)),
+            2 => Edit::Insert(from, self.pick(&CHARS)),
+            3 => Edit::InsertStr(from, self.pick(&TEXTS)),
+            4 => Edit::Remove(from),
+            5 => Edit::Drain(from, to),
+            6 => Edit::Replace(from, to, self.pick(&TEXTS)),
+            _ => Edit::Replace(
+                from,
+                from.saturating_add(self.below(600)),
+                self.pick(&TEXTS),
+            ),
+        }
+    }
+
+    // Returns a text of up to 20,000 characters. Each third of such texts has no pairs, some, and pairs only.
+    pub fn long_text(&mut self, alloc: Global) -> Result<String, AllocError> {
+        let chars = match self.below(3) {
+            0 => &CHARS[..9],
+            1 => &CHARS[..],
+            _ => &CHARS[9..],
+        };
+        let most = match self.below(3) {
+            0 => 200,
+            1 => 2_000,
+            _ => 20_000,
+        };
+        let mut text = String::new(alloc);
+        for _ in 0..self.below(most) {
+            text.push(self.pick(chars))?;
+        }
+        Ok(text)
+    }
 }

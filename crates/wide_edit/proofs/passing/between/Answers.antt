@@ -1,0 +1,47 @@
+use Rattle.std.proofs.Common.{◌≡◌, ◌+◌, ◌-◌, ap, sym, ◌∙◌, refl, arith, length, subst}
+use Rattle.std.proofs.lemmas.List.{map-id, take_all}
+use Rattle.wide_unit.specs.EncodingForm.{Utf16}
+use Rattle.wide_unit.specs.Items.{chars}
+use Rattle.wide_unit.specs.Offsets.{IsCharBoundary}
+use Rattle.wide_utfstr.specs.View.{units_seen}
+use Rattle.wide_edit.specs.Marks.{offset}
+use Rattle.wide_edit.proofs.Lengths.{size-take}
+use Rattle.wide_edit.proofs.Marking.{well-formed, whole-size}
+use Rattle.wide_edit.proofs.Neighbors.{apart, single-units}
+use Rattle.wide_edit.proofs.passing.between.Goals as goal
+
+pub overflow_sub-high : goal.overflow_sub-high
+overflow_sub-high c =
+    let r = c.requires in
+    omega (arith, r.low, r.high, r.after, r.before, (apart (chars Utf16 (units_seen c.args.text)) c.args.low.0 c.args.high.0 (omega (arith, r.after, r.before)) r.within).least)
+
+pub returns-then-high-low-clause-offset : goal.returns-then-high-low-clause-offset
+returns-then-high-low-clause-offset c =
+    let r = c.requires in
+    let cs = chars Utf16 (units_seen c.args.text) in
+    let far = (apart cs c.args.low.0 c.args.high.0 (omega (arith, r.after, r.before)) r.within).least in
+    omega (arith, r.low, r.after, single-units cs c.args.low.0 c.args.to c.args.high.0 r.after r.before r.within (omega (arith, r.low, r.high, far, c.if-high-low.true, r.after, r.before)))
+
+pub returns-then-passed-left-clause-on : goal.returns-then-passed-left-clause-on
+returns-then-passed-left-clause-on c =
+    let r = c.requires in
+    let far = apart (chars Utf16 (units_seen c.args.text)) c.args.low.0 c.args.to r.after (omega (arith, r.before, r.within)) in
+    omega (arith, r.low, r.after, far.least, far.most, c.pass_on.ensures.offset, c.pass_on.ensures.steps)
+
+pub returns-then-passed-left-clause-back : goal.returns-then-passed-left-clause-back
+returns-then-passed-left-clause-back c =
+    let r = c.requires in
+    let far = apart (chars Utf16 (units_seen c.args.text)) c.args.low.0 c.args.to r.after (omega (arith, r.before, r.within)) in
+    omega (arith, r.low, r.after, r.before, c.if-passed-left.true, far.least, far.most, c.pass_on.ensures.offset, c.pass_on.ensures.steps)
+
+pub returns-else-passed-left-clause-on : goal.returns-else-passed-left-clause-on
+returns-else-passed-left-clause-on c =
+    let r = c.requires in
+    let far = apart (chars Utf16 (units_seen c.args.text)) c.args.to c.args.high.0 r.before r.within in
+    omega (arith, r.high, r.after, r.before, c.if-passed-left.false, far.least, far.most, c.pass_back.ensures.offset, c.pass_back.ensures.steps)
+
+pub returns-else-passed-left-clause-back : goal.returns-else-passed-left-clause-back
+returns-else-passed-left-clause-back c =
+    let r = c.requires in
+    let far = apart (chars Utf16 (units_seen c.args.text)) c.args.to c.args.high.0 r.before r.within in
+    omega (arith, r.high, r.before, far.least, far.most, c.pass_back.ensures.offset, c.pass_back.ensures.steps)

@@ -1,0 +1,15 @@
+use Rattle.std.proofs.Common.{◌≡◌, ◌+◌, ◌-◌, ap, sym, ◌∙◌, refl, arith, length, subst}
+use Rattle.std.proofs.lemmas.List.{map-id, take_all}
+use Rattle.wide_unit.specs.EncodingForm.{Utf16}
+use Rattle.wide_unit.specs.Items.{chars}
+use Rattle.wide_unit.specs.Offsets.{IsCharBoundary}
+use Rattle.wide_utfstr.specs.View.{units_seen}
+use Rattle.wide_edit.specs.Marks.{offset}
+use Rattle.wide_edit.proofs.Lengths.{size-take}
+use Rattle.wide_edit.proofs.Marking.{well-formed, whole-size}
+use Rattle.wide_edit.proofs.passing.pass_on.Goals as goal
+
+pub overflow_add-at : goal.overflow_add-at
+overflow_add-at c =
+    let us = units_seen c.args.text in
+    omega (arith, c.len_after-len.ensures, c.loop-number.invariant.at, c.len-units.ensures, size-take Utf16 (chars Utf16 us) (c.loop-number.number + 1), whole-size us (well-formed us c.args.text.well_formed))

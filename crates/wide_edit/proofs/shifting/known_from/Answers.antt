@@ -1,0 +1,35 @@
+use Rattle.std.proofs.Common.{◌≡◌, ◌+◌, ◌-◌, ◌*◌, ap, sym, ◌∙◌, arith, length, take}
+use Rattle.std.proofs.lemmas.List.{take_all}
+use Rattle.wide_unit.specs.EncodingForm.{Utf16}
+use Rattle.wide_unit.specs.Items.{chars}
+use Rattle.wide_utfstr.specs.View.{units_seen}
+use Rattle.wide_edit.specs.Marks.{offset}
+use Rattle.wide_edit.proofs.Lengths.{size, size-take}
+use Rattle.wide_edit.proofs.Marking.{well-formed, whole-size}
+use Rattle.wide_edit.proofs.shifting.known_from.Goals as goal
+
+pub overflow_sub-result : goal.overflow_sub-result
+overflow_sub-result c =
+    let cs = chars Utf16 (units_seen c.args.text) in
+    let there = c.requires.moved c.args.number (omega arith) c.if-number-entries.true in
+    omega (arith, there, size-take Utf16 cs (length cs + 64 * (c.args.number + 1) - c.args.count))
+
+pub overflow_sub-result-then-number-entries : goal.overflow_sub-result-then-number-entries
+overflow_sub-result-then-number-entries c =
+    let us = units_seen c.args.text in
+    let there = c.requires.moved c.args.number (omega arith) c.if-number-entries.true in
+    omega (arith, there, c.len-len.ensures, whole-size us (well-formed us c.args.text.well_formed))
+
+pub returns-then-number-entries-clause-offset : goal.returns-then-number-entries-clause-offset
+returns-then-number-entries-clause-offset c =
+    let us = units_seen c.args.text in
+    let cs = chars Utf16 us in
+    let there = c.requires.moved c.args.number (omega arith) c.if-number-entries.true in
+    let index : c.args.total - (c.args.count - 64 * (c.args.number + 1)) ≡ length cs + 64 * (c.args.number + 1) - c.args.count = omega (arith, c.requires.total, c.requires.old, c.requires.less, c.if-number-entries.true) in
+    omega (arith, there, ap (offset cs) index, c.len-len.ensures, whole-size us (well-formed us c.args.text.well_formed), size-take Utf16 cs (length cs + 64 * (c.args.number + 1) - c.args.count))
+
+pub returns-clause-offset : goal.returns-clause-offset
+returns-clause-offset c =
+    let us = units_seen c.args.text in
+    let cs = chars Utf16 us in
+    omega (arith, c.len-len.ensures, whole-size us (well-formed us c.args.text.well_formed), ap (size Utf16) (take_all c.args.total cs (omega (arith, c.requires.total))))

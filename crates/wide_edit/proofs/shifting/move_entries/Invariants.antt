@@ -1,0 +1,21 @@
+use Rattle.std.proofs.Common.{◌≡◌, ◌+◌, ◌≤◌, ◌-◌, ◌/◌, ℕ, length, take, map}
+use Rattle.std.specs.Prelude.{slice_index, max, min}
+use Rattle.std.specs.List.{range_with_len}
+use Rattle.wide_unit.specs.EncodingForm.{Utf16}
+use Rattle.wide_unit.specs.Items.{chars}
+use Rattle.wide_utfstr.specs.View.{units_seen}
+use Rattle.wide_edit.specs.Counted.{counted}
+use Rattle.wide_edit.specs.Marks.{mark}
+use Rattle.wide_edit.proofs.shifting.move_entries.Given as goal
+
+-- The loop invariant: the entries before number `number` are those of the text, and the others are as they were.
+abbrev pub invariant-loop-number : goal.invariant-loop-number
+invariant-loop-number l =
+    let cs = chars Utf16 (units_seen l.fn.text) in
+    record {
+      long : length l.entries ≡ length l.fn.entries;
+      done : take l.number l.entries ≡ map (mark cs) (range_with_len 1 l.number);
+      same : (k : ℕ) → l.number ≤ k → slice_index l.entries k ≡ slice_index l.fn.entries k;
+      grows : counted l.fn.steps ≤ counted l.steps;
+      steps : counted l.steps + l.fn.range.start ≤ counted l.fn.steps + max l.fn.range.start (mark cs l.number) + min 1 (l.number - l.fn.range.from / 64);
+    }
