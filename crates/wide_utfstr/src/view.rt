@@ -110,13 +110,20 @@ impl<'a, C: Unit> UtfStr<'a, C> {
 
     /// Returns the offset, in units, at which the character at an index begins, which is the length in units of the
     /// first `index` characters. If the index is the number of characters, returns the offset of the end. If it is
-    /// greater, returns `None`. It reads the units before the offset, in whole blocks as far as possible, and at most
-    /// one block after it.
+    /// greater, returns `None`. In UTF-16 it reads the units before the offset, in whole blocks as far as possible, and
+    /// at most one block after it; in UTF-32 it reads none.
     pub fn unit_offset(self, index: usize) -> Option<usize>
         ensures some { IsSome result ↔ (index ≤ length (text_seen self.entry)) }
         ensures offset { IfSome result (IsOffsetOf C.form (map C.number (units_seen self.entry)) index) }
         ensures char_boundary { IfSome result (IsCharBoundary C.form (map C.number (units_seen self.entry))) }
     {
+        // The count of all characters reads no unit where each character is one unit.
+        if C::MAX_CHAR_LEN == 1 && index > self.char_count() {
+            return None;
+        }
+        if self.is_offset_of_itself(index) {
+            return Some(index);
+        }
         let mut rest = self;
         let mut passed = 0;
         'counted: while rest.len() > BLOCK {
@@ -230,6 +237,19 @@ impl<'a, C: Unit> UtfStr<'a, C> {
         ensures { bytes_left (chars_left C.form C.number) result ≡ utf8 (text_seen self.entry) }
     {
         encode_utf8(self.chars())
+    }
+
+    // Returns whether a number is an index of a character and its offset too, as far as that is known without reading
+    // units. Where each character is one unit, the count of the characters before an offset is a length.
+    fn is_offset_of_itself(self, number: usize) -> bool
+        ensures within { IsTrue result → number ≤ length (text_seen self.entry) }
+        ensures offset { IsTrue result → IsOffsetOf C.form (map C.number (units_seen self.entry)) number number }
+    {
+        if C::MAX_CHAR_LEN == 1 && self.is_char_boundary(number) {
+            let (prefix, _others) = self.split_at(number);
+            return prefix.char_count() == number;
+        }
+        false
     }
 
     // Returns the first character and the text after it.

@@ -80,3 +80,7 @@ pub returns-clause-char_boundary : goal.returns-clause-char_boundary
 returns-clause-char_boundary g c =
     let us = c.args.self.units.now in
     IsCharBoundary-of g.C.Unit.form (map g.C.Unit.number us) (length us - length c.loop-number.rest.units.now) c.args.self.well_formed (returns-clause-offset g c).boundary
+
+pub returns-then-is_offset_of_itself-clause-char_boundary : goal.returns-then-is_offset_of_itself-clause-char_boundary
+returns-then-is_offset_of_itself-clause-char_boundary g c =
+    IsCharBoundary-of g.C.Unit.form (map g.C.Unit.number c.args.self.units.now) c.args.index c.args.self.well_formed (c.is_offset_of_itself.ensures.offset c.if-is_offset_of_itself.true).boundary
