@@ -44,8 +44,8 @@ pub(crate) fn recall<C: FaultUnit>(s: &UtfString<C>)
     let _capacity = s.capacity();
 }
 
-// Returns the offset, in units, of the character at an index, or `None` if the index is past the end. It reads the
-// units before it once.
+// Returns the offset, in units, of the character at an index, or `None` if the index is past the end. In UTF-16 it reads
+// the units before it once.
 pub(crate) fn find<C: FaultUnit>(s: &UtfString<C>, index: usize) -> Option<usize>
     ensures { IsFoundAt C.form (map C.number s.now.units) index result }
 {
