@@ -36,11 +36,15 @@ fn decode_ends(units: &[u16], digest: &mut Digest) {
     let mut items = U16Str::from_slice(units).chars();
     let mut sum = 0u64;
     for _ in 0..units.len() {
-        if let Some(Ok(c)) = items.next() {
-            sum = sum.wrapping_mul(3).wrapping_add(u64::from(c as u32));
+        match items.next() {
+            Some(Ok(c)) => sum = sum.wrapping_mul(3).wrapping_add(u64::from(c as u32)),
+            Some(Err(fault)) => sum = sum.wrapping_add(u64::from(fault.unpaired_surrogate())),
+            None => {}
         }
-        if let Some(Ok(c)) = items.next_back() {
-            sum = sum.wrapping_mul(5).wrapping_add(u64::from(c as u32));
+        match items.next_back() {
+            Some(Ok(c)) => sum = sum.wrapping_mul(5).wrapping_add(u64::from(c as u32)),
+            Some(Err(fault)) => sum = sum.wrapping_add(u64::from(fault.unpaired_surrogate())),
+            None => {}
         }
     }
     digest.number(sum);

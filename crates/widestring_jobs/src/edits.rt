@@ -36,6 +36,14 @@ fn text(words: &mut Words, is_awkward: bool) -> Result<Utf16String, OutOfMemory>
     }
 }
 
+// Returns one of the words.
+fn word_of<'a>(random: &mut Random, texts: &'a [String]) -> &'a str {
+    match texts.get(random.below(texts.len().max(1))) {
+        Some(word) => word.as_str(),
+        None => "",
+    }
+}
+
 // Returns an edit of a text of about `count` characters, which it updates. The indices of an awkward one are near the
 // beginning.
 fn edit<'a>(
@@ -51,10 +59,7 @@ fn edit<'a>(
     };
     let at = random.below(limit.max(1));
     let end = at.saturating_add(random.below(10));
-    let word = match texts.get(random.below(texts.len().max(1))) {
-        Some(word) => word.as_str(),
-        None => "",
-    };
+    let word = word_of(random, texts);
     let near_end = count.saturating_sub(random.below(20));
     let letter = random.char_of(0x61, 26);
     match random.below(40) {
@@ -108,6 +113,7 @@ fn add_replies(replies: &[Reply], digest: &mut Digest) {
             Reply::Char(c) => digest.number(u64::from(*c as u32)),
             Reply::NoChar => digest.number(2),
             Reply::Chars(chars) => {
+                digest.number(chars.len() as u64);
                 for c in chars.as_slice() {
                     digest.number(u64::from(*c as u32));
                 }
@@ -144,7 +150,10 @@ fn edit_marked(
         if run(alloc, &mut marked, &[edit], &mut replies).is_err() {
             return Err(OutOfMemory);
         }
-        digest.number(marked.as_utfstr().len() as u64);
+        for mark in marked.marks() {
+            digest.number(*mark as u64);
+        }
+        digest.units(marked.as_utfstr().as_slice());
     }
     add_replies(&replies, digest);
     Ok(())

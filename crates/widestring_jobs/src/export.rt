@@ -82,14 +82,17 @@ fn read(words: &Words, bytes: &[u8], digest: &mut Digest) -> Result<(), OutOfMem
     let parts = utf16_of_bytes(bytes);
     let units: Vec<u16> = parts.units.collect(words.alloc)?;
     let mut output = String::new(words.alloc);
+    let mut sum = 0u64;
     for (offset, line) in U16Str::from_slice(&units).line_indices_lossy() {
         print_line(line, &mut output)?;
         for (unit, item) in line.char_indices() {
-            if item.is_err() {
-                digest.number(offset.wrapping_add(unit) as u64);
+            match item {
+                Ok(c) => sum = sum.wrapping_mul(3).wrapping_add(u64::from(c as u32)),
+                Err(_fault) => digest.number(offset.wrapping_add(unit) as u64),
             }
         }
     }
+    digest.number(sum);
     digest.text(&output);
     Ok(())
 }

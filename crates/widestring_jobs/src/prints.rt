@@ -10,14 +10,19 @@ const UNITS: usize = 100_000;
 
 const STRINGS: usize = 3_000;
 
-// Prints a string in each way.
-fn print(number: usize, units: U16Str<'_>, log: &mut String) -> Result<(), OutOfMemory> {
+// Prints a string and another one, each in one of several ways.
+fn print(
+    number: usize,
+    units: U16Str<'_>,
+    other: U16Str<'_>,
+    log: &mut String,
+) -> Result<(), OutOfMemory> {
     match number % 4 {
         0 => writeln!(log, "{number}: {}", units.display())?,
         1 | 2 => writeln!(log, "{number}: {units:?}")?,
         _ => writeln!(log, "{number}: {}", units.display_skipping())?,
     }
-    if let Ok(text) = Utf16Str::from_slice(units.as_slice()) {
+    if let Ok(text) = Utf16Str::from_slice(other.as_slice()) {
         match number % 16 {
             3 => writeln!(log, "{}", text.escape_unicode())?,
             7 => writeln!(log, "{}", text.escape_debug())?,
@@ -50,7 +55,8 @@ pub fn run(words: &mut Words, rounds: u64, digest: &mut Digest) -> Result<(), Ou
         let mut log = String::new(words.alloc);
         for number in 0..words.size(STRINGS) {
             let part = words.part(&units, 3, 60);
-            print(number, part, &mut log)?;
+            let other = words.part(&units, 3, 60);
+            print(number, part, other, &mut log)?;
         }
         digest.text(&log);
     }

@@ -2,7 +2,6 @@
 
 use crate::digest::Digest;
 use crate::texts::Words;
-use std::alloc::Global;
 use widestring::error::OutOfMemory;
 use widestring::ustring::UStrInUstring;
 use widestring::{U16Str, Utf16Str};
@@ -11,20 +10,25 @@ const UNITS: usize = 200_000;
 
 const NEEDLES: usize = 40;
 
-// Returns a needle that occurs, with a last unit that does not occur in any text.
-fn rare_needle(alloc: Global, part: U16Str<'_>) -> Result<Vec<u16>, OutOfMemory> {
-    let mut needle = Vec::new(alloc);
+// Returns a needle that occurs, but for the unit in its middle, which becomes another letter. So it occurs rarely, if at
+// all.
+fn rare_needle(words: &mut Words, part: U16Str<'_>) -> Result<Vec<u16>, OutOfMemory> {
+    let mut needle = Vec::new(words.alloc);
     needle.extend_from_slice(part.as_slice())?;
-    needle.push(0x7e)?;
+    let middle = needle.len() / 2;
+    let letter = words.random.below(26).saturating_add(0x61);
+    if let Some(unit) = needle.get_mut(middle) {
+        *unit = u16::try_from(letter).unwrap_or(0x61);
+    }
     Ok(needle)
 }
 
-// Searches a whole text from both ends for needles of 1 to 50 units, half of which do not occur.
+// Searches a whole text from both ends for needles of 1 to 50 units, half of which occur rarely or never.
 fn find_in(words: &mut Words, units: &[u16], digest: &mut Digest) -> Result<(), OutOfMemory> {
     let text = U16Str::from_slice(units);
     for number in 0..NEEDLES {
         let part = words.part(units, 1, 50);
-        let rare = rare_needle(words.alloc, part)?;
+        let rare = rare_needle(words, part)?;
         let needle = if number % 2 == 0 {
             part
         } else {
@@ -97,7 +101,7 @@ fn replace(words: &mut Words, units: &[u16], digest: &mut Digest) -> Result<(), 
     Ok(())
 }
 
-// Searches a text that repeats itself for a needle that does so.
+// Searches a text that repeats itself for a needle that does so but for the unit in its middle, which occurs nowhere.
 fn find_repeated(words: &mut Words, digest: &mut Digest) -> Result<(), OutOfMemory> {
     let mut text = Vec::new(words.alloc);
     let unit = u16::from(b'a');
@@ -106,13 +110,12 @@ fn find_repeated(words: &mut Words, digest: &mut Digest) -> Result<(), OutOfMemo
         text.push(unit)?;
     }
     let mut needle = Vec::new(words.alloc);
-    for _ in 0..500 {
-        needle.push(unit)?;
+    for number in 0..501 {
+        needle.push(if number == 250 { u16::from(b'b') } else { unit })?;
     }
-    needle.push(u16::from(b'b'))?;
     let view = U16Str::from_slice(&text);
     digest.offset(view.find(U16Str::from_slice(&needle)));
-    needle.reverse();
+    needle.push(unit)?;
     digest.offset(view.rfind(U16Str::from_slice(&needle)));
     Ok(())
 }

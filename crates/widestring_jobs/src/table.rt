@@ -21,7 +21,10 @@ fn read(
     let alloc = words.alloc;
     match Utf16Str::from_slice(units.as_slice()) {
         Ok(text) => digest.number(text.char_count() as u64),
-        Err(fault) => digest.number(fault.index() as u64),
+        Err(fault) => {
+            digest.number(fault.index() as u64);
+            digest.number(u64::from(fault.cause().unpaired_surrogate()));
+        }
     }
     let text = units.to_string_lossy(alloc)?;
     digest.text(&text);
@@ -30,9 +33,11 @@ fn read(
     let wide = Utf32String::from_str(alloc, &text)?;
     digest.wide_units(wide.as_slice());
     if let Ok(string) = U16CString::from_vec(lossy.into_vec()) {
-        digest.number(string.as_ucstr().len() as u64);
+        digest.units(string.as_ucstr().as_slice());
     }
-    table.push(U16String::from_str(alloc, &text)?)?;
+    let string = U16String::from_str(alloc, &text)?;
+    digest.units(string.as_slice());
+    table.push(string)?;
     Ok(())
 }
 
@@ -88,8 +93,9 @@ fn convert(words: &mut Words, is_awkward: bool, digest: &mut Digest) -> Result<(
     let policy = policies[words.random.below(3)];
     let text = view.to_string_lossy_with(alloc, policy)?;
     digest.text(&text);
-    if let Ok(same) = view.to_string(alloc) {
-        digest.number(u64::from(same == text));
+    match view.to_string(alloc) {
+        Ok(same) => digest.text(&same),
+        Err(_fault) => digest.number(1),
     }
     let mut narrow = Utf16String::from_str(alloc, &text)?;
     let wide = Utf32String::from_str(alloc, &text)?;
