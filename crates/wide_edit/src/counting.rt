@@ -3,8 +3,8 @@ ghost use Rattle.std.specs.Prelude.{◌≡◌, ℕ, ◌+◌};
 
 use std::marker::Model;
 
-/// The number of code units that were read, without an upper bound. Only contracts can see it. It takes no bytes, and
-/// the program does nothing with it at run time.
+/// The number of code units that were read, and of index entries that were moved, without an upper bound. Only
+/// contracts can see it. It takes no bytes, and the program does nothing with it at run time.
 #[derive(Drop)]
 pub struct Steps {
     ghost count: { ℕ },

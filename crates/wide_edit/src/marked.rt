@@ -308,8 +308,8 @@ impl Marked16 {
     }
 
     /// Makes an edit in memory that was allocated for it, like [`TextEdit::apply`]. It counts a step for each unit that
-    /// may be read: at most 512, and all units of the old and of the new text after the last index entry that is not
-    /// past the edit's first character, read or not.
+    /// may be read and for each index entry that is moved: at most 512, and all units of the old and of the new text
+    /// after the last index entry that is not past the edit's first character, read or not.
     ///
     /// # Requires
     ///

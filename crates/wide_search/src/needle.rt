@@ -24,10 +24,6 @@ pub(crate) trait Needle<C: Unit>: Copy {
     fn probe(self) -> Option<Probe<C>>
         ensures { MatchOption result (sought self ≡ []) (IsProbe (sought self)) };
 
-    // Returns the number of units.
-    fn len(self) -> usize
-        ensures { result ≡ length (sought self) };
-
     // Returns whether other units begin with these.
     fn begins(self, units: &[C]) -> bool
         ensures { IsTrue result ↔ OccursAt (sought self) units.now 0 };
@@ -49,10 +45,6 @@ impl<C: Unit> Needle<C> for Slice<'_, C> {
             last: self.units[distance],
             distance,
         })
-    }
-
-    fn len(self) -> usize {
-        self.units.len()
     }
 
     fn begins(self, units: &[C]) -> bool {
@@ -104,13 +96,6 @@ impl<C: Unit> Needle<C> for Few<C> {
             last,
             distance,
         })
-    }
-
-    fn len(self) -> usize {
-        match self.second {
-            None => 1,
-            Some(_) => 2,
-        }
     }
 
     fn begins(self, units: &[C]) -> bool {

@@ -14,10 +14,10 @@ use crate::text_chunks::{FEW, LARGE, SMALL, write_valid};
 use std::fmt;
 use wide_unit::{Unit, split_first, write_escape};
 
-// Returns whether a character is in one of these blocks or parts of blocks, in which each code point is a letter, a
-// symbol or a punctuation mark, and no combining one: Latin, spacing modifiers, Greek and Cyrillic, general
-// punctuation, arrows and mathematical operators, CJK punctuation, kana, CJK ideographs, Hangul syllables, fullwidth
-// forms, pictographs. No version of the Unicode Standard can make them unprintable, as they are assigned.
+// Returns whether a character is in one of these blocks or parts of blocks, whose characters std prints unchanged, as
+// they are letters, numbers, symbols and punctuation marks, and none is combining: Latin, spacing modifiers, Greek and
+// Cyrillic, general punctuation, arrows and mathematical operators, CJK punctuation, kana, CJK ideographs, Hangul
+// syllables, fullwidth forms, pictographs.
 #[inline(always)]
 fn is_printable(code: u32) -> bool {
     match code {

@@ -6,8 +6,10 @@ use widestring::Policy;
 use widestring::unit::{Unit, split_first, write_escape};
 use widestring::ustr::UStr;
 
-// How many units are printed at once.
+// How many units are printed at once, and how many in a short part.
 const BLOCK: usize = 256;
+
+const SHORT: usize = 24;
 
 // Units that print their debug text item by item, each character by its escape.
 #[derive(Drop)]
@@ -28,85 +30,114 @@ impl<C: Unit> fmt::Display for ByItems<'_, C> {
     }
 }
 
-// Characters of units, with U+FFFD for each fault, that print their escapes.
+// Characters of units under a policy, that print their escapes.
 #[derive(Drop)]
-struct ByChars<'a, C>(&'a [C]);
+struct ByChars<'a, C>(&'a [C], Policy);
 
 impl<C: Unit> fmt::Display for ByChars<'_, C> {
     fn fmt<W: fmt::Write>(&self, f: &mut fmt::Formatter<W>) -> fmt::Result {
         f.write_str("\"")?;
-        for c in UStr::from_slice(self.0).chars_lossy() {
+        for c in UStr::from_slice(self.0).chars_lossy_with(self.1) {
             write_escape(f, c.escape_debug())?;
         }
         f.write_str("\"")
     }
 }
 
+// Returns whether the characters of units under a policy print what they print one by one.
+fn prints_chars<C: Unit>(alloc: Global, units: &[C], policy: Policy) -> Result<bool, AllocError> {
+    let one_by_one: String = format!(in alloc; "{}", ByChars(units, policy))?;
+    let view = UStr::from_slice(units);
+    let debug: String = format!(in alloc; "{:?}", view.chars_lossy_with(policy))?;
+    Ok(debug == one_by_one)
+}
+
 // Returns whether units print what their items, and what their characters, print one by one.
 fn prints_each<C: Unit>(alloc: Global, units: &[C]) -> Result<bool, AllocError> {
     let view = UStr::from_slice(units);
-    let items: String = format!(in alloc; "{}", ByItems(units))?;
-    let chars: String = format!(in alloc; "{}", ByChars(units))?;
+    let one_by_one: String = format!(in alloc; "{}", ByItems(units))?;
     let debug: String = format!(in alloc; "{view:?}")?;
+    let each: String = format!(in alloc; "{}", ByChars(units, Policy::Each))?;
     let lossy: String = format!(in alloc; "{:?}", view.chars_lossy())?;
-    let each: String = format!(in alloc; "{:?}", view.chars_lossy_with(Policy::Each))?;
-    Ok(debug == items && lossy == chars && each == chars)
+    Ok(
+        debug == one_by_one
+            && lossy == each
+            && prints_chars(alloc, units, Policy::Each)?
+            && prints_chars(alloc, units, Policy::Run)?
+            && prints_chars(alloc, units, Policy::Skip)?,
+    )
 }
 
-// Returns whether a number is tried: most of those below U+3500, those around the ends of blocks that need no look-up in
-// a table, and some of all others.
+// Returns whether units print so, all at once and in short parts.
+fn prints_all<C: Unit>(alloc: Global, units: &[C]) -> Result<bool, AllocError> {
+    for part in units.chunks(SHORT) {
+        if !prints_each(alloc, part)? {
+            return Ok(false);
+        }
+    }
+    prints_each(alloc, units)
+}
+
+// Returns whether a number is tried: those in and around the blocks that need no look-up in a table, those around
+// surrogates and the greatest character, and some of all others.
 fn is_tried(number: u32) -> bool {
     match number {
-        0..0x600 | 0x2000..0x2500 | 0x2ff0..0x3110 | 0x33f0..0x3410 => true,
-        0x4db0..0x4e10 | 0x9ff0..0xa010 | 0xabf0..0xac10 | 0xd790..0xd810 => true,
-        0xdbf0..0xdc10 | 0xdff0..0xe010 | 0xff00..0x1_0010 => true,
-        0x1_f2f0..0x1_f310 | 0x1_f640..0x1_f660 | 0x10_fff0..0x11_0010 => true,
+        0..0x540 | 0x2000..0x2440 | 0x2ff0..0x3110 | 0x33f0..0x4dd0 | 0x4df0..0xa010 => true,
+        0xabf0..0xd7b0 | 0xd7f0..0xd810 | 0xdbf0..0xdc10 | 0xdff0..0xe010 => true,
+        0xfef0..0x1_0010 | 0x1_f2f0..0x1_f660 | 0x10_fff0..0x11_0010 => true,
         _ => number % 211 == 0,
     }
 }
 
-// Returns the last number of a block in which 32-bit units of some of the numbers up to 110100 differ.
-fn first_wrong32(alloc: Global) -> Result<Option<u32>, AllocError> {
-    let mut units = Vec::new(alloc);
-    for number in (0..0x11_0100u32).filter(|number| is_tried(*number)) {
-        units.push(number)?;
-        if units.len() == BLOCK {
-            if !prints_each(alloc, units.as_slice())? {
-                return Ok(Some(number));
-            }
-            units.clear();
-        }
-    }
-    Ok(None)
+// Appends a number as a unit.
+fn push32(units: &mut Vec<u32>, number: u32) -> Result<(), AllocError> {
+    Ok(units.push(number)?)
 }
 
-// Returns the last number of a block in which 16-bit units of some numbers differ, each after a letter or after the unit
-// before it.
-fn first_wrong16(alloc: Global) -> Result<Option<u16>, AllocError> {
-    let mut units = Vec::new(alloc);
-    for number in (0..u16::MAX).filter(|number| is_tried(u32::from(*number))) {
-        if number % 3 == 0 {
-            units.push(0x61)?;
-        }
-        units.push(number)?;
-        if units.len() >= BLOCK {
-            if !prints_each(alloc, units.as_slice())? {
-                return Ok(Some(number));
+// Appends the units of a character, or a surrogate. A number beyond the characters has no units.
+fn push16(units: &mut Vec<u16>, number: u32) -> Result<(), AllocError> {
+    match char::from_u32(number) {
+        Some(c) => {
+            let (first, second) = u16::encode_char(c);
+            units.push(first)?;
+            match second {
+                Some(second) => Ok(units.push(second)?),
+                None => Ok(()),
             }
-            units.clear();
         }
+        None => match u16::try_from(number) {
+            Ok(surrogate) => Ok(units.push(surrogate)?),
+            Err(_beyond) => Ok(()),
+        },
     }
-    Ok(None)
+}
+
+// Returns the last number of a block in which the units of some of the numbers up to 11000F print something else.
+macro_rules! first_wrong {
+    ($alloc:expr, $push:ident) => {{
+        let mut units = Vec::new($alloc);
+        let mut wrong = None;
+        for number in (0..0x11_0010u32).filter(|number| is_tried(*number)) {
+            $push(&mut units, number)?;
+            if units.len() >= BLOCK || number == 0x11_000f {
+                if !prints_all($alloc, units.as_slice())? && wrong.is_none() {
+                    wrong = Some(number);
+                }
+                units.clear();
+            }
+        }
+        wrong
+    }};
 }
 
 #[test]
-fn debug_text_of_each_32_bit_unit(rt: HostRuntime) -> Result<(), std::test::Fail> {
-    assert_eq!(rt; first_wrong32(rt.alloc())?, None);
+fn debug_text_of_32_bit_units(rt: HostRuntime) -> Result<(), std::test::Fail> {
+    assert_eq!(rt; first_wrong!(rt.alloc(), push32), None);
     Ok(())
 }
 
 #[test]
-fn debug_text_of_each_16_bit_unit(rt: HostRuntime) -> Result<(), std::test::Fail> {
-    assert_eq!(rt; first_wrong16(rt.alloc())?, None);
+fn debug_text_of_16_bit_units(rt: HostRuntime) -> Result<(), std::test::Fail> {
+    assert_eq!(rt; first_wrong!(rt.alloc(), push16), None);
     Ok(())
 }
