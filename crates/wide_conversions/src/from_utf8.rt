@@ -74,6 +74,19 @@ pub(crate) fn put_char<C: Unit>(units: &mut [C], at: usize, c: char) -> usize
     }
 }
 
+// Stores bytes, each as a character. If they are a local array, they cannot overlap the units, so the compiler
+// vectorizes the loop.
+#[inline(always)]
+fn put_each<C: Unit>(bytes: &[u8], units: &mut [C], at: usize)
+    requires { at + length bytes.now ≤ length units.old }
+    ensures { map C.number (take (at + length bytes.now) units.new) ≡ map C.number (take at units.old) ++ bytes.now }
+{
+    for k in 0..bytes.len() {
+        let (unit, _) = C::encode_char(char::from(bytes[k]));
+        units[at + k] = unit;
+    }
+}
+
 /// Stores the first sixteen bytes of text, each as a character.
 ///
 /// # Requires
@@ -85,12 +98,17 @@ pub(crate) fn put_bytes<C: Unit>(text: &[u8], units: &mut [C], at: usize)
     requires space { at + 16 ≤ length units.old }
     ensures { map C.number (take (at + 16) units.new) ≡ map C.number (take at units.old) ++ take 16 text.now }
 {
-    // A local array cannot overlap the units, so the compiler vectorizes this loop.
-    let bytes = u8x16::from_slice(text).to_array();
-    for k in 0..16 {
-        let (unit, _) = C::encode_char(char::from(bytes[k]));
-        units[at + k] = unit;
-    }
+    put_each(&u8x16::from_slice(text).to_array(), units, at);
+}
+
+// Stores the first eight bytes of text, each as a character.
+#[inline(always)]
+fn put_eight_bytes<C: Unit>(text: &[u8], units: &mut [C], at: usize)
+    requires whole { 8 ≤ length text.now }
+    requires space { at + 8 ≤ length units.old }
+    ensures { map C.number (take (at + 8) units.new) ≡ map C.number (take at units.old) ++ take 8 text.now }
+{
+    put_each(&u8x8::from_slice(text).to_array(), units, at);
 }
 
 /// Returns how many of the first sixteen bytes of text precede the first byte that is not below the bound: 16 if all
@@ -114,6 +132,18 @@ pub(crate) fn low_len(text: &[u8], bound: u8) -> usize
     } else {
         bits.trailing_zeros() as usize
     }
+}
+
+// Returns whether the first eight bytes of text are ASCII.
+#[inline(always)]
+fn are_eight_ascii(text: &[u8]) -> bool
+    requires { 8 ≤ length text.now }
+    ensures { IsTrue result → (k : ℕ) → k < 8 → slice_index text.now k < 0x80 }
+{
+    u8x8::from_slice(text)
+        .simd_ge(u8x8::splat(0x80))
+        .to_bitmask()
+        == 0
 }
 
 // Stores the blocks of sixteen ASCII characters at the beginning of text, as many as fit, and returns how many
@@ -314,6 +344,15 @@ pub fn from_utf8_prefix<C: Unit>(text: &[u8], units: &mut [C]) -> (usize, usize)
         let (bytes, more) = put_block(&text[read..], units, written);
         read += bytes;
         written += more;
+    }
+    // A short text has no sixteen bytes, and the rest of a long one has fewer than eighteen.
+    'eights: while text.len() - read >= 8
+        && units.len() - written >= 8
+        && are_eight_ascii(&text[read..])
+    {
+        put_eight_bytes(&text[read..], units, written);
+        read += 8;
+        written += 8;
     }
     'ones: while read < text.len() {
         let (c, len) = first_char(&text[read..]);

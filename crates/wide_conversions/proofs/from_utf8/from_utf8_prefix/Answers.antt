@@ -1,6 +1,6 @@
-use Rattle.std.proofs.Common.{◌≡◌, ◌-◌, ◌∙◌, [], arith, drop, length, length-drop, map, take}
+use Rattle.std.proofs.Common.{◌≡◌, ◌-◌, ◌∙◌, [], arith, drop, length, length-drop, length-take, map, take}
 use Rattle.std.proofs.lemmas.List.{length-map, length-take-le, take_all}
-use Rattle.wide_conversions.proofs.PrefixUnits.{decoded-beyond, decoded-char, decoded-next, decoded-none, decoded-then}
+use Rattle.wide_conversions.proofs.PrefixUnits.{decoded-ascii, decoded-beyond, decoded-char, decoded-next, decoded-none, decoded-then}
 use Rattle.wide_conversions.proofs.from_utf8.from_utf8_prefix.Goals as goal
 
 pub sixteens-init : goal.sixteens-init
@@ -17,6 +17,20 @@ sixteens-preserved g c =
       few = omega (arith, block.ensures.few, c.sixteens.invariant.few);
       space = omega (arith, block.ensures.space, block.auto.units);
       prefix = decoded-then g.C.Unit.form c.args.text.now [] _ _ c.sixteens.read block.result.0 c.sixteens.invariant.prefix block.ensures.units;
+    }
+
+pub eights-preserved : goal.eights-preserved
+eights-preserved g c =
+    let form = g.C.Unit.form in
+    let bs = c.args.text.now in
+    let read = c.eights.read in
+    let prefix = c.eights.invariant.prefix in
+    let rest = take (length bs - read) (drop read bs) in
+    record {
+      within = omega (arith, c.eights-test.true);
+      few = omega (arith, c.eights.invariant.few);
+      space = omega (arith, c.if-units-written-ge8.true, c.put_eight_bytes.auto.units);
+      prefix = decoded-then form bs [] _ _ read 8 prefix (decoded-ascii form rest _ _ 8 (decoded-beyond form bs [] _ read prefix) (omega (arith, c.eights-test.true, length-take (length bs - read) (drop read bs), length-drop read bs)) (c.are_eight_ascii.ensures c.if-are_eight_ascii.true) c.put_eight_bytes.ensures);
     }
 
 pub first_char-c-requires-clause-text : goal.first_char-c-requires-clause-text

@@ -23,3 +23,14 @@ invariant-ones g l = record {
 
 abbrev pub decreases-ones : goal.decreases-ones
 decreases-ones g l = length l.text - l.read
+
+abbrev pub invariant-eights : goal.invariant-eights
+invariant-eights g l = record {
+  within : l.read ≤ length l.text;
+  few : l.written ≤ 2 * l.read;
+  space : l.written ≤ length l.units;
+  prefix : IsDecoded g.C.Unit.form l.text l.read [] (map g.C.Unit.number (take l.written l.units));
+}
+
+abbrev pub decreases-eights : goal.decreases-eights
+decreases-eights g l = length l.text - l.read
