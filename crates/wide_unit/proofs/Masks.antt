@@ -73,6 +73,10 @@ module _ (p : ℕ → Bool) where
       (none_further us m (first_offset p rest) before (none_to_offset rest))
       (λ l. subst (λ x. p x ≡ true) (get_or-drop m us (first_offset p rest) 0) (offset_here rest (omega (arith, e))))
 
+  -- None of the first m units passes, so the first that does is at m or later.
+  pub offset_beyond : (us : List ℕ) (m : ℕ) → m ≤ length us → NoneBefore us m → m ≤ first_offset p us
+  offset_beyond us m le before = omega (arith, offset_from us m le before)
+
   -- The mask is empty if none passes.
   empty_mask : (us : List ℕ) → NoneBefore us (length us) → mask_l (map p us) ≡ 0
   empty_mask [] none = refl
@@ -121,6 +125,23 @@ module _ (p : ℕ → Bool) where
         let below : first_offset p block < n = offset_below block long some in
         let here : first_offset p block ≡ first_offset p (drop m us) = offset_of_prefix n (drop m us) (omega (arith, below, long)) in
         ap (λ j. m + j) (lowest ∙ here) ∙ offset_from us m (omega arith) before
+
+    -- ---- the last block, which may overlap the one before it
+
+    module _ (us : List ℕ) (m k bits : ℕ) (last : m + n ≡ length us) (whole : k ≡ n) (mask : bits ≡ mask_l (map p (take k (drop m us)))) (before : m ≤ first_offset p us) where
+      last-mask : bits ≡ mask_l (map p (take n (drop m us)))
+      last-mask = mask ∙ ap (λ j. mask_l (map p (take j (drop m us)))) whole
+
+      earlier : NoneBefore us m
+      earlier j l = none_to_offset us j (omega (arith, l, before))
+
+      pub last_passed : bits ≡ 0 → length us ≡ first_offset p us
+      last_passed clear =
+          let all : NoneBefore us (length us) = subst (λ j. NoneBefore us j) last (block_passed us m (omega (arith, last)) earlier (sym last-mask ∙ clear)) in
+          offset_is us (length us) (omega arith) all (λ l. absurd (omega arith))
+
+      pub last_stops : bits ≢ 0 → m + count_trailing_zeros 64 bits ≡ first_offset p us
+      last_stops set = ap (λ b. m + count_trailing_zeros 64 b) last-mask ∙ block_stops us m (omega (arith, last)) earlier (omega (arith, last-mask, set))
 
     -- ---- the steps of a loop over the blocks
 

@@ -1,5 +1,5 @@
 //! Searches and counts in a slice of units in SIMD lanes: sixteen 16-bit units, or eight 32-bit units, in one step.
-ghost use Rattle.std.specs.Prelude.{◌≡◌, ◌≤◌, ◌<◌, ◌^◌, ℕ, length, map, drop};
+ghost use Rattle.std.specs.Prelude.{◌≡◌, ◌≤◌, ◌<◌, ◌^◌, ◌-◌, ℕ, length, map, drop};
 ghost use Rattle.std.specs.List.{count_by};
 ghost use Rattle.std.specs.Simd.Lanes.{mask_l};
 ghost use Rattle.std.proofs.Common.{rules};
@@ -26,17 +26,36 @@ trait Test<C: Copy, const N: usize>: Copy {
         ensures { result ≡ mask_l (map (passes self) block.now) };
 }
 
+// Returns the index of the first 16-bit unit that passes, or the length if there is none, if none of the units before
+// the last sixteen passes.
+#[inline(always)]
+fn last_of_16<T: Test<u16, 16>>(units: &[u16], test: T) -> usize
+    requires whole { 16 ≤ length units.now }
+    requires before { length units.now - 16 ≤ first_offset (T.passes test) units.now }
+    ensures { result ≡ first_offset (T.passes test) units.now }
+{
+    let start = units.len() - 16;
+    let bits = test.bits(&units[start..]);
+    if bits == 0 {
+        return units.len();
+    }
+    start + bits.trailing_zeros() as usize
+}
+
 // Returns the index of the first 16-bit unit that passes, or the length if there is none.
 #[inline(always)]
 fn first_of_16<T: Test<u16, 16>>(units: &[u16], test: T) -> usize
     ensures { result ≡ first_offset (T.passes test) units.now }
 {
-    let (blocks, _) = units.as_chunks::<16>();
+    let (blocks, rest) = units.as_chunks::<16>();
     for (i, block) in blocks.iter().enumerate() {
         let bits = test.bits(block);
         if bits != 0 {
             return i * 16 + bits.trailing_zeros() as usize;
         }
+    }
+    if units.len() >= 16 && !rest.is_empty() {
+        return last_of_16(units, test);
     }
     for k in blocks.len() * 16..units.len() {
         if test.accepts(units[k]) {
@@ -46,17 +65,36 @@ fn first_of_16<T: Test<u16, 16>>(units: &[u16], test: T) -> usize
     units.len()
 }
 
+// Returns the index of the first 32-bit unit that passes, or the length if there is none, if none of the units before
+// the last eight passes.
+#[inline(always)]
+fn last_of_32<T: Test<u32, 8>>(units: &[u32], test: T) -> usize
+    requires whole { 8 ≤ length units.now }
+    requires before { length units.now - 8 ≤ first_offset (T.passes test) units.now }
+    ensures { result ≡ first_offset (T.passes test) units.now }
+{
+    let start = units.len() - 8;
+    let bits = test.bits(&units[start..]);
+    if bits == 0 {
+        return units.len();
+    }
+    start + bits.trailing_zeros() as usize
+}
+
 // Returns the index of the first 32-bit unit that passes, or the length if there is none.
 #[inline(always)]
 fn first_of_32<T: Test<u32, 8>>(units: &[u32], test: T) -> usize
     ensures { result ≡ first_offset (T.passes test) units.now }
 {
-    let (blocks, _) = units.as_chunks::<8>();
+    let (blocks, rest) = units.as_chunks::<8>();
     for (i, block) in blocks.iter().enumerate() {
         let bits = test.bits(block);
         if bits != 0 {
             return i * 8 + bits.trailing_zeros() as usize;
         }
+    }
+    if units.len() >= 8 && !rest.is_empty() {
+        return last_of_32(units, test);
     }
     for k in blocks.len() * 8..units.len() {
         if test.accepts(units[k]) {
