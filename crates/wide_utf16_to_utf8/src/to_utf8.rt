@@ -166,6 +166,56 @@ fn encode_surrogates(units: &[u16], from: usize, out: &mut [u8], at: usize) -> S
     }
 }
 
+// Returns whether the first eight units are ASCII characters.
+#[inline(always)]
+fn are_eight_ascii(units: &[u16]) -> bool
+    requires { 8 ≤ length units.now }
+    ensures { IsTrue result → (k : ℕ) → k < 8 → slice_index units.now k < 0x80 }
+{
+    u16x8::from_slice(units)
+        .simd_ge(u16x8::splat(0x80))
+        .to_bitmask()
+        == 0
+}
+
+// Writes the first eight units, which are ASCII characters, as bytes at the offset `at` in `out`.
+#[inline(always)]
+fn put_eight_ascii(units: &[u16], out: &mut [u8], at: usize)
+    requires whole { 8 ≤ length units.now }
+    requires space { at + 8 ≤ length out.old }
+    requires ascii { (k : ℕ) → k < 8 → slice_index units.now k < 0x80 }
+    ensures { take (at + 8) out.new ≡ take at out.old ++ take 8 units.now }
+{
+    // A local array cannot overlap the units, so the compiler vectorizes this loop.
+    let mut bytes = [0u8; 8];
+    for k in 0..8 {
+        bytes[k] = units[k] as u8;
+    }
+    u8x8::from_slice(&bytes).copy_to_slice(&mut out[at..at + 8]);
+}
+
+// Encodes the units as `encode_plain` does, but eight ASCII characters at the beginning in one step.
+#[inline(always)]
+fn encode_rest(units: &[u16], out: &mut [u8], at: usize) -> Step
+    requires { at + 3 * length units.now + 4 ≤ length out.old }
+    ensures read { result.read ≤ length units.now }
+    ensures written { result.written ≤ at + 3 * result.read }
+    ensures text { EncodedUnits (take result.read units.now) (take at out.old) (take result.written out.new) }
+    ensures stop { StopsBefore (drop result.read units.now) result.fault }
+{
+    let mut read = 0;
+    'eights: while units.len() - read >= 8 && are_eight_ascii(&units[read..]) {
+        put_eight_ascii(&units[read..], out, at + read);
+        read += 8;
+    }
+    let step = encode_plain(&units[read..], out, at + read);
+    Step {
+        read: read + step.read,
+        written: step.written,
+        fault: step.fault,
+    }
+}
+
 /// Encodes the units as UTF-8 after the first `at` bytes of `out`. It stops before the first unpaired surrogate or at
 /// the end. A high surrogate that is the last unit is not read, and is not reported as a fault. `read` counts units,
 /// and `written` is an offset in bytes. Any byte of `out` after the text may be overwritten.
@@ -208,7 +258,7 @@ pub fn utf16_to_utf8_until_fault(units: &[u16], out: &mut [u8], at: usize) -> St
             }
         }
     }
-    let step = encode_plain(&units[read..], out, written);
+    let step = encode_rest(&units[read..], out, written);
     Step {
         read: read + step.read,
         written: step.written,

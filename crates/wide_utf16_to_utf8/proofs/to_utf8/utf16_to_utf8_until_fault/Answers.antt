@@ -52,8 +52,8 @@ sixteens-smaller c = omega (arith, c.encode_surrogates-step.ensures.some (sym c.
 pub returns-clause-text : goal.returns-clause-text
 returns-clause-text c =
     let n = length c.args.units.now - c.sixteens.read in
-    let within = c.encode_plain-step.ensures.read in
-    more-block c.args.units.now c.sixteens.read c.encode_plain-step.result.read n (omega (arith, within, length-take n (drop c.sixteens.read c.args.units.now))) c.sixteens.invariant.encoded c.encode_plain-step.ensures.text
+    let within = c.encode_rest-step.ensures.read in
+    more-block c.args.units.now c.sixteens.read c.encode_rest-step.result.read n (omega (arith, within, length-take n (drop c.sixteens.read c.args.units.now))) c.sixteens.invariant.encoded c.encode_rest-step.ensures.text
 
 pub returns-clause-stop : goal.returns-clause-stop
-returns-clause-stop c = stop-last c.args.units.now c.sixteens.read c.encode_plain-step.result.read (length c.args.units.now - c.sixteens.read) _ (omega arith) c.encode_plain-step.ensures.stop
+returns-clause-stop c = stop-last c.args.units.now c.sixteens.read c.encode_rest-step.result.read (length c.args.units.now - c.sixteens.read) _ (omega arith) c.encode_rest-step.ensures.stop
