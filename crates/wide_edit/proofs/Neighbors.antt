@@ -1,5 +1,5 @@
 -- Offsets of characters near each other.
-use Rattle.std.proofs.Common.{◌≡◌, ℕ, ◌+◌, ◌*◌, ◌-◌, ◌≤◌, ◌<◌, suc, inl, inr, List, [], ◌∷◌, sym, ◌∙◌, ap, arith, length, take, drop, subst, length-append, length-drop}
+use Rattle.std.proofs.Common.{◌≡◌, ℕ, ◌+◌, ◌*◌, ◌-◌, ◌≤◌, ◌<◌, inl, inr, List, [], ◌∷◌, ap, arith, length, take, drop, subst, length-append, length-drop}
 use Rattle.std.proofs.lemmas.Bool.{cases_lt}
 use Rattle.std.proofs.lemmas.List.{length-take-le, take-take}
 use Rattle.wide_unit.specs.EncodingForm.{Utf16, code_units, encode}

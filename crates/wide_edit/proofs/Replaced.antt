@@ -1,5 +1,5 @@
 -- Edits that replace a range of characters, and the offsets of those after it.
-use Rattle.std.proofs.Common.{◌≡◌, ℕ, ◌+◌, ◌*◌, ◌-◌, ◌/◌, ◌≤◌, ◌<◌, suc, inl, inr, List, [], ◌∷◌, ◌++◌, refl, sym, ◌∙◌, ap, append_assoc, arith, length, take, drop, subst, get_or, length-append, length-drop}
+use Rattle.std.proofs.Common.{◌≡◌, ℕ, ◌+◌, ◌*◌, ◌-◌, ◌/◌, ◌≤◌, ◌<◌, inl, inr, List, [], ◌∷◌, ◌++◌, refl, sym, ◌∙◌, ap, append_assoc, arith, length, take, drop, subst, get_or, length-append, length-drop}
 use Rattle.std.specs.Prelude.{◌⊎◌, false, true, map, slice_range}
 use Rattle.std.specs.List.{splice}
 use Rattle.std.specs.Borrow.{Bor}
@@ -17,7 +17,7 @@ use Rattle.wide_edit.specs.Found.{IsFoundRange}
 use Rattle.wide_edit.proofs.Offsets.{part-text}
 use Rattle.wide_edit.specs.Step.{changed, is_range}
 use Rattle.wide_edit.specs.Marks.{offset, mark, marks_of, Replaces, IsMoved, IsEdited, AreMoved}
-use Rattle.wide_edit.specs.declared.edits.Edit.TheVariants.{Push, PushStr, Insert, InsertStr, Remove, Drain, Replace}
+use Rattle.wide_edit.specs.declared.edits.Edit.TheVariants.{Insert, InsertStr, Remove, Drain, Replace}
 use Rattle.wide_edit.proofs.Lengths.{size, size-cut}
 use Rattle.wide_edit.proofs.Made.{in_place, in_range, below, not_below}
 use Rattle.wide_edit.proofs.Marking.{take-splice, all-some, mark-at, char-boundary, well-formed, whole-size}

@@ -1,4 +1,4 @@
-use Rattle.std.proofs.Common.{◌≡◌, ◌-◌, ◌/◌, ◌+◌, ◌*◌, ap, sym, ◌∙◌, arith, length, take, subst}
+use Rattle.std.proofs.Common.{◌≡◌, ◌-◌, ◌/◌, ap, sym, ◌∙◌, arith, length, take, subst}
 use Rattle.std.proofs.lemmas.List.FromFn.{length-map-range_with_len}
 use Rattle.wide_unit.specs.EncodingForm.{Utf16}
 use Rattle.wide_unit.specs.Items.{chars}

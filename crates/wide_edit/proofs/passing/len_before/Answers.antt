@@ -1,12 +1,11 @@
-use Rattle.std.proofs.Common.{◌≡◌, ◌+◌, ◌-◌, ap, sym, ◌∙◌, refl, arith, length, subst}
-use Rattle.std.proofs.lemmas.List.{map-id, take_all}
+use Rattle.std.proofs.Common.{◌≡◌, ◌+◌, ◌-◌, ap, sym, ◌∙◌, refl, arith, subst}
+use Rattle.std.proofs.lemmas.List.{map-id}
 use Rattle.wide_unit.specs.EncodingForm.{Utf16}
 use Rattle.wide_unit.specs.Items.{chars}
 use Rattle.wide_unit.specs.Offsets.{IsCharBoundary}
 use Rattle.wide_utfstr.specs.View.{units_seen}
 use Rattle.wide_edit.specs.Marks.{offset}
-use Rattle.wide_edit.proofs.Lengths.{size-take}
-use Rattle.wide_edit.proofs.Marking.{well-formed, whole-size}
+use Rattle.wide_edit.proofs.Marking.{well-formed}
 use Rattle.wide_edit.proofs.Neighbors.{apart, previous-near, previous-far}
 use Rattle.wide_edit.proofs.passing.len_before.Goals as goal
 

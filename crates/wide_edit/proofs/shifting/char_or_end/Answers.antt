@@ -1,9 +1,9 @@
-use Rattle.std.proofs.Common.{◌≡◌, ◌+◌, ap, sym, ◌∙◌, arith, length, take, subst}
+use Rattle.std.proofs.Common.{◌≡◌, ◌+◌, ap, ◌∙◌, arith}
 use Rattle.wide_unit.specs.EncodingForm.{Utf16}
 use Rattle.wide_unit.specs.Items.{chars}
 use Rattle.wide_unit.specs.Laws.Offsets.{offset-IsOffsetOf}
 use Rattle.wide_edit.specs.Marks.{offset}
-use Rattle.wide_edit.proofs.Marking.{well-formed, whole-size}
+use Rattle.wide_edit.proofs.Marking.{well-formed}
 use Rattle.wide_edit.proofs.Neighbors.{apart}
 use Rattle.wide_edit.proofs.Offsets.{found_some}
 use Rattle.wide_edit.proofs.Replaced.{stated}

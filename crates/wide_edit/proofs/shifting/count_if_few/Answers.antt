@@ -1,12 +1,7 @@
-use Rattle.std.proofs.Common.{◌≡◌, ◌+◌, ◌-◌, ap, sym, ◌∙◌, refl, arith, length, take, drop, map, subst}
-use Rattle.std.specs.Prelude.{slice_range}
-use Rattle.std.proofs.lemmas.List.{map-id, length-take-le}
-use Rattle.std.proofs.Common.{length-take, length-drop}
+use Rattle.std.proofs.Common.{◌≡◌, ◌+◌, ◌-◌, ap, arith, length, map}
 use Rattle.wide_unit.specs.EncodingForm.{Utf16}
 use Rattle.wide_unit.specs.Items.{chars}
-use Rattle.wide_unit.specs.Offsets.{IsCharRange, IsCharBoundary}
 use Rattle.wide_unit.specs.Laws.Encodings.{offsets-grow}
-use Rattle.wide_unit.specs.Laws.Offsets.{IsOffsetOf-prefix}
 use Rattle.wide_utfstr.specs.View.{units_seen}
 use Rattle.wide_edit.specs.Marks.{offset}
 use Rattle.wide_edit.proofs.Lengths.{size-take}

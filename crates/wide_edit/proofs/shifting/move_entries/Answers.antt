@@ -1,4 +1,4 @@
-use Rattle.std.proofs.Common.{◌≡◌, ◌+◌, ◌-◌, ◌*◌, ◌/◌, ◌++◌, ◌∷◌, ◌<◌, [], ℕ, inl, inr, ap, sym, ◌∙◌, arith, length, take, map, set, get_or, length-set, get_or-take, get_or-set_other}
+use Rattle.std.proofs.Common.{◌≡◌, ◌+◌, ◌-◌, ◌*◌, ◌/◌, ◌++◌, ◌∷◌, ◌<◌, [], ℕ, inl, inr, ap, sym, ◌∙◌, arith, length, map, get_or, length-set, get_or-take, get_or-set_other}
 use Rattle.std.specs.List.{range_with_len}
 use Rattle.std.proofs.lemmas.Bool.{cases_lt}
 use Rattle.std.proofs.lemmas.List.{take_more_set}
@@ -7,7 +7,7 @@ use Rattle.wide_unit.specs.EncodingForm.{Utf16}
 use Rattle.wide_unit.specs.Items.{chars}
 use Rattle.wide_unit.specs.Laws.Encodings.{offsets-grow}
 use Rattle.wide_utfstr.specs.View.{units_seen}
-use Rattle.wide_edit.specs.Marks.{offset, mark}
+use Rattle.wide_edit.specs.Marks.{mark}
 use Rattle.wide_edit.proofs.Neighbors.{apart}
 use Rattle.wide_edit.proofs.shifting.move_entries.Goals as goal
 

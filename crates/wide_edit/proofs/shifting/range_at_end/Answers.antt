@@ -1,9 +1,8 @@
-use Rattle.std.proofs.Common.{◌≡◌, ap, sym, ◌∙◌, arith, length, take, subst}
-use Rattle.std.proofs.lemmas.List.{map-id, take_all}
+use Rattle.std.proofs.Common.{◌≡◌, ap, arith}
+use Rattle.std.proofs.lemmas.List.{take_all}
 use Rattle.wide_unit.specs.EncodingForm.{Utf16}
 use Rattle.wide_unit.specs.Items.{chars}
 use Rattle.wide_edit.specs.Marks.{offset}
-use Rattle.wide_edit.specs.Found.{IsFoundRange}
 use Rattle.wide_edit.proofs.Lengths.{size}
 use Rattle.wide_edit.proofs.Marking.{well-formed, whole-size}
 use Rattle.wide_edit.proofs.Replaced.{stated}

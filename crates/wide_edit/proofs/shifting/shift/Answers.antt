@@ -7,7 +7,7 @@ use Rattle.wide_unit.specs.EncodingForm.{Utf16}
 use Rattle.wide_unit.specs.Items.{chars}
 use Rattle.wide_unit.specs.Laws.Encodings.{offsets-grow}
 use Rattle.wide_utfstr.specs.View.{units_seen}
-use Rattle.wide_edit.specs.Marks.{offset, mark}
+use Rattle.wide_edit.specs.Marks.{mark}
 use Rattle.wide_edit.proofs.Lengths.{size-take}
 use Rattle.wide_edit.proofs.Marking.{well-formed, whole-size}
 use Rattle.wide_edit.proofs.shifting.shift.Goals as goal
