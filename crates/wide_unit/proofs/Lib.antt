@@ -18,3 +18,4 @@ mod Mendings
 mod Masks
 mod Pairs
 pub mod Counts
+mod SameLanes

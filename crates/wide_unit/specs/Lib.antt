@@ -2,6 +2,7 @@ pub mod EncodingForm
 pub mod Utf8
 pub mod LeadingByte
 pub mod CodePoint
+pub mod CommonPrefix
 pub mod Segmentation
 pub mod Items
 pub mod Offsets

@@ -2,24 +2,45 @@
 ghost use Rattle.std.specs.Prelude.{◌≡◌, ◌↔◌, map, IsTrue};
 ghost use Rattle.std.specs.Ordering.{nat_cmp};
 ghost use Rattle.std.specs.Cmp.Lexicographic.{slice_cmp};
+ghost use Rattle.wide_unit.specs.CommonPrefix.{IsCommonPrefix};
 
+use crate::same_blocks::same_blocks;
 use crate::unit::Unit;
 use std::cmp::Ordering;
+
+// Blocks of fewer units are compared one by one.
+const BLOCK: usize = 16;
+
+/// Returns how many units at the beginning of two slices are the same: up to the first difference, or to the end of the
+/// shorter slice. The comparison is vectorized. The Rust crate has no such call.
+///
+/// ```
+/// let shared = common_prefix(&[0x61u16, 0x62, 0x63], &[0x61, 0x62, 0x64, 0x65]);
+/// assert!(shared == 2);
+/// ```
+pub fn common_prefix<C: Unit>(left: &[C], right: &[C]) -> usize
+    ensures { IsCommonPrefix left.now right.now result }
+{
+    let len = left.len().min(right.len());
+    let (left, _) = left.split_at(len);
+    let (right, _) = right.split_at(len);
+    let mut at = if len < BLOCK {
+        0
+    } else {
+        same_blocks(left, right)
+    };
+    while at < len && left[at].code() == right[at].code() {
+        at += 1;
+    }
+    at
+}
 
 /// Returns whether two slices have the same units in the same order. It stops at the first difference. The Rust crate
 /// has no such call.
 pub fn same_units<C: Unit>(left: &[C], right: &[C]) -> bool
     ensures { IsTrue result ↔ (left.now ≡ right.now) }
 {
-    if left.len() != right.len() {
-        return false;
-    }
-    for offset in 0..left.len() {
-        if left[offset].code() != right[offset].code() {
-            return false;
-        }
-    }
-    true
+    left.len() == right.len() && common_prefix(left, right) == left.len()
 }
 
 /// Compares two slices lexicographically by the numbers of their units, and stops at the first difference. If one slice

@@ -16,13 +16,14 @@ mod policy;
 mod print;
 mod range;
 mod repair;
+mod same_blocks;
 mod split;
 mod unit;
 mod utf8;
 mod validation;
 
 pub use any_units::AnyUnits;
-pub use compare::{order_of_units, same_units};
+pub use compare::{common_prefix, order_of_units, same_units};
 pub use first::first_of;
 pub use lanes::{first_no_scalar, first_surrogate};
 pub use line::split_line;

@@ -14,6 +14,7 @@ pub use Rattle.wide_unit.specs.AnyUnits
 pub use Rattle.wide_unit.specs.Utf8
 pub use Rattle.wide_unit.specs.CodePoint
 pub use Rattle.wide_unit.specs.Searches
+pub use Rattle.wide_unit.specs.CommonPrefix
 pub use Rattle.wide_unit.specs.Statements
 pub use Rattle.wide_search.specs.Occurrences
 pub use Rattle.wide_search.specs.Substrings as SearchSubstrings

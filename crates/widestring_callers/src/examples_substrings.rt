@@ -3,7 +3,7 @@ ghost use Rattle.std.specs.Prelude.{◌≡◌, ◌≤◌, Some, None, true, fals
 ghost use Rattle.widestring.specs.Occurrences.{OccursAt};
 ghost use Rattle.widestring.specs.UnitView.{units_seen};
 
-use widestring::unit::laws;
+use widestring::unit::{common_prefix, laws};
 use widestring::{U16Str, U32Str, Utf16Str};
 
 /// Finds a needle at or before an offset at which the caller knows that it occurs.
@@ -20,6 +20,13 @@ pub fn found_by(units: U16Str<'_>, part: U16Str<'_>, offset: usize) -> usize
         Some(at) => at,
         None => unreachable!(),
     }
+}
+
+/// Counts the units before the first difference of two slices.
+pub fn units_before_a_difference() -> usize
+    ensures { result ≡ 2 }
+{
+    common_prefix(&[0x61u16, 0x62, 0x63], &[0x61, 0x62, 0x64, 0x65])
 }
 
 /// Rejects a range past the end.

@@ -9,7 +9,9 @@
 use crate::families::width::Width;
 use crate::parse::{self, Memory, NoAnswer};
 use crate::show::Answer;
-use widestring::unit::{Unit, first_nul, order_of_units, range_check, same_units, split_line};
+use widestring::unit::{
+    Unit, common_prefix, first_nul, order_of_units, range_check, same_units, split_line,
+};
 
 fn of_list<C: Width>(answer: &mut Answer, units: &[C], word: &str) -> Result<(), NoAnswer> {
     match (word, units) {
@@ -51,6 +53,10 @@ pub fn asked<C: Width>(memory: Memory<'_>, list: &str, question: &str) -> Result
     match word {
         "char" => of_char::<C>(&mut answer, parse::value(more)?),
         "same" => answer.decided(same_units(&units, &parse::list(memory.alloc, more)?)),
+        "shared" => {
+            let other = parse::list(memory.alloc, more)?;
+            answer.count(Some(common_prefix(&units, &other)));
+        }
         "order" => answer.order(order_of_units(&units, &parse::list(memory.alloc, more)?)),
         "range" => match range_check(parse::range(more)?, units.len()) {
             None => answer.number(None),
