@@ -3,3 +3,9 @@ pub mod Texts
 mod PairLanes
 mod Ranges
 mod Probing
+mod Suffixes
+mod Cuts
+mod Orders
+mod Shifts
+mod Sides
+mod Prefixes

@@ -110,3 +110,24 @@ no-units us e = nil_from_length us (grind (arith, e))
 
 pub some-units : {X : Type 0} (us : List X) → false ≡ (length us == 0) → 0 < length us
 some-units us e = grind (arith, e)
+
+-- ---- a slice of what is left after two splits, at an offset before which the needle does not occur
+
+module _ {X : Type 0} (number : X → ℕ) (needle us rest here : List X) (at step : ℕ) (left : rest ≡ drop at us) (cut : here ≡ drop step rest)
+    (before : (k : ℕ) → k < at → ¬ (OccursAt needle us k)) (skipped : (k : ℕ) → k < step → ¬ (OccursAt needle rest k)) where
+  pub none-skipped : (k : ℕ) → k < at + step → ¬ (OccursAt needle us k)
+  none-skipped k l occurs = elim (cases_lt k at) [
+    | inl earlier ↦ before k earlier occurs
+    | inr later ↦ (let same : k ≡ at + (k - at) = omega (arith, later) in
+        let there : OccursAt needle us (at + (k - at)) = subst (λ n. OccursAt needle us n) same occurs in
+        skipped (k - at) (omega (arith, l, later)) (subst (λ xs. OccursAt needle xs (k - at)) (sym left) (occurs-left needle us at (k - at) there)))
+  ]
+
+  pub occurs-there : at + step ≤ length us → OccursAt needle here 0 → OccursAt needle us (at + step)
+  occurs-there within occurs = occurs-cut number needle us at step within (subst (λ xs. OccursAt needle xs 0) (cut ∙ ap (drop step) left) occurs)
+
+  pub none-tried : ¬ (OccursAt needle here 0) → (k : ℕ) → k < at + (step + 1) → ¬ (OccursAt needle us k)
+  none-tried none = none-through number needle us at step none-skipped (λ occurs. none (subst (λ xs. OccursAt needle xs 0) (sym (cut ∙ ap (drop step) left)) (cut-occurs number needle us at step occurs)))
+
+pub none-as : {X : Type 0} (needle sought us : List X) (end : ℕ) → sought ≡ needle → ((k : ℕ) → k < end → ¬ (OccursAt needle us k)) → (k : ℕ) → k < end → ¬ (OccursAt sought us k)
+none-as needle sought us end e none k l occurs = none k l (subst (λ xs. OccursAt xs us k) e occurs)

@@ -5,3 +5,5 @@ pub mod Sought
 pub mod Statements
 pub mod Laws
 pub mod Probes
+pub mod Factorizations
+pub mod NextOccurrences

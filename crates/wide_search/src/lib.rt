@@ -7,10 +7,13 @@
 #![tactic(auto)]
 
 mod chars;
+mod factorization;
 pub mod laws;
 mod needle;
 mod pairs;
 mod search;
+mod side;
+mod two_way;
 mod units;
 
 pub use chars::{find_char, rfind_char};

@@ -1,11 +1,28 @@
 //! Needles of a search: some units, or those of one character.
-ghost use Rattle.std.specs.Prelude.{◌≡◌, ◌↔◌, ◌∷◌, [], ℕ, List, length, map, IsTrue, MatchOption};
+ghost use Rattle.std.specs.Prelude.{◌≡◌, ◌↔◌, ◌≤◌, ◌∷◌, [], ℕ, List, length, map, ◌<◌, IfSome, MatchOption};
+ghost use Rattle.wide_unit.specs.CommonPrefix.{IsCommonPrefix};
 ghost use Rattle.wide_unit.specs.EncodingForm.{code_units};
 ghost use Rattle.wide_search.specs.Occurrences.{OccursAt};
 ghost use Rattle.wide_search.specs.Probes.{IsProbe};
 ghost use Rattle.wide_search.specs.Sought.{units_of_few};
 
-use wide_unit::{Unit, same_units};
+use wide_unit::{Unit, common_prefix};
+
+// How many units are compared one by one before blocks are. Most comparisons end before.
+const NEAR: usize = 4;
+
+// Returns how many units at the beginning of two slices are the same, or `NEAR` if there are more.
+#[inline(always)]
+fn near_prefix<C: Unit>(left: &[C], right: &[C]) -> usize
+    ensures { result < 4 → IsCommonPrefix left.now right.now result }
+{
+    let len = left.len().min(right.len()).min(NEAR);
+    let mut shared = 0;
+    while shared < len && left[shared].code() == right[shared].code() {
+        shared += 1;
+    }
+    shared
+}
 
 // The first and the last unit of a needle, and how many units the last one is from the first.
 #[derive(Clone, Copy)]
@@ -24,9 +41,14 @@ pub(crate) trait Needle<C: Unit>: Copy {
     fn probe(self) -> Option<Probe<C>>
         ensures { MatchOption result (sought self ≡ []) (IsProbe (sought self)) };
 
-    // Returns whether other units begin with these.
-    fn begins(self, units: &[C]) -> bool
-        ensures { IsTrue result ↔ OccursAt (sought self) units.now 0 };
+    // Returns how many units at the beginning are those of the needle, up to the first that is not.
+    fn matching(self, units: &[C]) -> usize
+        ensures within { result ≤ length (sought self) }
+        ensures whole { OccursAt (sought self) units.now 0 ↔ (result ≡ length (sought self)) };
+
+    // Returns the units if they are a slice.
+    fn as_slice(&self) -> Option<&[C]>
+        ensures { IfSome result (λ units. units.now ≡ sought self.now) };
 }
 
 // A needle that is a slice.
@@ -47,12 +69,16 @@ impl<C: Unit> Needle<C> for Slice<'_, C> {
         })
     }
 
-    fn begins(self, units: &[C]) -> bool {
-        if units.len() < self.units.len() {
-            return false;
+    fn matching(self, units: &[C]) -> usize {
+        let near = near_prefix(self.units, units);
+        if near < NEAR {
+            return near;
         }
-        let (prefix, _) = units.split_at(self.units.len());
-        same_units(prefix, self.units)
+        common_prefix(self.units, units)
+    }
+
+    fn as_slice(&self) -> Option<&[C]> {
+        Some(self.units)
     }
 }
 
@@ -98,13 +124,20 @@ impl<C: Unit> Needle<C> for Few<C> {
         })
     }
 
-    fn begins(self, units: &[C]) -> bool {
-        match (self.second, units) {
-            (None, [first, ..]) => first.code() == self.first.code(),
-            (Some(low), [first, second, ..]) => {
-                first.code() == self.first.code() && second.code() == low.code()
-            }
-            _ => false,
+    fn matching(self, units: &[C]) -> usize {
+        let [first, rest @ ..] = units else {
+            return 0;
+        };
+        if first.code() != self.first.code() {
+            return 0;
         }
+        match (self.second, rest) {
+            (Some(low), [second, ..]) if second.code() == low.code() => 2,
+            _ => 1,
+        }
+    }
+
+    fn as_slice(&self) -> Option<&[C]> {
+        None
     }
 }

@@ -5,7 +5,22 @@ ghost use Rattle.wide_search.specs.Probes.{IsProbe};
 
 use crate::needle::{Needle, Probe};
 use crate::pairs::{first_pair, last_pair};
+use crate::two_way::{find_from, rfind_before};
 use wide_unit::{Unit, first_of};
+
+// How many units may be compared in vain for each unit of the text that was passed over. They take about the time in
+// which the two-way search passes over one unit.
+const COMPARED_PER_PASSED: usize = 16;
+
+// A try at which fewer units match is not counted. In ordinary text most are such, and they take little time.
+const FEW: usize = 4;
+
+// To come to an offset and to begin to compare there takes about as long as to compare so many units.
+const COMPARED_PER_TRY: usize = 16;
+
+// The two-way search begins with a factorization of the needle. For each unit of the needle, that takes as long as it
+// takes to pass over so many units of the text.
+const PASSED_PER_SOUGHT: usize = 4;
 
 // Returns an offset before which no needle with these two units occurs. It is the first at which both stand, or the
 // number of offsets at which they could.
@@ -38,8 +53,15 @@ fn skip_back<C: Unit>(units: &[C], end: usize, probe: Probe<C>) -> usize
     last_pair(front, back, probe.first, probe.last)
 }
 
+// Returns whether so many units were compared in vain that the two-way search would have passed over the same offsets
+// in less time, its factorization of the needle included. The last unit of the needle is at this distance from the
+// first.
+fn is_in_vain(wasted: usize, passed: usize, distance: usize) -> bool {
+    (wasted / COMPARED_PER_PASSED).saturating_sub(passed) / PASSED_PER_SOUGHT > distance
+}
+
 // Returns the offset of the first occurrence of the needle, or `None`. Only where its first and its last unit stand are
-// its units compared.
+// its units compared. If too many were compared in vain, the two-way search takes over for a while.
 pub(crate) fn find_in<C: Unit, P: Needle<C>>(units: &[C], needle: P) -> Option<usize>
     ensures first { IfSome result (IsFirstAt (P.sought needle) units.now) }
     ensures none { IfNone result (OccursNowhere (P.sought needle) units.now) }
@@ -48,6 +70,8 @@ pub(crate) fn find_in<C: Unit, P: Needle<C>>(units: &[C], needle: P) -> Option<u
         return Some(0);
     };
     let mut at = 0;
+    let mut since = 0;
+    let mut wasted = 0usize;
     while probe.distance < units.len() - at {
         let (_, rest) = units.split_at(at);
         let step = skip(rest, probe);
@@ -55,16 +79,30 @@ pub(crate) fn find_in<C: Unit, P: Needle<C>>(units: &[C], needle: P) -> Option<u
             return None;
         }
         let (_, here) = rest.split_at(step);
-        if needle.begins(here) {
+        let matched = needle.matching(here);
+        if matched > probe.distance {
             return Some(at + step);
         }
         at += step + 1;
+        if matched < FEW {
+            continue;
+        }
+        wasted = wasted.saturating_add(matched.saturating_add(COMPARED_PER_TRY));
+        if is_in_vain(wasted, at - since, probe.distance) {
+            if let Some(sought) = needle.as_slice() {
+                let stop = find_from(units, sought, at);
+                if stop.is_found {
+                    return Some(stop.at);
+                }
+                (at, since, wasted) = (stop.at, stop.at, 0);
+            }
+        }
     }
     None
 }
 
 // Returns the offset of the last occurrence of the needle, or `None`. Only where its first and its last unit stand are
-// its units compared.
+// its units compared. If too many were compared in vain, the two-way search takes over for a while.
 pub(crate) fn rfind_in<C: Unit, P: Needle<C>>(units: &[C], needle: P) -> Option<usize>
     ensures last { IfSome result (IsLastAt (P.sought needle) units.now) }
     ensures none { IfNone result (OccursNowhere (P.sought needle) units.now) }
@@ -75,16 +113,32 @@ pub(crate) fn rfind_in<C: Unit, P: Needle<C>>(units: &[C], needle: P) -> Option<
     let Some(mut end) = units.len().checked_sub(probe.distance) else {
         return None;
     };
+    let mut since = end;
+    let mut wasted = 0usize;
     while end > 0 {
         let found = skip_back(units, end, probe);
         if found == 0 {
             return None;
         }
         let (_, here) = units.split_at(found - 1);
-        if needle.begins(here) {
+        let matched = needle.matching(here);
+        if matched > probe.distance {
             return Some(found - 1);
         }
         end = found - 1;
+        if matched < FEW {
+            continue;
+        }
+        wasted = wasted.saturating_add(matched.saturating_add(COMPARED_PER_TRY));
+        if is_in_vain(wasted, since - end, probe.distance) {
+            if let Some(sought) = needle.as_slice() {
+                let stop = rfind_before(units, sought, end);
+                if stop.is_found {
+                    return Some(stop.at - 1);
+                }
+                (end, since, wasted) = (stop.at, stop.at, 0);
+            }
+        }
     }
     None
 }

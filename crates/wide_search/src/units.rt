@@ -54,20 +54,24 @@ pub fn strip_suffix<'a, C: Unit>(units: &'a [C], needle: &[C]) -> Option<&'a [C]
 /// occurs at the beginning.
 ///
 /// The search for an offset at which both the first and the last unit of the needle stand is vectorized. Only there are
-/// units compared, up to the first difference. The worst case is the product of both lengths, if a long prefix of the
-/// needle and its last unit occur nearly everywhere.
+/// units compared, up to the first difference. If too many are compared in vain, as they may be if the needle repeats
+/// itself, the two-way search passes the next offsets. So the worst case is linear in both lengths, and no memory is
+/// allocated.
 pub fn find<C: Unit>(units: &[C], needle: &[C]) -> Option<usize>
     ensures first { IfSome result (IsFirstAt needle.now units.now) }
     ensures none { IfNone result (OccursNowhere needle.now units.now) }
     ensures within { IfSome result (λ at. at + length needle.now ≤ length units.now) }
 {
+    if let [unit] = needle {
+        return find_unit(units, *unit);
+    }
     find_in(units, Slice { units: needle })
 }
 
 /// Returns the offset in units of the last occurrence of the needle, or `None` if it does not occur. An empty needle
 /// occurs at the end.
 ///
-/// The search is vectorized like that of [`find`], and goes from the back. The worst case is the product of both lengths.
+/// The search is vectorized like that of [`find`], and goes from the back. The worst case is linear too.
 pub fn rfind<C: Unit>(units: &[C], needle: &[C]) -> Option<usize>
     ensures last { IfSome result (IsLastAt needle.now units.now) }
     ensures none { IfNone result (OccursNowhere needle.now units.now) }

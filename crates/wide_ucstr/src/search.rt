@@ -39,8 +39,8 @@ impl<'a, C: FaultUnit> UCStr<'a, C> {
     /// within a surrogate pair.
     ///
     /// The search for an offset at which both the first and the last unit of the needle stand is vectorized; only there
-    /// are units compared, up to the first that differ. So in the worst case, where a long prefix of the needle and its
-    /// last unit occur nearly everywhere, the time is proportional to the product of both lengths.
+    /// are units compared, up to the first that differ. If too many are compared in vain, as they may be if the needle
+    /// repeats itself, the two-way search passes the next offsets, so the time is linear in both lengths.
     pub fn find(self, needle: UCStr<'_, C>) -> Option<usize>
         ensures first { IfSome result (IsFirstAt (contents_seen needle.entry) (contents_seen self.entry)) }
         ensures none { IfNone result (OccursNowhere (contents_seen needle.entry) (contents_seen self.entry)) }

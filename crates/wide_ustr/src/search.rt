@@ -33,8 +33,8 @@ impl<C: Unit> UStr<'_, C> {
     /// occurs at the start. Units may have any values, so the offset may be within a surrogate pair.
     ///
     /// The search for an offset at which both the first and the last unit of the needle stand is vectorized; only there
-    /// are units compared, up to the first that differ. So in the worst case, where a long prefix of the needle and its
-    /// last unit occur nearly everywhere, the time is proportional to the product of both lengths.
+    /// are units compared, up to the first that differ. If too many are compared in vain, as they may be if the needle
+    /// repeats itself, the two-way search passes the next offsets, so the time is linear in both lengths.
     pub fn find(self, needle: UStr<'_, C>) -> Option<usize>
         ensures first { IfSome result (IsFirstAt (units_seen needle.entry) (units_seen self.entry)) }
         ensures none { IfNone result (OccursNowhere (units_seen needle.entry) (units_seen self.entry)) }

@@ -40,4 +40,6 @@ mod readme_tests;
 #[cfg(test)]
 mod resumed_source_tests;
 #[cfg(test)]
+mod search_tests;
+#[cfg(test)]
 mod source_tests;

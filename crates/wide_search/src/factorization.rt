@@ -1,0 +1,106 @@
+//! Where the two-way search cuts a needle (M. Crochemore and D. Perrin, "Two-way string-matching").
+ghost use Rattle.std.specs.Prelude.{◌≡◌, ◌↔◌, ◌<◌, ◌+◌, ◌≤◌, IsTrue, length, map};
+ghost use Rattle.std.specs.Str.Critical.{IsRepeat, IsSuffixAt};
+ghost use Rattle.std.specs.Str.TwoWay.{item_from};
+ghost use Rattle.wide_search.specs.Factorizations.{IsFactorization, Precedes};
+
+use crate::side::Side;
+use wide_unit::Unit;
+
+// A needle in two parts: those of its units before an index, and those from there on.
+#[derive(Clone, Copy)]
+pub(crate) struct Factorization {
+    // The index.
+    pub(crate) cut: usize,
+    // The least period of the second part.
+    pub(crate) period: usize,
+    // Whether this is a period of the whole needle.
+    pub(crate) repeats: bool,
+}
+
+// The units of a needle from an index on.
+#[derive(Clone, Copy)]
+struct Suffix {
+    // The index.
+    start: usize,
+    // Their least period.
+    period: usize,
+}
+
+// Returns whether a number is before another in an order: less than it, or greater if the order is reversed.
+fn precedes(number: u32, other: u32, reversed: bool) -> bool
+    ensures { IsTrue result ↔ Precedes reversed number other }
+{
+    if reversed {
+        other < number
+    } else {
+        number < other
+    }
+}
+
+// Returns the greatest suffix of a needle in an order of the units. A suffix is less than another that begins with it.
+//
+// The suffix from `start` on is the greatest of those that start before `other`. Its first `matched` units are those
+// from `other` on, which is a whole number of periods later.
+fn greatest_suffix<C: Unit, S: Side>(needle: &[C], reversed: bool) -> Suffix
+    requires { 0 < length needle.now }
+    ensures { IsSuffixAt (Precedes reversed) (item_from S.BACK (length needle.now) (map C.number needle.now)) (length needle.now) result.start result.period }
+{
+    let mut start = 0;
+    let mut other = 1;
+    let mut matched = 0;
+    let mut period = 1;
+    while other + matched < needle.len() {
+        let ours = S::unit(needle, start + matched);
+        let theirs = S::unit(needle, other + matched);
+        if precedes(theirs, ours, reversed) {
+            other += matched + 1;
+            matched = 0;
+            period = other - start;
+        } else if theirs != ours {
+            start = other;
+            other += 1;
+            matched = 0;
+            period = 1;
+        } else if matched + 1 < period {
+            matched += 1;
+        } else {
+            other += period;
+            matched = 0;
+        }
+    }
+    Suffix { start, period }
+}
+
+// Returns whether the units before the cut are those a period later, as far as these are after the cut.
+fn repeats_at<C: Unit, S: Side>(needle: &[C], cut: usize, period: usize) -> bool
+    requires { cut + period ≤ length needle.now }
+    ensures { IsTrue result ↔ IsRepeat (item_from S.BACK (length needle.now) (map C.number needle.now)) (length needle.now) cut period }
+{
+    for index in cut.saturating_sub(period)..cut {
+        if S::unit(needle, index) != S::unit(needle, index + period) {
+            return false;
+        }
+    }
+    true
+}
+
+// Returns the two parts of a needle: it is cut where the later of its two greatest suffixes starts, in the order of the
+// units and in the reversed order.
+pub(crate) fn factorize<C: Unit, S: Side>(needle: &[C]) -> Factorization
+    requires { 0 < length needle.now }
+    ensures { IsFactorization (item_from S.BACK (length needle.now) (map C.number needle.now)) (length needle.now) result }
+{
+    let ascending = greatest_suffix::<C, S>(needle, false);
+    let descending = greatest_suffix::<C, S>(needle, true);
+    let later = if ascending.start < descending.start {
+        descending
+    } else {
+        ascending
+    };
+    Factorization {
+        cut: later.start,
+        period: later.period,
+        repeats: repeats_at::<C, S>(needle, later.start, later.period),
+    }
+}

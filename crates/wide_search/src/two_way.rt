@@ -1,0 +1,123 @@
+//! The two-way search: linear in the lengths of the units and the needle, in constant memory (M. Crochemore and
+//! D. Perrin, "Two-way string-matching").
+ghost use Rattle.std.specs.Prelude.{◌≡◌, ◌≢◌, ◌+◌, ◌-◌, ◌<◌, ◌≤◌, ℕ, IsTrue, length};
+ghost use Rattle.wide_search.specs.NextOccurrences.{number_from, IsStop};
+ghost use Rattle.wide_search.specs.Occurrences.{OccursAt};
+
+use crate::factorization::factorize;
+use crate::side::{Back, Front, Side};
+use wide_unit::Unit;
+
+// Returns the first index of the needle, from `from` to before `end`, whose unit is not the one that stands there if
+// the needle is at `at`. Returns `end` if there is none.
+#[inline(always)]
+fn first_difference<C: Unit, S: Side>(
+    units: &[C],
+    needle: &[C],
+    at: usize,
+    from: usize,
+    end: usize,
+) -> usize
+    requires fits { at + length needle.now ≤ length units.now }
+    requires within { end ≤ length needle.now }
+    requires ordered { from ≤ end }
+    ensures after { from ≤ result }
+    ensures within { result ≤ end }
+    ensures same { (k : ℕ) → from ≤ k → k < result → number_from S.BACK C.number units.now (at + k) ≡ number_from S.BACK C.number needle.now k }
+    ensures differ { result < end → number_from S.BACK C.number units.now (at + result) ≢ number_from S.BACK C.number needle.now result }
+{
+    let mut index = from;
+    while index < end && S::unit(units, at + index) == S::unit(needle, index) {
+        index += 1;
+    }
+    index
+}
+
+// Where a search stopped.
+#[derive(Clone, Copy)]
+pub(crate) struct Stop {
+    // The offset.
+    pub(crate) at: usize,
+    // Whether the needle was found there.
+    pub(crate) is_found: bool,
+}
+
+// How many offsets the two-way search passes before it stops: these, or so many for each unit of the needle if that is
+// more. By then it has saved more than the factorization of the needle took.
+const LEAST_PASSED: usize = 4096;
+
+const PASSED_PER_SOUGHT: usize = 64;
+
+// Returns the first offset from `from` on at which the needle occurs. If it has passed many offsets at which the needle
+// does not occur, it returns the next one. Offsets and units are counted from the side.
+//
+// The second part of the needle is compared before the first part. A difference in it rules out as many offsets as
+// units were compared. If only the first part differs, the next offset is at least a period further, and the units that
+// the needle has in common with itself at this distance are not compared again.
+#[inline(never)]
+fn next_occurrence<C: Unit, S: Side>(units: &[C], needle: &[C], from: usize) -> Stop
+    requires some { 0 < length needle.now }
+    requires within { from ≤ length units.now }
+    ensures { IsStop S.BACK C.number needle.now units.now from result }
+{
+    let parts = factorize::<C, S>(needle);
+    let len = needle.len();
+    let limit = len.saturating_mul(PASSED_PER_SOUGHT).max(LEAST_PASSED);
+    let mut at = from;
+    let mut known = 0;
+    while len <= units.len() - at && at - from < limit {
+        let start = parts.cut.max(known);
+        let index = first_difference::<C, S>(units, needle, at, start, len);
+        if index < len {
+            at += index - parts.cut + 1;
+            known = 0;
+            continue;
+        }
+        let start = parts.cut.min(known);
+        if first_difference::<C, S>(units, needle, at, start, parts.cut) == parts.cut {
+            return Stop { at, is_found: true };
+        }
+        if parts.repeats {
+            at += parts.period;
+            known = len - parts.period;
+        } else {
+            at += parts.cut.max(len - parts.cut) + 1;
+            known = 0;
+        }
+    }
+    Stop {
+        at,
+        is_found: false,
+    }
+}
+
+// Searches on from an offset before which the needle does not occur. Returns where it stopped.
+pub(crate) fn find_from<C: Unit>(units: &[C], needle: &[C], from: usize) -> Stop
+    requires some { 0 < length needle.now }
+    requires within { from ≤ length units.now }
+    requires before { (k : ℕ) → k < from → ¬ (OccursAt needle.now units.now k) }
+    ensures after { from ≤ result.at }
+    ensures within { result.at ≤ length units.now }
+    ensures here { IsTrue result.is_found → OccursAt needle.now units.now result.at }
+    ensures before { (k : ℕ) → k < result.at → ¬ (OccursAt needle.now units.now k) }
+{
+    next_occurrence::<C, Front>(units, needle, from)
+}
+
+// Searches back from an offset from which on the needle does not occur. Returns where it stopped: at the offset after
+// the needle's, if it was found.
+pub(crate) fn rfind_before<C: Unit>(units: &[C], needle: &[C], end: usize) -> Stop
+    requires some { 0 < length needle.now }
+    requires within { end + length needle.now ≤ length units.now + 1 }
+    requires beyond { (k : ℕ) → end ≤ k → ¬ (OccursAt needle.now units.now k) }
+    ensures within { result.at ≤ end }
+    ensures here { IsTrue result.is_found → OccursAt needle.now units.now (result.at - 1) × (0 < result.at) }
+    ensures beyond { (k : ℕ) → result.at ≤ k → ¬ (OccursAt needle.now units.now k) }
+{
+    let last = units.len() - (needle.len() - 1);
+    let stop = next_occurrence::<C, Back>(units, needle, last - end);
+    Stop {
+        at: last.saturating_sub(stop.at),
+        is_found: stop.is_found,
+    }
+}

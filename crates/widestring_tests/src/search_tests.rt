@@ -1,0 +1,152 @@
+//! Tests of searches for needles that repeat themselves, in texts that nearly do, at both widths. They compare so many
+//! units in vain that the two-way search takes over. The expected offsets are those of a loop over all windows.
+use crate::random::Random;
+use std::alloc::{AllocError, Global};
+use widestring::search::{find, rfind};
+
+// Returns a list of `len` units that is a word over and over, of which `changes` are changed to the other letter.
+fn repeated(
+    alloc: Global,
+    random: &mut Random,
+    word: &[u16],
+    len: usize,
+    changes: usize,
+) -> Result<Vec<u16>, AllocError> {
+    let mut units = Vec::new(alloc);
+    for index in 0..len {
+        let at = index.checked_rem(word.len()).unwrap_or(0);
+        units.push(word.get(at).copied().unwrap_or(1))?;
+    }
+    for _ in 0..changes {
+        let at = random.below(len.max(1));
+        if let Some(unit) = units.get_mut(at) {
+            *unit ^= 3;
+        }
+    }
+    Ok(units)
+}
+
+// Returns the offsets of the first and of the last window that is the needle.
+fn ends(units: &[u16], needle: &[u16]) -> (Option<usize>, Option<usize>) {
+    let (mut first, mut last) = (None, None);
+    for (offset, window) in units.windows(needle.len().max(1)).enumerate() {
+        if window == needle {
+            first = first.or(Some(offset));
+            last = Some(offset);
+        }
+    }
+    (first, last)
+}
+
+// Returns whether the searches find the needle where the loop does, at both widths.
+fn is_found(alloc: Global, units: &[u16], needle: &[u16]) -> Result<bool, AllocError> {
+    let (first, last) = ends(units, needle);
+    let mut well = find(units, needle) == first && rfind(units, needle) == last;
+    let wide: Vec<u32> = units.iter().map(|unit| u32::from(*unit)).collect(alloc)?;
+    let sought: Vec<u32> = needle.iter().map(|unit| u32::from(*unit)).collect(alloc)?;
+    well &= find(&wide, &sought) == first && rfind(&wide, &sought) == last;
+    Ok(well)
+}
+
+// Returns whether a needle of a word over and over is found in a text of this word, in which it is put at an offset.
+fn is_found_in_words(alloc: Global, seed: u64) -> Result<bool, AllocError> {
+    let mut random = Random::new(seed);
+    let mut word = Vec::new(alloc);
+    for _ in 0..random.below(4).saturating_add(1) {
+        word.push(if random.below(3) == 0 { 2 } else { 1 })?;
+    }
+    let len = random.below(300).saturating_add(20);
+    let changes = random.below(3);
+    let needle = repeated(alloc, &mut random, &word, len, changes)?;
+    let changes = random.below(9);
+    let mut units = repeated(alloc, &mut random, &word, 3000, changes)?;
+    if random.below(4) > 0 {
+        let at = random.below(2600);
+        for (offset, unit) in needle.iter().enumerate() {
+            if let Some(put) = units.get_mut(at.saturating_add(offset)) {
+                *put = *unit;
+            }
+        }
+    }
+    is_found(alloc, &units, &needle)
+}
+
+#[test]
+fn words_over_and_over(rt: HostRuntime) {
+    for seed in 0..60 {
+        let well = is_found_in_words(rt.alloc(), seed);
+        assert!(rt; well == Ok(true), "seed {seed}");
+    }
+}
+
+// Returns whether a needle of equal units but one in the middle is found in equal units, before which `front` stands,
+// and after which `back` stands.
+fn is_found_in_equals(
+    alloc: Global,
+    side: usize,
+    front: &[u16],
+    back: &[u16],
+) -> Result<bool, AllocError> {
+    let mut random = Random::new(0);
+    let equals = repeated(alloc, &mut random, &[1], side, 0)?;
+    let mut needle = equals.clone()?;
+    needle.push(2)?;
+    needle.extend_from_slice(&equals)?;
+    let mut units = Vec::new(alloc);
+    units.extend_from_slice(front)?;
+    units.extend_from_slice(&repeated(alloc, &mut random, &[1], 4000, 0)?)?;
+    units.extend_from_slice(back)?;
+    units.extend_from_slice(&equals)?;
+    is_found(alloc, &units, &needle)
+}
+
+#[test]
+fn one_unit_among_equals(rt: HostRuntime) {
+    for (side, front, back) in [
+        (250, [].as_slice(), [].as_slice()),
+        (250, [1, 2].as_slice(), [].as_slice()),
+        (250, [].as_slice(), [2].as_slice()),
+        (250, [2].as_slice(), [2, 1, 2].as_slice()),
+        (31, [2, 1].as_slice(), [2, 2].as_slice()),
+    ] {
+        let well = is_found_in_equals(rt.alloc(), side, front, back);
+        assert!(rt; well == Ok(true), "{side} {front:?} {back:?}");
+    }
+}
+
+// Appends units that no needle of these tests has.
+fn push_others(random: &mut Random, units: &mut Vec<u16>, count: usize) -> Result<(), AllocError> {
+    for _ in 0..count {
+        let other = u16::try_from(random.below(9)).unwrap_or(0);
+        units.push(other.saturating_add(3))?;
+    }
+    Ok(())
+}
+
+// Returns whether a needle of equal units but one in the middle is found in units of which the first and the last ones
+// alone are equal to them, so that the two-way search takes over there and stops in the rest.
+fn is_found_among_others(alloc: Global, seed: u64) -> Result<bool, AllocError> {
+    let mut random = Random::new(seed);
+    let side = random.below(30).saturating_add(2);
+    let mut needle = repeated(alloc, &mut random, &[1], side, 0)?;
+    needle.push(2)?;
+    needle.extend_from_slice(&repeated(alloc, &mut random, &[1], side, 0)?)?;
+    let equals = repeated(alloc, &mut random, &[1], 600, 0)?;
+    let mut units = equals.clone()?;
+    push_others(&mut random, &mut units, 9000)?;
+    if random.below(3) > 0 {
+        units.extend_from_slice(&needle)?;
+    }
+    let count = random.below(9000);
+    push_others(&mut random, &mut units, count)?;
+    units.extend_from_slice(&equals)?;
+    is_found(alloc, &units, &needle)
+}
+
+#[test]
+fn equals_around_others(rt: HostRuntime) {
+    for seed in 0..20 {
+        let well = is_found_among_others(rt.alloc(), seed);
+        assert!(rt; well == Ok(true), "seed {seed}");
+    }
+}
