@@ -8,3 +8,4 @@ pub mod CharFilters
 pub mod Repeats
 pub mod Copied
 pub mod Extends
+mod Moved

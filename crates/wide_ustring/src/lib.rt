@@ -7,6 +7,7 @@ mod cow;
 mod display;
 pub mod extend;
 mod iter;
+mod moves;
 mod space;
 mod ustring;
 mod view;

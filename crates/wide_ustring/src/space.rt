@@ -4,6 +4,7 @@ ghost use Rattle.std.specs.List.{splice, remove_range, copy_within};
 ghost use Rattle.std.specs.Str.{chars};
 ghost use Rattle.wide_unit.specs.EncodingForm.{code_units, encode};
 
+use crate::moves::move_within;
 use std::alloc::Allocator;
 use wide_conversions::from_utf8_prefix;
 use wide_error::OutOfMemory;
@@ -18,7 +19,7 @@ pub(crate) fn cut<C: Copy, A: Allocator>(units: &mut Vec<C, A>, from: usize, to:
 {
     if from < to {
         let len = units.len();
-        units.copy_within(to.., from);
+        move_within(units.as_mut_slice(), to, len, from);
         units.truncate(len - (to - from));
     }
 }
@@ -49,7 +50,7 @@ pub(crate) fn open<C: Unit, A: Allocator>(
     let more = count - removed;
     units.reserve(more)?;
     units.resize(len + more, C::NUL)?;
-    units.copy_within(to..len, to + more);
+    move_within(units.as_mut_slice(), to, len, to + more);
     Ok(())
 }
 
