@@ -6,7 +6,7 @@ use Rattle.wide_unit.specs.EncodingForm.{EncodingForm, Utf16, Utf32, IsHighSurro
 use Rattle.wide_unit.specs.Items.{items, IsWellFormed, IsBoundary}
 use Rattle.wide_unit.specs.Offsets.{IsCharBoundary}
 use Rattle.wide_utfstr.specs.Boundaries.{IsFloorBoundary, IsCeilBoundary}
-use Rattle.std.proofs.lemmas.Bool.{cases_eq}
+use Rattle.std.proofs.lemmas.Bool.{cases_eq, cases_lt}
 use Rattle.wide_unit.specs.Laws.Forms.{IsPair-parts}
 use Rattle.wide_unit.specs.Laws.Items.{IsCut}
 use Rattle.wide_unit.specs.Laws.Boundaries.{IsBoundary-at, IsBoundary-end, IsBoundary-of_cut, no-low_at_boundary}
@@ -61,6 +61,15 @@ module _ (form : EncodingForm) (us : List ℕ) (n : ℕ) (well : IsWellFormed fo
 
   pub boundary_before : ¬ (IsCharBoundary form us (n + 1)) → IsCharBoundary form us n
   boundary_before none = (omega arith, λ some within low. none (omega arith, λ _ _ second. no-low_at_boundary form us (n + 1) well below (beyond-boundary low) second))
+
+-- If an offset that is not the beginning is no boundary, the offset before it is one.
+pub boundary_near : (form : EncodingForm) (us : List ℕ) (n : ℕ) → IsWellFormed form us → 0 < n → n ≤ length us → ¬ (IsCharBoundary form us n) → IsCharBoundary form us (n - 1)
+boundary_near form us n well some within none = elim (cases_lt n (length us)) [
+  | inl below ↦ (
+      let e : n - 1 + 1 ≡ n = omega (arith, some) in
+      boundary_before form us (n - 1) well (omega (arith, some, below)) (λ here. none (subst (λ k. IsCharBoundary form us k) e here)))
+  | inr from ↦ absurd (none (omega (arith, within), λ _ inside _. omega (arith, from, inside)))
+]
 
 above-of_other : (n other : ℕ) → n ≤ other → (other ≡ n → ⊥) → n + 1 ≤ other
 above-of_other n other l apart = grind (arith, l, apart)

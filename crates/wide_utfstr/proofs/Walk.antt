@@ -26,6 +26,9 @@ module _ (form : EncodingForm) (us : List ℕ) (well : IsWellFormed form us) whe
     chars-left : chars form rest ≡ drop index (chars form us)
     chars-left = ap (chars form) left.characters ∙ chars-encode form (drop index (chars form us)) (All-drop IsScalar index (chars form us) (scalars-chars form us well))
 
+    pub left-count : length (chars form rest) + index ≡ length (chars form us)
+    left-count = omega (arith, left.within, ap length chars-left, length-drop index (chars form us))
+
     pub left-none : chars form rest ≡ [] → index ≡ length (chars form us)
     left-none e = omega (arith, left.within, ap length (sym chars-left ∙ e), length-drop index (chars form us))
 

@@ -23,8 +23,8 @@ use wide_unit::{Unit, check, range_check, split_first, split_last};
 use wide_ustr::UStr;
 use wide_utferror::{FaultUnit, UtfError};
 
-// How many units are counted in one step.
-const BLOCK: usize = 256;
+// How many characters are passed one by one at the end of a search for an offset.
+const FEW: usize = 16;
 
 /// A view of well-formed UTF-16 or UTF-32 (Unicode Standard, D85). Its type guarantees that the units are well formed:
 /// no call can make a view of ill-formed units.
@@ -110,8 +110,8 @@ impl<'a, C: Unit> UtfStr<'a, C> {
 
     /// Returns the offset, in units, at which the character at an index begins, which is the length in units of the
     /// first `index` characters. If the index is the number of characters, returns the offset of the end. If it is
-    /// greater, returns `None`. In UTF-16 it reads the units before the offset, in whole blocks as far as possible, and
-    /// at most one block after it; in UTF-32 it reads none.
+    /// greater, returns `None`. In UTF-16 it reads the units before the offset once, vectorized but for the last few; in
+    /// UTF-32 it reads none.
     pub fn unit_offset(self, index: usize) -> Option<usize>
         ensures some { IsSome result ↔ (index ≤ length (text_seen self.entry)) }
         ensures offset { IfSome result (IsOffsetOf C.form (map C.number (units_seen self.entry)) index) }
@@ -126,19 +126,20 @@ impl<'a, C: Unit> UtfStr<'a, C> {
         }
         let mut rest = self;
         let mut passed = 0;
-        'counted: while rest.len() > BLOCK {
+        while index - passed > FEW {
+            // Each character that is still to be passed has a unit or more.
+            let ahead = index - passed;
+            if ahead > rest.len() {
+                return None;
+            }
             // If an offset is within a surrogate pair, the offset before it is not.
-            let end = if rest.is_char_boundary(BLOCK) {
-                BLOCK
+            let end = if rest.is_char_boundary(ahead) {
+                ahead
             } else {
-                BLOCK - 1
+                ahead - 1
             };
             let (prefix, others) = rest.split_at(end);
-            let count = prefix.char_count();
-            if count > index - passed {
-                break 'counted;
-            }
-            passed += count;
+            passed += prefix.char_count();
             rest = others;
         }
         for _number in passed..index {

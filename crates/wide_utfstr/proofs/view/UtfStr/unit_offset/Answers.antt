@@ -1,45 +1,67 @@
-use Rattle.std.proofs.Common.{◌≡◌, ℕ, ◌+◌, ◌-◌, ◌<◌, ◌≤◌, ◌↔◌, Option, Some, None, IsSome, map, length, subst, sym, ap, ◌∙◌, ◌++◌, arith}
+use Rattle.std.proofs.Common.{◌≡◌, ℕ, ◌+◌, ◌-◌, ◌<◌, ◌≤◌, ◌↔◌, Option, Some, None, IsSome, map, length, length-take, refl, subst, sym, ap, ◌∙◌, ◌++◌, arith}
 use Rattle.std.proofs.lemmas.List.{length-map, map-append}
 use Rattle.wide_unit.specs.Items.{chars}
 use Rattle.wide_unit.specs.Offsets.{IsOffsetOf, IsCharBoundary}
 use Rattle.wide_unit.proofs.CharBoundaries.{IsCharBoundary-of}
-use Rattle.wide_utfstr.proofs.Walk.{left-prefix, left-all, left-none, left-more, left-shorter, left-offset}
-use Rattle.wide_utfstr.proofs.Boundary.{boundary_before}
+use Rattle.wide_utfstr.proofs.Walk.{left-prefix, left-all, left-count, left-none, left-more, left-shorter, left-offset}
+use Rattle.wide_utfstr.proofs.Boundary.{boundary_near}
+use Rattle.wide_utfstr.proofs.Counts.{chars-at_most}
 use Rattle.wide_utfstr.proofs.view.UtfStr.unit_offset.Goals.{then-is_char_boundary, else-is_char_boundary}
+use Rattle.wide_utfstr.proofs.view.UtfStr.unit_offset.Given.{Over}
 use Rattle.wide_utfstr.proofs.view.UtfStr.unit_offset.Goals as goal
 
 none-past : (r : Option ℕ) (index count : ℕ) → r ≡ None → count < index → IsSome r ↔ (index ≤ count)
 none-past None index count e past = (λ some. absurd cc, λ within. absurd (omega arith))
 none-past (Some n) index count e past = absurd cc
 
-pub counted-init : goal.counted-init
-counted-init g c = (omega arith, left-all g.C.Unit.form (map g.C.Unit.number c.args.self.units.now) c.args.self.well_formed)
+pub loop-passed-init : goal.loop-passed-init
+loop-passed-init g c = (omega arith, left-all g.C.Unit.form (map g.C.Unit.number c.args.self.units.now) c.args.self.well_formed)
+
+pub returns-then-ahead-len-clause-some : goal.returns-then-ahead-len-clause-some
+returns-then-ahead-len-clause-some g c =
+    let form = g.C.Unit.form in
+    let number = g.C.Unit.number in
+    let us = map number c.args.self.units.now in
+    let rest = c.loop-passed.rest in
+    let counted = left-count form us c.args.self.well_formed (map number rest.units.now) c.loop-passed.passed c.loop-passed.invariant.1 in
+    none-past None c.args.index (length (chars form us)) refl (omega (arith, counted, chars-at_most form number rest.units.now rest.well_formed, c.if-ahead-len.true, c.len.ensures))
 
 pub split_at-requires : goal.split_at-requires
 split_at-requires g c =
     let form = g.C.Unit.form in
-    let us = map g.C.Unit.number c.counted.rest.units.now in
-    let long : 256 < length us = omega (arith, length-map c.counted.rest.units.now g.C.Unit.number, c.counted-test.true, c.len.ensures) in
+    let us = map g.C.Unit.number c.loop-passed.rest.units.now in
     elim c.if-is_char_boundary.branch [
       | then-is_char_boundary w ↦ subst (λ n. IsCharBoundary form us n) (sym w.end-is) (c.is_char_boundary.ensures.char_boundary.0 w.if-is_char_boundary.true)
       | else-is_char_boundary w ↦
           subst (λ n. IsCharBoundary form us n) (sym w.end-is)
-          (boundary_before form us 255 c.counted.rest.well_formed long (λ here. let yes = c.is_char_boundary.ensures.char_boundary.1 here in let no = w.if-is_char_boundary.false in absurd cc))
+          (boundary_near form us (c.args.index - c.loop-passed.passed) c.loop-passed.rest.well_formed (omega (arith, c.loop-passed-test.true)) (omega (arith, length-map c.loop-passed.rest.units.now g.C.Unit.number, c.if-ahead-len.false, c.len.ensures))
+          (λ here. let yes = c.is_char_boundary.ensures.char_boundary.1 here in let no = w.if-is_char_boundary.false in absurd cc))
     ]
 
-pub counted-preserved : goal.counted-preserved
-counted-preserved g c =
+-- As many units as characters were asked for have no more characters.
+passed-within : (g : Over) (c : goal.After-char_count-passed g) → c.loop-passed.passed + c.char_count-passed.result ≤ c.args.index
+passed-within g c =
+    let prefix = c.split_at.result.0 in
+    let few : c.if-is_char_boundary.end ≤ c.args.index - c.loop-passed.passed = elim c.if-is_char_boundary.branch [ then-is_char_boundary w ↦ omega (arith, w.end-is) | else-is_char_boundary w ↦ omega (arith, w.end-is) ] in
+    let short : length prefix.units.now ≤ c.if-is_char_boundary.end = omega (arith, ap length c.split_at.ensures.prefix, length-take c.if-is_char_boundary.end c.loop-passed.rest.units.now) in
+    omega (arith, few, short, chars-at_most g.C.Unit.form g.C.Unit.number prefix.units.now prefix.well_formed, c.char_count-passed.ensures, c.loop-passed-test.true)
+
+pub loop-passed-preserved : goal.loop-passed-preserved
+loop-passed-preserved g c =
     let form = g.C.Unit.form in
     let number = g.C.Unit.number in
     let prefix = c.split_at.result.0 in
     let others = c.split_at.result.1 in
     let us = map number c.args.self.units.now in
-    let joined : map number prefix.units.now ++ map number others.units.now ≡ map number c.counted.rest.units.now = sym (map-append number prefix.units.now others.units.now) ∙ ap (map number) c.split_at.ensures.joined in
+    let joined : map number prefix.units.now ++ map number others.units.now ≡ map number c.loop-passed.rest.units.now = sym (map-append number prefix.units.now others.units.now) ∙ ap (map number) c.split_at.ensures.joined in
     let step =
-    left-prefix form us c.args.self.well_formed (map number c.counted.rest.units.now) c.counted.passed c.counted.invariant.1 (map number prefix.units.now) (map number others.units.now) c.char_count-count.result joined prefix.well_formed
-    others.well_formed c.char_count-count.ensures
+    left-prefix form us c.args.self.well_formed (map number c.loop-passed.rest.units.now) c.loop-passed.passed c.loop-passed.invariant.1 (map number prefix.units.now) (map number others.units.now) c.char_count-passed.result joined prefix.well_formed
+    others.well_formed c.char_count-passed.ensures
     in
-    (omega (arith, c.if-count-index.false, c.counted.invariant.0), step.1)
+    (passed-within g c, step.1)
+
+pub overflow_add-passed : goal.overflow_add-passed
+overflow_add-passed g c = record { fits = omega (arith, passed-within g c, c.ranges.index.fits) }
 
 pub loop-number-preserved : goal.loop-number-preserved
 loop-number-preserved g c =
