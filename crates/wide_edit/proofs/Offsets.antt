@@ -1,11 +1,13 @@
 -- Offsets that a search found, and the substrings between them.
-use Rattle.std.proofs.Common.{refl, ◌≡◌, ℕ, ◌-◌, ◌≤◌, List, [], sym, ◌∙◌, ap, arith, length, take, drop, map, length-drop, subst, Ok, Err, Some, None}
+use Rattle.std.proofs.Common.{refl, ◌≡◌, ℕ, ◌+◌, ◌-◌, ◌≤◌, ◌++◌, List, [], sym, ◌∙◌, ap, arith, length, take, drop, map, length-append, length-drop, subst, Ok, Err, Some, None}
 use Rattle.std.specs.Prelude.{slice_range, Result, Option, IsOk, OnOk}
 use Rattle.std.proofs.lemmas.List.{length-map, length-take-le, take-map, drop-map, drop_all}
-use Rattle.wide_unit.specs.EncodingForm.{EncodingForm}
+use Rattle.std.proofs.lemmas.List.Concat.{flat_map-append}
+use Rattle.std.proofs.Math.Seq.{take-add}
+use Rattle.wide_unit.specs.EncodingForm.{EncodingForm, code_units, encode}
 use Rattle.wide_unit.specs.Items.{chars, IsWellFormed}
 use Rattle.wide_unit.specs.Offsets.{IsOffsetOf, IsCharBoundary, IsCharRange, chars_before}
-use Rattle.wide_unit.specs.Laws.Offsets.{offset-IsOffsetOf}
+use Rattle.wide_unit.specs.Laws.Offsets.{offset-IsOffsetOf, IsOffsetOf-prefix, IsWellFormed-drop}
 use Rattle.wide_unit.specs.Laws.Splices.{chars-part, chars-nil}
 use Rattle.wide_unit.specs.Laws.Encodings.{offsets-grow}
 use Rattle.wide_edit.specs.Found.{IsFoundAt, IsFoundRange}
@@ -71,3 +73,16 @@ module _ {X : Type 0} (form : EncodingForm) (number : X → ℕ) (xs : List X) (
   end-all i at p e =
       let none : drop at us ≡ [] = drop_all at us (omega (arith, length-map xs number)) in
       omega (arith, ap length (sym p.rest ∙ ap (chars form) none ∙ chars-nil form), length-drop i (chars form us))
+
+-- The offset of a character from the offset of an earlier one.
+module _ (form : EncodingForm) (us : List ℕ) (well : IsWellFormed form us) (i at : ℕ) (here : Found form us i at) (k n : ℕ) (ahead : IsOffsetOf form (drop at us) k n) where
+  further-offset : at + n ≡ length (encode form (take (i + k) (chars form us)))
+  further-offset =
+      let cs = chars form us in
+      let first : at ≡ length (encode form (take i cs)) = offset-IsOffsetOf form us well i at here.offset in
+      let second : n ≡ length (encode form (take k (chars form (drop at us)))) = offset-IsOffsetOf form (drop at us) (IsWellFormed-drop form us well at here.offset.boundary) k n ahead in
+      let both : take i cs ++ take k (drop i cs) ≡ take (i + k) cs = sym (take-add i k cs) in
+      omega (arith, first, second ∙ ap (λ xs. length (encode form (take k xs))) here.offset.rest, length-append (encode form (take i cs)) (encode form (take k (drop i cs))), ap (λ xs. length (encode form xs)) both, ap length (flat_map-append (code_units form) (take i cs) (take k (drop i cs))))
+
+  pub further : IsOffsetOf form us (i + k) (at + n)
+  further = subst (λ m. IsOffsetOf form us (i + k) m) (sym further-offset) (IsOffsetOf-prefix form us well (i + k))

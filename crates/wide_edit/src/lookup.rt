@@ -52,6 +52,28 @@ pub(crate) fn find<C: FaultUnit>(s: &UtfString<C>, index: usize) -> Option<usize
     s.as_utfstr().unit_offset(index)
 }
 
+// Returns the offset, in units, of the character at index `to`, or `None` if the index is past the end, given that of
+// the character at index `from`. In UTF-16 it reads the units between both, or those before it if it is the earlier
+// one.
+pub(crate) fn find_second<C: FaultUnit>(
+    s: &UtfString<C>,
+    from: usize,
+    start: Option<usize>,
+    to: usize,
+) -> Option<usize>
+    requires { IsFoundAt C.form (map C.number s.now.units) from start }
+    ensures { IsFoundAt C.form (map C.number s.now.units) to result }
+{
+    if to < from {
+        return find(s, to);
+    }
+    recall(s);
+    let at = start?;
+    let (_front, back) = s.as_utfstr().split_at(at);
+    let ahead = back.unit_offset(to - from)?;
+    Some(at + ahead)
+}
+
 // Returns the range, in units, of the characters from index `from` up to index `to`, given the unit offsets of both.
 // Returns `None` if they are not a range of the text.
 pub(crate) fn range_at<C: FaultUnit>(

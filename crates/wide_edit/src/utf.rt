@@ -5,7 +5,7 @@ ghost use Rattle.wide_edit.specs.Step.{step, chars_in};
 ghost use Rattle.wide_edit.specs.Edited.{CanHold, HasReplySpace};
 
 use crate::edits::{Edit, Reply, TextEdit};
-use crate::lookup::{find, numbers_of, recall};
+use crate::lookup::{find, find_second, numbers_of, recall};
 use crate::memory::prepare_at;
 use crate::operations::apply_at;
 use std::alloc::Global;
@@ -47,14 +47,14 @@ impl<C: FaultUnit> TextEdit for UtfString<C> {
     {
         let (first, second) = numbers_of(edit);
         let start = find(self, first);
-        let end = find(self, second);
+        let end = find_second(self, first, start, second);
         prepare_at(self, alloc, edit, start, end)
     }
 
     fn apply(&mut self, edit: Edit<'_>, space: Vec<char>) -> Reply {
         let (first, second) = numbers_of(edit);
         let start = find(self, first);
-        let end = find(self, second);
+        let end = find_second(self, first, start, second);
         apply_at(self, edit, start, end, space)
     }
 }
