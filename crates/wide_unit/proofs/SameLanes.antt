@@ -1,57 +1,76 @@
--- Two lists are the same exactly if no lane of a comparison says that they differ.
-use Rattle.std.proofs.Common.{◌≡◌, ◌++◌, drop, subst, ℕ, ◌+◌, ◌*◌, ◌%◌, ◌^◌, ◌-◌, ◌≤◌, Bool, true, false, not, cond, eqb, List, [], ◌∷◌, length, map, take, refl, sym, ap, ◌∙◌, arith, w16, inl, inr}
-use Rattle.std.proofs.lemmas.List.{take_all, take-append-drop, drop-take, take-map, take-take}
+-- Two lists are the same up to the first lane of a comparison that says that they differ.
+use Rattle.std.proofs.Common.{◌≡◌, ◌++◌, drop, subst, ℕ, ◌+◌, ◌-◌, ◌%◌, ◌^◌, ◌≤◌, Bool, not, cond, eqb, List, [], ◌∷◌, length, map, take, refl, sym, ap, ◌∙◌, arith, inl, inr, suc}
+use Rattle.std.proofs.lemmas.List.{take_all, take-append-drop, drop-take, take-map, take-take, map-id}
+use Rattle.std.proofs.lemmas.List.Sums.{prefix_len-le-length}
+use Rattle.std.proofs.lemmas.Bool.{eq-eqb, ne_eqb, cond-true, cond-false}
 use Rattle.std.proofs.lemmas.Bool.Decides.{eqb_tells}
-use Rattle.std.proofs.lemmas.Simd.{tops_compared, mask_l-mod, length-zip2}
+use Rattle.std.proofs.lemmas.Simd.{tops_compared, mask_l-mod, length-zip2, first_set_mask_l}
 use Rattle.std.specs.Simd.Lanes.{mask_l, zip2, top}
+use Rattle.std.specs.List.{prefix_len}
+use lib.Count.{count_trailing_zeros}
+use mir.Syntax.{Width}
+use mir.Val.{bits, hbits}
 
 -- Whether two lanes differ.
 abbrev differ : ℕ → ℕ → Bool
 differ a b = not (eqb a b)
 
-none-differ : (us : List ℕ) → mask_l (zip2 differ us us) ≡ 0
-none-differ [] = refl
-none-differ (u ∷ us) = elim (eqb_tells u u) [
-  | inl same ↦ (let e = none-differ us in let f = same.0 in rw f (omega (arith, e)))
-  | inr other ↦ absurd (other.1 refl)
+-- How many lanes come before the first that differs.
+abbrev before : List ℕ → List ℕ → ℕ
+before us vs = prefix_len (λ b. not b) (zip2 differ us vs)
+
+-- One more element at the beginning.
+same-after : (u w : ℕ) (us vs : List ℕ) (k : ℕ) → u ≡ w → take k us ≡ take k vs → take (1 + k) (u ∷ us) ≡ take (1 + k) (w ∷ vs)
+same-after u w us vs k same rest = let e : 1 + k ≡ suc k = omega arith in rw e (cc (same, rest))
+
+same-before : (us vs : List ℕ) → take (before us vs) us ≡ take (before us vs) vs
+same-before [] [] = refl
+same-before [] (w ∷ vs) = refl
+same-before (u ∷ us) [] = refl
+same-before (u ∷ us) (w ∷ vs) = elim (eqb_tells u w) [
+  | inl same ↦ (let f = same.0 in rw f (same-after u w us vs (before us vs) same.1 (same-before us vs)))
+  | inr other ↦ (let f = other.0 in rw f refl)
 ]
 
-same-lists : (us vs : List ℕ) → length us ≡ length vs → mask_l (zip2 differ us vs) ≡ 0 → us ≡ vs
-same-lists [] [] long none = refl
-same-lists [] (w ∷ vs) long none = absurd (omega (arith, long))
-same-lists (u ∷ us) [] long none = absurd (omega (arith, long))
-same-lists (u ∷ us) (w ∷ vs) long none = elim (eqb_tells u w) [
-  | inl same ↦ (
-      let f : cond (not true) 1 0 + 2 * mask_l (zip2 differ us vs) ≡ 0 = rw (same.0) at none in
-      let h : us ≡ vs = same-lists us vs (omega (arith, long)) (omega (arith, f)) in
-      let g = same.1 in
-      cc)
-  | inr other ↦ (
-      let f : cond (not false) 1 0 + 2 * mask_l (zip2 differ us vs) ≡ 0 = rw (other.0) at none in
-      absurd (omega (arith, f)))
-]
+-- Two blocks of n lanes of width w, and the mask of the lanes that differ.
+module _ (w : Width) (n : ℕ) (small : n ≤ 64) (us vs : List ℕ) (long : length us ≡ n) (long2 : length vs ≡ n) where
+  abbrev mask : ℕ
+  mask = mask_l (map (top (hbits w)) (zip2 (λ a b. cond (differ a b) (2 ^ bits w - 1) 0) (take n us) (take n vs))) % 2 ^ 64
 
--- The mask of sixteen lanes that differ.
-mask16 : (us vs : List ℕ) → length us ≡ 16 → length vs ≡ 16 → mask_l (map (top 15) (zip2 (λ a b. cond (differ a b) (2 ^ 16 - 1) 0) (take 16 us) (take 16 vs))) % 2 ^ 64 ≡ mask_l (zip2 differ us vs)
-mask16 us vs long long2 =
-    let whole : take 16 us ≡ us = take_all 16 us (omega (arith, long)) in
-    let whole2 : take 16 vs ≡ vs = take_all 16 vs (omega (arith, long2)) in
-    ap (λ xs. mask_l (map (top 15) (zip2 (λ a b. cond (differ a b) (2 ^ 16 - 1) 0) xs (take 16 vs))) % 2 ^ 64) whole
-    ∙ ap (λ xs. mask_l (map (top 15) (zip2 (λ a b. cond (differ a b) (2 ^ 16 - 1) 0) us xs)) % 2 ^ 64) whole2
-    ∙ ap (λ bs. mask_l bs % 2 ^ 64) (tops_compared w16 differ us vs)
-    ∙ mask_l-mod (zip2 differ us vs) 64 (let e = length-zip2 differ us vs (long ∙ sym long2) in omega (arith, e, long))
+  lanes : length (zip2 differ us vs) ≡ n
+  lanes = length-zip2 differ us vs (long ∙ sym long2) ∙ long
 
-pub same16 : (us vs : List ℕ) → length us ≡ 16 → length vs ≡ 16 → mask_l (map (top 15) (zip2 (λ a b. cond (differ a b) (2 ^ 16 - 1) 0) (take 16 us) (take 16 vs))) % 2 ^ 64 ≡ 0 → us ≡ vs
-same16 us vs long long2 none = same-lists us vs (long ∙ sym long2) (sym (mask16 us vs long long2) ∙ none)
+  mask-is : mask ≡ mask_l (zip2 differ us vs)
+  mask-is =
+      let whole : take n us ≡ us = take_all n us (omega (arith, long)) in
+      let whole2 : take n vs ≡ vs = take_all n vs (omega (arith, long2)) in
+      ap (λ xs. mask_l (map (top (hbits w)) (zip2 (λ a b. cond (differ a b) (2 ^ bits w - 1) 0) xs (take n vs))) % 2 ^ 64) whole
+      ∙ ap (λ xs. mask_l (map (top (hbits w)) (zip2 (λ a b. cond (differ a b) (2 ^ bits w - 1) 0) us xs)) % 2 ^ 64) whole2
+      ∙ ap (λ bs. mask_l bs % 2 ^ 64) (tops_compared w differ us vs)
+      ∙ mask_l-mod (zip2 differ us vs) 64 (omega (arith, lanes, small))
 
-pub none16 : (us vs : List ℕ) → length us ≡ 16 → length vs ≡ 16 → us ≡ vs → mask_l (map (top 15) (zip2 (λ a b. cond (differ a b) (2 ^ 16 - 1) 0) (take 16 us) (take 16 vs))) % 2 ^ 64 ≡ 0
-none16 us vs long long2 same = mask16 us vs long long2 ∙ ap (λ xs. mask_l (zip2 differ us xs)) (sym same) ∙ none-differ us
+  counted : cond (eqb mask 0) n (count_trailing_zeros 64 mask) ≡ before us vs
+  counted =
+      ap (λ b. cond (eqb b 0) n (count_trailing_zeros 64 b)) (mask-is ∙ ap mask_l (sym (map-id (zip2 differ us vs))))
+      ∙ first_set_mask_l (λ (b : Bool). b) (zip2 differ us vs) n lanes small
+
+  first : ¬ (mask ≡ 0) → count_trailing_zeros 64 mask ≡ before us vs
+  first some = sym (cond-false _ _ _ (ne_eqb _ _ some)) ∙ counted
+
+  pub all-same : mask ≡ 0 → take n us ≡ take n vs
+  all-same none = subst (λ k. take k us ≡ take k vs) (sym counted ∙ cond-true _ _ _ (eq-eqb _ _ none)) (same-before us vs)
+
+  pub first-within : ¬ (mask ≡ 0) → count_trailing_zeros 64 mask ≤ n
+  first-within some = omega (arith, first some, lanes, prefix_len-le-length (λ b. not b) (zip2 differ us vs))
+
+  pub first-same : ¬ (mask ≡ 0) → take (count_trailing_zeros 64 mask) us ≡ take (count_trailing_zeros 64 mask) vs
+  first-same some = subst (λ k. take k us ≡ take k vs) (sym (first some)) (same-before us vs)
 
 module _ {X : Type 0} where
-  -- Lists that are the same in a prefix and in the block after it are the same up to the end of the block.
-  pub same-further : (xs ys : List X) (at m n : ℕ) → m ≡ n → take at xs ≡ take at ys → take m (drop at xs) ≡ take m (drop at ys) → take (at + n) xs ≡ take (at + n) ys
-  same-further xs ys at m n same before here =
-      let e : take n (drop at xs) ≡ take n (drop at ys) = subst (λ k. take k (drop at xs) ≡ take k (drop at ys)) same here in
+  -- Lists that are the same in a prefix and at the beginning of the block after it are the same up to there.
+  pub same-further : (xs ys : List X) (at m n : ℕ) → n ≤ m → take at xs ≡ take at ys → take n (take m (drop at xs)) ≡ take n (take m (drop at ys)) → take (at + n) xs ≡ take (at + n) ys
+  same-further xs ys at m n le before here =
+      let e : take n (drop at xs) ≡ take n (drop at ys) = sym (take-take n m (drop at xs) le) ∙ here ∙ take-take n m (drop at ys) le in
       sym (take-append-drop at (take (at + n) xs))
       ∙ ap (λ zs. take at (take (at + n) xs) ++ zs) (drop-take at n xs ∙ e ∙ sym (drop-take at n ys))
       ∙ ap (λ zs. zs ++ drop at (take (at + n) ys)) (take-take at (at + n) xs (omega arith) ∙ before ∙ sym (take-take at (at + n) ys (omega arith)))

@@ -8,9 +8,6 @@ use crate::same_blocks::same_blocks;
 use crate::unit::Unit;
 use std::cmp::Ordering;
 
-// Blocks of fewer units are compared one by one.
-const BLOCK: usize = 16;
-
 /// Returns how many units at the beginning of two slices are the same: up to the first difference, or to the end of the
 /// shorter slice. The comparison is vectorized. The Rust crate has no such call.
 ///
@@ -24,11 +21,8 @@ pub fn common_prefix<C: Unit>(left: &[C], right: &[C]) -> usize
     let len = left.len().min(right.len());
     let (left, _) = left.split_at(len);
     let (right, _) = right.split_at(len);
-    let mut at = if len < BLOCK {
-        0
-    } else {
-        same_blocks(left, right)
-    };
+    let mut at = same_blocks(left, right);
+    // In slices of at least one block this is the first difference. Shorter ones are compared unit by unit.
     while at < len && left[at].code() == right[at].code() {
         at += 1;
     }

@@ -1,5 +1,5 @@
 //! Compares two slices block by block in SIMD lanes: sixteen 16-bit units, or eight 32-bit units, in one step.
-ghost use Rattle.std.specs.Prelude.{◌≡◌, ◌↔◌, ◌≤◌, ◌<◌, length, take, IsTrue};
+ghost use Rattle.std.specs.Prelude.{◌≡◌, ◌≤◌, ◌<◌, length, take};
 ghost use Rattle.std.proofs.Common.{rules};
 
 use crate::any_units::AnyUnits;
@@ -15,11 +15,12 @@ trait Lane: Copy {
     // How many lanes a block has.
     const COUNT: usize;
 
-    // Returns whether two blocks are equal.
-    fn are_same(left: &[Self], right: &[Self]) -> bool
+    // Returns how many units at the beginning of two blocks are equal.
+    fn same(left: &[Self], right: &[Self]) -> usize
         requires left { length left.now ≡ COUNT }
         requires right { length right.now ≡ COUNT }
-        ensures { IsTrue result ↔ (left.now ≡ right.now) };
+        ensures within { result ≤ COUNT }
+        ensures same { take result left.now ≡ take result right.now };
 
     ghost some_lanes: { 0 < COUNT };
 }
@@ -32,9 +33,14 @@ impl Lane for u16 {
     const COUNT: usize = 16;
 
     #[inline(always)]
-    fn are_same(left: &[u16], right: &[u16]) -> bool {
+    fn same(left: &[u16], right: &[u16]) -> usize {
         let differ = u16x16::from_slice(left).simd_ne(u16x16::from_slice(right));
-        differ.to_bitmask() == 0
+        let bits = differ.to_bitmask();
+        if bits == 0 {
+            16
+        } else {
+            bits.trailing_zeros() as usize
+        }
     }
 }
 
@@ -46,14 +52,19 @@ impl Lane for u32 {
     const COUNT: usize = 8;
 
     #[inline(always)]
-    fn are_same(left: &[u32], right: &[u32]) -> bool {
+    fn same(left: &[u32], right: &[u32]) -> usize {
         let differ = u32x8::from_slice(left).simd_ne(u32x8::from_slice(right));
-        differ.to_bitmask() == 0
+        let bits = differ.to_bitmask();
+        if bits == 0 {
+            8
+        } else {
+            bits.trailing_zeros() as usize
+        }
     }
 }
 
-// Returns how many units at the beginning are in equal blocks. The last block overlaps the one before it, so that no unit
-// is left over if there is a whole block and all are equal.
+// Returns how many units at the beginning are equal, or 0 for slices that are shorter than a block. The last block
+// overlaps the one before it, so that no unit is left over.
 #[inline(always)]
 fn same_lanes<L: Lane>(left: &[L], right: &[L]) -> usize
     requires { length left.now ≡ length right.now }
@@ -64,21 +75,22 @@ fn same_lanes<L: Lane>(left: &[L], right: &[L]) -> usize
     let mut at = 0;
     while len - at >= L::COUNT {
         let end = at + L::COUNT;
-        if !L::are_same(&left[at..end], &right[at..end]) {
-            return at;
+        let same = L::same(&left[at..end], &right[at..end]);
+        if same < L::COUNT {
+            return at + same;
         }
         at = end;
     }
-    if len >= L::COUNT {
+    if at < len && len >= L::COUNT {
         let start = len - L::COUNT;
-        if L::are_same(&left[start..len], &right[start..len]) {
-            return len;
-        }
+        return start + L::same(&left[start..len], &right[start..len]);
     }
     at
 }
 
-// Returns how many units at the beginning are in equal blocks.
+// Returns how many units at the beginning are equal, or 0 for slices that are shorter than a block. It is inlined, so
+// that those need no call.
+#[inline]
 pub(crate) fn same_blocks<C: Unit>(left: &[C], right: &[C]) -> usize
     requires { length left.now ≡ length right.now }
     ensures within { result ≤ length left.now }
