@@ -11,7 +11,7 @@ use wide_unit::{Unit, common_prefix};
 // How many units are compared one by one before blocks are. Most comparisons end before.
 const NEAR: usize = 4;
 
-// Returns how many units at the beginning of two slices are the same, or `NEAR` if there are more.
+// Returns how many units at the beginning of two slices are the same, or `NEAR` if there are at least as many.
 #[inline(always)]
 fn near_prefix<C: Unit>(left: &[C], right: &[C]) -> usize
     ensures { result < 4 → IsCommonPrefix left.now right.now result }

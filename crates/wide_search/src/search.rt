@@ -13,14 +13,14 @@ use wide_unit::{Unit, first_of};
 const COMPARED_PER_PASSED: usize = 16;
 
 // A try at which fewer units match is not counted. In ordinary text most are such, and they take little time.
-const FEW: usize = 4;
+const LEAST_COUNTED: usize = 4;
 
 // To come to an offset and to begin to compare there takes about as long as to compare so many units.
 const COMPARED_PER_TRY: usize = 16;
 
 // The two-way search begins with a factorization of the needle. For each unit of the needle, that takes as long as it
 // takes to pass over so many units of the text.
-const PASSED_PER_SOUGHT: usize = 4;
+const PASSED_PER_FACTORED: usize = 4;
 
 // Returns an offset before which no needle with these two units occurs. It is the first at which both stand, or the
 // number of offsets at which they could.
@@ -57,7 +57,7 @@ fn skip_back<C: Unit>(units: &[C], end: usize, probe: Probe<C>) -> usize
 // in less time, its factorization of the needle included. The last unit of the needle is at this distance from the
 // first.
 fn is_in_vain(wasted: usize, passed: usize, distance: usize) -> bool {
-    (wasted / COMPARED_PER_PASSED).saturating_sub(passed) / PASSED_PER_SOUGHT > distance
+    (wasted / COMPARED_PER_PASSED).saturating_sub(passed) / PASSED_PER_FACTORED > distance
 }
 
 // Returns the offset of the first occurrence of the needle, or `None`. Only where its first and its last unit stand are
@@ -84,7 +84,7 @@ pub(crate) fn find_in<C: Unit, P: Needle<C>>(units: &[C], needle: P) -> Option<u
             return Some(at + step);
         }
         at += step + 1;
-        if matched < FEW {
+        if matched < LEAST_COUNTED {
             continue;
         }
         wasted = wasted.saturating_add(matched.saturating_add(COMPARED_PER_TRY));
@@ -126,7 +126,7 @@ pub(crate) fn rfind_in<C: Unit, P: Needle<C>>(units: &[C], needle: P) -> Option<
             return Some(found - 1);
         }
         end = found - 1;
-        if matched < FEW {
+        if matched < LEAST_COUNTED {
             continue;
         }
         wasted = wasted.saturating_add(matched.saturating_add(COMPARED_PER_TRY));

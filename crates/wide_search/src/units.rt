@@ -62,6 +62,7 @@ pub fn find<C: Unit>(units: &[C], needle: &[C]) -> Option<usize>
     ensures none { IfNone result (OccursNowhere needle.now units.now) }
     ensures within { IfSome result (λ at. at + length needle.now ≤ length units.now) }
 {
+    // Where a single unit stands there is nothing left to compare.
     if let [unit] = needle {
         return find_unit(units, *unit);
     }

@@ -42,8 +42,8 @@ loop-at-preserved-in_default-as_slice g c =
           c.loop-at.invariant.2 (c.skip-step.ensures.before sought is) (λ whole. omega (arith, c.matching-matched.ensures.whole.0 whole, c.if-matched-probe.false, is.length)),
     )
 
-pub loop-at-preserved-then-matched-lt-FEW : goal.loop-at-preserved-then-matched-lt-FEW
-loop-at-preserved-then-matched-lt-FEW g c =
+pub loop-at-preserved-then-matched-lt-LEAST_COUNTED : goal.loop-at-preserved-then-matched-lt-LEAST_COUNTED
+loop-at-preserved-then-matched-lt-LEAST_COUNTED g c =
     let sought = g.P.Needle.sought c.args.needle in
     let is : IsProbe sought c.in-Some.probe = c.in-Some.ensures in (
       omega (arith, c.skip-step.ensures.within, c.if-step-probe.false, c.split_at.ensures.back_len),
