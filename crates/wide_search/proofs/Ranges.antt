@@ -1,6 +1,8 @@
 -- Steps of loops over indices, from both ends.
-use Rattle.std.proofs.Common.{◌≡◌, ℕ, zero, suc, ◌+◌, ◌-◌, ◌<◌, ◌≤◌, Bool, true, false, List, [], ◌∷◌, length, get_or, map, inl, inr, refl, sym, ap, ◌∙◌, subst, arith}
-use Rattle.std.proofs.lemmas.List.{map-id}
+use Rattle.std.proofs.Common.{◌≡◌, ℕ, zero, suc, ◌+◌, ◌-◌, ◌<◌, ◌≤◌, Bool, true, false, not, ◌&&◌, List, [], ◌∷◌, length, get_or, map, take, drop, inl, inr, refl, sym, ap, ◌∙◌, subst, arith, get_or-take, get_or-drop, length-take}
+use Rattle.std.proofs.lemmas.List.{map-id, length-map, take-map, drop-map}
+use Rattle.std.proofs.lemmas.List.Sums.{prefix_len_passes, prefix_len-le-length}
+use Rattle.wide_unit.specs.Searches.{first_offset, is_unit}
 use Rattle.wide_search.specs.Probes.{are_units, StandAt}
 use Rattle.std.proofs.lemmas.Bool.{cases_lt}
 
@@ -10,6 +12,12 @@ module _ (P : ℕ → Type 0) where
   none-further at step before next k l holds = elim (cases_lt k at) [
     | inl earlier ↦ before k earlier holds
     | inr later ↦ (let e : k ≡ at + (k - at) = omega (arith, later) in next (k - at) (omega (arith, l, later)) (subst P e holds))
+  ]
+
+  pub none-until : (at start : ℕ) → ((k : ℕ) → k < at → ¬ (P k)) → ((k : ℕ) → at ≤ k → k < start → ¬ (P k)) → (k : ℕ) → k < start → ¬ (P k)
+  none-until at start before next k l holds = elim (cases_lt k at) [
+    | inl earlier ↦ before k earlier holds
+    | inr later ↦ next k later l holds
   ]
 
   -- It holds at none of the indices from `end` on, nor at those from `start + step` up to it.
@@ -51,3 +59,44 @@ pub stand-as : (first last v w : ℕ) (xs ys us vs : List ℕ) (k : ℕ) → v �
 stand-as first last v w xs ys us vs k e e2 e3 e4 holds =
     let here : StandAt v w us vs k = subst (λ n. StandAt v n us vs k) (sym e2) (subst (λ n. StandAt n last us vs k) (sym e) (subst (λ zs. StandAt first last us zs k) (sym e4) (subst (λ zs. StandAt first last zs ys k) (sym e3) holds))) in
     subst (λ zs. StandAt v w (map (λ u. u) us) zs k) (sym (map-id vs)) (subst (λ zs. StandAt v w zs vs k) (sym (map-id us)) here)
+
+is_false : (b : Bool) → not b ≡ true → b ≡ false
+is_false true none = cc
+is_false false none = refl
+
+-- The two do not stand where the first one does not.
+pub alone-apart : (first last k : ℕ) (us ws : List ℕ) → is_unit first (get_or us k 0) ≡ false → ¬ (StandAt first last us ws k)
+alone-apart first last k us ws none holds =
+    let h : (false && is_unit last (get_or ws k 0)) ≡ true = subst (λ b. (b && is_unit last (get_or ws k 0)) ≡ true) none holds in
+    cc (h)
+
+-- The units at an index of a part of both lists are those at an index of the lists.
+module _ {X : Type 0} (number : X → ℕ) where
+  part-at : (xs : List X) (at n k : ℕ) → k < n → get_or (map number (take n (drop at xs))) k 0 ≡ get_or (map number xs) (at + k) 0
+  part-at xs at n k l =
+      ap (λ us. get_or us k 0) (sym (take-map number n (drop at xs)) ∙ ap (take n) (sym (drop-map number at xs)))
+      ∙ get_or-take n (drop at (map number xs)) k 0 l ∙ get_or-drop at (map number xs) k 0
+
+  pub stand-in-part : (first last : ℕ) (front back : List X) (at n m k : ℕ) → k < n → k < m → StandAt first last (map number front) (map number back) (at + k) → StandAt first last (map number (take n (drop at front))) (map number (take m (drop at back))) k
+  stand-in-part first last front back at n m k l l2 holds =
+      ap (λ u. are_units first last u (get_or (map number (take m (drop at back))) k 0)) (part-at front at n k l)
+      ∙ ap (are_units first last (get_or (map number front) (at + k) 0)) (part-at back at m k l2) ∙ holds
+
+  pub offset-in-part : (test : ℕ → Bool) (xs : List X) (at n : ℕ) → first_offset test (map number (take n (drop at xs))) ≤ n
+  offset-in-part test xs at n =
+      let h = prefix_len-le-length (λ u. not (test u)) (map number (take n (drop at xs))) in
+      let e : length (map number (take n (drop at xs))) ≤ n = simp (length-map, length-take) (omega arith) in
+      omega (arith, h, e)
+
+  pub none-in-part : (v : ℕ) (xs : List X) (at n k : ℕ) → at ≤ k → k - at < first_offset (is_unit v) (map number (take n (drop at xs))) → is_unit v (get_or (map number xs) k 0) ≡ false
+  none-in-part v xs at n k later l =
+      let short = offset-in-part (is_unit v) xs at n in
+      let same : get_or (map number (take n (drop at xs))) (k - at) 0 ≡ get_or (map number xs) (at + (k - at)) 0 = part-at xs at n (k - at) (omega (arith, l, short)) in
+      let here : at + (k - at) ≡ k = omega (arith, later) in
+      let passed : not (is_unit v (get_or (map number (take n (drop at xs))) (k - at) 0)) ≡ true = prefix_len_passes (λ u. not (is_unit v u)) (map number (take n (drop at xs))) (k - at) 0 l in
+      is_false (is_unit v (get_or (map number xs) k 0)) (subst (λ i. not (is_unit v (get_or (map number xs) i 0)) ≡ true) here (subst (λ u. not (is_unit v u) ≡ true) same passed))
+
+  pub stand-in-front : (first last : ℕ) (front back : List X) (n k : ℕ) → k < n → StandAt first last (map number front) (map number back) k → StandAt first last (map number (take n front)) (map number (take n back)) k
+  stand-in-front first last front back n k l holds =
+      let same : k ≡ 0 + k = omega arith in
+      stand-in-part first last front back 0 n n k l l (subst (λ i. StandAt first last (map number front) (map number back) i) same holds)

@@ -4,13 +4,24 @@
 //! this distance. Few indices pass even if one of the units is frequent. The blocks of both lists are compared in SIMD
 //! lanes: sixteen 16-bit units, or eight 32-bit units, in one step (W. Mula, "SIMD-friendly algorithms for substring
 //! searching").
-ghost use Rattle.std.specs.Prelude.{◌≡◌, ◌+◌, ◌<◌, ◌≤◌, ℕ, length, map, slice_index};
+ghost use Rattle.std.specs.Prelude.{◌≡◌, ◌+◌, ◌<◌, ◌≤◌, ℕ, false, length, map, slice_index};
 ghost use Rattle.std.proofs.Common.{rules};
 ghost use Rattle.std.specs.Simd.Lanes.{mask_l, zip2};
 ghost use Rattle.wide_search.specs.Probes.{are_units, StandAt};
+ghost use Rattle.wide_unit.specs.Searches.{is_unit};
 
 use std::simd::prelude::*;
 use wide_unit::{AnyUnits, Unit};
+
+// How many indices are tested for both units at first. In most texts both stand at one of these.
+const NEAR: usize = 2048;
+
+// After those the first unit is looked for alone, which is faster where it is rare, and both are tested in a stretch
+// from where it stands. The next stretch is short if the unit was not found nearby, and else twice as long as the one
+// before.
+const SHORT: usize = 64;
+
+const LONG: usize = 4096;
 
 // A code unit that fits a SIMD lane.
 trait Lane: Copy {
@@ -135,7 +146,7 @@ fn first_in<L: Lane>(front: &[L], back: &[L], first: L, last: L) -> usize
         }
         at += step;
     }
-    if len >= L::COUNT {
+    if at < len && len >= L::COUNT {
         let start = len - L::COUNT;
         return start + before_pair(front, back, start, first, last);
     }
@@ -171,8 +182,10 @@ fn last_in<L: Lane>(front: &[L], back: &[L], first: L, last: L) -> usize
     end
 }
 
-// Returns the first index at which `first` stands in the one list and `last` in the other, or the length.
-pub(crate) fn first_pair<C: Unit>(front: &[C], back: &[C], first: C, last: C) -> usize
+// Returns the first index at which `first` stands in the one list and `last` in the other, or the length. It reads both
+// lists up to there.
+#[inline(always)]
+fn first_in_both<C: Unit>(front: &[C], back: &[C], first: C, last: C) -> usize
     requires { length front.now ≡ length back.now }
     ensures within { result ≤ length back.now }
     ensures before { (k : ℕ) → k < result → ¬ (StandAt (C.number first) (C.number last) (map C.number front.now) (map C.number back.now) k) }
@@ -189,6 +202,66 @@ pub(crate) fn first_pair<C: Unit>(front: &[C], back: &[C], first: C, last: C) ->
         }
         _ => 0,
     }
+}
+
+// Returns the first index from `from` on at which the unit stands, or the length.
+#[inline(always)]
+fn next_of<C: Unit>(units: &[C], from: usize, unit: C) -> usize
+    requires { from ≤ length units.now }
+    ensures after { from ≤ result }
+    ensures within { result ≤ length units.now }
+    ensures before { (k : ℕ) → from ≤ k → k < result → is_unit (C.number unit) (slice_index (map C.number units.now) k) ≡ false }
+{
+    from + C::offset_of(unit.code(), &units[from..])
+}
+
+// Returns the first index at which `first` stands in the one list and `last` in the other, or the length. At no index
+// before `from` both stand. It goes from stretch to stretch: the next begins where `first` stands next, so that less of
+// the other list is read where it is rare.
+#[inline(never)]
+fn far_pair<C: Unit>(front: &[C], back: &[C], from: usize, first: C, last: C) -> usize
+    requires same_len { length front.now ≡ length back.now }
+    requires within { from ≤ length back.now }
+    requires before { (k : ℕ) → k < from → ¬ (StandAt (C.number first) (C.number last) (map C.number front.now) (map C.number back.now) k) }
+    ensures within { result ≤ length back.now }
+    ensures before { (k : ℕ) → k < result → ¬ (StandAt (C.number first) (C.number last) (map C.number front.now) (map C.number back.now) k) }
+{
+    let len = back.len();
+    let mut at = from;
+    let mut stretch = SHORT;
+    while at < len {
+        let start = next_of(front, at, first);
+        stretch = if start - at < SHORT {
+            (stretch * 2).min(LONG)
+        } else {
+            SHORT
+        };
+        let count = (len - start).min(stretch);
+        let end = start + count;
+        let step = first_in_both(&front[start..end], &back[start..end], first, last);
+        if step < count || end == len {
+            return start + step;
+        }
+        at = end;
+    }
+    len
+}
+
+// Returns the first index at which `first` stands in the one list and `last` in the other, or the length. It tests the
+// first indices itself, so that short lists need no call.
+#[inline(always)]
+pub(crate) fn first_pair<C: Unit>(front: &[C], back: &[C], first: C, last: C) -> usize
+    requires { length front.now ≡ length back.now }
+    ensures within { result ≤ length back.now }
+    ensures before { (k : ℕ) → k < result → ¬ (StandAt (C.number first) (C.number last) (map C.number front.now) (map C.number back.now) k) }
+{
+    let len = back.len();
+    let near = len.min(NEAR);
+    let step = first_in_both(&front[..near], &back[..near], first, last);
+    if step < near || near == len {
+        return step;
+    }
+    far_pair(front, back, near, first, last)
 }
 
 // Returns the index after the last one at which `first` stands in the one list and `last` in the other, or 0.

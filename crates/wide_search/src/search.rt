@@ -24,6 +24,7 @@ const PASSED_PER_FACTORED: usize = 4;
 
 // Returns an offset before which no needle with these two units occurs. It is the first at which both stand, or the
 // number of offsets at which they could.
+#[inline(always)]
 fn skip<C: Unit>(units: &[C], probe: Probe<C>) -> usize
     requires { probe.distance < length units.now }
     ensures within { result + probe.distance ≤ length units.now }
