@@ -94,7 +94,7 @@ fn is_found_in_equals(
     needle.extend_from_slice(&equals)?;
     let mut units = Vec::new(alloc);
     units.extend_from_slice(front)?;
-    units.extend_from_slice(&repeated(alloc, &mut random, &[1], 4000, 0)?)?;
+    units.extend_from_slice(&repeated(alloc, &mut random, &[1], 9000, 0)?)?;
     units.extend_from_slice(back)?;
     units.extend_from_slice(&equals)?;
     is_found(alloc, &units, &needle)
@@ -124,8 +124,9 @@ fn push_others(random: &mut Random, units: &mut Vec<u16>, count: usize) -> Resul
 }
 
 // Returns whether a needle of equal units but one in the middle is found in units of which the first and the last ones
-// alone are equal to them, so that the two-way search takes over there and stops in the rest.
-fn is_found_among_others(alloc: Global, seed: u64) -> Result<bool, AllocError> {
+// alone are equal to them, with so many others before the needle. For most needles the two-way search takes over among
+// the first ones, and stops in the others or finds the needle before.
+fn is_found_among_others(alloc: Global, seed: u64, others: usize) -> Result<bool, AllocError> {
     let mut random = Random::new(seed);
     let side = random.below(30).saturating_add(2);
     let mut needle = repeated(alloc, &mut random, &[1], side, 0)?;
@@ -133,7 +134,7 @@ fn is_found_among_others(alloc: Global, seed: u64) -> Result<bool, AllocError> {
     needle.extend_from_slice(&repeated(alloc, &mut random, &[1], side, 0)?)?;
     let equals = repeated(alloc, &mut random, &[1], 600, 0)?;
     let mut units = equals.clone()?;
-    push_others(&mut random, &mut units, 9000)?;
+    push_others(&mut random, &mut units, others)?;
     if random.below(3) > 0 {
         units.extend_from_slice(&needle)?;
     }
@@ -146,7 +147,9 @@ fn is_found_among_others(alloc: Global, seed: u64) -> Result<bool, AllocError> {
 #[test]
 fn equals_around_others(rt: HostRuntime) {
     for seed in 0..20 {
-        let well = is_found_among_others(rt.alloc(), seed);
-        assert!(rt; well == Ok(true), "seed {seed}");
+        for others in [9000, 3000, 300] {
+            let well = is_found_among_others(rt.alloc(), seed, others);
+            assert!(rt; well == Ok(true), "seed {seed}, {others} others");
+        }
     }
 }
