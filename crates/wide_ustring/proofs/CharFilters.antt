@@ -1,17 +1,20 @@
 -- The loop of `retain_chars`: what the closure returned for the characters that were passed, and the units of the
 -- characters that were retained.
-use Rattle.std.proofs.Common.{◌≡◌, ℕ, ◌+◌, ◌-◌, ◌<◌, ◌≤◌, List, [], ◌∷◌, ◌++◌, Bool, true, false, length, map, take, drop, slice_range, refl, ap, sym, ◌∙◌, subst, arith, append_assoc, append-nil, get_or, length-append, length-drop}
-use Rattle.std.proofs.lemmas.List.{drop_all, drop-drop, length-take-le, map-append, take_at}
+use Rattle.std.proofs.Common.{◌≡◌, ℕ, ◌+◌, ◌-◌, ◌<◌, ◌≤◌, List, [], ◌∷◌, ◌++◌, Bool, true, false, cond, length, map, take, drop, set, slice_range, refl, ap, sym, ◌∙◌, subst, arith, append_assoc, append-nil, get_or, length-append, length-drop, length-set}
+use Rattle.std.proofs.lemmas.List.{drop_all, drop-drop, drop_more, drop-set-lt, length-take-le, map-append, take_at}
 use Rattle.std.proofs.lemmas.Slice.{drop-append-drop}
 use Rattle.std.specs.Char.{IsScalar}
+use Rattle.std.specs.Int.{from_bool}
 use Rattle.std.specs.List.{copy_within}
 use Rattle.std.specs.List.Retain.{IsFiltered}
 use Rattle.wide_unit.specs.EncodingForm.{EncodingForm, code_units}
-use Rattle.wide_unit.specs.Items.{chars, IsWellFormed}
-use Rattle.wide_unit.specs.Laws.Ends.{IsWellFormed-code_units}
+use Rattle.wide_unit.specs.Segmentation.{Char}
+use Rattle.wide_unit.specs.Items.{items, characters, chars, IsWellFormed}
+use Rattle.wide_unit.specs.Laws.Ends.{IsWellFormed-code_units, items-first_char}
 use Rattle.wide_unit.specs.Laws.Offsets.{scalars-chars}
 use Rattle.wide_unit.specs.Laws.Splices.{IsWellFormed-nil, IsWellFormed-append, chars-nil, chars-append, chars-code_units}
-use Rattle.wide_ustring.proofs.Filters.{no_elements, one_element}
+use Rattle.wide_unit.specs.Laws.WellFormed.{well_formed-rest}
+use Rattle.wide_ustring.proofs.Filters.{no_elements, one_element, at_most_one, take_counted, append_counted}
 
 -- A slice of a list that is copied to a lower index, over the elements before it.
 module _ {X : Type 0} (xs : List X) (from to onto : ℕ) (down : onto ≤ from) (forward : from ≤ to) (within : to ≤ length xs) where
@@ -42,6 +45,28 @@ module _ {X P : Type 0} (form : EncodingForm) (number : X → ℕ) (answers : P 
 
   abbrev IsText : List X → Type 0
   IsText xs = IsWellFormed form (map number xs)
+
+  -- The units of a character after those of a text.
+  module _ (front us : List X) (c : ℕ) (well : IsText front) (scalar : IsScalar c) (units : map number us ≡ code_units form c) where
+    with_units : map number (front ++ us) ≡ map number front ++ code_units form c
+    with_units = map-append number front us ∙ ap (λ more. map number front ++ more) units
+
+    with_char : text (front ++ us) ≡ text front ++ c ∷ []
+    with_char =
+        ap (chars form) with_units ∙ chars-append form (map number front) (code_units form c) well
+        ∙ ap (λ cs. text front ++ cs) (chars-code_units form c scalar)
+
+    still_text : IsText (front ++ us)
+    still_text =
+        subst (λ more. IsWellFormed form more) (sym with_units) (IsWellFormed-append form (map number front) (code_units form c) well (IsWellFormed-code_units form c scalar))
+
+    counted_char : (wanted : Bool) → text (cond wanted (front ++ us) front) ≡ cond wanted (text front ++ c ∷ []) (text front)
+    counted_char true = with_char
+    counted_char false = refl
+
+    counted_text : (wanted : Bool) → IsText (cond wanted (front ++ us) front)
+    counted_text true = still_text
+    counted_text false = well
 
   -- The closure was `first` and is `now` after calls for the characters before `at`. The units of the characters that
   -- it retained are the first `kept`.
@@ -91,20 +116,16 @@ module _ {X P : Type 0} (form : EncodingForm) (number : X → ℕ) (answers : P 
       }
 
       module _ (units : map number (slice_range new at next) ≡ code_units form c) where
-        prefix : map number (take (kept + (next - at)) (copy_within new at next kept)) ≡ map number (take kept new) ++ code_units form c
-        prefix =
-            ap (map number) (take-copied new at next kept so_far.below (omega arith) within) ∙ map-append number (take kept new) (slice_range new at next)
-            ∙ ap (λ us. map number (take kept new) ++ us) units
-
         scalar : IsScalar c
         scalar =
             let well : IsText (drop at new) = subst IsText (sym so_far.to_come) so_far.rest_well_formed in
             subst (λ cs. IsScalar (get_or cs 0 c)) is (scalars-chars form (map number (drop at new)) well 0 c (omega (arith, ap length is)))
 
+        copied : take (kept + (next - at)) (copy_within new at next kept) ≡ take kept new ++ slice_range new at next
+        copied = take-copied new at next kept so_far.below (omega arith) within
+
         longer : text (take (kept + (next - at)) (copy_within new at next kept)) ≡ text (take kept new) ++ c ∷ []
-        longer =
-            ap (chars form) prefix ∙ chars-append form (map number (take kept new)) (code_units form c) so_far.kept_well_formed
-            ∙ ap (λ cs. text (take kept new) ++ cs) (chars-code_units form c scalar)
+        longer = ap text copied ∙ with_char (take kept new) (slice_range new at next) c so_far.kept_well_formed scalar units
 
         pub keeps : answers now c true later → FilteringChars first later old (copy_within new at next kept) (kept + (next - at)) next
         keeps asked = record {
@@ -115,6 +136,42 @@ module _ {X P : Type 0} (form : EncodingForm) (number : X → ℕ) (answers : P 
           below = omega (arith, so_far.below);
           length_same = length-copied new at next kept so_far.below (omega arith) within ∙ so_far.length_same;
           to_come = drop-copied new at next kept so_far.below (omega arith) within ∙ still_to_come;
-          kept_well_formed = subst (λ us. IsWellFormed form us) (sym prefix) (IsWellFormed-append form (map number (take kept new)) (code_units form c) so_far.kept_well_formed (IsWellFormed-code_units form c scalar));
+          kept_well_formed = subst IsText (sym copied) (still_text (take kept new) (slice_range new at next) c so_far.kept_well_formed scalar units);
           rest_well_formed = rest_still;
         }
+
+    -- The unit at `at` is a character by itself. It was written after the units that are retained, and counted if the
+    -- closure wanted the character.
+    module _ (later : P) (u : X) (c : ℕ) (wanted : Bool) (within : at < length new) (is : u ≡ get_or new at u) (scalar : IsScalar c) (encodes : code_units form c ≡ number u ∷ []) (asked : answers now c wanted later) where
+      rest_to_come : drop (at + 1) new ≡ drop (at + 1) old
+      rest_to_come = drop_same new old at (at + 1) (omega arith) so_far.to_come
+
+      first_unit : drop at new ≡ u ∷ drop (at + 1) new
+      first_unit = drop_more new at u within ∙ ap (λ v. v ∷ drop (at + 1) new) (sym is)
+
+      first_item : items form (map number (drop at new)) ≡ Char c ∷ items form (map number (drop (at + 1) new))
+      first_item = items-first_char form (map number (drop at new)) (map number (drop (at + 1) new)) (number u) c (ap (map number) first_unit) scalar encodes
+
+      first_char : text (drop at old) ≡ c ∷ text (drop (at + 1) old)
+      first_char = ap text (sym so_far.to_come) ∙ ap characters first_item ∙ ap (λ xs. c ∷ text xs) rest_to_come
+
+      counted : take (kept + from_bool wanted) (set new kept u) ≡ cond wanted (take kept new ++ u ∷ []) (take kept new)
+      counted = take_counted wanted new kept u (omega (arith, within, so_far.below))
+
+      retained : (cs : List ℕ) → text (take (kept + from_bool wanted) (set new kept u)) ++ cs ≡ text (take kept new) ++ cond wanted (c ∷ cs) cs
+      retained cs =
+          ap (λ xs. text xs ++ cs) counted
+          ∙ ap (λ ds. ds ++ cs) (counted_char (take kept new) (u ∷ []) c so_far.kept_well_formed scalar (sym encodes) wanted)
+          ∙ append_counted wanted (text (take kept new)) cs c
+
+      pub asks : FilteringChars first later old (set new kept u) (kept + from_bool wanted) (at + 1)
+      asks = record {
+        finish = λ cs h. let from_here : IsFiltered answers now (text (drop at old)) (cond wanted (c ∷ cs) cs) =
+            subst (λ ds. IsFiltered answers now ds (cond wanted (c ∷ cs) cs)) (sym first_char) (one_element answers now later c wanted (text (drop (at + 1) old)) cs asked h) in
+            subst (λ ds. IsFiltered answers first (text old) ds) (sym (retained cs)) (so_far.finish (cond wanted (c ∷ cs) cs) from_here);
+        below = omega (arith, so_far.below, at_most_one wanted);
+        length_same = length-set new kept u ∙ so_far.length_same;
+        to_come = drop-set-lt (at + 1) new kept u (omega (arith, so_far.below)) ∙ rest_to_come;
+        kept_well_formed = subst IsText (sym counted) (counted_text (take kept new) (u ∷ []) c so_far.kept_well_formed scalar (sym encodes) wanted);
+        rest_well_formed = subst IsText rest_to_come (well_formed-rest form (map number (drop at new)) (map number (drop (at + 1) new)) (subst IsText (sym so_far.to_come) so_far.rest_well_formed) c first_item);
+      }

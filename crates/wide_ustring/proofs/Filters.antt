@@ -1,9 +1,25 @@
 -- The loop of `retain`: what the closure returned for the elements that were passed, and the elements that were
 -- retained.
-use Rattle.std.proofs.Common.{◌≡◌, ℕ, ◌+◌, ◌<◌, ◌≤◌, List, [], ◌∷◌, ◌++◌, Bool, true, false, cond, length, take, drop, set, get_or, refl, ap, sym, ◌∙◌, arith, append_assoc, length-set, append-nil}
-use Rattle.std.proofs.lemmas.List.{take_more_set, drop_more, drop-set-lt}
+use Rattle.std.proofs.Common.{◌≡◌, ℕ, ◌+◌, ◌<◌, ◌≤◌, List, [], ◌∷◌, ◌++◌, Bool, true, false, cond, length, take, drop, set, get_or, refl, ap, sym, ◌∙◌, subst, arith, append_assoc, length-set, append-nil}
+use Rattle.std.proofs.lemmas.List.{take_more_set, take-set, drop_more, drop-set-lt}
 use Rattle.std.proofs.lemmas.Grind.{common_steps, drop_more_same}
+use Rattle.std.specs.Int.{from_bool}
 use Rattle.std.specs.List.Retain.{IsFiltered}
+
+pub at_most_one : (wanted : Bool) → from_bool wanted ≤ 1
+at_most_one true = omega arith
+at_most_one false = omega arith
+
+-- An element is written after the first `kept`, and counted if it is wanted.
+pub take_counted : {X : Type 0} (wanted : Bool) (xs : List X) (kept : ℕ) (x : X) → kept < length xs → take (kept + from_bool wanted) (set xs kept x) ≡ cond wanted (take kept xs ++ x ∷ []) (take kept xs)
+take_counted true xs kept x within = take_more_set xs kept x within
+take_counted false xs kept x within =
+    let none : kept + 0 ≡ kept = omega arith in
+    ap (λ n. take n (set xs kept x)) none ∙ take-set xs kept x
+
+pub append_counted : {X : Type 0} (wanted : Bool) (xs ys : List X) (x : X) → cond wanted (xs ++ x ∷ []) xs ++ ys ≡ xs ++ cond wanted (x ∷ ys) ys
+append_counted true xs ys x = append_assoc xs (x ∷ []) ys
+append_counted false xs ys x = refl
 
 module _ {X P : Type 0} (answers : P → X → Bool → P → Type 0) where
   pub no_elements : (p : P) → IsFiltered answers p [] []
@@ -31,29 +47,25 @@ module _ {X P : Type 0} (answers : P → X → Bool → P → Type 0) where
         let all : IsFiltered answers first old (take kept new ++ []) = so_far.finish [] (rw none (no_elements now)) in
         rw append-nil at all
 
-    module _ (later : P) (x : X) (within : at < length old) (is : x ≡ get_or new at x) where
+    -- The element at `at` was written after those that the closure retained, and counted if the closure wanted it.
+    module _ (later : P) (x : X) (wanted : Bool) (within : at < length old) (is : x ≡ get_or new at x) (asked : answers now x wanted later) where
       next_element : drop at old ≡ x ∷ drop (at + 1) old
       next_element =
           let inside : at < length new = omega (arith, within, so_far.length_same) in
           sym so_far.to_come ∙ drop_more new at x inside ∙ ap (λ y. y ∷ drop (at + 1) new) (sym is)
           ∙ ap (λ l. x ∷ l) (drop_more_same new old at so_far.to_come)
 
-      pub keeps : answers now x true later → Filtering first later old (set new kept x) (kept + 1) (at + 1)
-      keeps asked = record {
-        finish = λ ys rest. let from_here : IsFiltered answers now (drop at old) (x ∷ ys) = rw next_element (one_element now later x true (drop (at + 1) old) ys asked rest) in
-            let all : IsFiltered answers first old (take kept new ++ x ∷ ys) = so_far.finish (x ∷ ys) from_here in
-            let moved : take (kept + 1) (set new kept x) ++ ys ≡ take kept new ++ x ∷ ys =
-            ap (λ l. l ++ ys) (take_more_set new kept x (omega (arith, within, so_far.below, so_far.length_same))) ∙ append_assoc (take kept new) (x ∷ []) ys in
-            rw moved all;
-        below = omega (arith, so_far.below);
+      retained : (ys : List X) → take (kept + from_bool wanted) (set new kept x) ++ ys ≡ take kept new ++ cond wanted (x ∷ ys) ys
+      retained ys =
+          ap (λ l. l ++ ys) (take_counted wanted new kept x (omega (arith, within, so_far.below, so_far.length_same)))
+          ∙ append_counted wanted (take kept new) ys x
+
+      pub asks : Filtering first later old (set new kept x) (kept + from_bool wanted) (at + 1)
+      asks = record {
+        finish = λ ys rest. let from_here : IsFiltered answers now (drop at old) (cond wanted (x ∷ ys) ys) = rw next_element (one_element now later x wanted (drop (at + 1) old) ys asked rest) in
+            let all : IsFiltered answers first old (take kept new ++ cond wanted (x ∷ ys) ys) = so_far.finish (cond wanted (x ∷ ys) ys) from_here in
+            subst (λ l. IsFiltered answers first old l) (sym (retained ys)) all;
+        below = omega (arith, so_far.below, at_most_one wanted);
         length_same = length-set new kept x ∙ so_far.length_same;
         to_come = drop-set-lt (at + 1) new kept x (omega (arith, so_far.below)) ∙ drop_more_same new old at so_far.to_come;
-      }
-
-      pub drops : answers now x false later → Filtering first later old new kept (at + 1)
-      drops asked = record {
-        finish = λ ys rest. so_far.finish ys (rw next_element (one_element now later x false (drop (at + 1) old) ys asked rest));
-        below = omega (arith, so_far.below);
-        length_same = so_far.length_same;
-        to_come = drop_more_same new old at so_far.to_come;
       }

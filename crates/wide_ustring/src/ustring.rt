@@ -391,11 +391,10 @@ impl<C: FaultUnit, A: Allocator> UString<C, A> {
         let mut kept = 0;
         for at in 0..units.len() {
             let unit = units[at];
-            let wanted = keep(unit);
-            if wanted {
-                units[kept] = unit;
-                kept += 1;
-            }
+            // The unit is written in either case, since a branch by the closure's answer is often predicted wrong. One
+            // that is not retained is overwritten by the next unit or removed by `truncate`.
+            units[kept] = unit;
+            kept += usize::from(keep(unit));
         }
         units.truncate(kept);
     }
@@ -419,13 +418,22 @@ impl<C: FaultUnit, A: Allocator> UString<C, A> {
         let mut kept = 0;
         let mut at = 0;
         while at < len {
-            let (c, next) = char_at(units.as_slice(), at);
-            let wanted = keep(c);
-            if wanted {
-                copy_char(units, at, next, kept);
-                kept += next - at;
+            let first = units[at];
+            if let Some(c) = first.as_scalar() {
+                // The unit is written in either case, since a branch by the closure's answer is often predicted wrong.
+                // One that is not retained is overwritten by a later character or removed by `truncate`.
+                units[kept] = first;
+                kept += usize::from(keep(c));
+                at += 1;
+            } else {
+                let (c, next) = char_at(units.as_slice(), at);
+                let wanted = keep(c);
+                if wanted {
+                    copy_char(units, at, next, kept);
+                    kept += next - at;
+                }
+                at = next;
             }
-            at = next;
         }
         units.truncate(kept);
     }

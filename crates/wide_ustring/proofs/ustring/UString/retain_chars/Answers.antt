@@ -1,6 +1,6 @@
-use Rattle.std.proofs.Common.{arith, of_calls, ◌∙◌, refl, sym, ap, subst, map, drop}
+use Rattle.std.proofs.Common.{arith, of_calls, ◌<◌, ◌∙◌, refl, sym, ap, subst, length, map, drop}
 use Rattle.wide_unit.specs.Items.{IsWellFormed}
-use Rattle.wide_ustring.proofs.CharFilters.{begins, ends, keeps, drops}
+use Rattle.wide_ustring.proofs.CharFilters.{begins, ends, keeps, drops, asks}
 use Rattle.wide_ustring.proofs.ustring.UString.retain_chars.Goals as goal
 
 pub loop-at-init : goal.loop-at-init
@@ -14,6 +14,14 @@ pub char_at-c-requires-clause-well_formed : goal.char_at-c-requires-clause-well_
 char_at-c-requires-clause-well_formed g c =
     let so_far = c.loop-at.invariant.filtered in
     subst (λ us. IsWellFormed g.C.Unit.form (map g.C.Unit.number us)) (sym (ap (drop c.loop-at.at) c.as_slice.ensures.value ∙ so_far.to_come)) so_far.rest_well_formed
+
+pub loop-at-preserved-in-Some : goal.loop-at-preserved-in-Some
+loop-at-preserved-in-Some g c =
+    let more : c.loop-at.at < length c.loop-at.units.items = omega (arith, c.loop-at-test.true, c.len-len.ensures, c.self.inside.units.ok, c.loop-at.invariant.filtered.length_same) in record {
+      callable = search of_calls;
+      filtered = rw c.from-kept.ensures (asks g.C.Unit.form g.C.Unit.number (goal.F-step g) _ _ _ _ _ _ c.loop-at.invariant.filtered _ c.index-first.result.now c.in-Some.c c.keep.result more c.index-first.ensures c.in-Some.ensures.0 c.in-Some.ensures.1 c.keep.ensures);
+      space = c.loop-at.invariant.space;
+    }
 
 pub loop-at-preserved-then-wanted : goal.loop-at-preserved-then-wanted
 loop-at-preserved-then-wanted g c =
