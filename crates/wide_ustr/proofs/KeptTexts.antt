@@ -1,10 +1,10 @@
 -- Text without U+FFFD: the text between the units that are U+FFFD.
-use Rattle.std.proofs.Common.{◌≡◌, ℕ, suc, ◌<◌, List, [], ◌∷◌, ◌++◌, refl, sym, ◌∙◌, ap, subst, arith, length, get_or, map, drop, take, take-append-drop}
+use Rattle.std.proofs.Common.{◌≡◌, ℕ, suc, ◌+◌, ◌<◌, List, [], ◌∷◌, ◌++◌, refl, sym, ◌∙◌, ap, subst, arith, length, get_or, map, drop, take, take-append-drop}
 use Rattle.std.specs.Prelude.{◌≢◌}
 use Rattle.std.specs.List.{All, filter}
 use Rattle.std.proofs.Math.Seq.{drop-append_seam, drop-cons}
 use Rattle.std.proofs.lemmas.List.Elements.{All-drop, All-map, filter-append}
-use Rattle.std.proofs.lemmas.List.{drop-map, length-map, take-map}
+use Rattle.std.proofs.lemmas.List.{drop-map, drop_more, length-map, take-map}
 use Rattle.wide_unit.specs.EncodingForm.{EncodingForm, Utf16, Utf32, code_units, encode, IsLowSurrogate}
 use Rattle.wide_unit.specs.Segmentation.{Char}
 use Rattle.wide_unit.specs.Items.{items, chars, characters, IsBoundary, IsWellFormed}
@@ -12,7 +12,7 @@ use Rattle.wide_unit.specs.Texts.{is_kept}
 use Rattle.wide_unit.specs.Laws.Boundaries.{IsBoundary-at}
 use Rattle.wide_unit.specs.Laws.Ends.{items-prefix_char}
 use Rattle.wide_unit.specs.Laws.Offsets.{IsWellFormed-take, IsWellFormed-drop, encode-chars}
-use Rattle.wide_unit.specs.Laws.Splices.{chars-append}
+use Rattle.wide_unit.specs.Laws.Splices.{chars-append, chars-nil}
 use Rattle.wide_unit.specs.Laws.WellFormed.{well_formed-rest}
 use Rattle.wide_unit.proofs.Kept.{kept-yes, kept-no}
 
@@ -85,3 +85,12 @@ kept-units form number units well offset within at none =
       text = kept-part form us well offset inside at others ∙ ap (λ vs. chars form vs ++ filter is_kept (chars form (drop 1 (drop offset us)))) (sym front)
           ∙ ap (λ vs. chars form (map number (take offset units)) ++ filter is_kept (chars form vs)) (sym back);
     }
+
+-- The units after a U+FFFD.
+pub after-replacement : {C : Type 0} (form : EncodingForm) (number : C → ℕ) (units : List C) (at : ℕ) (x : C) → at < length units → x ≡ get_or units at x → number x ≡ 0xFFFD → IsWellFormed form (map number (drop at units))
+    → IsWellFormed form (map number (drop (at + 1) units)) × (filter is_kept (chars form (map number (drop (at + 1) units))) ≡ filter is_kept (chars form (map number (drop at units))))
+after-replacement form number units at x within here is well =
+    let xs = drop (at + 1) units in
+    let first : drop at units ≡ x ∷ xs = drop_more units at x within ∙ ap (λ y. y ∷ xs) (sym here) in
+    let kept : KeptUnits form number (x ∷ xs) (take 0 (x ∷ xs)) (drop 1 (drop 0 (x ∷ xs))) = kept-units form number (x ∷ xs) (subst (λ ys. IsWellFormed form (map number ys)) first well) 0 (omega arith) is (λ k d l. absurd (omega (arith, l))) in
+    (kept.back, sym (ap (λ ys. filter is_kept (chars form (map number ys))) first ∙ kept.text ∙ ap (λ cs. cs ++ filter is_kept (chars form (map number xs))) (chars-nil form)))
