@@ -57,8 +57,10 @@ module _ (w : Width) (n : ℕ) (small : n ≤ 64) (us vs : List ℕ) (long : len
   first : ¬ (mask ≡ 0) → count_trailing_zeros 64 mask ≡ before us vs
   first some = sym (cond-false _ _ _ (ne_eqb _ _ some)) ∙ counted
 
-  pub all-same : mask ≡ 0 → take n us ≡ take n vs
-  all-same none = subst (λ k. take k us ≡ take k vs) (sym counted ∙ cond-true _ _ _ (eq-eqb _ _ none)) (same-before us vs)
+  pub all-same : mask ≡ 0 → us ≡ vs
+  all-same none =
+      let same : take n us ≡ take n vs = subst (λ k. take k us ≡ take k vs) (sym counted ∙ cond-true _ _ _ (eq-eqb _ _ none)) (same-before us vs) in
+      sym (take_all n us (omega (arith, long))) ∙ same ∙ take_all n vs (omega (arith, long2))
 
   pub first-within : ¬ (mask ≡ 0) → count_trailing_zeros 64 mask ≤ n
   first-within some = omega (arith, first some, lanes, prefix_len-le-length (λ b. not b) (zip2 differ us vs))

@@ -1,6 +1,7 @@
 //! Compares two slices block by block in SIMD lanes: sixteen 16-bit units, or eight 32-bit units, in one step.
 ghost use Rattle.std.specs.Prelude.{◌≡◌, ◌≤◌, ◌<◌, length, take};
 ghost use Rattle.std.proofs.Common.{rules};
+ghost use lib.Count.{count_trailing_zeros};
 
 use crate::any_units::AnyUnits;
 use crate::unit::Unit;
@@ -15,12 +16,13 @@ trait Lane: Copy {
     // How many lanes a block has.
     const COUNT: usize;
 
-    // Returns how many units at the beginning of two blocks are equal.
-    fn same(left: &[Self], right: &[Self]) -> usize
+    // Returns a bit mask: bit k is set if units k of the two blocks differ.
+    fn differences(left: &[Self], right: &[Self]) -> u64
         requires left { length left.now ≡ COUNT }
         requires right { length right.now ≡ COUNT }
-        ensures within { result ≤ COUNT }
-        ensures same { take result left.now ≡ take result right.now };
+        ensures none { result ≡ 0 → left.now ≡ right.now }
+        ensures within { ¬ (result ≡ 0) → count_trailing_zeros 64 result ≤ COUNT }
+        ensures same { ¬ (result ≡ 0) → take (count_trailing_zeros 64 result) left.now ≡ take (count_trailing_zeros 64 result) right.now };
 
     ghost some_lanes: { 0 < COUNT };
 }
@@ -33,14 +35,9 @@ impl Lane for u16 {
     const COUNT: usize = 16;
 
     #[inline(always)]
-    fn same(left: &[u16], right: &[u16]) -> usize {
+    fn differences(left: &[u16], right: &[u16]) -> u64 {
         let differ = u16x16::from_slice(left).simd_ne(u16x16::from_slice(right));
-        let bits = differ.to_bitmask();
-        if bits == 0 {
-            16
-        } else {
-            bits.trailing_zeros() as usize
-        }
+        differ.to_bitmask()
     }
 }
 
@@ -52,14 +49,9 @@ impl Lane for u32 {
     const COUNT: usize = 8;
 
     #[inline(always)]
-    fn same(left: &[u32], right: &[u32]) -> usize {
+    fn differences(left: &[u32], right: &[u32]) -> u64 {
         let differ = u32x8::from_slice(left).simd_ne(u32x8::from_slice(right));
-        let bits = differ.to_bitmask();
-        if bits == 0 {
-            8
-        } else {
-            bits.trailing_zeros() as usize
-        }
+        differ.to_bitmask()
     }
 }
 
@@ -75,15 +67,19 @@ fn same_lanes<L: Lane>(left: &[L], right: &[L]) -> usize
     let mut at = 0;
     while len - at >= L::COUNT {
         let end = at + L::COUNT;
-        let same = L::same(&left[at..end], &right[at..end]);
-        if same < L::COUNT {
-            return at + same;
+        let bits = L::differences(&left[at..end], &right[at..end]);
+        if bits != 0 {
+            return at + bits.trailing_zeros() as usize;
         }
         at = end;
     }
     if at < len && len >= L::COUNT {
         let start = len - L::COUNT;
-        return start + L::same(&left[start..len], &right[start..len]);
+        let bits = L::differences(&left[start..len], &right[start..len]);
+        if bits != 0 {
+            return start + bits.trailing_zeros() as usize;
+        }
+        return len;
     }
     at
 }
