@@ -13,14 +13,14 @@ ghost use Rattle.wide_unit.specs.Searches.{is_unit};
 use std::simd::prelude::*;
 use wide_unit::{AnyUnits, Unit};
 
-// How many indices are tested for both units at first. In most texts both stand at one of these.
-const NEAR: usize = 2048;
+// Where a pair may be far, so many indices are tested for both units at once, in one loop.
+pub(crate) const TESTED_FIRST: usize = 2048;
 
-// After those the first unit is looked for alone, which is faster where it is rare, and both are tested in a stretch
-// from where it stands. The next stretch is short if the unit was not found nearby, and else twice as long as the one
-// before.
+// After that the indices are tested in stretches, each from where the first unit stands next. So many has a stretch
+// before which at least as many were passed.
 const SHORT: usize = 64;
 
+// A stretch has at most so many.
 const LONG: usize = 4096;
 
 // A code unit that fits a SIMD lane.
@@ -185,7 +185,7 @@ fn last_in<L: Lane>(front: &[L], back: &[L], first: L, last: L) -> usize
 // Returns the first index at which `first` stands in the one list and `last` in the other, or the length. It reads both
 // lists up to there.
 #[inline(always)]
-fn first_in_both<C: Unit>(front: &[C], back: &[C], first: C, last: C) -> usize
+pub(crate) fn first_pair<C: Unit>(front: &[C], back: &[C], first: C, last: C) -> usize
     requires { length front.now ≡ length back.now }
     ensures within { result ≤ length back.now }
     ensures before { (k : ℕ) → k < result → ¬ (StandAt (C.number first) (C.number last) (map C.number front.now) (map C.number back.now) k) }
@@ -215,11 +215,11 @@ fn next_of<C: Unit>(units: &[C], from: usize, unit: C) -> usize
     from + C::offset_of(unit.code(), &units[from..])
 }
 
-// Returns the first index at which `first` stands in the one list and `last` in the other, or the length. At no index
-// before `from` both stand. It goes from stretch to stretch: the next begins where `first` stands next, so that less of
-// the other list is read where it is rare.
+// Returns the first index at which `first` stands in the one list and `last` in the other, or the length. Both stand at
+// no index before `from`. It goes from stretch to stretch: the next one begins where `first` stands next, so that less
+// of the other list is read where `first` is rare. The stretches grow while `first` is frequent.
 #[inline(never)]
-fn far_pair<C: Unit>(front: &[C], back: &[C], from: usize, first: C, last: C) -> usize
+fn next_pair<C: Unit>(front: &[C], back: &[C], from: usize, first: C, last: C) -> usize
     requires same_len { length front.now ≡ length back.now }
     requires within { from ≤ length back.now }
     requires before { (k : ℕ) → k < from → ¬ (StandAt (C.number first) (C.number last) (map C.number front.now) (map C.number back.now) k) }
@@ -238,7 +238,7 @@ fn far_pair<C: Unit>(front: &[C], back: &[C], from: usize, first: C, last: C) ->
         };
         let count = (len - start).min(stretch);
         let end = start + count;
-        let step = first_in_both(&front[start..end], &back[start..end], first, last);
+        let step = first_pair(&front[start..end], &back[start..end], first, last);
         if step < count || end == len {
             return start + step;
         }
@@ -247,21 +247,21 @@ fn far_pair<C: Unit>(front: &[C], back: &[C], from: usize, first: C, last: C) ->
     len
 }
 
-// Returns the first index at which `first` stands in the one list and `last` in the other, or the length. It tests the
-// first indices itself, so that short lists need no call.
+// Returns the same as `first_pair`, in less time if that is far and `first` is rare. It tests the first indices itself,
+// so that a near one needs no call.
 #[inline(always)]
-pub(crate) fn first_pair<C: Unit>(front: &[C], back: &[C], first: C, last: C) -> usize
+pub(crate) fn far_pair<C: Unit>(front: &[C], back: &[C], first: C, last: C) -> usize
     requires { length front.now ≡ length back.now }
     ensures within { result ≤ length back.now }
     ensures before { (k : ℕ) → k < result → ¬ (StandAt (C.number first) (C.number last) (map C.number front.now) (map C.number back.now) k) }
 {
     let len = back.len();
-    let near = len.min(NEAR);
-    let step = first_in_both(&front[..near], &back[..near], first, last);
+    let near = len.min(TESTED_FIRST);
+    let step = first_pair(&front[..near], &back[..near], first, last);
     if step < near || near == len {
         return step;
     }
-    far_pair(front, back, near, first, last)
+    next_pair(front, back, near, first, last)
 }
 
 // Returns the index after the last one at which `first` stands in the one list and `last` in the other, or 0.

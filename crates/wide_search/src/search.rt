@@ -4,7 +4,7 @@ ghost use Rattle.wide_search.specs.Occurrences.{IsFirstAt, IsLastAt, OccursAt, O
 ghost use Rattle.wide_search.specs.Probes.{IsProbe};
 
 use crate::needle::{Needle, Probe};
-use crate::pairs::{first_pair, last_pair};
+use crate::pairs::{TESTED_FIRST, far_pair, first_pair, last_pair};
 use crate::two_way::{find_from, rfind_before};
 use wide_unit::{Unit, first_of};
 
@@ -23,9 +23,9 @@ const COMPARED_PER_TRY: usize = 16;
 const PASSED_PER_FACTORED: usize = 4;
 
 // Returns an offset before which no needle with these two units occurs. It is the first at which both stand, or the
-// number of offsets at which they could.
+// number of offsets at which they could. `may_be_far` changes only the time (see `far_pair`).
 #[inline(always)]
-fn skip<C: Unit>(units: &[C], probe: Probe<C>) -> usize
+fn skip<C: Unit>(units: &[C], probe: Probe<C>, may_be_far: bool) -> usize
     requires { probe.distance < length units.now }
     ensures within { result + probe.distance ≤ length units.now }
     ensures before { (needle : List C) → IsProbe needle probe → (k : ℕ) → k < result → ¬ (OccursAt needle units.now k) }
@@ -38,6 +38,9 @@ fn skip<C: Unit>(units: &[C], probe: Probe<C>) -> usize
     }
     let (_, back) = units.split_at(probe.distance);
     let (front, _) = units.split_at(back.len());
+    if may_be_far {
+        return far_pair(front, back, probe.first, probe.last);
+    }
     first_pair(front, back, probe.first, probe.last)
 }
 
@@ -63,7 +66,8 @@ fn is_in_vain(wasted: usize, passed: usize, distance: usize) -> bool {
 
 // Returns the offset of the first occurrence of the needle, or `None`. Only where its first and its last unit stand are
 // its units compared. If too many were compared in vain, the two-way search takes over for a while.
-pub(crate) fn find_in<C: Unit, P: Needle<C>>(units: &[C], needle: P) -> Option<usize>
+#[inline(always)]
+fn search<C: Unit, P: Needle<C>>(units: &[C], needle: P, may_be_far: bool) -> Option<usize>
     ensures first { IfSome result (IsFirstAt (P.sought needle) units.now) }
     ensures none { IfNone result (OccursNowhere (P.sought needle) units.now) }
 {
@@ -75,7 +79,7 @@ pub(crate) fn find_in<C: Unit, P: Needle<C>>(units: &[C], needle: P) -> Option<u
     let mut wasted = 0usize;
     while probe.distance < units.len() - at {
         let (_, rest) = units.split_at(at);
-        let step = skip(rest, probe);
+        let step = skip(rest, probe, may_be_far);
         if step + probe.distance == rest.len() {
             return None;
         }
@@ -100,6 +104,28 @@ pub(crate) fn find_in<C: Unit, P: Needle<C>>(units: &[C], needle: P) -> Option<u
         }
     }
     None
+}
+
+// Returns the offset of the first occurrence of the needle in a long text, or `None`. It is a call of its own, so that
+// `find_in` stays small enough for the compiler to inline it, which short texts gain from.
+#[inline(never)]
+fn find_far<C: Unit, P: Needle<C>>(units: &[C], needle: P) -> Option<usize>
+    ensures first { IfSome result (IsFirstAt (P.sought needle) units.now) }
+    ensures none { IfNone result (OccursNowhere (P.sought needle) units.now) }
+{
+    search(units, needle, true)
+}
+
+// Returns the offset of the first occurrence of the needle, or `None`.
+pub(crate) fn find_in<C: Unit, P: Needle<C>>(units: &[C], needle: P) -> Option<usize>
+    ensures first { IfSome result (IsFirstAt (P.sought needle) units.now) }
+    ensures none { IfNone result (OccursNowhere (P.sought needle) units.now) }
+{
+    // In a shorter text `far_pair` would do no more than `first_pair`.
+    if units.len() > TESTED_FIRST {
+        return find_far(units, needle);
+    }
+    search(units, needle, false)
 }
 
 // Returns the offset of the last occurrence of the needle, or `None`. Only where its first and its last unit stand are

@@ -1,42 +1,16 @@
-use Rattle.std.proofs.Common.{◌+◌, ◌-◌, ◌<◌, ◌≤◌, arith, map}
-use Rattle.wide_search.specs.Probes.{StandAt}
-use Rattle.wide_search.proofs.Ranges.{none-further, none-until, alone-apart, stand-in-part}
+use Rattle.std.proofs.Common.{arith, length-take}
+use Rattle.wide_search.proofs.Ranges.{stand-in-front}
 use Rattle.wide_search.proofs.pairs.far_pair.Goals as goal
-use Rattle.wide_search.proofs.pairs.far_pair.Goals.{then-start-at-lt-SHORT, else-start-at-lt-SHORT}
 
-pub returns-then-step-count-clause-before : goal.returns-then-step-count-clause-before
-returns-then-step-count-clause-before g c =
+pub returns-then-step-near-clause-before : goal.returns-then-step-near-clause-before
+returns-then-step-near-clause-before g c = λ k l holds.
     let number = g.C.Unit.number in
-    let front = c.args.front.now in
-    let back = c.args.back.now in
-    let start = c.next_of-start.result in
-    let n = start + c.min-count.result - start in
-    let stands = StandAt (number c.args.first) (number c.args.last) (map number front) (map number back) in
-    none-further stands start c.first_in_both-step.result
-    (none-until stands c.loop-at.at start c.loop-at.invariant.3
-    (λ k later l. alone-apart (number c.args.first) (number c.args.last) k (map number front) (map number back) (c.next_of-start.ensures.before k later l)))
-    (λ k l holds. c.first_in_both-step.ensures.before k l
-    (stand-in-part number (number c.args.first) (number c.args.last) front back start n n k (omega (arith, l, c.first_in_both-step.ensures.within)) (omega (arith, l, c.first_in_both-step.ensures.within)) holds))
+    let near = c.min-near.result in
+    c.first_pair-step.ensures.before k l
+    (stand-in-front number (number c.args.first) (number c.args.last) c.args.front.now c.args.back.now near k (omega (arith, l, c.first_pair-step.ensures.within, length-take near c.args.back.now)) holds)
 
-pub loop-at-preserved : goal.loop-at-preserved
-loop-at-preserved g c =
+pub next_pair-requires-clause-before : goal.next_pair-requires-clause-before
+next_pair-requires-clause-before g c = λ k l holds.
     let number = g.C.Unit.number in
-    let front = c.args.front.now in
-    let back = c.args.back.now in
-    let start = c.next_of-start.result in
-    let count = c.min-count.result in
-    let n = start + count - start in
-    let few : (0 < c.if-start-at-lt-SHORT.stretch) × (c.if-start-at-lt-SHORT.stretch ≤ 4096) = elim c.if-start-at-lt-SHORT.branch [
-      | then-start-at-lt-SHORT w ↦ (omega (arith, w.stretch-is, w.min-stretch.ensures, c.loop-at.invariant.1), omega (arith, w.stretch-is, w.min-stretch.ensures, c.loop-at.invariant.2))
-      | else-start-at-lt-SHORT w ↦ (omega (arith, w.stretch-is), omega (arith, w.stretch-is))
-    ] in
-    let stands = StandAt (number c.args.first) (number c.args.last) (map number front) (map number back) in (
-      omega (arith, c.min-count.ensures, c.next_of-start.ensures.within, c.requires.same_len),
-      few.0,
-      few.1,
-      none-further stands start count
-          (none-until stands c.loop-at.at start c.loop-at.invariant.3
-          (λ k later l. alone-apart (number c.args.first) (number c.args.last) k (map number front) (map number back) (c.next_of-start.ensures.before k later l)))
-          (λ k l holds. c.first_in_both-step.ensures.before k (omega (arith, l, c.if-step-count.false))
-          (stand-in-part number (number c.args.first) (number c.args.last) front back start n n k (omega (arith, l)) (omega (arith, l)) holds)),
-    )
+    c.first_pair-step.ensures.before k (omega (arith, l, c.if-step-near.false))
+    (stand-in-front number (number c.args.first) (number c.args.last) c.args.front.now c.args.back.now c.min-near.result k l holds)

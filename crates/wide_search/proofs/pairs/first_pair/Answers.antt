@@ -1,16 +1,15 @@
-use Rattle.std.proofs.Common.{arith, length-take}
-use Rattle.wide_search.proofs.Ranges.{stand-in-front}
+use Rattle.std.proofs.Common.{map, ◌∙◌}
+use Rattle.wide_search.proofs.Ranges.{stand-as}
 use Rattle.wide_search.proofs.pairs.first_pair.Goals as goal
 
-pub returns-then-step-near-clause-before : goal.returns-then-step-near-clause-before
-returns-then-step-near-clause-before g c = λ k l holds.
+pub returns-in-Ok-Ok-clause-before : goal.returns-in-Ok-Ok-clause-before
+returns-in-Ok-Ok-clause-before g c = λ k l holds.
     let number = g.C.Unit.number in
-    let near = c.min-near.result in
-    c.first_in_both-step.ensures.before k l
-    (stand-in-front number (number c.args.first) (number c.args.last) c.args.front.now c.args.back.now near k (omega (arith, l, c.first_in_both-step.ensures.within, length-take near c.args.back.now)) holds)
+    c.first_in.ensures.before k l
+    (stand-as (number c.args.first) (number c.args.last) c.in-Ok-Ok.first c.in-Ok-Ok.last (map number c.args.front.now) (map number c.args.back.now) c.in-U16-U16.front.now c.in-U16-U16.back.now k (c.in-Ok-Ok.ensures.1 ∙ c.code.ensures) (c.in-Ok-Ok.ensures'.1 ∙ c.code-in-U16-U16.ensures) c.in-U16-U16.ensures.numbers c.in-U16-U16.ensures'.numbers holds)
 
-pub far_pair-requires-clause-before : goal.far_pair-requires-clause-before
-far_pair-requires-clause-before g c = λ k l holds.
+pub returns-in-U32-U32-clause-before : goal.returns-in-U32-U32-clause-before
+returns-in-U32-U32-clause-before g c = λ k l holds.
     let number = g.C.Unit.number in
-    c.first_in_both-step.ensures.before k (omega (arith, l, c.if-step-near.false))
-    (stand-in-front number (number c.args.first) (number c.args.last) c.args.front.now c.args.back.now c.min-near.result k l holds)
+    c.first_in-in-U32-U32.ensures.before k l
+    (stand-as (number c.args.first) (number c.args.last) c.code-in-U32-U32.result c.code-in-U32-U32-2.result (map number c.args.front.now) (map number c.args.back.now) c.in-U32-U32.front.now c.in-U32-U32.back.now k c.code-in-U32-U32.ensures c.code-in-U32-U32-2.ensures c.in-U32-U32.ensures.numbers c.in-U32-U32.ensures'.numbers holds)

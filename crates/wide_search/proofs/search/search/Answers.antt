@@ -1,7 +1,7 @@
 use Rattle.std.proofs.Common.{◌+◌, refl, arith, drop}
 use Rattle.wide_search.specs.Probes.{IsProbe}
 use Rattle.wide_search.proofs.Offsets.{none-skipped, occurs-there, none-tried, none-as}
-use Rattle.wide_search.proofs.search.find_in.Goals as goal
+use Rattle.wide_search.proofs.search.search.Goals as goal
 
 pub returns-then-step-probe-clause-none : goal.returns-then-step-probe-clause-none
 returns-then-step-probe-clause-none g c = λ offset occurs.

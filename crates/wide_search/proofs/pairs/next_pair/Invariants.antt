@@ -1,6 +1,6 @@
 use Rattle.std.proofs.Common.{◌-◌, ◌<◌, ◌≤◌, ℕ, length, map}
 use Rattle.wide_search.specs.Probes.{StandAt}
-use Rattle.wide_search.proofs.pairs.far_pair.Given as goal
+use Rattle.wide_search.proofs.pairs.next_pair.Given as goal
 
 -- The two units stand at no index before `at`. A stretch is not empty, and can be doubled.
 abbrev pub invariant-loop-at : goal.invariant-loop-at

@@ -1,6 +1,6 @@
 use Rattle.std.proofs.Common.{length, ℕ, ◌-◌, ◌<◌, ◌≤◌}
 use Rattle.wide_search.specs.Occurrences.{OccursAt}
-use Rattle.wide_search.proofs.search.find_in.Given as goal
+use Rattle.wide_search.proofs.search.search.Given as goal
 
 -- The needle occurs at none of the offsets before `at`.
 abbrev pub invariant-loop-at : goal.invariant-loop-at
