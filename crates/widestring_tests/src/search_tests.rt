@@ -1,5 +1,6 @@
-//! Tests of searches for needles that repeat themselves, in texts that nearly do, at both widths. They compare so many
-//! units in vain that the two-way search takes over. The expected offsets are those of a loop over all windows.
+//! Tests of searches at both widths: for needles that repeat themselves, in texts that nearly do, where so many units
+//! are compared in vain that the two-way search takes over, and for two units of which the first also stands alone. The
+//! expected offsets are those of a loop over all windows.
 use crate::random::Random;
 use std::alloc::{AllocError, Global};
 use widestring::search::{find, rfind};
@@ -108,6 +109,7 @@ fn one_unit_among_equals(rt: HostRuntime) {
         (250, [].as_slice(), [2].as_slice()),
         (250, [2].as_slice(), [2, 1, 2].as_slice()),
         (31, [2, 1].as_slice(), [2, 2].as_slice()),
+        (31, [].as_slice(), [2].as_slice()),
     ] {
         let well = is_found_in_equals(rt.alloc(), side, front, back);
         assert!(rt; well == Ok(true), "{side} {front:?} {back:?}");
@@ -150,6 +152,48 @@ fn equals_around_others(rt: HostRuntime) {
         for others in [9000, 3000, 300] {
             let well = is_found_among_others(rt.alloc(), seed, others);
             assert!(rt; well == Ok(true), "seed {seed}, {others} others");
+        }
+    }
+}
+
+// Returns whether the searches agree with the loop where two units stand at an offset, if both fit a text of this
+// length. The first of them stands at each multiple of `step` too.
+fn is_found_after(alloc: Global, len: usize, step: usize, at: usize) -> Result<bool, AllocError> {
+    let mut units = Vec::new(alloc);
+    for index in 0..len {
+        let unit = if index == at.saturating_add(1) {
+            2
+        } else if index == at || index.checked_rem(step) == Some(0) {
+            1
+        } else {
+            3
+        };
+        units.push(unit)?;
+    }
+    is_found(alloc, &units, &[1, 2])
+}
+
+// After 2,048 offsets a search goes on in stretches, each from where the first unit stands next. The offsets are the
+// last one of a stretch and the next one. Stretches of 64 units grow to 4,096 where at most 63 units are between them.
+#[test]
+fn two_units_after_the_first_alone(rt: HostRuntime) {
+    for (step, offsets) in [
+        (1, [2047, 2048, 2175, 2176, 10_111, 10_112]),
+        (63, [2206, 2207, 6268, 6269, 10_395, 10_396]),
+        (112, [2191, 2192, 2239, 2240, 2367, 2368]),
+        (2111, [2110, 2111, 2238, 2239, 4285, 4286]),
+        (2112, [2111, 2112, 2175, 2176, 4287, 4288]),
+        (5000, [0, 2046, 2049, 11_997, 11_998, 11_999]),
+    ] {
+        for at in offsets {
+            let well = is_found_after(rt.alloc(), 12_000, step, at);
+            assert!(rt; well == Ok(true), "{at}, the first at each {step}");
+        }
+    }
+    for len in [2047usize, 2048, 2049, 2050] {
+        for at in [len.saturating_sub(2), len.saturating_sub(1)] {
+            let well = is_found_after(rt.alloc(), len, 7, at);
+            assert!(rt; well == Ok(true), "{at} of {len}");
         }
     }
 }
