@@ -13,7 +13,7 @@ ghost use Rattle.wide_unit.specs.Searches.{is_unit};
 use std::simd::prelude::*;
 use wide_unit::{AnyUnits, Unit};
 
-// Where a pair may be far, so many indices are tested for both units at once, in one loop.
+// `far_pair` first tests so many indices for both units at once, in one loop.
 pub(crate) const TESTED_FIRST: usize = 2048;
 
 // After that the indices are tested in stretches, each from where the first unit stands next. So many has a stretch

@@ -22,6 +22,19 @@ const COMPARED_PER_TRY: usize = 16;
 // takes to pass over so many units of the text.
 const PASSED_PER_FACTORED: usize = 4;
 
+// Returns an offset before which no needle with this first unit occurs. It is the first at which the unit stands, or
+// the length.
+#[inline(always)]
+fn skip_to_first<C: Unit>(units: &[C], probe: Probe<C>) -> usize
+    ensures within { result ≤ length units.now }
+    ensures before { (needle : List C) → IsProbe needle probe → (k : ℕ) → k < result → ¬ (OccursAt needle units.now k) }
+{
+    match first_of(units, probe.first.code()) {
+        Some(at) => at,
+        None => units.len(),
+    }
+}
+
 // Returns an offset before which no needle with these two units occurs. It is the first at which both stand, or the
 // number of offsets at which they could. `may_be_far` changes only the time (see `far_pair`).
 #[inline(always)]
@@ -31,10 +44,7 @@ fn skip<C: Unit>(units: &[C], probe: Probe<C>, may_be_far: bool) -> usize
     ensures before { (needle : List C) → IsProbe needle probe → (k : ℕ) → k < result → ¬ (OccursAt needle units.now k) }
 {
     if probe.distance == 0 {
-        return match first_of(units, probe.first.code()) {
-            Some(at) => at,
-            None => units.len(),
-        };
+        return skip_to_first(units, probe);
     }
     let (_, back) = units.split_at(probe.distance);
     let (front, _) = units.split_at(back.len());
@@ -64,18 +74,26 @@ fn is_in_vain(wasted: usize, passed: usize, distance: usize) -> bool {
     (wasted / COMPARED_PER_PASSED).saturating_sub(passed) / PASSED_PER_FACTORED > distance
 }
 
-// Returns the offset of the first occurrence of the needle, or `None`. Only where its first and its last unit stand are
-// its units compared. If too many were compared in vain, the two-way search takes over for a while.
+// Returns the offset of the first occurrence of the needle, or `None`. It does not occur before `from`. Only where its
+// first and its last unit stand are its units compared. If too many were compared in vain, the two-way search takes
+// over for a while.
 #[inline(always)]
-fn search<C: Unit, P: Needle<C>>(units: &[C], needle: P, may_be_far: bool) -> Option<usize>
+fn search<C: Unit, P: Needle<C>>(
+    units: &[C],
+    needle: P,
+    from: usize,
+    may_be_far: bool,
+) -> Option<usize>
+    requires within { from ≤ length units.now }
+    requires before { (k : ℕ) → k < from → ¬ (OccursAt (P.sought needle) units.now k) }
     ensures first { IfSome result (IsFirstAt (P.sought needle) units.now) }
     ensures none { IfNone result (OccursNowhere (P.sought needle) units.now) }
 {
     let Some(probe) = needle.probe() else {
-        return Some(0);
+        return Some(from);
     };
-    let mut at = 0;
-    let mut since = 0;
+    let mut at = from;
+    let mut since = from;
     let mut wasted = 0usize;
     while probe.distance < units.len() - at {
         let (_, rest) = units.split_at(at);
@@ -106,26 +124,40 @@ fn search<C: Unit, P: Needle<C>>(units: &[C], needle: P, may_be_far: bool) -> Op
     None
 }
 
-// Returns the offset of the first occurrence of the needle in a long text, or `None`. It is a call of its own, so that
-// `find_in` stays small enough for the compiler to inline it, which short texts gain from.
+// Returns the offset of the first occurrence of the needle in a long text, or `None`. It does not occur before `from`.
+// This is a call of its own, so that `find_in` is smaller and short texts need fewer calls.
 #[inline(never)]
-fn find_far<C: Unit, P: Needle<C>>(units: &[C], needle: P) -> Option<usize>
+fn find_far<C: Unit, P: Needle<C>>(units: &[C], needle: P, from: usize) -> Option<usize>
+    requires within { from ≤ length units.now }
+    requires before { (k : ℕ) → k < from → ¬ (OccursAt (P.sought needle) units.now k) }
     ensures first { IfSome result (IsFirstAt (P.sought needle) units.now) }
     ensures none { IfNone result (OccursNowhere (P.sought needle) units.now) }
 {
-    search(units, needle, true)
+    search(units, needle, from, true)
 }
 
-// Returns the offset of the first occurrence of the needle, or `None`.
+// Returns the offset of the first occurrence of the needle, or `None`. First its first unit is looked for: in many a
+// text it does not stand, and one unit is found in less time than two.
 pub(crate) fn find_in<C: Unit, P: Needle<C>>(units: &[C], needle: P) -> Option<usize>
     ensures first { IfSome result (IsFirstAt (P.sought needle) units.now) }
     ensures none { IfNone result (OccursNowhere (P.sought needle) units.now) }
 {
-    // In a shorter text `far_pair` would do no more than `first_pair`.
-    if units.len() > TESTED_FIRST {
-        return find_far(units, needle);
+    let Some(probe) = needle.probe() else {
+        return Some(0);
+    };
+    let from = if probe.distance == 0 {
+        0
+    } else {
+        skip_to_first(units, probe)
+    };
+    if from == units.len() {
+        return None;
     }
-    search(units, needle, false)
+    // In a text of at most so many units `far_pair` would do no more than `first_pair`.
+    if units.len() > TESTED_FIRST {
+        return find_far(units, needle, from);
+    }
+    search(units, needle, from, false)
 }
 
 // Returns the offset of the last occurrence of the needle, or `None`. Only where its first and its last unit stand are
