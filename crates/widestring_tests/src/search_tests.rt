@@ -173,8 +173,9 @@ fn is_found_after(alloc: Global, len: usize, step: usize, at: usize) -> Result<b
     is_found(alloc, &units, &[1, 2])
 }
 
-// After 2,048 offsets a search goes on in stretches, each from where the first unit stands next. The offsets are the
-// last one of a stretch and the next one. Stretches of 64 units grow to 4,096 where at most 63 units are between them.
+// After 2,048 offsets a search goes on in stretches, each from where the first unit stands next. Most of these offsets
+// are the last one of a stretch and the next one. Some are just before the start of a stretch and at it, and those of the
+// last row are near the ends or alone. Stretches of 64 units grow to 4,096 where at most 63 are between two.
 #[test]
 fn two_units_after_the_first_alone(rt: HostRuntime) {
     for (step, offsets) in [
@@ -194,6 +195,34 @@ fn two_units_after_the_first_alone(rt: HostRuntime) {
         for at in [len.saturating_sub(2), len.saturating_sub(1)] {
             let well = is_found_after(rt.alloc(), len, 7, at);
             assert!(rt; well == Ok(true), "{at} of {len}");
+        }
+    }
+}
+
+// Returns whether the searches agree with the loop where two units stand at an offset, if both fit a text of this
+// length, and neither of them stands anywhere else.
+fn is_found_alone(alloc: Global, len: usize, at: usize) -> Result<bool, AllocError> {
+    let mut units = Vec::new(alloc);
+    for index in 0..len {
+        units.push(if index == at {
+            1
+        } else if index == at.saturating_add(1) {
+            2
+        } else {
+            3
+        })?;
+    }
+    is_found(alloc, &units, &[1, 2])
+}
+
+#[test]
+fn two_units_that_stand_nowhere_else(rt: HostRuntime) {
+    for len in [
+        0usize, 1, 2, 7, 8, 9, 15, 16, 17, 31, 33, 64, 2047, 2048, 2049, 2050, 5000,
+    ] {
+        for back in [0, 1, 2, 3, 8, 16, 17, len] {
+            let well = is_found_alone(rt.alloc(), len, len.saturating_sub(back));
+            assert!(rt; well == Ok(true), "{back} before the end of {len}");
         }
     }
 }
