@@ -4,7 +4,7 @@ ghost use Rattle.wide_search.specs.Occurrences.{IsFirstAt, IsLastAt, OccursAt, O
 ghost use Rattle.wide_search.specs.Probes.{IsProbe};
 
 use crate::needle::{Needle, Probe};
-use crate::pairs::{TESTED_FIRST, far_pair, first_pair, last_pair};
+use crate::pairs::{SHORT, far_pair, first_pair, last_pair};
 use crate::two_way::{find_from, rfind_before};
 use wide_unit::{Unit, first_of};
 
@@ -36,9 +36,9 @@ fn skip_to_first<C: Unit>(units: &[C], probe: Probe<C>) -> usize
 }
 
 // Returns an offset before which no needle with these two units occurs. It is the first at which both stand, or the
-// number of offsets at which they could. `may_be_far` changes only the time (see `far_pair`).
+// number of offsets at which they could. `may_be_far` and the stretch change only the time (see `far_pair`).
 #[inline(always)]
-fn skip<C: Unit>(units: &[C], probe: Probe<C>, may_be_far: bool) -> usize
+fn skip<C: Unit>(units: &[C], probe: Probe<C>, may_be_far: bool, stretch: &mut usize) -> usize
     requires { probe.distance < length units.now }
     ensures within { result + probe.distance ≤ length units.now }
     ensures before { (needle : List C) → IsProbe needle probe → (k : ℕ) → k < result → ¬ (OccursAt needle units.now k) }
@@ -49,7 +49,7 @@ fn skip<C: Unit>(units: &[C], probe: Probe<C>, may_be_far: bool) -> usize
     let (_, back) = units.split_at(probe.distance);
     let (front, _) = units.split_at(back.len());
     if may_be_far {
-        return far_pair(front, back, probe.first, probe.last);
+        return far_pair(front, back, probe.first, probe.last, stretch);
     }
     first_pair(front, back, probe.first, probe.last)
 }
@@ -95,9 +95,10 @@ fn search<C: Unit, P: Needle<C>>(
     let mut at = from;
     let mut since = from;
     let mut wasted = 0usize;
+    let mut stretch = SHORT;
     while probe.distance < units.len() - at {
         let (_, rest) = units.split_at(at);
-        let step = skip(rest, probe, may_be_far);
+        let step = skip(rest, probe, may_be_far, &mut stretch);
         if step + probe.distance == rest.len() {
             return None;
         }
@@ -154,7 +155,7 @@ pub(crate) fn find_in<C: Unit, P: Needle<C>>(units: &[C], needle: P) -> Option<u
         return None;
     }
     // In a text of at most so many units `far_pair` would do no more than `first_pair`.
-    if units.len() > TESTED_FIRST {
+    if units.len() > SHORT {
         return find_far(units, needle, from);
     }
     search(units, needle, from, false)

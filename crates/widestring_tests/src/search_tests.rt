@@ -173,25 +173,24 @@ fn is_found_after(alloc: Global, len: usize, step: usize, at: usize) -> Result<b
     is_found(alloc, &units, &[1, 2])
 }
 
-// After 2,048 offsets a search goes on in stretches, each from where the first unit stands next. Most of these offsets
-// are the last one of a stretch and the next one. Some are just before the start of a stretch and at it, and those of the
-// last row are near the ends or alone. Stretches of 64 units grow to 4,096 where at most 63 are between two.
+// After 256 offsets a search goes on in stretches, each from where the first unit stands next. Most of these offsets
+// are the last one of a stretch and the next one. Some are just before the start of a stretch and at it, and those of
+// the last row are near the ends or alone. Stretches of 256 units grow to 4,096 where at most 255 are between two.
 #[test]
 fn two_units_after_the_first_alone(rt: HostRuntime) {
     for (step, offsets) in [
-        (1, [2047, 2048, 2175, 2176, 10_111, 10_112]),
-        (63, [2206, 2207, 6268, 6269, 10_395, 10_396]),
-        (112, [2191, 2192, 2239, 2240, 2367, 2368]),
-        (2111, [2110, 2111, 2238, 2239, 4285, 4286]),
-        (2112, [2111, 2112, 2175, 2176, 4287, 4288]),
-        (5000, [0, 2046, 2049, 11_997, 11_998, 11_999]),
+        (1, [255, 256, 1279, 1280, 5375, 5376]),
+        (100, [1323, 1324, 5495, 5496, 9595, 9596]),
+        (511, [510, 511, 1534, 1535, 2299, 2300]),
+        (512, [511, 512, 767, 768, 1279, 1280]),
+        (5000, [0, 254, 257, 11_997, 11_998, 11_999]),
     ] {
         for at in offsets {
             let well = is_found_after(rt.alloc(), 12_000, step, at);
             assert!(rt; well == Ok(true), "{at}, the first at each {step}");
         }
     }
-    for len in [2047usize, 2048, 2049, 2050] {
+    for len in [255usize, 256, 257, 258, 259] {
         for at in [len.saturating_sub(2), len.saturating_sub(1)] {
             let well = is_found_after(rt.alloc(), len, 7, at);
             assert!(rt; well == Ok(true), "{at} of {len}");
