@@ -213,7 +213,7 @@ fn next_of<C: Unit>(units: &[C], from: usize, unit: C) -> usize
 }
 
 // Returns how many indices the next stretch has if so many were passed after the last one: few if the first unit was
-// not nearby, and else four times as many as that one had.
+// not nearby, and else up to four times as many as that one had.
 #[inline(always)]
 fn next_stretch(stretch: usize, passed: usize) -> usize
     ensures { 0 < result }
@@ -260,7 +260,7 @@ fn next_pair<C: Unit>(
 }
 
 // Returns the same as `first_pair`, in less time where `first` is rare. It tests the first stretch itself, so that a
-// near pair needs no call. That stretch is as long as the last one of the call before.
+// near pair needs no call. That stretch is as long as the last one of the call before, if there was one.
 #[inline(always)]
 pub(crate) fn far_pair<C: Unit>(
     front: &[C],

@@ -146,7 +146,7 @@ pub(crate) fn find_in<C: Unit, P: Needle<C>>(units: &[C], needle: P) -> Option<u
     let Some(probe) = needle.probe() else {
         return Some(0);
     };
-    let from = if probe.distance == 0 {
+    let from = if probe.distance == 0 || probe.distance >= units.len() {
         0
     } else {
         skip_to_first(units, probe)

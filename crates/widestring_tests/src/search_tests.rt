@@ -217,7 +217,7 @@ fn is_found_alone(alloc: Global, len: usize, at: usize) -> Result<bool, AllocErr
 #[test]
 fn two_units_that_stand_nowhere_else(rt: HostRuntime) {
     for len in [
-        0usize, 1, 2, 7, 8, 9, 15, 16, 17, 31, 33, 64, 2047, 2048, 2049, 2050, 5000,
+        0usize, 1, 2, 7, 8, 9, 15, 16, 17, 31, 33, 64, 255, 256, 257, 258, 259, 2048, 5000,
     ] {
         for back in [0, 1, 2, 3, 8, 16, 17, len] {
             let well = is_found_alone(rt.alloc(), len, len.saturating_sub(back));
