@@ -1,7 +1,6 @@
 -- An occurrence has the two units of a probe.
-use Rattle.std.proofs.Common.{◌≡◌, ◌≢◌, ℕ, ◌+◌, ◌<◌, true, List, [], ◌∷◌, length, get_or, map, take, drop, refl, sym, ap, ◌∙◌, subst, arith, length-drop, length-take}
+use Rattle.std.proofs.Common.{◌≡◌, ℕ, ◌+◌, ◌<◌, true, List, [], ◌∷◌, length, get_or, map, take, drop, refl, sym, ap, ◌∙◌, subst, arith, length-drop, length-take}
 use Rattle.std.proofs.Common.{get_or-drop, get_or-take}
-use Rattle.std.specs.List.{All}
 use Rattle.wide_search.specs.Occurrences.{OccursAt}
 use Rattle.wide_search.specs.Probes.{are_units, StandAt, IsProbe}
 use Rattle.wide_search.specs.declared.needle.Probe.{Probe}
@@ -51,12 +50,3 @@ module _ {X : Type 0} (number : X → ℕ) where
       ∙ ap (λ n. get_or us n probe.last) (swap probe.distance at) ∙ unit-in needle us at probe.distance probe.last occurs (omega (arith, long)) ∙ ends needle probe is in
       both-true (number probe.first) (number probe.last) (get_or (map number front) at 0) (get_or (map number back) at 0)
       (number-at number front at probe.first within ∙ ap number first) (number-at number back at probe.last within2 ∙ ap number last)
-
-  -- No unit of this number is at the index of an occurrence of a needle that begins with it.
-  pub begins-not : (needle us : List X) (probe : Probe X) (v n k : ℕ) → v ≡ number probe.first → IsProbe needle probe → All (λ x. number x ≢ v) (take n us) → k < n → ¬ (OccursAt needle us k)
-  begins-not needle us probe v n k code is none l occurs =
-      let long : length needle ≡ probe.distance + 1 = is.length in
-      let within : k < length (take n us) = simp length-take (omega (arith, l, long, occurs.within)) in
-      let here : get_or (take n us) k probe.first ≡ probe.first =
-      get_or-take n us k probe.first l ∙ ap (λ n. get_or us n probe.first) (plus-zero k) ∙ unit-in needle us k 0 probe.first occurs (omega (arith, long)) ∙ first-of needle probe.first is.first in
-      none k probe.first within (ap number here ∙ sym code)

@@ -1,5 +1,5 @@
 //! Needles of a search: some units, or those of one character.
-ghost use Rattle.std.specs.Prelude.{◌≡◌, ◌↔◌, ◌≤◌, ◌∷◌, [], ℕ, List, length, map, ◌<◌, IfSome, MatchOption};
+ghost use Rattle.std.specs.Prelude.{◌≡◌, ◌↔◌, ◌≤◌, ◌∷◌, [], ℕ, List, length, map, ◌<◌, IfSome, IsTrue, MatchOption};
 ghost use Rattle.wide_unit.specs.CommonPrefix.{IsCommonPrefix};
 ghost use Rattle.wide_unit.specs.EncodingForm.{code_units};
 ghost use Rattle.wide_search.specs.Occurrences.{OccursAt};
@@ -10,6 +10,21 @@ use wide_unit::{Unit, common_prefix};
 
 // How many units are compared one by one before blocks are. Most comparisons end before.
 const NEAR: usize = 4;
+
+// Returns whether two slices of the same length have the same units. They are compared one by one, since most needles
+// have few units, and most comparisons end at once.
+#[inline(always)]
+fn are_same<C: Unit>(left: &[C], right: &[C]) -> bool
+    requires { length left.now ≡ length right.now }
+    ensures { IsTrue result ↔ (left.now ≡ right.now) }
+{
+    for offset in 0..left.len() {
+        if left[offset].code() != right[offset].code() {
+            return false;
+        }
+    }
+    true
+}
 
 // Returns how many units at the beginning of two slices are the same, or `NEAR` if there are at least as many.
 #[inline(always)]
@@ -37,6 +52,18 @@ pub(crate) trait Needle<C: Unit>: Copy {
     // The units.
     ghost sought: { Self → List C };
 
+    // Returns the first unit, or `None` if there is none.
+    fn first(self) -> Option<C>
+        ensures { MatchOption result (sought self ≡ []) (λ u. (rest : List C) × (sought self ≡ u ∷ rest)) };
+
+    // Returns the number of units.
+    fn len(self) -> usize
+        ensures { result ≡ length (sought self) };
+
+    // Returns whether other units begin with these.
+    fn begins(self, units: &[C]) -> bool
+        ensures { IsTrue result ↔ OccursAt (sought self) units.now 0 };
+
     // Returns the first and the last unit, or `None` if there is none.
     fn probe(self) -> Option<Probe<C>>
         ensures { MatchOption result (sought self ≡ []) (IsProbe (sought self)) };
@@ -59,6 +86,22 @@ pub(crate) struct Slice<'a, C> {
 
 impl<C: Unit> Needle<C> for Slice<'_, C> {
     ghost sought = { λ needle. needle.units.now };
+
+    fn first(self) -> Option<C> {
+        self.units.first().copied()
+    }
+
+    fn len(self) -> usize {
+        self.units.len()
+    }
+
+    fn begins(self, units: &[C]) -> bool {
+        if units.len() < self.units.len() {
+            return false;
+        }
+        let (prefix, _) = units.split_at(self.units.len());
+        are_same(prefix, self.units)
+    }
 
     fn probe(self) -> Option<Probe<C>> {
         let distance = self.units.len().checked_sub(1)?;
@@ -111,6 +154,27 @@ impl<C: Unit> Few<C> {
 
 impl<C: Unit> Needle<C> for Few<C> {
     ghost sought = { units_of_few };
+
+    fn first(self) -> Option<C> {
+        Some(self.first)
+    }
+
+    fn len(self) -> usize {
+        match self.second {
+            None => 1,
+            Some(_) => 2,
+        }
+    }
+
+    fn begins(self, units: &[C]) -> bool {
+        match (self.second, units) {
+            (None, [first, ..]) => first.code() == self.first.code(),
+            (Some(low), [first, second, ..]) => {
+                first.code() == self.first.code() && second.code() == low.code()
+            }
+            _ => false,
+        }
+    }
 
     fn probe(self) -> Option<Probe<C>> {
         let (last, distance) = match self.second {

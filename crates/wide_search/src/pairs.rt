@@ -13,13 +13,6 @@ ghost use Rattle.wide_unit.specs.Searches.{is_unit};
 use std::simd::prelude::*;
 use wide_unit::{AnyUnits, Unit};
 
-// `far_pair` tests indices for both units in stretches, and looks for the first unit alone after each. The first
-// stretch has so many indices, and so has one before which at least as many were passed.
-pub(crate) const SHORT: usize = 256;
-
-// A stretch has at most so many.
-const LONG: usize = 4096;
-
 // A code unit that fits a SIMD lane.
 trait Lane: Copy {
     ghost use Rattle.std.specs.Prelude.{ℕ};
@@ -199,87 +192,6 @@ pub(crate) fn first_pair<C: Unit>(front: &[C], back: &[C], first: C, last: C) ->
         }
         _ => 0,
     }
-}
-
-// Returns the first index from `from` on at which the unit stands, or the length.
-#[inline(always)]
-fn next_of<C: Unit>(units: &[C], from: usize, unit: C) -> usize
-    requires { from ≤ length units.now }
-    ensures after { from ≤ result }
-    ensures within { result ≤ length units.now }
-    ensures before { (k : ℕ) → from ≤ k → k < result → is_unit (C.number unit) (slice_index (map C.number units.now) k) ≡ false }
-{
-    from + C::offset_of(unit.code(), &units[from..])
-}
-
-// Returns how many indices the next stretch has if so many were passed after the last one: few if the first unit was
-// not nearby, and else up to four times as many as that one had.
-#[inline(always)]
-fn next_stretch(stretch: usize, passed: usize) -> usize
-    ensures { 0 < result }
-{
-    if passed < SHORT {
-        stretch.saturating_mul(4).clamp(SHORT, LONG)
-    } else {
-        SHORT
-    }
-}
-
-// Returns the first index at which `first` stands in the one list and `last` in the other, or the length. Both stand at
-// no index before `from`. It goes from stretch to stretch: the next one begins where `first` stands next, so that less
-// of the other list is read where `first` is rare. The stretches grow while `first` is frequent.
-#[inline(never)]
-fn next_pair<C: Unit>(
-    front: &[C],
-    back: &[C],
-    from: usize,
-    first: C,
-    last: C,
-    stretch: &mut usize,
-) -> usize
-    requires same_len { length front.now ≡ length back.now }
-    requires within { from ≤ length back.now }
-    requires before { (k : ℕ) → k < from → ¬ (StandAt (C.number first) (C.number last) (map C.number front.now) (map C.number back.now) k) }
-    ensures within { result ≤ length back.now }
-    ensures before { (k : ℕ) → k < result → ¬ (StandAt (C.number first) (C.number last) (map C.number front.now) (map C.number back.now) k) }
-{
-    let len = back.len();
-    let mut at = from;
-    while at < len {
-        let start = next_of(front, at, first);
-        *stretch = next_stretch(*stretch, start - at);
-        let count = (len - start).min(*stretch);
-        let end = start + count;
-        let step = first_pair(&front[start..end], &back[start..end], first, last);
-        if step < count || end == len {
-            return start + step;
-        }
-        at = end;
-    }
-    len
-}
-
-// Returns the same as `first_pair`, in less time where `first` is rare. It tests the first stretch itself, so that a
-// near pair needs no call. That stretch is as long as the last one of the call before, if there was one.
-#[inline(always)]
-pub(crate) fn far_pair<C: Unit>(
-    front: &[C],
-    back: &[C],
-    first: C,
-    last: C,
-    stretch: &mut usize,
-) -> usize
-    requires { length front.now ≡ length back.now }
-    ensures within { result ≤ length back.now }
-    ensures before { (k : ℕ) → k < result → ¬ (StandAt (C.number first) (C.number last) (map C.number front.now) (map C.number back.now) k) }
-{
-    let len = back.len();
-    let near = len.min(*stretch);
-    let step = first_pair(&front[..near], &back[..near], first, last);
-    if step < near || near == len {
-        return step;
-    }
-    next_pair(front, back, near, first, last, stretch)
 }
 
 // Returns the index after the last one at which `first` stands in the one list and `last` in the other, or 0.

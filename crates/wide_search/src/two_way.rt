@@ -42,14 +42,33 @@ pub(crate) struct Stop {
     pub(crate) is_found: bool,
 }
 
-// How many offsets the two-way search passes before it stops: these, or so many for each unit of the needle if that is
-// more. By then it has saved more than the factorization of the needle took.
-const LEAST_PASSED: usize = 4096;
+// After so many offsets for each unit of the needle the two-way search looks whether the needle's first and last unit
+// still stand nearby. By then it has saved more than the factorization of the needle took.
+const PASSED_PER_SOUGHT: usize = 16;
 
-const PASSED_PER_SOUGHT: usize = 64;
+// How many offsets are nearby.
+const NEARBY: usize = 32;
 
-// Returns the first offset from `from` on at which the needle occurs. If it has passed many offsets at which the needle
-// does not occur, it returns the next one. Offsets and units are counted from the side.
+// Returns whether the first and the last unit of the needle stand at one of the next offsets. It decides on time alone:
+// where they do not, the text no longer repeats itself as the needle does, and other searches take less time.
+fn stands_nearby<C: Unit, S: Side>(units: &[C], needle: &[C], at: usize) -> bool
+    requires some { 0 < length needle.now }
+    requires fits { at + length needle.now ≤ length units.now }
+{
+    let distance = needle.len() - 1;
+    let end = (units.len() - distance).min(at.saturating_add(NEARBY));
+    for offset in at..end {
+        if S::unit(units, offset) == S::unit(needle, 0)
+            && S::unit(units, offset + distance) == S::unit(needle, distance)
+        {
+            return true;
+        }
+    }
+    false
+}
+
+// Returns the first offset from `from` on at which the needle occurs, or one before which it does not occur, if the text
+// no longer repeats itself there. Offsets and units are counted from the side.
 //
 // The second part of the needle is compared before the first part. A difference in it rules out as many offsets as
 // units were compared. If only the first part differs, the next offset is at least a period further, and the units that
@@ -62,10 +81,17 @@ fn next_occurrence<C: Unit, S: Side>(units: &[C], needle: &[C], from: usize) -> 
 {
     let parts = factorize::<C, S>(needle);
     let len = needle.len();
-    let limit = len.saturating_mul(PASSED_PER_SOUGHT).max(LEAST_PASSED);
+    let stretch = len.saturating_mul(PASSED_PER_SOUGHT);
+    let mut stop = from.saturating_add(stretch);
     let mut at = from;
     let mut known = 0;
-    while len <= units.len() - at && at - from < limit {
+    while len <= units.len() - at {
+        if at >= stop {
+            if !stands_nearby::<C, S>(units, needle, at) {
+                break;
+            }
+            stop = at.saturating_add(stretch);
+        }
         let start = parts.cut.max(known);
         let index = first_difference::<C, S>(units, needle, at, start, len);
         if index < len {
