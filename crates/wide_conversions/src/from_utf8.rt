@@ -345,7 +345,8 @@ pub fn from_utf8_prefix<C: Unit>(text: &[u8], units: &mut [C]) -> (usize, usize)
         read += bytes;
         written += more;
     }
-    // A short text has no sixteen bytes, and the rest of a long one has fewer than eighteen.
+    // Here fewer than eighteen bytes are left, or there is space for fewer than sixteen units. In the latter case the
+    // rest of the text may be long.
     'eights: while text.len() - read >= 8
         && units.len() - written >= 8
         && are_eight_ascii(&text[read..])
