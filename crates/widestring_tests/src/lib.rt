@@ -2,7 +2,7 @@
 //!
 //! The callers show what the contracts say at concrete types; each is proved. The tests are about sources that yield
 //! more after their end or report wrong bounds, about devices, errors and laws, random edits and edits that an
-//! allocation failure stops, and the code of README.md. Loops over texts compare results with the standard library.
+//! allocation failure stops, conversions into too little space, and the code of README.md. Loops over texts compare results with the standard library.
 #![tactic(auto)]
 
 #[cfg(test)]
@@ -31,6 +31,8 @@ mod offsets;
 mod paths;
 #[cfg(test)]
 mod plain;
+#[cfg(test)]
+mod prefix_tests;
 #[cfg(test)]
 mod random;
 #[cfg(test)]
