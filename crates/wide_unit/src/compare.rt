@@ -8,14 +8,8 @@ use crate::same_blocks::same_blocks;
 use crate::unit::Unit;
 use std::cmp::Ordering;
 
-/// Returns how many units at the beginning of two slices are the same: up to the first difference, or to the end of the
-/// shorter slice. The comparison is vectorized. The Rust crate has no such call.
-///
-/// ```
-/// let shared = common_prefix(&[0x61u16, 0x62, 0x63], &[0x61, 0x62, 0x64, 0x65]);
-/// assert!(shared == 2);
-/// ```
-pub fn common_prefix<C: Unit>(left: &[C], right: &[C]) -> usize
+// Returns how many units at the beginning of two slices are the same, block by block.
+fn prefix_by_blocks<C: Unit>(left: &[C], right: &[C]) -> usize
     ensures { IsCommonPrefix left.now right.now result }
 {
     let len = left.len().min(right.len());
@@ -27,6 +21,27 @@ pub fn common_prefix<C: Unit>(left: &[C], right: &[C]) -> usize
         at += 1;
     }
     at
+}
+
+/// Returns how many units at the beginning of two slices are the same: up to the first difference, or to the end of the
+/// shorter slice. The comparison is vectorized. The Rust crate has no such call.
+///
+/// ```
+/// let shared = common_prefix(&[0x61u16, 0x62, 0x63], &[0x61, 0x62, 0x64, 0x65]);
+/// assert!(shared == 2);
+/// ```
+#[inline]
+pub fn common_prefix<C: Unit>(left: &[C], right: &[C]) -> usize
+    ensures { IsCommonPrefix left.now right.now result }
+{
+    // Most comparisons of different slices end at the first unit. It is compared alone, so that they need no block and
+    // no call.
+    if let ([x, ..], [y, ..]) = (left, right)
+        && x.code() != y.code()
+    {
+        return 0;
+    }
+    prefix_by_blocks(left, right)
 }
 
 /// Returns whether two slices have the same units in the same order. It stops at the first difference. The Rust crate

@@ -1,5 +1,5 @@
 use Rattle.std.proofs.Common.{◌≡◌, ◌≤◌, ◌-◌, take}
-use Rattle.wide_unit.proofs.compare.common_prefix.Given as goal
+use Rattle.wide_unit.proofs.compare.prefix_by_blocks.Given as goal
 
 -- The units before `at` are the same.
 abbrev pub invariant-loop-at : goal.invariant-loop-at
