@@ -2,6 +2,3 @@ pub mod IndexedLemmas
 pub mod FaultRuns
 mod LossyChunks
 pub mod SubstringCounts
-pub mod TextChunks
-pub mod EscapedChunks
-pub mod KeptTexts

@@ -3,13 +3,12 @@ ghost use Rattle.std.specs.Prelude.{map, Some};
 ghost use Rattle.wide_unit.specs.Texts.{display_text, skipping_text, debug_output, lossy_debug_output};
 ghost use Rattle.wide_ustr.specs.View.{units_seen};
 
-use crate::escaped_chunks::{write_debug, write_lossy_debug};
+use crate::escaped::write_debug_char;
 use crate::iter::{Chars, CharsLossy};
 use crate::lossy_with::CharsLossyWith;
-use crate::text_chunks::write_text;
 use crate::view::UStr;
 use std::fmt;
-use wide_unit::{Policy, Unit};
+use wide_unit::{Unit, split_first};
 
 /// A value that prints the text of a view, with one U+FFFD for each unit that belongs to no character (Unicode
 /// Standard, section 3.9). Made by [`UStr::display`](crate::UStr::display).
@@ -32,7 +31,10 @@ impl<C: Unit> fmt::Display for Display<'_, C> {
     ghost styled_output = { λ d _. Some (display_text C.form (map C.number (units_seen (displayed d)))) };
 
     fn fmt<W: fmt::Write>(&self, f: &mut fmt::Formatter<W>) -> fmt::Result {
-        write_text(f, self.view.units, false)
+        for c in self.view.chars_lossy() {
+            f.write_char(c)?;
+        }
+        Ok(())
     }
 }
 
@@ -56,7 +58,12 @@ impl<C: Unit> fmt::Display for DisplaySkipping<'_, C> {
     ghost styled_output = { λ d _. Some (skipping_text C.form (map C.number (units_seen (displayed_skipping d)))) };
 
     fn fmt<W: fmt::Write>(&self, f: &mut fmt::Formatter<W>) -> fmt::Result {
-        write_text(f, self.view.units, true)
+        for shown in self.view.chars_lossy() {
+            if shown != char::REPLACEMENT_CHARACTER {
+                f.write_char(shown)?;
+            }
+        }
+        Ok(())
     }
 }
 
@@ -64,7 +71,16 @@ impl<C: Unit> fmt::Debug for UStr<'_, C> {
     ghost debug_output = { λ view. debug_output C.form (map C.number (units_seen view)) };
 
     fn fmt<W: fmt::Write>(&self, f: &mut fmt::Formatter<W>) -> fmt::Result {
-        write_debug(f, self.units)
+        f.write_str("\"")?;
+        let mut rest = self.units;
+        while let Some((item, tail)) = split_first(rest) {
+            match item {
+                Ok(c) => write_debug_char(f, c)?,
+                Err(unit) => write!(f, "\\<{:X}>", unit.code())?,
+            }
+            rest = tail;
+        }
+        f.write_str("\"")
     }
 }
 
@@ -104,10 +120,11 @@ impl<C: Unit> fmt::Debug for CharsLossy<'_, C> {
     ghost debug_output = { λ s. lossy_debug_output C.form (map C.number (chars_lossy_rest s)) };
 
     fn fmt<W: fmt::Write>(&self, f: &mut fmt::Formatter<W>) -> fmt::Result {
-        write_lossy_debug(
-            f,
-            UStr::from_slice(self.rest).chars_lossy_with(Policy::Each),
-        )
+        f.write_str("\"")?;
+        for c in UStr::from_slice(self.rest).chars_lossy() {
+            write_debug_char(f, c)?;
+        }
+        f.write_str("\"")
     }
 }
 
@@ -117,6 +134,10 @@ impl<C: Unit> fmt::Debug for CharsLossyWith<'_, C> {
     ghost debug_output = { lossy_with_debug_output C.form C.number };
 
     fn fmt<W: fmt::Write>(&self, f: &mut fmt::Formatter<W>) -> fmt::Result {
-        write_lossy_debug(f, UStr::from_slice(self.rest).chars_lossy_with(self.policy))
+        f.write_str("\"")?;
+        for c in UStr::from_slice(self.rest).chars_lossy_with(self.policy) {
+            write_debug_char(f, c)?;
+        }
+        f.write_str("\"")
     }
 }

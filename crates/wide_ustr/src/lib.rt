@@ -3,7 +3,7 @@
 
 mod bytes;
 mod display;
-mod escaped_chunks;
+mod escaped;
 mod iter;
 pub mod laws;
 mod line_indices;
@@ -14,7 +14,6 @@ mod offsets;
 mod search;
 mod split;
 mod text;
-mod text_chunks;
 mod view;
 
 pub use display::{Display, DisplaySkipping};

@@ -1,0 +1,53 @@
+//! Writes a character to a formatter as `{:?}` escapes it.
+ghost use Rattle.std.specs.Prelude.{◌∷◌, ◌<◌, ℕ, List, [], encode_utf8_all, IsTrue};
+ghost use Rattle.std.specs.Char.Escape.{IsEscapeDebug};
+ghost use Rattle.std.specs.Fmt.{WritesStyledOnOk};
+
+use std::fmt;
+use wide_unit::write_escape;
+
+// Returns whether a character beyond ASCII is in one of these blocks or parts of blocks, whose characters std prints
+// unchanged, as they are letters, numbers, symbols and punctuation marks, and none is combining: Latin, spacing
+// modifiers, Greek and Cyrillic, general punctuation, arrows and mathematical operators, CJK punctuation, kana, CJK
+// ideographs, Hangul syllables, fullwidth forms, pictographs. Of the others, those below U+2010 take the fewest
+// comparisons: combining marks and the scripts that use most of them.
+#[inline(always)]
+fn is_printable(code: u32) -> bool
+    ensures { IsTrue result → 0x7F < code }
+{
+    match code {
+        0xA1..=0xAC | 0xAE..=0x2FF | 0x3A3..=0x482 | 0x48A..=0x52F => true,
+        0..=0x200F => false,
+        0x4E00..=0x9FFF | 0xAC00..=0xD7A3 | 0x3400..=0x4DBF => true,
+        0x3041..=0x3096 | 0x309B..=0x30FF | 0x3001..=0x3029 | 0xFF01..=0xFF9D => true,
+        0x2010..=0x2027 | 0x2030..=0x205E | 0x2190..=0x2426 | 0x1F300..=0x1F64F => true,
+        _ => false,
+    }
+}
+
+// Returns whether `{:?}` prints a character unchanged, for ASCII and the most frequent other characters. Of those for
+// which it returns false, std's tables of printable characters decide.
+#[inline(always)]
+fn is_unescaped(c: char) -> bool
+    ensures { IsTrue result → IsEscapeDebug c (c ∷ []) }
+{
+    let code = c as u32;
+    if code < 0x80 {
+        0x20 <= code && code < 0x7F && c != '"' && c != '\'' && c != '\\'
+    } else {
+        is_printable(code)
+    }
+}
+
+// Writes a character as `{:?}` escapes it: each character of the escape by a write of its own. A look-up in std's
+// tables takes some hundred nanoseconds, so there is at most one, and none for the most frequent characters.
+#[inline(always)]
+pub(crate) fn write_debug_char<W: fmt::Write>(f: &mut fmt::Formatter<W>, c: char) -> fmt::Result
+    ensures { (xs : List ℕ) × IsEscapeDebug c xs × WritesStyledOnOk W.write_str_gives f.old result (encode_utf8_all xs) f.new }
+{
+    if is_unescaped(c) {
+        f.write_char(c)
+    } else {
+        write_escape(f, c.escape_debug())
+    }
+}
