@@ -89,16 +89,6 @@ fn char_at<C: Unit>(units: &[C], at: usize) -> (char, usize)
     (c, units.len() - rest.len())
 }
 
-// Writes the numbers of characters over as many units. The compiler vectorizes the loop, since the slices are apart.
-fn copy_chars(units: &mut [u32], chars: &[char])
-    requires { length units.old ≡ length chars.now }
-    ensures { units.new ≡ chars.now }
-{
-    for at in 0..units.len() {
-        units[at] = u32::from(chars[at]);
-    }
-}
-
 impl<C: FaultUnit, A: Allocator> UString<C, A> {
     /// Creates an empty string, without allocating.
     pub fn new(alloc: A) -> Self
@@ -657,8 +647,9 @@ impl<A: Allocator> UString<u32, A> {
         ensures succeeds { chars.now ≡ [] → IsOk result }
     {
         let mut units = Vec::with_capacity(alloc, chars.len())?;
-        units.resize(chars.len(), 0)?;
-        copy_chars(units.as_mut_slice(), chars);
+        for c in chars {
+            units.push_reserved(u32::from(*c));
+        }
         Ok(UString { units })
     }
 }
