@@ -4,5 +4,6 @@ pub mod Lengths
 pub mod Offsets
 pub mod Marking
 pub mod Neighbors
+pub mod Passes
 pub mod Replaced
 pub mod Walks

@@ -3,3 +3,4 @@ pub mod Edited
 pub mod Found
 pub mod Counted
 pub mod Marks
+pub mod Passed

@@ -1,5 +1,5 @@
 //! A UTF-16 string with an offset index, as a text that can be edited.
-ghost use Rattle.std.specs.Prelude.{◌≡◌, ◌+◌, ◌*◌, ◌/◌, ◌<◌, ◌≤◌, ◌↔◌, length, take, IsSome, IfSome, IsOk, OnOk, IfOk, IfErr, vec_capacity};
+ghost use Rattle.std.specs.Prelude.{◌≡◌, ◌+◌, ◌-◌, ◌*◌, ◌/◌, ◌<◌, ◌≤◌, ◌↔◌, length, take, IsSome, IfSome, IsOk, OnOk, IfOk, IfErr, vec_capacity};
 ghost use Rattle.wide_unit.specs.EncodingForm.{Utf16, encode};
 ghost use Rattle.wide_unit.specs.Items.{chars};
 ghost use Rattle.wide_unit.specs.Offsets.{IsOffsetOf, IsCharBoundary};
@@ -9,6 +9,7 @@ ghost use Rattle.wide_edit.specs.Edited.{CanHold, IsMade, HasReplySpace};
 ghost use Rattle.wide_edit.specs.Found.{first_number, second_number, IsFoundAt};
 ghost use Rattle.wide_edit.specs.Counted.{counted, AddsAtMost};
 ghost use Rattle.wide_edit.specs.Marks.{mark, marks_of, edit_offset, units_after, units_split_off, marked_capacity, marked_units, marked_text, IsMarkedReady, IsEdited, AreMoved};
+ghost use Rattle.wide_edit.specs.Passed.{units_put, IsShort, IsFew, marks_left};
 
 use crate::counting::Steps;
 use crate::edits::{Edit, Reply, TextEdit};
@@ -167,6 +168,10 @@ fn update(
     ensures marks { marks.new.items ≡ marks_of (chars Utf16 (units_seen text.entry)) }
     ensures space { vec_capacity marks.new ≡ vec_capacity marks.old }
     ensures grows { counted steps.old ≤ counted steps.new }
+    ensures read { IsShort (units_seen text.entry) units range → counted steps.old + units_put (units_seen text.entry) units range ≤ counted steps.new }
+    ensures moved { IsFew (units_seen text.entry) count units range → counted steps.old + units_put (units_seen text.entry) units range + (marks_left count (length (chars Utf16 (units_seen text.entry))) - range.from / 64) ≤ counted steps.new }
+    ensures many_removed { range.from + 31 < range.to → counted steps.new + mark (chars Utf16 (units_seen text.entry)) kept ≡ counted steps.old + length (units_seen text.entry) }
+    ensures many_put { 62 < units_put (units_seen text.entry) units range → counted steps.new + mark (chars Utf16 (units_seen text.entry)) kept ≡ counted steps.old + length (units_seen text.entry) }
     ensures steps { counted steps.new + mark (chars Utf16 (units_seen text.entry)) kept ≤ counted steps.old + 63 + length (units_seen text.entry) }
 {
     match count_if_few(text, range, count, units, steps) {

@@ -7,6 +7,7 @@ ghost use Rattle.wide_unit.specs.Items.{chars};
 ghost use Rattle.wide_utfstr.specs.View.{units_seen};
 ghost use Rattle.wide_edit.specs.Counted.{counted, AddsAtMost};
 ghost use Rattle.wide_edit.specs.Marks.{offset};
+ghost use Rattle.wide_edit.specs.Passed.{AddsPassed};
 
 use crate::counting::Steps;
 use wide_utfstr::Utf16Str;
@@ -101,6 +102,7 @@ pub(crate) fn between(
     requires low { low.1 ≡ offset (chars Utf16 (units_seen text)) low.0 }
     requires high { high.1 ≡ offset (chars Utf16 (units_seen text)) high.0 }
     ensures offset { result ≡ offset (chars Utf16 (units_seen text.entry)) to }
+    ensures passes { AddsPassed (chars Utf16 (units_seen text.entry)) steps.old steps.new low.0 high.0 to }
     ensures on { AddsAtMost steps.old steps.new (2 * (to - low.0)) }
     ensures back { AddsAtMost steps.old steps.new (2 * (high.0 - to)) }
 {

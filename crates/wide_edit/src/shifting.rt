@@ -1,6 +1,6 @@
 //! The offset index after an edit that replaces few characters by few: the entries after them are moved, and not
 //! counted again.
-ghost use Rattle.std.specs.Prelude.{◌≡◌, ◌+◌, ◌-◌, ◌*◌, ◌/◌, ◌<◌, ◌≤◌, ◌⊎◌, false, length, take, map, max, slice_index, vec_capacity, IfSome};
+ghost use Rattle.std.specs.Prelude.{◌≡◌, ◌+◌, ◌-◌, ◌*◌, ◌/◌, ◌<◌, ◌≤◌, ◌↔◌, ◌⊎◌, false, length, take, map, max, slice_index, vec_capacity, IsSome, IfSome};
 ghost use Rattle.std.specs.List.{range_with_len};
 ghost use Rattle.wide_unit.specs.EncodingForm.{Utf16, encode};
 ghost use Rattle.wide_unit.specs.Items.{chars};
@@ -9,6 +9,7 @@ ghost use Rattle.wide_edit.specs.Step.{step, is_range};
 ghost use Rattle.wide_edit.specs.Counted.{counted, AddsAtMost};
 ghost use Rattle.wide_edit.specs.Found.{first_number, second_number, IsFoundAt, IsFoundRange};
 ghost use Rattle.wide_edit.specs.Marks.{offset, mark, marks_of, edit_offset, Replaces, IsMoved, IsEdited, AreMoved};
+ghost use Rattle.wide_edit.specs.Passed.{units_at, units_removed, units_put, IsShort, IsFew, marks_left, AddsMoved};
 
 use crate::counting::Steps;
 use crate::edits::Edit;
@@ -85,6 +86,7 @@ fn char_or_end(
     requires start { IsFoundAt Utf16 string.now.units index start }
     ensures found { IsFoundRange Utf16 string.now.units result.from result.to result.start result.end }
     ensures numbers { ((result.from ≡ index) × (result.to ≡ index + 1)) ⊎ ((count ≤ index) × (result.from ≡ count) × (result.to ≡ count)) }
+    ensures read { counted steps.new ≡ counted steps.old + units_at (chars Utf16 string.now.units) index }
     ensures steps { AddsAtMost steps.old steps.new 2 }
 {
     recall(string);
@@ -115,6 +117,7 @@ pub(crate) fn replaced_range(
     ensures found { IfSome result (λ r. IsFoundRange Utf16 string.now.units r.from r.to r.start r.end) }
     ensures replaces { IfSome result (λ r. Replaces (chars Utf16 string.now.units) (step (chars Utf16 string.now.units) edit.entry).0 r.from r.to) }
     ensures kept { IfSome result (λ r. edit_offset count edit.entry ≤ r.from) }
+    ensures read { counted steps.new ≡ counted steps.old + units_removed (chars Utf16 string.now.units) edit.entry }
     ensures steps { AddsAtMost steps.old steps.new 2 }
 {
     match edit {
@@ -145,6 +148,10 @@ pub(crate) fn count_if_few(
     requires edited { IsEdited (chars Utf16 (units_seen text)) count units range.from range.to range.start range.end }
     ensures count { IfSome result (λ total. total ≡ length (chars Utf16 (units_seen text.entry))) }
     ensures few { IfSome result (λ total. (range.to ≤ range.from + 31) × (total ≤ count + 31)) }
+    ensures some { IsSome result ↔ IsFew (units_seen text.entry) count units range }
+    ensures read { IsShort (units_seen text.entry) units range → counted steps.new ≡ counted steps.old + units_put (units_seen text.entry) units range }
+    ensures many_removed { range.from + 31 < range.to → counted steps.new ≡ counted steps.old }
+    ensures many_put { 62 < units_put (units_seen text.entry) units range → counted steps.new ≡ counted steps.old }
     ensures steps { AddsAtMost steps.old steps.new 62 }
 {
     let stop = text.len() - (units - range.end);
@@ -179,6 +186,7 @@ fn known_from(
     requires moved { AreMoved (chars Utf16 (units_seen text)) count units (64 * (number + 1)) entries.now }
     ensures offset { result.1 ≡ offset (chars Utf16 (units_seen text.entry)) result.0 }
     ensures index { number < length entries.now → result.0 + count ≡ total + 64 * (number + 1) }
+    ensures end { length entries.now ≤ number → result.0 ≡ total }
     ensures least { 64 * number ≤ result.0 }
     ensures most { result.0 ≤ total }
 {
@@ -210,6 +218,7 @@ fn moved_entry(
     requires before { slice_index entries.now (number - 1) ≡ mark (chars Utf16 (units_seen text)) number }
     requires moved { AreMoved (chars Utf16 (units_seen text)) count units (64 * (number + 1)) entries.now }
     ensures entry { result ≡ mark (chars Utf16 (units_seen text.entry)) (number + 1) }
+    ensures passes { AddsMoved (chars Utf16 (units_seen text.entry)) steps.old steps.new (length entries.now) number count total }
     ensures steps { AddsAtMost steps.old steps.new 62 }
 {
     let to = 64 * (number + 1);
@@ -245,6 +254,7 @@ fn next_entry(
     ensures entry { result ≡ mark (chars Utf16 (units_seen text.entry)) (number + 1) }
     ensures grows { counted steps.old ≤ counted steps.new }
     ensures first { number ≡ range.from / 64 → counted steps.new + range.start ≡ counted steps.old + result }
+    ensures passes { range.from / 64 < number → AddsMoved (chars Utf16 (units_seen text.entry)) steps.old steps.new (length entries.now) number count total }
     ensures later { range.from / 64 < number → counted steps.new ≤ counted steps.old + 62 }
 {
     if number == range.from / 64 {
@@ -276,6 +286,8 @@ fn move_entries(
     requires moved { AreMoved (chars Utf16 (units_seen text)) count units range.to entries.old }
     ensures entries { entries.new ≡ map (mark (chars Utf16 (units_seen text.entry))) (range_with_len 1 (length entries.old)) }
     ensures grows { counted steps.old ≤ counted steps.new }
+    ensures none { length entries.old ≤ range.from / 64 → counted steps.new ≡ counted steps.old }
+    ensures least { range.from / 64 < length entries.old → counted steps.old + (length entries.old - range.from / 64) + mark (chars Utf16 (units_seen text.entry)) (range.from / 64 + 1) ≤ counted steps.new + range.start }
     ensures steps { counted steps.new + range.start ≤ counted steps.old + 1 + max range.start (mark (chars Utf16 (units_seen text.entry)) (length entries.old)) }
 {
     let _units = text.len();
@@ -328,6 +340,8 @@ pub(crate) fn shift(
     ensures marks { marks.new.items ≡ marks_of (chars Utf16 (units_seen text.entry)) }
     ensures space { vec_capacity marks.new ≡ vec_capacity marks.old }
     ensures grows { counted steps.old ≤ counted steps.new }
+    ensures least { range.from / 64 < marks_left count total → counted steps.old + (marks_left count total - range.from / 64) + mark (chars Utf16 (units_seen text.entry)) (range.from / 64 + 1) ≤ counted steps.new + range.start }
+    ensures missing { count / 64 < total / 64 → counted steps.old + (count / 64 - range.from / 64) + length (units_seen text.entry) ≤ counted steps.new + mark (chars Utf16 (units_seen text.entry)) (count / 64 + 1) }
     ensures steps { counted steps.new + range.start ≤ counted steps.old + 1 + length (units_seen text.entry) }
 {
     let _units = text.len();

@@ -34,6 +34,13 @@ loop-number-preserved c =
       done = take_more_set xs n c.next_entry-entry.result below ∙ ap (λ ys. ys ++ c.next_entry-entry.result ∷ []) i.done ∙ ap (λ v. map (mark cs) (range_with_len 1 n) ++ v ∷ []) new.entry ∙ sym (map-range_with_len_more (mark cs) 1 n (n + 1) after);
       same = λ k le. get_or-set_other xs n k c.next_entry-entry.result 0 (omega (arith, le)) ∙ i.same k (omega (arith, le));
       grows = omega (arith, i.grows, c.tick.ensures, new.grows);
+      none = λ here. absurd (omega (arith, here, c.loop-number.auto.number));
+      least = λ _. elim (cases_lt kept n) [
+        | inl later ↦ omega (arith, i.least later, c.tick.ensures, new.grows)
+        | inr first ↦ (
+            let same : n ≡ kept = omega (arith, first, c.loop-number.auto.number) in
+            omega (arith, i.none same, c.tick.ensures, new.first same, new.entry, ap (λ k. mark cs (k + 1)) same, same))
+      ];
       steps = elim (cases_lt kept n) [
         | inl later ↦ omega (arith, i.steps, c.tick.ensures, new.later later, next.least, offsets-grow Utf16 cs c.args.range.from (64 * n) (omega (arith, later)), c.requires.edited.starts)
         | inr first ↦ (

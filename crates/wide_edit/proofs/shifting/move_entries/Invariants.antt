@@ -1,4 +1,4 @@
-use Rattle.std.proofs.Common.{◌≡◌, ◌+◌, ◌≤◌, ◌-◌, ◌/◌, ℕ, length, take, map}
+use Rattle.std.proofs.Common.{◌≡◌, ◌+◌, ◌<◌, ◌≤◌, ◌-◌, ◌/◌, ℕ, length, take, map}
 use Rattle.std.specs.Prelude.{slice_index, max, min}
 use Rattle.std.specs.List.{range_with_len}
 use Rattle.wide_unit.specs.EncodingForm.{Utf16}
@@ -17,5 +17,7 @@ invariant-loop-number l =
       done : take l.number l.entries ≡ map (mark cs) (range_with_len 1 l.number);
       same : (k : ℕ) → l.number ≤ k → slice_index l.entries k ≡ slice_index l.fn.entries k;
       grows : counted l.fn.steps ≤ counted l.steps;
+      none : l.number ≡ l.fn.range.from / 64 → counted l.steps ≡ counted l.fn.steps;
+      least : l.fn.range.from / 64 < l.number → counted l.fn.steps + (l.number - l.fn.range.from / 64) + mark cs (l.fn.range.from / 64 + 1) ≤ counted l.steps + l.fn.range.start;
       steps : counted l.steps + l.fn.range.start ≤ counted l.fn.steps + max l.fn.range.start (mark cs l.number) + min 1 (l.number - l.fn.range.from / 64);
     }

@@ -1,4 +1,4 @@
-use Rattle.std.proofs.Common.{◌≡◌, ◌+◌, ◌*◌, ◌/◌, ◌≤◌, ◌++◌, inl, inr, ap, ◌∙◌, arith, length, take, drop}
+use Rattle.std.proofs.Common.{◌≡◌, ◌+◌, ◌*◌, ◌/◌, ◌≤◌, ◌++◌, inl, inr, ap, ◌∙◌, arith, length, length-take, take, drop}
 use Rattle.std.proofs.lemmas.Grind.{common_steps}
 use Rattle.std.proofs.lemmas.Bool.{cases_lt}
 use Rattle.std.proofs.lemmas.List.{take-take}
@@ -48,3 +48,34 @@ move_entries-requires-clause-some c =
     let few : c.args.range.from ≤ length cs = omega (arith, edited.fits, edited.within) in
     ap (take k) (c.as_mut_slice.ensures.value ∙ c.truncate.ensures.items) ∙ take-take k (c.args.total / 64) c.args.marks.now.items (omega (arith, few, c.requires.total)) ∙ c.requires.some
     ∙ take-map-range_with_len (mark cs) 1 (length cs / 64) k (omega (arith, few))
+
+pub returns-clause-least : goal.returns-clause-least
+returns-clause-least c =
+    let us = units_seen c.args.text in
+    let cs = chars Utf16 us in
+    let es = c.move_entries.new.entries in
+    let m = length (take c.truncate.new.self.len (es ++ drop (length es) c.truncate.new.self.items)) in
+    let same : m ≡ length c.as_mut_slice.result.now = grind (arith, common_steps) in
+    let left = ap length (c.as_mut_slice.ensures.value ∙ c.truncate.ensures.items) ∙ length-take (c.args.total / 64) c.args.marks.now.items in
+    let whole = whole-size us (well-formed us c.args.text.well_formed) in
+    λ some. let moved = c.move_entries.ensures.least (omega (arith, some, left, c.requires.long)) in
+    elim (cases_lt m (c.args.total / 64)) [
+      | inl below ↦ omega (arith, moved, left, c.requires.long, c.push_last.ensures.missing below, whole, size-take Utf16 cs (64 * (m + 1)))
+      | inr past ↦ omega (arith, moved, left, c.requires.long, c.push_last.ensures.whole past)
+    ]
+
+pub returns-clause-missing : goal.returns-clause-missing
+returns-clause-missing c =
+    let us = units_seen c.args.text in
+    let cs = chars Utf16 us in
+    let es = c.move_entries.new.entries in
+    let m = length (take c.truncate.new.self.len (es ++ drop (length es) c.truncate.new.self.items)) in
+    let same : m ≡ length c.as_mut_slice.result.now = grind (arith, common_steps) in
+    let left = ap length (c.as_mut_slice.ensures.value ∙ c.truncate.ensures.items) ∙ length-take (c.args.total / 64) c.args.marks.now.items in
+    let from = c.args.range.from in
+    λ more. let all : m ≡ c.args.count / 64 = omega (arith, same, left, c.requires.long, more) in
+    let last = c.push_last.ensures.missing (omega (arith, all, more)) in
+    elim (cases_lt (from / 64) m) [
+      | inl some ↦ omega (arith, c.move_entries.ensures.least (omega (arith, some, same)), same, all, last, ap (λ k. mark cs (k + 1)) all, offsets-grow Utf16 cs from (64 * (from / 64 + 1)) (omega arith), c.requires.edited.starts)
+      | inr none ↦ omega (arith, c.move_entries.ensures.grows, none, all, last, ap (λ k. mark cs (k + 1)) all)
+    ]
