@@ -1,143 +1,149 @@
-//! Tests that debug text escapes a code point as [`char::escape_debug`] does, character by character. The contracts say
-//! what is printed for ASCII only.
+//! Tests that debug text escapes each character and each fault as a loop over them does, by [`char::escape_debug`]. The
+//! contracts say what is printed for ASCII only.
+use crate::coded::Coded;
+use crate::print_loops::{Items, LossyChars, PolicyChars};
+use crate::random::Random;
 use std::alloc::{AllocError, Global};
 use std::fmt;
+use std::fmt::Write;
+use std::test::Fail;
 use widestring::Policy;
-use widestring::unit::{Unit, split_first, write_escape};
 use widestring::ustr::UStr;
 
-// How many units are printed at once, and how many in a short part.
+// How many units are printed at once.
 const BLOCK: usize = 256;
 
-const SHORT: usize = 24;
+// The longest of the texts made at random.
+const LONGEST: usize = 400;
 
-// Units that print their debug text item by item, each character by its escape.
+// Beyond this number few characters are assigned.
+const ASSIGNED: u32 = 0x3_0000;
+
+// The way in which units are printed.
+#[derive(Clone, Copy)]
+enum Way {
+    View,
+    Lossy,
+    Under(Policy),
+}
+
+const WAYS: [Way; 5] = [
+    Way::View,
+    Way::Lossy,
+    Way::Under(Policy::Each),
+    Way::Under(Policy::Run),
+    Way::Under(Policy::Skip),
+];
+
+// A sink that holds the hash FNV-1a of all bytes.
 #[derive(Drop)]
-struct ByItems<'a, C>(&'a [C]);
+struct Digest(u64);
 
-impl<C: Unit> fmt::Display for ByItems<'_, C> {
-    fn fmt<W: fmt::Write>(&self, f: &mut fmt::Formatter<W>) -> fmt::Result {
-        f.write_str("\"")?;
-        let mut rest = self.0;
-        while let Some((item, tail)) = split_first(rest) {
-            match item {
-                Ok(c) => write_escape(f, c.escape_debug())?,
-                Err(unit) => write!(f, "\\<{:X}>", unit.code())?,
-            }
-            rest = tail;
+impl fmt::Write for Digest {
+    fn write_str(&mut self, s: &str) -> fmt::Result {
+        for byte in s.as_bytes() {
+            self.0 = (self.0 ^ u64::from(*byte)).wrapping_mul(0x100_0000_01b3);
         }
-        f.write_str("\"")
+        Ok(())
     }
 }
 
-// Characters of units under a policy, that print their escapes.
-#[derive(Drop)]
-struct ByChars<'a, C>(&'a [C], Policy);
-
-impl<C: Unit> fmt::Display for ByChars<'_, C> {
-    fn fmt<W: fmt::Write>(&self, f: &mut fmt::Formatter<W>) -> fmt::Result {
-        f.write_str("\"")?;
-        for c in UStr::from_slice(self.0).chars_lossy_with(self.1) {
-            write_escape(f, c.escape_debug())?;
-        }
-        f.write_str("\"")
+// Returns the hash of a value's debug text.
+fn hash_of(value: &impl fmt::Debug) -> Option<u64> {
+    let mut sink = Digest(0xcbf2_9ce4_8422_2325);
+    match write!(sink, "{value:?}") {
+        Ok(()) => Some(sink.0),
+        Err(_) => None,
     }
 }
 
-// Returns whether the characters of units under a policy print what they print one by one.
-fn prints_chars<C: Unit>(alloc: Global, units: &[C], policy: Policy) -> Result<bool, AllocError> {
-    let one_by_one: String = format!(in alloc; "{}", ByChars(units, policy))?;
+// Returns the hash of what the library prints of units in this way.
+fn printed<C: Coded>(way: Way, units: &[C]) -> Option<u64> {
     let view = UStr::from_slice(units);
-    let debug: String = format!(in alloc; "{:?}", view.chars_lossy_with(policy))?;
-    Ok(debug == one_by_one)
-}
-
-// Returns whether units print what their items, and what their characters, print one by one.
-fn prints_each<C: Unit>(alloc: Global, units: &[C]) -> Result<bool, AllocError> {
-    let view = UStr::from_slice(units);
-    let one_by_one: String = format!(in alloc; "{}", ByItems(units))?;
-    let debug: String = format!(in alloc; "{view:?}")?;
-    let each: String = format!(in alloc; "{}", ByChars(units, Policy::Each))?;
-    let lossy: String = format!(in alloc; "{:?}", view.chars_lossy())?;
-    Ok(
-        debug == one_by_one
-            && lossy == each
-            && prints_chars(alloc, units, Policy::Each)?
-            && prints_chars(alloc, units, Policy::Run)?
-            && prints_chars(alloc, units, Policy::Skip)?,
-    )
-}
-
-// Returns whether units print so, all at once and in short parts.
-fn prints_all<C: Unit>(alloc: Global, units: &[C]) -> Result<bool, AllocError> {
-    for part in units.chunks(SHORT) {
-        if !prints_each(alloc, part)? {
-            return Ok(false);
-        }
-    }
-    prints_each(alloc, units)
-}
-
-// Returns whether a number is tried: those in and around the blocks that need no look-up in a table, those around
-// surrogates and the greatest character, and some of all others.
-fn is_tried(number: u32) -> bool {
-    match number {
-        0..0x540 | 0x2000..0x2440 | 0x2ff0..0x3110 | 0x33f0..0x4dd0 | 0x4df0..0xa010 => true,
-        0xabf0..0xd7b0 | 0xd7f0..0xd810 | 0xdbf0..0xdc10 | 0xdff0..0xe010 => true,
-        0xfef0..0x1_0010 | 0x1_f2f0..0x1_f660 | 0x10_fff0..0x11_0010 => true,
-        _ => number % 211 == 0,
+    match way {
+        Way::View => hash_of(&view),
+        Way::Lossy => hash_of(&view.chars_lossy()),
+        Way::Under(policy) => hash_of(&view.chars_lossy_with(policy)),
     }
 }
 
-// Appends a number as a unit.
-fn push32(units: &mut Vec<u32>, number: u32) -> Result<(), AllocError> {
-    Ok(units.push(number)?)
+// Returns the hash of what the loop prints.
+fn expected<C: Coded>(way: Way, units: &[C]) -> Option<u64> {
+    match way {
+        Way::View => hash_of(&Items(units)),
+        Way::Lossy => hash_of(&LossyChars(units)),
+        Way::Under(policy) => hash_of(&PolicyChars(units, policy)),
+    }
 }
 
-// Appends the units of a character, or a surrogate. A number beyond the characters has no units.
-fn push16(units: &mut Vec<u16>, number: u32) -> Result<(), AllocError> {
-    match char::from_u32(number) {
-        Some(c) => {
-            let (first, second) = u16::encode_char(c);
-            units.push(first)?;
-            match second {
-                Some(second) => Ok(units.push(second)?),
-                None => Ok(()),
+// Returns whether units print in each way what its loop prints.
+fn prints_each<C: Coded>(units: &[C]) -> bool {
+    WAYS.iter().all(|way| printed::<C>(*way, units) == expected::<C>(*way, units))
+}
+
+// Returns the same for a block of units, of which `last` is the last number. Well-formed units print the same in each
+// way, so one loop is enough. Where nearly all characters are escaped, by up to ten writes each, the ways take turns.
+fn prints_block<C: Coded>(units: &[C], last: u32) -> bool {
+    if UStr::from_slice(units).chars().any(|item| item.is_err()) {
+        return prints_each::<C>(units);
+    }
+    let text = expected::<C>(Way::View, units);
+    if last < ASSIGNED {
+        WAYS.iter().all(|way| printed::<C>(*way, units) == text)
+    } else {
+        let way = WAYS[last as usize / BLOCK % WAYS.len()];
+        printed::<C>(way, units) == text
+    }
+}
+
+// Returns the last number of the first block of units that print something else, of all numbers below `end`.
+fn first_wrong<C: Coded>(alloc: Global, end: u32) -> Result<Option<u32>, AllocError> {
+    let mut units = Vec::new(alloc);
+    for number in 0..end {
+        C::push(&mut units, number)?;
+        if units.len() >= BLOCK || number + 1 == end {
+            if !prints_block::<C>(units.as_slice(), number) {
+                return Ok(Some(number));
             }
+            units.clear();
         }
-        None => match u16::try_from(number) {
-            Ok(surrogate) => Ok(units.push(surrogate)?),
-            Err(_beyond) => Ok(()),
-        },
     }
+    Ok(None)
 }
 
-// Returns the last number of a block in which the units of some of the numbers up to 11000F print something else.
-macro_rules! first_wrong {
-    ($alloc:expr, $push:ident) => {{
-        let mut units = Vec::new($alloc);
-        let mut wrong = None;
-        for number in (0..0x11_0010u32).filter(|number| is_tried(*number)) {
-            $push(&mut units, number)?;
-            if units.len() >= BLOCK || number == 0x11_000f {
-                if !prints_all($alloc, units.as_slice())? && wrong.is_none() {
-                    wrong = Some(number);
-                }
-                units.clear();
-            }
+// Returns the length of the first text made at random that prints something else, one of each length.
+fn first_wrong_length<C: Coded>(alloc: Global) -> Result<Option<usize>, AllocError> {
+    let mut random = Random::new(1);
+    let mut units = Vec::new(alloc);
+    for length in 0..=LONGEST {
+        units.clear();
+        for _ in 0..length {
+            C::push(&mut units, random.number())?;
         }
-        wrong
-    }};
+        units.truncate(length);
+        if !prints_each::<C>(units.as_slice()) {
+            return Ok(Some(length));
+        }
+    }
+    Ok(None)
 }
 
 #[test]
-fn debug_text_of_32_bit_units(rt: HostRuntime) -> Result<(), std::test::Fail> {
-    assert_eq!(rt; first_wrong!(rt.alloc(), push32), None);
+fn characters_of_one_16_bit_unit(rt: HostRuntime) -> Result<(), Fail> {
+    assert_eq!(rt; first_wrong::<u16>(rt.alloc(), 0x1_0000)?, None);
     Ok(())
 }
 
 #[test]
-fn debug_text_of_16_bit_units(rt: HostRuntime) -> Result<(), std::test::Fail> {
-    assert_eq!(rt; first_wrong!(rt.alloc(), push16), None);
+fn all_characters(rt: HostRuntime) -> Result<(), Fail> {
+    assert_eq!(rt; first_wrong::<u32>(rt.alloc(), 0x11_0010)?, None);
+    Ok(())
+}
+
+#[test]
+fn texts_of_each_length(rt: HostRuntime) -> Result<(), Fail> {
+    let narrow = first_wrong_length::<u16>(rt.alloc())?;
+    let wide = first_wrong_length::<u32>(rt.alloc())?;
+    assert_eq!(rt; (narrow, wide), (None, None));
     Ok(())
 }

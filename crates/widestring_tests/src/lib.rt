@@ -2,16 +2,21 @@
 //!
 //! The callers show what the contracts say at concrete types; each is proved. The tests are about sources that yield
 //! more after their end or report wrong bounds, about devices, errors and laws, random edits and edits that an
-//! allocation failure stops, conversions into too little space, and the code of README.md. Loops over texts compare results with the standard library.
+//! allocation failure stops, conversions into too little space, what is printed and what a sink then holds, and the
+//! code of README.md. Loops over texts compare results with the standard library.
 #![tactic(auto)]
 
 #[cfg(test)]
 mod all_hold;
 #[cfg(test)]
+mod alternate_tests;
+#[cfg(test)]
 mod caller_tests;
 pub mod callers;
 #[cfg(test)]
 mod chunk_tests;
+#[cfg(test)]
+mod coded;
 #[cfg(test)]
 mod debug_tests;
 #[cfg(test)]
@@ -34,6 +39,8 @@ mod plain;
 #[cfg(test)]
 mod prefix_tests;
 #[cfg(test)]
+mod print_loops;
+#[cfg(test)]
 mod random;
 #[cfg(test)]
 mod readme_string_tests;
@@ -43,5 +50,7 @@ mod readme_tests;
 mod resumed_source_tests;
 #[cfg(test)]
 mod search_tests;
+#[cfg(test)]
+mod sink_tests;
 #[cfg(test)]
 mod source_tests;

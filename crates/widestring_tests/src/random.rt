@@ -52,6 +52,14 @@ const KEPT: [&[char]; 7] = [
     &CHARS,
 ];
 
+// Quotes, a backslash, controls, letters, combining marks, spaces that are escaped, a character that no one assigned,
+// characters of private use and beyond U+FFFF, surrogates, and a number beyond all characters.
+const NUMBERS: [u32; 36] = [
+    0x22, 0x27, 0x5c, 0, 9, 0xa, 0xd, 0x1b, 0x7f, 0x9f, 0xad, 0xe9, 0x300, 0x301, 0x378, 0x416,
+    0x483, 0x64b, 0x915, 0x93f, 0x94d, 0xe34, 0x200b, 0x2028, 0x20ac, 0x3042, 0x3099, 0x4e2d,
+    0xac00, 0xe000, 0xfffd, 0x1_f600, 0xe_0100, 0x11_0000, 0xd83d, 0xde00,
+];
+
 // A xorshift generator.
 #[derive(Drop)]
 pub struct Random {
@@ -110,6 +118,18 @@ impl Random {
             text.push(self.pick(&CHARS))?;
         }
         Ok(text)
+    }
+
+    // Returns the number of a character or of none: mostly a letter, or one that debug text may escape.
+    pub fn number(&mut self) -> u32 {
+        match self.below(8) {
+            0 | 1 => self.pick(&NUMBERS),
+            2 => self.below(0x80) as u32,
+            3 => self.below(0x11_0000) as u32,
+            4 => 0x430 + self.below(32) as u32,
+            5 => 0x4e00 + self.below(0x5000) as u32,
+            _ => 0x61 + self.below(26) as u32,
+        }
     }
 
     // Returns an edit of a list of this many characters.

@@ -1,0 +1,149 @@
+//! Tests of what a sink holds at an error, if it takes a write whole or not at all: printing hands on each character as
+//! a write of its own, in the same writes as a loop over them, so every character before the refused write is held.
+use crate::coded::Coded;
+use crate::print_loops::{Items, Lossy, LossyChars, PolicyChars, Skipping};
+use crate::random::Random;
+use std::alloc::{AllocError, Global};
+use std::fmt;
+use std::fmt::Write;
+use std::test::Fail;
+use widestring::Policy;
+use widestring::ustr::UStr;
+
+// How many bytes a sink has space for at most.
+const SPACE: usize = 600;
+
+// How many numbers a text is made of, so that it does not fit.
+const NUMBERS: usize = 700;
+
+// How many bytes a sink takes in all, and in one write.
+#[derive(Clone, Copy, Debug, PartialEq)]
+struct Limits {
+    space: usize,
+    longest: usize,
+}
+
+// A sink that takes a write whole, or refuses it and takes nothing.
+#[derive(PartialEq, Drop)]
+struct WholeSink {
+    bytes: Vec<u8>,
+    calls: usize,
+    limits: Limits,
+}
+
+impl WholeSink {
+    fn new(alloc: Global, limits: Limits) -> WholeSink {
+        WholeSink {
+            bytes: Vec::new(alloc),
+            calls: 0,
+            limits,
+        }
+    }
+}
+
+impl fmt::Write for WholeSink {
+    fn write_str(&mut self, s: &str) -> fmt::Result {
+        self.calls = self.calls.saturating_add(1);
+        let space = self.limits.space.saturating_sub(self.bytes.len());
+        if s.len() > self.limits.longest || s.len() > space {
+            return Err(fmt::Error);
+        }
+        match self.bytes.extend_from_slice(s.as_bytes()) {
+            Ok(()) => Ok(()),
+            Err(_) => Err(fmt::Error),
+        }
+    }
+}
+
+// Returns whether two values print in the same writes up to the one that is refused, and fail alike.
+fn display_alike(
+    alloc: Global,
+    limits: Limits,
+    one: &impl fmt::Display,
+    other: &impl fmt::Display,
+) -> bool {
+    let mut first = WholeSink::new(alloc, limits);
+    let mut second = WholeSink::new(alloc, limits);
+    let ended = write!(first, "{one}");
+    ended == write!(second, "{other}") && first == second
+}
+
+// The same, for debug text.
+fn debug_alike(
+    alloc: Global,
+    limits: Limits,
+    one: &impl fmt::Debug,
+    other: &impl fmt::Debug,
+) -> bool {
+    let mut first = WholeSink::new(alloc, limits);
+    let mut second = WholeSink::new(alloc, limits);
+    let ended = write!(first, "{one:?}");
+    ended == write!(second, "{other:?}") && first == second
+}
+
+// Returns whether all that is printed of units goes to a sink of these limits as the loops print it.
+fn prints_alike<C: Coded>(alloc: Global, limits: Limits, policy: Policy, units: &[C]) -> bool {
+    let view = UStr::from_slice(units);
+    display_alike(alloc, limits, &view.display(), &Lossy(units))
+        && display_alike(alloc, limits, &view.display_skipping(), &Skipping(units))
+        && debug_alike(alloc, limits, &view, &Items(units))
+        && debug_alike(alloc, limits, &view.chars_lossy(), &LossyChars(units))
+        && debug_alike(
+            alloc,
+            limits,
+            &view.chars_lossy_with(policy),
+            &PolicyChars(units, policy),
+        )
+}
+
+// Returns the first limits of a sink to which the units do not print alike.
+fn first_unlike<C: Coded>(alloc: Global, policy: Policy, units: &[C]) -> Option<Limits> {
+    for space in 0..=SPACE {
+        let limits = Limits {
+            space,
+            longest: usize::MAX,
+        };
+        if !prints_alike::<C>(alloc, limits, policy, units) {
+            return Some(limits);
+        }
+    }
+    for longest in 0..8 {
+        let limits = Limits {
+            space: usize::MAX,
+            longest,
+        };
+        if !prints_alike::<C>(alloc, limits, policy, units) {
+            return Some(limits);
+        }
+    }
+    None
+}
+
+// Returns the first limits of a sink to which a text made at random does not print alike.
+fn first_unlike_text<C: Coded>(
+    alloc: Global,
+    seed: u64,
+    policy: Policy,
+) -> Result<Option<Limits>, AllocError> {
+    let mut random = Random::new(seed);
+    let mut units = Vec::new(alloc);
+    for _ in 0..NUMBERS {
+        C::push(&mut units, random.number())?;
+    }
+    Ok(first_unlike::<C>(alloc, policy, units.as_slice()))
+}
+
+#[test]
+fn sinks_of_16_bit_units(rt: HostRuntime) -> Result<(), Fail> {
+    let each = first_unlike_text::<u16>(rt.alloc(), 1, Policy::Each)?;
+    let skip = first_unlike_text::<u16>(rt.alloc(), 2, Policy::Skip)?;
+    assert_eq!(rt; (each, skip), (None, None));
+    Ok(())
+}
+
+#[test]
+fn sinks_of_32_bit_units(rt: HostRuntime) -> Result<(), Fail> {
+    let run = first_unlike_text::<u32>(rt.alloc(), 3, Policy::Run)?;
+    assert_eq!(rt; run, None);
+    Ok(())
+}
