@@ -1,13 +1,13 @@
-use Rattle.std.proofs.Common.{◌≡◌, ℕ, ◌+◌, ◌-◌, ◌<◌, ◌≤◌, ◌↔◌, Option, Some, None, IsSome, map, length, length-take, refl, subst, sym, ap, ◌∙◌, ◌++◌, arith}
+use Rattle.std.proofs.Common.{◌≡◌, ℕ, ◌+◌, ◌-◌, ◌<◌, ◌≤◌, ◌↔◌, Option, Some, None, IsSome, List, map, take, length, length-take, refl, subst, sym, ap, ◌∙◌, ◌++◌, arith}
 use Rattle.std.proofs.lemmas.List.{length-map, map-append}
-use Rattle.wide_unit.specs.Items.{chars}
+use Rattle.wide_unit.specs.EncodingForm.{EncodingForm}
+use Rattle.wide_unit.specs.Items.{chars, IsWellFormed}
 use Rattle.wide_unit.specs.Offsets.{IsOffsetOf, IsCharBoundary}
 use Rattle.wide_unit.proofs.CharBoundaries.{IsCharBoundary-of}
 use Rattle.wide_utfstr.proofs.Walk.{left-prefix, left-all, left-count, left-none, left-more, left-shorter, left-offset}
 use Rattle.wide_utfstr.proofs.Boundary.{boundary_near}
 use Rattle.wide_utfstr.proofs.Counts.{chars-at_most}
 use Rattle.wide_utfstr.proofs.view.UtfStr.unit_offset.Goals.{then-is_char_boundary, else-is_char_boundary}
-use Rattle.wide_utfstr.proofs.view.UtfStr.unit_offset.Given.{Over}
 use Rattle.wide_utfstr.proofs.view.UtfStr.unit_offset.Goals as goal
 
 none-past : (r : Option ℕ) (index count : ℕ) → r ≡ None → count < index → IsSome r ↔ (index ≤ count)
@@ -39,12 +39,8 @@ split_at-requires g c =
     ]
 
 -- As many units as characters were asked for have no more characters.
-passed-within : (g : Over) (c : goal.After-char_count-passed g) → c.loop-passed.passed + c.char_count-passed.result ≤ c.args.index
-passed-within g c =
-    let prefix = c.split_at.result.0 in
-    let few : c.if-is_char_boundary.end ≤ c.args.index - c.loop-passed.passed = elim c.if-is_char_boundary.branch [ then-is_char_boundary w ↦ omega (arith, w.end-is) | else-is_char_boundary w ↦ omega (arith, w.end-is) ] in
-    let short : length prefix.units.now ≤ c.if-is_char_boundary.end = omega (arith, ap length c.split_at.ensures.prefix, length-take c.if-is_char_boundary.end c.loop-passed.rest.units.now) in
-    omega (arith, few, short, chars-at_most g.C.Unit.form g.C.Unit.number prefix.units.now prefix.well_formed, c.char_count-passed.ensures, c.loop-passed-test.true)
+passed-within : {X : Type 0} (form : EncodingForm) (number : X → ℕ) (prefix rest : List X) (end passed count index : ℕ) → IsWellFormed form (map number prefix) → end ≤ index - passed → passed ≤ index → prefix ≡ take end rest → count ≡ length (chars form (map number prefix)) → passed + count ≤ index
+passed-within form number prefix rest end passed count index well few below is counted = omega (arith, few, below, ap length is, length-take end rest, chars-at_most form number prefix well, counted)
 
 pub loop-passed-preserved : goal.loop-passed-preserved
 loop-passed-preserved g c =
@@ -58,10 +54,14 @@ loop-passed-preserved g c =
     left-prefix form us c.args.self.well_formed (map number c.loop-passed.rest.units.now) c.loop-passed.passed c.loop-passed.invariant.1 (map number prefix.units.now) (map number others.units.now) c.char_count-passed.result joined prefix.well_formed
     others.well_formed c.char_count-passed.ensures
     in
-    (passed-within g c, step.1)
+    let few : c.if-is_char_boundary.end ≤ c.args.index - c.loop-passed.passed = elim c.if-is_char_boundary.branch [ then-is_char_boundary w ↦ omega (arith, w.end-is) | else-is_char_boundary w ↦ omega (arith, w.end-is) ] in
+    (passed-within form number prefix.units.now c.loop-passed.rest.units.now c.if-is_char_boundary.end c.loop-passed.passed c.char_count-passed.result c.args.index prefix.well_formed few (omega (arith, c.loop-passed-test.true)) c.split_at.ensures.prefix c.char_count-passed.ensures, step.1)
 
 pub overflow_add-passed : goal.overflow_add-passed
-overflow_add-passed g c = record { fits = omega (arith, passed-within g c, c.ranges.index.fits) }
+overflow_add-passed g c =
+    let prefix = c.split_at.result.0 in
+    let few : c.if-is_char_boundary.end ≤ c.args.index - c.loop-passed.passed = elim c.if-is_char_boundary.branch [ then-is_char_boundary w ↦ omega (arith, w.end-is) | else-is_char_boundary w ↦ omega (arith, w.end-is) ] in
+    record { fits = omega (arith, passed-within g.C.Unit.form g.C.Unit.number prefix.units.now c.loop-passed.rest.units.now c.if-is_char_boundary.end c.loop-passed.passed c.char_count-passed.result c.args.index prefix.well_formed few (omega (arith, c.loop-passed-test.true)) c.split_at.ensures.prefix c.char_count-passed.ensures, c.ranges.index.fits) }
 
 pub loop-number-preserved : goal.loop-number-preserved
 loop-number-preserved g c =
