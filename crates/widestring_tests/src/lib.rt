@@ -14,6 +14,8 @@ mod alternate_tests;
 mod caller_tests;
 pub mod callers;
 #[cfg(test)]
+mod capacity_tests;
+#[cfg(test)]
 mod chunk_tests;
 #[cfg(test)]
 mod coded;
