@@ -23,6 +23,21 @@ module _ {A : Type 0} where
     },
   )
 
+  -- The same, if the units after the length of the needle are cut off.
+  pub occurs-if_begins : (needle us front : List A) (n : ℕ) → front ≡ take (length needle) us → IsCommonPrefix needle front n → OccursAt needle us 0 ↔ (n ≡ length needle)
+  occurs-if_begins needle us front n cut is =
+      let within : length front ≤ length us = subst (λ xs. length xs ≤ length us) (sym cut) (simp length-take (omega arith)) in
+      let both = occurs-if_shared needle front n is in (
+        λ occurs. both.0 (record {
+          within = subst (λ xs. 0 + length needle ≤ length xs) (sym cut) (simp length-take (omega (arith, occurs.within)));
+          same = ap (take (length needle)) cut ∙ take-take (length needle) (length needle) us (omega arith) ∙ occurs.same;
+        }),
+        λ e. let here = both.1 e in record {
+          within = omega (arith, within, here.within);
+          same = sym (take-take (length needle) (length needle) us (omega arith)) ∙ sym (ap (take (length needle)) cut) ∙ here.same;
+        },
+      )
+
 -- Units with the numbers of a needle of two units are the needle.
 module _ {X : Type 0} (number : X → ℕ) (same : (x y : X) → number x ≡ number y → x ≡ y) where
   begins-with : (us : List X) (first low x y : X) → 1 < length us → x ≡ get_or us 0 x → y ≡ get_or us 1 y → number x ≡ number first → number y ≡ number low → OccursAt (first ∷ low ∷ []) us 0

@@ -26,6 +26,19 @@ fn are_same<C: Unit>(left: &[C], right: &[C]) -> bool
     true
 }
 
+// Returns how many units at the beginning of two slices of the same length are the same. They are compared one by one.
+#[inline(always)]
+fn shared_prefix<C: Unit>(left: &[C], right: &[C]) -> usize
+    requires { length left.now ≡ length right.now }
+    ensures { IsCommonPrefix left.now right.now result }
+{
+    let mut shared = 0;
+    while shared < left.len() && left[shared].code() == right[shared].code() {
+        shared += 1;
+    }
+    shared
+}
+
 // Returns how many units at the beginning of two slices are the same, or `NEAR` if there are at least as many.
 #[inline(always)]
 fn near_prefix<C: Unit>(left: &[C], right: &[C]) -> usize
@@ -64,6 +77,12 @@ pub(crate) trait Needle<C: Unit>: Copy {
     fn begins(self, units: &[C]) -> bool
         ensures { IsTrue result ↔ OccursAt (sought self) units.now 0 };
 
+    // Returns how many units at the beginning are those of the needle, and compares them one by one. If there are fewer
+    // units than those of the needle, it may return a smaller number.
+    fn shared(self, units: &[C]) -> usize
+        ensures within { result ≤ length (sought self) }
+        ensures whole { OccursAt (sought self) units.now 0 ↔ (result ≡ length (sought self)) };
+
     // Returns the first and the last unit, or `None` if there is none.
     fn probe(self) -> Option<Probe<C>>
         ensures { MatchOption result (sought self ≡ []) (IsProbe (sought self)) };
@@ -101,6 +120,14 @@ impl<C: Unit> Needle<C> for Slice<'_, C> {
         }
         let (prefix, _) = units.split_at(self.units.len());
         are_same(prefix, self.units)
+    }
+
+    fn shared(self, units: &[C]) -> usize {
+        if units.len() < self.units.len() {
+            return 0;
+        }
+        let (prefix, _) = units.split_at(self.units.len());
+        shared_prefix(self.units, prefix)
     }
 
     fn probe(self) -> Option<Probe<C>> {
@@ -174,6 +201,10 @@ impl<C: Unit> Needle<C> for Few<C> {
             }
             _ => false,
         }
+    }
+
+    fn shared(self, units: &[C]) -> usize {
+        self.matching(units)
     }
 
     fn probe(self) -> Option<Probe<C>> {

@@ -1,10 +1,11 @@
 //! Searches for a needle from both ends.
 //!
-//! Each search begins with the plain way, which takes the least time if the needle is found soon: from the front it goes
-//! from one unit that is the needle's first to the next, and from the back it tries each offset. If that takes too long,
-//! it looks in SIMD lanes for offsets at which both the first and the last unit of the needle stand. If also there too
-//! many units are compared in vain, as they may be where the needle repeats itself, the two-way search takes over.
-ghost use Rattle.std.specs.Prelude.{◌≡◌, ◌+◌, ◌-◌, ◌<◌, ◌≤◌, ℕ, List, IfNone, IfSome, IsTrue, length};
+//! Each search begins in the plain way, which takes the least time if the needle is found soon: from the front it goes
+//! from one unit that is the needle's first to the next, and from the back it tries each offset. If that takes too long
+//! it looks, in SIMD lanes, for offsets at which both the first and the last unit of the needle stand, and tries each
+//! offset again where both stand nearly everywhere. If too many units are compared in vain, as they may be where the
+//! needle repeats itself, the two-way search takes over.
+ghost use Rattle.std.specs.Prelude.{◌≡◌, ◌+◌, ◌-◌, ◌∷◌, ◌<◌, ◌≤◌, ℕ, List, IfNone, IfSome, IsTrue, length};
 ghost use Rattle.wide_search.specs.Occurrences.{IsFirstAt, IsLastAt, OccursAt, OccursNowhere};
 ghost use Rattle.wide_search.specs.Probes.{IsProbe};
 
@@ -13,42 +14,51 @@ use crate::pairs::{first_pair, last_pair};
 use crate::two_way::{Stop, find_from, rfind_before};
 use wide_unit::{Unit, first_of};
 
-// A try at a unit that is the needle's first takes about as long as it takes to pass over so many units that are not,
-// and one more for so many units of the needle, which may all be compared.
-const PASSED_PER_TRY: usize = 64;
+// From the front, a try that fails takes about as long as it takes to pass over so many units that are not the needle's
+// first.
+const UNITS_PER_TRY: usize = 64;
 
-const COMPARED_AT_ONCE: usize = 4;
+// All units of the needle may be compared at a try. So many of them take about as long as it takes to pass over one unit.
+const COMPARED_PER_UNIT: usize = 4;
 
-// A search for the first unit may spend as much on tries that fail as on the units that it passed over, and so much more.
-const CREDIT: usize = 128;
+// From the front, tries that fail may cost as much as the units that were passed over, and so much more.
+const CREDIT: usize = 256;
 
-// A shorter text, and the end of each, is searched in the plain way alone.
+// The search by two units begins only if more units are left from the front, or more offsets from the back.
 const SHORT: usize = 32;
 
-// A search by two units passes over so many offsets before the first unit is looked for alone again: these, or so many
-// for each unit of the needle if that is more, so that the units which were compared in vain are few for each offset.
+// From the back, so many offsets are tried one by one before the search by two units begins.
+const NEAR_TRIES: usize = 16;
+
+// From the front, the first unit is looked for alone again after so many offsets at which not both units stand, and after
+// at least so many in all.
 const LEAST_PASSED: usize = 4096;
 
+// If it is more, it passes over so many for each unit of the needle. So the units that are compared in vain before are
+// few for each offset.
 const PASSED_PER_SOUGHT: usize = 16;
 
-// A search from the back tries so many offsets one by one, and in a short text all.
-const NEAR_TRIES: usize = 8;
+// A search by two units may make so many tries in a row that fail, each of which costs as much as trying so many offsets
+// one by one. Each offset that is passed over restores one.
+const DENSE_CREDIT: usize = 128;
 
-// A search by two units may spend so much on tries that fail, counted in offsets that could be tried one by one instead.
-// Each offset that is passed over restores one.
-const DENSE_CREDIT: usize = 64;
+const TRIED_PER_PAIR: usize = 16;
 
-// Where that is spent, since both units of the needle stand nearly everywhere, offsets are tried one by one: so many
-// from the front, and from the back as many as may compare so many units.
-const DENSE_TRIES: usize = 64;
+// Where the two units stand nearly everywhere, at least so many offsets are tried one by one.
+const LEAST_TRIES: usize = 16;
 
-const COMPARED_WHERE_DENSE: usize = 4096;
+// If they still do after that, twice as many are tried, up to so many.
+const MOST_TRIES: usize = 2048;
 
-// How many units may be compared in vain for each unit of the text that was passed over. They take about the time in
-// which the two-way search passes over one unit.
+// Where offsets are tried one by one, it is counted how many units match if the needle has at least so many. Else as many
+// are taken to match as before.
+const LONG: usize = 16;
+
+// How many units may be compared in vain for each offset that was passed over. They take about as long as the two-way
+// search takes to pass over one.
 const COMPARED_PER_PASSED: usize = 16;
 
-// A try at which fewer units match is not counted. In ordinary text most are such, and they take little time.
+// A try at which fewer units match is not counted as one in vain. In ordinary text most are such, and take little time.
 const LEAST_COUNTED: usize = 4;
 
 // To come to an offset and to begin to compare there takes about as long as to compare so many units.
@@ -58,24 +68,67 @@ const COMPARED_PER_TRY: usize = 16;
 // takes to pass over so many units of the text.
 const PASSED_PER_FACTORED: usize = 4;
 
-// Returns what is left of the credit of a search by two units after a try that failed, and so many offsets before it
-// that were passed over.
-fn credit_left(credit: usize, passed: usize) -> usize {
-    let restored = credit.saturating_add(passed).min(DENSE_CREDIT);
-    restored.saturating_sub(COMPARED_PER_TRY)
+// What a search by two units has spent on tries that failed. It decides on time alone.
+#[derive(Clone, Copy)]
+struct Costs {
+    // How many units were compared in vain.
+    wasted: usize,
+    // What is left of the credit for tries in a row.
+    credit: usize,
+    // How many offsets are tried one by one once it is spent.
+    tries: usize,
 }
 
-// Returns the price of a try at a unit that is the first of a needle of so many units, in units that are passed over.
-#[inline(always)]
-fn price_of_try(len: usize) -> usize {
-    PASSED_PER_TRY + len / COMPARED_AT_ONCE
-}
+impl Costs {
+    fn new() -> Self {
+        Costs {
+            wasted: 0,
+            credit: DENSE_CREDIT,
+            tries: LEAST_TRIES,
+        }
+    }
 
-// Returns whether so many units were compared in vain that the two-way search would have passed over the same offsets
-// in less time, its factorization of the needle included. The last unit of the needle is at this distance from the
-// first.
-fn is_in_vain(wasted: usize, passed: usize, distance: usize) -> bool {
-    (wasted / COMPARED_PER_PASSED).saturating_sub(passed) / PASSED_PER_FACTORED > distance
+    // Returns the costs after a try at which so many units matched, and so many offsets before it that were passed over.
+    fn after_try(self, passed: usize, matched: usize) -> Self {
+        let wasted = if matched < LEAST_COUNTED {
+            0
+        } else {
+            matched.saturating_add(COMPARED_PER_TRY)
+        };
+        let restored = self.credit.saturating_add(passed).min(DENSE_CREDIT);
+        Costs {
+            wasted: self.wasted.saturating_add(wasted),
+            credit: restored.saturating_sub(TRIED_PER_PAIR),
+            tries: if passed < TRIED_PER_PAIR {
+                self.tries
+            } else {
+                LEAST_TRIES
+            },
+        }
+    }
+
+    // Returns the costs after as many tries one by one as these say, in which so many units matched. The next time there
+    // are twice as many.
+    fn after_tries(self, matched: usize) -> Self {
+        let wasted = if matched / LEAST_COUNTED < self.tries {
+            0
+        } else {
+            matched.saturating_add(self.tries.saturating_mul(COMPARED_PER_TRY))
+        };
+        Costs {
+            wasted: self.wasted.saturating_add(wasted),
+            credit: DENSE_CREDIT,
+            tries: self.tries.saturating_mul(2).min(MOST_TRIES),
+        }
+    }
+
+    // Returns whether so many units were compared in vain that the two-way search would have passed over the same
+    // offsets in less time, its factorization of the needle included. The last unit of the needle is at this distance
+    // from the first.
+    fn are_in_vain(self, passed: usize, distance: usize) -> bool {
+        let saved = (self.wasted / COMPARED_PER_PASSED).saturating_sub(passed);
+        saved / PASSED_PER_FACTORED > distance
+    }
 }
 
 // Returns an offset of at most `count` before which no needle with these two units occurs. It is the first at which both
@@ -105,48 +158,54 @@ fn skip_back<C: Unit>(units: &[C], end: usize, probe: Probe<C>) -> usize
     last_pair(front, back, probe.first, probe.last)
 }
 
-// Returns how many units count as compared in vain after so many tries one by one of a needle of so many units, where
-// so many matched before.
-fn compared_in(tries: usize, len: usize, matched: usize) -> usize {
-    let least = if matched < LEAST_COUNTED {
-        0
-    } else {
-        COMPARED_PER_TRY
-    };
-    tries.saturating_mul(len.saturating_add(least))
-}
-
-// Searches on from an offset before which the needle does not occur, offset by offset, and makes at most `DENSE_TRIES`
-// tries. Returns where it stopped.
+// Searches on from an offset before which the needle does not occur, offset by offset, and makes so many tries, or fewer
+// at the end. At the last try before, so many units matched. Returns where it stopped, and how many units matched where
+// the needle does not occur.
 #[inline(never)]
-fn find_where_dense<C: Unit, P: Needle<C>>(units: &[C], needle: P, from: usize) -> Stop
+fn find_each<C: Unit, P: Needle<C>>(
+    units: &[C],
+    needle: P,
+    from: usize,
+    tries: usize,
+    matched: usize,
+) -> (Stop, usize)
     requires within { from ≤ length units.now }
     requires before { (k : ℕ) → k < from → ¬ (OccursAt (P.sought needle) units.now k) }
-    ensures after { from ≤ result.at }
-    ensures within { result.at ≤ length units.now }
-    ensures here { IsTrue result.is_found → OccursAt (P.sought needle) units.now result.at }
-    ensures before { (k : ℕ) → k < result.at → ¬ (OccursAt (P.sought needle) units.now k) }
+    ensures after { from ≤ result.0.at }
+    ensures within { result.0.at ≤ length units.now }
+    ensures here { IsTrue result.0.is_found → OccursAt (P.sought needle) units.now result.0.at }
+    ensures before { (k : ℕ) → k < result.0.at → ¬ (OccursAt (P.sought needle) units.now k) }
 {
-    let end = from.saturating_add(DENSE_TRIES).min(units.len());
+    let end = from.saturating_add(tries).min(units.len());
+    let is_counted = needle.len() >= LONG;
     let mut at = from;
+    let mut all_matched = if is_counted {
+        0
+    } else {
+        tries.wrapping_mul(matched)
+    };
     while at < end {
         let (_, here) = units.split_at(at);
-        if needle.begins(here) {
-            return Stop { at, is_found: true };
+        if is_counted {
+            let matched = needle.shared(here);
+            if matched == needle.len() {
+                return (Stop::found(at), all_matched);
+            }
+            // A sum that wraps would change the time alone.
+            all_matched = all_matched.wrapping_add(matched);
+        } else if needle.begins(here) {
+            return (Stop::found(at), all_matched);
         }
         at += 1;
     }
-    Stop {
-        at,
-        is_found: false,
-    }
+    (Stop::unfound(at), all_matched)
 }
 
 // Searches on from an offset before which the needle does not occur, where its first unit is frequent. Returns where it
-// stopped. Only where both the first and the last unit stand are units compared. If too many were compared in vain, the
-// two-way search takes over.
+// stopped. Units are compared where both the first and the last unit stand, or at each offset if they stand nearly
+// everywhere. If too many were compared in vain, the two-way search takes over.
 #[inline(never)]
-fn find_far<C: Unit, P: Needle<C>>(units: &[C], needle: P, from: usize) -> Stop
+fn find_by_two<C: Unit, P: Needle<C>>(units: &[C], needle: P, from: usize) -> Stop
     requires within { from ≤ length units.now }
     requires before { (k : ℕ) → k < from → ¬ (OccursAt (P.sought needle) units.now k) }
     ensures after { from ≤ result.at }
@@ -155,63 +214,105 @@ fn find_far<C: Unit, P: Needle<C>>(units: &[C], needle: P, from: usize) -> Stop
     ensures before { (k : ℕ) → k < result.at → ¬ (OccursAt (P.sought needle) units.now k) }
 {
     let Some(probe) = needle.probe() else {
-        return Stop {
-            at: from,
-            is_found: true,
-        };
+        return Stop::found(from);
     };
-    let most = probe
-        .distance
-        .saturating_mul(PASSED_PER_SOUGHT)
-        .max(LEAST_PASSED);
+    let most = probe.distance.saturating_mul(PASSED_PER_SOUGHT);
     let last = units.len().saturating_sub(probe.distance);
-    let end = from.saturating_add(most).min(last);
+    let end = from.saturating_add(most.max(LEAST_PASSED)).min(last);
     let mut at = from;
-    let mut wasted = 0usize;
-    let mut credit = DENSE_CREDIT;
+    let mut costs = Costs::new();
     while at < end {
         let (_, rest) = units.split_at(at);
-        let step = skip(rest, end - at, probe);
-        if step == end - at {
-            return Stop {
-                at: end,
-                is_found: false,
-            };
+        let count = LEAST_PASSED.min(end - at);
+        let step = skip(rest, count, probe);
+        if step == count {
+            return Stop::unfound(at + count);
         }
         let (_, here) = rest.split_at(step);
         let matched = needle.matching(here);
         if matched > probe.distance {
-            return Stop {
-                at: at + step,
-                is_found: true,
-            };
+            return Stop::found(at + step);
         }
         at += step + 1;
-        credit = credit_left(credit, step);
-        if matched >= LEAST_COUNTED {
-            wasted = wasted.saturating_add(matched.saturating_add(COMPARED_PER_TRY));
-        }
-        if credit == 0 {
-            let stop = find_where_dense(units, needle, at);
+        costs = costs.after_try(step, matched);
+        if costs.credit == 0 {
+            let (stop, matched) = find_each(units, needle, at, costs.tries, matched);
             if stop.is_found {
                 return stop;
             }
-            (at, credit) = (stop.at, DENSE_CREDIT);
-            wasted = wasted.saturating_add(compared_in(DENSE_TRIES, needle.len(), matched));
-        } else if is_in_vain(wasted, at - from, probe.distance) {
+            (at, costs) = (stop.at, costs.after_tries(matched));
+        } else if costs.are_in_vain(at - from, probe.distance) {
             if let Some(sought) = needle.as_slice() {
                 return find_from(units, sought, at);
             }
         }
     }
-    Stop {
-        at,
-        is_found: false,
-    }
+    Stop::unfound(at)
 }
 
-// Returns the offset of the first occurrence of the needle, or `None`. Only where its first unit stands are units
-// compared. Where that one is frequent, `find_far` takes over for a while.
+// Searches on from an offset before which the needle does not occur. Returns where it stopped: at the end if the needle
+// does not occur, or before, where tries that failed cost too much. Units are compared only where the needle's first
+// unit stands.
+#[inline(always)]
+fn find_by_first<C: Unit, P: Needle<C>>(units: &[C], needle: P, first: C, from: usize) -> Stop
+    requires first { (rest : List C) × (P.sought needle ≡ first ∷ rest) }
+    requires fits { length (P.sought needle) ≤ length units.now }
+    requires within { from ≤ length units.now }
+    requires before { (k : ℕ) → k < from → ¬ (OccursAt (P.sought needle) units.now k) }
+    ensures after { from ≤ result.at }
+    ensures within { result.at ≤ length units.now }
+    ensures further { from < length units.now → ¬ (IsTrue result.is_found) → from < result.at }
+    ensures here { IsTrue result.is_found → OccursAt (P.sought needle) units.now result.at }
+    ensures before { (k : ℕ) → k < result.at → ¬ (OccursAt (P.sought needle) units.now k) }
+{
+    let last = units.len() - needle.len();
+    let mut at = from;
+    let mut spent = from;
+    while at <= last {
+        let (_, rest) = units.split_at(at);
+        let Some(step) = first_of(rest, first.code()) else {
+            return Stop::unfound(units.len());
+        };
+        let (_, here) = rest.split_at(step);
+        if needle.begins(here) {
+            return Stop::found(at + step);
+        }
+        at += step + 1;
+        // A sum that wraps would change the time alone.
+        spent = spent.wrapping_add(UNITS_PER_TRY + needle.len() / COMPARED_PER_UNIT);
+        if spent > at.wrapping_add(CREDIT) && units.len() - at > SHORT {
+            return Stop::unfound(at);
+        }
+    }
+    Stop::unfound(units.len())
+}
+
+// Returns the offset of the first occurrence of the needle, or `None`. It does not occur before `from`.
+#[inline(never)]
+fn find_on<C: Unit, P: Needle<C>>(units: &[C], needle: P, first: C, from: usize) -> Option<usize>
+    requires first { (rest : List C) × (P.sought needle ≡ first ∷ rest) }
+    requires fits { length (P.sought needle) ≤ length units.now }
+    requires within { from ≤ length units.now }
+    requires before { (k : ℕ) → k < from → ¬ (OccursAt (P.sought needle) units.now k) }
+    ensures first { IfSome result (IsFirstAt (P.sought needle) units.now) }
+    ensures none { IfNone result (OccursNowhere (P.sought needle) units.now) }
+{
+    let mut at = from;
+    while at < units.len() {
+        let stop = find_by_two(units, needle, at);
+        if stop.is_found {
+            return Some(stop.at);
+        }
+        let stop = find_by_first(units, needle, first, stop.at);
+        if stop.is_found {
+            return Some(stop.at);
+        }
+        at = stop.at;
+    }
+    None
+}
+
+// Returns the offset of the first occurrence of the needle, or `None`.
 pub(crate) fn find_in<C: Unit, P: Needle<C>>(units: &[C], needle: P) -> Option<usize>
     ensures first { IfSome result (IsFirstAt (P.sought needle) units.now) }
     ensures none { IfNone result (OccursNowhere (P.sought needle) units.now) }
@@ -219,77 +320,66 @@ pub(crate) fn find_in<C: Unit, P: Needle<C>>(units: &[C], needle: P) -> Option<u
     let Some(first) = needle.first() else {
         return Some(0);
     };
-    let mut at = 0;
-    let mut spent = 0usize;
-    while at < units.len() {
-        let (_, rest) = units.split_at(at);
-        let Some(step) = first_of(rest, first.code()) else {
-            return None;
-        };
-        let (_, here) = rest.split_at(step);
-        if needle.begins(here) {
-            return Some(at + step);
-        }
-        at += step + 1;
-        spent = spent.wrapping_add(price_of_try(needle.len()));
-        if spent > at.wrapping_add(CREDIT) && units.len() - at > SHORT {
-            let stop = find_far(units, needle, at);
-            if stop.is_found {
-                return Some(stop.at);
-            }
-            (at, spent) = (stop.at, stop.at);
-        }
+    if units.len() < needle.len() {
+        return None;
     }
-    None
+    let stop = find_by_first(units, needle, first, 0);
+    if stop.is_found {
+        return Some(stop.at);
+    }
+    if stop.at == units.len() {
+        return None;
+    }
+    find_on(units, needle, first, stop.at)
 }
 
-// Searches back from an offset from which on the needle does not occur, offset by offset, and makes at most so many
-// tries. Returns where it stopped, which is the offset after the needle's if it was found.
-#[inline(always)]
-fn rfind_near<C: Unit, P: Needle<C>>(units: &[C], needle: P, end: usize, tries: usize) -> Stop
-    requires within { end + length (P.sought needle) ≤ length units.now + 1 }
-    requires beyond { (k : ℕ) → end ≤ k → ¬ (OccursAt (P.sought needle) units.now k) }
-    ensures within { result.at ≤ end }
-    ensures here { IsTrue result.is_found → OccursAt (P.sought needle) units.now (result.at - 1) × (0 < result.at) }
-    ensures beyond { (k : ℕ) → result.at ≤ k → ¬ (OccursAt (P.sought needle) units.now k) }
-{
-    let last = end.saturating_sub(tries);
-    let mut at = end;
-    while at > last {
-        let (_, here) = units.split_at(at - 1);
-        if needle.begins(here) {
-            return Stop { at, is_found: true };
-        }
-        at -= 1;
-    }
-    Stop {
-        at,
-        is_found: false,
-    }
-}
-
-// Searches back as `rfind_near` does, in a copy of its own.
+// Searches back from an offset from which on the needle does not occur, offset by offset, and makes so many tries, or
+// fewer at the end. At the last try before, so many units matched. Returns where it stopped, which is the offset after
+// the needle's if it was found, and how many units matched where the needle does not occur.
 #[inline(never)]
-fn rfind_where_dense<C: Unit, P: Needle<C>>(
+fn rfind_each<C: Unit, P: Needle<C>>(
     units: &[C],
     needle: P,
     end: usize,
     tries: usize,
-) -> Stop
+    matched: usize,
+) -> (Stop, usize)
     requires within { end + length (P.sought needle) ≤ length units.now + 1 }
     requires beyond { (k : ℕ) → end ≤ k → ¬ (OccursAt (P.sought needle) units.now k) }
-    ensures within { result.at ≤ end }
-    ensures here { IsTrue result.is_found → OccursAt (P.sought needle) units.now (result.at - 1) × (0 < result.at) }
-    ensures beyond { (k : ℕ) → result.at ≤ k → ¬ (OccursAt (P.sought needle) units.now k) }
+    ensures within { result.0.at ≤ end }
+    ensures here { IsTrue result.0.is_found → OccursAt (P.sought needle) units.now (result.0.at - 1) × (0 < result.0.at) }
+    ensures beyond { (k : ℕ) → result.0.at ≤ k → ¬ (OccursAt (P.sought needle) units.now k) }
 {
-    rfind_near(units, needle, end, tries)
+    let last = end.saturating_sub(tries);
+    let is_counted = needle.len() >= LONG;
+    let mut at = end;
+    let mut all_matched = if is_counted {
+        0
+    } else {
+        tries.wrapping_mul(matched)
+    };
+    while at > last {
+        let (_, here) = units.split_at(at - 1);
+        if is_counted {
+            let matched = needle.shared(here);
+            if matched == needle.len() {
+                return (Stop::found(at), all_matched);
+            }
+            // A sum that wraps would change the time alone.
+            all_matched = all_matched.wrapping_add(matched);
+        } else if needle.begins(here) {
+            return (Stop::found(at), all_matched);
+        }
+        at -= 1;
+    }
+    (Stop::unfound(at), all_matched)
 }
 
 // Searches back from an offset from which on the needle does not occur. Returns the offset of its last occurrence, or
-// `None`. Only where both the first and the last unit stand are units compared. If too many were compared in vain, the
-// two-way search takes over for a while.
+// `None`. Units are compared where both the first and the last unit stand, or at each offset if they stand nearly
+// everywhere. If too many were compared in vain, the two-way search takes over for a while.
 #[inline(never)]
-fn rfind_far<C: Unit, P: Needle<C>>(units: &[C], needle: P, end: usize) -> Option<usize>
+fn rfind_by_two<C: Unit, P: Needle<C>>(units: &[C], needle: P, end: usize) -> Option<usize>
     requires within { end + length (P.sought needle) ≤ length units.now + 1 }
     requires beyond { (k : ℕ) → end ≤ k → ¬ (OccursAt (P.sought needle) units.now k) }
     ensures last { IfSome result (IsLastAt (P.sought needle) units.now) }
@@ -300,8 +390,7 @@ fn rfind_far<C: Unit, P: Needle<C>>(units: &[C], needle: P, end: usize) -> Optio
     };
     let mut at = end;
     let mut since = end;
-    let mut wasted = 0usize;
-    let mut credit = DENSE_CREDIT;
+    let mut costs = Costs::new();
     while at > 0 {
         let found = skip_back(units, at, probe);
         if found == 0 {
@@ -312,34 +401,29 @@ fn rfind_far<C: Unit, P: Needle<C>>(units: &[C], needle: P, end: usize) -> Optio
         if matched > probe.distance {
             return Some(found - 1);
         }
-        credit = credit_left(credit, at - found);
-        if matched >= LEAST_COUNTED {
-            wasted = wasted.saturating_add(matched.saturating_add(COMPARED_PER_TRY));
-        }
+        costs = costs.after_try(at - found, matched);
         at = found - 1;
-        if credit == 0 {
-            let tries = COMPARED_WHERE_DENSE / needle.len().max(1);
-            let stop = rfind_where_dense(units, needle, at, tries);
+        if costs.credit == 0 {
+            let (stop, matched) = rfind_each(units, needle, at, costs.tries, matched);
             if stop.is_found {
                 return Some(stop.at - 1);
             }
-            (at, credit) = (stop.at, DENSE_CREDIT);
-            wasted = wasted.saturating_add(compared_in(tries, needle.len(), matched));
-        } else if is_in_vain(wasted, since - at, probe.distance) {
+            (at, costs) = (stop.at, costs.after_tries(matched));
+        } else if costs.are_in_vain(since - at, probe.distance) {
             if let Some(sought) = needle.as_slice() {
                 let stop = rfind_before(units, sought, at);
                 if stop.is_found {
                     return Some(stop.at - 1);
                 }
-                (at, since, wasted) = (stop.at, stop.at, 0);
+                (at, since, costs) = (stop.at, stop.at, Costs::new());
             }
         }
     }
     None
 }
 
-// Returns the offset of the last occurrence of the needle, or `None`. The last few offsets are tried one by one, and
-// the others by `rfind_far`.
+// Returns the offset of the last occurrence of the needle, or `None`. The last few offsets are tried one by one, and in a
+// short text all.
 pub(crate) fn rfind_in<C: Unit, P: Needle<C>>(units: &[C], needle: P) -> Option<usize>
     ensures last { IfSome result (IsLastAt (P.sought needle) units.now) }
     ensures none { IfNone result (OccursNowhere (P.sought needle) units.now) }
@@ -351,13 +435,17 @@ pub(crate) fn rfind_in<C: Unit, P: Needle<C>>(units: &[C], needle: P) -> Option<
     if needle.begins(rest) {
         return Some(last);
     }
-    let tries = if last < SHORT { last } else { NEAR_TRIES };
-    let stop = rfind_near(units, needle, last, tries);
-    if stop.is_found {
-        return Some(stop.at - 1);
+    let stop = if last < SHORT { 0 } else { last - NEAR_TRIES };
+    let mut at = last;
+    while at > stop {
+        at -= 1;
+        let (_, rest) = units.split_at(at);
+        if needle.begins(rest) {
+            return Some(at);
+        }
     }
-    if stop.at == 0 {
+    if at == 0 {
         return None;
     }
-    rfind_far(units, needle, stop.at)
+    rfind_by_two(units, needle, at)
 }

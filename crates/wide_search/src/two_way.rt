@@ -42,15 +42,38 @@ pub(crate) struct Stop {
     pub(crate) is_found: bool,
 }
 
+impl Stop {
+    // The needle was found at this offset.
+    #[inline(always)]
+    pub(crate) fn found(at: usize) -> Self
+        ensures at { result.at ≡ at }
+        ensures found { IsTrue result.is_found }
+    {
+        Stop { at, is_found: true }
+    }
+
+    // The search stopped at this offset, before which the needle was not found.
+    #[inline(always)]
+    pub(crate) fn unfound(at: usize) -> Self
+        ensures at { result.at ≡ at }
+        ensures unfound { ¬ (IsTrue result.is_found) }
+    {
+        Stop {
+            at,
+            is_found: false,
+        }
+    }
+}
+
 // After so many offsets for each unit of the needle the two-way search looks whether the needle's first and last unit
-// still stand nearby. By then it has saved more than the factorization of the needle took.
-const PASSED_PER_SOUGHT: usize = 16;
+// still stand nearby.
+const PASSED_BEFORE_LOOK: usize = 16;
 
 // How many offsets are nearby.
 const NEARBY: usize = 32;
 
 // Returns whether the first and the last unit of the needle stand at one of the next offsets. It decides on time alone:
-// where they do not, the text no longer repeats itself as the needle does, and other searches take less time.
+// where they do not, the text may no longer repeat itself as the needle does, and other searches take less time.
 fn stands_nearby<C: Unit, S: Side>(units: &[C], needle: &[C], at: usize) -> bool
     requires some { 0 < length needle.now }
     requires fits { at + length needle.now ≤ length units.now }
@@ -67,8 +90,8 @@ fn stands_nearby<C: Unit, S: Side>(units: &[C], needle: &[C], at: usize) -> bool
     false
 }
 
-// Returns the first offset from `from` on at which the needle occurs, or one before which it does not occur, if the text
-// no longer repeats itself there. Offsets and units are counted from the side.
+// Returns the first offset from `from` on at which the needle occurs, or one before which it does not occur: near the
+// end, or where the text may no longer repeat itself. Offsets and units are counted from the side.
 //
 // The second part of the needle is compared before the first part. A difference in it rules out as many offsets as
 // units were compared. If only the first part differs, the next offset is at least a period further, and the units that
@@ -81,7 +104,7 @@ fn next_occurrence<C: Unit, S: Side>(units: &[C], needle: &[C], from: usize) -> 
 {
     let parts = factorize::<C, S>(needle);
     let len = needle.len();
-    let stretch = len.saturating_mul(PASSED_PER_SOUGHT);
+    let stretch = len.saturating_mul(PASSED_BEFORE_LOOK);
     let mut stop = from.saturating_add(stretch);
     let mut at = from;
     let mut known = 0;

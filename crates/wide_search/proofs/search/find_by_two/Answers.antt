@@ -1,28 +1,31 @@
-use Rattle.std.proofs.Common.{◌+◌, refl, arith, drop}
+use Rattle.std.proofs.Common.{◌+◌, refl, sym, subst, arith, drop}
+use Rattle.wide_search.specs.Occurrences.{OccursAt}
 use Rattle.wide_search.specs.Probes.{IsProbe}
 use Rattle.wide_search.proofs.Offsets.{none-skipped, occurs-there, none-tried, none-as}
-use Rattle.wide_search.proofs.search.find_far.Goals as goal
+use Rattle.wide_search.proofs.search.find_by_two.Goals as goal
 
-pub returns-then-step-end-clause-before : goal.returns-then-step-end-clause-before
-returns-then-step-end-clause-before g c = λ offset l.
+pub returns-then-step-count-clause-before : goal.returns-then-step-count-clause-before
+returns-then-step-count-clause-before g c = λ offset l.
     let sought = g.P.Needle.sought c.args.needle in
     none-skipped g.C.Unit.number sought c.args.units.now c.split_at.result.1.now (drop c.skip-step.result c.split_at.result.1.now) c.loop-at.at c.skip-step.result c.split_at.ensures.back refl
     c.loop-at.invariant.2 (c.skip-step.ensures.before sought c.in-Some.ensures)
-    offset (omega (arith, l, c.if-step-end.true, c.loop-at-test.true))
+    offset (omega (arith, l, c.if-step-count.true, c.unfound.ensures.at, c.loop-at-test.true))
 
 pub returns-then-matched-probe-clause-here : goal.returns-then-matched-probe-clause-here
 returns-then-matched-probe-clause-here g c = λ _.
     let sought = g.P.Needle.sought c.args.needle in
     let is : IsProbe sought c.in-Some.probe = c.in-Some.ensures in
     let whole = c.matching-matched.ensures.whole.1 (omega (arith, c.matching-matched.ensures.within, c.if-matched-probe.true, is.length)) in
-    occurs-there g.C.Unit.number sought c.args.units.now c.split_at.result.1.now c.split_at-in-loop-at.result.1.now c.loop-at.at c.skip-step.result c.split_at.ensures.back c.split_at-in-loop-at.ensures.back
-    c.loop-at.invariant.2 (c.skip-step.ensures.before sought is) (omega (arith, c.skip-step.ensures.within, c.loop-at-test.true)) whole
+    subst (OccursAt sought c.args.units.now) (sym c.found-then-matched-probe.ensures.at)
+    (occurs-there g.C.Unit.number sought c.args.units.now c.split_at.result.1.now c.split_at-in-loop-at.result.1.now c.loop-at.at c.skip-step.result c.split_at.ensures.back c.split_at-in-loop-at.ensures.back
+    c.loop-at.invariant.2 (c.skip-step.ensures.before sought is) (omega (arith, c.skip-step.ensures.within, c.loop-at-test.true)) whole)
 
 pub returns-then-matched-probe-clause-before : goal.returns-then-matched-probe-clause-before
-returns-then-matched-probe-clause-before g c =
+returns-then-matched-probe-clause-before g c = λ k l.
     let sought = g.P.Needle.sought c.args.needle in
     none-skipped g.C.Unit.number sought c.args.units.now c.split_at.result.1.now c.split_at-in-loop-at.result.1.now c.loop-at.at c.skip-step.result c.split_at.ensures.back c.split_at-in-loop-at.ensures.back
     c.loop-at.invariant.2 (c.skip-step.ensures.before sought c.in-Some.ensures)
+    k (omega (arith, l, c.found-then-matched-probe.ensures.at))
 
 pub find_from-requires-clause-before : goal.find_from-requires-clause-before
 find_from-requires-clause-before g c =
@@ -33,8 +36,8 @@ find_from-requires-clause-before g c =
     c.loop-at.invariant.2 (c.skip-step.ensures.before sought is)
     (λ whole. omega (arith, c.matching-matched.ensures.whole.0 whole, c.if-matched-probe.false, is.length)))
 
-pub find_where_dense-stop-requires-clause-before : goal.find_where_dense-stop-requires-clause-before
-find_where_dense-stop-requires-clause-before g c =
+pub find_each-matched-requires-clause-before : goal.find_each-matched-requires-clause-before
+find_each-matched-requires-clause-before g c =
     let sought = g.P.Needle.sought c.args.needle in
     let is : IsProbe sought c.in-Some.probe = c.in-Some.ensures in
     none-tried g.C.Unit.number sought c.args.units.now c.split_at.result.1.now c.split_at-in-loop-at.result.1.now c.loop-at.at c.skip-step.result c.split_at.ensures.back c.split_at-in-loop-at.ensures.back
@@ -46,7 +49,7 @@ loop-at-preserved-in_default-as_slice g c =
     let sought = g.P.Needle.sought c.args.needle in
     let is : IsProbe sought c.in-Some.probe = c.in-Some.ensures in (
       omega (arith, c.loop-at.invariant.0),
-      omega (arith, c.skip-step.ensures.within, c.if-step-end.false, c.split_at.ensures.back_len),
+      omega (arith, c.skip-step.ensures.within, c.if-step-count.false, c.split_at.ensures.back_len),
       none-tried g.C.Unit.number sought c.args.units.now c.split_at.result.1.now c.split_at-in-loop-at.result.1.now c.loop-at.at c.skip-step.result c.split_at.ensures.back c.split_at-in-loop-at.ensures.back
           c.loop-at.invariant.2 (c.skip-step.ensures.before sought is) (λ whole. omega (arith, c.matching-matched.ensures.whole.0 whole, c.if-matched-probe.false, is.length)),
     )
@@ -56,7 +59,7 @@ loop-at-preserved g c =
     let sought = g.P.Needle.sought c.args.needle in
     let is : IsProbe sought c.in-Some.probe = c.in-Some.ensures in (
       omega (arith, c.loop-at.invariant.0),
-      omega (arith, c.skip-step.ensures.within, c.if-step-end.false, c.split_at.ensures.back_len),
+      omega (arith, c.skip-step.ensures.within, c.if-step-count.false, c.split_at.ensures.back_len),
       none-tried g.C.Unit.number sought c.args.units.now c.split_at.result.1.now c.split_at-in-loop-at.result.1.now c.loop-at.at c.skip-step.result c.split_at.ensures.back c.split_at-in-loop-at.ensures.back
           c.loop-at.invariant.2 (c.skip-step.ensures.before sought is) (λ whole. omega (arith, c.matching-matched.ensures.whole.0 whole, c.if-matched-probe.false, is.length)),
     )
