@@ -18,30 +18,32 @@ use wide_unit::{Unit, first_of};
 // first.
 const UNITS_PER_TRY: usize = 64;
 
-// All units of the needle may be compared at a try. So many of them take about as long as it takes to pass over one unit.
+// All units of the needle may be compared at a try. So many of them take about as long as it takes to pass over one
+// unit.
 const COMPARED_PER_UNIT: usize = 4;
 
 // From the front, tries that fail may cost as much as the units that were passed over, and so much more.
 const CREDIT: usize = 256;
 
-// The search by two units begins only if more units are left from the front, or more offsets from the back.
+// If no more units are left from the front, or no more offsets from the back, the plain way alone is used.
 const SHORT: usize = 32;
 
-// From the back, so many offsets are tried one by one before the search by two units begins.
+// From the back, so many offsets are tried one by one after the last, before the search by two units begins.
 const NEAR_TRIES: usize = 16;
 
-// From the front, the first unit is looked for alone again after so many offsets at which not both units stand, and after
-// at least so many in all.
+// From the front, the first unit is looked for alone again after so many offsets at which not both units stand, and
+// after at least so many in all.
 const LEAST_PASSED: usize = 4096;
 
-// If it is more, it passes over so many for each unit of the needle. So the units that are compared in vain before are
-// few for each offset.
+// From the front, a search by two units passes over at least so many offsets for each unit of the needle, if it finds
+// tries to make. So the units that it compares in vain are few for each offset.
 const PASSED_PER_SOUGHT: usize = 16;
 
-// A search by two units may make so many tries in a row that fail, each of which costs as much as trying so many offsets
-// one by one. Each offset that is passed over restores one.
+// A search by two units may spend so much on tries in a row that fail, counted in offsets that could be tried one by
+// one instead. Each offset that is passed over restores one.
 const DENSE_CREDIT: usize = 128;
 
+// A try that fails in a search by two units costs as much as so many offsets that are tried one by one.
 const TRIED_PER_PAIR: usize = 16;
 
 // Where the two units stand nearly everywhere, at least so many offsets are tried one by one.
@@ -50,8 +52,8 @@ const LEAST_TRIES: usize = 16;
 // If they still do after that, twice as many are tried, up to so many.
 const MOST_TRIES: usize = 2048;
 
-// Where offsets are tried one by one, it is counted how many units match if the needle has at least so many. Else as many
-// are taken to match as before.
+// Where offsets are tried one by one, it is counted how many units match if the needle has at least so many. Else as
+// many are taken to match as before.
 const LONG: usize = 16;
 
 // How many units may be compared in vain for each offset that was passed over. They take about as long as the two-way
@@ -88,7 +90,8 @@ impl Costs {
         }
     }
 
-    // Returns the costs after a try at which so many units matched, and so many offsets before it that were passed over.
+    // Returns the costs after a try at which so many units matched, and so many offsets before it that were passed
+    // over.
     fn after_try(self, passed: usize, matched: usize) -> Self {
         let wasted = if matched < LEAST_COUNTED {
             0
@@ -107,8 +110,8 @@ impl Costs {
         }
     }
 
-    // Returns the costs after as many tries one by one as these say, in which so many units matched. The next time there
-    // are twice as many.
+    // Returns the costs after as many tries one by one as these say, in which so many units matched. The next time
+    // there are twice as many.
     fn after_tries(self, matched: usize) -> Self {
         let wasted = if matched / LEAST_COUNTED < self.tries {
             0
@@ -131,8 +134,8 @@ impl Costs {
     }
 }
 
-// Returns an offset of at most `count` before which no needle with these two units occurs. It is the first at which both
-// stand, or `count`.
+// Returns an offset of at most `count` before which no needle with these two units occurs. It is the first at which
+// both stand, or `count`.
 #[inline(always)]
 fn skip<C: Unit>(units: &[C], count: usize, probe: Probe<C>) -> usize
     requires { count + probe.distance ≤ length units.now }
@@ -158,9 +161,9 @@ fn skip_back<C: Unit>(units: &[C], end: usize, probe: Probe<C>) -> usize
     last_pair(front, back, probe.first, probe.last)
 }
 
-// Searches on from an offset before which the needle does not occur, offset by offset, and makes so many tries, or fewer
-// at the end. At the last try before, so many units matched. Returns where it stopped, and how many units matched where
-// the needle does not occur.
+// Searches on from an offset before which the needle does not occur, offset by offset, and makes so many tries, or
+// fewer at the end. At the last try before, so many units matched. Returns where it stopped, and how many units matched
+// where the needle does not occur.
 #[inline(never)]
 fn find_each<C: Unit, P: Needle<C>>(
     units: &[C],
@@ -422,8 +425,8 @@ fn rfind_by_two<C: Unit, P: Needle<C>>(units: &[C], needle: P, end: usize) -> Op
     None
 }
 
-// Returns the offset of the last occurrence of the needle, or `None`. The last few offsets are tried one by one, and in a
-// short text all.
+// Returns the offset of the last occurrence of the needle, or `None`. The last few offsets are tried one by one, and in
+// a short text all.
 pub(crate) fn rfind_in<C: Unit, P: Needle<C>>(units: &[C], needle: P) -> Option<usize>
     ensures last { IfSome result (IsLastAt (P.sought needle) units.now) }
     ensures none { IfNone result (OccursNowhere (P.sought needle) units.now) }

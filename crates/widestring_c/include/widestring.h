@@ -127,9 +127,9 @@ size_t wide_utf32_find_unit(const uint32_t *units, size_t length, uint32_t unit)
 
 /*
  * Returns the offset of the first occurrence of the needle, or WIDE_NOT_FOUND if it does not occur. An empty needle
- * occurs at offset 0. SIMD code finds the next offset at which both the first and the last unit of the needle stand, and
- * units are compared only there. The time grows at most linearly with both lengths, even if the needle repeats itself
- * and the text does so too.
+ * occurs at offset 0. SIMD code finds where the first unit of the needle stands and, if that unit is frequent, where the
+ * last one stands as well; units are compared there. The time grows at most linearly with both lengths, even if the
+ * needle repeats itself and the text does so too.
  */
 size_t wide_utf16_find(const uint16_t *units, size_t length, const uint16_t *needle, size_t needle_length);
 size_t wide_utf32_find(const uint32_t *units, size_t length, const uint32_t *needle, size_t needle_length);

@@ -4,8 +4,8 @@ use std::alloc::{AllocError, Global};
 use wide_conversions::from_utf8_prefix;
 use wide_unit::Unit;
 
-// Characters of one to four bytes, alone and mixed, which are repeated to make a text. Between others, the characters of
-// one byte fill fewer than eight bytes, eight, more than sixteen and other numbers of them.
+// Characters of one to four bytes, alone and mixed, which are repeated to make a text. Between others, the characters
+// of one byte fill fewer than eight bytes, eight, more than sixteen and other numbers of them.
 const PATTERNS: [&str; 14] = [
     "abcdefg",
     "\u{e9}",

@@ -173,9 +173,9 @@ fn is_found_after(alloc: Global, len: usize, step: usize, at: usize) -> Result<b
     is_found(alloc, &units, &[1, 2])
 }
 
-// After 256 offsets a search goes on in stretches, each from where the first unit stands next. Most of these offsets
-// are the last one of a stretch and the next one. Some are just before the start of a stretch and at it, and those of
-// the last row are near the ends or alone. Stretches of 256 units grow to 4,096 where at most 255 are between two.
+// The two units stand together at one offset alone, and the first of them in many other places. A search goes from one
+// first unit to the next, then looks for both at up to 4,096 offsets, then for the first one again. These offsets are
+// around the ends of such stretches, near the ends of the text, or alone.
 #[test]
 fn two_units_after_the_first_alone(rt: HostRuntime) {
     for (step, offsets) in [
