@@ -9,3 +9,4 @@ mod Orders
 mod Shifts
 mod Sides
 mod Prefixes
+mod Single

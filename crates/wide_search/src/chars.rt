@@ -4,6 +4,7 @@ ghost use Rattle.wide_unit.specs.EncodingForm.{code_units};
 ghost use Rattle.wide_search.specs.Occurrences.{IsFirstAt, IsLastAt, OccursNowhere};
 
 use crate::needle::Few;
+use crate::one::{find_one, rfind_one};
 use crate::search::{find_in, rfind_in};
 use wide_unit::Unit;
 
@@ -14,7 +15,11 @@ pub fn find_char<C: Unit>(units: &[C], c: char) -> Option<usize>
     ensures none { IfNone result (OccursNowhere (code_units C.form c) (map C.number units.now)) }
     ensures within { IfSome result (λ at. at + length (code_units C.form c) ≤ length units.now) }
 {
-    find_in(units, Few::of_char(c))
+    let few = Few::of_char(c);
+    match few.second {
+        None => find_one(units, few.first),
+        Some(_) => find_in(units, few),
+    }
 }
 
 /// Returns the offset in units of the last occurrence of the character, or `None` if it does not occur. The units may
@@ -24,5 +29,9 @@ pub fn rfind_char<C: Unit>(units: &[C], c: char) -> Option<usize>
     ensures none { IfNone result (OccursNowhere (code_units C.form c) (map C.number units.now)) }
     ensures within { IfSome result (λ at. at + length (code_units C.form c) ≤ length units.now) }
 {
-    rfind_in(units, Few::of_char(c))
+    let few = Few::of_char(c);
+    match few.second {
+        None => rfind_one(units, few.first),
+        Some(_) => rfind_in(units, few),
+    }
 }

@@ -10,6 +10,7 @@ mod chars;
 mod factorization;
 pub mod laws;
 mod needle;
+mod one;
 mod pairs;
 mod search;
 mod side;

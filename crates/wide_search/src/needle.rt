@@ -9,7 +9,17 @@ ghost use Rattle.wide_search.specs.Sought.{units_of_few};
 use wide_unit::{Unit, common_prefix};
 
 // How many units are compared one by one before blocks are. Most comparisons end before.
-const NEAR: usize = 4;
+const NEAR: usize = 8;
+
+// Returns whether the last units of two slices of the same length are the same, or there are none.
+#[inline(always)]
+fn end_alike<C: Unit>(left: &[C], right: &[C]) -> bool
+    requires { length left.now ≡ length right.now }
+    ensures { left.now ≡ right.now → IsTrue result }
+{
+    let len = left.len();
+    len == 0 || left[len - 1].code() == right[len - 1].code()
+}
 
 // Returns whether two slices of the same length have the same units. They are compared one by one, since most needles
 // have few units, and most comparisons end at once.
@@ -42,7 +52,7 @@ fn shared_prefix<C: Unit>(left: &[C], right: &[C]) -> usize
 // Returns how many units at the beginning of two slices are the same, or `NEAR` if there are at least as many.
 #[inline(always)]
 fn near_prefix<C: Unit>(left: &[C], right: &[C]) -> usize
-    ensures { result < 4 → IsCommonPrefix left.now right.now result }
+    ensures { result < 8 → IsCommonPrefix left.now right.now result }
 {
     let len = left.len().min(right.len()).min(NEAR);
     let mut shared = 0;
@@ -75,6 +85,11 @@ pub(crate) trait Needle<C: Unit>: Copy {
 
     // Returns whether other units begin with these.
     fn begins(self, units: &[C]) -> bool
+        ensures { IsTrue result ↔ OccursAt (sought self) units.now 0 };
+
+    // Returns whether other units begin with these, if their first unit is known to be the same. So most that differ do
+    // so at the last one as well, which is compared before the others.
+    fn begins_at_first(self, units: &[C]) -> bool
         ensures { IsTrue result ↔ OccursAt (sought self) units.now 0 };
 
     // Returns how many units at the beginning are those of the needle, and compares them one by one. If there are fewer
@@ -120,6 +135,14 @@ impl<C: Unit> Needle<C> for Slice<'_, C> {
         }
         let (prefix, _) = units.split_at(self.units.len());
         are_same(prefix, self.units)
+    }
+
+    fn begins_at_first(self, units: &[C]) -> bool {
+        if units.len() < self.units.len() {
+            return false;
+        }
+        let (prefix, _) = units.split_at(self.units.len());
+        end_alike(prefix, self.units) && are_same(prefix, self.units)
     }
 
     fn shared(self, units: &[C]) -> usize {
@@ -201,6 +224,10 @@ impl<C: Unit> Needle<C> for Few<C> {
             }
             _ => false,
         }
+    }
+
+    fn begins_at_first(self, units: &[C]) -> bool {
+        self.begins(units)
     }
 
     fn shared(self, units: &[C]) -> usize {

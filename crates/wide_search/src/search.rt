@@ -1,8 +1,8 @@
 //! Searches for a needle from both ends.
 //!
 //! Each search begins in the plain way, which takes the least time if the needle is found soon: from the front it goes
-//! from one unit that is the needle's first to the next, and from the back it tries each offset. If that takes too long
-//! it looks, in SIMD lanes, for offsets at which both the first and the last unit of the needle stand, and tries each
+//! from one unit that is the needle's first to the next, and from the back it tries each offset. After some tries that
+//! fail it looks, in SIMD lanes, for offsets at which both the first and the last unit of the needle stand, and tries each
 //! offset again where both stand nearly everywhere. If too many units are compared in vain, as they may be where the
 //! needle repeats itself, the two-way search takes over.
 ghost use Rattle.std.specs.Prelude.{◌≡◌, ◌+◌, ◌-◌, ◌∷◌, ◌<◌, ◌≤◌, ℕ, List, IfNone, IfSome, IsTrue, length};
@@ -22,14 +22,17 @@ const UNITS_PER_TRY: usize = 64;
 // unit.
 const COMPARED_PER_UNIT: usize = 4;
 
-// From the front, tries that fail may cost as much as the units that were passed over, and so much more.
-const CREDIT: usize = 256;
+// From the front, so many tries fail before it is asked whether the search by two units would take less time.
+const FIRST_TRIES: usize = 16;
+
+// After a search by two units there are so few.
+const NEXT_TRIES: usize = 4;
 
 // If no more units are left from the front, or no more offsets from the back, the plain way alone is used.
-const SHORT: usize = 32;
+pub(crate) const SHORT: usize = 48;
 
 // From the back, so many offsets are tried one by one after the last, before the search by two units begins.
-const NEAR_TRIES: usize = 16;
+pub(crate) const NEAR_TRIES: usize = 32;
 
 // From the front, the first unit is looked for alone again after so many offsets at which not both units stand, and
 // after at least so many in all.
@@ -41,16 +44,19 @@ const PASSED_PER_SOUGHT: usize = 16;
 
 // A search by two units may spend so much on tries in a row that fail, counted in offsets that could be tried one by
 // one instead. Each offset that is passed over restores one.
-const DENSE_CREDIT: usize = 128;
+const DENSE_CREDIT: usize = 16;
 
 // A try that fails in a search by two units costs as much as so many offsets that are tried one by one.
-const TRIED_PER_PAIR: usize = 16;
+const TRIED_PER_PAIR: usize = 8;
 
 // Where the two units stand nearly everywhere, at least so many offsets are tried one by one.
-const LEAST_TRIES: usize = 16;
+const LEAST_TRIES: usize = 8;
 
 // If they still do after that, twice as many are tried, up to so many.
 const MOST_TRIES: usize = 2048;
+
+// They do not where so many offsets are passed over.
+const APART: usize = 16;
 
 // Where offsets are tried one by one, it is counted how many units match if the needle has at least so many. Else as
 // many are taken to match as before.
@@ -102,7 +108,7 @@ impl Costs {
         Costs {
             wasted: self.wasted.saturating_add(wasted),
             credit: restored.saturating_sub(TRIED_PER_PAIR),
-            tries: if passed < TRIED_PER_PAIR {
+            tries: if passed < APART {
                 self.tries
             } else {
                 LEAST_TRIES
@@ -110,8 +116,8 @@ impl Costs {
         }
     }
 
-    // Returns the costs after as many tries one by one as these say, in which so many units matched. The next time
-    // there are twice as many.
+    // Returns the costs after as many tries one by one as these say, in which so many units matched. If the next offset
+    // at which both units stand is near, twice as many follow it.
     fn after_tries(self, matched: usize) -> Self {
         let wasted = if matched / LEAST_COUNTED < self.tries {
             0
@@ -120,7 +126,7 @@ impl Costs {
         };
         Costs {
             wasted: self.wasted.saturating_add(wasted),
-            credit: DENSE_CREDIT,
+            credit: TRIED_PER_PAIR,
             tries: self.tries.saturating_mul(2).min(MOST_TRIES),
         }
     }
@@ -238,29 +244,36 @@ fn find_by_two<C: Unit, P: Needle<C>>(units: &[C], needle: P, from: usize) -> St
         }
         at += step + 1;
         costs = costs.after_try(step, matched);
+        if costs.are_in_vain(at - from, probe.distance) {
+            if let Some(sought) = needle.as_slice() {
+                return find_from(units, sought, at);
+            }
+        }
         if costs.credit == 0 {
             let (stop, matched) = find_each(units, needle, at, costs.tries, matched);
             if stop.is_found {
                 return stop;
             }
             (at, costs) = (stop.at, costs.after_tries(matched));
-        } else if costs.are_in_vain(at - from, probe.distance) {
-            if let Some(sought) = needle.as_slice() {
-                return find_from(units, sought, at);
-            }
         }
     }
     Stop::unfound(at)
 }
 
-// Searches on from an offset before which the needle does not occur. Returns where it stopped: at the end if the needle
-// does not occur, or before, where tries that failed cost too much. Units are compared only where the needle's first
-// unit stands.
+// Searches on from an offset before which the needle does not occur, and makes at most so many tries, at offsets where
+// its first unit stands. Returns where it stopped: at the end if the needle does not occur.
 #[inline(always)]
-fn find_by_first<C: Unit, P: Needle<C>>(units: &[C], needle: P, first: C, from: usize) -> Stop
+fn find_by_first<C: Unit, P: Needle<C>>(
+    units: &[C],
+    needle: P,
+    first: C,
+    from: usize,
+    most: usize,
+) -> Stop
     requires first { (rest : List C) × (P.sought needle ≡ first ∷ rest) }
     requires fits { length (P.sought needle) ≤ length units.now }
     requires within { from ≤ length units.now }
+    requires some { 0 < most }
     requires before { (k : ℕ) → k < from → ¬ (OccursAt (P.sought needle) units.now k) }
     ensures after { from ≤ result.at }
     ensures within { result.at ≤ length units.now }
@@ -270,52 +283,65 @@ fn find_by_first<C: Unit, P: Needle<C>>(units: &[C], needle: P, first: C, from: 
 {
     let last = units.len() - needle.len();
     let mut at = from;
-    let mut spent = from;
+    let mut tries = most;
     while at <= last {
+        if tries == 0 {
+            return Stop::unfound(at);
+        }
         let (_, rest) = units.split_at(at);
         let Some(step) = first_of(rest, first.code()) else {
             return Stop::unfound(units.len());
         };
         let (_, here) = rest.split_at(step);
-        if needle.begins(here) {
+        if needle.begins_at_first(here) {
             return Stop::found(at + step);
         }
         at += step + 1;
-        // A sum that wraps would change the time alone.
-        spent = spent.wrapping_add(UNITS_PER_TRY + needle.len() / COMPARED_PER_UNIT);
-        if spent > at.wrapping_add(CREDIT) && units.len() - at > SHORT {
-            return Stop::unfound(at);
-        }
+        tries -= 1;
     }
     Stop::unfound(units.len())
 }
 
-// Returns the offset of the first occurrence of the needle, or `None`. It does not occur before `from`.
+// Searches on from an offset before which the needle does not occur. Returns the offset of its first occurrence, or
+// `None`. Where its first unit is frequent, the search by two units takes over for a while.
 #[inline(never)]
-fn find_on<C: Unit, P: Needle<C>>(units: &[C], needle: P, first: C, from: usize) -> Option<usize>
+fn find_after<C: Unit, P: Needle<C>>(units: &[C], needle: P, first: C, from: usize) -> Option<usize>
     requires first { (rest : List C) × (P.sought needle ≡ first ∷ rest) }
-    requires fits { length (P.sought needle) ≤ length units.now }
     requires within { from ≤ length units.now }
     requires before { (k : ℕ) → k < from → ¬ (OccursAt (P.sought needle) units.now k) }
     ensures first { IfSome result (IsFirstAt (P.sought needle) units.now) }
     ensures none { IfNone result (OccursNowhere (P.sought needle) units.now) }
 {
+    if units.len() < needle.len() {
+        return None;
+    }
     let mut at = from;
+    let mut tries = FIRST_TRIES;
     while at < units.len() {
-        let stop = find_by_two(units, needle, at);
+        let stop = find_by_first(units, needle, first, at, tries);
         if stop.is_found {
             return Some(stop.at);
         }
-        let stop = find_by_first(units, needle, first, stop.at);
-        if stop.is_found {
-            return Some(stop.at);
+        if stop.at == units.len() {
+            return None;
         }
+        let passed = stop.at - at;
         at = stop.at;
+        let per_try = UNITS_PER_TRY + needle.len() / COMPARED_PER_UNIT;
+        if passed < tries.saturating_mul(per_try) && units.len() - at > SHORT {
+            let stop = find_by_two(units, needle, at);
+            if stop.is_found {
+                return Some(stop.at);
+            }
+            at = stop.at;
+            tries = NEXT_TRIES;
+        }
     }
     None
 }
 
-// Returns the offset of the first occurrence of the needle, or `None`.
+// Returns the offset of the first occurrence of the needle, or `None`. Most needles occur where their first unit does,
+// so that place is tried before anything is counted.
 pub(crate) fn find_in<C: Unit, P: Needle<C>>(units: &[C], needle: P) -> Option<usize>
     ensures first { IfSome result (IsFirstAt (P.sought needle) units.now) }
     ensures none { IfNone result (OccursNowhere (P.sought needle) units.now) }
@@ -323,17 +349,14 @@ pub(crate) fn find_in<C: Unit, P: Needle<C>>(units: &[C], needle: P) -> Option<u
     let Some(first) = needle.first() else {
         return Some(0);
     };
-    if units.len() < needle.len() {
+    let Some(at) = first_of(units, first.code()) else {
         return None;
+    };
+    let (_, here) = units.split_at(at);
+    if needle.begins(here) {
+        return Some(at);
     }
-    let stop = find_by_first(units, needle, first, 0);
-    if stop.is_found {
-        return Some(stop.at);
-    }
-    if stop.at == units.len() {
-        return None;
-    }
-    find_on(units, needle, first, stop.at)
+    find_after(units, needle, first, at + 1)
 }
 
 // Searches back from an offset from which on the needle does not occur, offset by offset, and makes so many tries, or
@@ -382,7 +405,11 @@ fn rfind_each<C: Unit, P: Needle<C>>(
 // `None`. Units are compared where both the first and the last unit stand, or at each offset if they stand nearly
 // everywhere. If too many were compared in vain, the two-way search takes over for a while.
 #[inline(never)]
-fn rfind_by_two<C: Unit, P: Needle<C>>(units: &[C], needle: P, end: usize) -> Option<usize>
+pub(crate) fn rfind_by_two<C: Unit, P: Needle<C>>(
+    units: &[C],
+    needle: P,
+    end: usize,
+) -> Option<usize>
     requires within { end + length (P.sought needle) ≤ length units.now + 1 }
     requires beyond { (k : ℕ) → end ≤ k → ¬ (OccursAt (P.sought needle) units.now k) }
     ensures last { IfSome result (IsLastAt (P.sought needle) units.now) }
@@ -406,13 +433,7 @@ fn rfind_by_two<C: Unit, P: Needle<C>>(units: &[C], needle: P, end: usize) -> Op
         }
         costs = costs.after_try(at - found, matched);
         at = found - 1;
-        if costs.credit == 0 {
-            let (stop, matched) = rfind_each(units, needle, at, costs.tries, matched);
-            if stop.is_found {
-                return Some(stop.at - 1);
-            }
-            (at, costs) = (stop.at, costs.after_tries(matched));
-        } else if costs.are_in_vain(since - at, probe.distance) {
+        if costs.are_in_vain(since - at, probe.distance) {
             if let Some(sought) = needle.as_slice() {
                 let stop = rfind_before(units, sought, at);
                 if stop.is_found {
@@ -420,6 +441,13 @@ fn rfind_by_two<C: Unit, P: Needle<C>>(units: &[C], needle: P, end: usize) -> Op
                 }
                 (at, since, costs) = (stop.at, stop.at, Costs::new());
             }
+        }
+        if costs.credit == 0 {
+            let (stop, matched) = rfind_each(units, needle, at, costs.tries, matched);
+            if stop.is_found {
+                return Some(stop.at - 1);
+            }
+            (at, costs) = (stop.at, costs.after_tries(matched));
         }
     }
     None

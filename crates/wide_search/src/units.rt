@@ -2,7 +2,8 @@
 ghost use Rattle.std.specs.Prelude.{◌≡◌, ◌↔◌, ◌+◌, ◌++◌, ◌∷◌, [], ◌≤◌, ◌<◌, length, IsTrue, IsSome, IfNone, IfSome};
 ghost use Rattle.wide_search.specs.Occurrences.{IsFirstAt, IsLastAt, OccursNowhere, BeginsWith, EndsWith, IsFirstSplit, IsLastSplit};
 
-use crate::needle::{Few, Slice};
+use crate::needle::Slice;
+use crate::one::{find_one, rfind_one};
 use crate::search::{find_in, rfind_in};
 use wide_unit::{Unit, same_units};
 
@@ -88,7 +89,7 @@ pub fn find_unit<C: Unit>(units: &[C], unit: C) -> Option<usize>
     ensures none { IfNone result (OccursNowhere (unit ∷ []) units.now) }
     ensures within { IfSome result (λ at. at < length units.now) }
 {
-    find_in(units, Few::one(unit))
+    find_one(units, unit)
 }
 
 /// Returns the offset of the last occurrence of the unit, or `None` if it does not occur. The unit may be a surrogate
@@ -98,7 +99,7 @@ pub fn rfind_unit<C: Unit>(units: &[C], unit: C) -> Option<usize>
     ensures none { IfNone result (OccursNowhere (unit ∷ []) units.now) }
     ensures within { IfSome result (λ at. at < length units.now) }
 {
-    rfind_in(units, Few::one(unit))
+    rfind_one(units, unit)
 }
 
 /// Splits the units at the first occurrence of the separator, and returns the units before it and those after it.

@@ -1,20 +1,36 @@
-use Rattle.std.proofs.Common.{subst}
+use Rattle.std.proofs.Common.{◌∷◌, [], ◌∙◌, sym, ap, subst}
 use Rattle.std.specs.Prelude.{map}
 use Rattle.std.proofs.lemmas.Option.{IfSome_then}
 use Rattle.wide_search.specs.Occurrences.{IsFirstAt, OccursNowhere}
-use Rattle.wide_search.specs.Sought.{units_of_few}
+use Rattle.wide_search.specs.Sought.{units_of_few, first_and}
 use Rattle.wide_search.specs.Laws.Numbers.{first-numbers, nowhere-numbers}
 use Rattle.wide_search.proofs.Offsets.{none-then}
 use Rattle.wide_search.proofs.chars.find_char.Goals as goal
 
-pub returns-clause-first : goal.returns-clause-first
-returns-clause-first g c =
+pub returns-in-None-clause-first : goal.returns-in-None-clause-first
+returns-in-None-clause-first g c =
+    let number = g.C.Unit.number in
+    let few = c.of_char-few.result in
+    let units = sym (ap (first_and few.first) c.in-None.is) in
+    IfSome_then c.find_one.result c.find_one.ensures.first (λ at is.
+    subst (λ us. IsFirstAt us (map number c.args.units.now) at) (ap (map number) units ∙ c.of_char-few.ensures) (first-numbers number g.met.C.Unit.same (few.first ∷ []) c.args.units.now at is))
+
+pub returns-in-None-clause-none : goal.returns-in-None-clause-none
+returns-in-None-clause-none g c =
+    let number = g.C.Unit.number in
+    let few = c.of_char-few.result in
+    let units = sym (ap (first_and few.first) c.in-None.is) in
+    none-then c.find_one.result c.find_one.ensures.none (λ none.
+    subst (λ us. OccursNowhere us (map number c.args.units.now)) (ap (map number) units ∙ c.of_char-few.ensures) (nowhere-numbers number g.met.C.Unit.same (few.first ∷ []) c.args.units.now none))
+
+pub returns-in-Some-clause-first : goal.returns-in-Some-clause-first
+returns-in-Some-clause-first g c =
     let number = g.C.Unit.number in
     IfSome_then c.find_in.result c.find_in.ensures.first (λ at is.
-    subst (λ us. IsFirstAt us (map number c.args.units.now) at) c.of_char.ensures (first-numbers number g.met.C.Unit.same (units_of_few c.of_char.result) c.args.units.now at is))
+    subst (λ us. IsFirstAt us (map number c.args.units.now) at) c.of_char-few.ensures (first-numbers number g.met.C.Unit.same (units_of_few c.of_char-few.result) c.args.units.now at is))
 
-pub returns-clause-none : goal.returns-clause-none
-returns-clause-none g c =
+pub returns-in-Some-clause-none : goal.returns-in-Some-clause-none
+returns-in-Some-clause-none g c =
     let number = g.C.Unit.number in
     none-then c.find_in.result c.find_in.ensures.none (λ none.
-    subst (λ us. OccursNowhere us (map number c.args.units.now)) c.of_char.ensures (nowhere-numbers number g.met.C.Unit.same (units_of_few c.of_char.result) c.args.units.now none))
+    subst (λ us. OccursNowhere us (map number c.args.units.now)) c.of_char-few.ensures (nowhere-numbers number g.met.C.Unit.same (units_of_few c.of_char-few.result) c.args.units.now none))

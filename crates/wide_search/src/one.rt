@@ -1,0 +1,37 @@
+//! Searches for one unit. Nothing beyond it is compared, so they take shorter loops than those for other needles.
+ghost use Rattle.std.specs.Prelude.{◌∷◌, [], IfNone, IfSome};
+ghost use Rattle.wide_search.specs.Occurrences.{IsFirstAt, IsLastAt, OccursNowhere};
+
+use crate::needle::Few;
+use crate::search::{NEAR_TRIES, SHORT, rfind_by_two};
+use wide_unit::{Unit, first_of};
+
+// Returns the offset of the first occurrence of the unit, or `None`.
+#[inline(always)]
+pub(crate) fn find_one<C: Unit>(units: &[C], unit: C) -> Option<usize>
+    ensures first { IfSome result (IsFirstAt (unit ∷ []) units.now) }
+    ensures none { IfNone result (OccursNowhere (unit ∷ []) units.now) }
+{
+    first_of(units, unit.code())
+}
+
+// Returns the offset of the last occurrence of the unit, or `None`. The last few units are compared one by one, and in a
+// short text all.
+pub(crate) fn rfind_one<C: Unit>(units: &[C], unit: C) -> Option<usize>
+    ensures last { IfSome result (IsLastAt (unit ∷ []) units.now) }
+    ensures none { IfNone result (OccursNowhere (unit ∷ []) units.now) }
+{
+    let len = units.len();
+    let stop = if len < SHORT { 0 } else { len - NEAR_TRIES };
+    let mut at = len;
+    while at > stop {
+        at -= 1;
+        if units[at].code() == unit.code() {
+            return Some(at);
+        }
+    }
+    if at == 0 {
+        return None;
+    }
+    rfind_by_two(units, Few::one(unit), at)
+}
