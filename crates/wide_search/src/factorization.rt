@@ -10,20 +10,20 @@ use wide_unit::Unit;
 // A needle in two parts: those of its units before an index, and those from there on.
 #[derive(Clone, Copy)]
 pub(crate) struct Factorization {
-    // The index.
+    // The index of the first unit of the second part.
     pub(crate) cut: usize,
     // The least period of the second part.
     pub(crate) period: usize,
-    // Whether this is a period of the whole needle.
+    // Whether the least period of the second part is one of the whole needle.
     pub(crate) repeats: bool,
 }
 
 // The units of a needle from an index on.
 #[derive(Clone, Copy)]
 struct Suffix {
-    // The index.
+    // The index of the first of them.
     start: usize,
-    // Their least period.
+    // The least period of them.
     period: usize,
 }
 

@@ -87,8 +87,8 @@ pub(crate) trait Needle<C: Unit>: Copy {
     fn begins(self, units: &[C]) -> bool
         ensures { IsTrue result ↔ OccursAt (sought self) units.now 0 };
 
-    // Returns whether other units begin with these, if their first unit is known to be the same. So most that differ do
-    // so at the last one as well, which is compared before the others.
+    // Returns the same as `begins`, in less time where the first unit is known to be the same: units that differ from
+    // these mostly differ at the last one, which is compared first.
     fn begins_at_first(self, units: &[C]) -> bool
         ensures { IsTrue result ↔ OccursAt (sought self) units.now 0 };
 

@@ -15,8 +15,8 @@ pub(crate) fn find_one<C: Unit>(units: &[C], unit: C) -> Option<usize>
     first_of(units, unit.code())
 }
 
-// Returns the offset of the last occurrence of the unit, or `None`. The last few units are compared one by one, and in a
-// short text all.
+// Returns the offset of the last occurrence of the unit, or `None`. The last few units are compared one by one, or all if
+// there are few.
 pub(crate) fn rfind_one<C: Unit>(units: &[C], unit: C) -> Option<usize>
     ensures last { IfSome result (IsLastAt (unit ∷ []) units.now) }
     ensures none { IfNone result (OccursNowhere (unit ∷ []) units.now) }
@@ -33,5 +33,6 @@ pub(crate) fn rfind_one<C: Unit>(units: &[C], unit: C) -> Option<usize>
     if at == 0 {
         return None;
     }
+    // The two units are the same one, at distance 0.
     rfind_by_two(units, Few::one(unit), at)
 }

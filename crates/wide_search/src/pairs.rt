@@ -88,8 +88,8 @@ impl Lane for u32 {
     }
 }
 
-// Returns how many indices from `at` on are before the first at which both units stand: in a block, all if there is
-// none.
+// Returns how many indices of the block at `at` come before the first at which both units stand: the whole block if
+// there is none.
 #[inline(always)]
 fn before_pair<L: Lane>(front: &[L], back: &[L], at: usize, first: L, last: L) -> usize
     requires front { at + L.COUNT ≤ length front.now }
@@ -106,7 +106,7 @@ fn before_pair<L: Lane>(front: &[L], back: &[L], at: usize, first: L, last: L) -
     }
 }
 
-// Returns how many indices from `at` on go up to the last in a block at which both units stand: 0 if there is none.
+// Returns how many indices of the block at `at` there are up to and including the last at which both units stand, or 0.
 #[inline(always)]
 fn through_pair<L: Lane>(front: &[L], back: &[L], at: usize, first: L, last: L) -> usize
     requires front { at + L.COUNT ≤ length front.now }

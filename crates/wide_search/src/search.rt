@@ -2,9 +2,10 @@
 //!
 //! Each search begins in the plain way, which takes the least time if the needle is found soon: from the front it goes
 //! from one unit that is the needle's first to the next, and from the back it tries each offset. After some tries that
-//! fail it looks, in SIMD lanes, for offsets at which both the first and the last unit of the needle stand, and tries each
-//! offset again where both stand nearly everywhere. If too many units are compared in vain, as they may be where the
-//! needle repeats itself, the two-way search takes over.
+//! fail, from the front only if they lie close together, it looks, in SIMD lanes, for offsets at which both the first
+//! and the last unit of the needle stand. Where both stand nearly everywhere it tries each offset again, and where both
+//! stand nearly as often as the first alone, it goes on in the plain way. If too many units are compared in vain, as they
+//! may be where the needle repeats itself, the two-way search takes over.
 ghost use Rattle.std.specs.Prelude.{◌≡◌, ◌+◌, ◌-◌, ◌∷◌, ◌<◌, ◌≤◌, ℕ, List, IfNone, IfSome, IsTrue, length};
 ghost use Rattle.wide_search.specs.Occurrences.{IsFirstAt, IsLastAt, OccursAt, OccursNowhere};
 ghost use Rattle.wide_search.specs.Probes.{IsProbe};
@@ -18,80 +19,124 @@ use wide_unit::{Unit, first_of};
 // first.
 const UNITS_PER_TRY: usize = 64;
 
-// All units of the needle may be compared at a try. So many of them take about as long as it takes to pass over one
-// unit.
+// A long needle may be compared further at a try. For each so many of its units, the first unit may be passed over for
+// one unit more.
 const COMPARED_PER_UNIT: usize = 4;
 
-// From the front, so many tries fail before it is asked whether the search by two units would take less time.
+// From the front, so many tries fail after the first before it is asked whether the search by two units would take
+// less time.
 const FIRST_TRIES: usize = 16;
 
-// After a search by two units there are so few.
+// After a search by two units, so many tries at the first unit fail before that is asked again.
 const NEXT_TRIES: usize = 4;
 
-// If no more units are left from the front, or no more offsets from the back, the plain way alone is used.
+// After a search by two units that took no less time than tries at the first unit, so many fail.
+const BACK_TRIES: usize = 512;
+
+// A try that fails in a search by two units takes as long as so many at the first unit. So the search has to pass over so
+// many times the offsets from one first unit to the next.
+const FIRST_PER_PAIR: usize = 2;
+
+// If it does not do so for so many tries, it takes more time than tries at the first unit.
+const LEAST_PAIRS: usize = 8;
+
+// Where the first unit stands once in fewer units, it takes less time to try each offset than to look for it.
+const DENSE_GAP: usize = 4;
+
+// The plain way alone is used from the front where at most so many units are left, and from the back where fewer
+// offsets are left.
 pub(crate) const SHORT: usize = 48;
 
-// From the back, so many offsets are tried one by one after the last, before the search by two units begins.
+// From the back, so many offsets are tried one by one before the search by two units begins. A needle of more than one
+// unit has been tried at the last offset before.
 pub(crate) const NEAR_TRIES: usize = 32;
 
-// From the front, the first unit is looked for alone again after so many offsets at which not both units stand, and
-// after at least so many in all.
+// From the front, a search by two units goes on for at least so many offsets, or until not both units stand at any of
+// the next so many.
 const LEAST_PASSED: usize = 4096;
 
 // From the front, a search by two units passes over at least so many offsets for each unit of the needle, if it finds
 // tries to make. So the units that it compares in vain are few for each offset.
 const PASSED_PER_SOUGHT: usize = 16;
 
-// A search by two units may spend so much on tries in a row that fail, counted in offsets that could be tried one by
-// one instead. Each offset that is passed over restores one.
-const DENSE_CREDIT: usize = 16;
-
-// A try that fails in a search by two units costs as much as so many offsets that are tried one by one.
+// A try that fails in a search by two units takes as long as so many offsets that are tried one by one.
 const TRIED_PER_PAIR: usize = 8;
+
+// Where the first unit stands nearly everywhere, so many tries that follow each other closely show that both units do.
+const DENSE_PAIRS: usize = 2;
 
 // Where the two units stand nearly everywhere, at least so many offsets are tried one by one.
 const LEAST_TRIES: usize = 8;
 
-// If they still do after that, twice as many are tried, up to so many.
+// Each time both units still stand nearly everywhere after that, twice as many offsets are tried, up to so many.
 const MOST_TRIES: usize = 2048;
 
-// They do not where so many offsets are passed over.
+// The two units no longer stand nearly everywhere where so many offsets are passed over.
 const APART: usize = 16;
 
-// Where offsets are tried one by one, it is counted how many units match if the needle has at least so many. Else as
-// many are taken to match as before.
+// Where offsets are tried one by one, matching units are counted if the needle has at least so many. For a shorter one
+// each try is taken to match as many as the last one before.
 const LONG: usize = 16;
 
-// How many units may be compared in vain for each offset that was passed over. They take about as long as the two-way
-// search takes to pass over one.
+// No more offsets are tried one by one where so many units for each of the needle matched in vain.
+const MOST_COMPARED: usize = 64;
+
+// How many units may be compared in vain for each offset that was passed over. In blocks, they take about as long as the
+// two-way search takes to pass over one.
 const COMPARED_PER_PASSED: usize = 16;
 
-// A try at which fewer units match is not counted as one in vain. In ordinary text most are such, and take little time.
+// A try at which fewer than so many units match is not counted as one in vain. In ordinary text most are such, and take
+// little time.
 const LEAST_COUNTED: usize = 4;
 
-// To come to an offset and to begin to compare there takes about as long as to compare so many units.
+// To come to an offset and to begin to compare there takes about as long as to compare so many units in blocks.
 const COMPARED_PER_TRY: usize = 16;
 
 // The two-way search begins with a factorization of the needle. For each unit of the needle, that takes as long as it
 // takes to pass over so many units of the text.
 const PASSED_PER_FACTORED: usize = 4;
 
+// What follows a try that failed in a search by two units.
+#[derive(Clone, Copy)]
+enum Turn {
+    // The search goes on.
+    Pairs,
+    // Some offsets are tried one by one.
+    Each,
+    // The two-way search takes over.
+    TwoWay,
+    // The first unit is looked for alone again.
+    Back,
+}
+
 // What a search by two units has spent on tries that failed. It decides on time alone.
 #[derive(Clone, Copy)]
 struct Costs {
     // How many units were compared in vain.
     wasted: usize,
-    // What is left of the credit for tries in a row.
+    // What is left of the credit for tries that follow each other closely, what it may be at most, and what a try takes
+    // from it. Each offset that is passed over restores one.
     credit: usize,
-    // How many offsets are tried one by one once it is spent.
+    most: usize,
+    price: usize,
+    // How many offsets are tried one by one when the credit is spent.
     tries: usize,
 }
 
 impl Costs {
-    fn new() -> Self {
+    // Returns the costs before the first try, where the needle's first unit stands once in so many units.
+    fn new(gap: usize) -> Self {
+        let (price, count) = if gap < DENSE_GAP {
+            (TRIED_PER_PAIR, DENSE_PAIRS)
+        } else {
+            (gap.saturating_mul(FIRST_PER_PAIR), LEAST_PAIRS)
+        };
+        let most = price.saturating_mul(count);
         Costs {
             wasted: 0,
-            credit: DENSE_CREDIT,
+            credit: most,
+            most,
+            price,
             tries: LEAST_TRIES,
         }
     }
@@ -104,10 +149,12 @@ impl Costs {
         } else {
             matched.saturating_add(COMPARED_PER_TRY)
         };
-        let restored = self.credit.saturating_add(passed).min(DENSE_CREDIT);
+        let restored = self.credit.saturating_add(passed).min(self.most);
         Costs {
             wasted: self.wasted.saturating_add(wasted),
-            credit: restored.saturating_sub(TRIED_PER_PAIR),
+            credit: restored.saturating_sub(self.price),
+            most: self.most,
+            price: self.price,
             tries: if passed < APART {
                 self.tries
             } else {
@@ -116,8 +163,8 @@ impl Costs {
         }
     }
 
-    // Returns the costs after as many tries one by one as these say, in which so many units matched. If the next offset
-    // at which both units stand is near, twice as many follow it.
+    // Returns the costs after `tries` offsets were tried one by one, at which so many units matched. What is left of the
+    // credit pays for one more try. If that one is near, twice as many offsets are tried.
     fn after_tries(self, matched: usize) -> Self {
         let wasted = if matched / LEAST_COUNTED < self.tries {
             0
@@ -126,17 +173,32 @@ impl Costs {
         };
         Costs {
             wasted: self.wasted.saturating_add(wasted),
-            credit: TRIED_PER_PAIR,
+            credit: self.price,
+            most: self.most,
+            price: self.price,
             tries: self.tries.saturating_mul(2).min(MOST_TRIES),
         }
     }
 
-    // Returns whether so many units were compared in vain that the two-way search would have passed over the same
-    // offsets in less time, its factorization of the needle included. The last unit of the needle is at this distance
-    // from the first.
-    fn are_in_vain(self, passed: usize, distance: usize) -> bool {
+    // Returns what follows a try that failed, where so many offsets were passed over, the last unit of the needle is at
+    // this distance from the first, and the first stands once in so many units.
+    //
+    // The two-way search takes over if so many units were compared in vain that it would have passed over the same
+    // offsets in less time, its factorization of the needle included. If the credit is spent, tries at the first unit
+    // take less time, or tries at each offset where that unit stands nearly everywhere or the needle repeats itself.
+    fn turn(self, passed: usize, distance: usize, gap: usize) -> Turn {
         let saved = (self.wasted / COMPARED_PER_PASSED).saturating_sub(passed);
-        saved / PASSED_PER_FACTORED > distance
+        if saved / PASSED_PER_FACTORED > distance {
+            return Turn::TwoWay;
+        }
+        if self.credit > 0 {
+            return Turn::Pairs;
+        }
+        if gap < DENSE_GAP || saved > 0 || distance >= UNITS_PER_TRY {
+            Turn::Each
+        } else {
+            Turn::Back
+        }
     }
 }
 
@@ -168,8 +230,8 @@ fn skip_back<C: Unit>(units: &[C], end: usize, probe: Probe<C>) -> usize
 }
 
 // Searches on from an offset before which the needle does not occur, offset by offset, and makes so many tries, or
-// fewer at the end. At the last try before, so many units matched. Returns where it stopped, and how many units matched
-// where the needle does not occur.
+// fewer at the end or where too many units match. At the last try before, so many matched. Returns where it stopped, and
+// how many units matched in vain; for a short needle that is an estimate, as many at each try as at the one before.
 #[inline(never)]
 fn find_each<C: Unit, P: Needle<C>>(
     units: &[C],
@@ -193,7 +255,12 @@ fn find_each<C: Unit, P: Needle<C>>(
     } else {
         tries.wrapping_mul(matched)
     };
-    while at < end {
+    let most = if is_counted {
+        needle.len().saturating_mul(MOST_COMPARED)
+    } else {
+        usize::MAX
+    };
+    while at < end && all_matched <= most {
         let (_, here) = units.split_at(at);
         if is_counted {
             let matched = needle.shared(here);
@@ -210,59 +277,95 @@ fn find_each<C: Unit, P: Needle<C>>(
     (Stop::unfound(at), all_matched)
 }
 
-// Searches on from an offset before which the needle does not occur, where its first unit is frequent. Returns where it
-// stopped. Units are compared where both the first and the last unit stand, or at each offset if they stand nearly
-// everywhere. If too many were compared in vain, the two-way search takes over.
+// Searches on from an offset before which the needle does not occur, where its first unit is frequent: it stands once in
+// so many units. Returns where it stopped, and how many tries at the first unit should follow. Units are compared where
+// both the first and the last unit stand, or at each offset if they stand nearly everywhere. If too many were compared
+// in vain, the two-way search takes over.
 #[inline(never)]
-fn find_by_two<C: Unit, P: Needle<C>>(units: &[C], needle: P, from: usize) -> Stop
+fn find_by_two<C: Unit, P: Needle<C>>(
+    units: &[C],
+    needle: P,
+    from: usize,
+    gap: usize,
+) -> (Stop, usize)
     requires within { from ≤ length units.now }
     requires before { (k : ℕ) → k < from → ¬ (OccursAt (P.sought needle) units.now k) }
-    ensures after { from ≤ result.at }
-    ensures within { result.at ≤ length units.now }
-    ensures here { IsTrue result.is_found → OccursAt (P.sought needle) units.now result.at }
-    ensures before { (k : ℕ) → k < result.at → ¬ (OccursAt (P.sought needle) units.now k) }
+    ensures after { from ≤ result.0.at }
+    ensures within { result.0.at ≤ length units.now }
+    ensures here { IsTrue result.0.is_found → OccursAt (P.sought needle) units.now result.0.at }
+    ensures before { (k : ℕ) → k < result.0.at → ¬ (OccursAt (P.sought needle) units.now k) }
+    ensures some { 0 < result.1 }
 {
     let Some(probe) = needle.probe() else {
-        return Stop::found(from);
+        return (Stop::found(from), NEXT_TRIES);
     };
     let most = probe.distance.saturating_mul(PASSED_PER_SOUGHT);
     let last = units.len().saturating_sub(probe.distance);
     let end = from.saturating_add(most.max(LEAST_PASSED)).min(last);
+    let window = LEAST_PASSED.max(probe.distance);
     let mut at = from;
-    let mut costs = Costs::new();
+    let mut costs = Costs::new(gap);
     while at < end {
         let (_, rest) = units.split_at(at);
-        let count = LEAST_PASSED.min(end - at);
+        let count = window.min(end - at);
         let step = skip(rest, count, probe);
         if step == count {
-            return Stop::unfound(at + count);
+            return (Stop::unfound(at + count), NEXT_TRIES);
         }
         let (_, here) = rest.split_at(step);
         let matched = needle.matching(here);
         if matched > probe.distance {
-            return Stop::found(at + step);
+            return (Stop::found(at + step), NEXT_TRIES);
         }
         at += step + 1;
         costs = costs.after_try(step, matched);
-        if costs.are_in_vain(at - from, probe.distance) {
-            if let Some(sought) = needle.as_slice() {
-                return find_from(units, sought, at);
+        match costs.turn(at - from, probe.distance, gap) {
+            Turn::Pairs => {}
+            Turn::Each => {
+                let (stop, matched) = find_each(units, needle, at, costs.tries, matched);
+                if stop.is_found {
+                    return (stop, NEXT_TRIES);
+                }
+                (at, costs) = (stop.at, costs.after_tries(matched));
             }
-        }
-        if costs.credit == 0 {
-            let (stop, matched) = find_each(units, needle, at, costs.tries, matched);
-            if stop.is_found {
-                return stop;
+            Turn::TwoWay => {
+                // A needle of one or two units is never compared in vain.
+                if let Some(sought) = needle.as_slice() {
+                    return (find_from(units, sought, at), NEXT_TRIES);
+                }
             }
-            (at, costs) = (stop.at, costs.after_tries(matched));
+            Turn::Back => return (Stop::unfound(at), BACK_TRIES),
         }
     }
-    Stop::unfound(at)
+    (Stop::unfound(at), NEXT_TRIES)
 }
 
-// Searches on from an offset before which the needle does not occur, and makes at most so many tries, at offsets where
-// its first unit stands. Returns where it stopped: at the end if the needle does not occur.
+// Searches on from an offset before which the needle does not occur, and makes one try, where its first unit stands.
+// Returns where it found the needle, or the offset after the try, or the length if the needle does not occur.
 #[inline(always)]
+fn find_next<C: Unit, P: Needle<C>>(units: &[C], needle: P, first: C, from: usize) -> Stop
+    requires first { (rest : List C) × (P.sought needle ≡ first ∷ rest) }
+    requires within { from ≤ length units.now }
+    requires before { (k : ℕ) → k < from → ¬ (OccursAt (P.sought needle) units.now k) }
+    ensures after { from ≤ result.at }
+    ensures within { result.at ≤ length units.now }
+    ensures further { from < length units.now → ¬ (IsTrue result.is_found) → from < result.at }
+    ensures here { IsTrue result.is_found → OccursAt (P.sought needle) units.now result.at }
+    ensures before { (k : ℕ) → k < result.at → ¬ (OccursAt (P.sought needle) units.now k) }
+{
+    let (_, rest) = units.split_at(from);
+    let Some(step) = first_of(rest, first.code()) else {
+        return Stop::unfound(units.len());
+    };
+    let (_, here) = rest.split_at(step);
+    if needle.begins_at_first(here) {
+        return Stop::found(from + step);
+    }
+    Stop::unfound(from + step + 1)
+}
+
+// Searches on from an offset before which the needle does not occur, and makes at most so many tries where its first
+// unit stands. Returns where it found the needle, or where it stopped, which is the length if the needle does not occur.
 fn find_by_first<C: Unit, P: Needle<C>>(
     units: &[C],
     needle: P,
@@ -271,7 +374,6 @@ fn find_by_first<C: Unit, P: Needle<C>>(
     most: usize,
 ) -> Stop
     requires first { (rest : List C) × (P.sought needle ≡ first ∷ rest) }
-    requires fits { length (P.sought needle) ≤ length units.now }
     requires within { from ≤ length units.now }
     requires some { 0 < most }
     requires before { (k : ℕ) → k < from → ¬ (OccursAt (P.sought needle) units.now k) }
@@ -281,25 +383,17 @@ fn find_by_first<C: Unit, P: Needle<C>>(
     ensures here { IsTrue result.is_found → OccursAt (P.sought needle) units.now result.at }
     ensures before { (k : ℕ) → k < result.at → ¬ (OccursAt (P.sought needle) units.now k) }
 {
-    let last = units.len() - needle.len();
     let mut at = from;
     let mut tries = most;
-    while at <= last {
-        if tries == 0 {
-            return Stop::unfound(at);
+    while at < units.len() && tries > 0 {
+        let stop = find_next(units, needle, first, at);
+        if stop.is_found {
+            return stop;
         }
-        let (_, rest) = units.split_at(at);
-        let Some(step) = first_of(rest, first.code()) else {
-            return Stop::unfound(units.len());
-        };
-        let (_, here) = rest.split_at(step);
-        if needle.begins_at_first(here) {
-            return Stop::found(at + step);
-        }
-        at += step + 1;
+        at = stop.at;
         tries -= 1;
     }
-    Stop::unfound(units.len())
+    Stop::unfound(at)
 }
 
 // Searches on from an offset before which the needle does not occur. Returns the offset of its first occurrence, or
@@ -312,9 +406,6 @@ fn find_after<C: Unit, P: Needle<C>>(units: &[C], needle: P, first: C, from: usi
     ensures first { IfSome result (IsFirstAt (P.sought needle) units.now) }
     ensures none { IfNone result (OccursNowhere (P.sought needle) units.now) }
 {
-    if units.len() < needle.len() {
-        return None;
-    }
     let mut at = from;
     let mut tries = FIRST_TRIES;
     while at < units.len() {
@@ -325,23 +416,21 @@ fn find_after<C: Unit, P: Needle<C>>(units: &[C], needle: P, first: C, from: usi
         if stop.at == units.len() {
             return None;
         }
-        let passed = stop.at - at;
+        let gap = (stop.at - at) / tries;
         at = stop.at;
-        let per_try = UNITS_PER_TRY + needle.len() / COMPARED_PER_UNIT;
-        if passed < tries.saturating_mul(per_try) && units.len() - at > SHORT {
-            let stop = find_by_two(units, needle, at);
+        if gap < UNITS_PER_TRY + needle.len() / COMPARED_PER_UNIT && units.len() - at > SHORT {
+            let (stop, next) = find_by_two(units, needle, at, gap);
             if stop.is_found {
                 return Some(stop.at);
             }
-            at = stop.at;
-            tries = NEXT_TRIES;
+            (at, tries) = (stop.at, next);
         }
     }
     None
 }
 
-// Returns the offset of the first occurrence of the needle, or `None`. Most needles occur where their first unit does,
-// so that place is tried before anything is counted.
+// Returns the offset of the first occurrence of the needle, or `None`. Most needles are found at the first try, so that
+// is made before anything is counted.
 pub(crate) fn find_in<C: Unit, P: Needle<C>>(units: &[C], needle: P) -> Option<usize>
     ensures first { IfSome result (IsFirstAt (P.sought needle) units.now) }
     ensures none { IfNone result (OccursNowhere (P.sought needle) units.now) }
@@ -349,19 +438,20 @@ pub(crate) fn find_in<C: Unit, P: Needle<C>>(units: &[C], needle: P) -> Option<u
     let Some(first) = needle.first() else {
         return Some(0);
     };
-    let Some(at) = first_of(units, first.code()) else {
-        return None;
-    };
-    let (_, here) = units.split_at(at);
-    if needle.begins(here) {
-        return Some(at);
+    let stop = find_next(units, needle, first, 0);
+    if stop.is_found {
+        return Some(stop.at);
     }
-    find_after(units, needle, first, at + 1)
+    if stop.at == units.len() {
+        return None;
+    }
+    find_after(units, needle, first, stop.at)
 }
 
 // Searches back from an offset from which on the needle does not occur, offset by offset, and makes so many tries, or
-// fewer at the end. At the last try before, so many units matched. Returns where it stopped, which is the offset after
-// the needle's if it was found, and how many units matched where the needle does not occur.
+// fewer at the beginning or where too many units match. At the last try before, so many matched. Returns where it
+// stopped, which is the offset after the needle's if it was found, and how many units matched in vain; for a short needle
+// that is an estimate, as many at each try as at the one before.
 #[inline(never)]
 fn rfind_each<C: Unit, P: Needle<C>>(
     units: &[C],
@@ -384,7 +474,12 @@ fn rfind_each<C: Unit, P: Needle<C>>(
     } else {
         tries.wrapping_mul(matched)
     };
-    while at > last {
+    let most = if is_counted {
+        needle.len().saturating_mul(MOST_COMPARED)
+    } else {
+        usize::MAX
+    };
+    while at > last && all_matched <= most {
         let (_, here) = units.split_at(at - 1);
         if is_counted {
             let matched = needle.shared(here);
@@ -420,7 +515,7 @@ pub(crate) fn rfind_by_two<C: Unit, P: Needle<C>>(
     };
     let mut at = end;
     let mut since = end;
-    let mut costs = Costs::new();
+    let mut costs = Costs::new(0);
     while at > 0 {
         let found = skip_back(units, at, probe);
         if found == 0 {
@@ -433,28 +528,31 @@ pub(crate) fn rfind_by_two<C: Unit, P: Needle<C>>(
         }
         costs = costs.after_try(at - found, matched);
         at = found - 1;
-        if costs.are_in_vain(since - at, probe.distance) {
-            if let Some(sought) = needle.as_slice() {
-                let stop = rfind_before(units, sought, at);
+        match costs.turn(since - at, probe.distance, 0) {
+            Turn::Pairs | Turn::Back => {}
+            Turn::Each => {
+                let (stop, matched) = rfind_each(units, needle, at, costs.tries, matched);
                 if stop.is_found {
                     return Some(stop.at - 1);
                 }
-                (at, since, costs) = (stop.at, stop.at, Costs::new());
+                (at, costs) = (stop.at, costs.after_tries(matched));
             }
-        }
-        if costs.credit == 0 {
-            let (stop, matched) = rfind_each(units, needle, at, costs.tries, matched);
-            if stop.is_found {
-                return Some(stop.at - 1);
+            Turn::TwoWay => {
+                if let Some(sought) = needle.as_slice() {
+                    let stop = rfind_before(units, sought, at);
+                    if stop.is_found {
+                        return Some(stop.at - 1);
+                    }
+                    (at, since, costs) = (stop.at, stop.at, Costs::new(0));
+                }
             }
-            (at, costs) = (stop.at, costs.after_tries(matched));
         }
     }
     None
 }
 
-// Returns the offset of the last occurrence of the needle, or `None`. The last few offsets are tried one by one, and in
-// a short text all.
+// Returns the offset of the last occurrence of the needle, or `None`. The last few offsets are tried one by one, or all
+// if there are few.
 pub(crate) fn rfind_in<C: Unit, P: Needle<C>>(units: &[C], needle: P) -> Option<usize>
     ensures last { IfSome result (IsLastAt (P.sought needle) units.now) }
     ensures none { IfNone result (OccursNowhere (P.sought needle) units.now) }

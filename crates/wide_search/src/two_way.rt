@@ -94,8 +94,8 @@ fn stands_nearby<C: Unit, S: Side>(units: &[C], needle: &[C], at: usize) -> bool
 // end, or where the text may no longer repeat itself. Offsets and units are counted from the side.
 //
 // The second part of the needle is compared before the first part. A difference in it rules out as many offsets as
-// units were compared. If only the first part differs, the next offset is at least a period further, and the units that
-// the needle has in common with itself at this distance are not compared again.
+// units were compared. If only the first part differs, the next offset is at least a period further; if the needle has
+// the period of its second part, the units that it has in common with itself at this distance are not compared again.
 #[inline(never)]
 fn next_occurrence<C: Unit, S: Side>(units: &[C], needle: &[C], from: usize) -> Stop
     requires some { 0 < length needle.now }

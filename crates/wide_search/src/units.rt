@@ -54,10 +54,11 @@ pub fn strip_suffix<'a, C: Unit>(units: &'a [C], needle: &[C]) -> Option<&'a [C]
 /// Returns the offset in units of the first occurrence of the needle, or `None` if it does not occur. An empty needle
 /// occurs at the beginning.
 ///
-/// The search for the first unit of the needle is vectorized, and where that unit is frequent, the search for an offset
-/// at which the last one stands as well. Only there are units compared, up to the first difference. If too many are
-/// compared in vain, as they may be if the needle repeats itself, the two-way search passes the next offsets. So the
-/// worst case is linear in both lengths, and no memory is allocated.
+/// The search for the first unit of the needle is vectorized. Where it stands, the last unit is compared, and then the
+/// others up to the first that differs. Where the first unit is frequent, the search is for offsets at which the last one
+/// stands as well, and where both stand nearly everywhere each offset is tried. If too many units are compared in vain,
+/// as they may be if the needle repeats itself, the two-way search passes the next offsets. So the worst case is linear
+/// in both lengths, and no memory is allocated.
 pub fn find<C: Unit>(units: &[C], needle: &[C]) -> Option<usize>
     ensures first { IfSome result (IsFirstAt needle.now units.now) }
     ensures none { IfNone result (OccursNowhere needle.now units.now) }
