@@ -173,7 +173,7 @@ fn last_in<L: Lane>(front: &[L], back: &[L], first: L, last: L) -> usize
 }
 
 // Returns the first index at which `first` stands in the one list and `last` in the other, or the length. It reads both
-// lists up to there.
+// lists up to there, and to the end of the block.
 #[inline(always)]
 pub(crate) fn first_pair<C: Unit>(front: &[C], back: &[C], first: C, last: C) -> usize
     requires { length front.now ≡ length back.now }

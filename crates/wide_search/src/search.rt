@@ -3,9 +3,10 @@
 //! Each search begins in the plain way, which takes the least time if the needle is found soon: from the front it goes
 //! from one unit that is the needle's first to the next, and from the back it tries each offset. After some tries that
 //! fail, from the front only if they lie close together, it looks, in SIMD lanes, for offsets at which both the first
-//! and the last unit of the needle stand. Where both stand nearly everywhere it tries each offset again, and where both
-//! stand nearly as often as the first alone, it goes on in the plain way. If too many units are compared in vain, as they
-//! may be where the needle repeats itself, the two-way search takes over.
+//! and the last unit of the needle stand. Where both stand nearly everywhere it tries offset by offset again. From the
+//! front, where both stand nearly as often as the first alone, it looks for the first alone again, unless the needle is
+//! long. If too many units are compared in vain, as they may be where the needle repeats itself, the two-way search takes
+//! over.
 ghost use Rattle.std.specs.Prelude.{◌≡◌, ◌+◌, ◌-◌, ◌∷◌, ◌<◌, ◌≤◌, ℕ, List, IfNone, IfSome, IsTrue, length};
 ghost use Rattle.wide_search.specs.Occurrences.{IsFirstAt, IsLastAt, OccursAt, OccursNowhere};
 ghost use Rattle.wide_search.specs.Probes.{IsProbe};
@@ -19,8 +20,8 @@ use wide_unit::{Unit, first_of};
 // first.
 const UNITS_PER_TRY: usize = 64;
 
-// A long needle may be compared further at a try. For each so many of its units, the first unit may be passed over for
-// one unit more.
+// A long needle may be compared further at a try. So for each so many of its units, one unit more may be passed over for
+// each try.
 const COMPARED_PER_UNIT: usize = 4;
 
 // From the front, so many tries fail after the first before it is asked whether the search by two units would take
@@ -30,11 +31,16 @@ const FIRST_TRIES: usize = 16;
 // After a search by two units, so many tries at the first unit fail before that is asked again.
 const NEXT_TRIES: usize = 4;
 
-// After a search by two units that took no less time than tries at the first unit, so many fail.
+// After a search by two units that took no less time than tries at the first unit, so many of these fail before that is
+// asked again, but fewer for a long needle.
 const BACK_TRIES: usize = 512;
 
-// A try that fails in a search by two units takes as long as so many at the first unit. So the search has to pass over so
-// many times the offsets from one first unit to the next.
+// A needle whose last unit is at least so far from the first does not go back to tries at the first unit, each of which
+// may compare all of it.
+const LONGEST_BACK: usize = 512;
+
+// A try that fails in a search by two units takes as long as so many at the first unit. So for each try the search has to
+// pass over so many times the offsets from one first unit to the next.
 const FIRST_PER_PAIR: usize = 2;
 
 // If it does not do so for so many tries, it takes more time than tries at the first unit.
@@ -47,16 +53,16 @@ const DENSE_GAP: usize = 4;
 // offsets are left.
 pub(crate) const SHORT: usize = 48;
 
-// From the back, so many offsets are tried one by one before the search by two units begins. A needle of more than one
-// unit has been tried at the last offset before.
+// From the back, so many offsets are tried one by one before the search by two units begins. `rfind_in` has tried the
+// last offset before.
 pub(crate) const NEAR_TRIES: usize = 32;
 
-// From the front, a search by two units goes on for at least so many offsets, or until not both units stand at any of
-// the next so many.
+// From the front, a search by two units ends after so many offsets, or later for a long needle. It ends before where not
+// both units stand at any of the next so many, or of as many as the last unit is from the first if these are more.
 const LEAST_PASSED: usize = 4096;
 
-// From the front, a search by two units passes over at least so many offsets for each unit of the needle, if it finds
-// tries to make. So the units that it compares in vain are few for each offset.
+// From the front, a search by two units for a long needle ends after so many offsets for each unit that the last one is
+// from the first. So the units that it compares in vain are few for each offset.
 const PASSED_PER_SOUGHT: usize = 16;
 
 // A try that fails in a search by two units takes as long as so many offsets that are tried one by one.
@@ -163,13 +169,13 @@ impl Costs {
         }
     }
 
-    // Returns the costs after `tries` offsets were tried one by one, at which so many units matched. What is left of the
-    // credit pays for one more try. If that one is near, twice as many offsets are tried.
-    fn after_tries(self, matched: usize) -> Self {
-        let wasted = if matched / LEAST_COUNTED < self.tries {
+    // Returns the costs after so many offsets were tried one by one, at which so many units matched. The credit then pays
+    // for one more try. If the next ones are near, twice as many offsets are tried.
+    fn after_tries(self, tried: usize, matched: usize) -> Self {
+        let wasted = if matched / LEAST_COUNTED < tried {
             0
         } else {
-            matched.saturating_add(self.tries.saturating_mul(COMPARED_PER_TRY))
+            matched.saturating_add(tried.saturating_mul(COMPARED_PER_TRY))
         };
         Costs {
             wasted: self.wasted.saturating_add(wasted),
@@ -180,8 +186,9 @@ impl Costs {
         }
     }
 
-    // Returns what follows a try that failed, where so many offsets were passed over, the last unit of the needle is at
-    // this distance from the first, and the first stands once in so many units.
+    // Returns what follows a try that failed, where so many offsets were passed over since the search began or the two-way
+    // search stopped, the last unit of the needle is at this distance from the first, and the first stands once in so many
+    // units.
     //
     // The two-way search takes over if so many units were compared in vain that it would have passed over the same
     // offsets in less time, its factorization of the needle included. If the credit is spent, tries at the first unit
@@ -194,10 +201,12 @@ impl Costs {
         if self.credit > 0 {
             return Turn::Pairs;
         }
-        if gap < DENSE_GAP || saved > 0 || distance >= UNITS_PER_TRY {
+        if gap < DENSE_GAP || saved > 0 {
             Turn::Each
-        } else {
+        } else if distance < LONGEST_BACK {
             Turn::Back
+        } else {
+            Turn::Pairs
         }
     }
 }
@@ -279,8 +288,8 @@ fn find_each<C: Unit, P: Needle<C>>(
 
 // Searches on from an offset before which the needle does not occur, where its first unit is frequent: it stands once in
 // so many units. Returns where it stopped, and how many tries at the first unit should follow. Units are compared where
-// both the first and the last unit stand, or at each offset if they stand nearly everywhere. If too many were compared
-// in vain, the two-way search takes over.
+// both the first and the last unit stand, or at each offset if they stand nearly everywhere. Where both stand nearly as
+// often as the first alone, it stops. If too many were compared in vain, the two-way search takes over.
 #[inline(never)]
 fn find_by_two<C: Unit, P: Needle<C>>(
     units: &[C],
@@ -326,7 +335,7 @@ fn find_by_two<C: Unit, P: Needle<C>>(
                 if stop.is_found {
                     return (stop, NEXT_TRIES);
                 }
-                (at, costs) = (stop.at, costs.after_tries(matched));
+                (at, costs) = (stop.at, costs.after_tries(stop.at - at, matched));
             }
             Turn::TwoWay => {
                 // A needle of one or two units is never compared in vain.
@@ -334,14 +343,18 @@ fn find_by_two<C: Unit, P: Needle<C>>(
                     return (find_from(units, sought, at), NEXT_TRIES);
                 }
             }
-            Turn::Back => return (Stop::unfound(at), BACK_TRIES),
+            Turn::Back => {
+                let next = BACK_TRIES / (1 + needle.len() / UNITS_PER_TRY);
+                return (Stop::unfound(at), next.max(NEXT_TRIES));
+            }
         }
     }
     (Stop::unfound(at), NEXT_TRIES)
 }
 
 // Searches on from an offset before which the needle does not occur, and makes one try, where its first unit stands.
-// Returns where it found the needle, or the offset after the try, or the length if the needle does not occur.
+// Returns where it found the needle, or the offset after the try, or the length if the first unit stands nowhere any
+// more.
 #[inline(always)]
 fn find_next<C: Unit, P: Needle<C>>(units: &[C], needle: P, first: C, from: usize) -> Stop
     requires first { (rest : List C) × (P.sought needle ≡ first ∷ rest) }
@@ -365,7 +378,7 @@ fn find_next<C: Unit, P: Needle<C>>(units: &[C], needle: P, first: C, from: usiz
 }
 
 // Searches on from an offset before which the needle does not occur, and makes at most so many tries where its first
-// unit stands. Returns where it found the needle, or where it stopped, which is the length if the needle does not occur.
+// unit stands. Returns where it found the needle, or where it stopped. If that is the length, the needle does not occur.
 fn find_by_first<C: Unit, P: Needle<C>>(
     units: &[C],
     needle: P,
@@ -529,13 +542,14 @@ pub(crate) fn rfind_by_two<C: Unit, P: Needle<C>>(
         costs = costs.after_try(at - found, matched);
         at = found - 1;
         match costs.turn(since - at, probe.distance, 0) {
+            // With a gap of 0 it is never `Back`.
             Turn::Pairs | Turn::Back => {}
             Turn::Each => {
                 let (stop, matched) = rfind_each(units, needle, at, costs.tries, matched);
                 if stop.is_found {
                     return Some(stop.at - 1);
                 }
-                (at, costs) = (stop.at, costs.after_tries(matched));
+                (at, costs) = (stop.at, costs.after_tries(at - stop.at, matched));
             }
             Turn::TwoWay => {
                 if let Some(sought) = needle.as_slice() {

@@ -56,9 +56,10 @@ pub fn strip_suffix<'a, C: Unit>(units: &'a [C], needle: &[C]) -> Option<&'a [C]
 ///
 /// The search for the first unit of the needle is vectorized. Where it stands, the last unit is compared, and then the
 /// others up to the first that differs. Where the first unit is frequent, the search is for offsets at which the last one
-/// stands as well, and where both stand nearly everywhere each offset is tried. If too many units are compared in vain,
-/// as they may be if the needle repeats itself, the two-way search passes the next offsets. So the worst case is linear
-/// in both lengths, and no memory is allocated.
+/// stands as well. Where both stand nearly everywhere each offset is tried, and where they stand nearly as often as the
+/// first alone, that is looked for again. If too many units are compared in vain, as they may be if the needle repeats
+/// itself, the two-way search passes the next offsets. So the worst case is linear in both lengths, and no memory is
+/// allocated.
 pub fn find<C: Unit>(units: &[C], needle: &[C]) -> Option<usize>
     ensures first { IfSome result (IsFirstAt needle.now units.now) }
     ensures none { IfNone result (OccursNowhere needle.now units.now) }
@@ -74,7 +75,9 @@ pub fn find<C: Unit>(units: &[C], needle: &[C]) -> Option<usize>
 /// Returns the offset in units of the last occurrence of the needle, or `None` if it does not occur. An empty needle
 /// occurs at the end.
 ///
-/// The search is vectorized like that of [`find`], and goes from the back. The worst case is linear too.
+/// The last offsets are tried one by one. Then the search is for offsets at which both the first and the last unit of the
+/// needle stand; it is vectorized, and goes from the back. Where too many units are compared in vain it does as [`find`]
+/// does, so the worst case is linear too, and no memory is allocated.
 pub fn rfind<C: Unit>(units: &[C], needle: &[C]) -> Option<usize>
     ensures last { IfSome result (IsLastAt needle.now units.now) }
     ensures none { IfNone result (OccursNowhere needle.now units.now) }
