@@ -36,6 +36,21 @@ fn are_same<C: Unit>(left: &[C], right: &[C]) -> bool
     true
 }
 
+// Returns the same as `are_same`. The first units are compared by a branch of their own, which processors predict better
+// where they are often the same and the next ones are not.
+#[inline(always)]
+fn are_same_from_first<C: Unit>(left: &[C], right: &[C]) -> bool
+    requires { length left.now ≡ length right.now }
+    ensures { IsTrue result ↔ (left.now ≡ right.now) }
+{
+    match (left, right) {
+        ([first, left @ ..], [other, right @ ..]) => {
+            first.code() == other.code() && are_same(left, right)
+        }
+        _ => true,
+    }
+}
+
 // Returns how many units at the beginning of two slices of the same length are the same. They are compared one by one.
 #[inline(always)]
 fn shared_prefix<C: Unit>(left: &[C], right: &[C]) -> usize
@@ -134,7 +149,7 @@ impl<C: Unit> Needle<C> for Slice<'_, C> {
             return false;
         }
         let (prefix, _) = units.split_at(self.units.len());
-        are_same(prefix, self.units)
+        are_same_from_first(prefix, self.units)
     }
 
     fn begins_at_first(self, units: &[C]) -> bool {
