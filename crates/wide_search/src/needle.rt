@@ -107,6 +107,10 @@ pub(crate) trait Needle<C: Unit>: Copy {
     fn begins_at_first(self, units: &[C]) -> bool
         ensures { IsTrue result ↔ OccursAt (sought self) units.now 0 };
 
+    // Returns whether other units may begin with these: whether the first two units are the same.
+    fn may_begin(self, units: &[C]) -> bool
+        ensures { OccursAt (sought self) units.now 0 → IsTrue result };
+
     // Returns how many units at the beginning are those of the needle, and compares them one by one. If there are fewer
     // units than those of the needle, it may return a smaller number.
     fn shared(self, units: &[C]) -> usize
@@ -158,6 +162,16 @@ impl<C: Unit> Needle<C> for Slice<'_, C> {
         }
         let (prefix, _) = units.split_at(self.units.len());
         end_alike(prefix, self.units) && are_same(prefix, self.units)
+    }
+
+    #[inline(always)]
+    fn may_begin(self, units: &[C]) -> bool {
+        match (self.units, units) {
+            ([first, second, ..], [other, next, ..]) => {
+                first.code() == other.code() && second.code() == next.code()
+            }
+            _ => true,
+        }
     }
 
     fn shared(self, units: &[C]) -> usize {
@@ -242,6 +256,10 @@ impl<C: Unit> Needle<C> for Few<C> {
     }
 
     fn begins_at_first(self, units: &[C]) -> bool {
+        self.begins(units)
+    }
+
+    fn may_begin(self, units: &[C]) -> bool {
         self.begins(units)
     }
 

@@ -3,7 +3,7 @@
 //! Each search begins in the plain way, which takes the least time if the needle is found soon: from the front it goes
 //! from one unit that is the needle's first to the next, and from the back it tries each offset. After some tries that
 //! fail, from the front only if they lie close together, it looks, in SIMD lanes, for offsets at which both the first
-//! and the last unit of the needle stand. Where both stand nearly everywhere it tries offset by offset again. From the
+//! and the last unit of the needle stand. Where both stand nearly everywhere it tries some offsets one by one. From the
 //! front, where both stand nearly as often as the first alone, it looks for the first alone again, unless the needle is
 //! long. If too many units are compared in vain, as they may be where the needle repeats itself, the two-way search takes
 //! over.
@@ -32,7 +32,7 @@ const FIRST_TRIES: usize = 16;
 const NEXT_TRIES: usize = 4;
 
 // After a search by two units that took no less time than tries at the first unit, so many of these fail before that is
-// asked again, but fewer for a long needle.
+// asked again, or fewer for a needle of 64 units and more, at each of which more may be compared.
 const BACK_TRIES: usize = 512;
 
 // A needle whose last unit is at least so far from the first does not go back to tries at the first unit, each of which
@@ -43,14 +43,15 @@ const LONGEST_BACK: usize = 512;
 // pass over so many times the offsets from one first unit to the next.
 const FIRST_PER_PAIR: usize = 2;
 
-// If it does not do so for so many tries, it takes more time than tries at the first unit.
-const LEAST_PAIRS: usize = 8;
+// The credit is that of so many tries. Each offset that is passed over restores some of it, so about twice as many are
+// made before tries at the first unit are taken to need less time.
+const LEAST_PAIRS: usize = 4;
 
 // Where the first unit stands once in fewer units, it takes less time to try each offset than to look for it.
 const DENSE_GAP: usize = 4;
 
-// The plain way alone is used from the front where at most so many units are left, and from the back where fewer
-// offsets are left.
+// The plain way alone is used from the front where at most so many units more than the needle has are left, and from the
+// back where fewer offsets are left.
 pub(crate) const SHORT: usize = 48;
 
 // From the back, so many offsets are tried one by one before the search by two units begins. `rfind_in` has tried the
@@ -65,7 +66,8 @@ const LEAST_PASSED: usize = 4096;
 // from the first. So the units that it compares in vain are few for each offset.
 const PASSED_PER_SOUGHT: usize = 16;
 
-// A try that fails in a search by two units takes as long as so many offsets that are tried one by one.
+// For a needle of fewer than `LONG` units, a try that fails in a search by two units takes as long as so many offsets
+// that are tried one by one.
 const TRIED_PER_PAIR: usize = 8;
 
 // Where the first unit stands nearly everywhere, so many tries that follow each other closely show that both units do.
@@ -88,7 +90,7 @@ const LONG: usize = 16;
 const MOST_COMPARED: usize = 64;
 
 // How many units may be compared in vain for each offset that was passed over. In blocks, they take about as long as the
-// two-way search takes to pass over one.
+// two-way search takes to pass over one; one by one they take longer.
 const COMPARED_PER_PASSED: usize = 16;
 
 // A try at which fewer than so many units match is not counted as one in vain. In ordinary text most are such, and take
@@ -192,7 +194,8 @@ impl Costs {
     //
     // The two-way search takes over if so many units were compared in vain that it would have passed over the same
     // offsets in less time, its factorization of the needle included. If the credit is spent, tries at the first unit
-    // take less time, or tries at each offset where that unit stands nearly everywhere or the needle repeats itself.
+    // take less time, unless the needle is long, or tries at each offset where that unit stands nearly everywhere or the
+    // needle repeats itself.
     fn turn(self, passed: usize, distance: usize, gap: usize) -> Turn {
         let saved = (self.wasted / COMPARED_PER_PASSED).saturating_sub(passed);
         if saved / PASSED_PER_FACTORED > distance {
@@ -272,12 +275,15 @@ fn find_each<C: Unit, P: Needle<C>>(
     while at < end && all_matched <= most {
         let (_, here) = units.split_at(at);
         if is_counted {
-            let matched = needle.shared(here);
-            if matched == needle.len() {
-                return (Stop::found(at), all_matched);
+            // Fewer than two units that match are not counted.
+            if needle.may_begin(here) {
+                let matched = needle.shared(here);
+                if matched == needle.len() {
+                    return (Stop::found(at), all_matched);
+                }
+                // A sum that wraps would change the time alone.
+                all_matched = all_matched.wrapping_add(matched);
             }
-            // A sum that wraps would change the time alone.
-            all_matched = all_matched.wrapping_add(matched);
         } else if needle.begins(here) {
             return (Stop::found(at), all_matched);
         }
@@ -431,7 +437,8 @@ fn find_after<C: Unit, P: Needle<C>>(units: &[C], needle: P, first: C, from: usi
         }
         let gap = (stop.at - at) / tries;
         at = stop.at;
-        if gap < UNITS_PER_TRY + needle.len() / COMPARED_PER_UNIT && units.len() - at > SHORT {
+        let is_frequent = gap < UNITS_PER_TRY + needle.len() / COMPARED_PER_UNIT;
+        if is_frequent && units.len() - at > needle.len().saturating_add(SHORT) {
             let (stop, next) = find_by_two(units, needle, at, gap);
             if stop.is_found {
                 return Some(stop.at);
@@ -495,12 +502,15 @@ fn rfind_each<C: Unit, P: Needle<C>>(
     while at > last && all_matched <= most {
         let (_, here) = units.split_at(at - 1);
         if is_counted {
-            let matched = needle.shared(here);
-            if matched == needle.len() {
-                return (Stop::found(at), all_matched);
+            // Fewer than two units that match are not counted.
+            if needle.may_begin(here) {
+                let matched = needle.shared(here);
+                if matched == needle.len() {
+                    return (Stop::found(at), all_matched);
+                }
+                // A sum that wraps would change the time alone.
+                all_matched = all_matched.wrapping_add(matched);
             }
-            // A sum that wraps would change the time alone.
-            all_matched = all_matched.wrapping_add(matched);
         } else if needle.begins(here) {
             return (Stop::found(at), all_matched);
         }

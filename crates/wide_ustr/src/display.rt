@@ -3,7 +3,7 @@ ghost use Rattle.std.specs.Prelude.{map, Some};
 ghost use Rattle.wide_unit.specs.Texts.{display_text, skipping_text, debug_output, lossy_debug_output};
 ghost use Rattle.wide_ustr.specs.View.{units_seen};
 
-use crate::escaped::write_debug_char;
+use crate::escaped::{write_char, write_debug_char};
 use crate::iter::{Chars, CharsLossy};
 use crate::lossy_with::CharsLossyWith;
 use crate::view::UStr;
@@ -32,7 +32,7 @@ impl<C: Unit> fmt::Display for Display<'_, C> {
 
     fn fmt<W: fmt::Write>(&self, f: &mut fmt::Formatter<W>) -> fmt::Result {
         for c in self.view.chars_lossy() {
-            f.write_char(c)?;
+            write_char(f, c)?;
         }
         Ok(())
     }
@@ -60,7 +60,7 @@ impl<C: Unit> fmt::Display for DisplaySkipping<'_, C> {
     fn fmt<W: fmt::Write>(&self, f: &mut fmt::Formatter<W>) -> fmt::Result {
         for shown in self.view.chars_lossy() {
             if shown != char::REPLACEMENT_CHARACTER {
-                f.write_char(shown)?;
+                write_char(f, shown)?;
             }
         }
         Ok(())

@@ -1,5 +1,5 @@
-//! Writes a character to a formatter as `{:?}` escapes it.
-ghost use Rattle.std.specs.Prelude.{◌∷◌, ◌<◌, ℕ, List, [], encode_utf8_all, IsTrue};
+//! Writes a character to a formatter, as it is or as `{:?}` escapes it.
+ghost use Rattle.std.specs.Prelude.{◌∷◌, ◌<◌, ℕ, List, [], encode_utf8, encode_utf8_all, IsTrue};
 ghost use Rattle.std.specs.Char.Escape.{IsEscapeDebug};
 ghost use Rattle.std.specs.Fmt.{WritesStyledOnOk};
 
@@ -39,6 +39,16 @@ fn is_unescaped(c: char) -> bool
     }
 }
 
+// Writes a character, in one write as `write_char` of the formatter does. That one first tests whether its bytes are
+// UTF-8, and is a call wherever the compiler doesn't inline it.
+#[inline(always)]
+pub(crate) fn write_char<W: fmt::Write>(f: &mut fmt::Formatter<W>, c: char) -> fmt::Result
+    ensures { WritesStyledOnOk W.write_str_gives f.old result (encode_utf8 c) f.new }
+{
+    let mut bytes = [0; 4];
+    f.write_str(c.encode_utf8(&mut bytes))
+}
+
 // Writes a character as `{:?}` escapes it: each character of the escape by a write of its own. A look-up in std's
 // tables takes some hundred nanoseconds, so there is at most one, and none for the most frequent characters.
 #[inline(always)]
@@ -46,7 +56,7 @@ pub(crate) fn write_debug_char<W: fmt::Write>(f: &mut fmt::Formatter<W>, c: char
     ensures { (xs : List ℕ) × IsEscapeDebug c xs × WritesStyledOnOk W.write_str_gives f.old result (encode_utf8_all xs) f.new }
 {
     if is_unescaped(c) {
-        f.write_char(c)
+        write_char(f, c)
     } else {
         write_escape(f, c.escape_debug())
     }

@@ -7,5 +7,5 @@ pub returns-then-is_unescaped : goal.returns-then-is_unescaped
 returns-then-is_unescaped g c = (
   c.args.c ∷ [],
   c.if-is_unescaped.ensures (refl {a = true}),
-  λ flush fine. subst (λ bs. HasWrittenStyled g.W.Write.write_str_gives c.args.f.now bs c.write_char.new.self) (sym (append-nil (encode_utf8 c.args.c))) (c.write_char.ensures.styled flush fine),
+  λ flush fine. subst (λ bs. HasWrittenStyled g.W.Write.write_str_gives c.args.f.now bs c.write_char.new.f) (sym (append-nil (encode_utf8 c.args.c))) (c.write_char.ensures flush fine),
 )

@@ -12,7 +12,7 @@ pub loop-c-preserved : goal.loop-c-preserved
 loop-c-preserved g c = λ flush.
     let left = lossy_left g.C.Unit.form g.C.Unit.number in
     let so_far = c.loop-c.invariant flush in
-    styled-more (encode_utf8 c.in-Some.c) (utf8 (left c.next.new.self)) so_far (c.in_ok-write_char.ensures.styled so_far.wrote.flush (refl {a = true}))
+    styled-more (encode_utf8 c.in-Some.c) (utf8 (left c.next.new.self)) so_far (c.in_ok-write_char.ensures so_far.wrote.flush (refl {a = true}))
     (ap utf8 c.in-Some.ensures.steps ∙ ap (λ bs. bs ++ utf8 (left c.next.new.self)) (utf8_bytes-encode_utf8 c.in-Some.c))
 
 pub returns-clause-writes : goal.returns-clause-writes

@@ -22,7 +22,7 @@ pub loop-shown-preserved-in-Continue-1 : goal.loop-shown-preserved-in-Continue-1
 loop-shown-preserved-in-Continue-1 g c = λ flush.
     let rest = lossy_left g.C.Unit.form g.C.Unit.number c.next.new.self in
     let so_far = c.loop-shown.invariant flush in
-    styled-more (encode_utf8 c.in-Some.shown) (utf8 (filter is_kept rest)) so_far (c.in_ok-write_char.ensures.styled so_far.wrote.flush (refl {a = true}))
+    styled-more (encode_utf8 c.in-Some.shown) (utf8 (filter is_kept rest)) so_far (c.in_ok-write_char.ensures so_far.wrote.flush (refl {a = true}))
     (ap (λ cs. utf8 (filter is_kept cs)) c.in-Some.ensures.steps ∙ ap utf8 (kept-yes c.in-Some.shown rest c.if-shown-ne-REPLACEMENT_CHARACTER.true) ∙ ap (λ bs. bs ++ utf8 (filter is_kept rest)) (utf8_bytes-encode_utf8 c.in-Some.shown))
 
 pub returns-clause-writes : goal.returns-clause-writes
