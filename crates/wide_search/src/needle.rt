@@ -107,7 +107,8 @@ pub(crate) trait Needle<C: Unit>: Copy {
     fn begins_at_first(self, units: &[C]) -> bool
         ensures { IsTrue result ↔ OccursAt (sought self) units.now 0 };
 
-    // Returns whether other units may begin with these: whether the first two units are the same.
+    // Returns false only if other units don't begin with these. It compares the first two units, and may return true where
+    // there are fewer.
     fn may_begin(self, units: &[C]) -> bool
         ensures { OccursAt (sought self) units.now 0 → IsTrue result };
 
