@@ -1,6 +1,6 @@
 -- Occurrences of a needle, in the form that loops need.
 use Rattle.std.proofs.Common.{◌≡◌, ◌≢◌, ℕ, zero, suc, ◌+◌, ◌-◌, ◌<◌, ◌≤◌, List, [], ◌∷◌, ◌++◌, inl, inr, refl, sym, ◌∙◌, ap, subst, arith, length, length-append, length-drop, get_or, take, drop, IfNone}
-use Rattle.std.specs.Prelude.{◌↔◌, ◌==◌, Option, Some, None, true, false}
+use Rattle.std.specs.Prelude.{◌↔◌, ◌==◌, Option, Some, None, true, false, map, slice_index}
 use Rattle.std.specs.List.{All}
 use Rattle.std.proofs.lemmas.Bool.{cases_lt}
 use Rattle.std.proofs.lemmas.List.{take-append-drop, take_all, nil_from_length}
@@ -83,6 +83,12 @@ module _ {X : Type 0} (number : X → ℕ) where
 
     pub before-reported : (n : ℕ) → All (λ x. number x ≢ v) (take n left) → (offset : ℕ) → offset < at + n → ¬ (OccursAt needle us offset)
     before-reported n all = none-before needle us tail u at n e (subst (λ m. All (λ x. number x ≢ m) (take n (drop at us))) code (subst (λ xs. All (λ x. number x ≢ v) (take n xs)) rest all)) before
+
+  -- Where the number of a unit stands, the units begin as a needle does that begins with it.
+  pub first-alike : ((x y : X) → number x ≡ number y → x ≡ y) → (u : X) (rest xs : List X) (n : ℕ) → n < length xs → slice_index (map number xs) n ≡ number u → take 1 (u ∷ rest) ≡ take 1 (drop n xs)
+  first-alike same u rest [] n l is = absurd (omega (arith, l))
+  first-alike same u rest (x ∷ xs) zero l is = ap (λ y. y ∷ []) (same u x (sym is))
+  first-alike same u rest (x ∷ xs) (suc n) l is = first-alike same u rest xs n (omega (arith, l)) is
 
   -- An occurrence after two splits is one after both.
   pub occurs-cut : (needle us : List X) (at n : ℕ) → at + n ≤ length us → OccursAt needle (drop n (drop at us)) 0 → OccursAt needle us (at + n)

@@ -1,5 +1,5 @@
 //! Needles of a search: some units, or those of one character.
-ghost use Rattle.std.specs.Prelude.{◌≡◌, ◌↔◌, ◌≤◌, ◌∷◌, [], ℕ, List, length, map, ◌<◌, IfSome, IsTrue, MatchOption};
+ghost use Rattle.std.specs.Prelude.{◌≡◌, ◌↔◌, ◌≤◌, ◌∷◌, [], ℕ, List, length, map, take, ◌<◌, IfSome, IsTrue, MatchOption};
 ghost use Rattle.wide_unit.specs.CommonPrefix.{IsCommonPrefix};
 ghost use Rattle.wide_unit.specs.EncodingForm.{code_units};
 ghost use Rattle.wide_search.specs.Occurrences.{OccursAt};
@@ -10,16 +10,6 @@ use wide_unit::{Unit, common_prefix};
 
 // How many units are compared one by one before blocks are. Most comparisons end before.
 const NEAR: usize = 8;
-
-// Returns whether the last units of two slices of the same length are the same, or there are none.
-#[inline(always)]
-fn end_alike<C: Unit>(left: &[C], right: &[C]) -> bool
-    requires { length left.now ≡ length right.now }
-    ensures { left.now ≡ right.now → IsTrue result }
-{
-    let len = left.len();
-    len == 0 || left[len - 1].code() == right[len - 1].code()
-}
 
 // Returns whether two slices of the same length have the same units. They are compared one by one, since most needles
 // have few units, and most comparisons end at once.
@@ -49,6 +39,24 @@ fn are_same_from_first<C: Unit>(left: &[C], right: &[C]) -> bool
         }
         _ => true,
     }
+}
+
+// Returns the same as `are_same` where the first units are the same, which are not compared. The last ones are compared
+// first: texts that begin with a unit of the needle mostly differ from it at the last one.
+#[inline(always)]
+fn are_same_after_first<C: Unit>(left: &[C], right: &[C]) -> bool
+    requires length { length left.now ≡ length right.now }
+    requires first { take 1 left.now ≡ take 1 right.now }
+    ensures { IsTrue result ↔ (left.now ≡ right.now) }
+{
+    let mut at = left.len();
+    while at > 1 {
+        at -= 1;
+        if left[at].code() != right[at].code() {
+            return false;
+        }
+    }
+    true
 }
 
 // Returns how many units at the beginning of two slices of the same length are the same. They are compared one by one.
@@ -102,9 +110,9 @@ pub(crate) trait Needle<C: Unit>: Copy {
     fn begins(self, units: &[C]) -> bool
         ensures { IsTrue result ↔ OccursAt (sought self) units.now 0 };
 
-    // Returns the same as `begins`, in less time where the first unit is known to be the same: units that differ from
-    // these mostly differ at the last one, which is compared first.
+    // Returns the same as `begins` where the first unit is the same, which is not compared.
     fn begins_at_first(self, units: &[C]) -> bool
+        requires { take 1 (sought self) ≡ take 1 units.now }
         ensures { IsTrue result ↔ OccursAt (sought self) units.now 0 };
 
     // Returns false only if other units don't begin with these. It compares the first two units, and may return true where
@@ -162,7 +170,7 @@ impl<C: Unit> Needle<C> for Slice<'_, C> {
             return false;
         }
         let (prefix, _) = units.split_at(self.units.len());
-        end_alike(prefix, self.units) && are_same(prefix, self.units)
+        are_same_after_first(prefix, self.units)
     }
 
     #[inline(always)]

@@ -449,6 +449,22 @@ fn find_after<C: Unit, P: Needle<C>>(units: &[C], needle: P, first: C, from: usi
     None
 }
 
+// Returns the same as `find_after`, and looks first whether any unit is left. So `find_in` makes no such test, and ends
+// with this call: it then saves and restores no register where the needle is found at the first try.
+#[inline(never)]
+fn find_left<C: Unit, P: Needle<C>>(units: &[C], needle: P, first: C, from: usize) -> Option<usize>
+    requires first { (rest : List C) × (P.sought needle ≡ first ∷ rest) }
+    requires within { from ≤ length units.now }
+    requires before { (k : ℕ) → k < from → ¬ (OccursAt (P.sought needle) units.now k) }
+    ensures first { IfSome result (IsFirstAt (P.sought needle) units.now) }
+    ensures none { IfNone result (OccursNowhere (P.sought needle) units.now) }
+{
+    if from == units.len() {
+        return None;
+    }
+    find_after(units, needle, first, from)
+}
+
 // Returns the offset of the first occurrence of the needle, or `None`. Most needles are found at the first try, so that
 // is made before anything is counted.
 pub(crate) fn find_in<C: Unit, P: Needle<C>>(units: &[C], needle: P) -> Option<usize>
@@ -462,10 +478,7 @@ pub(crate) fn find_in<C: Unit, P: Needle<C>>(units: &[C], needle: P) -> Option<u
     if stop.is_found {
         return Some(stop.at);
     }
-    if stop.at == units.len() {
-        return None;
-    }
-    find_after(units, needle, first, stop.at)
+    find_left(units, needle, first, stop.at)
 }
 
 // Searches back from an offset from which on the needle does not occur, offset by offset, and makes so many tries, or
@@ -581,9 +594,10 @@ pub(crate) fn rfind_in<C: Unit, P: Needle<C>>(units: &[C], needle: P) -> Option<
     ensures last { IfSome result (IsLastAt (P.sought needle) units.now) }
     ensures none { IfNone result (OccursNowhere (P.sought needle) units.now) }
 {
-    let Some(last) = units.len().checked_sub(needle.len()) else {
+    if units.len() < needle.len() {
         return None;
-    };
+    }
+    let last = units.len() - needle.len();
     let (_, rest) = units.split_at(last);
     if needle.begins(rest) {
         return Some(last);

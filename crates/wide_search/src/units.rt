@@ -54,9 +54,9 @@ pub fn strip_suffix<'a, C: Unit>(units: &'a [C], needle: &[C]) -> Option<&'a [C]
 /// Returns the offset in units of the first occurrence of the needle, or `None` if it does not occur. An empty needle
 /// occurs at the beginning.
 ///
-/// The search for the first unit of the needle is vectorized. Where it stands, the last unit is compared, and then the
-/// others up to the first that differs. Where the first unit is frequent, the search is for offsets at which the last one
-/// stands as well. Where both stand nearly everywhere each offset is tried, and where they stand nearly as often as the
+/// The search for the first unit of the needle is vectorized. Where it stands, the others are compared, from the last one
+/// to the first that differs. Where the first unit is frequent, the search is for offsets at which the last one stands as
+/// well. Where both stand nearly everywhere each offset is tried, and where they stand nearly as often as the
 /// first alone, that is looked for again. If too many units are compared in vain, as they may be if the needle repeats
 /// itself, the two-way search passes the next offsets. So the worst case is linear in both lengths, and no memory is
 /// allocated.
@@ -65,10 +65,6 @@ pub fn find<C: Unit>(units: &[C], needle: &[C]) -> Option<usize>
     ensures none { IfNone result (OccursNowhere needle.now units.now) }
     ensures within { IfSome result (λ at. at + length needle.now ≤ length units.now) }
 {
-    // Where a single unit stands there is nothing left to compare.
-    if let [unit] = needle {
-        return find_unit(units, *unit);
-    }
     find_in(units, Slice { units: needle })
 }
 

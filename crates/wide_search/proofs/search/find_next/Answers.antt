@@ -1,6 +1,6 @@
-use Rattle.std.proofs.Common.{◌≡◌, ◌∙◌, ◌+◌, ◌≤◌, true, false, refl, sym, ap, subst, arith, length, drop, length-drop}
+use Rattle.std.proofs.Common.{◌≡◌, ◌∙◌, ◌+◌, ◌≤◌, true, false, refl, sym, ap, subst, arith, length, take, drop, length-drop}
 use Rattle.wide_search.specs.Occurrences.{OccursAt}
-use Rattle.wide_search.proofs.Offsets.{none-reported, before-reported, none-through, occurs-cut, cut-occurs}
+use Rattle.wide_search.proofs.Offsets.{none-reported, before-reported, none-through, occurs-cut, cut-occurs, first-alike}
 use Rattle.wide_search.proofs.search.find_next.Goals as goal
 
 pub returns-in_default-clause-before : goal.returns-in_default-clause-before
@@ -9,6 +9,11 @@ returns-in_default-clause-before g c = λ k l.
     let first = c.requires.first in
     none-reported g.C.Unit.number sought c.args.units.now first.0 c.split_at.result.1.now c.args.first c.code.result c.args.from first.1 c.code.ensures c.split_at.ensures.back c.requires.before
     c.in_default.ensures.none k
+
+pub begins_at_first-requires : goal.begins_at_first-requires
+begins_at_first-requires g c =
+    let first = c.requires.first in
+    ap (take 1) first.1 ∙ first-alike g.C.Unit.number g.met.C.Unit.same c.args.first first.0 c.split_at.result.1.now c.in-Some.step c.in-Some.ensures.within (c.in-Some.ensures.at ∙ c.code.ensures) ∙ ap (take 1) (sym c.split_at-2.ensures.back)
 
 pub returns-then-begins_at_first-clause-here : goal.returns-then-begins_at_first-clause-here
 returns-then-begins_at_first-clause-here g c = λ _.
