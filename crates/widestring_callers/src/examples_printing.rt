@@ -3,7 +3,8 @@ ghost use Rattle.std.specs.Prelude.{◌≡◌, ◌∷◌, [], true, IfOk, string
 ghost use Rattle.std.specs.Char.{is_ascii};
 ghost use Rattle.std.specs.List.{flat_map, list_all};
 ghost use Rattle.widestring.specs.EncodingForm.{Utf16};
-ghost use Rattle.widestring.specs.Texts.{escape_debug, skipping_text};
+ghost use Rattle.widestring.specs.Items.{items};
+ghost use Rattle.widestring.specs.Texts.{debug_text, escape_debug, is_plain, skipping_text};
 ghost use Rattle.widestring.specs.UnitView.{units_seen};
 ghost use Rattle.widestring.specs.Utf8.{utf8};
 ghost use Rattle.widestring.specs.View.{text_seen};
@@ -38,4 +39,17 @@ pub fn printed_escapes(alloc: Global, text: Utf16Str<'_>) -> Result<String, Allo
     ensures { IfOk result (λ line. string_bytes line ≡ utf8 (flat_map escape_debug (text_seen text.entry))) }
 {
     format!(in alloc; "{:8}", text.escape_debug())
+}
+
+/// Prints units whose characters are ASCII between quotes, with escapes, and units that belong to no character as
+/// numbers.
+///
+/// # Requires
+///
+/// All characters of the units are ASCII.
+pub fn printed_between_quotes(alloc: Global, units: U16Str<'_>) -> Result<String, AllocError>
+    requires { list_all is_plain (items Utf16 (units_seen units)) ≡ true }
+    ensures { IfOk result (λ line. string_bytes line ≡ debug_text Utf16 (units_seen units.entry)) }
+{
+    format!(in alloc; "{:?}", units)
 }

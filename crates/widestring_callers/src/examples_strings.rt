@@ -1,6 +1,7 @@
-//! Strings made of few items, or of none, and strings with capacity for what is added.
-ghost use Rattle.std.specs.Prelude.{◌≡◌, ◌≤◌, ◌∷◌, [], true, false, IfSome};
+//! Strings made of few items, or of none, strings with capacity for what is added, and edits of few units.
+ghost use Rattle.std.specs.Prelude.{◌≡◌, ◌≤◌, ◌∷◌, [], true, false, IfSome, OnOk};
 ghost use Rattle.std.specs.Iterator.{IsFiniteIterable};
+ghost use Rattle.std.specs.List.Retain.{IsFiltered};
 ghost use Rattle.std.specs.Str.{chars};
 ghost use Rattle.widestring.specs.EncodingForm.{Utf16, code_units};
 ghost use Rattle.widestring.specs.Extended.{Adds, Collects, numbered};
@@ -109,4 +110,65 @@ pub fn capacity_after_a_unit(string: &mut U16String) -> Option<usize>
 {
     string.reserve(10).ok()?;
     Some(string.capacity())
+}
+
+/// Replaces a unit between two others by two units.
+///
+/// # Requires
+///
+/// The units are 61, 62 and 63.
+pub fn replaced_unit(string: &mut U16String) -> Result<(), OutOfMemory>
+    requires { string.old.units ≡ 0x61 ∷ 0x62 ∷ 0x63 ∷ [] }
+    ensures { OnOk result (string.new.units ≡ 0x61 ∷ 0x64 ∷ 0x65 ∷ 0x63 ∷ []) }
+{
+    string.replace_range(1..2, U16Str::from_slice(&[0x64, 0x65]))
+}
+
+/// Inserts two units between two others.
+///
+/// # Requires
+///
+/// The units are 61 and 62.
+pub fn inserted_units(string: &mut U16String) -> Result<(), OutOfMemory>
+    requires { string.old.units ≡ 0x61 ∷ 0x62 ∷ [] }
+    ensures { OnOk result (string.new.units ≡ 0x61 ∷ 0x63 ∷ 0x64 ∷ 0x62 ∷ []) }
+{
+    string.insert_ustr(1, U16Str::from_slice(&[0x63, 0x64]))
+}
+
+/// Replaces a unit between two others by the two units of a text.
+///
+/// # Requires
+///
+/// The units are 61, 62 and 63, and the text is one emoji.
+pub fn replaced_by_text(string: &mut U16String, text: &str) -> Result<(), OutOfMemory>
+    requires units { string.old.units ≡ 0x61 ∷ 0x62 ∷ 0x63 ∷ [] }
+    requires text { chars text.now ≡ 0x1_F600 ∷ [] }
+    ensures { OnOk result (string.new.units ≡ 0x61 ∷ 0xD83D ∷ 0xDE00 ∷ 0x63 ∷ []) }
+{
+    string.splice_str(1, 2, text)
+}
+
+/// Removes a unit between two others.
+///
+/// # Requires
+///
+/// The units are 61, 62 and 63.
+pub fn removed_unit(string: &mut U16String)
+    requires { string.old.units ≡ 0x61 ∷ 0x62 ∷ 0x63 ∷ [] }
+    ensures { string.new.units ≡ 0x61 ∷ 0x63 ∷ [] }
+{
+    string.drain(1..2);
+}
+
+/// Retains the units for which a closure returns true, and calls it once for each unit, in order.
+///
+/// # Requires
+///
+/// The closure can be called any number of times.
+pub fn retained<F: FnMut(u16) -> bool>(string: &mut U16String, keep: F)
+    requires { F.IsAlwaysCallable keep }
+    ensures { IsFiltered F.step keep string.old.units string.new.units }
+{
+    string.retain(keep);
 }

@@ -1,5 +1,8 @@
 //! Well-formed texts of few units: how ill-formed units are repaired, and edits at offsets in units.
 ghost use Rattle.std.specs.Prelude.{◌≡◌, ◌∷◌, [], Some, true, IfOk, OnOk};
+ghost use Rattle.std.specs.List.Retain.{IsFiltered};
+ghost use Rattle.widestring.specs.EncodingForm.{Utf16};
+ghost use Rattle.widestring.specs.Items.{chars};
 
 use std::alloc::Global;
 use widestring::Utf16String;
@@ -49,4 +52,28 @@ pub fn letter_after_a_pair(text: &mut Utf16String) -> Result<(), OutOfMemory>
     ensures { OnOk result (text.new.units ≡ 0xD83D ∷ 0xDE00 ∷ 0x61 ∷ []) }
 {
     text.insert(text.len(), 'a')
+}
+
+/// Removes a pair before a letter by a drain that is not read.
+///
+/// # Requires
+///
+/// The text is a pair and `a`.
+pub fn removed_pair(text: &mut Utf16String)
+    requires { text.old.units ≡ 0xD83D ∷ 0xDE00 ∷ 0x61 ∷ [] }
+    ensures { text.new.units ≡ 0x61 ∷ [] }
+{
+    text.drain(..2);
+}
+
+/// Retains the characters for which a closure returns true, and calls it once for each character, in order.
+///
+/// # Requires
+///
+/// The closure can be called any number of times.
+pub fn retained_chars<F: FnMut(char) -> bool>(text: &mut Utf16String, keep: F)
+    requires { F.IsAlwaysCallable keep }
+    ensures { IsFiltered F.step keep (chars Utf16 text.old.units) (chars Utf16 text.new.units) }
+{
+    text.retain(keep);
 }

@@ -5,7 +5,7 @@ ghost use Rattle.widestring.specs.EncodingForm.{Utf16, Utf32, encode};
 ghost use Rattle.widestring.specs.Items.{chars};
 ghost use Rattle.widestring.specs.Step.{step, meaning, answer_of, Done, Char, BadPlace};
 ghost use Rattle.widestring.specs.Counted.{AddsAtMost};
-ghost use Rattle.widestring.specs.Marks.{marked_text};
+ghost use Rattle.widestring.specs.Marks.{marked_text, marks_of};
 
 use std::alloc::Global;
 use widestring::edit::{Edit, Marked16, Reply, Steps, Stopped, TextEdit, run, run_both};
@@ -163,4 +163,22 @@ pub fn prefix_of<'a>(marked: &'a Marked16, index: usize, steps: &mut Steps) -> O
 {
     let at = marked.unit_offset(index, steps)?;
     Some(marked.as_utfstr().slice(..at).as_slice())
+}
+
+/// Makes one edit of a string with an offset index, and returns the entries of the index, which are those of the new
+/// text.
+///
+/// # Errors
+///
+/// [`OutOfMemory`] if the allocation fails.
+pub fn entries_after<'a>(
+    alloc: Global,
+    marked: &'a mut Marked16,
+    edit: Edit<'_>,
+) -> Result<&'a [usize], OutOfMemory>
+    ensures { IfOk result (λ entries. entries.now ≡ marks_of (step (marked_text marked.old) edit.entry).0) }
+{
+    let space = marked.prepare(alloc, edit)?;
+    marked.apply(edit, space);
+    Ok(marked.marks())
 }

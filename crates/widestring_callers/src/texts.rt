@@ -1,12 +1,15 @@
 //! Converts text to wide strings and back.
-ghost use Rattle.std.specs.Prelude.{◌≡◌, IfOk, IfSome, string_bytes};
+ghost use Rattle.std.specs.Prelude.{◌≡◌, IfOk, IfSome, OnOk, string_bytes};
 ghost use Rattle.std.specs.Str.{chars};
-ghost use Rattle.widestring.specs.EncodingForm.{Utf16, encode};
+ghost use Rattle.widestring.specs.EncodingForm.{Utf16, Utf32, encode};
+ghost use Rattle.widestring.specs.Items.{IsWellFormed, chars as text_chars};
 ghost use Rattle.widestring.specs.Nul.{HasNoNul};
+ghost use Rattle.widestring.specs.UnitView.{units_seen};
+ghost use Rattle.widestring.specs.Utf8.{utf8};
 
 use std::alloc::Global;
 use widestring::error::{OutOfMemory, Utf16ConvertError, Utf32ConvertError};
-use widestring::{U16CString, U16String, U32CString, U32String, Utf16String, Utf32String};
+use widestring::{U16CString, U16Str, U16String, U32CString, U32String, Utf16String, Utf32String};
 
 /// Returns the text, by way of UTF-16 that may be ill-formed.
 pub fn through_utf16(alloc: Global, text: &str) -> Result<String, Utf16ConvertError>
@@ -67,4 +70,21 @@ pub fn through_c_string_of_text(alloc: Global, text: &str) -> Option<String>
 {
     let string = U16CString::from_str(alloc, text).ok()?;
     string.as_ucstr().to_string(alloc).ok()
+}
+
+/// Encodes any text in UTF-16 and in UTF-32.
+pub fn encoded(alloc: Global, text: &str) -> Result<(U16String, U32String), OutOfMemory>
+    ensures units16 { IfOk result (λ strings. strings.0.units ≡ encode Utf16 (chars text.now)) }
+    ensures units32 { IfOk result (λ strings. strings.1.units ≡ encode Utf32 (chars text.now)) }
+{
+    let first = U16String::from_str(alloc, text)?;
+    Ok((first, U32String::from_str(alloc, text)?))
+}
+
+/// Encodes well-formed units in UTF-8, and rejects all others.
+pub fn encoded_in_utf8(alloc: Global, units: U16Str<'_>) -> Result<String, Utf16ConvertError>
+    ensures text { IfOk result (λ text. string_bytes text ≡ utf8 (text_chars Utf16 (units_seen units.entry))) }
+    ensures well_formed { OnOk result (IsWellFormed Utf16 (units_seen units.entry)) }
+{
+    units.to_string(alloc)
 }
