@@ -41,8 +41,9 @@ fn are_same_from_first<C: Unit>(left: &[C], right: &[C]) -> bool
     }
 }
 
-// Returns the same as `are_same` where the first units are the same, which are not compared. The last ones are compared
-// first: texts that begin with a unit of the needle mostly differ from it at the last one.
+// Returns whether two slices of the same length, whose first units are the same, have the same units. The first ones are
+// not compared, and the last ones before the others: texts that begin with the needle's first unit mostly differ from it
+// at the last one.
 #[inline(always)]
 fn are_same_after_first<C: Unit>(left: &[C], right: &[C]) -> bool
     requires length { length left.now ≡ length right.now }
@@ -110,7 +111,7 @@ pub(crate) trait Needle<C: Unit>: Copy {
     fn begins(self, units: &[C]) -> bool
         ensures { IsTrue result ↔ OccursAt (sought self) units.now 0 };
 
-    // Returns the same as `begins` where the first unit is the same, which is not compared.
+    // Returns whether other units begin with these, where the first one is known to be the same. It is not compared.
     fn begins_at_first(self, units: &[C]) -> bool
         requires { take 1 (sought self) ≡ take 1 units.now }
         ensures { IsTrue result ↔ OccursAt (sought self) units.now 0 };

@@ -449,8 +449,9 @@ fn find_after<C: Unit, P: Needle<C>>(units: &[C], needle: P, first: C, from: usi
     None
 }
 
-// Returns the same as `find_after`, and looks first whether any unit is left. So `find_in` makes no such test, and ends
-// with this call: it then saves and restores no register where the needle is found at the first try.
+// Searches on from an offset before which the needle does not occur, if any unit is left there. Returns the offset of the
+// needle's first occurrence, or `None`. It is a function of its own, so that `find_in` can end with one call, and so
+// saves no register where the needle is found at the first try.
 #[inline(never)]
 fn find_left<C: Unit, P: Needle<C>>(units: &[C], needle: P, first: C, from: usize) -> Option<usize>
     requires first { (rest : List C) × (P.sought needle ≡ first ∷ rest) }

@@ -56,10 +56,9 @@ pub fn strip_suffix<'a, C: Unit>(units: &'a [C], needle: &[C]) -> Option<&'a [C]
 ///
 /// The search for the first unit of the needle is vectorized. Where it stands, the others are compared, from the last one
 /// to the first that differs. Where the first unit is frequent, the search is for offsets at which the last one stands as
-/// well. Where both stand nearly everywhere each offset is tried, and where they stand nearly as often as the
-/// first alone, that is looked for again. If too many units are compared in vain, as they may be if the needle repeats
-/// itself, the two-way search passes the next offsets. So the worst case is linear in both lengths, and no memory is
-/// allocated.
+/// well. Where both stand nearly everywhere each offset is tried, and where they stand nearly as often as the first
+/// alone, that is looked for again. If too many units are compared in vain, as they may be if the needle repeats itself,
+/// the two-way search passes the next offsets. So the worst case is linear in both lengths, and no memory is allocated.
 pub fn find<C: Unit>(units: &[C], needle: &[C]) -> Option<usize>
     ensures first { IfSome result (IsFirstAt needle.now units.now) }
     ensures none { IfNone result (OccursNowhere needle.now units.now) }
