@@ -1,0 +1,118 @@
+//! Runs of `transcode` and `transcode_with` between devices that are slow, move random numbers of bytes, or fail. The
+//! list is the bytes of the source, and a question has three words, separated by colons.
+//!
+//! - `s` and `l` for the modes of `transcode`, strict and lossy; `e`, `r` and `k` for the policies of `transcode_with`.
+//! - How many bytes the source gives in a call, random numbers of them for 0, a comma, and after how many bytes it
+//!   fails, or a `-`.
+//! - How many bytes the sink takes in a call, a comma, after how many bytes it fails, or a `-`, and an `x` if it fails
+//!   by an error or a `z` if it fails by taking none.
+//!
+//! The answer has what was written, and as a second field `ok`, `odd`, `read`, `write`, or the index, the item number
+//! and the unit of the fault. It is a `?` if the flags of the devices contradict it.
+ghost use Rattle.std.specs.Prelude.{◌≡◌, IfOk, false};
+
+use std::alloc::Global;
+use widestring::Policy;
+use widestring::bytes::{ByteSink, ByteSource, Mode, transcode, transcode_with};
+use widestring::error::TranscodeError;
+use widestring_replay::parse::{self, NoAnswer};
+use widestring_replay::show::Answer;
+use widestring_testing::{SlowSink, SlowSource};
+
+// Parses a step, and an optional number of bytes.
+fn pace(word: &str) -> Result<(usize, Option<usize>), NoAnswer> {
+    let Some((step, bytes)) = word.split_once(',') else {
+        return Err(NoAnswer::Unparsed);
+    };
+    let bytes = if bytes == "-" {
+        None
+    } else {
+        Some(parse::value(bytes)?)
+    };
+    Ok((parse::value(step)?, bytes))
+}
+
+// Parses a source.
+fn source<'a>(word: &str, bytes: &'a [u8]) -> Result<SlowSource<'a>, NoAnswer>
+    ensures failed { IfOk result (λ s. s.failed ≡ false) }
+    ensures ended { IfOk result (λ s. s.ended ≡ false) }
+{
+    match pace(word)? {
+        (step, None) => Ok(SlowSource::new(bytes, step)),
+        (step, Some(given)) => match bytes.get(..given) {
+            Some(prefix) => Ok(SlowSource::failing_after(prefix, step)),
+            None => Err(NoAnswer::Unparsed),
+        },
+    }
+}
+
+// Parses a sink.
+fn sink(alloc: Global, word: &str) -> Result<SlowSink, NoAnswer>
+    ensures { IfOk result (λ s. s.failed ≡ false) }
+{
+    let Some((word, how)) = word.split_at_checked(word.len().saturating_sub(1)) else {
+        return Err(NoAnswer::Unparsed);
+    };
+    let (step, space) = pace(word)?;
+    match how {
+        "x" => Ok(SlowSink::new(alloc, step, space, false)),
+        "z" => Ok(SlowSink::new(alloc, step, space, true)),
+        _ => Err(NoAnswer::Unparsed),
+    }
+}
+
+fn show(answer: &mut Answer, ending: Result<(), TranscodeError>) -> Result<(), NoAnswer> {
+    match ending {
+        Ok(()) => answer.word("ok"),
+        Err(TranscodeError::OddLength) => answer.word("odd"),
+        Err(TranscodeError::Read) => answer.word("read"),
+        Err(TranscodeError::Write) => answer.word("write"),
+        Err(TranscodeError::Utf16 { index, item, unit }) => {
+            answer.reported_fault(index, item, u32::from(unit))
+        }
+        Err(TranscodeError::OutOfMemory) => return Err(NoAnswer::OutOfMemory),
+    }
+    Ok(())
+}
+
+// Returns whether a device has failed only if its error is the result, and the source has ended if everything was read.
+fn is_flagged(
+    ending: Result<(), TranscodeError>,
+    source: &SlowSource<'_>,
+    sink: &SlowSink,
+) -> bool {
+    let mut well = source.failed() == (ending == Err(TranscodeError::Read));
+    well &= sink.failed() == (ending == Err(TranscodeError::Write));
+    match ending {
+        Ok(()) | Err(TranscodeError::OddLength) => well & source.ended() & source.bytes.is_empty(),
+        _ => well,
+    }
+}
+
+/// Returns the answer: what a run writes, and how it ends.
+pub fn run(alloc: Global, list: &str, question: &str) -> Result<String, NoAnswer> {
+    let bytes = parse::list::<u8>(alloc, list)?;
+    let (mode, devices) = parse::parts(question)?;
+    let (from, to) = parse::parts(devices)?;
+    let mut source = source(from, &bytes)?;
+    let mut sink = sink(alloc, to)?;
+    let ending = match mode {
+        "s" => transcode(&mut source, &mut sink, Mode::Strict),
+        "l" => transcode(&mut source, &mut sink, Mode::Lossy),
+        "e" => transcode_with(&mut source, &mut sink, Policy::Each),
+        "r" => transcode_with(&mut source, &mut sink, Policy::Run),
+        "k" => transcode_with(&mut source, &mut sink, Policy::Skip),
+        _ => return Err(NoAnswer::Unparsed),
+    };
+    let mut answer = Answer::new(alloc);
+    if !is_flagged(ending, &source, &sink) {
+        answer.word("?");
+        return answer.finish();
+    }
+    for byte in &sink.bytes {
+        answer.number(Some(u32::from(*byte)));
+    }
+    answer.part();
+    show(&mut answer, ending)?;
+    answer.finish()
+}

@@ -1,0 +1,153 @@
+//! What the library has under different names for units of 16 bits and of 32 bits, or at one width only.
+//!
+//! The functions take units and not views of them: the bound of a view is the trait `Unit`, and an impl for one width
+//! whose signatures name a view would need a manual proof.
+use crate::groups::{prints, walks};
+use std::alloc::Global;
+use std::hash::Hash;
+use widestring::iter::End;
+use widestring::utfstr::UtfStr;
+use widestring::{U16CStr, U32CStr, Utf16Str, Utf16String, Utf32Str, Utf32String};
+use widestring_replay::parse::{FromHex, NoAnswer};
+use widestring_replay::show::{Answer, ReportedUnit};
+
+/// Returns the text of units.
+pub fn as_text<C: ReportedUnit>(units: &[C]) -> Result<UtfStr<'_, C>, NoAnswer> {
+    match UtfStr::from_slice(units) {
+        Ok(text) => Ok(text),
+        Err(_) => Err(NoAnswer::Unparsed),
+    }
+}
+
+/// A width of units.
+pub trait Width: ReportedUnit + FromHex + Ord + Hash + 'static {
+    /// Adds the units of the empty C string, with its NUL.
+    fn show_no_contents(answer: &mut Answer);
+
+    /// Returns whether the text of units is equal to one of the other width, asked from both sides.
+    fn eq_other(units: &[Self], other: &str, alloc: Global) -> Result<[bool; 2], NoAnswer>;
+
+    /// Returns whether the text of units is these characters, at the width that has the call.
+    fn eq_chars(units: &[Self], chars: &[char]) -> Result<bool, NoAnswer>;
+
+    /// Returns the character with this index in the text of units, at the width that has the call.
+    fn char_at(units: &[Self], index: usize) -> Result<char, NoAnswer>;
+
+    /// Returns the answer: the units of a text, at the width that has the call.
+    fn code_units(alloc: Global, units: &[Self], steps: &[Option<End>]) -> Result<String, NoAnswer>;
+
+    /// Returns the answer: the units of the encoder to the other width.
+    fn encode_other(
+        alloc: Global,
+        units: &[Self],
+        steps: &[Option<End>],
+    ) -> Result<String, NoAnswer>;
+
+    /// Adds the text of the error of ill-formed units, and of its cause.
+    fn print_fault(alloc: Global, answer: &mut Answer, units: &[Self]) -> Result<(), NoAnswer>;
+
+    /// Adds the lengths of the iterators that have one, at first and after a call from the back.
+    fn lengths(answer: &mut Answer, units: &[Self]) -> Result<(), NoAnswer>;
+}
+
+impl Width for u16 {
+    fn show_no_contents(answer: &mut Answer) {
+        answer.units(U16CStr::default().as_slice_with_nul());
+    }
+
+    fn eq_other(units: &[u16], other: &str, alloc: Global) -> Result<[bool; 2], NoAnswer> {
+        let text: Utf16Str<'_> = as_text(units)?;
+        let other = Utf32String::from_str(alloc, other)?;
+        let view = other.as_utfstr();
+        Ok([text.eq_utf32(view), view.eq_utf16(text)])
+    }
+
+    fn eq_chars(_units: &[u16], _chars: &[char]) -> Result<bool, NoAnswer> {
+        Err(NoAnswer::Unparsed)
+    }
+
+    fn char_at(_units: &[u16], _index: usize) -> Result<char, NoAnswer> {
+        Err(NoAnswer::Unparsed)
+    }
+
+    fn code_units(alloc: Global, units: &[u16], steps: &[Option<End>]) -> Result<String, NoAnswer> {
+        walks::code_units(alloc, as_text(units)?, steps)
+    }
+
+    fn encode_other(
+        alloc: Global,
+        units: &[u16],
+        steps: &[Option<End>],
+    ) -> Result<String, NoAnswer> {
+        walks::utf32(alloc, as_text(units)?, steps)
+    }
+
+    fn print_fault(alloc: Global, answer: &mut Answer, units: &[u16]) -> Result<(), NoAnswer> {
+        let Err(fault) = Utf16Str::from_slice(units) else {
+            return Err(NoAnswer::Unparsed);
+        };
+        prints::print(alloc, answer, &fault)?;
+        answer.part();
+        prints::print(alloc, answer, &fault.cause())
+    }
+
+    fn lengths(answer: &mut Answer, units: &[u16]) -> Result<(), NoAnswer> {
+        walks::lengths16(answer, units)
+    }
+}
+
+impl Width for u32 {
+    fn show_no_contents(answer: &mut Answer) {
+        answer.units(U32CStr::default().as_slice_with_nul());
+    }
+
+    fn eq_other(units: &[u32], other: &str, alloc: Global) -> Result<[bool; 2], NoAnswer> {
+        let text: Utf32Str<'_> = as_text(units)?;
+        let other = Utf16String::from_str(alloc, other)?;
+        let view = other.as_utfstr();
+        Ok([text.eq_utf16(view), view.eq_utf32(text)])
+    }
+
+    fn eq_chars(units: &[u32], chars: &[char]) -> Result<bool, NoAnswer> {
+        let text: Utf32Str<'_> = as_text(units)?;
+        Ok(text.eq_chars(chars))
+    }
+
+    fn char_at(units: &[u32], index: usize) -> Result<char, NoAnswer> {
+        let text: Utf32Str<'_> = as_text(units)?;
+        if index < text.len() {
+            Ok(text.char_at(index))
+        } else {
+            Err(NoAnswer::Unparsed)
+        }
+    }
+
+    fn code_units(
+        _alloc: Global,
+        _units: &[u32],
+        _steps: &[Option<End>],
+    ) -> Result<String, NoAnswer> {
+        Err(NoAnswer::Unparsed)
+    }
+
+    fn encode_other(
+        alloc: Global,
+        units: &[u32],
+        steps: &[Option<End>],
+    ) -> Result<String, NoAnswer> {
+        walks::utf16(alloc, as_text(units)?, steps)
+    }
+
+    fn print_fault(alloc: Global, answer: &mut Answer, units: &[u32]) -> Result<(), NoAnswer> {
+        let Err(fault) = Utf32Str::from_slice(units) else {
+            return Err(NoAnswer::Unparsed);
+        };
+        prints::print(alloc, answer, &fault)?;
+        answer.part();
+        prints::print(alloc, answer, &fault.cause())
+    }
+
+    fn lengths(answer: &mut Answer, units: &[u32]) -> Result<(), NoAnswer> {
+        walks::lengths32(answer, units)
+    }
+}
