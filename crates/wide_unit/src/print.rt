@@ -1,10 +1,20 @@
 //! Writes escaped characters to a formatter.
-ghost use Rattle.std.specs.Prelude.{◌≤◌, encode_utf8_all};
+ghost use Rattle.std.specs.Prelude.{◌≤◌, encode_utf8, encode_utf8_all};
 ghost use Rattle.std.specs.Char.Iter.{escape_rest, escape_end};
 ghost use Rattle.std.specs.Fmt.{WritesOnOk, WritesStyledOnOk};
 
 use std::char::EscapeDebug;
 use std::fmt;
+
+// Writes a character, in one write as `write_char` of the formatter does. That one first tests whether its bytes are
+// UTF-8, and is a call wherever the compiler doesn't inline it.
+#[inline(always)]
+fn write_char<W: fmt::Write>(f: &mut fmt::Formatter<W>, c: char) -> fmt::Result
+    ensures styled { WritesStyledOnOk W.write_str_gives f.old result (encode_utf8 c) f.new }
+{
+    let mut bytes = [0; 4];
+    f.write_str(c.encode_utf8(&mut bytes))
+}
 
 /// Writes the rest of a character's escape to the formatter, and ignores the width and fill of the formatter. It stops
 /// at the first error.
@@ -24,7 +34,7 @@ pub fn write_escape<W: fmt::Write>(f: &mut fmt::Formatter<W>, escape: EscapeDebu
     ensures styled { WritesStyledOnOk W.write_str_gives f.old result (encode_utf8_all (escape_rest escape)) f.new }
 {
     for c in escape {
-        f.write_char(c)?;
+        write_char(f, c)?;
     }
     Ok(())
 }
