@@ -589,20 +589,16 @@ pub(crate) fn rfind_by_two<C: Unit, P: Needle<C>>(
     None
 }
 
-// Returns the offset of the last occurrence of the needle, or `None`. The last few offsets are tried one by one, or all
-// if there are few.
-pub(crate) fn rfind_in<C: Unit, P: Needle<C>>(units: &[C], needle: P) -> Option<usize>
+// Searches back from an offset from which on the needle does not occur. Returns the offset of its last occurrence, or
+// `None`. The last few offsets are tried one by one, or all if there are few. It is a function of its own, so that
+// `rfind_in` can end with one call, and so saves no register where the needle is found at the first try.
+#[inline(never)]
+fn rfind_left<C: Unit, P: Needle<C>>(units: &[C], needle: P, last: usize) -> Option<usize>
+    requires within { last + length (P.sought needle) ≤ length units.now }
+    requires beyond { (k : ℕ) → last ≤ k → ¬ (OccursAt (P.sought needle) units.now k) }
     ensures last { IfSome result (IsLastAt (P.sought needle) units.now) }
     ensures none { IfNone result (OccursNowhere (P.sought needle) units.now) }
 {
-    if units.len() < needle.len() {
-        return None;
-    }
-    let last = units.len() - needle.len();
-    let (_, rest) = units.split_at(last);
-    if needle.begins(rest) {
-        return Some(last);
-    }
     let stop = if last < SHORT { 0 } else { last - NEAR_TRIES };
     let mut at = last;
     while at > stop {
@@ -616,4 +612,21 @@ pub(crate) fn rfind_in<C: Unit, P: Needle<C>>(units: &[C], needle: P) -> Option<
         return None;
     }
     rfind_by_two(units, needle, at)
+}
+
+// Returns the offset of the last occurrence of the needle, or `None`. Most needles are found at the first try, so that
+// is made before anything is counted.
+pub(crate) fn rfind_in<C: Unit, P: Needle<C>>(units: &[C], needle: P) -> Option<usize>
+    ensures last { IfSome result (IsLastAt (P.sought needle) units.now) }
+    ensures none { IfNone result (OccursNowhere (P.sought needle) units.now) }
+{
+    if units.len() < needle.len() {
+        return None;
+    }
+    let last = units.len() - needle.len();
+    let (_, rest) = units.split_at(last);
+    if needle.begins(rest) {
+        return Some(last);
+    }
+    rfind_left(units, needle, last)
 }
