@@ -614,8 +614,8 @@ fn rfind_left<C: Unit, P: Needle<C>>(units: &[C], needle: P, last: usize) -> Opt
     rfind_by_two(units, needle, at)
 }
 
-// Returns the offset of the last occurrence of the needle, or `None`. Most needles are found at the first try, so that
-// is made before anything is counted.
+// Returns the offset of the last occurrence of the needle, or `None`. The last offset is tried first, so that a needle
+// at the end is found without a call of `rfind_left`.
 pub(crate) fn rfind_in<C: Unit, P: Needle<C>>(units: &[C], needle: P) -> Option<usize>
     ensures last { IfSome result (IsLastAt (P.sought needle) units.now) }
     ensures none { IfNone result (OccursNowhere (P.sought needle) units.now) }

@@ -33,7 +33,7 @@ pub trait Suite {
     ) -> Result<String, NoAnswer>;
 }
 
-/// Makes a call of an iterator, from an end.
+/// Makes a call of an iterator, from an end. `End` has to be in scope.
 #[macro_export]
 macro_rules! asked {
     ($iterator:expr, $end:expr) => {

@@ -206,7 +206,7 @@ fn run_groups<S: Suite>(rt: &HostRuntime) -> io::Result<bool> {
     }
 }
 
-/// Runs the cases of each group, which are in a file where the program runs, and returns the program's status.
+/// Runs the cases of all groups, each of which is a file in the working directory, and returns the program's status.
 ///
 /// Prints a line for each group: how many cases agree with the crate, how many agree with a corrected answer and how
 /// many differ. Then prints the first difference of all. The status is 1 if a case differs, a line can't be parsed or a

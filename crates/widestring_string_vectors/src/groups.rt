@@ -84,7 +84,7 @@ impl Suite for StringSuite {
     }
 }
 
-// Returns the answers to scripts of calls, and about C strings.
+// Returns the answer to a script of calls, about a C string, or to a call by characters.
 fn answer_of_scripts(
     memory: Memory<'_>,
     group: &str,

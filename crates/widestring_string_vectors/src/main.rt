@@ -1,5 +1,5 @@
-//! Runs the test vectors of owned strings, which are in `data/`. README.md of `widestring_replay` explains a line of each
-//! group.
+//! Runs the test vectors of owned strings, which are in `data/`. README.md of `widestring_replay` explains a line of
+//! each group.
 #![tactic(auto)]
 
 mod groups;

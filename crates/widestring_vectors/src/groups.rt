@@ -122,7 +122,7 @@ impl Suite for ViewSuite {
     }
 }
 
-// Returns the answers about views and units, and passes others on to those about conversions.
+// Returns the answer about views, texts, units or searches, and passes other groups on to `answer_of_conversions`.
 fn answer_of_views(
     memory: Memory<'_>,
     group: &str,
@@ -149,7 +149,7 @@ fn answer_of_views(
     }
 }
 
-// Returns the answers about conversions, bytes and devices.
+// Returns the answer about conversions, bytes or devices.
 fn answer_of_conversions(
     memory: Memory<'_>,
     group: &str,

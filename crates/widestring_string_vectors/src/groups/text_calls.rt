@@ -1,5 +1,5 @@
-//! Calls of strings of text that have a name in a script, with their arguments after a space. README.md describes the
-//! calls.
+//! Calls of strings of text that have a name in a script, with their arguments after a space. README.md of
+//! `widestring_replay` describes the calls.
 use crate::groups::pieces::{self, Text};
 use crate::groups::ustring_calls::has_capacity;
 use std::mem;

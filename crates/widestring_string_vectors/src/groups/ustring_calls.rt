@@ -1,6 +1,6 @@
 //! Scripts of calls of strings of any units. A question has fields separated by `/`. The first is the spare capacity of
 //! the string of the list, and each other one is a call, by its name, with its arguments after a space. README.md
-//! describes the calls.
+//! of `widestring_replay` describes the calls.
 //!
 //! A call adds to the answer what it returns, a `;`, the units that it leaves, and after a `#` the number of its
 //! requests. A string that would be too long is a `-`, with no request.
