@@ -4,7 +4,7 @@ use Rattle.std.specs.Prelude.{◌&&◌, IsSome, IsTrue, is_some, option_to_list,
 use Rattle.std.proofs.lemmas.Bool.{eqb-true}
 use Rattle.std.proofs.lemmas.Bool.Decides.{eqb_tells}
 use Rattle.std.proofs.lemmas.List.{get_or-drop}
-use Rattle.wide_unit.specs.UnitBytes.{byte_order_mark}
+use Rattle.wide_forms.specs.UnitBytes.{byte_order_mark}
 use Rattle.wide_bytes.specs.Bytes.{bytes_in, half_of, is_odd, bom_of, order_of, unit_in, units_in, without_bom}
 use Rattle.wide_bytes.specs.UnitsOfBytes.{units_left}
 use Rattle.wide_bytes.specs.Utf16OfBytes.{bom_bytes, whole_bytes}

@@ -1,6 +1,6 @@
 -- The bytes that the fields of `Utf16OfBytes` represent.
 use Rattle.std.specs.Prelude.{ℕ, List, [], ◌∷◌, ◌++◌, if◌then◌else◌, option_to_list}
-use Rattle.wide_unit.specs.UnitBytes.{byte_order_mark}
+use Rattle.wide_forms.specs.UnitBytes.{byte_order_mark}
 use Rattle.wide_bytes.specs.Bytes.{bytes_in}
 use Rattle.wide_bytes.specs.UnitsOfBytes.{units_left}
 use Rattle.wide_bytes.specs.declared.whole.Utf16OfBytes.{Utf16OfBytes}

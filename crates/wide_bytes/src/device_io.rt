@@ -3,14 +3,22 @@
 ghost use Rattle.std.specs.Prelude.{◌≡◌, ◌<◌, ◌≤◌, ◌+◌, ◌-◌, ◌||◌, false, length, take, drop, IfOk, OnErr};
 ghost use Rattle.std.specs.Io.KnownBytes.{Consumes, IsAtEnd, Keeps};
 ghost use Rattle.wide_bytes.specs.Devices.{take_fails, take_ends};
-ghost use Rattle.wide_bytes.specs.Run.{PutOf};
+ghost use Rattle.wide_bytes.specs.Put.{PutOf};
 
 use super::devices::{ByteSink, ByteSource};
 use std::io;
 use wide_error::TranscodeError;
 
-// Takes bytes from the source once, into `bytes` after its first `filled` bytes, and returns how many were taken.
-pub(crate) fn take_after<S: ByteSource>(
+/// Takes bytes from the source once, into `bytes` after its first `filled` bytes, and returns how many were taken.
+///
+/// # Requires
+///
+/// The source has neither failed nor ended, and `filled` is less than the length of `bytes`.
+///
+/// # Errors
+///
+/// The error of [`ByteSource::take`].
+pub fn take_after<S: ByteSource>(
     source: &mut S,
     bytes: &mut [u8],
     filled: usize,

@@ -47,8 +47,8 @@ impl Iterator for UnitsOfBytes<'_> {
     }
 }
 
-// Returns the bytes after the BOM, or all bytes if there is none.
-pub(crate) fn without_bom(bytes: &[u8]) -> &[u8]
+/// Returns the bytes after the BOM, or all bytes if there is none (Unicode Standard, section 23.8).
+pub fn without_bom(bytes: &[u8]) -> &[u8]
     ensures { result.now ≡ without_bom bytes.now }
 {
     if byte_order(bytes).is_some() {

@@ -5,9 +5,9 @@ use Rattle.std.specs.Str.{IsUtf8, all_scalars, encode_utf8_all}
 use Rattle.std.specs.Str.Pattern.{StartsWithChar}
 use Rattle.std.proofs.Math.Seq.{drop-append_seam}
 use Rattle.std.proofs.lemmas.Bool.{cases_lt, and_parts}
-use Rattle.wide_unit.specs.Utf8.{utf8_bytes, trailing_byte}
-use Rattle.wide_unit.specs.Laws.Forms.{ranges}
-use Rattle.wide_unit.specs.Laws.Utf8.{one_byte, two_bytes, three_bytes, four_bytes, utf8_bytes-encode_utf8}
+use Rattle.wide_forms.specs.Utf8.{utf8_bytes, trailing_byte}
+use Rattle.wide_forms.specs.Laws.Forms.{ranges}
+use Rattle.wide_forms.specs.Laws.Utf8.{one_byte, two_bytes, three_bytes, four_bytes, utf8_bytes-encode_utf8}
 
 -- The bytes begin with those of a character.
 starts : (bs bytes rest : List ℕ) (c n : ℕ) → bs ≡ bytes ++ rest → bytes ≡ utf8_bytes c → n ≡ length bytes → 0 < n → IsUtf8 rest → StartsWithChar bs c n

@@ -7,9 +7,9 @@ use Rattle.std.specs.Str.Lossy.{second_byte_max, second_byte_min, utf8_error_len
 use Rattle.std.proofs.lemmas.Bool.Decides.{nat_tests}
 use Rattle.std.proofs.lemmas.List.{take-append-drop}
 use Rattle.std.proofs.str.Faults.{Ranged, no_char}
-use Rattle.wide_unit.specs.Segmentation.{Char, Fault}
-use Rattle.wide_unit.specs.Utf8.{utf8_bytes}
-use Rattle.wide_unit.specs.Laws.Utf8.{one_byte}
+use Rattle.wide_forms.specs.Segmentation.{Char, Fault}
+use Rattle.wide_forms.specs.Utf8.{utf8_bytes}
+use Rattle.wide_forms.specs.Laws.Utf8.{one_byte}
 use Rattle.wide_conversions.specs.Utf8Items.{AreUtf8Items, BeginsWith, character, part, utf8_items, utf8_items-divide, utf8_items-unique}
 use Rattle.wide_conversions.proofs.ValidPrefixes.{bytes-two, bytes-three, bytes-four}
 

@@ -2,16 +2,16 @@
 use Rattle.std.proofs.Common.{◌≡◌, inl, inr, ℕ, ◌≤◌, List, [], ◌∷◌, ◌++◌, Bool, true, false, length, map, take, drop, refl, sym, ap, ◌∙◌, subst, arith, length-append}
 use Rattle.std.proofs.lemmas.Bool.{cases_lt}
 use Rattle.std.proofs.lemmas.List.{length-take-le, take-append-drop}
-use Rattle.wide_unit.specs.EncodingForm.{EncodingForm, code_units, encode}
-use Rattle.wide_unit.specs.Items.{IsFirstFault, IsWellFormed, chars, items}
-use Rattle.wide_unit.specs.Lossy.{ends_in_fault, lossy_after}
-use Rattle.wide_unit.specs.Segmentation.{Char, Fault, units_of}
-use Rattle.wide_unit.specs.Laws.Chains.{Chain}
-use Rattle.wide_unit.specs.Laws.Ends.{items-append_left}
-use Rattle.wide_unit.specs.Laws.Forms.{some_units}
-use Rattle.wide_unit.specs.Laws.Items.{chars-of_well_formed, encode-of_items, items-chain, items-of_chain, units_of-items}
-use Rattle.wide_unit.specs.Laws.Policies.{lossy_after-append, lossy_after-chars}
-use Rattle.wide_unit.specs.declared.policy.Policy.{Policy}
+use Rattle.wide_forms.specs.EncodingForm.{EncodingForm, code_units, encode}
+use Rattle.wide_forms.specs.Items.{IsFirstFault, IsWellFormed, chars, items}
+use Rattle.wide_forms.specs.Lossy.{ends_in_fault, lossy_after}
+use Rattle.wide_forms.specs.Segmentation.{Char, Fault, units_of}
+use Rattle.wide_forms.specs.Laws.Chains.{Chain}
+use Rattle.wide_forms.specs.Laws.Ends.{items-append_left}
+use Rattle.wide_forms.specs.Laws.Forms.{some_units}
+use Rattle.wide_forms.specs.Laws.Items.{chars-of_well_formed, encode-of_items, items-chain, items-of_chain, units_of-items}
+use Rattle.wide_forms.specs.Laws.Policies.{lossy_after-append, lossy_after-chars}
+use Rattle.wide_forms.specs.declared.policy.Policy.{Policy}
 use Rattle.wide_unit.proofs.Faults.{first_fault-below, first_fault-first, first_fault-prefix}
 use Rattle.wide_conversions.proofs.LossyItems.{ends-characters}
 

@@ -7,11 +7,11 @@ use Rattle.std.proofs.lemmas.Bool.{cases_lt}
 use Rattle.std.proofs.lemmas.List.{append-nil, drop-drop, length-take-le}
 use Rattle.std.proofs.lemmas.Str.{chars_from_encodes, len_utf8_bounds, length-encode}
 use Rattle.std.proofs.lemmas.List.Concat.{flat_map-append}
-use Rattle.wide_unit.specs.EncodingForm.{EncodingForm, code_units, encode}
-use Rattle.wide_unit.specs.Lossy.{ends_in_fault, lossy_after}
-use Rattle.wide_unit.specs.Segmentation.{Char, Fault}
-use Rattle.wide_unit.specs.Laws.Policies.{ends_in_fault-append, lossy_after-append, lossy_after-chars}
-use Rattle.wide_unit.specs.declared.policy.Policy.{Policy}
+use Rattle.wide_forms.specs.EncodingForm.{EncodingForm, code_units, encode}
+use Rattle.wide_forms.specs.Lossy.{ends_in_fault, lossy_after}
+use Rattle.wide_forms.specs.Segmentation.{Char, Fault}
+use Rattle.wide_forms.specs.Laws.Policies.{ends_in_fault-append, lossy_after-append, lossy_after-chars}
+use Rattle.wide_forms.specs.declared.policy.Policy.{Policy}
 use Rattle.wide_conversions.specs.Utf8Items.{BeginsWith, IsLossyPrefix, utf8_items}
 use Rattle.wide_conversions.proofs.FirstItems.{begins-ascii}
 use Rattle.wide_conversions.proofs.PrefixUnits.{beyond-is}

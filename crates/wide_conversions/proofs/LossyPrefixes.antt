@@ -1,13 +1,13 @@
 -- Lossy text of units whose prefix is repaired separately.
 use Rattle.std.proofs.Common.{◌≡◌, List, ◌++◌, ℕ, sym, ◌∙◌, ap, map, take, drop}
 use Rattle.std.proofs.lemmas.List.{map-append, take-append-drop}
-use Rattle.wide_unit.specs.EncodingForm.{EncodingForm, encode}
-use Rattle.wide_unit.specs.Items.{IsWellFormed, chars, items}
-use Rattle.wide_unit.specs.Lossy.{lossy, lossy_char}
-use Rattle.wide_unit.specs.Laws.Ends.{items-append_left}
-use Rattle.wide_unit.specs.Laws.Items.{IsCut, items-append}
-use Rattle.wide_unit.specs.Laws.Lossy.{lossy-well_formed, scalars-lossy, well_formed-lossy}
-use Rattle.wide_unit.specs.Laws.Offsets.{chars-encode}
+use Rattle.wide_forms.specs.EncodingForm.{EncodingForm, encode}
+use Rattle.wide_forms.specs.Items.{IsWellFormed, chars, items}
+use Rattle.wide_forms.specs.Lossy.{lossy, lossy_char}
+use Rattle.wide_forms.specs.Laws.Ends.{items-append_left}
+use Rattle.wide_forms.specs.Laws.Items.{IsCut, items-append}
+use Rattle.wide_forms.specs.Laws.Lossy.{lossy-well_formed, scalars-lossy, well_formed-lossy}
+use Rattle.wide_forms.specs.Laws.Offsets.{chars-encode}
 
 pub halves : {C : Type 0} (n : ℕ) (units prefix back : List C) → prefix ≡ take n units → back ≡ drop n units → prefix ++ back ≡ units
 halves n units prefix back e f = ap (λ xs. xs ++ back) e ∙ ap (λ ys. take n units ++ ys) f ∙ take-append-drop n units

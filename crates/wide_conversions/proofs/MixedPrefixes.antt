@@ -9,8 +9,8 @@ use Rattle.std.proofs.lemmas.Nat.{mod-pow-add}
 use Rattle.std.proofs.lemmas.Str.{IsUtf8-drop}
 use Rattle.std.proofs.Math.Pow.{pow_mono}
 use Rattle.std.proofs.Math.Nat.{div-div-eq-div-mul, mod-le}
-use Rattle.wide_unit.specs.EncodingForm.{EncodingForm, code_units}
-use Rattle.wide_unit.specs.Laws.Forms.{scalar_from}
+use Rattle.wide_forms.specs.EncodingForm.{EncodingForm, code_units}
+use Rattle.wide_forms.specs.Laws.Forms.{scalar_from}
 use Rattle.wide_conversions.specs.Decoded.{code_of_three, code_of_two}
 use Rattle.wide_utf16_to_utf8.specs.Compressed.{compressed_lanes}
 use Rattle.wide_conversions.specs.Mixed.{begins, code_of, codes_at, lead_bits, trailing_len}

@@ -9,13 +9,13 @@ use Rattle.std.proofs.Math.Dec.{eqb-suc-zero}
 use Rattle.std.proofs.lemmas.Bool.{and_parts, cases_lt}
 use Rattle.std.proofs.lemmas.List.{append-nil, drop-drop, get_or-drop, take-append-drop, take_all}
 use Rattle.std.proofs.lemmas.Str.{chars-append, chars_from_encodes, utf8_lossy-IsUtf8, utf8_lossy_step}
-use Rattle.wide_unit.specs.Segmentation.{Item, Char, Fault}
-use Rattle.wide_unit.specs.Utf8.{utf8_bytes}
-use Rattle.wide_unit.specs.Lossy.{lossy, lossy_after}
-use Rattle.wide_unit.specs.Laws.Lossy.{lossy-chars}
-use Rattle.wide_unit.specs.Laws.Policies.{lossy_after-append, lossy_after-chars, runs-at_fault}
-use Rattle.wide_unit.specs.Laws.Utf8.{utf8_bytes-encode_utf8}
-use Rattle.wide_unit.specs.declared.policy.Policy.TheVariants.{Each, Run, Skip}
+use Rattle.wide_forms.specs.Segmentation.{Item, Char, Fault}
+use Rattle.wide_forms.specs.Utf8.{utf8_bytes}
+use Rattle.wide_forms.specs.Lossy.{lossy, lossy_after}
+use Rattle.wide_forms.specs.Laws.Lossy.{lossy-chars}
+use Rattle.wide_forms.specs.Laws.Policies.{lossy_after-append, lossy_after-chars, runs-at_fault}
+use Rattle.wide_forms.specs.Laws.Utf8.{utf8_bytes-encode_utf8}
+use Rattle.wide_forms.specs.declared.policy.Policy.TheVariants.{Each, Run, Skip}
 use Rattle.wide_conversions.specs.Utf8Items.{AreUtf8Items, character, none, part, utf8_items, utf8_items-divide, utf8_items-unique}
 use Rattle.wide_conversions.specs.Laws.Utf8Items.{below_more, no_char-beyond, shorter-part, valid_len-prefix, valid_len-longest}
 

@@ -9,7 +9,7 @@ use Rattle.std.proofs.lemmas.Str.{chars_past_char}
 use Rattle.wide_conversions.proofs.FirstCharacters.{four-from, in_four, in_one, in_three, wide}
 use Rattle.wide_conversions.specs.Decoded.{IsDecoded, LeadsThree, code_of_four, code_of_three, codes_of_three}
 use Rattle.wide_conversions.proofs.StoredUnits.{one_unit-plain}
-use Rattle.wide_unit.specs.EncodingForm.{EncodingForm, code_units, encode}
+use Rattle.wide_forms.specs.EncodingForm.{EncodingForm, code_units, encode}
 
 -- The units of the text are `us` and the units of the text from `offset` on.
 pub record IsPrefixUnits (form : EncodingForm) (bs : List ℕ) (offset : ℕ) (us : List ℕ) : Type 0 where

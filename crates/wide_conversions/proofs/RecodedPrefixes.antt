@@ -2,9 +2,9 @@
 use Rattle.std.proofs.Common.{◌≡◌, ℕ, ◌+◌, ◌-◌, ◌<◌, ◌≤◌, List, [], ◌∷◌, ◌++◌, length, get_or, map, take, drop, sym, ap, ◌∙◌, subst, arith, length-drop}
 use Rattle.std.proofs.lemmas.List.{append-nil, drop-drop, drop-map, get_or-map, length-map, length-take-le, take-map}
 use Rattle.std.proofs.lemmas.List.Concat.{flat_map-append}
-use Rattle.wide_unit.specs.EncodingForm.{EncodingForm, code_units, encode}
-use Rattle.wide_unit.specs.Segmentation.{Char}
-use Rattle.wide_unit.specs.Items.{IsWellFormed, chars, items}
+use Rattle.wide_forms.specs.EncodingForm.{EncodingForm, code_units, encode}
+use Rattle.wide_forms.specs.Segmentation.{Char}
+use Rattle.wide_forms.specs.Items.{IsWellFormed, chars, items}
 use Rattle.wide_conversions.proofs.PrefixUnits.{beyond-is}
 use Rattle.wide_conversions.proofs.ScalarPrefixes.{IsPrefixChars, prefix_chars-one, prefix_chars-then, prefix_chars-units}
 use Rattle.wide_conversions.proofs.ScalarTexts.{encode-narrow}

@@ -4,12 +4,12 @@ use Rattle.std.specs.Char.{IsScalar}
 use Rattle.std.specs.List.{All}
 use Rattle.std.proofs.lemmas.Grind.{get_or_default_zero}
 use Rattle.std.proofs.lemmas.List.{drop-drop, length-take-le, map-id}
-use Rattle.wide_unit.specs.EncodingForm.{EncodingForm, Utf16, code_units, encode}
-use Rattle.wide_unit.specs.Segmentation.{Char, Item}
-use Rattle.wide_unit.specs.Items.{IsWellFormed, characters, chars, items}
-use Rattle.wide_unit.specs.Laws.Ends.{items-prefix_char}
-use Rattle.wide_unit.specs.Laws.Forms.{Ranges, scalar_from}
-use Rattle.wide_unit.specs.Laws.WellFormed.{well_formed-rest}
+use Rattle.wide_forms.specs.EncodingForm.{EncodingForm, Utf16, code_units, encode}
+use Rattle.wide_forms.specs.Segmentation.{Char, Item}
+use Rattle.wide_forms.specs.Items.{IsWellFormed, characters, chars, items}
+use Rattle.wide_forms.specs.Laws.Ends.{items-prefix_char}
+use Rattle.wide_forms.specs.Laws.Forms.{Ranges, scalar_from}
+use Rattle.wide_forms.specs.Laws.WellFormed.{well_formed-rest}
 use Rattle.wide_conversions.proofs.ScalarTexts.{encode-narrow}
 
 -- The characters of the units are `cs` and those of the rest.

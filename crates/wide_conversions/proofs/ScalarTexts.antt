@@ -5,14 +5,14 @@ use Rattle.std.specs.List.{All}
 use Rattle.std.proofs.lemmas.Bool.{cases_lt}
 use Rattle.std.proofs.lemmas.List.{append-nil}
 use Rattle.std.proofs.lemmas.List.Concat.{flat_map-append}
-use Rattle.wide_unit.specs.EncodingForm.{EncodingForm, Utf16, Utf32, encode}
-use Rattle.wide_unit.specs.Items.{IsWellFormed, chars}
-use Rattle.wide_unit.specs.Utf8.{utf8, utf8_bytes, trailing_byte}
-use Rattle.wide_unit.specs.Laws.Boundaries.{IsBoundary-at}
-use Rattle.wide_unit.specs.Laws.Forms.{ranges}
-use Rattle.wide_unit.specs.Laws.Offsets.{IsWellFormed-take, chars-encode, scalars-chars}
-use Rattle.wide_unit.specs.Laws.Utf32.{chars32-well_formed}
-use Rattle.wide_unit.specs.Laws.Utf8.{four_bytes}
+use Rattle.wide_forms.specs.EncodingForm.{EncodingForm, Utf16, Utf32, encode}
+use Rattle.wide_forms.specs.Items.{IsWellFormed, chars}
+use Rattle.wide_forms.specs.Utf8.{utf8, utf8_bytes, trailing_byte}
+use Rattle.wide_forms.specs.Laws.Boundaries.{IsBoundary-at}
+use Rattle.wide_forms.specs.Laws.Forms.{ranges}
+use Rattle.wide_forms.specs.Laws.Offsets.{IsWellFormed-take, chars-encode, scalars-chars}
+use Rattle.wide_forms.specs.Laws.Utf32.{chars32-well_formed}
+use Rattle.wide_forms.specs.Laws.Utf8.{four_bytes}
 use Rattle.wide_utf16_to_utf8.specs.Encoded.{EncodedUnits, IsWordOf}
 use Rattle.wide_conversions.specs.Scalars.{IsScalarLen, IsScalarWord}
 use Rattle.wide_utf16_to_utf8.proofs.EncodedPrefixes.{IsPrefixText, prefix_text-boundary}

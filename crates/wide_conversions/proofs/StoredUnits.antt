@@ -1,9 +1,9 @@
 -- Units of any type that are stored one after another.
 use Rattle.std.proofs.Common.{◌≡◌, ℕ, suc, zero, ◌+◌, ◌*◌, ◌<◌, ◌≤◌, List, [], ◌∷◌, ◌++◌, Option, Some, None, length, get_or, map, set, take, refl, sym, ap, ◌∙◌, arith, append_assoc, get_or-take}
 use Rattle.std.proofs.lemmas.List.{length-map, map-append, take-map, take-take, take_more_set}
-use Rattle.wide_unit.specs.EncodingForm.{EncodingForm, Utf16, Utf32, code_units}
+use Rattle.wide_forms.specs.EncodingForm.{EncodingForm, Utf16, Utf32, code_units}
 use Rattle.wide_unit.specs.Unit.{numbers_of}
-use Rattle.wide_unit.specs.Laws.Forms.{one_unit}
+use Rattle.wide_forms.specs.Laws.Forms.{one_unit}
 use Rattle.wide_conversions.specs.Decoded.{code_of_three, codes_of_three}
 use Rattle.wide_utf16_to_utf8.proofs.Stores.{compressed-lead}
 use Rattle.wide_utf16_to_utf8.proofs.UnitEncodings.{take-one}

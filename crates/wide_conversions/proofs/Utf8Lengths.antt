@@ -5,12 +5,12 @@ use Rattle.std.specs.List.{sum_by}
 use Rattle.std.proofs.lemmas.Bool.{cases_lt}
 use Rattle.std.proofs.lemmas.Bool.Decides.{nat_tests}
 use Rattle.std.proofs.lemmas.List.Sums.{sum_by-append}
-use Rattle.wide_unit.specs.EncodingForm.{EncodingForm, Utf16, Utf32, code_units, encode}
-use Rattle.wide_unit.specs.Items.{chars, IsWellFormed}
-use Rattle.wide_unit.specs.Utf8.{utf8, utf8_bytes}
-use Rattle.wide_unit.specs.Laws.Forms.{ranges, one_unit, two_units, high_of, low_of}
-use Rattle.wide_unit.specs.Laws.Offsets.{scalars-chars, encode-chars}
-use Rattle.wide_unit.specs.Laws.Utf32.{chars32-well_formed}
+use Rattle.wide_forms.specs.EncodingForm.{EncodingForm, Utf16, Utf32, code_units, encode}
+use Rattle.wide_forms.specs.Items.{chars, IsWellFormed}
+use Rattle.wide_forms.specs.Utf8.{utf8, utf8_bytes}
+use Rattle.wide_forms.specs.Laws.Forms.{ranges, one_unit, two_units, high_of, low_of}
+use Rattle.wide_forms.specs.Laws.Offsets.{scalars-chars, encode-chars}
+use Rattle.wide_forms.specs.Laws.Utf32.{chars32-well_formed}
 use Rattle.wide_conversions.specs.Lengths.{more_of_16, more_of_32}
 
 len-one : (c : ℕ) → c < 0x1_0000 → (0xD800 ≤ c → 0xE000 ≤ c) → length (utf8_bytes c) ≡ 1 + more_of_16 c

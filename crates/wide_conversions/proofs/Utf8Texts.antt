@@ -4,11 +4,11 @@ use Rattle.std.specs.Char.{IsScalar}
 use Rattle.std.specs.Cmp.Derive.{both_true}
 use Rattle.std.specs.List.{All}
 use Rattle.std.specs.Str.{IsUtf8, all_scalars}
-use Rattle.wide_unit.specs.EncodingForm.{EncodingForm}
-use Rattle.wide_unit.specs.Items.{chars, characters}
-use Rattle.wide_unit.specs.Utf8.{utf8}
-use Rattle.wide_unit.specs.Laws.Items.{items-nil}
-use Rattle.wide_unit.specs.Laws.Utf8.{utf8-encode_utf8_all}
+use Rattle.wide_forms.specs.EncodingForm.{EncodingForm}
+use Rattle.wide_forms.specs.Items.{chars, characters}
+use Rattle.wide_forms.specs.Utf8.{utf8}
+use Rattle.wide_forms.specs.Laws.Items.{items-nil}
+use Rattle.wide_forms.specs.Laws.Utf8.{utf8-encode_utf8_all}
 
 pub all_scalars-of_All : (cs : List ℕ) → All IsScalar cs → all_scalars cs ≡ true
 all_scalars-of_All [] all = refl

@@ -9,9 +9,9 @@ use Rattle.std.proofs.lemmas.Bool.{cases_lt}
 use Rattle.std.proofs.lemmas.List.{drop-drop, get_or-drop, get_or-take, take-append-drop, take_all, take_rest}
 use Rattle.std.proofs.Math.Seq.{take-add}
 use Rattle.std.proofs.lemmas.Str.{IsUtf8-append, IsUtf8-encode, IsUtf8-nil, IsUtf8-past_char}
-use Rattle.wide_unit.specs.Utf8.{utf8_bytes, trailing_byte}
-use Rattle.wide_unit.specs.Laws.Forms.{scalar_from}
-use Rattle.wide_unit.specs.Laws.Utf8.{one_byte, two_bytes, three_bytes, four_bytes, utf8_bytes-encode_utf8}
+use Rattle.wide_forms.specs.Utf8.{utf8_bytes, trailing_byte}
+use Rattle.wide_forms.specs.Laws.Forms.{scalar_from}
+use Rattle.wide_forms.specs.Laws.Utf8.{one_byte, two_bytes, three_bytes, four_bytes, utf8_bytes-encode_utf8}
 use Rattle.wide_conversions.specs.Following.{CanFollow, IsWholeAfter, IsWholeUpTo}
 
 -- Each of the first bytes may follow the three before it, of which a, b and c precede all.

@@ -2,7 +2,7 @@
 use Rattle.std.specs.Prelude.{◌≡◌, ℕ, ◌+◌, ◌*◌, ◌%◌, ◌<◌, ◌≤◌, List, [], ◌∷◌, ◌++◌, drop}
 use Rattle.std.specs.Str.{IsUtf8}
 use Rattle.std.specs.Str.{chars as str_chars}
-use Rattle.wide_unit.specs.EncodingForm.{EncodingForm, encode}
+use Rattle.wide_forms.specs.EncodingForm.{EncodingForm, encode}
 
 -- `after` is `before` with the units of the text before an offset appended. The text from the offset on is UTF-8.
 pub record IsDecoded (form : EncodingForm) (bytes : List ℕ) (offset : ℕ) (before after : List ℕ) : Type 0 where

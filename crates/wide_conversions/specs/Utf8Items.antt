@@ -7,12 +7,12 @@ use Rattle.std.specs.Str.{StartsWithNoChar}
 use Rattle.std.specs.Str.{chars as str_chars}
 use Rattle.std.specs.Str.Lossy.{utf8_invalid_len}
 use Rattle.std.proofs.lemmas.Str.{encode_same}
-use Rattle.wide_unit.specs.EncodingForm.{EncodingForm, encode}
-use Rattle.wide_unit.specs.Segmentation.{Item, Char, Fault}
-use Rattle.wide_unit.specs.Lossy.{ends_in_fault, lossy_after}
-use Rattle.wide_unit.specs.declared.policy.Policy.{Policy}
-use Rattle.wide_unit.specs.Utf8.{utf8_bytes}
-use Rattle.wide_unit.specs.Laws.Utf8.{utf8_bytes-encode_utf8}
+use Rattle.wide_forms.specs.EncodingForm.{EncodingForm, encode}
+use Rattle.wide_forms.specs.Segmentation.{Item, Char, Fault}
+use Rattle.wide_forms.specs.Lossy.{ends_in_fault, lossy_after}
+use Rattle.wide_forms.specs.declared.policy.Policy.{Policy}
+use Rattle.wide_forms.specs.Utf8.{utf8_bytes}
+use Rattle.wide_forms.specs.Laws.Utf8.{utf8_bytes-encode_utf8}
 use Rattle.wide_conversions.specs.Laws.Utf8Items.{First, nothing, char, no_char, first, shorter-char, shorter-part, below_more, below_next, below_none}
 
 -- The items are the characters and the faults of the bytes, in order. A fault is an ill-formed sequence of bytes that

@@ -3,8 +3,8 @@
 //! character.
 
 ghost use Rattle.std.specs.Prelude.{◌≡◌, ◌++◌, ◌+◌, ◌*◌, ◌<◌, ◌≤◌, ℕ, IsTrue, drop, length, map, slice_index, take};
-ghost use Rattle.wide_unit.specs.EncodingForm.{encode};
-ghost use Rattle.wide_unit.specs.Items.{IsWellFormed, chars};
+ghost use Rattle.wide_forms.specs.EncodingForm.{encode};
+ghost use Rattle.wide_forms.specs.Items.{IsWellFormed, chars};
 
 use crate::from_utf8::{char_of, put_char};
 use wide_unit::{Unit, split_first};

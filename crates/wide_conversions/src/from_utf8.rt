@@ -6,7 +6,7 @@ ghost use Rattle.std.specs.Prelude.{◌≡◌, ◌++◌, ◌+◌, ◌*◌, ◌<�
 ghost use Rattle.std.specs.Char.{IsScalar};
 ghost use Rattle.std.specs.Str.{IsUtf8, chars as str_chars};
 ghost use Rattle.std.specs.Str.Pattern.{StartsWithChar};
-ghost use Rattle.wide_unit.specs.EncodingForm.{code_units, encode};
+ghost use Rattle.wide_forms.specs.EncodingForm.{code_units, encode};
 ghost use Rattle.wide_conversions.specs.Decoded.{IsDecoded, LeadsThree, code_of_four, code_of_three, codes_of_three};
 
 use crate::from_utf8_mixed::put_mixed;

@@ -5,11 +5,12 @@
 ghost use Rattle.std.specs.Prelude.{◌≡◌, ◌+◌, ◌<◌, ◌≤◌, ℕ, ◌&&◌, [], IfNone, IfSome, length, map, slice_index, take, drop};
 ghost use Rattle.std.specs.Int.{is_in_range};
 ghost use Rattle.std.specs.Str.Lossy.{second_byte_max, second_byte_min};
-ghost use Rattle.wide_unit.specs.Segmentation.{Char, Fault};
+ghost use Rattle.wide_forms.specs.Segmentation.{Char, Fault};
 ghost use Rattle.wide_conversions.specs.Utf8Items.{BeginsWith, IsLossyPrefix};
 
 use crate::from_utf8::{char_of, low_len, put_bytes, put_char};
-use wide_unit::{Policy, Unit};
+use wide_forms::Policy;
+use wide_unit::Unit;
 use wide_utf16_to_utf8::writes_replacement;
 
 // After this many bytes without a fault, the caller goes on with the vectorized conversion.

@@ -2,9 +2,9 @@
 //! Standard, section 3.9, "U+FFFD Substitution of Maximal Subparts". Checking and repairing units is vectorized.
 
 ghost use Rattle.std.specs.Prelude.{◌≡◌, ℕ, ◌++◌, ◌<◌, ◌≤◌, false, length, map, take, drop};
-ghost use Rattle.wide_unit.specs.Items.{IsFirstFault, IsWellFormed, chars, items};
-ghost use Rattle.wide_unit.specs.Lossy.{lossy};
-ghost use Rattle.wide_unit.specs.Laws.Items.{IsCut};
+ghost use Rattle.wide_forms.specs.Items.{IsFirstFault, IsWellFormed, chars, items};
+ghost use Rattle.wide_forms.specs.Lossy.{lossy};
+ghost use Rattle.wide_forms.specs.Laws.Items.{IsCut};
 
 use wide_unit::{Unit, check};
 

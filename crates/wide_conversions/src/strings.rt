@@ -2,8 +2,8 @@
 //! into an array on the stack by the vectorized conversion, and appends each chunk to the string.
 
 ghost use Rattle.std.specs.Prelude.{◌≡◌, ℕ, List, ◌++◌, ◌+◌, ◌<◌, ◌≤◌, [], map, length, IsOk, IfOk, OnErr, OnOk, string_bytes, vec_capacity, vec_len};
-ghost use Rattle.wide_unit.specs.Items.{IsWellFormed, chars};
-ghost use Rattle.wide_unit.specs.Utf8.{utf8};
+ghost use Rattle.wide_forms.specs.Items.{IsWellFormed, chars};
+ghost use Rattle.wide_forms.specs.Utf8.{utf8};
 ghost use Rattle.wide_utf16_to_utf8.specs.Encoded.{AppendsPrefix};
 
 use crate::to_utf8::to_utf8_prefix;

@@ -5,9 +5,9 @@
 ghost use Rattle.std.specs.Prelude.{◌≡◌, ◌++◌, ◌+◌, ◌*◌, ◌<◌, ◌≤◌, ℕ, drop, length, map, slice_index, take};
 ghost use Rattle.std.specs.Char.{IsScalar};
 ghost use Rattle.std.specs.List.{All};
-ghost use Rattle.wide_unit.specs.EncodingForm.{Utf16, Utf32};
-ghost use Rattle.wide_unit.specs.Items.{IsWellFormed, chars};
-ghost use Rattle.wide_unit.specs.Utf8.{utf8, utf8_bytes};
+ghost use Rattle.wide_forms.specs.EncodingForm.{Utf16, Utf32};
+ghost use Rattle.wide_forms.specs.Items.{IsWellFormed, chars};
+ghost use Rattle.wide_forms.specs.Utf8.{utf8, utf8_bytes};
 ghost use Rattle.wide_conversions.specs.Scalars.{IsScalarLen, IsScalarWord};
 
 use wide_unit::{AnyUnits, Unit};

@@ -3,8 +3,8 @@
 //! that the compiler can vectorize them.
 
 ghost use Rattle.std.specs.Prelude.{◌≡◌, ◌*◌, ◌^◌, ◌<◌, ◌≤◌, length, map, take, drop};
-ghost use Rattle.wide_unit.specs.EncodingForm.{Utf16, Utf32};
-ghost use Rattle.wide_unit.specs.UnitBytes.{unit_width, little_bytes, little_bytes_of, big_bytes, big_bytes_of, byte_order_mark};
+ghost use Rattle.wide_forms.specs.EncodingForm.{Utf16, Utf32};
+ghost use Rattle.wide_forms.specs.UnitBytes.{unit_width, little_bytes, little_bytes_of, big_bytes, big_bytes_of, byte_order_mark};
 
 use wide_unit::{AnyUnits, Unit};
 

@@ -2,8 +2,8 @@
 //! in one step if none is a surrogate. Other units are decoded character by character.
 
 ghost use Rattle.std.specs.Prelude.{◌≡◌, ◌++◌, ◌+◌, ◌<◌, ◌≤◌, drop, length, take};
-ghost use Rattle.wide_unit.specs.EncodingForm.{Utf16};
-ghost use Rattle.wide_unit.specs.Items.{IsWellFormed, chars};
+ghost use Rattle.wide_forms.specs.EncodingForm.{Utf16};
+ghost use Rattle.wide_forms.specs.Items.{IsWellFormed, chars};
 
 use std::simd::prelude::*;
 use wide_unit::split_first;

@@ -4,7 +4,7 @@
 ghost use Rattle.std.specs.Prelude.{◌≡◌, ◌+◌, ◌-◌, ◌<◌, ◌≤◌, ℕ, IsTrue, drop, length, map, slice_index, take};
 ghost use Rattle.std.specs.Str.{IsUtf8, IsValidUpTo, chars as str_chars};
 ghost use Rattle.std.specs.Str.Lossy.{utf8_invalid_len, utf8_valid_len};
-ghost use Rattle.wide_unit.specs.Segmentation.{Char};
+ghost use Rattle.wide_forms.specs.Segmentation.{Char};
 ghost use Rattle.wide_conversions.specs.Following.{CanFollow, IsWholeUpTo};
 ghost use Rattle.wide_conversions.specs.Utf8Items.{HasFirstPart, utf8_items};
 

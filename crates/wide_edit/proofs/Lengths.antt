@@ -5,8 +5,8 @@ use Rattle.std.specs.List.{splice}
 use Rattle.std.proofs.lemmas.Bool.Decides.{leb_tells}
 use Rattle.std.proofs.lemmas.List.{append-nil, take-append-drop}
 use Rattle.std.proofs.lemmas.List.Concat.{flat_map-append}
-use Rattle.wide_unit.specs.EncodingForm.{EncodingForm, code_units, encode}
-use Rattle.wide_unit.specs.Laws.Encodings.{offsets-grow}
+use Rattle.wide_forms.specs.EncodingForm.{EncodingForm, code_units, encode}
+use Rattle.wide_forms.specs.Laws.Encodings.{offsets-grow}
 use Rattle.wide_edit.specs.Step.{changed}
 use Rattle.wide_edit.specs.declared.edits.Edit.TheVariants.{Remove, SplitOff, Drain}
 

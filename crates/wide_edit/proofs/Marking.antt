@@ -7,13 +7,13 @@ use Rattle.std.proofs.lemmas.Bool.Decides.{leb_tells}
 use Rattle.std.proofs.lemmas.List.{take_more, length-take-le, take-take, map-id, drop-drop, take_all, take-append-le}
 use Rattle.std.proofs.lemmas.List.FromFn.{length-map-range_with_len, take-map-range_with_len, get_or-map-range_with_len}
 use Rattle.std.proofs.Math.Seq.{drop-cons}
-use Rattle.wide_unit.specs.EncodingForm.{EncodingForm, Utf16, code_units, encode}
-use Rattle.wide_unit.specs.Items.{chars, IsWellFormed}
-use Rattle.wide_unit.specs.Offsets.{IsOffsetOf, IsCharBoundary}
-use Rattle.wide_unit.specs.Laws.Offsets.{encode-chars, IsOffsetOf-prefix}
+use Rattle.wide_forms.specs.EncodingForm.{EncodingForm, Utf16, code_units, encode}
+use Rattle.wide_forms.specs.Items.{chars, IsWellFormed}
+use Rattle.wide_forms.specs.Offsets.{IsOffsetOf, IsCharBoundary}
+use Rattle.wide_forms.specs.Laws.Offsets.{encode-chars, IsOffsetOf-prefix}
 use Rattle.wide_unit.proofs.CharBoundaries.{IsCharBoundary-of}
 use Rattle.wide_edit.specs.Found.{IsFoundAt}
-use Rattle.wide_unit.specs.Laws.Forms.{some_units}
+use Rattle.wide_forms.specs.Laws.Forms.{some_units}
 use Rattle.wide_edit.specs.Step.{step}
 use Rattle.wide_edit.specs.declared.edits.Edit.{Edit}
 use Rattle.wide_edit.specs.declared.edits.Edit.TheVariants.{Push, PushStr, Pop, Truncate, Insert, InsertStr, Remove, Retain, Drain, Replace, SplitOff, Clear}

@@ -2,11 +2,11 @@
 use Rattle.std.proofs.Common.{◌≡◌, ℕ, ◌+◌, ◌*◌, ◌-◌, ◌≤◌, ◌<◌, inl, inr, List, [], ◌∷◌, ap, arith, length, take, drop, subst, length-append, length-drop}
 use Rattle.std.proofs.lemmas.Bool.{cases_lt}
 use Rattle.std.proofs.lemmas.List.{length-take-le, take-take}
-use Rattle.wide_unit.specs.EncodingForm.{Utf16, code_units, encode}
-use Rattle.wide_unit.specs.Items.{chars, IsWellFormed}
-use Rattle.wide_unit.specs.Offsets.{IsCharBoundary, chars_before}
-use Rattle.wide_unit.specs.Laws.Forms.{one_unit, two_units}
-use Rattle.wide_unit.specs.Laws.Offsets.{IsOffsetOf-boundary, chars_before-within, offset-IsOffsetOf}
+use Rattle.wide_forms.specs.EncodingForm.{Utf16, code_units, encode}
+use Rattle.wide_forms.specs.Items.{chars, IsWellFormed}
+use Rattle.wide_forms.specs.Offsets.{IsCharBoundary, chars_before}
+use Rattle.wide_forms.specs.Laws.Forms.{one_unit, two_units}
+use Rattle.wide_forms.specs.Laws.Offsets.{IsOffsetOf-boundary, chars_before-within, offset-IsOffsetOf}
 use Rattle.wide_unit.proofs.CharBoundaries.{IsBoundary-of_char}
 use Rattle.wide_edit.specs.Marks.{offset}
 use Rattle.wide_edit.proofs.Lengths.{size, size-cut}

@@ -4,12 +4,12 @@ use Rattle.std.specs.Prelude.{slice_range, Result, Option, IsOk, OnOk}
 use Rattle.std.proofs.lemmas.List.{length-map, length-take-le, take-map, drop-map, drop_all}
 use Rattle.std.proofs.lemmas.List.Concat.{flat_map-append}
 use Rattle.std.proofs.Math.Seq.{take-add}
-use Rattle.wide_unit.specs.EncodingForm.{EncodingForm, code_units, encode}
-use Rattle.wide_unit.specs.Items.{chars, IsWellFormed}
-use Rattle.wide_unit.specs.Offsets.{IsOffsetOf, IsCharBoundary, IsCharRange, chars_before}
-use Rattle.wide_unit.specs.Laws.Offsets.{offset-IsOffsetOf, IsOffsetOf-prefix, IsWellFormed-drop}
-use Rattle.wide_unit.specs.Laws.Splices.{chars-part, chars-nil}
-use Rattle.wide_unit.specs.Laws.Encodings.{offsets-grow}
+use Rattle.wide_forms.specs.EncodingForm.{EncodingForm, code_units, encode}
+use Rattle.wide_forms.specs.Items.{chars, IsWellFormed}
+use Rattle.wide_forms.specs.Offsets.{IsOffsetOf, IsCharBoundary, IsCharRange, chars_before}
+use Rattle.wide_forms.specs.Laws.Offsets.{offset-IsOffsetOf, IsOffsetOf-prefix, IsWellFormed-drop}
+use Rattle.wide_forms.specs.Laws.Splices.{chars-part, chars-nil}
+use Rattle.wide_forms.specs.Laws.Encodings.{offsets-grow}
 use Rattle.wide_edit.specs.Found.{IsFoundAt, IsFoundRange}
 
 -- The postcondition of a call that succeeded.

@@ -1,8 +1,8 @@
 -- The steps of searches between two characters, and of edits of few characters.
 use Rattle.std.proofs.Common.{◌≡◌, ℕ, ◌+◌, ◌-◌, List, Some, None, refl, subst, arith, length}
 use Rattle.std.specs.Prelude.{Option, IsSome}
-use Rattle.wide_unit.specs.EncodingForm.{Utf16}
-use Rattle.wide_unit.specs.Items.{chars, IsWellFormed}
+use Rattle.wide_forms.specs.EncodingForm.{Utf16}
+use Rattle.wide_forms.specs.Items.{chars, IsWellFormed}
 use Rattle.wide_edit.specs.Marks.{IsEdited}
 use Rattle.wide_edit.specs.Passed.{units_put, AddsPassed}
 use Rattle.wide_edit.specs.declared.counting.Steps.{Steps}

@@ -8,11 +8,11 @@ use Rattle.std.proofs.lemmas.Bool.Decides.{leb_tells}
 use Rattle.std.proofs.lemmas.List.{length-take-le, drop-drop, map-id}
 use Rattle.std.proofs.lemmas.List.FromFn.{length-map-range_with_len}
 use Rattle.std.proofs.Math.Seq.{drop-append_seam}
-use Rattle.wide_unit.specs.EncodingForm.{Utf16}
-use Rattle.wide_unit.specs.Items.{chars, IsWellFormed}
-use Rattle.wide_unit.specs.Offsets.{IsOffsetOf, IsCharBoundary, IsCharRange}
-use Rattle.wide_unit.specs.Laws.Encodings.{offsets-grow}
-use Rattle.wide_unit.specs.Laws.Offsets.{IsOffsetOf-prefix, offset-IsOffsetOf}
+use Rattle.wide_forms.specs.EncodingForm.{Utf16}
+use Rattle.wide_forms.specs.Items.{chars, IsWellFormed}
+use Rattle.wide_forms.specs.Offsets.{IsOffsetOf, IsCharBoundary, IsCharRange}
+use Rattle.wide_forms.specs.Laws.Encodings.{offsets-grow}
+use Rattle.wide_forms.specs.Laws.Offsets.{IsOffsetOf-prefix, offset-IsOffsetOf}
 use Rattle.wide_edit.specs.Found.{IsFoundRange}
 use Rattle.wide_edit.proofs.Offsets.{part-text}
 use Rattle.wide_edit.specs.Step.{changed, is_range}

@@ -2,7 +2,7 @@
 use Rattle.std.specs.Prelude.{◌≡◌, ℕ, ◌≤◌, List, [], ◌∷◌, ◌++◌, map, length, take, drop, vec_capacity}
 use Rattle.std.specs.declared.alloc.Global.{Global}
 use Rattle.std.specs.declared.vec.Vec.{Vec}
-use Rattle.wide_unit.specs.EncodingForm.{EncodingForm, encode}
+use Rattle.wide_forms.specs.EncodingForm.{EncodingForm, encode}
 use Rattle.wide_ustring.specs.Units.{Units}
 use Rattle.wide_edit.specs.Step.{answer_of, step, meaning, chars_in}
 use Rattle.wide_edit.specs.declared.edits.Edit.{Edit}

@@ -2,8 +2,8 @@
 use Rattle.std.specs.Prelude.{◌≡◌, ℕ, ◌+◌, ◌-◌, ◌*◌, ◌/◌, ◌<◌, ◌≤◌, List, map, take, drop, length, slice_index, min, refl}
 use Rattle.std.specs.Coded.{Coded, code_by, coded×, coded_ℕ}
 use Rattle.std.specs.List.{range_with_len}
-use Rattle.wide_unit.specs.EncodingForm.{Utf16, encode}
-use Rattle.wide_unit.specs.Items.{chars}
+use Rattle.wide_forms.specs.EncodingForm.{Utf16, encode}
+use Rattle.wide_forms.specs.Items.{chars}
 use Rattle.wide_ustring.specs.Units.{Units, units_code}
 use Rattle.wide_edit.specs.Step.{step}
 use Rattle.wide_edit.specs.Edited.{CanHold}

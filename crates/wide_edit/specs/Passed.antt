@@ -1,7 +1,7 @@
 -- The units that are counted where an edit finds its range and moves the entries of an offset index.
 use Rattle.std.specs.Prelude.{◌≡◌, ℕ, ◌+◌, ◌-◌, ◌*◌, ◌/◌, ◌<◌, ◌≤◌, List, length, min}
-use Rattle.wide_unit.specs.EncodingForm.{Utf16}
-use Rattle.wide_unit.specs.Items.{chars}
+use Rattle.wide_forms.specs.EncodingForm.{Utf16}
+use Rattle.wide_forms.specs.Items.{chars}
 use Rattle.wide_edit.specs.Counted.{counted}
 use Rattle.wide_edit.specs.Marks.{offset}
 use Rattle.wide_edit.specs.declared.counting.Steps.{Steps}

@@ -1,6 +1,6 @@
 //! Edits, their replies, and the trait of texts that can be edited.
 ghost use Rattle.std.specs.Prelude.{◌≡◌, ◌≤◌, ℕ, List, length, IfOk, OnOk};
-ghost use Rattle.wide_unit.specs.EncodingForm.{EncodingForm, encode};
+ghost use Rattle.wide_forms.specs.EncodingForm.{EncodingForm, encode};
 ghost use Rattle.wide_edit.specs.Step.{step, answer_of};
 ghost use Rattle.wide_edit.specs.Edited.{HasReplySpace};
 

@@ -1,6 +1,6 @@
 //! Application of lists of edits to one text, or to two.
 ghost use Rattle.std.specs.Prelude.{◌≡◌, ◌<◌, ◌≤◌, length, take, IfErr, OnOk, OnErr};
-ghost use Rattle.wide_unit.specs.EncodingForm.{encode};
+ghost use Rattle.wide_forms.specs.EncodingForm.{encode};
 ghost use Rattle.wide_edit.specs.Edited.{HasStepped, HasRun};
 
 use crate::edits::{Edit, Reply, Stopped, TextEdit};

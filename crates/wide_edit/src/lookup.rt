@@ -1,8 +1,8 @@
 //! The offsets of an edit: in characters, as the edit states them, and in units, as they are in a well-formed string.
 ghost use Rattle.std.specs.Prelude.{◌≡◌, ◌≤◌, false, length, map, IfNone, IfSome};
-ghost use Rattle.wide_unit.specs.EncodingForm.{encode};
-ghost use Rattle.wide_unit.specs.Items.{IsWellFormed};
-ghost use Rattle.wide_unit.specs.Offsets.{text_of};
+ghost use Rattle.wide_forms.specs.EncodingForm.{encode};
+ghost use Rattle.wide_forms.specs.Items.{IsWellFormed};
+ghost use Rattle.wide_forms.specs.Offsets.{text_of};
 ghost use Rattle.wide_ustring.specs.Units.{ustring_len};
 ghost use Rattle.wide_edit.specs.Step.{is_range};
 ghost use Rattle.wide_edit.specs.Found.{first_number, second_number, IsFoundAt, IsFoundRange};

@@ -1,8 +1,8 @@
 //! A UTF-16 string with an offset index, as a text that can be edited.
 ghost use Rattle.std.specs.Prelude.{◌≡◌, ◌+◌, ◌-◌, ◌*◌, ◌/◌, ◌<◌, ◌≤◌, ◌↔◌, length, take, IsSome, IfSome, IsOk, OnOk, IfOk, IfErr, vec_capacity};
-ghost use Rattle.wide_unit.specs.EncodingForm.{Utf16, encode};
-ghost use Rattle.wide_unit.specs.Items.{chars};
-ghost use Rattle.wide_unit.specs.Offsets.{IsOffsetOf, IsCharBoundary};
+ghost use Rattle.wide_forms.specs.EncodingForm.{Utf16, encode};
+ghost use Rattle.wide_forms.specs.Items.{chars};
+ghost use Rattle.wide_forms.specs.Offsets.{IsOffsetOf, IsCharBoundary};
 ghost use Rattle.wide_utfstr.specs.View.{units_seen};
 ghost use Rattle.wide_edit.specs.Step.{step, answer_of};
 ghost use Rattle.wide_edit.specs.Edited.{CanHold, IsMade, HasReplySpace};
@@ -38,8 +38,8 @@ pub struct Marked16 {
 
 impl Model for Marked16 {
     ghost use Rattle.std.specs.Prelude.{◌≡◌, vec_capacity};
-    ghost use Rattle.wide_unit.specs.EncodingForm.{Utf16};
-    ghost use Rattle.wide_unit.specs.Items.{chars};
+    ghost use Rattle.wide_forms.specs.EncodingForm.{Utf16};
+    ghost use Rattle.wide_forms.specs.Items.{chars};
     ghost use Rattle.wide_edit.specs.Marks.{Marked, marked_code, marks_of};
 
     ghost Value = { Marked };
@@ -334,7 +334,7 @@ impl Marked16 {
 }
 
 impl TextEdit for Marked16 {
-    ghost use Rattle.wide_unit.specs.EncodingForm.{Utf16};
+    ghost use Rattle.wide_forms.specs.EncodingForm.{Utf16};
     ghost use Rattle.wide_edit.specs.Marks.{marked_capacity, marked_units, marked_text, IsMarkedReady};
 
     ghost text = { marked_text };

@@ -3,8 +3,8 @@
 //!
 //! Each unit that is read is counted once.
 ghost use Rattle.std.specs.Prelude.{◌≡◌, ◌+◌, ◌-◌, ◌*◌, ◌/◌, ◌≤◌, length, take, drop, vec_capacity};
-ghost use Rattle.wide_unit.specs.EncodingForm.{Utf16, encode};
-ghost use Rattle.wide_unit.specs.Items.{chars};
+ghost use Rattle.wide_forms.specs.EncodingForm.{Utf16, encode};
+ghost use Rattle.wide_forms.specs.Items.{chars};
 ghost use Rattle.wide_utfstr.specs.View.{units_seen};
 ghost use Rattle.wide_utfstr.specs.Iter.{chars_left};
 ghost use Rattle.wide_edit.specs.Counted.{counted, AddsAtMost};

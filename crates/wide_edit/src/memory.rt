@@ -1,7 +1,7 @@
 //! The memory that an edit needs: in a well-formed string, and for the characters of its reply.
 ghost use Rattle.std.specs.Prelude.{◌≡◌, ◌≤◌, ◌-◌, length, map, IsOk, OnOk, IfOk};
-ghost use Rattle.wide_unit.specs.EncodingForm.{encode};
-ghost use Rattle.wide_unit.specs.Offsets.{text_of};
+ghost use Rattle.wide_forms.specs.EncodingForm.{encode};
+ghost use Rattle.wide_forms.specs.Offsets.{text_of};
 ghost use Rattle.wide_ustring.specs.Units.{ustring_len};
 ghost use Rattle.wide_edit.specs.Step.{changed, answer, step, chars_in};
 ghost use Rattle.wide_edit.specs.Edited.{CanHold, HasReplySpace};

@@ -4,7 +4,7 @@
 //! If a search found no offset, the index is past the end. The results of calls that could fail by allocation are not
 //! read, because the capacity was reserved before.
 ghost use Rattle.std.specs.Prelude.{◌≡◌, ◌≤◌, [], length, map, vec_capacity};
-ghost use Rattle.wide_unit.specs.Offsets.{text_of};
+ghost use Rattle.wide_forms.specs.Offsets.{text_of};
 ghost use Rattle.wide_utfstr.specs.View.{text_seen};
 ghost use Rattle.wide_edit.specs.Step.{changed};
 ghost use Rattle.wide_edit.specs.Edited.{CanHold, IsMade, HasReplySpace};

@@ -2,8 +2,8 @@
 //!
 //! Each unit that is passed is counted once, and characters that are passed unread are not counted.
 ghost use Rattle.std.specs.Prelude.{◌≡◌, ◌+◌, ◌-◌, ◌*◌, ◌<◌, ◌≤◌, length};
-ghost use Rattle.wide_unit.specs.EncodingForm.{Utf16};
-ghost use Rattle.wide_unit.specs.Items.{chars};
+ghost use Rattle.wide_forms.specs.EncodingForm.{Utf16};
+ghost use Rattle.wide_forms.specs.Items.{chars};
 ghost use Rattle.wide_utfstr.specs.View.{units_seen};
 ghost use Rattle.wide_edit.specs.Counted.{counted, AddsAtMost};
 ghost use Rattle.wide_edit.specs.Marks.{offset};

@@ -2,8 +2,8 @@
 //! counted again.
 ghost use Rattle.std.specs.Prelude.{◌≡◌, ◌+◌, ◌-◌, ◌*◌, ◌/◌, ◌<◌, ◌≤◌, ◌↔◌, ◌⊎◌, false, length, take, map, max, slice_index, vec_capacity, IsSome, IfSome};
 ghost use Rattle.std.specs.List.{range_with_len};
-ghost use Rattle.wide_unit.specs.EncodingForm.{Utf16, encode};
-ghost use Rattle.wide_unit.specs.Items.{chars};
+ghost use Rattle.wide_forms.specs.EncodingForm.{Utf16, encode};
+ghost use Rattle.wide_forms.specs.Items.{chars};
 ghost use Rattle.wide_utfstr.specs.View.{units_seen};
 ghost use Rattle.wide_edit.specs.Step.{step, is_range};
 ghost use Rattle.wide_edit.specs.Counted.{counted, AddsAtMost};

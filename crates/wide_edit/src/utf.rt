@@ -1,6 +1,6 @@
 //! Well-formed strings as texts that can be edited.
 ghost use Rattle.std.specs.Prelude.{◌≡◌, ◌≤◌, map, IsOk, OnOk, IfOk};
-ghost use Rattle.wide_unit.specs.Offsets.{text_of};
+ghost use Rattle.wide_forms.specs.Offsets.{text_of};
 ghost use Rattle.wide_edit.specs.Step.{step, chars_in};
 ghost use Rattle.wide_edit.specs.Edited.{CanHold, HasReplySpace};
 
@@ -14,7 +14,7 @@ use wide_utferror::FaultUnit;
 use wide_utfstring::UtfString;
 
 impl<C: FaultUnit> TextEdit for UtfString<C> {
-    ghost use Rattle.wide_unit.specs.Offsets.{text_of};
+    ghost use Rattle.wide_forms.specs.Offsets.{text_of};
     ghost use Rattle.wide_edit.specs.Step.{step};
     ghost use Rattle.wide_edit.specs.Edited.{CanHold};
 

@@ -1,7 +1,7 @@
 -- Why no string was made of a UTF-16 file.
 use Rattle.std.specs.Prelude.{◌≡◌, ℕ, List, true, false, Some, Vec}
-use Rattle.wide_unit.specs.EncodingForm.{Utf16 as form16}
-use Rattle.wide_unit.specs.Items.{IsFirstFault}
+use Rattle.wide_forms.specs.EncodingForm.{Utf16 as form16}
+use Rattle.wide_forms.specs.Items.{IsFirstFault}
 use Rattle.wide_utferror.specs.UtfError.{index_of, item_of, unit_of, vec_of}
 use Rattle.wide_bytes.specs.Bytes.{units_of_bytes, is_odd}
 use Rattle.wide_utferror.specs.declared.convert.Utf16BytesError.{Utf16BytesError}

@@ -1,7 +1,7 @@
 //! Converts the bytes of a UTF-16 file to a string.
 ghost use Rattle.std.specs.Prelude.{◌≡◌, false, IfOk, IfErr, OnOk};
-ghost use Rattle.wide_unit.specs.EncodingForm.{Utf16};
-ghost use Rattle.wide_unit.specs.Items.{IsWellFormed};
+ghost use Rattle.wide_forms.specs.EncodingForm.{Utf16};
+ghost use Rattle.wide_forms.specs.Items.{IsWellFormed};
 ghost use Rattle.wide_bytes.specs.Bytes.{units_of_bytes, is_odd};
 ghost use Rattle.wide_include.specs.Include.{ReportsOfBytes};
 

@@ -3,9 +3,9 @@ use Rattle.std.proofs.Common.{◌≡◌, ℕ, List, [], ◌∷◌, ◌++◌, Opt
 use Rattle.std.specs.Prelude.{MatchOption}
 use Rattle.std.specs.Option.{option_map}
 use Rattle.std.proofs.lemmas.List.{map-append}
-use Rattle.wide_unit.specs.Segmentation.{Item, Char, Fault}
+use Rattle.wide_forms.specs.Segmentation.{Item, Char, Fault}
 use Rattle.wide_unit.specs.Unit.{reported_item}
-use Rattle.wide_unit.specs.Lossy.{lossy, lossy_char}
+use Rattle.wide_forms.specs.Lossy.{lossy, lossy_char}
 use Rattle.wide_iter.specs.Lossy.{lossy_answer}
 
 module _ (s t : List Item) where

@@ -4,12 +4,12 @@ use Rattle.std.specs.Prelude.{is_none, map, MatchOption}
 use Rattle.std.specs.Option.{option_to_list}
 use Rattle.std.specs.Iterator.{YieldsFirstBy, YieldsLastBy}
 use Rattle.std.proofs.lemmas.List.{map-append, append-nil}
-use Rattle.wide_unit.specs.Segmentation.{Item, Char, Fault}
+use Rattle.wide_forms.specs.Segmentation.{Item, Char, Fault}
 use Rattle.wide_unit.specs.Unit.{item_of}
-use Rattle.wide_unit.specs.Lossy.{lossy_by, lossy_char}
-use Rattle.wide_unit.specs.Laws.Policies.{lossy_by-at_char, runs-of_run, characters-of_run}
-use Rattle.wide_unit.specs.declared.policy.Policy.{Policy}
-use Rattle.wide_unit.specs.declared.policy.Policy.TheVariants.{Each, Run, Skip}
+use Rattle.wide_forms.specs.Lossy.{lossy_by, lossy_char}
+use Rattle.wide_forms.specs.Laws.Policies.{lossy_by-at_char, runs-of_run, characters-of_run}
+use Rattle.wide_forms.specs.declared.policy.Policy.{Policy}
+use Rattle.wide_forms.specs.declared.policy.Policy.TheVariants.{Each, Run, Skip}
 use Rattle.wide_iter.specs.declared.source.Source.{Source}
 use Rattle.wide_iter.specs.Source.{unasked, source_steps}
 use Rattle.wide_iter.specs.LossyWith.{GivesFirstItem, GivesLastItem, TakesFirstCharacter, TakesLastCharacter}

@@ -2,13 +2,13 @@
 use Rattle.std.proofs.Common.{◌≡◌, ℕ, List, [], ◌∷◌, ◌++◌, sym, ◌∙◌, ap, append_assoc}
 use Rattle.std.specs.Char.{IsScalar}
 use Rattle.std.proofs.lemmas.List.{same_from_push}
-use Rattle.wide_unit.specs.EncodingForm.{EncodingForm, Utf32, code_units, IsFault, IsPair, IsHighSurrogate, IsLowSurrogate}
-use Rattle.wide_unit.specs.Segmentation.{Item, Char, Fault}
-use Rattle.wide_unit.specs.Items.{items}
-use Rattle.wide_unit.specs.Laws.Forms.{IsPair-parts}
-use Rattle.wide_unit.specs.Laws.Items.{items-nil}
-use Rattle.wide_unit.specs.Laws.Ends.{items-first_char, items-first_pair, items-first_fault, items-last_char, items-last_pair, items-last_fault}
-use Rattle.wide_unit.specs.Laws.Utf32.{items32-append}
+use Rattle.wide_forms.specs.EncodingForm.{EncodingForm, Utf32, code_units, IsFault, IsPair, IsHighSurrogate, IsLowSurrogate}
+use Rattle.wide_forms.specs.Segmentation.{Item, Char, Fault}
+use Rattle.wide_forms.specs.Items.{items}
+use Rattle.wide_forms.specs.Laws.Forms.{IsPair-parts}
+use Rattle.wide_forms.specs.Laws.Items.{items-nil}
+use Rattle.wide_forms.specs.Laws.Ends.{items-first_char, items-first_pair, items-first_fault, items-last_char, items-last_pair, items-last_fault}
+use Rattle.wide_forms.specs.Laws.Utf32.{items32-append}
 
 module _ (form : EncodingForm) (all rest : List ℕ) where
   pub none_left : all ≡ [] → rest ≡ [] → (items form all ≡ []) × (items form rest ≡ [])

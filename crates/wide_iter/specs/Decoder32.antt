@@ -1,9 +1,9 @@
 -- What a decoder of UTF-32 will yield.
 use Rattle.std.specs.Prelude.{ℕ, List}
 use Rattle.std.specs.Iterator.{Count}
-use Rattle.wide_unit.specs.EncodingForm.{Utf32}
-use Rattle.wide_unit.specs.Segmentation.{Item}
-use Rattle.wide_unit.specs.Items.{items}
+use Rattle.wide_forms.specs.EncodingForm.{Utf32}
+use Rattle.wide_forms.specs.Segmentation.{Item}
+use Rattle.wide_forms.specs.Items.{items}
 use Rattle.wide_iter.specs.Source.{unasked, CanAsk, source_count}
 use Rattle.wide_iter.specs.declared.source.Source.{Source}
 use Rattle.wide_iter.specs.declared.decode32.DecodeUtf32.{DecodeUtf32}

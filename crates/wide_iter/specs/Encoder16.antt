@@ -2,7 +2,7 @@
 use Rattle.std.specs.Prelude.{◌≡◌, ℕ, ◌+◌, ◌*◌, false, List, ◌++◌, Option, None}
 use Rattle.std.specs.Option.{option_to_list, option_len}
 use Rattle.std.specs.Iterator.{Count, count_map}
-use Rattle.wide_unit.specs.EncodingForm.{Utf16, encode}
+use Rattle.wide_forms.specs.EncodingForm.{Utf16, encode}
 use Rattle.wide_iter.specs.Source.{has_ended, unasked, CanAsk, source_count}
 use Rattle.wide_iter.specs.declared.source.Source.{Source}
 use Rattle.wide_iter.specs.declared.encode16.EncodeUtf16.{EncodeUtf16}

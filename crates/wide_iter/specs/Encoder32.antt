@@ -1,7 +1,7 @@
 -- What an encoder to UTF-32 will yield.
 use Rattle.std.specs.Prelude.{◌≡◌, ℕ, false, List}
 use Rattle.std.specs.Iterator.{Count}
-use Rattle.wide_unit.specs.EncodingForm.{Utf32, encode}
+use Rattle.wide_forms.specs.EncodingForm.{Utf32, encode}
 use Rattle.wide_iter.specs.Source.{has_ended, unasked, CanAsk, source_count}
 use Rattle.wide_iter.specs.declared.source.Source.{Source}
 use Rattle.wide_iter.specs.declared.encode32.EncodeUtf32.{EncodeUtf32}

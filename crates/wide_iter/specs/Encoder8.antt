@@ -1,7 +1,7 @@
 -- What an encoder to UTF-8 will yield.
 use Rattle.std.specs.Prelude.{◌≡◌, ℕ, ◌+◌, ◌*◌, false, List, [], ◌∷◌, ◌++◌, length}
 use Rattle.std.specs.Iterator.{Count, count_map}
-use Rattle.wide_unit.specs.Utf8.{utf8}
+use Rattle.wide_forms.specs.Utf8.{utf8}
 use Rattle.wide_iter.specs.Source.{has_ended, unasked, CanAsk, source_count}
 use Rattle.wide_iter.specs.declared.source.Source.{Source}
 use Rattle.wide_iter.specs.declared.encode8.EncodeUtf8.{EncodeUtf8}

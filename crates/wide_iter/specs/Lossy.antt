@@ -1,6 +1,6 @@
 -- What lossy decoders will yield: the lossy characters of the items that a strict decoder will yield.
 use Rattle.std.specs.Prelude.{ℕ, List, Result, Ok, Err}
-use Rattle.wide_unit.specs.Lossy.{lossy}
+use Rattle.wide_forms.specs.Lossy.{lossy}
 use Rattle.wide_iter.specs.Decoder16.{items_left}
 use Rattle.wide_iter.specs.Decoder32.{items32_left}
 use Rattle.wide_iter.specs.declared.decode16.DecodeUtf16.{DecodeUtf16}

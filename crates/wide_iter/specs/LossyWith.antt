@@ -2,10 +2,10 @@
 use Rattle.std.specs.Prelude.{◌≡◌, ℕ, ◌+◌, false, List, [], ◌∷◌, ◌++◌, map, Option, None, Result, MatchOption}
 use Rattle.std.specs.Option.{option_to_list, option_len}
 use Rattle.std.specs.Iterator.{Count, count_map, IsFinite, YieldsFirst, YieldsLast, YieldsFirstBy, YieldsLastBy}
-use Rattle.wide_unit.specs.Segmentation.{Item, Char, Fault}
+use Rattle.wide_forms.specs.Segmentation.{Item, Char, Fault}
 use Rattle.wide_unit.specs.Unit.{item_of}
-use Rattle.wide_unit.specs.Lossy.{lossy_by}
-use Rattle.wide_unit.specs.declared.policy.Policy.{Policy}
+use Rattle.wide_forms.specs.Lossy.{lossy_by}
+use Rattle.wide_forms.specs.declared.policy.Policy.{Policy}
 use Rattle.wide_iter.specs.Source.{has_ended, unasked, CanAsk, source_count}
 use Rattle.wide_iter.specs.declared.source.Source.{Source}
 use Rattle.wide_iter.specs.declared.lossy_with.LossyWith.{LossyWith}

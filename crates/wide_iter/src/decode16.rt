@@ -2,8 +2,8 @@
 ghost use Rattle.std.specs.Prelude.{◌≡◌, ◌≤◌, ◌/◌, ◌*◌, ℕ, List, length, IfNone, IfSome, None, Some};
 ghost use Rattle.std.specs.Iterator.{MakesProgress, UpTo};
 ghost use Rattle.std.specs.Iterator.SizeHint.{IsWithinCount};
-ghost use Rattle.wide_unit.specs.EncodingForm.{Utf16, IsCodeUnit};
-ghost use Rattle.wide_unit.specs.Items.{items};
+ghost use Rattle.wide_forms.specs.EncodingForm.{Utf16, IsCodeUnit};
+ghost use Rattle.wide_forms.specs.Items.{items};
 ghost use Rattle.wide_unit.specs.Unit.{reported_item};
 ghost use Rattle.wide_iter.specs.Over.{FirstOver, LastOver};
 ghost use Rattle.wide_iter.specs.Source.{inner_of, unasked, source_count};

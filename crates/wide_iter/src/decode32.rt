@@ -1,8 +1,8 @@
 //! The decoder of UTF-32.
 ghost use Rattle.std.specs.Prelude.{◌≡◌, ◌∷◌, [], ℕ, false, List, Some};
 ghost use Rattle.std.specs.Iterator.{size};
-ghost use Rattle.wide_unit.specs.EncodingForm.{Utf32, IsCodeUnit};
-ghost use Rattle.wide_unit.specs.Items.{items};
+ghost use Rattle.wide_forms.specs.EncodingForm.{Utf32, IsCodeUnit};
+ghost use Rattle.wide_forms.specs.Items.{items};
 ghost use Rattle.wide_unit.specs.Unit.{reported_item};
 ghost use Rattle.wide_iter.specs.Over.{FirstOver, LastOver};
 ghost use Rattle.wide_iter.specs.Source.{has_ended, inner_of};

@@ -4,7 +4,7 @@ ghost use Rattle.std.specs.Option.{option_len};
 ghost use Rattle.std.specs.Iterator.{UpTo};
 ghost use Rattle.std.specs.Iterator.SizeHint.{IsWithinCount};
 ghost use Rattle.std.specs.Char.{IsScalar};
-ghost use Rattle.wide_unit.specs.EncodingForm.{Utf16, encode};
+ghost use Rattle.wide_forms.specs.EncodingForm.{Utf16, encode};
 ghost use Rattle.wide_iter.specs.Over.{FirstOver};
 ghost use Rattle.wide_iter.specs.Hints.{upper_times};
 ghost use Rattle.wide_iter.specs.Source.{inner_of, source_count, unasked};

@@ -1,7 +1,7 @@
 //! The encoder to UTF-32.
 ghost use Rattle.std.specs.Prelude.{◌≡◌, ℕ, List, length, Some};
 ghost use Rattle.std.specs.Char.{IsScalar};
-ghost use Rattle.wide_unit.specs.EncodingForm.{Utf32, encode};
+ghost use Rattle.wide_forms.specs.EncodingForm.{Utf32, encode};
 ghost use Rattle.wide_iter.specs.Over.{FirstOver, LastOver};
 ghost use Rattle.wide_iter.specs.Source.{inner_of, unasked};
 ghost use Rattle.wide_iter.specs.Sources.{copied_rest};

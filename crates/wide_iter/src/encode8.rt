@@ -3,7 +3,7 @@ ghost use Rattle.std.specs.Prelude.{◌≡◌, ◌∷◌, ◌≤◌, ℕ, List, 
 ghost use Rattle.std.specs.Iterator.{UpTo};
 ghost use Rattle.std.specs.Iterator.SizeHint.{IsWithinCount};
 ghost use Rattle.std.specs.Char.{IsScalar};
-ghost use Rattle.wide_unit.specs.Utf8.{utf8_bytes, utf8, trailing_byte};
+ghost use Rattle.wide_forms.specs.Utf8.{utf8_bytes, utf8, trailing_byte};
 ghost use Rattle.wide_iter.specs.Over.{FirstOver};
 ghost use Rattle.wide_iter.specs.Hints.{upper_times};
 ghost use Rattle.wide_iter.specs.Source.{inner_of, source_count, unasked};
@@ -59,7 +59,7 @@ fn trailing_byte(bits: u32) -> u8
 
 // Returns the first byte of a character, and the bytes after it.
 #[inline]
-#[tactic(auto, unfolding(wide_unit::specs::Utf8::utf8_bytes))]
+#[tactic(auto, unfolding(wide_forms::specs::Utf8::utf8_bytes))]
 fn encoded(c: char) -> (u8, Pending)
     ensures { result.0 ∷ pending_bytes result.1 ≡ utf8_bytes c }
 {

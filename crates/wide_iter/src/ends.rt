@@ -1,8 +1,8 @@
 //! Decodes slices by a list of calls, from both ends.
 ghost use Rattle.std.specs.Prelude.{◌≡◌, [], map, IfOk, IsOk};
 ghost use Rattle.std.specs.Option.{option_map};
-ghost use Rattle.wide_unit.specs.EncodingForm.{Utf16, Utf32};
-ghost use Rattle.wide_unit.specs.Items.{items};
+ghost use Rattle.wide_forms.specs.EncodingForm.{Utf16, Utf32};
+ghost use Rattle.wide_forms.specs.Items.{items};
 ghost use Rattle.wide_unit.specs.Unit.{reported_item};
 ghost use Rattle.wide_iter.specs.Answers.{answers};
 

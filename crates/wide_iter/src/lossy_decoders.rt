@@ -2,9 +2,9 @@
 ghost use Rattle.std.specs.Prelude.{◌≡◌, ℕ, List, IfSome, None};
 ghost use Rattle.std.specs.Iterator.{UpTo};
 ghost use Rattle.std.specs.Iterator.SizeHint.{IsWithinCount};
-ghost use Rattle.wide_unit.specs.EncodingForm.{Utf16, Utf32, IsCodeUnit};
-ghost use Rattle.wide_unit.specs.Items.{items};
-ghost use Rattle.wide_unit.specs.Lossy.{lossy_by};
+ghost use Rattle.wide_forms.specs.EncodingForm.{Utf16, Utf32, IsCodeUnit};
+ghost use Rattle.wide_forms.specs.Items.{items};
+ghost use Rattle.wide_forms.specs.Lossy.{lossy_by};
 ghost use Rattle.wide_iter.specs.Over.{FirstOver, LastOver};
 ghost use Rattle.wide_iter.specs.LossyDecoders.{units16_of, units32_of, lossy16_with_left, lossy32_with_left, lossy16_with_count, lossy32_with_count, CanDecode16With, CanDecode32With, IsNew16With, IsNew32With};
 
@@ -12,7 +12,7 @@ use crate::decode16::{DecodeUtf16, decode_utf16};
 use crate::decode32::{DecodeUtf32, decode_utf32};
 use crate::lossy_with::LossyWith;
 use std::iter::FusedIterator;
-use wide_unit::Policy;
+use wide_forms::Policy;
 
 /// An iterator over the characters of UTF-16 units, with what a policy yields in place of each unit that belongs to no
 /// character (Unicode Standard, D93b).

@@ -1,15 +1,15 @@
 //! Decodes slices as lossy text by a list of calls, from both ends.
 ghost use Rattle.std.specs.Prelude.{◌≡◌, [], IfOk, IsOk};
-ghost use Rattle.wide_unit.specs.EncodingForm.{Utf16, Utf32};
-ghost use Rattle.wide_unit.specs.Items.{items};
-ghost use Rattle.wide_unit.specs.Lossy.{lossy_by};
+ghost use Rattle.wide_forms.specs.EncodingForm.{Utf16, Utf32};
+ghost use Rattle.wide_forms.specs.Items.{items};
+ghost use Rattle.wide_forms.specs.Lossy.{lossy_by};
 ghost use Rattle.wide_iter.specs.Answers.{answers};
 
 use crate::ends::End;
 use crate::lossy_decoders::{decode_utf16_lossy_with, decode_utf32_lossy_with};
 use std::alloc::Allocator;
 use wide_error::OutOfMemory;
-use wide_unit::Policy;
+use wide_forms::Policy;
 
 /// Returns what a lossy decoder of the 16-bit `units` returns, under a policy, for the calls of `ends`, one result for
 /// each call, in order (Unicode Standard, D91 and D93b). Allocates once, or not at all if there are no calls.

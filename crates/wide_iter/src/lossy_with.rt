@@ -6,7 +6,7 @@ ghost use Rattle.wide_iter.specs.Source.{has_ended, inner_of, source_count, CanA
 ghost use Rattle.wide_iter.specs.LossyWith.{CanAskAll, TakesFirstCharacter, TakesLastCharacter, LossyFirst, LossyLast, lossy_source, policy_of, IsUnread, lossy_with_count};
 
 use crate::source::Source;
-use wide_unit::Policy;
+use wide_forms::Policy;
 
 /// An iterator over the characters that `items` yields, with what a policy yields in place of each fault.
 ///

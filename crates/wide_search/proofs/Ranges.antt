@@ -2,7 +2,7 @@
 use Rattle.std.proofs.Common.{◌≡◌, ℕ, zero, suc, ◌+◌, ◌-◌, ◌<◌, ◌≤◌, Bool, true, false, not, ◌&&◌, List, [], ◌∷◌, length, get_or, map, take, drop, inl, inr, refl, sym, ap, ◌∙◌, subst, arith, get_or-take, get_or-drop, length-take}
 use Rattle.std.proofs.lemmas.List.{map-id, length-map, take-map, drop-map}
 use Rattle.std.proofs.lemmas.List.Sums.{prefix_len_passes, prefix_len-le-length}
-use Rattle.wide_unit.specs.Searches.{first_offset, is_unit}
+use Rattle.wide_forms.specs.Searches.{first_offset, is_unit}
 use Rattle.wide_search.specs.Probes.{are_units, StandAt}
 use Rattle.std.proofs.lemmas.Bool.{cases_lt}
 

@@ -5,13 +5,13 @@ use Rattle.std.specs.Char.{IsScalar}
 use Rattle.std.proofs.lemmas.Bool.{cases_lt}
 use Rattle.std.proofs.lemmas.List.{length-map, take_all}
 use Rattle.std.proofs.Math.Seq.{take-append_seam, drop-append_seam}
-use Rattle.wide_unit.specs.EncodingForm.{EncodingForm, code_units}
-use Rattle.wide_unit.specs.Items.{IsBoundary, IsWellFormed}
-use Rattle.wide_unit.specs.Offsets.{IsCharBoundary}
-use Rattle.wide_unit.specs.Laws.Boundaries.{IsBoundary-end}
-use Rattle.wide_unit.specs.Laws.Offsets.{IsBoundary-start}
-use Rattle.wide_unit.specs.Laws.Ends.{IsWellFormed-code_units}
-use Rattle.wide_unit.specs.Laws.Forms.{some_units}
+use Rattle.wide_forms.specs.EncodingForm.{EncodingForm, code_units}
+use Rattle.wide_forms.specs.Items.{IsBoundary, IsWellFormed}
+use Rattle.wide_forms.specs.Offsets.{IsCharBoundary}
+use Rattle.wide_forms.specs.Laws.Boundaries.{IsBoundary-end}
+use Rattle.wide_forms.specs.Laws.Offsets.{IsBoundary-start}
+use Rattle.wide_forms.specs.Laws.Ends.{IsWellFormed-code_units}
+use Rattle.wide_forms.specs.Laws.Forms.{some_units}
 use Rattle.wide_unit.proofs.CharBoundaries.{IsCharBoundary-of}
 use Rattle.wide_search.specs.Occurrences.{OccursAt, IsFirstAt, IsLastAt, BeginsWith, EndsWith}
 use Rattle.wide_search.specs.Laws.Ends.{IsBoundary-needle, IsBoundary-after_needle}

@@ -1,6 +1,6 @@
 -- Two units at a distance from each other, by which a search finds where a needle may occur.
 use Rattle.std.specs.Prelude.{◌≡◌, ◌+◌, ◌&&◌, [], ◌∷◌, ℕ, Bool, List, length, take, drop, slice_index, true}
-use Rattle.wide_unit.specs.Searches.{is_unit}
+use Rattle.wide_forms.specs.Searches.{is_unit}
 use Rattle.wide_search.specs.declared.needle.Probe.{Probe}
 
 -- The first unit of the needle, its last one, and how far the last one is from the first.

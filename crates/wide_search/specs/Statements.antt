@@ -1,8 +1,8 @@
 -- The laws of the definitions. Each is the contract of a function of the crate.
 use Rattle.std.specs.Prelude.{◌≡◌, ℕ, ◌+◌, ◌<◌, ◌↔◌, List, [], ◌∷◌, length}
-use Rattle.wide_unit.specs.EncodingForm.{EncodingForm}
-use Rattle.wide_unit.specs.Items.{chars, IsWellFormed, IsBoundary}
-use Rattle.wide_unit.specs.Offsets.{chars_before}
+use Rattle.wide_forms.specs.EncodingForm.{EncodingForm}
+use Rattle.wide_forms.specs.Items.{chars, IsWellFormed, IsBoundary}
+use Rattle.wide_forms.specs.Offsets.{chars_before}
 use Rattle.wide_search.specs.Occurrences.{OccursAt, IsFirstAt, IsLastAt}
 use Rattle.wide_search.specs.Substrings.{AreSubstrings, joined_with}
 use Rattle.wide_search.specs.Cut.{substrings}

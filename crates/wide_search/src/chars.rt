@@ -1,6 +1,6 @@
 //! Searches for a character in units.
 ghost use Rattle.std.specs.Prelude.{◌+◌, ◌≤◌, length, map, IfNone, IfSome};
-ghost use Rattle.wide_unit.specs.EncodingForm.{code_units};
+ghost use Rattle.wide_forms.specs.EncodingForm.{code_units};
 ghost use Rattle.wide_search.specs.Occurrences.{IsFirstAt, IsLastAt, OccursNowhere};
 
 use crate::needle::Few;

@@ -1,7 +1,7 @@
 //! Needles of a search: some units, or those of one character.
 ghost use Rattle.std.specs.Prelude.{◌≡◌, ◌↔◌, ◌≤◌, ◌∷◌, [], ℕ, List, length, map, take, ◌<◌, IfSome, IsTrue, MatchOption};
 ghost use Rattle.wide_unit.specs.CommonPrefix.{IsCommonPrefix};
-ghost use Rattle.wide_unit.specs.EncodingForm.{code_units};
+ghost use Rattle.wide_forms.specs.EncodingForm.{code_units};
 ghost use Rattle.wide_search.specs.Occurrences.{OccursAt};
 ghost use Rattle.wide_search.specs.Probes.{IsProbe};
 ghost use Rattle.wide_search.specs.Sought.{units_of_few};

@@ -8,7 +8,7 @@ ghost use Rattle.std.specs.Prelude.{◌≡◌, ◌+◌, ◌<◌, ◌≤◌, ℕ,
 ghost use Rattle.std.proofs.Common.{rules};
 ghost use Rattle.std.specs.Simd.Lanes.{mask_l, zip2};
 ghost use Rattle.wide_search.specs.Probes.{are_units, StandAt};
-ghost use Rattle.wide_unit.specs.Searches.{is_unit};
+ghost use Rattle.wide_forms.specs.Searches.{is_unit};
 
 use std::simd::prelude::*;
 use wide_unit::{AnyUnits, Unit};

@@ -1,6 +1,6 @@
 //! `Debug` of a view of a C string.
 ghost use Rattle.std.specs.Prelude.{map};
-ghost use Rattle.wide_unit.specs.Texts.{debug_output};
+ghost use Rattle.wide_forms.specs.Texts.{debug_output};
 
 use crate::view::UCStr;
 use std::fmt;

@@ -1,6 +1,6 @@
 //! Searches in the contents of C strings.
 ghost use Rattle.std.specs.Prelude.{◌≡◌, ◌↔◌, ◌+◌, ◌++◌, ◌∷◌, [], ◌≤◌, ◌<◌, ◌^◌, length, map, IsTrue, IsSome, IfNone, IfSome};
-ghost use Rattle.wide_unit.specs.EncodingForm.{code_units};
+ghost use Rattle.wide_forms.specs.EncodingForm.{code_units};
 ghost use Rattle.wide_search.specs.Occurrences.{OccursIn, IsFirstAt, IsLastAt, OccursNowhere, BeginsWith, EndsWith, IsFirstSplit, IsLastSplit};
 ghost use Rattle.wide_search.specs.Substrings.{AreSubstrings};
 ghost use Rattle.wide_search.specs.Cut.{substrings};

@@ -1,8 +1,8 @@
 //! Views of wide C strings.
 ghost use Rattle.std.specs.Prelude.{◌≡◌, ℕ, ◌≤◌, ◌↔◌, ◌+◌, ◌++◌, ◌∷◌, ◌==◌, [], length, map, take, drop, IsSome, IfOk, IfErr, OnOk, OnErr, IfSome, ⊤};
-ghost use Rattle.wide_unit.specs.Range.{IsInRange, part_of};
-ghost use Rattle.wide_unit.specs.Items.{items};
-ghost use Rattle.wide_unit.specs.Lossy.{lossy, lossy_by};
+ghost use Rattle.wide_forms.specs.Range.{IsInRange, part_of};
+ghost use Rattle.wide_forms.specs.Items.{items};
+ghost use Rattle.wide_forms.specs.Lossy.{lossy, lossy_by};
 ghost use Rattle.wide_unit.specs.Nul.{HasNoNul, IsFirstNul};
 ghost use Rattle.wide_ustr.specs.View.{units_seen};
 ghost use Rattle.wide_ustr.specs.Indexed.{indexed, indexed_lossy};
@@ -15,7 +15,8 @@ ghost use Rattle.wide_ucstr.specs.CString.{IsCString};
 use std::alloc::AllocError;
 use std::ops::RangeBounds;
 use wide_error::{ContainsNul, MissingNulTerminator, NulError};
-use wide_unit::{Policy, Unit, first_nul};
+use wide_forms::Policy;
+use wide_unit::{Unit, first_nul};
 use wide_ustr::{
     CharIndices, CharIndicesLossy, Chars, CharsLossy, CharsLossyWith, Display, DisplaySkipping,
     UStr,

@@ -5,11 +5,11 @@ use Rattle.std.specs.List.{take-map}
 use Rattle.std.specs.Str.{IsUtf8, chars as str_chars}
 use Rattle.std.proofs.Math.Seq.{take-append_seam}
 use Rattle.std.proofs.lemmas.List.{take_more, map-id, length-map, length-append}
-use Rattle.wide_unit.specs.EncodingForm.{EncodingForm, encode}
-use Rattle.wide_unit.specs.Items.{chars}
+use Rattle.wide_forms.specs.EncodingForm.{EncodingForm, encode}
+use Rattle.wide_forms.specs.Items.{chars}
 use Rattle.wide_unit.specs.Nul.{HasNoNul, IsFirstNul}
-use Rattle.wide_unit.specs.Utf8.{utf8}
-use Rattle.wide_unit.specs.Laws.Texts.{text-back}
+use Rattle.wide_forms.specs.Utf8.{utf8}
+use Rattle.wide_forms.specs.Laws.Texts.{text-back}
 use Rattle.wide_ucstr.specs.CString.{contents}
 use Rattle.wide_ucstring.specs.Made.{EndsAsGiven, EndsAtFirst}
 

@@ -1,6 +1,6 @@
 //! C strings in an allocation of exactly their length, which does not grow.
 ghost use Rattle.std.specs.Prelude.{◌≡◌, ◌<◌, ◌≤◌, length, map, IsOk, IfOk, IfErr};
-ghost use Rattle.wide_unit.specs.Texts.{debug_output};
+ghost use Rattle.wide_forms.specs.Texts.{debug_output};
 ghost use Rattle.wide_ustring.specs.Units.{ustring_len};
 ghost use Rattle.wide_ucstr.specs.View.{units_with_nul};
 

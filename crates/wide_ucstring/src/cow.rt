@@ -1,6 +1,6 @@
 //! C strings that are borrowed or owned.
 ghost use Rattle.std.specs.Prelude.{◌≡◌, map, Ok, IfOk};
-ghost use Rattle.wide_unit.specs.Texts.{debug_output};
+ghost use Rattle.wide_forms.specs.Texts.{debug_output};
 ghost use Rattle.wide_ucstr.specs.View.{units_with_nul};
 ghost use Rattle.wide_ucstring.specs.CowCString.{cow_units_with_nul, IfOwned};
 

@@ -1,6 +1,6 @@
 //! `Debug` of an owned C string.
 ghost use Rattle.std.specs.Prelude.{map};
-ghost use Rattle.wide_unit.specs.Texts.{debug_output};
+ghost use Rattle.wide_forms.specs.Texts.{debug_output};
 
 use crate::ucstring::UCString;
 use std::alloc::Allocator;

@@ -1,10 +1,10 @@
 //! Owned wide C strings.
 ghost use Rattle.std.specs.Prelude.{◌≡◌, ◌≤◌, ◌+◌, ◌++◌, ◌∷◌, [], max, length, map, IfOk, IfErr, vec_capacity};
 ghost use Rattle.std.specs.Str.{chars};
-ghost use Rattle.wide_unit.specs.EncodingForm.{encode};
-ghost use Rattle.wide_unit.specs.Items.{chars as text_chars};
+ghost use Rattle.wide_forms.specs.EncodingForm.{encode};
+ghost use Rattle.wide_forms.specs.Items.{chars as text_chars};
 ghost use Rattle.wide_unit.specs.Nul.{HasNoNul};
-ghost use Rattle.wide_unit.specs.Utf8.{utf8};
+ghost use Rattle.wide_forms.specs.Utf8.{utf8};
 ghost use Rattle.wide_ustr.specs.View.{units_seen};
 ghost use Rattle.wide_ustring.specs.Units.{Units};
 ghost use Rattle.wide_ucstr.specs.CString.{IsCString, contents};

@@ -5,12 +5,12 @@ use Rattle.std.specs.Char.{IsScalar}
 use Rattle.std.specs.List.{All}
 use Rattle.std.proofs.lemmas.List.{map-id, map-append, drop-map, take_all, length-map}
 use Rattle.std.proofs.lemmas.List.Sums.{prefix_len_is}
-use Rattle.wide_unit.specs.EncodingForm.{EncodingForm, Utf16, Utf32, IsFault}
-use Rattle.wide_unit.specs.Segmentation.{Char}
-use Rattle.wide_unit.specs.Items.{items, BeginsWithChars}
-use Rattle.wide_unit.specs.Searches.{IsFirstOffset, first_offset, is_surrogate, is_no_scalar, is_unit}
-use Rattle.wide_unit.specs.Laws.Forms.{unit-cases, IsFault-surrogate, surrogate-of_fault, IsFault-no_scalar, no_scalar-of_fault}
-use Rattle.wide_unit.specs.Laws.Ends.{items-first_char}
+use Rattle.wide_forms.specs.EncodingForm.{EncodingForm, Utf16, Utf32, IsFault}
+use Rattle.wide_forms.specs.Segmentation.{Char}
+use Rattle.wide_forms.specs.Items.{items, BeginsWithChars}
+use Rattle.wide_forms.specs.Searches.{IsFirstOffset, first_offset, is_surrogate, is_no_scalar, is_unit}
+use Rattle.wide_forms.specs.Laws.Forms.{unit-cases, IsFault-surrogate, surrogate-of_fault, IsFault-no_scalar, no_scalar-of_fault}
+use Rattle.wide_forms.specs.Laws.Ends.{items-first_char}
 use Rattle.wide_unit.proofs.Masks.{NoneBefore, none_to_offset, offset_here, offset_in}
 
 -- ---- the index of the first unit of a kind

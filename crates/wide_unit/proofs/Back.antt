@@ -3,10 +3,10 @@ use Rattle.std.proofs.Common.{◌≡◌, ℕ, ◌+◌, ◌-◌, ◌≤◌, List,
 use Rattle.std.specs.Prelude.{map}
 use Rattle.std.specs.Char.{IsScalar}
 use Rattle.std.proofs.lemmas.List.{take_all, take_more, map_push, map-append, same_from_push}
-use Rattle.wide_unit.specs.EncodingForm.{EncodingForm, code_units, IsFault, IsPair}
-use Rattle.wide_unit.specs.Segmentation.{Char, Fault}
-use Rattle.wide_unit.specs.Items.{items}
-use Rattle.wide_unit.specs.Laws.Ends.{items-back_char, items-back_fault}
+use Rattle.wide_forms.specs.EncodingForm.{EncodingForm, code_units, IsFault, IsPair}
+use Rattle.wide_forms.specs.Segmentation.{Char, Fault}
+use Rattle.wide_forms.specs.Items.{items}
+use Rattle.wide_forms.specs.Laws.Ends.{items-back_char, items-back_fault}
 
 -- The last element of a slice and the rest, as a pattern matches them.
 pub last_rest : {X : Type 0} (xs : List X) (x : X) → 1 ≤ length xs → x ≡ get_or xs (length xs - 1) x → xs ≡ take (length xs - 1) xs ++ x ∷ []

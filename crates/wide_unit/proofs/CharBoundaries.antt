@@ -2,11 +2,11 @@
 use Rattle.std.proofs.Common.{◌≡◌, ℕ, zero, suc, List, inl, inr, subst, arith, length}
 use Rattle.std.specs.Prelude.{◌↔◌, ◌⊎◌}
 use Rattle.std.proofs.lemmas.Bool.{cases_lt}
-use Rattle.wide_unit.specs.EncodingForm.{EncodingForm}
-use Rattle.wide_unit.specs.Items.{IsBoundary, IsWellFormed}
-use Rattle.wide_unit.specs.Offsets.{IsTextRange, IsCharBoundary, IsCharRange}
-use Rattle.wide_unit.specs.Laws.Boundaries.{IsBoundary-at, IsBoundary-end, no-low_at_boundary}
-use Rattle.wide_unit.specs.Laws.Offsets.{IsBoundary-start, IsBoundary-within}
+use Rattle.wide_forms.specs.EncodingForm.{EncodingForm}
+use Rattle.wide_forms.specs.Items.{IsBoundary, IsWellFormed}
+use Rattle.wide_forms.specs.Offsets.{IsTextRange, IsCharBoundary, IsCharRange}
+use Rattle.wide_forms.specs.Laws.Boundaries.{IsBoundary-at, IsBoundary-end, no-low_at_boundary}
+use Rattle.wide_forms.specs.Laws.Offsets.{IsBoundary-start, IsBoundary-within}
 
 -- These hold for any units.
 pub IsBoundary-of_char : (form : EncodingForm) (us : List ℕ) (offset : ℕ) → IsCharBoundary form us offset → IsBoundary form us offset

@@ -6,10 +6,10 @@ use Rattle.std.specs.List.{flat_map, list_all}
 use Rattle.std.specs.Fmt.{WritesOnOk, DisplaysOnOk, HasWritten, IsPlainFormatter}
 use Rattle.std.specs.declared.fmt.Formatter.{Formatter}
 use Rattle.std.specs.declared.fmt.Error.{Error}
-use Rattle.wide_unit.specs.Segmentation.{Item, Char}
-use Rattle.wide_unit.specs.Utf8.{utf8}
-use Rattle.wide_unit.specs.Laws.Utf8.{utf8-encode_utf8_all}
-use Rattle.wide_unit.specs.Texts.{debug_item, is_plain, quoted, quoted_output}
+use Rattle.wide_forms.specs.Segmentation.{Item, Char}
+use Rattle.wide_forms.specs.Utf8.{utf8}
+use Rattle.wide_forms.specs.Laws.Utf8.{utf8-encode_utf8_all}
+use Rattle.wide_forms.specs.Texts.{debug_item, is_plain, quoted, quoted_output}
 use Rattle.wide_unit.proofs.Printed.{HasPrinted, printed-none, printed-more, printed-all}
 
 -- A text that is promised under a condition.

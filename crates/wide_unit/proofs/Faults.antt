@@ -7,17 +7,17 @@ use Rattle.std.specs.Option.{option_map}
 use Rattle.std.proofs.Math.Seq.{take-append_seam}
 use Rattle.std.proofs.lemmas.List.{take-append-drop, append_cancel_left}
 use Rattle.std.proofs.lemmas.List.Elements.{Contains-append_right}
-use Rattle.wide_unit.specs.EncodingForm.{EncodingForm, encode}
-use Rattle.wide_unit.specs.Segmentation.{Item, Char, Fault, units_of}
-use Rattle.wide_unit.specs.Items.{items, chars, leading_characters, first_fault_unit, first_fault, IsWellFormed, IsFirstFault}
-use Rattle.wide_unit.specs.Offsets.{chars_before}
-use Rattle.wide_unit.specs.Lossy.{lossy}
-use Rattle.wide_unit.specs.Laws.Chains.{Chain}
-use Rattle.wide_unit.specs.Laws.Items.{items-chain, units_of-items, units_of-chars, IsWellFormed-of_chars, chars-of_well_formed, items-encode}
-use Rattle.wide_unit.specs.Laws.Boundaries.{units_of-append}
-use Rattle.wide_unit.specs.Laws.Ends.{items-append_left}
-use Rattle.wide_unit.specs.Laws.Lossy.{lossy-after}
-use Rattle.wide_unit.specs.Laws.Offsets.{IsWellFormed-encode, chars-encode}
+use Rattle.wide_forms.specs.EncodingForm.{EncodingForm, encode}
+use Rattle.wide_forms.specs.Segmentation.{Item, Char, Fault, units_of}
+use Rattle.wide_forms.specs.Items.{items, chars, leading_characters, first_fault_unit, first_fault, IsWellFormed, IsFirstFault}
+use Rattle.wide_forms.specs.Offsets.{chars_before}
+use Rattle.wide_forms.specs.Lossy.{lossy}
+use Rattle.wide_forms.specs.Laws.Chains.{Chain}
+use Rattle.wide_forms.specs.Laws.Items.{items-chain, units_of-items, units_of-chars, IsWellFormed-of_chars, chars-of_well_formed, items-encode}
+use Rattle.wide_forms.specs.Laws.Boundaries.{units_of-append}
+use Rattle.wide_forms.specs.Laws.Ends.{items-append_left}
+use Rattle.wide_forms.specs.Laws.Lossy.{lossy-after}
+use Rattle.wide_forms.specs.Laws.Offsets.{IsWellFormed-encode, chars-encode}
 
 leading-of : (prefix : List ℕ) (u : ℕ) (rest : List Item) → leading_characters (map Char prefix ++ Fault u ∷ rest) ≡ prefix
 leading-of [] u rest = refl

@@ -6,9 +6,9 @@ use Rattle.std.proofs.lemmas.List.{take-append-drop, drop-map, length-map, map_p
 use Rattle.std.specs.List.{take-map}
 use Rattle.std.proofs.Math.Seq.{drop-cons}
 use Rattle.std.proofs.lemmas.List.Elements.{All-map}
-use Rattle.wide_unit.specs.EncodingForm.{EncodingForm}
-use Rattle.wide_unit.specs.Lines.{line_feed, carriage_return, IsFirstLine}
-use Rattle.wide_unit.specs.Laws.Lines.{IsFirstLine-feed, IsFirstLine-return, IsFirstLine-whole}
+use Rattle.wide_forms.specs.EncodingForm.{EncodingForm}
+use Rattle.wide_forms.specs.Lines.{line_feed, carriage_return, IsFirstLine}
+use Rattle.wide_forms.specs.Laws.Lines.{IsFirstLine-feed, IsFirstLine-return, IsFirstLine-whole}
 use Rattle.wide_unit.proofs.Back.{last_rest}
 
 module _ {X : Type 0} (form : EncodingForm) (number : X → ℕ) (xs : List X) where

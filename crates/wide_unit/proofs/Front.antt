@@ -3,11 +3,11 @@ use Rattle.std.proofs.Common.{◌≡◌, ℕ, ◌-◌, ◌≤◌, List, [], ◌�
 use Rattle.std.specs.Prelude.{map}
 use Rattle.std.specs.Char.{IsScalar}
 use Rattle.std.proofs.lemmas.List.{take_all}
-use Rattle.wide_unit.specs.EncodingForm.{EncodingForm, code_units, IsFault, IsPair}
-use Rattle.wide_unit.specs.Segmentation.{Char, Fault}
-use Rattle.wide_unit.specs.Items.{items}
-use Rattle.wide_unit.specs.Laws.Items.{items-nil}
-use Rattle.wide_unit.specs.Laws.Ends.{items-prefix_char, items-prefix_fault}
+use Rattle.wide_forms.specs.EncodingForm.{EncodingForm, code_units, IsFault, IsPair}
+use Rattle.wide_forms.specs.Segmentation.{Char, Fault}
+use Rattle.wide_forms.specs.Items.{items}
+use Rattle.wide_forms.specs.Laws.Items.{items-nil}
+use Rattle.wide_forms.specs.Laws.Ends.{items-prefix_char, items-prefix_fault}
 
 -- The first element of a slice and the rest, as a pattern matches them.
 pub first_rest : {X : Type 0} (xs : List X) (x : X) → 1 ≤ length xs → x ≡ get_or xs 0 x → xs ≡ x ∷ take (length xs - 1) (drop 1 xs)

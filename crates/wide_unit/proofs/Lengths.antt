@@ -9,11 +9,11 @@ use Rattle.std.proofs.lemmas.List.Sums.{sum_by-append, sum_by-cons}
 use Rattle.std.proofs.Math.Seq.{take-add, take-length}
 use Rattle.std.proofs.lemmas.List.Concat.{length-flat_map}
 use Rattle.std.proofs.lemmas.Str.{encodes-chars, scalars-chars}
-use Rattle.wide_unit.specs.EncodingForm.{Utf16, Utf32, code_units, encode}
-use Rattle.wide_unit.specs.Utf8.{utf8_bytes, utf8, trailing_byte}
+use Rattle.wide_forms.specs.EncodingForm.{Utf16, Utf32, code_units, encode}
+use Rattle.wide_forms.specs.Utf8.{utf8_bytes, utf8, trailing_byte}
 use Rattle.wide_unit.specs.LeadingByte.{begins, units_begun}
-use Rattle.wide_unit.specs.Laws.Forms.{ranges, one_unit, two_units}
-use Rattle.wide_unit.specs.Laws.Utf8.{utf8-encode_utf8_all, one_byte, two_bytes, three_bytes, four_bytes}
+use Rattle.wide_forms.specs.Laws.Forms.{ranges, one_unit, two_units}
+use Rattle.wide_forms.specs.Laws.Utf8.{utf8-encode_utf8_all, one_byte, two_bytes, three_bytes, four_bytes}
 
 begun-ascii : (b : ℕ) → b < 0x80 → units_begun b ≡ 1
 begun-ascii b h = grind (arith, nat_tests)

@@ -17,5 +17,5 @@ mod Alone
 mod Mendings
 mod Masks
 mod Pairs
-pub mod Counts
+mod Counts
 mod SameLanes

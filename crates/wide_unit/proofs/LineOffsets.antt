@@ -5,15 +5,15 @@ use Rattle.std.specs.List.{All, slice_split, onto_first}
 use Rattle.std.proofs.lemmas.Bool.{eqb-true}
 use Rattle.std.proofs.lemmas.List.{length-map}
 use Rattle.std.proofs.lemmas.List.Elements.{All-nil, All-cons, All-head, All-tail}
-use Rattle.wide_unit.specs.EncodingForm.{EncodingForm, code_units}
-use Rattle.wide_unit.specs.Segmentation.{Item, Char, Fault, units_of, item_units}
-use Rattle.wide_unit.specs.Items.{items, IsBoundary, IsWellFormed}
-use Rattle.wide_unit.specs.Offsets.{IsCharBoundary}
-use Rattle.wide_unit.specs.Lines.{line_feed, is_line_feed, without_return, lines_of_substrings, lines_of, placed_substrings, placed_lines}
-use Rattle.wide_unit.specs.Laws.Boundaries.{units_of-append}
-use Rattle.wide_unit.specs.Laws.Items.{units_of-items}
-use Rattle.wide_unit.specs.Laws.Forms.{some_units}
-use Rattle.wide_unit.specs.Laws.Lines.{one_feed, substrings-some}
+use Rattle.wide_forms.specs.EncodingForm.{EncodingForm, code_units}
+use Rattle.wide_forms.specs.Segmentation.{Item, Char, Fault, units_of, item_units}
+use Rattle.wide_forms.specs.Items.{items, IsBoundary, IsWellFormed}
+use Rattle.wide_forms.specs.Offsets.{IsCharBoundary}
+use Rattle.wide_forms.specs.Lines.{line_feed, is_line_feed, without_return, lines_of_substrings, lines_of, placed_substrings, placed_lines}
+use Rattle.wide_forms.specs.Laws.Boundaries.{units_of-append}
+use Rattle.wide_forms.specs.Laws.Items.{units_of-items}
+use Rattle.wide_forms.specs.Laws.Forms.{some_units}
+use Rattle.wide_forms.specs.Laws.Lines.{one_feed, substrings-some}
 use Rattle.wide_unit.proofs.CharBoundaries.{IsCharBoundary-of}
 
 -- The fragments with a line feed between them.

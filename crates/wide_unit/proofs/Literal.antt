@@ -2,9 +2,9 @@
 use Rattle.std.proofs.Common.{◌≡◌, ℕ, suc, zero, ◌<◌, List, [], ◌∷◌, ◌++◌, refl, sym, arith, length, get_or, subst}
 use Rattle.std.specs.Char.{IsScalar}
 use Rattle.std.specs.List.{All, Contains}
-use Rattle.wide_unit.specs.EncodingForm.{EncodingForm, Utf16, Utf32, IsFault, IsCodeUnit}
-use Rattle.wide_unit.specs.Segmentation.{Item, Char, Fault, item_units, units_of, IsItem, IsSegmentation, IsSegmentation16, IsSegmentation32}
-use Rattle.wide_unit.specs.Laws.Forms.{IsPair-from, IsPair-parts, IsFault-surrogate, surrogate-of_fault, IsFault-no_scalar, no_scalar-of_fault, no_pair32}
+use Rattle.wide_forms.specs.EncodingForm.{EncodingForm, Utf16, Utf32, IsFault, IsCodeUnit}
+use Rattle.wide_forms.specs.Segmentation.{Item, Char, Fault, item_units, units_of, IsItem, IsSegmentation, IsSegmentation16, IsSegmentation32}
+use Rattle.wide_forms.specs.Laws.Forms.{IsPair-from, IsPair-parts, IsFault-surrogate, surrogate-of_fault, IsFault-no_scalar, no_scalar-of_fault, no_pair32}
 
 -- A fault among the items is one of the units.
 get-append_right : (xs ys : List ℕ) (P : ℕ → Type 0) → All P (xs ++ ys) → All P ys

@@ -16,7 +16,7 @@ use lib.Count.{count_trailing_zeros}
 use Rattle.std.specs.Simd.Lanes.{mask_l, zip2, top}
 use Rattle.std.specs.List.{prefix_len}
 use Rattle.std.specs.Simd.{first_chunks}
-use Rattle.wide_unit.specs.Searches.{first_offset, is_surrogate, is_high, is_low, is_no_scalar, is_unit}
+use Rattle.wide_forms.specs.Searches.{first_offset, is_surrogate, is_high, is_low, is_no_scalar, is_unit}
 
 not_true : (b : Bool) → not b ≡ true → b ≡ false
 not_true true h = cc

@@ -8,15 +8,15 @@ use Rattle.std.proofs.lemmas.Grind.{same_number_lists}
 use Rattle.std.proofs.lemmas.Slice.{take-put_mid}
 use borrow.Rule.Slice.PartMut.{put_mid}
 use Rattle.std.proofs.lemmas.Bool.Decides.{nat_tests}
-use Rattle.wide_unit.specs.EncodingForm.{Utf16, Utf32, code_units, encode, IsFault}
-use Rattle.wide_unit.specs.Segmentation.{Item, Char, Fault, units_of}
-use Rattle.wide_unit.specs.Items.{items}
-use Rattle.wide_unit.specs.Lossy.{lossy}
-use Rattle.wide_unit.specs.Laws.Forms.{ranges, scalar_from, one_unit, two_units, high_of, low_of, pair16}
-use Rattle.wide_unit.specs.Laws.Chains.{Chain}
-use Rattle.wide_unit.specs.Searches.{is_no_scalar}
-use Rattle.wide_unit.specs.Laws.Items.{items-chain, units_of-items, items-nil}
-use Rattle.wide_unit.specs.Laws.Utf32.{encode32, items32-char, items32-fault}
+use Rattle.wide_forms.specs.EncodingForm.{Utf16, Utf32, code_units, encode, IsFault}
+use Rattle.wide_forms.specs.Segmentation.{Item, Char, Fault, units_of}
+use Rattle.wide_forms.specs.Items.{items}
+use Rattle.wide_forms.specs.Lossy.{lossy}
+use Rattle.wide_forms.specs.Laws.Forms.{ranges, scalar_from, one_unit, two_units, high_of, low_of, pair16}
+use Rattle.wide_forms.specs.Laws.Chains.{Chain}
+use Rattle.wide_forms.specs.Searches.{is_no_scalar}
+use Rattle.wide_forms.specs.Laws.Items.{items-chain, units_of-items, items-nil}
+use Rattle.wide_forms.specs.Laws.Utf32.{encode32, items32-char, items32-fault}
 use Rattle.wide_unit.specs.Repaired.{repaired_unit, repaired_at, repaired_scalar}
 
 -- ---- indices

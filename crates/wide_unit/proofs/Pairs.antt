@@ -2,11 +2,11 @@
 use Rattle.std.proofs.Common.{◌≡◌, ℕ, suc, zero, ◌+◌, ◌^◌, ◌<◌, ◌≤◌, ◌⊎◌, Bool, true, false, List, ◌∷◌, inl, inr, refl, sym, ◌∙◌, ap, arith, length, get_or, take, drop, drop-cons, get_or-take, get_or-drop, length-drop, length-take, subst, w16, Fits}
 use Rattle.std.specs.Simd.Lanes.{mask_l}
 use Rattle.std.specs.Prelude.{map}
-use Rattle.wide_unit.specs.EncodingForm.{Utf16, IsFault}
-use Rattle.wide_unit.specs.Items.{BeginsWithChars}
-use Rattle.wide_unit.specs.Searches.{is_high, is_low}
-use Rattle.wide_unit.specs.Laws.Forms.{unit-cases, surrogate-of_fault, IsHigh, IsLow, pair16}
-use Rattle.wide_unit.specs.Laws.Ends.{items-first_char, items-first_pair}
+use Rattle.wide_forms.specs.EncodingForm.{Utf16, IsFault}
+use Rattle.wide_forms.specs.Items.{BeginsWithChars}
+use Rattle.wide_forms.specs.Searches.{is_high, is_low}
+use Rattle.wide_forms.specs.Laws.Forms.{unit-cases, surrogate-of_fault, IsHigh, IsLow, pair16}
+use Rattle.wide_forms.specs.Laws.Ends.{items-first_char, items-first_pair}
 use Rattle.wide_unit.proofs.Whole.{chars-none, chars-more}
 use Rattle.wide_unit.proofs.Masks.{same_lanes}
 

@@ -2,12 +2,12 @@
 use Rattle.std.proofs.Common.{◌≡◌, ℕ, ◌+◌, ◌-◌, List, [], ◌∷◌, ◌++◌, refl, sym, ◌∙◌, ap, subst, arith, length, append_assoc, length-append}
 use Rattle.std.specs.Prelude.{map}
 use Rattle.std.proofs.lemmas.List.{append-nil, map_push}
-use Rattle.wide_unit.specs.EncodingForm.{EncodingForm, encode}
-use Rattle.wide_unit.specs.Segmentation.{Item, Char, Fault, units_of}
-use Rattle.wide_unit.specs.Items.{items, IsWellFormed, IsFirstFault, BeginsWithChars}
-use Rattle.wide_unit.specs.Laws.Items.{IsWellFormed-of_chars, units_of-items, units_of-chars}
-use Rattle.wide_unit.specs.Laws.Boundaries.{units_of-append}
-use Rattle.wide_unit.specs.Offsets.{chars_before}
+use Rattle.wide_forms.specs.EncodingForm.{EncodingForm, encode}
+use Rattle.wide_forms.specs.Segmentation.{Item, Char, Fault, units_of}
+use Rattle.wide_forms.specs.Items.{items, IsWellFormed, IsFirstFault, BeginsWithChars}
+use Rattle.wide_forms.specs.Laws.Items.{IsWellFormed-of_chars, units_of-items, units_of-chars}
+use Rattle.wide_forms.specs.Laws.Boundaries.{units_of-append}
+use Rattle.wide_forms.specs.Offsets.{chars_before}
 use Rattle.wide_unit.proofs.Faults.{IsFirstFault-of, first_fault-item}
 
 pub chars-none : (form : EncodingForm) (us : List ℕ) → BeginsWithChars form us us

@@ -1,6 +1,6 @@
 -- Units of either width.
 use Rattle.std.specs.Prelude.{ℕ, List}
-use Rattle.wide_unit.specs.EncodingForm.{EncodingForm, Utf16, Utf32}
+use Rattle.wide_forms.specs.EncodingForm.{EncodingForm, Utf16, Utf32}
 use Rattle.wide_unit.specs.declared.any_units.AnyUnits.{AnyUnits}
 use Rattle.wide_unit.specs.declared.any_units.AnyUnits.TheVariants.{U16, U32}
 

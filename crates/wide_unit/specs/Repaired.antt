@@ -1,6 +1,6 @@
 -- Units with U+FFFD in place of each one that belongs to no character, computed from each unit and its two neighbours.
 use Rattle.std.specs.Prelude.{◌+◌, ℕ, List, ◌∷◌, Bool, not, ◌&&◌, ◌||◌, if◌then◌else◌, slice_index}
-use Rattle.wide_unit.specs.Searches.{is_high, is_low, is_no_scalar}
+use Rattle.wide_forms.specs.Searches.{is_high, is_low, is_no_scalar}
 
 -- A high surrogate that no low one follows, or a low one that no high one precedes.
 abbrev pub is_alone : ℕ → ℕ → ℕ → Bool

@@ -1,6 +1,6 @@
 -- Definitions for the contract of `Unit`, and for code that depends on it.
 use Rattle.std.specs.Prelude.{ℕ, List, [], ◌∷◌, Option, Some, None, Result, Ok, Err}
-use Rattle.wide_unit.specs.Segmentation.{Item, Char, Fault}
+use Rattle.wide_forms.specs.Segmentation.{Item, Char, Fault}
 
 -- A first unit, and a second if there is one, as a list of numbers.
 abbrev pub numbers_of : {C : Type 0} → (C → ℕ) → C → Option C → List ℕ

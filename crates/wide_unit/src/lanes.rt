@@ -3,9 +3,9 @@ ghost use Rattle.std.specs.Prelude.{◌≡◌, ◌≤◌, ◌<◌, ◌^◌, ◌-
 ghost use Rattle.std.specs.List.{count_by};
 ghost use Rattle.std.specs.Simd.Lanes.{mask_l};
 ghost use Rattle.std.proofs.Common.{rules};
-ghost use Rattle.wide_unit.specs.Searches.{is_high, is_low, is_surrogate, is_no_scalar, is_unit, first_offset};
-ghost use Rattle.wide_unit.specs.EncodingForm.{Utf16};
-ghost use Rattle.wide_unit.specs.Items.{BeginsWithChars};
+ghost use Rattle.wide_forms.specs.Searches.{is_high, is_low, is_surrogate, is_no_scalar, is_unit, first_offset};
+ghost use Rattle.wide_forms.specs.EncodingForm.{Utf16};
+ghost use Rattle.wide_forms.specs.Items.{BeginsWithChars};
 
 use std::simd::prelude::*;
 

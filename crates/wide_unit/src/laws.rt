@@ -1,10 +1,10 @@
 //! The laws of segmentation and encoding. Each law is a function that does nothing, and its contract is the law.
 ghost use Rattle.std.specs.Prelude.{◌≡◌, ◌∷◌, []};
-ghost use Rattle.wide_unit.specs.EncodingForm.{Utf16, Utf32};
-ghost use Rattle.wide_unit.specs.Segmentation.{Char, Fault};
-ghost use Rattle.wide_unit.specs.Items.{items, IsFirstFault};
-ghost use Rattle.wide_unit.specs.Lossy.{lossy};
-ghost use Rattle.wide_unit.specs.Statements.{SegmentationExists, SegmentationIsUnique, SegmentationIsLiteral16, SegmentationIsLiteral32, LooseSegmentationsDiffer, ItemsJoinAfter, ItemsJoinBefore, EncodingIsWellFormed, EncodingDecodes, WellFormedIsEncoded, BoundariesAreSeen, FirstFaultsAreAfterText, FirstFaultsAreCounted, WellFormedOrFaulty, OffsetsAreLengths, BoundariesAreOffsets, CutsAreWellFormed, PartsAreWellFormed, SplicesAreWellFormed, EncodingsAreCut, OffsetsGrow, EncodingsAreSpliced, FiltersAreWellFormed, EqualCharacters, Utf8IsStds, Units32AreItems, Items32Join, Items32Count, Items16Count, LossyIsScalars, LossyKeepsWellFormed, LossyIsWellFormed, LossyOnceIsEnough, LossyKeepsLength, LossyKeepsPrefix, EachIsLossy, CharactersPartLossy, RunsGiveOne, RunsGiveNone, RunsGoOn, LossyAfterNone, LossyGoesOn, PoliciesGiveScalars, PoliciesKeepWellFormed, PoliciesTwice, PoliciesNeverLengthen, CodePointOfText, CodePointOfNone, OrderAgreesWithEquality, NoUnitsNoLines, UnendedIsOneLine, FeedEndsLine};
+ghost use Rattle.wide_forms.specs.EncodingForm.{Utf16, Utf32};
+ghost use Rattle.wide_forms.specs.Segmentation.{Char, Fault};
+ghost use Rattle.wide_forms.specs.Items.{items, IsFirstFault};
+ghost use Rattle.wide_forms.specs.Lossy.{lossy};
+ghost use Rattle.wide_forms.specs.Statements.{SegmentationExists, SegmentationIsUnique, SegmentationIsLiteral16, SegmentationIsLiteral32, LooseSegmentationsDiffer, ItemsJoinAfter, ItemsJoinBefore, EncodingIsWellFormed, EncodingDecodes, WellFormedIsEncoded, BoundariesAreSeen, FirstFaultsAreAfterText, FirstFaultsAreCounted, WellFormedOrFaulty, OffsetsAreLengths, BoundariesAreOffsets, CutsAreWellFormed, PartsAreWellFormed, SplicesAreWellFormed, EncodingsAreCut, OffsetsGrow, EncodingsAreSpliced, FiltersAreWellFormed, EqualCharacters, Utf8IsStds, Units32AreItems, Items32Join, Items32Count, Items16Count, LossyIsScalars, LossyKeepsWellFormed, LossyIsWellFormed, LossyOnceIsEnough, LossyKeepsLength, LossyKeepsPrefix, EachIsLossy, CharactersPartLossy, RunsGiveOne, RunsGiveNone, RunsGoOn, LossyAfterNone, LossyGoesOn, PoliciesGiveScalars, PoliciesKeepWellFormed, PoliciesTwice, PoliciesNeverLengthen, CodePointOfText, CodePointOfNone, OrderAgreesWithEquality, NoUnitsNoLines, UnendedIsOneLine, FeedEndsLine};
 
 /// Each list of code units has exactly one segmentation (Unicode Standard, D84a and D85a).
 pub fn one_segmentation()

@@ -1,8 +1,5 @@
-//! Code units of UTF-16 and UTF-32, and what a list of them means.
-//!
-//! `specs/` has the definitions of the Unicode Standard, chapter 3, that the whole library uses: encoding forms, the
-//! unique segmentation of a list of units into characters and faults, and well-formed units. The contracts of the
-//! functions in [`laws`] are the laws of these definitions.
+//! Code units of UTF-16 and UTF-32: the trait `Unit`, and what works on a slice of units of either width, whatever they
+//! hold. The contracts of the functions in [`laws`] are the laws of the definitions in `specs/` of `wide_forms`.
 #![tactic(auto)]
 
 mod any_units;
@@ -12,7 +9,6 @@ mod lanes;
 pub mod laws;
 mod line;
 mod nul;
-mod policy;
 mod print;
 mod range;
 mod repair;
@@ -28,7 +24,6 @@ pub use first::first_of;
 pub use lanes::{first_no_scalar, first_surrogate};
 pub use line::split_line;
 pub use nul::first_nul;
-pub use policy::Policy;
 pub use print::write_escape;
 pub use range::range_check;
 pub use split::{split_first, split_last};

@@ -1,7 +1,7 @@
 //! Splits the first line off a slice of units.
 ghost use Rattle.std.specs.Prelude.{◌≡◌, ◌-◌, ◌<◌, ◌↔◌, [], length, map, take, drop, IsNone, IfNone, IfSome};
-ghost use Rattle.wide_unit.specs.Items.{items};
-ghost use Rattle.wide_unit.specs.Lines.{lines_of, IsFirstLine};
+ghost use Rattle.wide_forms.specs.Items.{items};
+ghost use Rattle.wide_forms.specs.Lines.{lines_of, IsFirstLine};
 
 use crate::first::first_of;
 use crate::unit::Unit;

@@ -1,7 +1,7 @@
 //! Checks ranges of indices.
 ghost use Rattle.std.specs.Prelude.{◌≡◌, ◌↔◌, IsSome, IfSome};
 ghost use Rattle.std.specs.Range.Bound.{start_index, end_index};
-ghost use Rattle.wide_unit.specs.Range.{IsWithin};
+ghost use Rattle.wide_forms.specs.Range.{IsWithin};
 
 use std::ops::{Bound, Range, RangeBounds};
 

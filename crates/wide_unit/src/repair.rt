@@ -1,9 +1,9 @@
 //! Replaces each unit that belongs to no character by U+FFFD (Unicode Standard, section 3.9, "U+FFFD Substitution of
 //! Maximal Subparts"), in SIMD lanes.
 ghost use Rattle.std.specs.Prelude.{◌≡◌, ◌+◌, ◌≤◌, ◌<◌, ◌∷◌, ℕ, slice_index, length, take, drop};
-ghost use Rattle.wide_unit.specs.EncodingForm.{Utf16, Utf32, encode};
-ghost use Rattle.wide_unit.specs.Items.{items};
-ghost use Rattle.wide_unit.specs.Lossy.{lossy};
+ghost use Rattle.wide_forms.specs.EncodingForm.{Utf16, Utf32, encode};
+ghost use Rattle.wide_forms.specs.Items.{items};
+ghost use Rattle.wide_forms.specs.Lossy.{lossy};
 ghost use Rattle.wide_unit.specs.Repaired.{repaired_at, repaired_unit, repaired_scalar};
 
 // U+FFFD REPLACEMENT CHARACTER.

@@ -1,7 +1,7 @@
 //! Splits the first or the last item off a slice of units.
 ghost use Rattle.std.specs.Prelude.{◌≡◌, ◌+◌, ◌<◌, ◌++◌, ◌∷◌, ◌↔◌, [], length, map, take, drop, IsNone, IfNone, IfSome};
-ghost use Rattle.wide_unit.specs.Segmentation.{item_units};
-ghost use Rattle.wide_unit.specs.Items.{items};
+ghost use Rattle.wide_forms.specs.Segmentation.{item_units};
+ghost use Rattle.wide_forms.specs.Items.{items};
 ghost use Rattle.wide_unit.specs.Unit.{item_of};
 
 use crate::unit::Unit;

@@ -2,16 +2,16 @@
 ghost use Rattle.std.specs.Prelude.{◌≡◌, ◌≢◌, ◌≤◌, ◌<◌, ℕ, ◌↔◌, ◌∷◌, [], List, IsTrue, MatchOption, length, map, take, drop, refl};
 ghost use Rattle.std.specs.Char.{IsScalar};
 ghost use Rattle.std.specs.Str.{chars};
-ghost use Rattle.wide_unit.specs.EncodingForm.{EncodingForm, Utf16, Utf32, code_units, encode, IsFault, IsPair, IsCodeUnit, IsHighSurrogate, IsLowSurrogate};
-ghost use Rattle.wide_unit.specs.Segmentation.{Item, Char, IsSegmentation};
-ghost use Rattle.wide_unit.specs.Items.{items, characters, IsWellFormed, BeginsWithChars};
-ghost use Rattle.wide_unit.specs.Lossy.{lossy};
+ghost use Rattle.wide_forms.specs.EncodingForm.{EncodingForm, Utf16, Utf32, code_units, encode, IsFault, IsPair, IsCodeUnit, IsHighSurrogate, IsLowSurrogate};
+ghost use Rattle.wide_forms.specs.Segmentation.{Item, Char, IsSegmentation};
+ghost use Rattle.wide_forms.specs.Items.{items, characters, IsWellFormed, BeginsWithChars};
+ghost use Rattle.wide_forms.specs.Lossy.{lossy};
 ghost use Rattle.wide_unit.specs.Unit.{numbers_of};
 ghost use Rattle.wide_unit.specs.AnyUnits.{any_form, any_numbers};
-ghost use Rattle.wide_unit.specs.Searches.{IsFirstOffset, first_offset, is_unit};
+ghost use Rattle.wide_forms.specs.Searches.{IsFirstOffset, first_offset, is_unit};
 ghost use Rattle.std.proofs.Common.{rules};
-ghost use Rattle.wide_unit.specs.Laws.Forms.{code_units-no_low_first};
-ghost use Rattle.wide_unit.specs.Laws.Items.{items-code_units, segmentation-unique};
+ghost use Rattle.wide_forms.specs.Laws.Forms.{code_units-no_low_first};
+ghost use Rattle.wide_forms.specs.Laws.Items.{items-code_units, segmentation-unique};
 
 use crate::any_units::AnyUnits;
 use crate::lanes::{

@@ -1,7 +1,7 @@
 //! Checks whether units are well formed.
 ghost use Rattle.std.specs.Prelude.{◌<◌, ◌≤◌, ◌↔◌, length, map, IsNone, IfSome, IsOk, OnOk, IfErr};
-ghost use Rattle.wide_unit.specs.Items.{IsWellFormed, IsFirstFault, BeginsWithChars};
-ghost use Rattle.wide_unit.specs.Offsets.{text_before};
+ghost use Rattle.wide_forms.specs.Items.{IsWellFormed, IsFirstFault, BeginsWithChars};
+ghost use Rattle.wide_forms.specs.Offsets.{text_before};
 
 use crate::split::split_first;
 use crate::unit::Unit;

@@ -2,11 +2,11 @@
 use Rattle.std.proofs.Common.{◌≡◌, ℕ, List, [], ◌∷◌, ◌++◌, inl, inr, refl, sym, ◌∙◌, ap, append_assoc}
 use Rattle.std.specs.Prelude.{map}
 use Rattle.std.proofs.lemmas.List.{append-nil, map_push}
-use Rattle.wide_unit.specs.Segmentation.{Item, Char, Fault}
-use Rattle.wide_unit.specs.Lossy.{lossy_runs, lossy_by}
-use Rattle.wide_unit.specs.Laws.Policies.{lossy_by-at_char, runs-at_char, runs-of_run}
-use Rattle.wide_unit.specs.declared.policy.Policy.{Policy}
-use Rattle.wide_unit.specs.declared.policy.Policy.TheVariants.{Each, Run, Skip}
+use Rattle.wide_forms.specs.Segmentation.{Item, Char, Fault}
+use Rattle.wide_forms.specs.Lossy.{lossy_runs, lossy_by}
+use Rattle.wide_forms.specs.Laws.Policies.{lossy_by-at_char, runs-at_char, runs-of_run}
+use Rattle.wide_forms.specs.declared.policy.Policy.{Policy}
+use Rattle.wide_forms.specs.declared.policy.Policy.TheVariants.{Each, Run, Skip}
 use Rattle.wide_ustr.specs.LossyWith.{BeginsPastFaults, EndsBeforeFaults}
 
 -- All items that were read are faults, from the front and from the back.

@@ -1,10 +1,10 @@
 -- Items with their offsets, of joined lists.
 use Rattle.std.proofs.Common.{◌≡◌, ℕ, ◌+◌, List, [], ◌∷◌, ◌++◌, length, map, ap, ◌∙◌, arith, length-append}
 use Rattle.std.proofs.lemmas.List.{length-map}
-use Rattle.wide_unit.specs.EncodingForm.{EncodingForm}
-use Rattle.wide_unit.specs.Segmentation.{Item, item_units, units_of}
-use Rattle.wide_unit.specs.Items.{items}
-use Rattle.wide_unit.specs.Laws.Items.{units_of-items}
+use Rattle.wide_forms.specs.EncodingForm.{EncodingForm}
+use Rattle.wide_forms.specs.Segmentation.{Item, item_units, units_of}
+use Rattle.wide_forms.specs.Items.{items}
+use Rattle.wide_forms.specs.Laws.Items.{units_of-items}
 use Rattle.wide_ustr.specs.Indexed.{indexed}
 
 indexed-append : (form : EncodingForm) (offset : ℕ) (is js : List Item) → indexed form offset (is ++ js) ≡ indexed form offset is ++ indexed form (offset + length (units_of form is)) js

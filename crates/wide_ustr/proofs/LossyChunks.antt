@@ -2,15 +2,15 @@
 use Rattle.std.proofs.Common.{◌≡◌, ℕ, ◌<◌, ◌≤◌, ◌+◌, List, [], ◌∷◌, ◌++◌, refl, sym, ◌∙◌, ap, arith, length, length-append, map, take, slice_set}
 use Rattle.std.proofs.lemmas.List.{map-append, append_assoc}
 use Rattle.std.proofs.lemmas.List.Concat.{flat_map-append}
-use Rattle.wide_unit.specs.EncodingForm.{EncodingForm, encode}
-use Rattle.wide_unit.specs.Items.{items, chars, IsWellFormed}
-use Rattle.wide_unit.specs.Lossy.{lossy_by}
-use Rattle.wide_unit.specs.Utf8.{utf8, utf8_bytes}
-use Rattle.wide_unit.specs.Laws.Ends.{items-append_left}
-use Rattle.wide_unit.specs.Laws.Items.{items-nil, chars-of_well_formed}
-use Rattle.wide_unit.specs.Laws.Offsets.{encode-chars}
-use Rattle.wide_unit.specs.Laws.Policies.{beyond-chars}
-use Rattle.wide_unit.specs.declared.policy.Policy.{Policy}
+use Rattle.wide_forms.specs.EncodingForm.{EncodingForm, encode}
+use Rattle.wide_forms.specs.Items.{items, chars, IsWellFormed}
+use Rattle.wide_forms.specs.Lossy.{lossy_by}
+use Rattle.wide_forms.specs.Utf8.{utf8, utf8_bytes}
+use Rattle.wide_forms.specs.Laws.Ends.{items-append_left}
+use Rattle.wide_forms.specs.Laws.Items.{items-nil, chars-of_well_formed}
+use Rattle.wide_forms.specs.Laws.Offsets.{encode-chars}
+use Rattle.wide_forms.specs.Laws.Policies.{beyond-chars}
+use Rattle.wide_forms.specs.declared.policy.Policy.{Policy}
 use Rattle.wide_ustr.proofs.FaultRuns.{lossy_by-none}
 
 -- One or two units that are written at the beginning.

@@ -2,8 +2,8 @@
 use Rattle.std.proofs.Common.{◌≡◌, ℕ, ◌+◌, ◌*◌, ◌^◌, ◌<◌, ◌≤◌, List, arith, length}
 use Rattle.std.specs.Prelude.{map}
 use Rattle.std.proofs.lemmas.List.{length-map}
-use Rattle.wide_unit.specs.EncodingForm.{EncodingForm, Utf16, Utf32}
-use Rattle.wide_unit.specs.UnitBytes.{unit_width}
+use Rattle.wide_forms.specs.EncodingForm.{EncodingForm, Utf16, Utf32}
+use Rattle.wide_forms.specs.UnitBytes.{unit_width}
 use Rattle.wide_search.specs.Cut.{substrings}
 use Rattle.wide_search.specs.Laws.Cuts.{substrings-at_most}
 

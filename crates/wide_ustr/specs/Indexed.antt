@@ -1,8 +1,8 @@
 -- Items with the offset, in units, at which each begins.
 use Rattle.std.specs.Prelude.{ℕ, ◌+◌, List, [], ◌∷◌, length, map, Option, Some, None, Result}
-use Rattle.wide_unit.specs.EncodingForm.{EncodingForm}
-use Rattle.wide_unit.specs.Segmentation.{Item, item_units}
-use Rattle.wide_unit.specs.Lossy.{lossy_char}
+use Rattle.wide_forms.specs.EncodingForm.{EncodingForm}
+use Rattle.wide_forms.specs.Segmentation.{Item, item_units}
+use Rattle.wide_forms.specs.Lossy.{lossy_char}
 use Rattle.wide_unit.specs.Unit.{item_of}
 
 -- Each item with its offset, in units: the first at `offset`, and each next one after the units of the one before.

@@ -1,9 +1,9 @@
 -- What the iterators over the units of a view will yield.
 use Rattle.std.specs.Prelude.{ℕ, List, map, length, Option, Some, None}
-use Rattle.wide_unit.specs.EncodingForm.{EncodingForm, code_units}
-use Rattle.wide_unit.specs.Segmentation.{Item}
-use Rattle.wide_unit.specs.Items.{items}
-use Rattle.wide_unit.specs.Lossy.{lossy}
+use Rattle.wide_forms.specs.EncodingForm.{EncodingForm, code_units}
+use Rattle.wide_forms.specs.Segmentation.{Item}
+use Rattle.wide_forms.specs.Items.{items}
+use Rattle.wide_forms.specs.Lossy.{lossy}
 use Rattle.wide_ustr.specs.Indexed.{indexed, indexed_lossy}
 use Rattle.wide_ustr.specs.declared.offsets.Offsets.{Offsets}
 use Rattle.wide_ustr.specs.declared.iter.Chars.{Chars}

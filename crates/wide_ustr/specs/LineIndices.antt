@@ -1,7 +1,7 @@
 -- What an iterator over lines with their offsets will yield.
 use Rattle.std.specs.Prelude.{ℕ, ◌-◌, List}
-use Rattle.wide_unit.specs.Segmentation.{Item}
-use Rattle.wide_unit.specs.Lines.{placed_lines}
+use Rattle.wide_forms.specs.Segmentation.{Item}
+use Rattle.wide_forms.specs.Lines.{placed_lines}
 use Rattle.wide_ustr.specs.declared.lines.LineView.{Ghosts}
 use Rattle.wide_ustr.specs.declared.line_indices.LineIndices.{LineIndices}
 

@@ -1,7 +1,7 @@
 -- What an iterator over lines will yield.
 use Rattle.std.specs.Prelude.{List}
-use Rattle.wide_unit.specs.Segmentation.{Item}
-use Rattle.wide_unit.specs.Lines.{lines_of}
+use Rattle.wide_forms.specs.Segmentation.{Item}
+use Rattle.wide_forms.specs.Lines.{lines_of}
 use Rattle.wide_ustr.specs.declared.lines.Lines.{Lines}
 
 -- The view of the units that were not read yet.

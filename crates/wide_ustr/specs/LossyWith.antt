@@ -1,11 +1,11 @@
 -- What the iterators under a policy over the units of a view will yield.
 use Rattle.std.specs.Prelude.{◌≡◌, ℕ, ◌⊎◌, List, [], ◌∷◌, ◌++◌, map, Option}
-use Rattle.wide_unit.specs.EncodingForm.{EncodingForm}
-use Rattle.wide_unit.specs.Segmentation.{Item, Char, Fault}
-use Rattle.wide_unit.specs.Items.{items, chars}
-use Rattle.wide_unit.specs.Lossy.{lossy_by}
-use Rattle.wide_unit.specs.Texts.{quoted_output}
-use Rattle.wide_unit.specs.declared.policy.Policy.{Policy}
+use Rattle.wide_forms.specs.EncodingForm.{EncodingForm}
+use Rattle.wide_forms.specs.Segmentation.{Item, Char, Fault}
+use Rattle.wide_forms.specs.Items.{items, chars}
+use Rattle.wide_forms.specs.Lossy.{lossy_by}
+use Rattle.wide_forms.specs.Texts.{quoted_output}
+use Rattle.wide_forms.specs.declared.policy.Policy.{Policy}
 use Rattle.wide_ustr.specs.declared.lossy_with.CharsLossyWith.{CharsLossyWith}
 
 -- The items are a run of faults, and then those of `rest`, which is empty or begins with a character.

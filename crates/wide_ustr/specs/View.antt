@@ -1,8 +1,8 @@
 -- The units and the items of a view of units.
 use Rattle.std.specs.Prelude.{ℕ, List, map}
-use Rattle.wide_unit.specs.EncodingForm.{EncodingForm}
-use Rattle.wide_unit.specs.Segmentation.{Item}
-use Rattle.wide_unit.specs.Items.{items}
+use Rattle.wide_forms.specs.EncodingForm.{EncodingForm}
+use Rattle.wide_forms.specs.Segmentation.{Item}
+use Rattle.wide_forms.specs.Items.{items}
 use Rattle.wide_ustr.specs.declared.view.UStr.{UStr}
 
 -- Its units.

@@ -1,6 +1,6 @@
 //! The bytes of views, little-endian or big-endian.
 ghost use Rattle.std.specs.Prelude.{◌≡◌, ◌∷◌, ◌*◌, ◌+◌, ◌≤◌, [], drop, length, map, take, IfOk, IsOk};
-ghost use Rattle.wide_unit.specs.UnitBytes.{unit_width, little_bytes_of, big_bytes_of, byte_order_mark};
+ghost use Rattle.wide_forms.specs.UnitBytes.{unit_width, little_bytes_of, big_bytes_of, byte_order_mark};
 ghost use Rattle.wide_ustr.specs.View.{units_seen};
 
 use crate::view::UStr;

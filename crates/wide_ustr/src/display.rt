@@ -1,6 +1,6 @@
 //! `Display` and `Debug` of a view, and of iterators over its characters.
 ghost use Rattle.std.specs.Prelude.{map, Some};
-ghost use Rattle.wide_unit.specs.Texts.{display_text, skipping_text, debug_output, lossy_debug_output};
+ghost use Rattle.wide_forms.specs.Texts.{display_text, skipping_text, debug_output, lossy_debug_output};
 ghost use Rattle.wide_ustr.specs.View.{units_seen};
 
 use crate::escaped::{write_char, write_debug_char};

@@ -3,7 +3,7 @@ ghost use Rattle.std.specs.Prelude.{◌≡◌, ◌+◌, ◌/◌, length, Some, I
 ghost use Rattle.std.specs.Iterator.{YieldsFirst, YieldsFirstBy, YieldsLast, YieldsLastBy, at_most, UpTo};
 ghost use Rattle.std.specs.Iterator.SizeHint.{IsWithinCount};
 ghost use Rattle.wide_unit.specs.Unit.{item_of};
-ghost use Rattle.wide_unit.specs.Lossy.{lossy_char as lossy_of};
+ghost use Rattle.wide_forms.specs.Lossy.{lossy_char as lossy_of};
 ghost use Rattle.wide_ustr.specs.Indexed.{indexed_item, taken_length};
 
 use crate::offsets::Offsets;

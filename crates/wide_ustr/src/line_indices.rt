@@ -3,8 +3,8 @@ ghost use Rattle.std.specs.Prelude.{◌≡◌, ◌<◌, ◌≤◌, ◌^◌, leng
 ghost use Rattle.std.specs.Iterator.{YieldsFirstBy, at_most, UpTo};
 ghost use Rattle.std.specs.Iterator.SizeHint.{IsWithinCount};
 ghost use Rattle.std.specs.List.{All};
-ghost use Rattle.wide_unit.specs.Items.{items, IsBoundary};
-ghost use Rattle.wide_unit.specs.Lines.{placed_lines};
+ghost use Rattle.wide_forms.specs.Items.{items, IsBoundary};
+ghost use Rattle.wide_forms.specs.Lines.{placed_lines};
 
 use crate::lines::LineView;
 use crate::view::UStr;

@@ -2,10 +2,10 @@
 ghost use Rattle.std.specs.Prelude.{◌≡◌, ◌-◌, ◌<◌, ◌≤◌, ◌^◌, ◌∷◌, ℕ, List, [], length, map, None, IfNone, IfSome};
 ghost use Rattle.std.specs.Iterator.{YieldsFirstBy, at_most, UpTo};
 ghost use Rattle.std.specs.Iterator.SizeHint.{IsWithinCount};
-ghost use Rattle.wide_unit.specs.Segmentation.{Item};
-ghost use Rattle.wide_unit.specs.Items.{items};
-ghost use Rattle.wide_unit.specs.EncodingForm.{EncodingForm};
-ghost use Rattle.wide_unit.specs.Lines.{lines_of, TakesLine};
+ghost use Rattle.wide_forms.specs.Segmentation.{Item};
+ghost use Rattle.wide_forms.specs.Items.{items};
+ghost use Rattle.wide_forms.specs.EncodingForm.{EncodingForm};
+ghost use Rattle.wide_forms.specs.Lines.{lines_of, TakesLine};
 ghost use Rattle.wide_ustr.specs.Lines.{lines_left};
 
 use crate::view::UStr;

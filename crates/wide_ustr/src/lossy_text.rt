@@ -1,17 +1,18 @@
 //! Lossy text under a policy, written chunk by chunk in UTF-8.
 ghost use Rattle.std.specs.Prelude.{◌≡◌, ◌++◌, ◌<◌, ◌≤◌, ◌^◌, ◌-◌, [], length, map, take, min, IfNone, IfOk, IfSome, OnOk, string_bytes};
-ghost use Rattle.wide_unit.specs.EncodingForm.{code_units};
-ghost use Rattle.wide_unit.specs.Items.{IsWellFormed, items};
-ghost use Rattle.wide_unit.specs.Lossy.{lossy_by};
-ghost use Rattle.wide_unit.specs.Offsets.{text_of};
-ghost use Rattle.wide_unit.specs.Utf8.{utf8};
+ghost use Rattle.wide_forms.specs.EncodingForm.{code_units};
+ghost use Rattle.wide_forms.specs.Items.{IsWellFormed, items};
+ghost use Rattle.wide_forms.specs.Lossy.{lossy_by};
+ghost use Rattle.wide_forms.specs.Offsets.{text_of};
+ghost use Rattle.wide_forms.specs.Utf8.{utf8};
 ghost use Rattle.wide_ustr.specs.View.{units_seen};
 
 use crate::lossy_with::CharsLossyWith;
 use crate::view::UStr;
 use std::alloc::{AllocError, Allocator};
 use wide_conversions::{lossy_prefix, push_utf8, utf8_len, valid_len};
-use wide_unit::{AnyUnits, Policy, Unit};
+use wide_forms::Policy;
+use wide_unit::{AnyUnits, Unit};
 
 // How many units are repaired in one step.
 const SPARE: usize = 256;

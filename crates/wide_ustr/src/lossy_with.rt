@@ -2,11 +2,12 @@
 ghost use Rattle.std.specs.Prelude.{◌≡◌, ◌≤◌, ◌<◌, length, map, None, IfSome};
 ghost use Rattle.std.specs.Iterator.{YieldsFirst, YieldsLast, at_most, UpTo};
 ghost use Rattle.std.specs.Iterator.SizeHint.{IsWithinCount};
-ghost use Rattle.wide_unit.specs.Items.{items};
+ghost use Rattle.wide_forms.specs.Items.{items};
 ghost use Rattle.wide_ustr.specs.LossyWith.{BeginsPastFaults, EndsBeforeFaults};
 
 use std::iter::FusedIterator;
-use wide_unit::{Policy, Unit, split_first, split_last};
+use wide_forms::Policy;
+use wide_unit::{Unit, split_first, split_last};
 
 /// Returns the units after the longest run of faults at the beginning.
 pub fn after_faults<C: Unit>(units: &[C]) -> &[C]

@@ -1,9 +1,9 @@
 //! Conversion of views to UTF-8.
 ghost use Rattle.std.specs.Prelude.{◌≡◌, ◌<◌, length, [], map, IsOk, IfOk, IfErr, IfSome, IfNone, OnOk, None, string_bytes};
-ghost use Rattle.wide_unit.specs.EncodingForm.{Utf16, Utf32};
-ghost use Rattle.wide_unit.specs.Items.{items, chars, IsWellFormed, IsFirstFault};
-ghost use Rattle.wide_unit.specs.Lossy.{lossy, lossy_by};
-ghost use Rattle.wide_unit.specs.Utf8.{utf8};
+ghost use Rattle.wide_forms.specs.EncodingForm.{Utf16, Utf32};
+ghost use Rattle.wide_forms.specs.Items.{items, chars, IsWellFormed, IsFirstFault};
+ghost use Rattle.wide_forms.specs.Lossy.{lossy, lossy_by};
+ghost use Rattle.wide_forms.specs.Utf8.{utf8};
 ghost use Rattle.wide_utferror.specs.UtfError.{index_of, item_of, unit_of, vec_of};
 ghost use Rattle.wide_ustr.specs.View.{units_seen};
 
@@ -12,7 +12,8 @@ use crate::view::UStr;
 use std::alloc::Allocator;
 use wide_conversions::utf8_string;
 use wide_error::OutOfMemory;
-use wide_unit::{Policy, Unit, check};
+use wide_forms::Policy;
+use wide_unit::{Unit, check};
 use wide_utferror::{Utf16ConvertError, Utf32ConvertError, UtfError};
 
 impl<C: Unit> UStr<'_, C> {

@@ -1,8 +1,8 @@
 //! Views of units that may be ill-formed.
 ghost use Rattle.std.specs.Prelude.{◌≡◌, ◌≤◌, ◌↔◌, ◌++◌, ◌==◌, [], length, map, take, drop, IsSome, IfSome};
-ghost use Rattle.wide_unit.specs.Range.{IsInRange, part_of};
-ghost use Rattle.wide_unit.specs.Items.{items};
-ghost use Rattle.wide_unit.specs.Lossy.{lossy, lossy_by};
+ghost use Rattle.wide_forms.specs.Range.{IsInRange, part_of};
+ghost use Rattle.wide_forms.specs.Items.{items};
+ghost use Rattle.wide_forms.specs.Lossy.{lossy, lossy_by};
 ghost use Rattle.wide_ustr.specs.Indexed.{indexed, indexed_lossy};
 
 use crate::display::{Display, DisplaySkipping};
@@ -10,7 +10,8 @@ use crate::iter::{CharIndices, CharIndicesLossy, Chars, CharsLossy};
 use crate::lossy_with::CharsLossyWith;
 use std::ops::RangeBounds;
 use std::slice;
-use wide_unit::{Policy, Unit, range_check};
+use wide_forms::Policy;
+use wide_unit::{Unit, range_check};
 use wide_utferror::FaultUnit;
 
 /// A view of units of 16 or 32 bits, of any values: its text may be well formed or not.

@@ -1,12 +1,12 @@
 -- The character that begins at an offset in units, by the first item from there on.
 use Rattle.std.proofs.Common.{◌≡◌, ℕ, ◌+◌, ◌-◌, ◌<◌, ◌≤◌, List, ◌∷◌, ◌++◌, inl, inr, length, map, take, drop, slice_range, refl, sym, ap, ◌∙◌, subst, arith, length-drop}
 use Rattle.std.proofs.lemmas.List.{drop-drop, take-map, take_at}
-use Rattle.wide_unit.specs.EncodingForm.{EncodingForm, code_units}
-use Rattle.wide_unit.specs.Segmentation.{Char, units_of}
-use Rattle.wide_unit.specs.Items.{items, IsWellFormed}
-use Rattle.wide_unit.specs.Laws.Forms.{code_units-cases}
-use Rattle.wide_unit.specs.Laws.Items.{units_of-items}
-use Rattle.wide_unit.specs.Laws.WellFormed.{well_formed-rest}
+use Rattle.wide_forms.specs.EncodingForm.{EncodingForm, code_units}
+use Rattle.wide_forms.specs.Segmentation.{Char, units_of}
+use Rattle.wide_forms.specs.Items.{items, IsWellFormed}
+use Rattle.wide_forms.specs.Laws.Forms.{code_units-cases}
+use Rattle.wide_forms.specs.Laws.Items.{units_of-items}
+use Rattle.wide_forms.specs.Laws.WellFormed.{well_formed-rest}
 
 few_units : (form : EncodingForm) (c : ℕ) → length (code_units form c) ≤ 2
 few_units form c = elim (code_units-cases form c) [

@@ -7,13 +7,13 @@ use Rattle.std.specs.Char.{IsScalar}
 use Rattle.std.specs.Int.{from_bool}
 use Rattle.std.specs.List.{copy_within}
 use Rattle.std.specs.List.Retain.{IsFiltered}
-use Rattle.wide_unit.specs.EncodingForm.{EncodingForm, code_units}
-use Rattle.wide_unit.specs.Segmentation.{Char}
-use Rattle.wide_unit.specs.Items.{items, characters, chars, IsWellFormed}
-use Rattle.wide_unit.specs.Laws.Ends.{IsWellFormed-code_units, items-first_char}
-use Rattle.wide_unit.specs.Laws.Offsets.{scalars-chars}
-use Rattle.wide_unit.specs.Laws.Splices.{IsWellFormed-nil, IsWellFormed-append, chars-nil, chars-append, chars-code_units}
-use Rattle.wide_unit.specs.Laws.WellFormed.{well_formed-rest}
+use Rattle.wide_forms.specs.EncodingForm.{EncodingForm, code_units}
+use Rattle.wide_forms.specs.Segmentation.{Char}
+use Rattle.wide_forms.specs.Items.{items, characters, chars, IsWellFormed}
+use Rattle.wide_forms.specs.Laws.Ends.{IsWellFormed-code_units, items-first_char}
+use Rattle.wide_forms.specs.Laws.Offsets.{scalars-chars}
+use Rattle.wide_forms.specs.Laws.Splices.{IsWellFormed-nil, IsWellFormed-append, chars-nil, chars-append, chars-code_units}
+use Rattle.wide_forms.specs.Laws.WellFormed.{well_formed-rest}
 use Rattle.wide_ustring.proofs.Filters.{no_elements, one_element, at_most_one, take_counted, append_counted}
 
 -- A slice of a list that is copied to a lower index, over the elements before it.

@@ -2,7 +2,7 @@
 use Rattle.std.proofs.Common.{◌≡◌, ℕ, suc, ◌+◌, ◌<◌, List, [], ◌∷◌, ◌++◌, map, length, take, drop, set, ap, sym, ◌∙◌, arith, append_assoc, length-set}
 use Rattle.std.specs.List.{splice}
 use Rattle.std.proofs.lemmas.List.{set_split, take_more_set, drop-set-lt}
-use Rattle.wide_unit.specs.Laws.Splices.{map-splice}
+use Rattle.wide_forms.specs.Laws.Splices.{map-splice}
 
 module _ {X : Type 0} where
   one_put : (old v : List X) (from to : ℕ) (x : X) → take from v ≡ take from old → drop (from + 1) v ≡ drop to old → from < length v → set v from x ≡ splice old from to (x ∷ [])

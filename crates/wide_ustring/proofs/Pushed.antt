@@ -2,7 +2,7 @@
 use Rattle.std.proofs.Common.{◌≡◌, ◌≤◌, ℕ, List, [], ◌∷◌, ◌++◌, length, map, take, drop, refl, sym, ap, ◌∙◌, arith, append-nil, length-drop}
 use Rattle.std.proofs.lemmas.List.{length-map, length-take-le, take_all}
 use Rattle.std.specs.Str.{chars}
-use Rattle.wide_unit.specs.EncodingForm.{EncodingForm, encode}
+use Rattle.wide_forms.specs.EncodingForm.{EncodingForm, encode}
 
 none_left : (form : EncodingForm) (bs : List ℕ) → length bs ≡ 0 → encode form (chars bs) ≡ []
 unfolding chars

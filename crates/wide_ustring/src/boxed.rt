@@ -1,7 +1,7 @@
 //! Units in an allocation of exactly their length, which does not grow.
 ghost use Rattle.std.specs.Prelude.{◌≡◌, ◌<◌, ◌≤◌, length, map, IsOk, IfOk, IfErr};
 ghost use Rattle.std.specs.Iterator.{IsFiniteIterable};
-ghost use Rattle.wide_unit.specs.Texts.{debug_output};
+ghost use Rattle.wide_forms.specs.Texts.{debug_output};
 ghost use Rattle.wide_ustr.specs.View.{units_seen};
 ghost use Rattle.wide_ustring.specs.Extended.{Adds, Collects, numbered};
 ghost use Rattle.wide_ustring.specs.Units.{ustring_len};

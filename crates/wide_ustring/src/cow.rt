@@ -1,7 +1,7 @@
 //! Units that are borrowed or owned.
 ghost use Rattle.std.specs.Prelude.{◌≡◌, ◌≤◌, [], map, Ok, IfOk, IsOk};
 ghost use Rattle.std.specs.Iterator.{IsFiniteIterable};
-ghost use Rattle.wide_unit.specs.Texts.{debug_output};
+ghost use Rattle.wide_forms.specs.Texts.{debug_output};
 ghost use Rattle.wide_ustr.specs.View.{units_seen};
 ghost use Rattle.wide_ustring.specs.CowUnits.{cow_units, IfOwned};
 ghost use Rattle.wide_ustring.specs.Extended.{Adds, Collects, numbered};

@@ -2,7 +2,7 @@
 ghost use Rattle.std.specs.Prelude.{◌≡◌, ◌+◌, ◌-◌, ◌<◌, ◌≤◌, ◌++◌, length, map, take, drop, IsOk, OnOk, OnErr, vec_len, vec_capacity};
 ghost use Rattle.std.specs.List.{splice, remove_range, copy_within};
 ghost use Rattle.std.specs.Str.{chars};
-ghost use Rattle.wide_unit.specs.EncodingForm.{code_units, encode};
+ghost use Rattle.wide_forms.specs.EncodingForm.{code_units, encode};
 
 use crate::moves::move_within;
 use std::alloc::Allocator;

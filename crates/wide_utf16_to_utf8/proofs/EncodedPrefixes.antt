@@ -6,14 +6,14 @@ use Rattle.std.specs.List.{All}
 use Rattle.std.proofs.lemmas.Bool.{cases_lt}
 use Rattle.std.proofs.lemmas.List.{drop-map, length-take-le, take-take, take_all}
 use Rattle.std.proofs.lemmas.List.Concat.{flat_map-append}
-use Rattle.wide_unit.specs.EncodingForm.{EncodingForm, Utf16, encode}
-use Rattle.wide_unit.specs.Items.{items, IsBoundary, IsWellFormed, chars}
-use Rattle.wide_unit.specs.Offsets.{chars_before}
-use Rattle.wide_unit.specs.Utf8.{utf8, utf8_bytes}
-use Rattle.wide_unit.specs.Laws.Boundaries.{IsBoundary-of_cut}
-use Rattle.wide_unit.specs.Laws.Ends.{IsCut-after, items-prefix_high, items-prefix_low}
-use Rattle.wide_unit.specs.Laws.Offsets.{IsOffsetOf-boundary, IsWellFormed-drop, IsWellFormed-encode, chars-encode}
-use Rattle.wide_unit.specs.Laws.WellFormed.{no_first_fault}
+use Rattle.wide_forms.specs.EncodingForm.{EncodingForm, Utf16, encode}
+use Rattle.wide_forms.specs.Items.{items, IsBoundary, IsWellFormed, chars}
+use Rattle.wide_forms.specs.Offsets.{chars_before}
+use Rattle.wide_forms.specs.Utf8.{utf8, utf8_bytes}
+use Rattle.wide_forms.specs.Laws.Boundaries.{IsBoundary-of_cut}
+use Rattle.wide_forms.specs.Laws.Ends.{IsCut-after, items-prefix_high, items-prefix_low}
+use Rattle.wide_forms.specs.Laws.Offsets.{IsOffsetOf-boundary, IsWellFormed-drop, IsWellFormed-encode, chars-encode}
+use Rattle.wide_forms.specs.Laws.WellFormed.{no_first_fault}
 use Rattle.wide_utf16_to_utf8.specs.Encoded.{AreCutShort, BeginsWithFault, EncodedUnits, StopsBefore}
 use Rattle.wide_utf16_to_utf8.proofs.Lanes.{cut-length, fault-append}
 

@@ -6,7 +6,7 @@ use Rattle.std.proofs.lemmas.Nat.{le_or_l, le_or_r}
 use Rattle.std.specs.Prelude.{bit_or}
 use Rattle.std.proofs.lemmas.List.{take_all, append-nil, drop-take, drop_all, get_or-take, take-take}
 use Rattle.std.specs.Prelude.{is_some}
-use Rattle.wide_unit.specs.Laws.Utf8.{one_byte}
+use Rattle.wide_forms.specs.Laws.Utf8.{one_byte}
 use Rattle.wide_utf16_to_utf8.specs.Encoded.{ArePaired, EncodedUnits, AreCutShort, BeginsWithFault, StopsBefore}
 use Rattle.wide_utf16_to_utf8.proofs.UnitEncodings.{drop-split}
 use Rattle.wide_utf16_to_utf8.proofs.UnitEncodings.{units-none, units-then, units-one}

@@ -7,8 +7,8 @@ use Rattle.std.proofs.lemmas.Simd.{get_or-chunk}
 use Rattle.std.proofs.Math.ListN.{get_or-eq_default}
 use mir.Val.{bool_byte}
 use Rattle.std.proofs.Math.Seq.{take-append_seam}
-use Rattle.wide_unit.specs.Utf8.{utf8_bytes}
-use Rattle.wide_unit.specs.Laws.Utf8.{one_byte, two_bytes, three_bytes}
+use Rattle.wide_forms.specs.Utf8.{utf8_bytes}
+use Rattle.wide_forms.specs.Laws.Utf8.{one_byte, two_bytes, three_bytes}
 use Rattle.wide_utf16_to_utf8.specs.Encoded.{ArePaired, EncodedUnits, high_word, low_word}
 use Rattle.wide_utf16_to_utf8.specs.PairedText.{IsPairedLead, paired_bytes, paired_key, paired_text}
 use Rattle.wide_utf16_to_utf8.specs.ThreeBytes.{packed, packed_unit}

@@ -6,21 +6,21 @@ use Rattle.std.proofs.lemmas.List.{append-nil, drop-drop, drop-take, get_or-drop
 use Rattle.std.proofs.lemmas.Simd.{bitmask_splat}
 use borrow.Rule.Slice.PartMut.{put_mid}
 use lib.Lanes.{mask_l, put_chunk, top, zip2}
-use Rattle.wide_unit.specs.EncodingForm.{Utf16, IsFault, code_units, encode}
-use Rattle.wide_unit.specs.Segmentation.{Item, Char, Fault, units_of}
-use Rattle.wide_unit.specs.Items.{items}
-use Rattle.wide_unit.specs.Lossy.{lossy, lossy_after}
-use Rattle.wide_unit.specs.Laws.Chains.{Chain}
-use Rattle.wide_unit.specs.Laws.Forms.{some_units}
-use Rattle.wide_unit.specs.Laws.Policies.{lossy_after-append}
-use Rattle.wide_unit.specs.Laws.Items.{items-chain, units_of-items}
-use Rattle.wide_unit.specs.declared.policy.Policy.{Policy}
-use Rattle.wide_unit.specs.declared.policy.Policy.TheVariants.{Run, Skip}
+use Rattle.wide_forms.specs.EncodingForm.{Utf16, IsFault, code_units, encode}
+use Rattle.wide_forms.specs.Segmentation.{Item, Char, Fault, units_of}
+use Rattle.wide_forms.specs.Items.{items}
+use Rattle.wide_forms.specs.Lossy.{lossy, lossy_after}
+use Rattle.wide_forms.specs.Laws.Chains.{Chain}
+use Rattle.wide_forms.specs.Laws.Forms.{some_units}
+use Rattle.wide_forms.specs.Laws.Policies.{lossy_after-append}
+use Rattle.wide_forms.specs.Laws.Items.{items-chain, units_of-items}
+use Rattle.wide_forms.specs.declared.policy.Policy.{Policy}
+use Rattle.wide_forms.specs.declared.policy.Policy.TheVariants.{Run, Skip}
 use Rattle.wide_utf16_to_utf8.specs.Compressed.{retained_bits, is_retained}
 use Rattle.wide_utf16_to_utf8.specs.Compressed.{compressed_lanes}
 use Rattle.wide_utf16_to_utf8.specs.TwoBytes.{bit_of}
 use Rattle.wide_utf16_to_utf8.proofs.Stores.{compressed-lead}
-use Rattle.wide_utf16_to_utf8.proofs.Tables.{stored-block}
+use Rattle.wide_forms.proofs.Stored.{stored-block}
 
 -- The repaired units that are retained.
 abbrev pub retained : Bool → ℕ → ℕ → List ℕ → List ℕ → List ℕ

@@ -6,8 +6,8 @@ use Rattle.std.proofs.lemmas.Simd.{Each1-get_or, bitmask_splat, swz_l, get_or_na
 use borrow.Rule.Slice.PartMut.{put_mid}
 use lib.Dec.{leb}
 use lib.Lanes.{put_chunk, Each1, digits_l, mask_l, number_l, top, zip2}
-use Rattle.wide_unit.specs.Utf8.{utf8_bytes}
-use Rattle.wide_unit.specs.Laws.Utf8.{one_byte, two_bytes, three_bytes}
+use Rattle.wide_forms.specs.Utf8.{utf8_bytes}
+use Rattle.wide_forms.specs.Laws.Utf8.{one_byte, two_bytes, three_bytes}
 use Rattle.wide_utf16_to_utf8.specs.Encoded.{EncodedUnits, IsLead}
 use Rattle.wide_utf16_to_utf8.specs.ThreeBytes.{HoldsWord, Size, One, Two, Three, digit_of, compressed_bytes, compressed_bytes_of, packed, packed_unit, mask_of, row_at, row_of, size_of}
 use Rattle.wide_utf16_to_utf8.specs.declared.three_bytes.TheConstants.{ROWS, ROW_LENS}

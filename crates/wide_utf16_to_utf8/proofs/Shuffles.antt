@@ -6,8 +6,8 @@ use Rattle.std.proofs.lemmas.List.{append-nil, get_or-set_other, get_or-set_same
 use Rattle.std.proofs.lemmas.Simd.{swz_l, bitmask_splat, get_or_narrower, Each1-from_get_or}
 use borrow.Rule.Slice.PartMut.{put_mid}
 use lib.Lanes.{put_chunk, Each1, mask_l, top, zip2, digits_l, number_l}
-use Rattle.wide_unit.specs.Utf8.{utf8_bytes}
-use Rattle.wide_unit.specs.Laws.Utf8.{one_byte, two_bytes}
+use Rattle.wide_forms.specs.Utf8.{utf8_bytes}
+use Rattle.wide_forms.specs.Laws.Utf8.{one_byte, two_bytes}
 use Rattle.wide_utf16_to_utf8.specs.Encoded.{EncodedUnits, IsLead}
 use Rattle.wide_utf16_to_utf8.specs.TwoBytes.{IsPair, below_bits, compressed, compress}
 use Rattle.wide_utf16_to_utf8.specs.declared.two_bytes.TheConstants.{SHUFFLES}

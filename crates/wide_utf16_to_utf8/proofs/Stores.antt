@@ -3,9 +3,9 @@ use Rattle.std.proofs.Common.{◌≡◌, ℕ, zero, suc, inl, inr, length-take-l
 use Rattle.std.proofs.Math.Seq.{take-append-add}
 use Rattle.std.proofs.lemmas.Bool.{cases_lt}
 use Rattle.std.proofs.lemmas.Grind.{common_steps}
-use Rattle.wide_unit.specs.Utf8.{utf8_bytes, trailing_byte}
+use Rattle.wide_forms.specs.Utf8.{utf8_bytes, trailing_byte}
 use Rattle.wide_utf16_to_utf8.specs.Encoded.{IsWordOf, high_word, low_word}
-use Rattle.wide_unit.specs.Laws.Utf8.{one_byte, two_bytes, three_bytes, four_bytes}
+use Rattle.wide_forms.specs.Laws.Utf8.{one_byte, two_bytes, three_bytes, four_bytes}
 
 pub stored_one : (xs : List ℕ) (at a : ℕ) → at < length xs → take (at + 1) (set xs at a) ≡ take at xs ++ a ∷ []
 stored_one xs at a space = grind (arith, common_steps)

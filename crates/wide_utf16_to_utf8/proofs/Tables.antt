@@ -1,15 +1,15 @@
 -- Tables of shuffles of sixteen bytes, and which bytes a row selects.
-use Rattle.std.proofs.Common.{◌≡◌, ℕ, zero, suc, ◌+◌, ◌-◌, ◌*◌, ◌/◌, ◌<◌, ◌≤◌, ◌&&◌, Bool, true, false, T, inl, inr, ltb, ltb→lt, List, [], ◌∷◌, ◌++◌, length, get_or, map, take, drop, w8, refl, sym, ap, ◌∙◌, subst, arith, rules, length-take, length-drop}
+use Rattle.std.proofs.Common.{◌≡◌, ℕ, zero, suc, ◌+◌, ◌-◌, ◌*◌, ◌/◌, ◌<◌, ◌≤◌, ◌&&◌, Bool, true, false, T, inl, inr, ltb, ltb→lt, List, [], ◌∷◌, ◌++◌, length, get_or, map, take, drop, w8, refl, sym, ap, ◌∙◌, subst, arith, length-take}
 use Rattle.std.specs.Int.RustNames.{count_ones}
 use Rattle.std.proofs.Math.Facts.{eqb_yes}
 use Rattle.std.proofs.lemmas.Bool.{cases_lt}
 use Rattle.std.proofs.lemmas.List.{get_or-map, length-map}
-use Rattle.std.proofs.lemmas.Simd.{Each1-get_or, get_or-swz_l_below, put_chunk_whole, swz_l, length-swz_l, SwzOk, SwzOk-from_below}
-use Rattle.std.proofs.lemmas.Slice.{overwrites}
+use Rattle.std.proofs.lemmas.Simd.{Each1-get_or, get_or-swz_l_below, swz_l, length-swz_l, SwzOk, SwzOk-from_below}
 use borrow.Rule.Slice.PartMut.{put_mid}
 use lib.Dec.{eqb, leb, leb→le}
 use lib.Ieee.Fits.{and_l, and_r}
 use lib.Lanes.{put_chunk, Each1, all_below}
+use Rattle.wide_forms.proofs.Stored.{stored-block}
 use Rattle.wide_utf16_to_utf8.proofs.Stores.{compressed-lead}
 
 -- ---- lists of numbers
@@ -83,13 +83,6 @@ pub each-most : (bound : ℕ) (xs : List ℕ) (n : ℕ) → 0 < bound → T (all
 each-most bound [] n some h = omega arith
 each-most bound (x ∷ xs) zero some h = ltb→lt x bound (and_l _ _ h)
 each-most bound (x ∷ xs) (suc n) some h = each-most bound xs n some (and_r (ltb x bound) _ h)
-
--- Writing as many elements over a list at an index makes its prefix end with them.
-pub stored-block : (n : ℕ) (xs ys : List ℕ) (at : ℕ) → length ys ≡ n → at + n ≤ length xs → take (at + n) (put_mid at (at + n - at) xs (put_chunk 0 (take (at + n - at) (drop at xs)) ys)) ≡ take at xs ++ ys
-stored-block n xs ys at long space =
-    let part = take (at + n - at) (drop at xs) in
-    let part_long : length part ≡ length ys = omega (arith, length-take (at + n - at) (drop at xs), length-drop at xs) in
-    ap (λ l. take (at + n) (put_mid at (at + n - at) xs l)) (put_chunk_whole part ys part_long) ∙ search (rules, overwrites)
 
 module _ (rows : List (List ℕ)) (valid : T (are-rows rows)) (n : ℕ) (within : n < length rows) where
   row : T (is-row (get_or rows n []))

@@ -4,9 +4,9 @@ use Rattle.std.proofs.lemmas.List.{append-nil}
 use Rattle.std.proofs.lemmas.List.Concat.{flat_map-append}
 use Rattle.std.specs.Char.{IsScalar}
 use Rattle.std.specs.List.{All}
-use Rattle.wide_unit.specs.EncodingForm.{Utf16, code_units, encode, IsHighSurrogate}
-use Rattle.wide_unit.specs.Utf8.{utf8, utf8_bytes}
-use Rattle.wide_unit.specs.Laws.Forms.{scalar_from, one_unit, two_units, high_of, low_of}
+use Rattle.wide_forms.specs.EncodingForm.{Utf16, code_units, encode, IsHighSurrogate}
+use Rattle.wide_forms.specs.Utf8.{utf8, utf8_bytes}
+use Rattle.wide_forms.specs.Laws.Forms.{scalar_from, one_unit, two_units, high_of, low_of}
 use Rattle.wide_utf16_to_utf8.specs.Encoded.{EncodedUnits, BeginsWithFault, AreCutShort}
 
 pub all-append : (P : ℕ → Type 0) (xs ys : List ℕ) → All P xs → All P ys → All P (xs ++ ys)

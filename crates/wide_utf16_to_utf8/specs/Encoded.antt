@@ -2,8 +2,8 @@
 use Rattle.std.specs.Prelude.{◌≡◌, ℕ, zero, suc, nat_eq, if◌then◌else◌, ◌<◌, ◌≤◌, ◌+◌, ◌*◌, ◌/◌, ◌%◌, ◌⊎◌, List, [], ◌∷◌, ◌++◌, Option, Some, None}
 use Rattle.std.specs.Char.{IsScalar}
 use Rattle.std.specs.List.{All}
-use Rattle.wide_unit.specs.EncodingForm.{Utf16, encode, IsHighSurrogate, IsLowSurrogate}
-use Rattle.wide_unit.specs.Utf8.{utf8}
+use Rattle.wide_forms.specs.EncodingForm.{Utf16, encode, IsHighSurrogate, IsLowSurrogate}
+use Rattle.wide_forms.specs.Utf8.{utf8}
 
 -- The units encode some characters, and `after` is `before` with the UTF-8 of those characters appended.
 pub record EncodedUnits (us before after : List ℕ) : Type 0 where

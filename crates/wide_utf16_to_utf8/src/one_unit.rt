@@ -2,7 +2,7 @@
 //! vectorized conversion uses it for the units that remain, and for units that are not paired.
 
 ghost use Rattle.std.specs.Prelude.{◌≡◌, ◌+◌, ◌*◌, ◌-◌, ◌/◌, ◌%◌, ◌≤◌, ◌<◌, ◌++◌, ◌∷◌, [], length, take, drop};
-ghost use Rattle.wide_unit.specs.Utf8.{utf8_bytes};
+ghost use Rattle.wide_forms.specs.Utf8.{utf8_bytes};
 ghost use Rattle.wide_utf16_to_utf8.specs.Encoded.{EncodedUnits, StopsBefore, high_word, low_word};
 
 /// How far a conversion came: how much it read, where the output ends, and the fault at which it stopped. Each function

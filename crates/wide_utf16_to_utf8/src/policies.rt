@@ -3,17 +3,17 @@
 //! compressed by a look-up table of shuffles.
 
 ghost use Rattle.std.specs.Prelude.{◌≡◌, ◌++◌, ◌∷◌, [], ◌+◌, ◌<◌, ◌≤◌, ℕ, length, slice_index, take, drop, if◌then◌else◌};
-ghost use Rattle.wide_unit.specs.EncodingForm.{Utf16, encode};
-ghost use Rattle.wide_unit.specs.Items.{items};
-ghost use Rattle.wide_unit.specs.Lossy.{lossy, lossy_after};
-ghost use Rattle.wide_unit.specs.Segmentation.{Fault};
-ghost use Rattle.wide_unit.specs.declared.policy.Policy.TheVariants.{Run, Skip};
+ghost use Rattle.wide_forms.specs.EncodingForm.{Utf16, encode};
+ghost use Rattle.wide_forms.specs.Items.{items};
+ghost use Rattle.wide_forms.specs.Lossy.{lossy, lossy_after};
+ghost use Rattle.wide_forms.specs.Segmentation.{Fault};
+ghost use Rattle.wide_forms.specs.declared.policy.Policy.TheVariants.{Run, Skip};
 ghost use Rattle.wide_utf16_to_utf8.specs.Compressed.{compressed_lanes, retained_bits, is_retained};
 ghost use Rattle.wide_utf16_to_utf8.specs.TwoBytes.{bit_of};
 
 use crate::compression::compress;
 use std::simd::prelude::*;
-use wide_unit::Policy;
+use wide_forms::Policy;
 
 // Returns whether a repaired unit is retained: if the unit was not replaced, or if the policy retains replacement
 // characters and the unit before was not replaced.

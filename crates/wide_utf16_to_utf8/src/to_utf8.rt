@@ -3,9 +3,9 @@
 //! with surrogates, and encoded by the method for its class.
 
 ghost use Rattle.std.specs.Prelude.{◌≡◌, ◌+◌, ◌*◌, ◌/◌, ◌%◌, ◌-◌, ◌≤◌, ◌<◌, ◌++◌, ◌∷◌, [], false, ℕ, slice_index, IsTrue, length, take, drop, is_some, true, IfNone, IfSome};
-ghost use Rattle.wide_unit.specs.EncodingForm.{Utf16};
-ghost use Rattle.wide_unit.specs.Items.{IsWellFormed, chars};
-ghost use Rattle.wide_unit.specs.Utf8.{utf8};
+ghost use Rattle.wide_forms.specs.EncodingForm.{Utf16};
+ghost use Rattle.wide_forms.specs.Items.{IsWellFormed, chars};
+ghost use Rattle.wide_forms.specs.Utf8.{utf8};
 ghost use Rattle.wide_utf16_to_utf8.specs.Encoded.{ArePaired, EncodedUnits, StopsBefore, top_bits};
 
 use crate::one_unit::{Step, encode_plain, put_pair};

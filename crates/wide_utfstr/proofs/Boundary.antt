@@ -2,15 +2,15 @@
 use Rattle.std.proofs.Common.{◌≡◌, ℕ, zero, suc, inl, inr, ◌-◌, ◌+◌, ◌<◌, ◌≤◌, List, [], ◌∷◌, take, drop, length-append, length-take, Bool, true, false, not, nat_eq, refl, sym, ◌∙◌, ap, subst, arith, eq-eqb, map, length, get_or, IsTrue, ◌↔◌}
 use Rattle.std.proofs.lemmas.List.{length-map, get_or-map, get_or-take, get_or_at, take-append-drop, length-take-le}
 use borrow.Author.Tests.{eqb-true}
-use Rattle.wide_unit.specs.EncodingForm.{EncodingForm, Utf16, Utf32, IsHighSurrogate, IsLowSurrogate}
-use Rattle.wide_unit.specs.Items.{items, IsWellFormed, IsBoundary}
-use Rattle.wide_unit.specs.Offsets.{IsCharBoundary}
+use Rattle.wide_forms.specs.EncodingForm.{EncodingForm, Utf16, Utf32, IsHighSurrogate, IsLowSurrogate}
+use Rattle.wide_forms.specs.Items.{items, IsWellFormed, IsBoundary}
+use Rattle.wide_forms.specs.Offsets.{IsCharBoundary}
 use Rattle.wide_utfstr.specs.Boundaries.{IsFloorBoundary, IsCeilBoundary}
 use Rattle.std.proofs.lemmas.Bool.{cases_eq, cases_lt}
-use Rattle.wide_unit.specs.Laws.Forms.{IsPair-parts}
-use Rattle.wide_unit.specs.Laws.Items.{IsCut}
-use Rattle.wide_unit.specs.Laws.Boundaries.{IsBoundary-at, IsBoundary-end, IsBoundary-of_cut, no-low_at_boundary}
-use Rattle.wide_unit.specs.Laws.Offsets.{IsBoundary-within}
+use Rattle.wide_forms.specs.Laws.Forms.{IsPair-parts}
+use Rattle.wide_forms.specs.Laws.Items.{IsCut}
+use Rattle.wide_forms.specs.Laws.Boundaries.{IsBoundary-at, IsBoundary-end, IsBoundary-of_cut, no-low_at_boundary}
+use Rattle.wide_forms.specs.Laws.Offsets.{IsBoundary-within}
 
 module _ {X : Type 0} (form : EncodingForm) (number : X → ℕ) (xs : List X) (offset : ℕ) where
   pub boundary-within : IsBoundary form (map number xs) offset → offset ≤ length xs

@@ -2,10 +2,10 @@
 use Rattle.std.proofs.Common.{◌≡◌, ℕ, ◌*◌, ◌/◌, ◌≤◌, List, [], ◌∷◌, inl, inr, ◌∙◌, ap, arith, length, length-append, map}
 use Rattle.std.proofs.lemmas.List.{length-map}
 use Rattle.std.proofs.Math.Nat.{div-le_of_le-mul}
-use Rattle.wide_unit.specs.EncodingForm.{EncodingForm, Utf16, Utf32, code_units, encode}
-use Rattle.wide_unit.specs.Items.{chars, IsWellFormed}
-use Rattle.wide_unit.specs.Laws.Forms.{code_units-cases, some_units}
-use Rattle.wide_unit.specs.Laws.Offsets.{encode-chars}
+use Rattle.wide_forms.specs.EncodingForm.{EncodingForm, Utf16, Utf32, code_units, encode}
+use Rattle.wide_forms.specs.Items.{chars, IsWellFormed}
+use Rattle.wide_forms.specs.Laws.Forms.{code_units-cases, some_units}
+use Rattle.wide_forms.specs.Laws.Offsets.{encode-chars}
 
 -- A character takes at least one unit, and at most as many as U+10000.
 most_of : (form : EncodingForm) (most : ℕ) → length (code_units form 0x1_0000) ≤ most → (c : ℕ) → length (code_units form c) ≤ most

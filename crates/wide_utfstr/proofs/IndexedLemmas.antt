@@ -1,9 +1,9 @@
 -- Characters with their offsets, by the last one.
 use Rattle.std.proofs.Common.{◌≡◌, ℕ, ◌+◌, List, [], ◌∷◌, ◌++◌, length, map, ap, ◌∙◌, arith, length-append}
 use Rattle.std.proofs.lemmas.List.{length-map}
-use Rattle.wide_unit.specs.EncodingForm.{EncodingForm, code_units, encode}
-use Rattle.wide_unit.specs.Items.{chars, IsWellFormed}
-use Rattle.wide_unit.specs.Laws.Offsets.{encode-chars}
+use Rattle.wide_forms.specs.EncodingForm.{EncodingForm, code_units, encode}
+use Rattle.wide_forms.specs.Items.{chars, IsWellFormed}
+use Rattle.wide_forms.specs.Laws.Offsets.{encode-chars}
 use Rattle.wide_utfstr.specs.Indexed.{indexed_chars}
 
 -- The offset of a character after others is the length in units of those.

@@ -10,12 +10,12 @@ use Rattle.std.specs.List.{All}
 use Rattle.std.specs.Cmp.Lexicographic.{pointwise}
 use Rattle.std.specs.Str.{IsUtf8}
 use Rattle.std.specs.Str.{chars as str_chars}
-use Rattle.wide_unit.specs.EncodingForm.{Utf16, Utf32}
-use Rattle.wide_unit.specs.Items.{IsWellFormed, characters, chars}
-use Rattle.wide_unit.specs.Utf8.{utf8}
-use Rattle.wide_unit.specs.Laws.Items.{items-nil}
-use Rattle.wide_unit.specs.Laws.Utf32.{chars32-well_formed}
-use Rattle.wide_unit.specs.Laws.Utf8.{utf8-encode_utf8_all}
+use Rattle.wide_forms.specs.EncodingForm.{Utf16, Utf32}
+use Rattle.wide_forms.specs.Items.{IsWellFormed, characters, chars}
+use Rattle.wide_forms.specs.Utf8.{utf8}
+use Rattle.wide_forms.specs.Laws.Items.{items-nil}
+use Rattle.wide_forms.specs.Laws.Utf32.{chars32-well_formed}
+use Rattle.wide_forms.specs.Laws.Utf8.{utf8-encode_utf8_all}
 use Rattle.wide_conversions.proofs.Utf8Texts.{all_scalars-of_All}
 
 -- Characters equal those of a text if and only if the bytes are equal.

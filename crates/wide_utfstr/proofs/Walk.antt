@@ -5,12 +5,12 @@ use Rattle.std.proofs.lemmas.List.Concat.{flat_map-append}
 use Rattle.std.proofs.lemmas.List.Elements.{All-drop}
 use Rattle.std.proofs.Math.Seq.{drop-append_seam}
 use Rattle.std.specs.Char.{IsScalar}
-use Rattle.wide_unit.specs.EncodingForm.{EncodingForm, code_units, encode}
-use Rattle.wide_unit.specs.Items.{items, chars, characters, IsWellFormed}
-use Rattle.wide_unit.specs.Offsets.{IsOffsetOf}
-use Rattle.wide_unit.specs.Laws.Ends.{items-append_left}
-use Rattle.wide_unit.specs.Laws.Offsets.{chars-encode, encode-chars, scalars-chars, IsOffsetOf-prefix}
-use Rattle.wide_unit.specs.Laws.Policies.{characters-append}
+use Rattle.wide_forms.specs.EncodingForm.{EncodingForm, code_units, encode}
+use Rattle.wide_forms.specs.Items.{items, chars, characters, IsWellFormed}
+use Rattle.wide_forms.specs.Offsets.{IsOffsetOf}
+use Rattle.wide_forms.specs.Laws.Ends.{items-append_left}
+use Rattle.wide_forms.specs.Laws.Offsets.{chars-encode, encode-chars, scalars-chars, IsOffsetOf-prefix}
+use Rattle.wide_forms.specs.Laws.Policies.{characters-append}
 
 -- The rest of the units is the encoding of their characters from number `index` on, and the text has at least that
 -- many.

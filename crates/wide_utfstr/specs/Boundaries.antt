@@ -1,7 +1,7 @@
 -- The character boundaries around an offset in well-formed units.
 use Rattle.std.specs.Prelude.{◌≡◌, ◌≤◌, ℕ, List, length}
-use Rattle.wide_unit.specs.EncodingForm.{EncodingForm}
-use Rattle.wide_unit.specs.Offsets.{IsCharBoundary}
+use Rattle.wide_forms.specs.EncodingForm.{EncodingForm}
+use Rattle.wide_forms.specs.Offsets.{IsCharBoundary}
 
 -- The last boundary at or before the offset.
 pub record IsFloorBoundary (form : EncodingForm) (units : List ℕ) (offset at : ℕ) : Type 0 where

@@ -5,8 +5,8 @@ use Rattle.std.specs.Char.Escape.{escape_unicode, escape_default}
 use Rattle.std.specs.Char.Iter.{escape_rest, escape_left}
 use Rattle.std.specs.Iterator.{YieldsFirst}
 use Rattle.std.specs.List.{flat_map, list_all}
-use Rattle.wide_unit.specs.Texts.{escape_debug}
-use Rattle.wide_unit.specs.Utf8.{utf8}
+use Rattle.wide_forms.specs.Texts.{escape_debug}
+use Rattle.wide_forms.specs.Utf8.{utf8}
 use Rattle.wide_unit.specs.declared.unit.Unit.{Ghosts}
 use Rattle.wide_utfstr.specs.Pending.{pending_rest, pending_left}
 use Rattle.wide_utfstr.specs.View.{text_seen}

@@ -1,6 +1,6 @@
 -- Characters with the offset, in units, at which each begins.
 use Rattle.std.specs.Prelude.{ℕ, ◌+◌, List, [], ◌∷◌, length}
-use Rattle.wide_unit.specs.EncodingForm.{EncodingForm, code_units}
+use Rattle.wide_forms.specs.EncodingForm.{EncodingForm, code_units}
 
 -- Each character with its offset, in units: the first at `offset`, and each next one after the units of the one before.
 abbrev pub indexed_chars : EncodingForm → ℕ → List ℕ → List (ℕ × ℕ)

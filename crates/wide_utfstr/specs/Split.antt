@@ -1,6 +1,6 @@
 -- What an iterator over the substrings of well-formed text will yield.
 use Rattle.std.specs.Prelude.{ℕ, List}
-use Rattle.wide_unit.specs.EncodingForm.{EncodingForm, code_units}
+use Rattle.wide_forms.specs.EncodingForm.{EncodingForm, code_units}
 use Rattle.wide_unit.specs.declared.unit.Unit.{Ghosts}
 use Rattle.wide_ustr.specs.Split.{substrings_left}
 use Rattle.wide_ustr.specs.declared.split.Split.{Split}

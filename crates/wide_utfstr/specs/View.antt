@@ -1,8 +1,8 @@
 -- The units and the characters of a well-formed view.
 use Rattle.std.specs.Prelude.{ℕ, List, map}
-use Rattle.wide_unit.specs.EncodingForm.{EncodingForm}
-use Rattle.wide_unit.specs.Segmentation.{Item}
-use Rattle.wide_unit.specs.Items.{items, chars}
+use Rattle.wide_forms.specs.EncodingForm.{EncodingForm}
+use Rattle.wide_forms.specs.Segmentation.{Item}
+use Rattle.wide_forms.specs.Items.{items, chars}
 use Rattle.wide_unit.specs.declared.unit.Unit.{Ghosts}
 use Rattle.wide_utfstr.specs.declared.view.UtfStr.{UtfStr}
 

@@ -1,7 +1,7 @@
 //! `Display` and `Debug` of a well-formed view, and of an iterator over its characters.
 ghost use Rattle.std.specs.Prelude.{map, Some};
-ghost use Rattle.wide_unit.specs.Texts.{debug_output};
-ghost use Rattle.wide_unit.specs.Utf8.{utf8};
+ghost use Rattle.wide_forms.specs.Texts.{debug_output};
+ghost use Rattle.wide_forms.specs.Utf8.{utf8};
 
 use crate::iter::Chars;
 use crate::view::UtfStr;

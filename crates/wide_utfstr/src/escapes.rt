@@ -8,8 +8,8 @@ ghost use Rattle.std.specs.Iterator.{YieldsFirst, at_most, UpTo};
 ghost use Rattle.std.specs.Iterator.SizeHint.{IsWithinCount};
 ghost use Rattle.std.specs.List.{flat_map, list_all};
 ghost use Rattle.std.specs.Option.{ForSome};
-ghost use Rattle.wide_unit.specs.Texts.{escape_debug};
-ghost use Rattle.wide_unit.specs.Utf8.{utf8};
+ghost use Rattle.wide_forms.specs.Texts.{escape_debug};
+ghost use Rattle.wide_forms.specs.Utf8.{utf8};
 ghost use Rattle.wide_utfstr.specs.Pending.{pending_rest};
 ghost use Rattle.wide_utfstr.specs.View.{text_seen};
 

@@ -2,7 +2,7 @@
 ghost use Rattle.std.specs.Prelude.{◌≡◌, ◌+◌, ◌/◌, ◌<◌, ◌≤◌, ◌^◌, length, map, Some, IfSome, ⊤};
 ghost use Rattle.std.specs.Iterator.{YieldsFirst, YieldsLast, at_most, UpTo};
 ghost use Rattle.std.specs.Iterator.SizeHint.{IsWithinCount};
-ghost use Rattle.wide_unit.specs.Items.{chars};
+ghost use Rattle.wide_forms.specs.Items.{chars};
 ghost use Rattle.wide_utfstr.specs.View.{units_seen, text_seen};
 
 use crate::view::UtfStr;

@@ -1,9 +1,9 @@
 //! The lines of well-formed text.
 ghost use Rattle.std.specs.Prelude.{◌≡◌, ◌<◌, ◌≤◌, ◌^◌, length, map};
 ghost use Rattle.std.specs.List.{All};
-ghost use Rattle.wide_unit.specs.Items.{items};
-ghost use Rattle.wide_unit.specs.Offsets.{IsCharBoundary};
-ghost use Rattle.wide_unit.specs.Lines.{lines_of, placed_lines};
+ghost use Rattle.wide_forms.specs.Items.{items};
+ghost use Rattle.wide_forms.specs.Offsets.{IsCharBoundary};
+ghost use Rattle.wide_forms.specs.Lines.{lines_of, placed_lines};
 ghost use Rattle.wide_ustr.specs.LineIndices.{placed_left};
 ghost use Rattle.wide_ustr.specs.Lines.{lines_left};
 ghost use Rattle.wide_utfstr.specs.View.{units_seen, items_seen};

@@ -1,8 +1,8 @@
 //! Searches in well-formed text.
 ghost use Rattle.std.specs.Prelude.{◌≡◌, ◌↔◌, ◌+◌, ◌++◌, ◌∷◌, [], ◌≤◌, ◌<◌, ◌^◌, length, map, IsTrue, IsSome, IfNone, IfSome};
-ghost use Rattle.wide_unit.specs.EncodingForm.{code_units};
+ghost use Rattle.wide_forms.specs.EncodingForm.{code_units};
 ghost use Rattle.wide_search.specs.Occurrences.{OccursIn, IsFirstAt, IsLastAt, OccursNowhere, BeginsWith, EndsWith, IsFirstSplit, IsLastSplit};
-ghost use Rattle.wide_unit.specs.Offsets.{IsCharBoundary};
+ghost use Rattle.wide_forms.specs.Offsets.{IsCharBoundary};
 ghost use Rattle.wide_search.specs.Cut.{substrings};
 ghost use Rattle.wide_search.specs.Substrings.{AreSubstrings};
 ghost use Rattle.wide_utfstr.specs.View.{units_seen, numbers_seen};

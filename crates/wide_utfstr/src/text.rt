@@ -1,6 +1,6 @@
 //! Conversion of well-formed views to UTF-8.
 ghost use Rattle.std.specs.Prelude.{◌≡◌, [], IsOk, IfOk, string_bytes};
-ghost use Rattle.wide_unit.specs.Utf8.{utf8};
+ghost use Rattle.wide_forms.specs.Utf8.{utf8};
 ghost use Rattle.wide_utfstr.specs.View.{units_seen, text_seen};
 
 use crate::view::UtfStr;

@@ -1,11 +1,11 @@
 //! Views of well-formed text.
 ghost use Rattle.std.specs.Prelude.{◌≡◌, ◌+◌, ◌<◌, ◌≤◌, ◌↔◌, ◌++◌, ◌∷◌, ◌==◌, [], length, map, take, drop, slice_get, Some, None, IsTrue, IsSome, IsOk, OnOk, IfOk, IfErr, IfNone, IfSome, ⊤};
-ghost use Rattle.wide_unit.specs.Range.{part_of};
+ghost use Rattle.wide_forms.specs.Range.{part_of};
 ghost use Rattle.std.specs.List.{All};
-ghost use Rattle.wide_unit.specs.EncodingForm.{Utf16, Utf32, code_units, encode};
-ghost use Rattle.wide_unit.specs.Utf8.{utf8};
-ghost use Rattle.wide_unit.specs.Items.{chars, IsWellFormed, IsFirstFault, IsBoundary};
-ghost use Rattle.wide_unit.specs.Offsets.{IsOffsetOf, IsCharBoundary, IsTextPart, IsCharPart};
+ghost use Rattle.wide_forms.specs.EncodingForm.{Utf16, Utf32, code_units, encode};
+ghost use Rattle.wide_forms.specs.Utf8.{utf8};
+ghost use Rattle.wide_forms.specs.Items.{chars, IsWellFormed, IsFirstFault, IsBoundary};
+ghost use Rattle.wide_forms.specs.Offsets.{IsOffsetOf, IsCharBoundary, IsTextPart, IsCharPart};
 ghost use Rattle.wide_utferror.specs.UtfError.{index_of, item_of, unit_of, vec_of};
 ghost use Rattle.wide_iter.specs.Encoder8.{bytes_left};
 ghost use Rattle.wide_iter.specs.Encoder16.{units_left as units16_left};

@@ -2,8 +2,8 @@
 use Rattle.std.proofs.Common.{◌≡◌, ℕ, List, subst, ◌∙◌}
 use Rattle.std.specs.Prelude.{Vec, vec_capacity}
 use Rattle.std.proofs.lemmas.List.{map-id}
-use Rattle.wide_unit.specs.EncodingForm.{EncodingForm}
-use Rattle.wide_unit.specs.Items.{IsFirstFault}
+use Rattle.wide_forms.specs.EncodingForm.{EncodingForm}
+use Rattle.wide_forms.specs.Items.{IsFirstFault}
 use Rattle.wide_utferror.specs.UtfError.{index_of, item_of, unit_of}
 use Rattle.wide_utferror.specs.declared.error.UtfError.{UtfError}
 use Rattle.wide_utfstring.specs.Faults.{IsFaultOf, IsFaultOfCopy}

@@ -7,11 +7,11 @@ use Rattle.std.proofs.lemmas.Bool.{cases_eq}
 use Rattle.std.proofs.lemmas.Bool.Decides.{nat_tests}
 use Rattle.std.proofs.Math.Seq.{take-append_seam}
 use Rattle.std.specs.List.{splice}
-use Rattle.wide_unit.specs.EncodingForm.{EncodingForm, code_units, encode}
-use Rattle.wide_unit.specs.Items.{chars, IsWellFormed}
-use Rattle.wide_unit.specs.Offsets.{IsOffsetOf}
-use Rattle.wide_unit.specs.Laws.Offsets.{IsOffsetOf-prefix, encode-chars, IsWellFormed-take, IsWellFormed-drop, IsBoundary-within}
-use Rattle.wide_unit.specs.Laws.Splices.{chars-nil}
+use Rattle.wide_forms.specs.EncodingForm.{EncodingForm, code_units, encode}
+use Rattle.wide_forms.specs.Items.{chars, IsWellFormed}
+use Rattle.wide_forms.specs.Offsets.{IsOffsetOf}
+use Rattle.wide_forms.specs.Laws.Offsets.{IsOffsetOf-prefix, encode-chars, IsWellFormed-take, IsWellFormed-drop, IsBoundary-within}
+use Rattle.wide_forms.specs.Laws.Splices.{chars-nil}
 
 -- A string without a range is shorter, or the range was empty.
 pub gone_or_same : {X : Type 0} (us left : List X) (from to total : ℕ) → length us ≡ total → from ≤ to → to ≤ total → left ≡ splice us from to [] → length left ≡ total → left ≡ us

@@ -4,7 +4,7 @@ use Rattle.std.specs.Iterator.Runs.{YieldsInOrder, YieldsInReverse}
 use Rattle.std.proofs.iter.runs.Sources.{from_front, from_back, as_is, as_is_back}
 use Rattle.wide_utferror.specs.declared.error.FaultUnit.{Ghosts as Faults}
 use Rattle.wide_unit.specs.declared.unit.Unit.{Ghosts}
-use Rattle.wide_unit.specs.EncodingForm.{code_units}
+use Rattle.wide_forms.specs.EncodingForm.{code_units}
 use Rattle.wide_utfstring.specs.Drain.{drain_rest, DrainGives, DrainGivesBack, DrainKeeps, DrainStays}
 use Rattle.wide_utfstring.specs.declared.iter.DrainUtf.{DrainUtf}
 use Rattle.wide_utfstring.proofs.Drained.{IsTaken, prefix_taken, back_taken}

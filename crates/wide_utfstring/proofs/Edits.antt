@@ -3,11 +3,11 @@ use Rattle.std.proofs.Common.{◌≡◌, ℕ, zero, suc, ◌≤◌, List, ◌++�
 use Rattle.std.specs.Prelude.{OnOk, OnErr, ◌⊎◌}
 use Rattle.std.specs.List.{repeat}
 use Rattle.std.proofs.lemmas.List.{map-append, take_all, take-map, drop-map, length-map}
-use Rattle.wide_unit.specs.EncodingForm.{EncodingForm}
-use Rattle.wide_unit.specs.Items.{chars, IsBoundary, IsWellFormed}
-use Rattle.wide_unit.specs.Offsets.{chars_before}
-use Rattle.wide_unit.specs.Laws.Offsets.{IsOffsetOf-boundary}
-use Rattle.wide_unit.specs.Laws.Splices.{IsWellFormed-nil, IsWellFormed-append, IsWellFormed-map_take}
+use Rattle.wide_forms.specs.EncodingForm.{EncodingForm}
+use Rattle.wide_forms.specs.Items.{chars, IsBoundary, IsWellFormed}
+use Rattle.wide_forms.specs.Offsets.{chars_before}
+use Rattle.wide_forms.specs.Laws.Offsets.{IsOffsetOf-boundary}
+use Rattle.wide_forms.specs.Laws.Splices.{IsWellFormed-nil, IsWellFormed-append, IsWellFormed-map_take}
 use Rattle.wide_ustring.specs.Units.{Units}
 
 pub on_ok : {A E P Q : Type 0} (r : Result A E) → (P → Q) → OnOk r P → OnOk r Q

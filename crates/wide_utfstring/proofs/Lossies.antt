@@ -6,14 +6,14 @@ use Rattle.std.proofs.lemmas.Slice.{take-put_mid}
 use borrow.Rule.Slice.PartMut.{put_mid, post_of}
 use Rattle.std.proofs.lemmas.List.Concat.{flat_map-append}
 use Rattle.std.specs.Prelude.{map}
-use Rattle.wide_unit.specs.EncodingForm.{EncodingForm, code_units, encode}
-use Rattle.wide_unit.specs.Segmentation.{Item, Char, Fault}
-use Rattle.wide_unit.specs.Items.{items, characters, IsWellFormed, IsFirstFault}
-use Rattle.wide_unit.specs.Lossy.{lossy, lossy_runs, lossy_by}
-use Rattle.wide_unit.specs.Laws.Policies.{encode-lossy_by, well_formed-lossy_by, lossy_by-split, characters-append, characters-of_run}
-use Rattle.wide_unit.specs.Laws.Ends.{items-append_left}
-use Rattle.wide_unit.specs.declared.policy.Policy.{Policy}
-use Rattle.wide_unit.specs.declared.policy.Policy.TheVariants.{Each, Run, Skip}
+use Rattle.wide_forms.specs.EncodingForm.{EncodingForm, code_units, encode}
+use Rattle.wide_forms.specs.Segmentation.{Item, Char, Fault}
+use Rattle.wide_forms.specs.Items.{items, characters, IsWellFormed, IsFirstFault}
+use Rattle.wide_forms.specs.Lossy.{lossy, lossy_runs, lossy_by}
+use Rattle.wide_forms.specs.Laws.Policies.{encode-lossy_by, well_formed-lossy_by, lossy_by-split, characters-append, characters-of_run}
+use Rattle.wide_forms.specs.Laws.Ends.{items-append_left}
+use Rattle.wide_forms.specs.declared.policy.Policy.{Policy}
+use Rattle.wide_forms.specs.declared.policy.Policy.TheVariants.{Each, Run, Skip}
 use Rattle.wide_unit.specs.declared.unit.Unit.{Ghosts}
 use Rattle.wide_unit.proofs.Faults.{first_fault-not_well_formed, first_fault-prefix, first_fault-first}
 use Rattle.wide_ustr.specs.LossyWith.{BeginsPastFaults}

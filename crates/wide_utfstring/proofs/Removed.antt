@@ -4,15 +4,15 @@ use Rattle.std.specs.Char.{IsScalar}
 use Rattle.std.specs.List.{splice}
 use Rattle.std.proofs.lemmas.List.{take-append-drop, drop-drop, take-map, drop-map}
 use Rattle.std.proofs.Math.Seq.{drop-append_seam}
-use Rattle.wide_unit.specs.EncodingForm.{EncodingForm, code_units}
-use Rattle.wide_unit.specs.Segmentation.{Item, Char, Fault, units_of}
-use Rattle.wide_unit.specs.Items.{items, characters, chars, IsWellFormed, IsBoundary}
-use Rattle.wide_unit.specs.Offsets.{chars_before}
-use Rattle.wide_unit.specs.Laws.Items.{units_of-items}
-use Rattle.wide_unit.specs.Laws.Offsets.{scalars-chars, IsOffsetOf-boundary, IsWellFormed-take, IsWellFormed-drop}
-use Rattle.wide_unit.specs.Laws.Splices.{IsWellFormed-append, chars-append}
+use Rattle.wide_forms.specs.EncodingForm.{EncodingForm, code_units}
+use Rattle.wide_forms.specs.Segmentation.{Item, Char, Fault, units_of}
+use Rattle.wide_forms.specs.Items.{items, characters, chars, IsWellFormed, IsBoundary}
+use Rattle.wide_forms.specs.Offsets.{chars_before}
+use Rattle.wide_forms.specs.Laws.Items.{units_of-items}
+use Rattle.wide_forms.specs.Laws.Offsets.{scalars-chars, IsOffsetOf-boundary, IsWellFormed-take, IsWellFormed-drop}
+use Rattle.wide_forms.specs.Laws.Splices.{IsWellFormed-append, chars-append}
 use Rattle.wide_ustring.specs.Taken.{item_code, TakesFirst}
-use Rattle.wide_unit.specs.Laws.WellFormed.{no_first_fault, well_formed-rest}
+use Rattle.wide_forms.specs.Laws.WellFormed.{no_first_fault, well_formed-rest}
 
 -- The first item of well-formed units is a character.
 module _ (form : EncodingForm) (us vs : List ℕ) (well : IsWellFormed form us) (code : ℕ) where

@@ -4,12 +4,12 @@ use Rattle.std.specs.Char.{IsScalar}
 use Rattle.std.specs.List.{refill}
 use Rattle.std.proofs.lemmas.List.{map-id, set_split}
 use Rattle.std.proofs.Math.Seq.{take-append_seam}
-use Rattle.wide_unit.specs.EncodingForm.{Utf32, encode}
-use Rattle.wide_unit.specs.Items.{chars, IsWellFormed}
-use Rattle.wide_unit.specs.Laws.Boundaries.{IsBoundary-at}
-use Rattle.wide_unit.specs.Laws.Ends.{IsWellFormed-code_units}
-use Rattle.wide_unit.specs.Laws.Splices.{IsWellFormed-splice}
-use Rattle.wide_unit.specs.Laws.Utf32.{chars32-well_formed}
+use Rattle.wide_forms.specs.EncodingForm.{Utf32, encode}
+use Rattle.wide_forms.specs.Items.{chars, IsWellFormed}
+use Rattle.wide_forms.specs.Laws.Boundaries.{IsBoundary-at}
+use Rattle.wide_forms.specs.Laws.Ends.{IsWellFormed-code_units}
+use Rattle.wide_forms.specs.Laws.Splices.{IsWellFormed-splice}
+use Rattle.wide_forms.specs.Laws.Utf32.{chars32-well_formed}
 
 pub well32 : (us : List ℕ) → IsWellFormed Utf32 (map (λ u. u) us) → IsWellFormed Utf32 us
 well32 us well = subst (λ vs. IsWellFormed Utf32 vs) (map-id us) well

@@ -1,11 +1,11 @@
 -- What contracts say about text that is borrowed or owned.
 use Rattle.std.specs.Prelude.{◌≡◌, ◌≤◌, ◌↔◌, ℕ, List, length, map}
 use Rattle.wide_unit.specs.declared.unit.Unit.{Ghosts}
-use Rattle.wide_unit.specs.EncodingForm.{EncodingForm, encode}
-use Rattle.wide_unit.specs.Items.{items, IsWellFormed}
-use Rattle.wide_unit.specs.Lossy.{lossy_by}
-use Rattle.wide_unit.specs.declared.policy.Policy.{Policy}
-use Rattle.wide_unit.specs.declared.policy.Policy.TheVariants.{Each}
+use Rattle.wide_forms.specs.EncodingForm.{EncodingForm, encode}
+use Rattle.wide_forms.specs.Items.{items, IsWellFormed}
+use Rattle.wide_forms.specs.Lossy.{lossy_by}
+use Rattle.wide_forms.specs.declared.policy.Policy.{Policy}
+use Rattle.wide_forms.specs.declared.policy.Policy.TheVariants.{Each}
 use Rattle.wide_ustring.specs.Units.{Units}
 use Rattle.wide_utfstr.specs.View.{units_seen}
 use Rattle.wide_utfstring.specs.declared.cow.CowUtfStr.{CowUtfStr}

@@ -6,7 +6,7 @@ use Rattle.std.specs.Iterator.Runs.{YieldsInOrder, YieldsInReverse}
 use Rattle.std.specs.List.{splice}
 use Rattle.wide_utferror.specs.declared.error.FaultUnit.{Ghosts as Faults}
 use Rattle.wide_unit.specs.declared.unit.Unit.{Ghosts}
-use Rattle.wide_unit.specs.Items.{chars}
+use Rattle.wide_forms.specs.Items.{chars}
 use Rattle.wide_utfstring.specs.declared.iter.DrainUtf.{DrainUtf}
 
 module _ {C A F : Type 0} {f : Faults C F} {g : Ghosts C} where

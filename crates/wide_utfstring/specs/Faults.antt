@@ -1,8 +1,8 @@
 -- The errors of constructors that check a vector's units, or a copy of units.
 use Rattle.std.specs.Prelude.{◌≡◌, ℕ, List, map, Some}
 use Rattle.std.specs.declared.vec.Vec.{Vec}
-use Rattle.wide_unit.specs.EncodingForm.{EncodingForm}
-use Rattle.wide_unit.specs.Items.{IsFirstFault}
+use Rattle.wide_forms.specs.EncodingForm.{EncodingForm}
+use Rattle.wide_forms.specs.Items.{IsFirstFault}
 use Rattle.wide_utferror.specs.UtfError.{index_of, item_of, unit_of, vec_of}
 use Rattle.wide_utferror.specs.declared.error.UtfError.{UtfError}
 

@@ -33,7 +33,7 @@ pub type BoxedUtf32Str<A = Global> = BoxedUtfStr<u32, A>;
 impl<C: FaultUnit, A: Allocator> Model for BoxedUtfStr<C, A> {
     ghost use Rattle.std.specs.Prelude.{List, map};
     ghost use Rattle.std.specs.Coded.{coded_list};
-    ghost use Rattle.wide_unit.specs.Items.{IsWellFormed};
+    ghost use Rattle.wide_forms.specs.Items.{IsWellFormed};
 
     ghost Value = { List C };
 

@@ -2,7 +2,7 @@
 ghost use Rattle.std.specs.Prelude.{◌≡◌, ◌++◌, [], option_to_list, IsOk, IfOk, OnOk};
 ghost use Rattle.std.specs.Char.Iter.{case_mapping_chars};
 ghost use Rattle.std.specs.List.{flat_map};
-ghost use Rattle.wide_unit.specs.Offsets.{text_of};
+ghost use Rattle.wide_forms.specs.Offsets.{text_of};
 ghost use Rattle.wide_utfstr.specs.View.{units_seen, text_seen};
 ghost use Rattle.wide_utfstring.specs.Case.{mapping};
 

@@ -1,7 +1,7 @@
 //! Copies of views as well-formed text.
 ghost use Rattle.std.specs.Prelude.{◌≡◌, ◌<◌, [], length, IsOk, IfOk, IfErr, IfSome, OnOk};
-ghost use Rattle.wide_unit.specs.EncodingForm.{Utf16, Utf32};
-ghost use Rattle.wide_unit.specs.Items.{IsWellFormed};
+ghost use Rattle.wide_forms.specs.EncodingForm.{Utf16, Utf32};
+ghost use Rattle.wide_forms.specs.Items.{IsWellFormed};
 ghost use Rattle.wide_ustr.specs.View.{units_seen};
 ghost use Rattle.wide_ucstr.specs.View.{contents_seen};
 ghost use Rattle.wide_utferror.specs.UtfError.{index_of};

@@ -1,8 +1,8 @@
 //! `Display` and `Debug` of an owned string, of borrowed or owned text, of boxed text, and of a drain.
 ghost use Rattle.std.specs.Prelude.{map, Some};
-ghost use Rattle.wide_unit.specs.Offsets.{text_of};
-ghost use Rattle.wide_unit.specs.Texts.{debug_output};
-ghost use Rattle.wide_unit.specs.Utf8.{utf8};
+ghost use Rattle.wide_forms.specs.Offsets.{text_of};
+ghost use Rattle.wide_forms.specs.Texts.{debug_output};
+ghost use Rattle.wide_forms.specs.Utf8.{utf8};
 
 use crate::iter::DrainUtf;
 use crate::{BoxedUtfStr, CowUtfStr, UtfString};

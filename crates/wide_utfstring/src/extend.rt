@@ -5,7 +5,7 @@
 ghost use Rattle.std.specs.Prelude.{◌≤◌, map, string_bytes};
 ghost use Rattle.std.specs.Iterator.{IsFiniteIterable};
 ghost use Rattle.std.specs.Str.{chars};
-ghost use Rattle.wide_unit.specs.EncodingForm.{code_units, encode};
+ghost use Rattle.wide_forms.specs.EncodingForm.{code_units, encode};
 ghost use Rattle.wide_ustring.specs.Extended.{Adds, Collects, numbered};
 ghost use Rattle.wide_utfstr.specs.View.{units_seen};
 

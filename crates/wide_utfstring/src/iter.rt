@@ -3,7 +3,7 @@ ghost use Rattle.std.specs.Prelude.{◌≡◌, ◌≤◌, ◌/◌, [], length, m
 ghost use Rattle.std.specs.Iterator.{at_most, UpTo};
 ghost use Rattle.std.specs.Iterator.SizeHint.{IsWithinCount};
 ghost use Rattle.std.specs.List.{splice};
-ghost use Rattle.wide_unit.specs.Items.{chars, IsWellFormed};
+ghost use Rattle.wide_forms.specs.Items.{chars, IsWellFormed};
 ghost use Rattle.wide_utfstr.specs.View.{units_seen, text_seen};
 
 use crate::UtfString;

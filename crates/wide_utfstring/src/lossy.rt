@@ -1,9 +1,9 @@
 //! Well-formed text made from any units, with U+FFFD for each fault.
 ghost use Rattle.std.specs.Prelude.{◌≡◌, ◌≢◌, ◌≤◌, ◌<◌, length, map, take, IsOk, IfOk};
-ghost use Rattle.wide_unit.specs.EncodingForm.{encode};
-ghost use Rattle.wide_unit.specs.Items.{items, IsWellFormed, IsFirstFault};
-ghost use Rattle.wide_unit.specs.Lossy.{lossy, lossy_by};
-ghost use Rattle.wide_unit.specs.declared.policy.Policy.TheVariants.{Each};
+ghost use Rattle.wide_forms.specs.EncodingForm.{encode};
+ghost use Rattle.wide_forms.specs.Items.{items, IsWellFormed, IsFirstFault};
+ghost use Rattle.wide_forms.specs.Lossy.{lossy, lossy_by};
+ghost use Rattle.wide_forms.specs.declared.policy.Policy.TheVariants.{Each};
 ghost use Rattle.wide_ustr.specs.View.{units_seen as ustr_units};
 ghost use Rattle.wide_ucstr.specs.View.{contents_seen};
 ghost use Rattle.wide_utfstring.specs.CowText.{IsLossyOf, IsLossyBy};
@@ -12,7 +12,8 @@ use crate::{CowUtfStr, UtfString};
 use std::alloc::Allocator;
 use wide_error::OutOfMemory;
 use wide_ucstr::UCStr;
-use wide_unit::{FirstFault, Policy, check};
+use wide_forms::Policy;
+use wide_unit::{FirstFault, check};
 use wide_ustr::{UStr, after_faults};
 use wide_ustring::UString;
 use wide_utferror::FaultUnit;

@@ -1,10 +1,10 @@
 //! Owned strings of well-formed text.
 ghost use Rattle.std.specs.Prelude.{◌≡◌, ◌==◌, ◌+◌, ◌-◌, ◌<◌, ◌≤◌, ◌++◌, ◌∷◌, [], ◌↔◌, ◌⊎◌, min, max, length, map, take, drop, IsNone, IfSome, IsOk, IfOk, IfErr, OnOk, OnErr, vec_capacity, Vec};
-ghost use Rattle.wide_unit.specs.EncodingForm.{code_units, encode};
-ghost use Rattle.wide_unit.specs.Items.{chars, IsWellFormed};
-ghost use Rattle.wide_unit.specs.Utf8.{utf8};
-ghost use Rattle.wide_unit.specs.Offsets.{text_of, text_before, text_spliced, IsCharPart, text_replaced};
-ghost use Rattle.wide_unit.specs.Range.{IsWithin, part_of, part_replaced};
+ghost use Rattle.wide_forms.specs.EncodingForm.{code_units, encode};
+ghost use Rattle.wide_forms.specs.Items.{chars, IsWellFormed};
+ghost use Rattle.wide_forms.specs.Utf8.{utf8};
+ghost use Rattle.wide_forms.specs.Offsets.{text_of, text_before, text_spliced, IsCharPart, text_replaced};
+ghost use Rattle.wide_forms.specs.Range.{IsWithin, part_of, part_replaced};
 ghost use Rattle.std.specs.List.{splice};
 ghost use Rattle.std.specs.List.Retain.{IsFiltered};
 ghost use Rattle.std.specs.Range.Bound.{start_index, end_index};
@@ -12,7 +12,7 @@ ghost use Rattle.std.specs.Str.{chars as str_chars};
 ghost use Rattle.wide_ustr.specs.View.{units_seen as ustr_units};
 ghost use Rattle.wide_ustring.specs.Units.{ustring_len, HasSpaceFor};
 ghost use Rattle.wide_ucstr.specs.CString.{contents};
-ghost use Rattle.wide_unit.specs.Offsets.{IsCharBoundary, IsCharRange};
+ghost use Rattle.wide_forms.specs.Offsets.{IsCharBoundary, IsCharRange};
 ghost use Rattle.wide_utfstr.specs.View.{units_seen, text_seen};
 ghost use Rattle.wide_utferror.specs.UtfError.{index_of};
 ghost use Rattle.wide_utfstring.specs.Faults.{IsFaultOf};
@@ -53,7 +53,7 @@ pub type WideUtfString<A = Global> = Utf32String<A>;
 
 impl<C: FaultUnit, A: Allocator> Model for UtfString<C, A> {
     ghost use Rattle.std.specs.Prelude.{map};
-    ghost use Rattle.wide_unit.specs.Items.{IsWellFormed};
+    ghost use Rattle.wide_forms.specs.Items.{IsWellFormed};
     ghost use Rattle.wide_ustring.specs.Units.{Units, units_code};
 
     ghost Value = { Units C };
@@ -669,7 +669,7 @@ impl<C: FaultUnit, A: Allocator> UtfString<C, A> {
 
 impl<A: Allocator> UtfString<u32, A> {
     ghost use Rattle.std.specs.Prelude.{slice_set};
-    ghost use Rattle.wide_unit.specs.EncodingForm.{Utf32};
+    ghost use Rattle.wide_forms.specs.EncodingForm.{Utf32};
 
     /// Encodes characters as a new string, one unit for each.
     ///

@@ -1,26 +1,26 @@
 -- The definitions that the contracts of the re-exported calls use. A crate that depends on `widestring` only cites them
 -- from here.
-pub use Rattle.wide_unit.specs.EncodingForm
-pub use Rattle.wide_unit.specs.Segmentation
-pub use Rattle.wide_unit.specs.Items
-pub use Rattle.wide_unit.specs.Offsets
-pub use Rattle.wide_unit.specs.Range
-pub use Rattle.wide_unit.specs.Lossy
-pub use Rattle.wide_unit.specs.Lines
-pub use Rattle.wide_unit.specs.Texts
+pub use Rattle.wide_forms.specs.EncodingForm
+pub use Rattle.wide_forms.specs.Segmentation
+pub use Rattle.wide_forms.specs.Items
+pub use Rattle.wide_forms.specs.Offsets
+pub use Rattle.wide_forms.specs.Range
+pub use Rattle.wide_forms.specs.Lossy
+pub use Rattle.wide_forms.specs.Lines
+pub use Rattle.wide_forms.specs.Texts
 pub use Rattle.wide_unit.specs.Nul
 pub use Rattle.wide_unit.specs.Unit
 pub use Rattle.wide_unit.specs.AnyUnits
-pub use Rattle.wide_unit.specs.Utf8
-pub use Rattle.wide_unit.specs.CodePoint
-pub use Rattle.wide_unit.specs.Searches
+pub use Rattle.wide_forms.specs.Utf8
+pub use Rattle.wide_forms.specs.CodePoint
+pub use Rattle.wide_forms.specs.Searches
 pub use Rattle.wide_unit.specs.CommonPrefix
-pub use Rattle.wide_unit.specs.Statements
+pub use Rattle.wide_forms.specs.Statements
 pub use Rattle.wide_search.specs.Occurrences
 pub use Rattle.wide_search.specs.Substrings as SearchSubstrings
 pub use Rattle.wide_search.specs.Cut as SearchCut
 pub use Rattle.wide_search.specs.Statements as SearchStatements
-pub use Rattle.wide_unit.specs.UnitBytes
+pub use Rattle.wide_forms.specs.UnitBytes
 pub use Rattle.wide_error.specs.Nul as NulOffsets
 pub use Rattle.wide_error.specs.NulError
 pub use Rattle.wide_error.specs.UCStringError
@@ -79,9 +79,10 @@ pub use Rattle.wide_bytes.specs.Bytes
 pub use Rattle.wide_bytes.specs.Devices
 pub use Rattle.wide_bytes.specs.FromRead
 pub use Rattle.wide_bytes.specs.FromWrite
-pub use Rattle.wide_bytes.specs.Chunks
-pub use Rattle.wide_bytes.specs.Run
-pub use Rattle.wide_bytes.specs.Transcoded
+pub use Rattle.wide_bytes.specs.Put
+pub use Rattle.wide_transcode.specs.Chunks
+pub use Rattle.wide_transcode.specs.Run
+pub use Rattle.wide_transcode.specs.Transcoded
 pub use Rattle.wide_bytes.specs.UnitsOfBytes
 pub use Rattle.wide_bytes.specs.Utf16OfBytes
 pub use Rattle.wide_include.specs.Include

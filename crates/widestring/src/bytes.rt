@@ -2,7 +2,8 @@
 //! strings.
 
 pub use wide_bytes::{
-    BoM, ByteSink, ByteSource, FromRead, FromWrite, Mode, UnitsOfBytes, Utf16OfBytes, byte_order,
-    laws, put_all, transcode, transcode_with, units_of_bytes, utf16_of_bytes,
+    BoM, ByteSink, ByteSource, FromRead, FromWrite, UnitsOfBytes, Utf16OfBytes, byte_order, laws,
+    put_all, units_of_bytes, utf16_of_bytes,
 };
 pub use wide_include::include_utf16str;
+pub use wide_transcode::{Mode, transcode, transcode_with};

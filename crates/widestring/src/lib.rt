@@ -20,7 +20,7 @@ pub use wide_ucstr::{U16CStr, U32CStr, WideCStr};
 pub use wide_ucstring as ucstring;
 pub use wide_ucstring::{U16CString, U32CString, WideCString};
 pub use wide_unit as unit;
-pub use wide_unit::Policy;
+pub use wide_forms::Policy;
 pub use wide_ustr as ustr;
 pub use wide_ustr::{U16Str, U32Str, WideChar, WideStr};
 pub use wide_ustring as ustring;

@@ -4,13 +4,13 @@ use Rattle.std.proofs.Common.{◌≡◌, ℕ, ◌≤◌, List, [], ◌∷◌, �
 use Rattle.std.specs.Str.{IsUtf8, IsValidUpTo, chars}
 use Rattle.std.proofs.lemmas.List.{take_all}
 use Rattle.std.proofs.lemmas.List.Concat.{flat_map-append}
-use Rattle.wide_unit.specs.EncodingForm.{EncodingForm, code_units, encode}
-use Rattle.wide_unit.specs.Items.{items}
-use Rattle.wide_unit.specs.Lossy.{lossy_after}
-use Rattle.wide_unit.specs.Utf8.{utf8, utf8_bytes}
-use Rattle.wide_unit.specs.Laws.Items.{items-nil}
-use Rattle.wide_unit.specs.declared.policy.Policy.{Policy}
-use Rattle.wide_unit.specs.declared.policy.Policy.TheVariants.{Each, Run, Skip}
+use Rattle.wide_forms.specs.EncodingForm.{EncodingForm, code_units, encode}
+use Rattle.wide_forms.specs.Items.{items}
+use Rattle.wide_forms.specs.Lossy.{lossy_after}
+use Rattle.wide_forms.specs.Utf8.{utf8, utf8_bytes}
+use Rattle.wide_forms.specs.Laws.Items.{items-nil}
+use Rattle.wide_forms.specs.declared.policy.Policy.{Policy}
+use Rattle.wide_forms.specs.declared.policy.Policy.TheVariants.{Each, Run, Skip}
 use Rattle.wide_conversions.specs.Utf8Items.{IsLossyPrefix, none, utf8_items, utf8_items-divide, utf8_items-unique}
 use Rattle.wide_conversions.proofs.LossyItems.{lossy-after_text, lossy-rest}
 

@@ -1,15 +1,15 @@
 -- Offsets in bytes that do not split a surrogate pair.
 use Rattle.std.proofs.Common.{◌≡◌, ◌≢◌, ℕ, zero, suc, ◌+◌, ◌-◌, ◌*◌, ◌/◌, ◌%◌, ◌<◌, ◌≤◌, List, [], ◌∷◌, ◌++◌, length, get_or, take, drop, refl, sym, ap, ◌∙◌, subst, arith, length-append, length-drop, length-take-le}
 use Rattle.std.proofs.lemmas.List.{get_or-append-add, get_or-drop, get_or-take}
-use Rattle.wide_unit.specs.EncodingForm.{Utf16, IsHighSurrogate}
-use Rattle.wide_unit.specs.Laws.Forms.{IsPair-parts}
-use Rattle.wide_unit.specs.Laws.Items.{IsCut}
+use Rattle.wide_forms.specs.EncodingForm.{Utf16, IsHighSurrogate}
+use Rattle.wide_forms.specs.Laws.Forms.{IsPair-parts}
+use Rattle.wide_forms.specs.Laws.Items.{IsCut}
 use Rattle.wide_bytes.specs.Bytes.{unit_in, units_in}
-use Rattle.wide_bytes.specs.Encoded.{IsCutShort}
+use Rattle.wide_transcode.specs.Encoded.{IsCutShort}
 use Rattle.wide_bytes.specs.declared.order.BoM.{BoM}
-use Rattle.wide_bytes.proofs.Certain.{high-cut}
+use Rattle.wide_transcode.proofs.Certain.{high-cut}
 use Rattle.wide_bytes.proofs.Pairs.{length-units_in}
-use Rattle.wide_bytes.proofs.UnitsPending.{units_in-take}
+use Rattle.wide_bytes.proofs.UnitLists.{units_in-take}
 
 -- a unit and its two bytes
 unit-at : (order : BoM) (q : ℕ) (bytes : List ℕ) → 2 * q + 2 ≤ length bytes → get_or (units_in order bytes) q 0 ≡ unit_in order (get_or bytes (2 * q) 0) (get_or bytes (2 * q + 1) 0)

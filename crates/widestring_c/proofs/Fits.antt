@@ -4,18 +4,18 @@ use Rattle.std.specs.Str.{IsUtf8, chars as str_chars}
 use Rattle.std.proofs.lemmas.Bool.{cases_lt}
 use Rattle.std.proofs.lemmas.Bool.Decides.{nat_tests}
 use Rattle.std.proofs.lemmas.Str.{encodes-chars}
-use Rattle.wide_unit.specs.EncodingForm.{EncodingForm, Utf16, Utf32, code_units, encode}
-use Rattle.wide_unit.specs.Segmentation.{Item, Char, Fault}
-use Rattle.wide_unit.specs.Items.{IsWellFormed, characters, chars, items}
-use Rattle.wide_unit.specs.Lossy.{lossy, lossy_after, lossy_by, lossy_runs, past_faults}
-use Rattle.wide_unit.specs.Utf8.{utf8, utf8_bytes}
-use Rattle.wide_unit.specs.declared.policy.Policy.{Policy}
-use Rattle.wide_unit.specs.declared.policy.Policy.TheVariants.{Each, Run, Skip}
-use Rattle.wide_unit.specs.Laws.Forms.{one_unit, two_units}
-use Rattle.wide_unit.specs.Laws.Lossy.{length-lossy}
-use Rattle.wide_unit.specs.Laws.Offsets.{encode-chars}
-use Rattle.wide_unit.specs.Laws.Utf8.{utf8-encode_utf8_all}
-use Rattle.wide_unit.specs.Laws.Utf32.{encode32}
+use Rattle.wide_forms.specs.EncodingForm.{EncodingForm, Utf16, Utf32, code_units, encode}
+use Rattle.wide_forms.specs.Segmentation.{Item, Char, Fault}
+use Rattle.wide_forms.specs.Items.{IsWellFormed, characters, chars, items}
+use Rattle.wide_forms.specs.Lossy.{lossy, lossy_after, lossy_by, lossy_runs, past_faults}
+use Rattle.wide_forms.specs.Utf8.{utf8, utf8_bytes}
+use Rattle.wide_forms.specs.declared.policy.Policy.{Policy}
+use Rattle.wide_forms.specs.declared.policy.Policy.TheVariants.{Each, Run, Skip}
+use Rattle.wide_forms.specs.Laws.Forms.{one_unit, two_units}
+use Rattle.wide_forms.specs.Laws.Lossy.{length-lossy}
+use Rattle.wide_forms.specs.Laws.Offsets.{encode-chars}
+use Rattle.wide_forms.specs.Laws.Utf8.{utf8-encode_utf8_all}
+use Rattle.wide_forms.specs.Laws.Utf32.{encode32}
 use Rattle.wide_conversions.specs.Laws.Utf8Items.{shorter-part}
 use Rattle.wide_conversions.specs.Utf8Items.{AreUtf8Items, none, character, part, utf8_items, utf8_items-divide}
 use Rattle.widestring_c.proofs.Windows.{bytes_of}

@@ -3,10 +3,10 @@ use Rattle.std.proofs.Common.{◌≡◌, ℕ, ◌+◌, ◌<◌, cond, inl, inr, 
 use Rattle.std.specs.List.{count_by}
 use Rattle.std.proofs.lemmas.List.Recursion.{is_count_by}
 use Rattle.std.proofs.lemmas.Bool.{cases_lt, le-leb, lt-leb}
-use Rattle.wide_unit.specs.EncodingForm.{Utf16, Utf32, encode}
-use Rattle.wide_unit.specs.Items.{IsWellFormed, chars}
-use Rattle.wide_unit.specs.Laws.Forms.{one_unit, two_units}
-use Rattle.wide_unit.specs.Laws.Utf32.{chars32-well_formed}
+use Rattle.wide_forms.specs.EncodingForm.{Utf16, Utf32, encode}
+use Rattle.wide_forms.specs.Items.{IsWellFormed, chars}
+use Rattle.wide_forms.specs.Laws.Forms.{one_unit, two_units}
+use Rattle.wide_forms.specs.Laws.Utf32.{chars32-well_formed}
 
 abbrev pairs : List ℕ → ℕ
 pairs [] = 0

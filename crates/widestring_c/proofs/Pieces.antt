@@ -2,17 +2,17 @@
 use Rattle.std.proofs.Common.{◌≡◌, ℕ, ◌+◌, ◌%◌, ◌<◌, ◌≤◌, Bool, List, [], ◌∷◌, ◌++◌, length, map, take, drop, refl, sym, ap, ◌∙◌, subst, arith, append_assoc, append-nil, length-append, length-drop, length-take-le}
 use Rattle.std.proofs.lemmas.List.{map-append, take-append-drop}
 use Rattle.std.proofs.lemmas.List.Concat.{flat_map-append}
-use Rattle.wide_unit.specs.EncodingForm.{Utf16, code_units, encode}
-use Rattle.wide_unit.specs.Segmentation.{Item, Char, Fault}
-use Rattle.wide_unit.specs.Items.{IsFirstFault, IsWellFormed, characters, chars, items}
-use Rattle.wide_unit.specs.Lossy.{ends_in_fault, lossy_after}
-use Rattle.wide_unit.specs.Utf8.{utf8, utf8_bytes}
-use Rattle.wide_unit.specs.Laws.Items.{IsCut, IsWellFormed-of_chars, chars-of_well_formed, encode-of_items, items-append, items-nil, length-items16}
-use Rattle.wide_unit.specs.Laws.Policies.{characters-append, ends_in_fault-append, lossy_after-append}
-use Rattle.wide_unit.specs.declared.policy.Policy.{Policy}
+use Rattle.wide_forms.specs.EncodingForm.{Utf16, code_units, encode}
+use Rattle.wide_forms.specs.Segmentation.{Item, Char, Fault}
+use Rattle.wide_forms.specs.Items.{IsFirstFault, IsWellFormed, characters, chars, items}
+use Rattle.wide_forms.specs.Lossy.{ends_in_fault, lossy_after}
+use Rattle.wide_forms.specs.Utf8.{utf8, utf8_bytes}
+use Rattle.wide_forms.specs.Laws.Items.{IsCut, IsWellFormed-of_chars, chars-of_well_formed, encode-of_items, items-append, items-nil, length-items16}
+use Rattle.wide_forms.specs.Laws.Policies.{characters-append, ends_in_fault-append, lossy_after-append}
+use Rattle.wide_forms.specs.declared.policy.Policy.{Policy}
 use Rattle.wide_unit.proofs.Faults.{IsFirstFault-of, first_fault-split}
 use Rattle.wide_bytes.specs.Bytes.{units_in}
-use Rattle.wide_bytes.specs.Lossied.{faulty, lossy_text}
+use Rattle.wide_transcode.specs.Lossied.{faulty, lossy_text}
 use Rattle.wide_bytes.specs.declared.order.BoM.{BoM}
 use Rattle.wide_bytes.proofs.Pairs.{length-units_in, units_in-append, units_in-short}
 use Rattle.widestring_c.specs.Bytes.{IsWellFormedIn, text_in}

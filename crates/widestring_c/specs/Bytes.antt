@@ -1,11 +1,11 @@
 -- Definitions for UTF-16 in bytes: the numbers that C programs pass for byte orders and flags, and the text of bytes.
 use Rattle.std.specs.Prelude.{◌≡◌, ◌%◌, ℕ, Bool, true, false, List, Option, Some, None, ◌==◌, if◌then◌else◌, length}
-use Rattle.wide_unit.specs.EncodingForm.{Utf16}
-use Rattle.wide_unit.specs.Items.{IsWellFormed, chars}
-use Rattle.wide_unit.specs.Utf8.{utf8}
-use Rattle.wide_unit.specs.declared.policy.Policy.{Policy}
+use Rattle.wide_forms.specs.EncodingForm.{Utf16}
+use Rattle.wide_forms.specs.Items.{IsWellFormed, chars}
+use Rattle.wide_forms.specs.Utf8.{utf8}
+use Rattle.wide_forms.specs.declared.policy.Policy.{Policy}
 use Rattle.wide_bytes.specs.Bytes.{units_in}
-use Rattle.wide_bytes.specs.Lossied.{faulty, lossy_text}
+use Rattle.wide_transcode.specs.Lossied.{faulty, lossy_text}
 use Rattle.wide_bytes.specs.declared.order.BoM.{BoM}
 use Rattle.wide_bytes.specs.declared.order.BoM.TheVariants.{Little, Big}
 use Rattle.widestring_c.specs.Policies.{policy_of}

@@ -1,7 +1,7 @@
 -- Policies as C programs pass them.
 use Rattle.std.specs.Prelude.{ℕ, Option, Some, None, ◌==◌, if◌then◌else◌}
-use Rattle.wide_unit.specs.declared.policy.Policy.{Policy}
-use Rattle.wide_unit.specs.declared.policy.Policy.TheVariants.{Each, Run, Skip}
+use Rattle.wide_forms.specs.declared.policy.Policy.{Policy}
+use Rattle.wide_forms.specs.declared.policy.Policy.TheVariants.{Each, Run, Skip}
 
 -- the policy with a number
 abbrev pub policy_of : ℕ → Option Policy

@@ -1,7 +1,7 @@
 //! Conversions between UTF-16 and UTF-32, into a buffer of the caller.
 ghost use Rattle.std.specs.Prelude.{◌≡◌, ◌*◌, ◌<◌, ◌≤◌, ◌-◌, ◌^◌, IfNone, IfSome, length, map, min, take, drop};
-ghost use Rattle.wide_unit.specs.EncodingForm.{Utf16, Utf32, encode};
-ghost use Rattle.wide_unit.specs.Items.{IsWellFormed, chars};
+ghost use Rattle.wide_forms.specs.EncodingForm.{Utf16, Utf32, encode};
+ghost use Rattle.wide_forms.specs.Items.{IsWellFormed, chars};
 
 use crate::caller_buffer::put_items;
 use wide_conversions::between_forms_prefix;

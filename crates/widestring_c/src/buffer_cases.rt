@@ -16,7 +16,7 @@ use std::alloc::{AllocError, Global};
 use std::process::Abort;
 use std::simd::prelude::*;
 use std::{char, str};
-use wide_unit::Policy;
+use wide_forms::Policy;
 
 // How many letters there are to take from, and how many units a buffer has, a multiple of 64.
 const LETTERS: usize = 2101;

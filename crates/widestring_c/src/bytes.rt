@@ -1,19 +1,20 @@
 //! UTF-16 in bytes of either byte order, also chunk by chunk. The caller keeps the state between chunks.
 ghost use Rattle.std.specs.Prelude.{◌≡◌, ◌*◌, ◌<◌, ◌≤◌, ◌+◌, ◌-◌, ◌/◌, ◌%◌, ◌^◌, ◌++◌, ◌↔◌, ℕ, List, IfNone, IfSome, slice_index, length, min, take, drop};
-ghost use Rattle.wide_unit.specs.EncodingForm.{Utf16, IsHighSurrogate};
-ghost use Rattle.wide_unit.specs.Items.{IsFirstFault, IsWellFormed, chars};
-ghost use Rattle.wide_unit.specs.Utf8.{utf8};
-ghost use Rattle.wide_unit.specs.Laws.Items.{IsCut};
+ghost use Rattle.wide_forms.specs.EncodingForm.{Utf16, IsHighSurrogate};
+ghost use Rattle.wide_forms.specs.Items.{IsFirstFault, IsWellFormed, chars};
+ghost use Rattle.wide_forms.specs.Utf8.{utf8};
+ghost use Rattle.wide_forms.specs.Laws.Items.{IsCut};
 ghost use Rattle.wide_bytes.specs.Bytes.{bom_of, unit_in, units_in};
-ghost use Rattle.wide_bytes.specs.Encoded.{IsCutShort};
+ghost use Rattle.wide_transcode.specs.Encoded.{IsCutShort};
 ghost use Rattle.widestring_c.specs.Bytes.{IsWellFormedBy, IsWellFormedIn, bytes_faulty, bytes_text, is_set, number_of_flag, number_of_mark, order_and_policy, order_named, text_in};
 ghost use Rattle.widestring_c.specs.Policies.{policy_of};
 
 use crate::policies::policy_of;
 use crate::to_utf8::{LARGE, put_lossy_after};
-use wide_bytes::{BoM, byte_order, ends_in_fault, fill_units, unit_in};
+use wide_bytes::{BoM, byte_order, fill_units, unit_in};
 use wide_conversions::valid_len;
-use wide_unit::Policy;
+use wide_forms::Policy;
+use wide_transcode::ends_in_fault;
 
 // How many units are read at a time.
 const CHUNK: usize = 1024;

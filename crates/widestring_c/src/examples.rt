@@ -2,7 +2,7 @@
 ghost use Rattle.std.specs.Prelude.{◌≡◌, ◌-◌, ◌^◌, ◌∷◌, [], ◌≤◌, length, take};
 ghost use Rattle.std.specs.Str.{chars as str_chars};
 ghost use Rattle.std.specs.Str.Lossy.{utf8_lossy};
-ghost use Rattle.wide_unit.specs.Utf8.{utf8};
+ghost use Rattle.wide_forms.specs.Utf8.{utf8};
 ghost use Rattle.wide_bytes.specs.Bytes.{units_in};
 ghost use Rattle.wide_bytes.specs.declared.order.BoM.TheVariants.{Little};
 

@@ -2,8 +2,8 @@
 ghost use Rattle.std.specs.Prelude.{◌≡◌, ◌<◌, ◌≤◌, ◌↔◌, ◌+◌, ◌-◌, ◌^◌, ◌++◌, IfNone, IfSome, length, map, min, take, drop};
 ghost use Rattle.std.specs.Str.{IsUtf8, IsValidUpTo, chars as str_chars};
 ghost use Rattle.std.specs.Str.Lossy.{utf8_lossy};
-ghost use Rattle.wide_unit.specs.EncodingForm.{Utf16, encode};
-ghost use Rattle.wide_unit.specs.Lossy.{lossy_by};
+ghost use Rattle.wide_forms.specs.EncodingForm.{Utf16, encode};
+ghost use Rattle.wide_forms.specs.Lossy.{lossy_by};
 ghost use Rattle.wide_conversions.specs.Utf8Items.{utf8_items};
 ghost use Rattle.widestring_c.specs.Policies.{policy_of};
 
@@ -12,7 +12,8 @@ use crate::policies::policy_of;
 use wide_conversions::{
     first_utf8_chunk, from_utf8_lossy_prefix, from_utf8_prefix, is_after_fault,
 };
-use wide_unit::{Policy, Unit};
+use wide_forms::Policy;
+use wide_unit::Unit;
 
 // Sizes of the array, in units, that converted units are copied from: small for a short input, so that less of it is
 // cleared.

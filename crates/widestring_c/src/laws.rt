@@ -1,13 +1,13 @@
 //! Laws of streams of UTF-16 in bytes: how the text of a stream follows from its chunks. Each law is a function that
 //! does nothing, and its contract states the law.
 ghost use Rattle.std.specs.Prelude.{◌≡◌, ◌↔◌, ◌%◌, ◌++◌, length};
-ghost use Rattle.wide_unit.specs.EncodingForm.{Utf16};
-ghost use Rattle.wide_unit.specs.Laws.Items.{IsCut};
+ghost use Rattle.wide_forms.specs.EncodingForm.{Utf16};
+ghost use Rattle.wide_forms.specs.Laws.Items.{IsCut};
 ghost use Rattle.wide_bytes.specs.Bytes.{units_in};
 ghost use Rattle.widestring_c.specs.Bytes.{IsWellFormedIn, bytes_faulty, bytes_text, text_in};
 
 use wide_bytes::BoM;
-use wide_unit::Policy;
+use wide_forms::Policy;
 
 /// The lossy text of a stream is that of a prefix followed by that of the rest. The prefix ends between two units and
 /// does not split a surrogate pair. The rest is converted with the flag that says whether the last unit of the prefix

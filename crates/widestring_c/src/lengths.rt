@@ -2,9 +2,9 @@
 ghost use Rattle.std.specs.Prelude.{◌≡◌, ◌<◌, ◌-◌, ◌^◌, length, min, nat_le};
 ghost use Rattle.std.specs.List.{count_by};
 ghost use Rattle.std.specs.Str.{IsUtf8, chars as str_chars};
-ghost use Rattle.wide_unit.specs.EncodingForm.{Utf16, Utf32, encode};
-ghost use Rattle.wide_unit.specs.Items.{IsWellFormed, chars};
-ghost use Rattle.wide_unit.specs.Utf8.{utf8};
+ghost use Rattle.wide_forms.specs.EncodingForm.{Utf16, Utf32, encode};
+ghost use Rattle.wide_forms.specs.Items.{IsWellFormed, chars};
+ghost use Rattle.wide_forms.specs.Utf8.{utf8};
 
 use std::str;
 use wide_conversions::{first_utf8_chunk, utf8_len};

@@ -2,7 +2,7 @@
 ghost use Rattle.std.specs.Prelude.{◌≡◌};
 ghost use Rattle.widestring_c.specs.Policies.{policy_of};
 
-use wide_unit::Policy;
+use wide_forms::Policy;
 
 // Returns the policy with this number, or `None` if there is none.
 pub(crate) fn policy_of(number: u32) -> Option<Policy>

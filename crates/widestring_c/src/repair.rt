@@ -1,8 +1,8 @@
 //! Copies of units in which U+FFFD replaces each fault, in a buffer of the caller.
 ghost use Rattle.std.specs.Prelude.{◌≡◌, ◌≤◌, length, take, drop};
-ghost use Rattle.wide_unit.specs.EncodingForm.{Utf16, Utf32, encode};
-ghost use Rattle.wide_unit.specs.Items.{items};
-ghost use Rattle.wide_unit.specs.Lossy.{lossy};
+ghost use Rattle.wide_forms.specs.EncodingForm.{Utf16, Utf32, encode};
+ghost use Rattle.wide_forms.specs.Items.{items};
+ghost use Rattle.wide_forms.specs.Lossy.{lossy};
 
 use wide_unit::Unit;
 

@@ -1,7 +1,7 @@
 //! Searches for the first fault, the first NUL, a unit, or a needle.
 ghost use Rattle.std.specs.Prelude.{◌≡◌, ◌<◌, ◌≤◌, ◌-◌, ◌^◌, ◌∷◌, [], ◌↔◌, ℕ, length};
-ghost use Rattle.wide_unit.specs.EncodingForm.{Utf16, Utf32};
-ghost use Rattle.wide_unit.specs.Items.{IsFirstFault, IsWellFormed};
+ghost use Rattle.wide_forms.specs.EncodingForm.{Utf16, Utf32};
+ghost use Rattle.wide_forms.specs.Items.{IsFirstFault, IsWellFormed};
 ghost use Rattle.wide_unit.specs.Nul.{HasNoNul, IsFirstNul};
 ghost use Rattle.wide_search.specs.Occurrences.{IsFirstAt, OccursNowhere};
 

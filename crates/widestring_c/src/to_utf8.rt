@@ -1,15 +1,16 @@
 //! Conversions of UTF-16 and UTF-32 to UTF-8, into a buffer of the caller.
 ghost use Rattle.std.specs.Prelude.{◌≡◌, ◌<◌, ◌≤◌, ◌+◌, ◌-◌, ◌^◌, ◌++◌, ◌*◌, IfNone, IfSome, length, map, min, take, drop};
-ghost use Rattle.wide_unit.specs.EncodingForm.{Utf16, Utf32};
-ghost use Rattle.wide_unit.specs.Items.{IsWellFormed, chars, items};
-ghost use Rattle.wide_unit.specs.Lossy.{lossy, lossy_after, lossy_by};
-ghost use Rattle.wide_unit.specs.Utf8.{utf8};
+ghost use Rattle.wide_forms.specs.EncodingForm.{Utf16, Utf32};
+ghost use Rattle.wide_forms.specs.Items.{IsWellFormed, chars, items};
+ghost use Rattle.wide_forms.specs.Lossy.{lossy, lossy_after, lossy_by};
+ghost use Rattle.wide_forms.specs.Utf8.{utf8};
 ghost use Rattle.widestring_c.specs.Policies.{policy_of};
 
 use crate::caller_buffer::put_items;
 use crate::policies::policy_of;
 use wide_conversions::{is_after_fault, lossy_prefix, to_utf8_prefix, valid_len};
-use wide_unit::{Policy, Unit, check};
+use wide_forms::Policy;
+use wide_unit::{Unit, check};
 use wide_utf16_to_utf8::{checked_utf16_to_utf8, writes_replacement};
 
 // Inputs of up to `FEW` and `MANY` units are converted in arrays of `SMALL` and `MIDDLE` bytes, longer ones in one of

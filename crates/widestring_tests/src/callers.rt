@@ -9,7 +9,7 @@ ghost use Rattle.widestring.specs.Segmentation.{Item};
 ghost use Rattle.widestring.specs.Unit.{reported_item};
 ghost use Rattle.widestring_tests.specs.Front.{prefix_rest};
 ghost use Rattle.widestring.specs.Transcoded.{transcoded, Clean};
-ghost use Rattle.wide_bytes.specs.declared.mode.Mode.TheVariants.{Strict};
+ghost use Rattle.wide_transcode.specs.declared.mode.Mode.TheVariants.{Strict};
 
 use std::alloc::{AllocError, Global};
 use widestring::bytes::{FromRead, FromWrite, Mode, transcode};

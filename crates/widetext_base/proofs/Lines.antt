@@ -5,7 +5,7 @@ use Rattle.std.specs.Fmt.{WritesText, with_newline}
 use Rattle.std.specs.Fmt.InlineText.{AppendsIfIntact, IsIntact, inline_text}
 use Rattle.std.specs.List.{FoldsTo, concat}
 use Rattle.std.specs.declared.fmt.InlineText.{InlineText}
-use Rattle.wide_bytes.specs.Run.{PutOf}
+use Rattle.wide_bytes.specs.Put.{PutOf}
 use Rattle.wide_error.specs.declared.error.TranscodeError.{TranscodeError}
 use Rattle.wide_error.specs.declared.error.TranscodeError.TheVariants.{Utf16, OutOfMemory, OddLength, Read, Write}
 use Rattle.widetext_base.specs.Command.{AppendsPrefix, Says}

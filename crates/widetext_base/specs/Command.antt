@@ -3,13 +3,14 @@ use Rattle.std.specs.Prelude.{◌≡◌, ◌⊎◌, ℕ, Bool, List, [], ◌∷�
 use Rattle.std.specs.Io.KnownBytes.{Appends}
 use Rattle.std.specs.declared.string.String.{String}
 use Rattle.wide_bytes.specs.Bytes.{units_of_bytes}
-use Rattle.wide_bytes.specs.Chunks.{WantsSpace}
-use Rattle.wide_bytes.specs.Run.{AtEnd, Ends, IsBeginningOf, Moves, ReportsAtOnce, fails_to_read, fails_to_write}
-use Rattle.wide_bytes.specs.Transcoded.{transcoded_under}
+use Rattle.wide_transcode.specs.Chunks.{WantsSpace}
+use Rattle.wide_bytes.specs.Put.{IsBeginningOf}
+use Rattle.wide_transcode.specs.Run.{AtEnd, Ends, Moves, ReportsAtOnce, fails_to_read, fails_to_write}
+use Rattle.wide_transcode.specs.Transcoded.{transcoded_under}
 use Rattle.wide_error.specs.Texts.{transcode_error_text}
 use Rattle.wide_error.specs.declared.error.TranscodeError.{TranscodeError}
-use Rattle.wide_unit.specs.declared.policy.Policy.{Policy}
-use Rattle.wide_unit.specs.declared.policy.Policy.TheVariants.{Each, Run, Skip}
+use Rattle.wide_forms.specs.declared.policy.Policy.{Policy}
+use Rattle.wide_forms.specs.declared.policy.Policy.TheVariants.{Each, Run, Skip}
 
 -- the argument, by its bytes, that asks for lossy text under a policy
 abbrev pub IsOption : Policy → List ℕ → Type 0

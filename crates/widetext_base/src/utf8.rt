@@ -1,12 +1,13 @@
 //! The subcommand `utf8`.
 
 ghost use Rattle.std.specs.Prelude.{◌≡◌, ◌≤◌, Option, Some, false};
-ghost use Rattle.wide_unit.specs.declared.policy.Policy.{Policy};
+ghost use Rattle.wide_forms.specs.declared.policy.Policy.{Policy};
 ghost use Rattle.widetext_base.specs.Command.{AsksForUtf8, AsksForNoUtf8, IsOption, Says, Utf8Run};
 
 use crate::refusal::{USAGE, end, refuse_words};
-use wide_bytes::{ByteSink, ByteSource, Mode, transcode, transcode_with};
-use wide_unit::Policy;
+use wide_bytes::{ByteSink, ByteSource};
+use wide_forms::Policy;
+use wide_transcode::{Mode, transcode, transcode_with};
 
 // Returns the policy that an option for lossy text names.
 fn parse_policy(option: &str) -> Option<Policy>

@@ -4,8 +4,8 @@ use Rattle.std.specs.Char.Escape.{escape_default}
 use Rattle.std.specs.List.{flat_map}
 use Rattle.std.proofs.lemmas.List.{take_more, map-append, append-nil, append_assoc}
 use Rattle.std.proofs.lemmas.List.Concat.{flat_map-append}
-use Rattle.wide_unit.specs.Utf8.{utf8, utf8_bytes}
-use Rattle.wide_unit.specs.Laws.Utf8.{utf8_bytes-encode_utf8}
+use Rattle.wide_forms.specs.Utf8.{utf8, utf8_bytes}
+use Rattle.wide_forms.specs.Laws.Utf8.{utf8_bytes-encode_utf8}
 use Rattle.widetext_command.specs.Lines.{escaped}
 
 -- with one more element, its line is after those of the elements before it

@@ -3,10 +3,10 @@ use Rattle.std.specs.Prelude.{ℕ, ◌-◌, false, true, List, [], ◌∷◌, �
 use Rattle.std.specs.Char.Escape.{escape_default}
 use Rattle.std.specs.Fmt.{digits}
 use Rattle.std.specs.List.{flat_map}
-use Rattle.wide_unit.specs.EncodingForm.{Utf16, Utf32, encode}
-use Rattle.wide_unit.specs.Items.{items}
-use Rattle.wide_unit.specs.Segmentation.{Item, Char, Fault}
-use Rattle.wide_unit.specs.Utf8.{utf8}
+use Rattle.wide_forms.specs.EncodingForm.{Utf16, Utf32, encode}
+use Rattle.wide_forms.specs.Items.{items}
+use Rattle.wide_forms.specs.Segmentation.{Item, Char, Fault}
+use Rattle.wide_forms.specs.Utf8.{utf8}
 use Rattle.wide_iter.specs.Answers.{answers}
 use Rattle.wide_iter.specs.declared.ends.End.{End}
 use Rattle.wide_edit.specs.Step as step

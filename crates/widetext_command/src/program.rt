@@ -4,7 +4,7 @@ ghost use Rattle.std.specs.Prelude.{◌≡◌, ◌≢◌, ◌≤◌, ◌++◌, O
 ghost use Rattle.std.specs.Io.KnownBytes.{Appends};
 ghost use Rattle.std.specs.Option.{option_map};
 ghost use Rattle.wide_unit.specs.Unit.{reported_item};
-ghost use Rattle.wide_unit.specs.declared.policy.Policy.{Policy};
+ghost use Rattle.wide_forms.specs.declared.policy.Policy.{Policy};
 ghost use Rattle.wide_error.specs.Texts.{transcode_error_text};
 ghost use Rattle.widetext_base.specs.Command.{AppendsPrefix, AsksForUtf8, AsksForNoUtf8, Says, Utf8Run};
 ghost use Rattle.widetext_command.specs.Command.{AsksForEnds, AsksForEdits, IsAskedBy, IsEdited, IsEditedInPart, IsOfTypes, IsWritten, IsWrittenInPart, WritesEnds, WritesEndsInPart, WritesEdits, WritesEditsInPart, IsUnknown, refusal_of};

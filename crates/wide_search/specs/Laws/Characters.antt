@@ -4,13 +4,13 @@ use Rattle.std.proofs.lemmas.List.{take-append-drop, length-take-le, drop-drop}
 use Rattle.std.proofs.lemmas.Bool.{cases_eq}
 use Rattle.std.proofs.lemmas.List.Concat.{flat_map-append}
 use Rattle.std.proofs.Math.Seq.{take-append_seam}
-use Rattle.wide_unit.specs.EncodingForm.{EncodingForm, code_units, encode}
-use Rattle.wide_unit.specs.Items.{items, characters, chars, IsWellFormed, IsBoundary}
-use Rattle.wide_unit.specs.Offsets.{chars_before, IsOffsetOf}
-use Rattle.wide_unit.specs.Laws.Ends.{items-append_left}
-use Rattle.wide_unit.specs.Laws.Encodings.{encode-drop, offsets-grow}
-use Rattle.wide_unit.specs.Laws.Offsets.{IsBoundary-within, IsOffsetOf-boundary, IsOffsetOf-prefix, chars_before-within, encode-chars}
-use Rattle.wide_unit.specs.Laws.Policies.{characters-append}
+use Rattle.wide_forms.specs.EncodingForm.{EncodingForm, code_units, encode}
+use Rattle.wide_forms.specs.Items.{items, characters, chars, IsWellFormed, IsBoundary}
+use Rattle.wide_forms.specs.Offsets.{chars_before, IsOffsetOf}
+use Rattle.wide_forms.specs.Laws.Ends.{items-append_left}
+use Rattle.wide_forms.specs.Laws.Encodings.{encode-drop, offsets-grow}
+use Rattle.wide_forms.specs.Laws.Offsets.{IsBoundary-within, IsOffsetOf-boundary, IsOffsetOf-prefix, chars_before-within, encode-chars}
+use Rattle.wide_forms.specs.Laws.Policies.{characters-append}
 use Rattle.wide_search.specs.Occurrences.{OccursAt, IsFirstAt, IsLastAt}
 
 -- The rest of a list from an index on begins with the needle.

@@ -1,11 +1,11 @@
 -- A well-formed needle that is not empty occurs in any units only at a boundary, and the offset after it is a boundary.
 use Rattle.std.proofs.Common.{◌≡◌, ℕ, ◌+◌, ◌<◌, List, [], ◌∷◌, ◌++◌, refl, sym, ◌∙◌, ap, subst, arith, length, length-append, append_assoc, take, drop}
 use Rattle.std.proofs.lemmas.List.{length-take-le}
-use Rattle.wide_unit.specs.EncodingForm.{EncodingForm}
-use Rattle.wide_unit.specs.Items.{IsBoundary, IsWellFormed}
-use Rattle.wide_unit.specs.Laws.Items.{IsCut}
-use Rattle.wide_unit.specs.Laws.Boundaries.{IsBoundary-of_cut}
-use Rattle.wide_unit.specs.Laws.Ends.{IsCut-after, IsCut-before, ends-after}
+use Rattle.wide_forms.specs.EncodingForm.{EncodingForm}
+use Rattle.wide_forms.specs.Items.{IsBoundary, IsWellFormed}
+use Rattle.wide_forms.specs.Laws.Items.{IsCut}
+use Rattle.wide_forms.specs.Laws.Boundaries.{IsBoundary-of_cut}
+use Rattle.wide_forms.specs.Laws.Ends.{IsCut-after, IsCut-before, ends-after}
 use Rattle.wide_search.specs.Occurrences.{OccursAt}
 use Rattle.wide_search.specs.Laws.Occurrences.{parted}
 

@@ -1,6 +1,6 @@
 use Rattle.std.proofs.Common.{◌+◌, ◌-◌, ◌*◌, ◌≤◌, arith, length}
-use Rattle.wide_utf16_to_utf8.proofs.Tables.{stored-block}
-use Rattle.wide_bytes.proofs.UnitsPending.{eight-more}
+use Rattle.wide_forms.proofs.Stored.{stored-block}
+use Rattle.wide_bytes.proofs.UnitLists.{eight-more}
 use Rattle.wide_bytes.proofs.units_from_bytes.fill_big.Goals as goal
 
 pub eights-preserved : goal.eights-preserved

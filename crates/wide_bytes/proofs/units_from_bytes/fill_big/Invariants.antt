@@ -1,6 +1,6 @@
 use Rattle.std.proofs.Common.{◌-◌, ◌≤◌}
 use Rattle.wide_bytes.specs.declared.order.BoM.TheVariants.{Big}
-use Rattle.wide_bytes.proofs.UnitsPending.{AreUnitsOf}
+use Rattle.wide_bytes.proofs.UnitLists.{AreUnitsOf}
 use Rattle.wide_bytes.proofs.units_from_bytes.fill_big.Given as goal
 
 abbrev pub invariant-eights : goal.invariant-eights

@@ -1,6 +1,6 @@
 use Rattle.std.proofs.Common.{◌/◌, ◌∙◌, length, sym, ap, arith}
 use Rattle.wide_bytes.specs.Bytes.{units_in}
-use Rattle.wide_bytes.proofs.UnitsPending.{units-filled}
+use Rattle.wide_bytes.proofs.UnitLists.{units-filled}
 use Rattle.wide_bytes.specs.declared.order.BoM.TheVariants.{Little, Big}
 use Rattle.wide_bytes.proofs.units_from_bytes.fill_units.Goals as goal
 

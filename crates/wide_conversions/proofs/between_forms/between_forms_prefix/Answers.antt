@@ -1,6 +1,6 @@
 use Rattle.std.proofs.Common.{◌+◌, ◌-◌, arith, drop, map, take}
-use Rattle.wide_unit.specs.EncodingForm.{encode}
-use Rattle.wide_unit.specs.Items.{chars}
+use Rattle.wide_forms.specs.EncodingForm.{encode}
+use Rattle.wide_forms.specs.Items.{chars}
 use Rattle.wide_conversions.proofs.RecodedPrefixes.{IsRecoded, recoded-beyond, recoded-block, well_formed-beyond}
 use Rattle.wide_conversions.proofs.between_forms.between_forms_prefix.Goals as goal
 

@@ -1,6 +1,6 @@
 use Rattle.std.proofs.Common.{◌≡◌, ◌≤◌, ◌*◌, ◌++◌, ◌-◌, length, map, take, drop}
-use Rattle.wide_unit.specs.EncodingForm.{encode}
-use Rattle.wide_unit.specs.Items.{IsWellFormed, chars}
+use Rattle.wide_forms.specs.EncodingForm.{encode}
+use Rattle.wide_forms.specs.Items.{IsWellFormed, chars}
 use Rattle.wide_conversions.proofs.between_forms.between_forms_prefix.Given as goal
 
 abbrev pub invariant-prefixes : goal.invariant-prefixes

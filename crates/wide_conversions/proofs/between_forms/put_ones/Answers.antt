@@ -1,9 +1,9 @@
 use Rattle.std.proofs.Common.{◌≡◌, ◌∷◌, ◌∙◌, ℕ, List, Result, Ok, Err, refl, sym, ap, arith, map}
 use Rattle.std.specs.Result.{result_unwrap_or}
-use Rattle.wide_unit.specs.EncodingForm.{EncodingForm}
-use Rattle.wide_unit.specs.Items.{IsWellFormed, items}
+use Rattle.wide_forms.specs.EncodingForm.{EncodingForm}
+use Rattle.wide_forms.specs.Items.{IsWellFormed, items}
 use Rattle.wide_unit.specs.Unit.{item_of}
-use Rattle.wide_unit.specs.Laws.WellFormed.{no_first_fault}
+use Rattle.wide_forms.specs.Laws.WellFormed.{no_first_fault}
 use Rattle.wide_conversions.proofs.RecodedPrefixes.{IsRecoded, recoded-one}
 use Rattle.wide_conversions.proofs.ScalarPrefixes.{left-beyond}
 use Rattle.wide_conversions.proofs.between_forms.put_ones.Goals as goal

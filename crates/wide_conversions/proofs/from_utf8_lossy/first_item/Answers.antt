@@ -1,5 +1,5 @@
 use Rattle.std.proofs.Common.{◌+◌, ◌*◌, ◌%◌, ◌∙◌, ap, get_or, sym, subst}
-use Rattle.wide_unit.specs.Segmentation.{Char}
+use Rattle.wide_forms.specs.Segmentation.{Char}
 use Rattle.wide_conversions.specs.Utf8Items.{BeginsWith}
 use Rattle.wide_conversions.proofs.FirstItems.{begins-ascii, begins-part_of_one, begins-two, begins-part_of_two, begins-three, begins-part_of_three, begins-four, may_follow}
 use Rattle.wide_conversions.proofs.from_utf8_lossy.first_item.Goals as goal

@@ -1,6 +1,6 @@
 use Rattle.std.proofs.Common.{◌≡◌, ◌+◌, ◌-◌, ◌∙◌, [], ◌∷◌, IfNone, IfSome, if◌then◌else◌, arith, ap, get_or, map, subst, take}
-use Rattle.wide_unit.specs.Lossy.{lossy_after}
-use Rattle.wide_unit.specs.Segmentation.{Char, Fault}
+use Rattle.wide_forms.specs.Lossy.{lossy_after}
+use Rattle.wide_forms.specs.Segmentation.{Char, Fault}
 use Rattle.wide_conversions.specs.Utf8Items.{BeginsWith}
 use Rattle.wide_conversions.proofs.LossyItems.{lossy-ascii, lossy-character, lossy-marked, lossy-unmarked}
 use Rattle.wide_conversions.proofs.StoredUnits.{stored-prefix}

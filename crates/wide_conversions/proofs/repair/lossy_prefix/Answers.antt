@@ -1,5 +1,5 @@
 use Rattle.std.proofs.Common.{◌≡◌, ap, sym, ◌∙◌, map, take, length}
-use Rattle.wide_unit.specs.Laws.Items.{IsCut}
+use Rattle.wide_forms.specs.Laws.Items.{IsCut}
 use Rattle.wide_conversions.proofs.LossyPrefixes.{halves, valid_prefix, repaired_prefix, repaired-well_formed}
 use Rattle.wide_conversions.proofs.repair.lossy_prefix.Goals as goal
 

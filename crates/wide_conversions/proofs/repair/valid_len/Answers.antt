@@ -1,6 +1,6 @@
 use Rattle.std.proofs.Common.{subst}
 use Rattle.std.proofs.lemmas.List.{take-map}
-use Rattle.wide_unit.specs.Items.{IsWellFormed}
+use Rattle.wide_forms.specs.Items.{IsWellFormed}
 use Rattle.wide_unit.proofs.Faults.{first_fault-prefix}
 use Rattle.wide_conversions.proofs.repair.valid_len.Goals as goal
 

@@ -1,7 +1,7 @@
 use Rattle.std.proofs.Common.{◌≡◌, ap, arith, length, map}
-use Rattle.wide_unit.specs.Items.{chars}
-use Rattle.wide_unit.specs.Utf8.{utf8}
-use Rattle.wide_unit.specs.Laws.Offsets.{scalars-chars}
+use Rattle.wide_forms.specs.Items.{chars}
+use Rattle.wide_forms.specs.Utf8.{utf8}
+use Rattle.wide_forms.specs.Laws.Offsets.{scalars-chars}
 use Rattle.wide_conversions.proofs.Utf8Texts.{IsUtf8-utf8, no_text}
 use Rattle.wide_conversions.proofs.strings.utf8_string.Goals as goal
 

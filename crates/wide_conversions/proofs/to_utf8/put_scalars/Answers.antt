@@ -1,6 +1,6 @@
 use Rattle.std.proofs.Common.{ap, ◌∙◌, ◌++◌, arith, get_or, take}
 use Rattle.std.proofs.lemmas.List.{take_all}
-use Rattle.wide_unit.specs.Utf8.{utf8}
+use Rattle.wide_forms.specs.Utf8.{utf8}
 use Rattle.wide_conversions.proofs.ScalarTexts.{scalar-below, scalar-len, scalar-stored, text-none, text-one_more}
 use Rattle.wide_conversions.proofs.to_utf8.put_scalars.Goals as goal
 

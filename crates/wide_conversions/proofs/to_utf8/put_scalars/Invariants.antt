@@ -1,5 +1,5 @@
 use Rattle.std.proofs.Common.{◌≡◌, ◌≤◌, ◌+◌, ◌*◌, ◌++◌, take}
-use Rattle.wide_unit.specs.Utf8.{utf8}
+use Rattle.wide_forms.specs.Utf8.{utf8}
 use Rattle.wide_conversions.proofs.to_utf8.put_scalars.Given as goal
 
 abbrev pub invariant-loop-k : goal.invariant-loop-k

@@ -1,5 +1,5 @@
 use Rattle.std.proofs.Common.{◌≡◌, ◌<◌, ◌≤◌, ◌+◌, ◌*◌, length, take, arith, length-take}
-use Rattle.wide_unit.specs.EncodingForm.{Utf16}
+use Rattle.wide_forms.specs.EncodingForm.{Utf16}
 use Rattle.wide_utf16_to_utf8.proofs.EncodedPrefixes.{IsPrefixText, prefix_text-units, some-encoded}
 use Rattle.wide_conversions.proofs.to_utf8.utf16_to_utf8_prefix.Goals.{then-units-fitting, else-units-fitting}
 use Rattle.wide_conversions.proofs.to_utf8.utf16_to_utf8_prefix.Goals as goal

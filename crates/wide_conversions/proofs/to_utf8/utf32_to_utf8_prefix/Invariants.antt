@@ -1,5 +1,5 @@
 use Rattle.std.proofs.Common.{◌≡◌, ◌≤◌, ◌*◌, ◌-◌, length, take}
-use Rattle.wide_unit.specs.Utf8.{utf8}
+use Rattle.wide_forms.specs.Utf8.{utf8}
 use Rattle.wide_conversions.proofs.to_utf8.utf32_to_utf8_prefix.Given as goal
 
 abbrev pub invariant-sixteens : goal.invariant-sixteens

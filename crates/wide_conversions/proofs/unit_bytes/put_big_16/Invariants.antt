@@ -1,5 +1,5 @@
-use Rattle.wide_unit.specs.EncodingForm.{Utf16}
-use Rattle.wide_unit.specs.UnitBytes.{big_bytes}
+use Rattle.wide_forms.specs.EncodingForm.{Utf16}
+use Rattle.wide_forms.specs.UnitBytes.{big_bytes}
 use Rattle.wide_conversions.proofs.StoredBytes.{AreStored}
 use Rattle.wide_conversions.proofs.unit_bytes.put_big_16.Given as goal
 

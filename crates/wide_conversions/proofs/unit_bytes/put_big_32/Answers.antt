@@ -1,6 +1,6 @@
 use Rattle.std.proofs.Common.{arith, refl}
-use Rattle.wide_unit.specs.EncodingForm.{Utf32}
-use Rattle.wide_unit.specs.UnitBytes.{big_bytes}
+use Rattle.wide_forms.specs.EncodingForm.{Utf32}
+use Rattle.wide_forms.specs.UnitBytes.{big_bytes}
 use Rattle.wide_conversions.proofs.StoredBytes.{stored-four}
 use Rattle.wide_conversions.proofs.unit_bytes.put_big_32.Goals as goal
 

@@ -1,5 +1,5 @@
-use Rattle.wide_unit.specs.EncodingForm.{Utf32}
-use Rattle.wide_unit.specs.UnitBytes.{big_bytes}
+use Rattle.wide_forms.specs.EncodingForm.{Utf32}
+use Rattle.wide_forms.specs.UnitBytes.{big_bytes}
 use Rattle.wide_conversions.proofs.StoredBytes.{AreStored}
 use Rattle.wide_conversions.proofs.unit_bytes.put_big_32.Given as goal
 

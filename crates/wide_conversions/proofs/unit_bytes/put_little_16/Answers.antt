@@ -1,6 +1,6 @@
 use Rattle.std.proofs.Common.{arith, refl}
-use Rattle.wide_unit.specs.EncodingForm.{Utf16}
-use Rattle.wide_unit.specs.UnitBytes.{little_bytes}
+use Rattle.wide_forms.specs.EncodingForm.{Utf16}
+use Rattle.wide_forms.specs.UnitBytes.{little_bytes}
 use Rattle.wide_conversions.proofs.StoredBytes.{stored-two}
 use Rattle.wide_conversions.proofs.unit_bytes.put_little_16.Goals as goal
 

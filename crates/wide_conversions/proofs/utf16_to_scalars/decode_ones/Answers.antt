@@ -1,9 +1,9 @@
 use Rattle.std.proofs.Common.{◌≡◌, ◌∷◌, ◌++◌, [], ◌∙◌, refl, ap, sym, arith, take}
 use Rattle.std.proofs.lemmas.List.{take_more_set}
-use Rattle.wide_unit.specs.EncodingForm.{Utf16}
-use Rattle.wide_unit.specs.Items.{chars, items}
+use Rattle.wide_forms.specs.EncodingForm.{Utf16}
+use Rattle.wide_forms.specs.Items.{chars, items}
 use Rattle.wide_unit.specs.Unit.{reported_item}
-use Rattle.wide_unit.specs.Laws.WellFormed.{no_first_fault}
+use Rattle.wide_forms.specs.Laws.WellFormed.{no_first_fault}
 use Rattle.wide_conversions.proofs.ScalarPrefixes.{prefix_chars-one, prefix_chars-then, item-first, left-beyond}
 use Rattle.wide_conversions.proofs.utf16_to_scalars.decode_ones.Goals as goal
 

@@ -1,7 +1,7 @@
 use Rattle.std.proofs.Common.{◌≡◌, ◌+◌, ◌-◌, ◌++◌, ◌∙◌, refl, sym, ap, subst, take, drop, arith, get_or-take, length-drop}
 use Rattle.std.proofs.lemmas.List.{drop-drop, get_or-drop}
-use Rattle.wide_unit.specs.EncodingForm.{Utf16}
-use Rattle.wide_unit.specs.Items.{chars}
+use Rattle.wide_forms.specs.EncodingForm.{Utf16}
+use Rattle.wide_forms.specs.Items.{chars}
 use Rattle.wide_conversions.proofs.ScalarPrefixes.{IsPrefixChars, prefix_chars-units, prefix_chars-then}
 use Rattle.wide_conversions.proofs.utf16_to_scalars.utf16_to_scalars_prefix.Goals as goal
 

@@ -2,7 +2,7 @@ use Rattle.std.proofs.Common.{◌≡◌, ◌∙◌, ◌++◌, ap, get_or, length
 use Rattle.std.proofs.lemmas.List.{take_all}
 use Rattle.wide_utf16_to_utf8.proofs.Shuffles.{same-more}
 use Rattle.wide_utf16_to_utf8.proofs.Tables.{same-lists}
-use Rattle.wide_utf16_to_utf8.proofs.Tables.{stored-block}
+use Rattle.wide_forms.proofs.Stored.{stored-block}
 use Rattle.wide_conversions.proofs.utf16_to_scalars.widen.Goals as goal
 
 pub loop-k-preserved : goal.loop-k-preserved

@@ -1,7 +1,7 @@
 use Rattle.std.proofs.Common.{◌≡◌, ◌+◌, ◌-◌, ◌≤◌, refl, sym, ap, ◌∙◌, subst, arith, length, length-drop, drop, map}
 use Rattle.std.proofs.lemmas.List.{drop-map}
-use Rattle.wide_unit.specs.Items.{chars}
-use Rattle.wide_unit.specs.Offsets.{IsOffsetOf}
+use Rattle.wide_forms.specs.Items.{chars}
+use Rattle.wide_forms.specs.Offsets.{IsOffsetOf}
 use Rattle.wide_unit.proofs.CharBoundaries.{IsCharBoundary-of}
 use Rattle.wide_edit.proofs.Offsets.{found_some, further}
 use Rattle.wide_edit.proofs.lookup.find_second.Goals as goal

@@ -1,7 +1,7 @@
 use Rattle.std.proofs.Common.{subst, sym, ap, ◌∙◌, map, length}
 use Rattle.std.proofs.lemmas.List.{length-map}
-use Rattle.wide_unit.specs.Items.{IsWellFormed}
-use Rattle.wide_unit.specs.Laws.Offsets.{encode-chars}
+use Rattle.wide_forms.specs.Items.{IsWellFormed}
+use Rattle.wide_forms.specs.Laws.Offsets.{encode-chars}
 use Rattle.wide_edit.proofs.lookup.recall.Goals as goal
 
 pub returns-clause-well_formed : goal.returns-clause-well_formed

@@ -1,9 +1,9 @@
 use Rattle.std.proofs.Common.{ap, arith, length, subst}
 use Rattle.std.proofs.lemmas.List.{map-id}
-use Rattle.wide_unit.specs.EncodingForm.{Utf16}
-use Rattle.wide_unit.specs.Items.{chars}
-use Rattle.wide_unit.specs.Laws.Offsets.{offset-IsOffsetOf}
-use Rattle.wide_unit.specs.Offsets.{IsOffsetOf}
+use Rattle.wide_forms.specs.EncodingForm.{Utf16}
+use Rattle.wide_forms.specs.Items.{chars}
+use Rattle.wide_forms.specs.Laws.Offsets.{offset-IsOffsetOf}
+use Rattle.wide_forms.specs.Offsets.{IsOffsetOf}
 use Rattle.wide_edit.specs.Found.{first_number}
 use Rattle.wide_edit.proofs.Lengths.{size-cut}
 use Rattle.wide_edit.proofs.Marking.{well-formed, whole-size}

@@ -1,10 +1,10 @@
 use Rattle.std.proofs.Common.{◌≡◌, ◌*◌, ◌-◌, ap, sym, subst, ◌∙◌, arith, map, drop}
 use Rattle.std.specs.Prelude.{slice_index_or}
 use Rattle.std.proofs.lemmas.List.{map-id}
-use Rattle.wide_unit.specs.EncodingForm.{Utf16}
-use Rattle.wide_unit.specs.Items.{chars}
-use Rattle.wide_unit.specs.Offsets.{IsCharBoundary}
-use Rattle.wide_unit.specs.Laws.Offsets.{IsOffsetOf-prefix}
+use Rattle.wide_forms.specs.EncodingForm.{Utf16}
+use Rattle.wide_forms.specs.Items.{chars}
+use Rattle.wide_forms.specs.Offsets.{IsCharBoundary}
+use Rattle.wide_forms.specs.Laws.Offsets.{IsOffsetOf-prefix}
 use Rattle.wide_utfstr.specs.View.{units_seen}
 use Rattle.wide_edit.specs.Marks.{mark}
 use Rattle.wide_edit.proofs.Marking.{mark-at, well-formed, char-boundary}

@@ -2,9 +2,9 @@ use Rattle.std.proofs.Common.{◌≤◌, ◌-◌, arith, subst, map, length, ◌
 use Rattle.std.specs.Prelude.{nat_eq}
 use Rattle.std.specs.List.{list_any}
 use Rattle.std.specs.Str.{chars}
-use Rattle.wide_unit.specs.Laws.Offsets.{offset-IsOffsetOf}
+use Rattle.wide_forms.specs.Laws.Offsets.{offset-IsOffsetOf}
 use Rattle.wide_edit.specs.Found.{first_number}
-use Rattle.wide_unit.specs.Offsets.{text_of}
+use Rattle.wide_forms.specs.Offsets.{text_of}
 use Rattle.wide_edit.proofs.Made.{in_place, past, in_range}
 use Rattle.wide_edit.proofs.Lengths.{size-splice, size-one, size-take, size-without, size-filter, size-remove, size-drain, size-split}
 use Rattle.wide_edit.proofs.Offsets.{found_some, found_none, range-forward}

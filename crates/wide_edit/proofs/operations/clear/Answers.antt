@@ -1,6 +1,6 @@
 use Rattle.std.proofs.Common.{refl, ap, ◌∙◌, map}
-use Rattle.wide_unit.specs.Items.{chars}
-use Rattle.wide_unit.specs.Laws.Splices.{chars-nil}
+use Rattle.wide_forms.specs.Items.{chars}
+use Rattle.wide_forms.specs.Laws.Splices.{chars-nil}
 use Rattle.wide_edit.proofs.operations.clear.Goals as goal
 
 pub returns-clause-made : goal.returns-clause-made

@@ -1,11 +1,11 @@
 use Rattle.std.proofs.Common.{arith, ap, ◌∙◌, map, length}
 use Rattle.std.specs.Prelude.{slice_range}
 use Rattle.std.specs.List.{splice}
-use Rattle.wide_unit.specs.Items.{chars}
-use Rattle.wide_unit.specs.Offsets.{chars_before}
-use Rattle.wide_unit.specs.Laws.Splices.{chars-nil}
+use Rattle.wide_forms.specs.Items.{chars}
+use Rattle.wide_forms.specs.Offsets.{chars_before}
+use Rattle.wide_forms.specs.Laws.Splices.{chars-nil}
 use Rattle.wide_utfstr.specs.View.{units_seen}
-use Rattle.wide_unit.specs.Offsets.{text_of}
+use Rattle.wide_forms.specs.Offsets.{text_of}
 use Rattle.wide_edit.proofs.Made.{in_range, made-drain, refused-drain}
 use Rattle.wide_edit.proofs.Offsets.{got, before-offset, part-text}
 use Rattle.wide_edit.proofs.operations.drain.Goals as goal

@@ -1,6 +1,6 @@
 use Rattle.std.proofs.Common.{arith, ap, ◌∙◌, map, length, ◌∷◌, []}
 use Rattle.std.specs.List.{splice}
-use Rattle.wide_unit.specs.Offsets.{text_of}
+use Rattle.wide_forms.specs.Offsets.{text_of}
 use Rattle.wide_edit.specs.Edited.{CanHold}
 use Rattle.wide_edit.proofs.Made.{in_place, made-insert, refused-insert}
 use Rattle.wide_edit.proofs.Lengths.{size-splice, size-one}

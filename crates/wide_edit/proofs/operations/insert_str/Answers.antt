@@ -1,7 +1,7 @@
 use Rattle.std.proofs.Common.{arith, ap, ◌∙◌, map, length}
 use Rattle.std.specs.List.{splice}
 use Rattle.std.specs.Str.{chars}
-use Rattle.wide_unit.specs.Offsets.{text_of}
+use Rattle.wide_forms.specs.Offsets.{text_of}
 use Rattle.wide_edit.specs.Edited.{CanHold}
 use Rattle.wide_edit.proofs.Made.{in_place, made-insert_str, refused-insert_str}
 use Rattle.wide_edit.proofs.Lengths.{size-splice}

@@ -1,8 +1,8 @@
 use Rattle.std.proofs.Common.{refl, ap, ◌∙◌, map, length, [], take, arith}
 use Rattle.std.proofs.lemmas.List.{take_all}
-use Rattle.wide_unit.specs.Items.{chars}
-use Rattle.wide_unit.specs.Laws.Splices.{chars-nil}
-use Rattle.wide_unit.specs.Offsets.{text_of}
+use Rattle.wide_forms.specs.Items.{chars}
+use Rattle.wide_forms.specs.Laws.Splices.{chars-nil}
+use Rattle.wide_forms.specs.Offsets.{text_of}
 use Rattle.wide_edit.proofs.Made.{made-pop, made-pop_none}
 use Rattle.wide_edit.proofs.operations.pop.Goals as goal
 

@@ -1,5 +1,5 @@
 use Rattle.std.proofs.Common.{arith, length, ◌∷◌, []}
-use Rattle.wide_unit.specs.Offsets.{text_of}
+use Rattle.wide_forms.specs.Offsets.{text_of}
 use Rattle.wide_edit.proofs.Made.{made-push}
 use Rattle.wide_edit.proofs.Lengths.{size-splice, size-one}
 use Rattle.wide_edit.proofs.Offsets.{got}

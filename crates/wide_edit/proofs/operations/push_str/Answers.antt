@@ -1,6 +1,6 @@
 use Rattle.std.proofs.Common.{arith, length}
 use Rattle.std.specs.Str.{chars}
-use Rattle.wide_unit.specs.Offsets.{text_of}
+use Rattle.wide_forms.specs.Offsets.{text_of}
 use Rattle.wide_edit.proofs.Made.{made-push_str}
 use Rattle.wide_edit.proofs.Lengths.{size-splice}
 use Rattle.wide_edit.proofs.Offsets.{got}

@@ -1,6 +1,6 @@
 use Rattle.std.proofs.Common.{arith, ap, ◌∙◌, map, drop, ◌∷◌, [], ◌+◌, sym}
 use Rattle.std.specs.List.{splice}
-use Rattle.wide_unit.specs.Offsets.{text_of}
+use Rattle.wide_forms.specs.Offsets.{text_of}
 use Rattle.std.proofs.lemmas.List.{length-map}
 use Rattle.wide_edit.proofs.Made.{made-remove, refused-remove}
 use Rattle.wide_edit.proofs.Offsets.{found_some, found_none, before-offset, end-all}

@@ -1,9 +1,9 @@
 use Rattle.std.proofs.Common.{arith, ap, ◌∙◌, map, length}
 use Rattle.std.specs.List.{splice}
 use Rattle.std.specs.Str.{chars}
-use Rattle.wide_unit.specs.Offsets.{chars_before}
-use Rattle.wide_unit.specs.Laws.Offsets.{offset-IsOffsetOf}
-use Rattle.wide_unit.specs.Offsets.{text_of}
+use Rattle.wide_forms.specs.Offsets.{chars_before}
+use Rattle.wide_forms.specs.Laws.Offsets.{offset-IsOffsetOf}
+use Rattle.wide_forms.specs.Offsets.{text_of}
 use Rattle.wide_edit.specs.Edited.{CanHold}
 use Rattle.wide_edit.proofs.Made.{in_range, made-replace, refused-replace}
 use Rattle.wide_edit.proofs.Lengths.{size-splice}

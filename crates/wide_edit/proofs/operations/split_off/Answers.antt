@@ -1,7 +1,7 @@
 use Rattle.std.proofs.Common.{arith, ap, sym, ◌∙◌, map, length, drop, take, inr}
 use Rattle.std.proofs.lemmas.List.{drop-map}
-use Rattle.wide_unit.specs.Items.{chars}
-use Rattle.wide_unit.specs.Offsets.{text_of}
+use Rattle.wide_forms.specs.Items.{chars}
+use Rattle.wide_forms.specs.Offsets.{text_of}
 use Rattle.wide_edit.proofs.Made.{in_place, made-split, refused-split}
 use Rattle.wide_edit.proofs.Offsets.{found_some, found_none, before-offset}
 use Rattle.wide_edit.proofs.operations.split_off.Goals as goal

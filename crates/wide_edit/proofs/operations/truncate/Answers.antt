@@ -1,6 +1,6 @@
 use Rattle.std.proofs.Common.{ap, sym, ◌∙◌, map, take, arith, inr}
 use Rattle.std.proofs.lemmas.List.{take_all}
-use Rattle.wide_unit.specs.Offsets.{text_of}
+use Rattle.wide_forms.specs.Offsets.{text_of}
 use Rattle.wide_edit.proofs.Made.{made-truncate}
 use Rattle.wide_edit.proofs.Offsets.{found_some, found_none, before-offset}
 use Rattle.wide_edit.proofs.operations.truncate.Goals as goal

@@ -1,8 +1,8 @@
 use Rattle.std.proofs.Common.{◌+◌, sym, refl, arith, subst}
 use Rattle.std.proofs.lemmas.List.{map-id}
-use Rattle.wide_unit.specs.EncodingForm.{Utf16}
-use Rattle.wide_unit.specs.Items.{chars}
-use Rattle.wide_unit.specs.Offsets.{IsCharBoundary}
+use Rattle.wide_forms.specs.EncodingForm.{Utf16}
+use Rattle.wide_forms.specs.Items.{chars}
+use Rattle.wide_forms.specs.Offsets.{IsCharBoundary}
 use Rattle.wide_utfstr.specs.View.{units_seen}
 use Rattle.wide_edit.proofs.Lengths.{size-take}
 use Rattle.wide_edit.proofs.Marking.{well-formed, whole-size}

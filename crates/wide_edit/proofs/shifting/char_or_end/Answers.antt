@@ -1,7 +1,7 @@
 use Rattle.std.proofs.Common.{◌≡◌, ◌+◌, ap, ◌∙◌, arith}
-use Rattle.wide_unit.specs.EncodingForm.{Utf16}
-use Rattle.wide_unit.specs.Items.{chars}
-use Rattle.wide_unit.specs.Laws.Offsets.{offset-IsOffsetOf}
+use Rattle.wide_forms.specs.EncodingForm.{Utf16}
+use Rattle.wide_forms.specs.Items.{chars}
+use Rattle.wide_forms.specs.Laws.Offsets.{offset-IsOffsetOf}
 use Rattle.wide_edit.specs.Marks.{offset}
 use Rattle.wide_edit.proofs.Marking.{well-formed}
 use Rattle.wide_edit.proofs.Neighbors.{apart}

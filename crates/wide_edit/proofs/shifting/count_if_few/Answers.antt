@@ -1,7 +1,7 @@
 use Rattle.std.proofs.Common.{◌≡◌, ◌+◌, ◌-◌, refl, ap, arith, length, map}
-use Rattle.wide_unit.specs.EncodingForm.{Utf16}
-use Rattle.wide_unit.specs.Items.{chars}
-use Rattle.wide_unit.specs.Laws.Encodings.{offsets-grow}
+use Rattle.wide_forms.specs.EncodingForm.{Utf16}
+use Rattle.wide_forms.specs.Items.{chars}
+use Rattle.wide_forms.specs.Laws.Encodings.{offsets-grow}
 use Rattle.wide_utfstr.specs.View.{units_seen}
 use Rattle.wide_edit.specs.Marks.{offset}
 use Rattle.wide_edit.proofs.Lengths.{size-take}

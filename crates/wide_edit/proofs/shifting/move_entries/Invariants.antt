@@ -1,8 +1,8 @@
 use Rattle.std.proofs.Common.{◌≡◌, ◌+◌, ◌<◌, ◌≤◌, ◌-◌, ◌/◌, ℕ, length, take, map}
 use Rattle.std.specs.Prelude.{slice_index, max, min}
 use Rattle.std.specs.List.{range_with_len}
-use Rattle.wide_unit.specs.EncodingForm.{Utf16}
-use Rattle.wide_unit.specs.Items.{chars}
+use Rattle.wide_forms.specs.EncodingForm.{Utf16}
+use Rattle.wide_forms.specs.Items.{chars}
 use Rattle.wide_utfstr.specs.View.{units_seen}
 use Rattle.wide_edit.specs.Counted.{counted}
 use Rattle.wide_edit.specs.Marks.{mark}

@@ -1,5 +1,5 @@
-use Rattle.wide_unit.specs.EncodingForm.{Utf16}
-use Rattle.wide_unit.specs.Items.{chars}
+use Rattle.wide_forms.specs.EncodingForm.{Utf16}
+use Rattle.wide_forms.specs.Items.{chars}
 use Rattle.wide_edit.proofs.Replaced.{replaced-insert, replaced-insert_str, replaced-replace, stated-count}
 use Rattle.wide_edit.proofs.shifting.replaced_range.Goals as goal
 

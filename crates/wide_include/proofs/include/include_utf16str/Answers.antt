@@ -1,7 +1,7 @@
 use Rattle.std.proofs.Common.{rules, ◌≡◌, false, subst, ◌∙◌}
 use Rattle.std.proofs.lemmas.List.{map-id}
-use Rattle.wide_unit.specs.EncodingForm.{Utf16}
-use Rattle.wide_unit.specs.Items.{IsWellFormed, IsFirstFault}
+use Rattle.wide_forms.specs.EncodingForm.{Utf16}
+use Rattle.wide_forms.specs.Items.{IsWellFormed, IsFirstFault}
 use Rattle.wide_utferror.specs.UtfError.{index_of, item_of, unit_of}
 use Rattle.wide_bytes.specs.Bytes.{is_odd}
 use Rattle.wide_include.proofs.include.include_utf16str.Goals as goal

@@ -1,8 +1,8 @@
 use Rattle.std.proofs.Common.{[], ◌∷◌, sym, ap, ◌∙◌}
-use Rattle.wide_unit.specs.EncodingForm.{Utf32}
-use Rattle.wide_unit.specs.Segmentation.{Fault}
-use Rattle.wide_unit.specs.Items.{items}
-use Rattle.wide_unit.specs.Laws.Items.{items-code_units, items-fault}
+use Rattle.wide_forms.specs.EncodingForm.{Utf32}
+use Rattle.wide_forms.specs.Segmentation.{Fault}
+use Rattle.wide_forms.specs.Items.{items}
+use Rattle.wide_forms.specs.Laws.Items.{items-code_units, items-fault}
 use Rattle.wide_iter.proofs.decode32.decode_unit.Goals as goal
 
 pub returns-in-Some : goal.returns-in-Some

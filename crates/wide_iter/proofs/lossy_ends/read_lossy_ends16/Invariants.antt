@@ -1,8 +1,8 @@
 use Rattle.std.proofs.Common.{map, drop}
 use Rattle.std.specs.Option.{option_map}
-use Rattle.wide_unit.specs.EncodingForm.{Utf16}
-use Rattle.wide_unit.specs.Items.{items}
-use Rattle.wide_unit.specs.Lossy.{lossy_by}
+use Rattle.wide_forms.specs.EncodingForm.{Utf16}
+use Rattle.wide_forms.specs.Items.{items}
+use Rattle.wide_forms.specs.Lossy.{lossy_by}
 use Rattle.wide_iter.specs.LossyDecoders.{lossy16_with_left}
 use Rattle.wide_iter.specs.Sources.{copied_rest}
 use Rattle.wide_iter.proofs.Turns.{ReadSoFar}

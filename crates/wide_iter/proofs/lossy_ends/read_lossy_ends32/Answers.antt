@@ -1,7 +1,7 @@
 use Rattle.std.proofs.Common.{rules, ◌≡◌, ◌∷◌, ◌++◌, [], ap, ◌∙◌}
-use Rattle.wide_unit.specs.EncodingForm.{Utf32}
-use Rattle.wide_unit.specs.Items.{items}
-use Rattle.wide_unit.specs.Lossy.{lossy_by}
+use Rattle.wide_forms.specs.EncodingForm.{Utf32}
+use Rattle.wide_forms.specs.Items.{items}
+use Rattle.wide_forms.specs.Lossy.{lossy_by}
 use Rattle.wide_iter.specs.LossyDecoders.{lossy32_with_left}
 use Rattle.wide_iter.proofs.Turns.{turn_front, turn_back, read_no_chars, read_all_chars}
 use Rattle.wide_iter.specs.Sources.{copied_rest}

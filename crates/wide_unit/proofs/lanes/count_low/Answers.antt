@@ -1,5 +1,5 @@
 use Rattle.std.proofs.Common.{◌∙◌, ◌*◌, ap, drop, arith}
-use Rattle.wide_unit.specs.Searches.{is_low}
+use Rattle.wide_forms.specs.Searches.{is_low}
 use Rattle.wide_unit.proofs.Counts.{count-block, count-all}
 use Rattle.wide_unit.proofs.lanes.count_low.Goals as goal
 

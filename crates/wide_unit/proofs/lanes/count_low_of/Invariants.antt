@@ -1,5 +1,5 @@
 use Rattle.std.proofs.Common.{◌≡◌, take, count_by}
-use Rattle.wide_unit.specs.Searches.{is_low}
+use Rattle.wide_forms.specs.Searches.{is_low}
 use Rattle.wide_unit.proofs.lanes.count_low_of.Given as goal
 
 abbrev pub invariant-loop-unit : goal.invariant-loop-unit

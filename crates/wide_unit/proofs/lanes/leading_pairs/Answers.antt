@@ -1,5 +1,5 @@
 use Rattle.std.proofs.Common.{◌≡◌, ◌+◌, ◌-◌, ◌∙◌, sym, arith, rules, get_or, false, true}
-use Rattle.wide_unit.specs.Searches.{is_low}
+use Rattle.wide_forms.specs.Searches.{is_low}
 use Rattle.wide_unit.proofs.Pairs.{paired, block, even, odd}
 use Rattle.wide_unit.proofs.lanes.leading_pairs.Goals as goal
 

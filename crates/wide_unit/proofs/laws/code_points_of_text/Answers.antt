@@ -1,4 +1,4 @@
-use Rattle.wide_unit.specs.Laws.Utf8.{code_point_at-text}
+use Rattle.wide_forms.specs.Laws.Utf8.{code_point_at-text}
 use Rattle.wide_unit.proofs.laws.code_points_of_text.Goals as goal
 
 pub returns-clause-text : goal.returns-clause-text

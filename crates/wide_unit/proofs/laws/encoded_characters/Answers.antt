@@ -1,6 +1,6 @@
-use Rattle.wide_unit.specs.EncodingForm.{encode}
-use Rattle.wide_unit.specs.Laws.Items.{items-encode, IsWellFormed-of_chars}
-use Rattle.wide_unit.specs.Laws.Offsets.{scalars-chars, encode-chars}
+use Rattle.wide_forms.specs.EncodingForm.{encode}
+use Rattle.wide_forms.specs.Laws.Items.{items-encode, IsWellFormed-of_chars}
+use Rattle.wide_forms.specs.Laws.Offsets.{scalars-chars, encode-chars}
 use Rattle.wide_unit.proofs.laws.encoded_characters.Goals as goal
 
 pub returns-clause-well_formed : goal.returns-clause-well_formed

@@ -1,4 +1,4 @@
-use Rattle.wide_unit.specs.Laws.Encodings.{encode-take, encode-drop, encode-splice, offsets-grow}
+use Rattle.wide_forms.specs.Laws.Encodings.{encode-take, encode-drop, encode-splice, offsets-grow}
 use Rattle.wide_unit.proofs.laws.encodings_of_edits.Goals as goal
 
 pub returns-clause-cut : goal.returns-clause-cut

@@ -1,6 +1,6 @@
 use Rattle.std.proofs.Common.{ap}
-use Rattle.wide_unit.specs.Items.{chars}
-use Rattle.wide_unit.specs.Laws.Items.{chars-of_well_formed, same_units}
+use Rattle.wide_forms.specs.Items.{chars}
+use Rattle.wide_forms.specs.Laws.Items.{chars-of_well_formed, same_units}
 use Rattle.wide_unit.proofs.laws.equal_characters.Goals as goal
 
 pub returns : goal.returns

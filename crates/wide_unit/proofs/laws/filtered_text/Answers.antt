@@ -1,5 +1,5 @@
-use Rattle.wide_unit.specs.Laws.Offsets.{IsWellFormed-encode, chars-encode}
-use Rattle.wide_unit.specs.Laws.Texts.{scalars-picked}
+use Rattle.wide_forms.specs.Laws.Offsets.{IsWellFormed-encode, chars-encode}
+use Rattle.wide_forms.specs.Laws.Texts.{scalars-picked}
 use Rattle.wide_unit.proofs.laws.filtered_text.Goals as goal
 
 pub returns : goal.returns

@@ -1,4 +1,4 @@
-use Rattle.wide_unit.specs.Laws.Ends.{items-append_left, items-append_right}
+use Rattle.wide_forms.specs.Laws.Ends.{items-append_left, items-append_right}
 use Rattle.wide_unit.proofs.laws.joined_items.Goals as goal
 
 pub returns-clause-after : goal.returns-clause-after

@@ -1,7 +1,7 @@
 use Rattle.std.proofs.Common.{ap}
-use Rattle.wide_unit.specs.Lines.{lines_of}
-use Rattle.wide_unit.specs.Laws.Items.{items-nil}
-use Rattle.wide_unit.specs.Laws.Lines.{lines-unended, items-no_feed, some_items, lines-at_feed}
+use Rattle.wide_forms.specs.Lines.{lines_of}
+use Rattle.wide_forms.specs.Laws.Items.{items-nil}
+use Rattle.wide_forms.specs.Laws.Lines.{lines-unended, items-no_feed, some_items, lines-at_feed}
 use Rattle.wide_unit.proofs.laws.lines_of_units.Goals as goal
 
 pub returns-clause-empty : goal.returns-clause-empty

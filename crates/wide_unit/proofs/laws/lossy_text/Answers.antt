@@ -1,4 +1,4 @@
-use Rattle.wide_unit.specs.Laws.Lossy.{scalars-lossy, encode-lossy, well_formed-lossy, lossy-twice, length-lossy}
+use Rattle.wide_forms.specs.Laws.Lossy.{scalars-lossy, encode-lossy, well_formed-lossy, lossy-twice, length-lossy}
 use Rattle.wide_unit.proofs.Faults.{first_fault-prefix, lossy-after_prefix}
 use Rattle.wide_unit.proofs.laws.lossy_text.Goals as goal
 

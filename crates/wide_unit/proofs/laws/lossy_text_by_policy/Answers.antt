@@ -1,5 +1,5 @@
 use Rattle.std.proofs.Common.{refl}
-use Rattle.wide_unit.specs.Laws.Policies.{lossy_by-at_char, runs-of_run, characters-of_run, runs-at_fault, lossy_after-none, lossy_after-append, scalars-lossy_by, encode-lossy_by, lossy_by-twice, length-lossy_by}
+use Rattle.wide_forms.specs.Laws.Policies.{lossy_by-at_char, runs-of_run, characters-of_run, runs-at_fault, lossy_after-none, lossy_after-append, scalars-lossy_by, encode-lossy_by, lossy_by-twice, length-lossy_by}
 use Rattle.wide_unit.proofs.laws.lossy_text_by_policy.Goals as goal
 
 pub returns-clause-each : goal.returns-clause-each

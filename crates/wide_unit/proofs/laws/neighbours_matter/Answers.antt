@@ -1,9 +1,9 @@
 -- A pair as one character, and as two faults.
 use Rattle.std.proofs.Common.{suc, zero, [], ◌∷◌, refl, arith, lit≤}
 use Rattle.std.specs.List.{All}
-use Rattle.wide_unit.specs.EncodingForm.{Utf16}
-use Rattle.wide_unit.specs.Segmentation.{Char, Fault, IsItem}
-use Rattle.wide_unit.specs.Laws.Forms.{IsFault-surrogate}
+use Rattle.wide_forms.specs.EncodingForm.{Utf16}
+use Rattle.wide_forms.specs.Segmentation.{Char, Fault, IsItem}
+use Rattle.wide_forms.specs.Laws.Forms.{IsFault-surrogate}
 use Rattle.wide_unit.proofs.laws.neighbours_matter.Goals as goal
 
 one_proper : All (IsItem Utf16) (Char 0x1_F600 ∷ [])

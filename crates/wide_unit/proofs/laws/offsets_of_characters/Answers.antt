@@ -1,6 +1,6 @@
 use Rattle.std.proofs.Common.{subst, sym}
-use Rattle.wide_unit.specs.Offsets.{IsOffsetOf}
-use Rattle.wide_unit.specs.Laws.Offsets.{IsOffsetOf-prefix, offset-IsOffsetOf, IsOffsetOf-boundary}
+use Rattle.wide_forms.specs.Offsets.{IsOffsetOf}
+use Rattle.wide_forms.specs.Laws.Offsets.{IsOffsetOf-prefix, offset-IsOffsetOf, IsOffsetOf-boundary}
 use Rattle.wide_unit.proofs.laws.offsets_of_characters.Goals as goal
 
 pub returns-clause-lengths : goal.returns-clause-lengths

@@ -1,6 +1,6 @@
 use Rattle.std.proofs.Common.{sym}
-use Rattle.wide_unit.specs.Items.{items-segment}
-use Rattle.wide_unit.specs.Laws.Items.{items-unique}
+use Rattle.wide_forms.specs.Items.{items-segment}
+use Rattle.wide_forms.specs.Laws.Items.{items-unique}
 use Rattle.wide_unit.proofs.laws.one_segmentation.Goals as goal
 
 pub returns-clause-exists : goal.returns-clause-exists

@@ -1,5 +1,5 @@
-use Rattle.wide_unit.specs.Laws.Offsets.{IsWellFormed-take, IsWellFormed-drop}
-use Rattle.wide_unit.specs.Laws.Splices.{IsWellFormed-part, chars-part, IsWellFormed-splice, chars-splice}
+use Rattle.wide_forms.specs.Laws.Offsets.{IsWellFormed-take, IsWellFormed-drop}
+use Rattle.wide_forms.specs.Laws.Splices.{IsWellFormed-part, chars-part, IsWellFormed-splice, chars-splice}
 use Rattle.wide_unit.proofs.laws.spliced_text.Goals as goal
 
 pub returns-clause-cuts : goal.returns-clause-cuts

@@ -1,4 +1,4 @@
-use Rattle.wide_unit.specs.Laws.Utf32.{items32-append, items32-char, items32-fault, length-items32}
+use Rattle.wide_forms.specs.Laws.Utf32.{items32-append, items32-char, items32-fault, length-items32}
 use Rattle.wide_unit.proofs.laws.units_of_utf32.Goals as goal
 
 pub returns-clause-items : goal.returns-clause-items

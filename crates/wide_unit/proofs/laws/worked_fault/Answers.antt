@@ -1,8 +1,8 @@
 use Rattle.std.proofs.Common.{◌∷◌, [], ap, ◌∙◌, lit≤, refl}
-use Rattle.wide_unit.specs.EncodingForm.{Utf16}
-use Rattle.wide_unit.specs.Segmentation.{Char, Fault}
-use Rattle.wide_unit.specs.Laws.Items.{items-nil}
-use Rattle.wide_unit.specs.Laws.Ends.{items-prefix_char, items-prefix_high}
+use Rattle.wide_forms.specs.EncodingForm.{Utf16}
+use Rattle.wide_forms.specs.Segmentation.{Char, Fault}
+use Rattle.wide_forms.specs.Laws.Items.{items-nil}
+use Rattle.wide_forms.specs.Laws.Ends.{items-prefix_char, items-prefix_high}
 use Rattle.wide_unit.proofs.Faults.{IsFirstFault-of}
 use Rattle.wide_unit.proofs.laws.worked_fault.Goals as goal
 

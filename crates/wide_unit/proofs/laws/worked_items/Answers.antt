@@ -1,9 +1,9 @@
 use Rattle.std.proofs.Common.{◌∷◌, [], ap, ◌∙◌, lit≤, refl}
-use Rattle.wide_unit.specs.EncodingForm.{Utf16, Utf32}
-use Rattle.wide_unit.specs.Segmentation.{Fault}
-use Rattle.wide_unit.specs.Laws.Forms.{IsFault-no_scalar, no_pair32}
-use Rattle.wide_unit.specs.Laws.Items.{items-nil, items-code_units}
-use Rattle.wide_unit.specs.Laws.Ends.{items-prefix_fault, items-prefix_low, items-prefix_high}
+use Rattle.wide_forms.specs.EncodingForm.{Utf16, Utf32}
+use Rattle.wide_forms.specs.Segmentation.{Fault}
+use Rattle.wide_forms.specs.Laws.Forms.{IsFault-no_scalar, no_pair32}
+use Rattle.wide_forms.specs.Laws.Items.{items-nil, items-code_units}
+use Rattle.wide_forms.specs.Laws.Ends.{items-prefix_fault, items-prefix_low, items-prefix_high}
 use Rattle.wide_unit.proofs.laws.worked_items.Goals as goal
 
 pub returns-clause-pair : goal.returns-clause-pair

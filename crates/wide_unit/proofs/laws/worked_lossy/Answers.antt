@@ -1,11 +1,11 @@
 use Rattle.std.proofs.Common.{◌≡◌, ◌∷◌, [], ap, ◌∙◌, lit≤, refl}
-use Rattle.wide_unit.specs.EncodingForm.{Utf16, Utf32}
-use Rattle.wide_unit.specs.Segmentation.{Char, Fault}
-use Rattle.wide_unit.specs.Lossy.{lossy}
-use Rattle.wide_unit.specs.Laws.Forms.{high-no_low}
-use Rattle.wide_unit.specs.Laws.Items.{items-nil, items-code_units}
-use Rattle.wide_unit.specs.Laws.Ends.{items-prefix_char, items-prefix_high}
-use Rattle.wide_unit.specs.Laws.Utf32.{items32-fault}
+use Rattle.wide_forms.specs.EncodingForm.{Utf16, Utf32}
+use Rattle.wide_forms.specs.Segmentation.{Char, Fault}
+use Rattle.wide_forms.specs.Lossy.{lossy}
+use Rattle.wide_forms.specs.Laws.Forms.{high-no_low}
+use Rattle.wide_forms.specs.Laws.Items.{items-nil, items-code_units}
+use Rattle.wide_forms.specs.Laws.Ends.{items-prefix_char, items-prefix_high}
+use Rattle.wide_forms.specs.Laws.Utf32.{items32-fault}
 use Rattle.wide_unit.proofs.laws.worked_lossy.Goals as goal
 
 pub returns-clause-utf16 : goal.returns-clause-utf16

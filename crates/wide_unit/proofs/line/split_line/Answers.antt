@@ -2,7 +2,7 @@ use Rattle.std.proofs.lemmas.Grind.{common_steps}
 use Rattle.std.proofs.Common.{◌≡◌, ◌-◌, [], length, map, take, arith, ap, subst, sym, ◌∙◌, length-append, eqb}
 use Rattle.std.proofs.lemmas.Bool.{eqb-true, false≢true}
 use Rattle.std.proofs.lemmas.List.{take_all, nil_from_length}
-use Rattle.wide_unit.specs.Lines.{lines_of, IsFirstLine}
+use Rattle.wide_forms.specs.Lines.{lines_of, IsFirstLine}
 use Rattle.wide_unit.proofs.Back.{same_last, last_rest}
 use Rattle.wide_unit.proofs.Front.{first_of_nil}
 use Rattle.wide_unit.proofs.Feeds.{first_line-whole, first_line-feed, first_line-return}

@@ -1,7 +1,7 @@
 use Rattle.std.proofs.lemmas.Grind.{common_steps}
 use Rattle.std.proofs.lemmas.List.{nil_from_length}
 use Rattle.std.proofs.Common.{◌∷◌, ◌-◌, length, take, drop, arith, ap, ◌∙◌}
-use Rattle.wide_unit.specs.EncodingForm.{IsFault, IsPair}
+use Rattle.wide_forms.specs.EncodingForm.{IsFault, IsPair}
 use Rattle.wide_unit.proofs.Front.{first_rest, same_first, first_of_nil, items-first_char, items-first_pair, items-first_fault}
 use Rattle.wide_unit.proofs.split.split_first.Goals as goal
 use Rattle.wide_unit.proofs.split.split_first.Goals.{in_default-rest, in-len1-up-rest+in_default-pair_scalar}

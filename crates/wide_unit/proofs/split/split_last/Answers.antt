@@ -3,7 +3,7 @@ use Rattle.wide_unit.proofs.Front.{first_of_nil}
 use Rattle.std.proofs.lemmas.List.{nil_from_length}
 use Rattle.std.proofs.Common.{◌∷◌, [], ◌++◌, ◌-◌, length, take, arith, ap, ◌∙◌, append_assoc}
 use Rattle.std.proofs.lemmas.List.{length_push}
-use Rattle.wide_unit.specs.EncodingForm.{IsFault, IsPair}
+use Rattle.wide_forms.specs.EncodingForm.{IsFault, IsPair}
 use Rattle.wide_unit.proofs.Back.{last_rest, same_last, items-last_char, items-last_pair, items-last_fault}
 use Rattle.wide_unit.proofs.split.split_last.Goals as goal
 use Rattle.wide_unit.proofs.split.split_last.Goals.{in_default-prefix, in-len1-up-prefix+in_default-pair_scalar}

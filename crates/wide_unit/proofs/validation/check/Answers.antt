@@ -1,8 +1,8 @@
 use Rattle.std.proofs.Common.{◌≡◌, subst, ap, sym, ◌∙◌}
 use Rattle.std.specs.Prelude.{length}
 use Rattle.std.proofs.lemmas.List.{take-map}
-use Rattle.wide_unit.specs.Items.{IsWellFormed, chars}
-use Rattle.wide_unit.specs.Offsets.{text_before}
+use Rattle.wide_forms.specs.Items.{IsWellFormed, chars}
+use Rattle.wide_forms.specs.Offsets.{text_before}
 use Rattle.wide_unit.proofs.Faults.{first_fault-prefix}
 use Rattle.wide_unit.proofs.validation.check.Goals as goal
 

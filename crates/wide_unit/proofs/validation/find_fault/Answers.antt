@@ -1,8 +1,8 @@
 use Rattle.std.proofs.Common.{◌≡◌, ◌-◌, ◌∷◌, map, length, ap, subst, arith, refl, ◌∙◌}
 use Rattle.std.proofs.lemmas.List.{length-map}
-use Rattle.wide_unit.specs.Items.{items, IsFirstFault}
-use Rattle.wide_unit.specs.Offsets.{text_before}
-use Rattle.wide_unit.specs.Segmentation.{Char, Fault}
+use Rattle.wide_forms.specs.Items.{items, IsFirstFault}
+use Rattle.wide_forms.specs.Offsets.{text_before}
+use Rattle.wide_forms.specs.Segmentation.{Char, Fault}
 use Rattle.wide_unit.specs.Unit.{item_of}
 use Rattle.wide_unit.proofs.Front.{first_of_nil}
 use Rattle.wide_unit.proofs.Faults.{first_fault-not_well_formed}

@@ -1,5 +1,5 @@
 use Rattle.std.proofs.Common.{◌≤◌, map, length}
-use Rattle.wide_unit.specs.Items.{BeginsWithChars}
+use Rattle.wide_forms.specs.Items.{BeginsWithChars}
 use Rattle.wide_unit.proofs.validation.find_fault.Given as goal
 
 abbrev pub invariant-loop-item : goal.invariant-loop-item

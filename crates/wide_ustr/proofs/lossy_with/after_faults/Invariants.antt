@@ -1,5 +1,5 @@
 use Rattle.std.proofs.Common.{◌≤◌, map, length}
-use Rattle.wide_unit.specs.Items.{items}
+use Rattle.wide_forms.specs.Items.{items}
 use Rattle.wide_ustr.proofs.FaultRuns.{PassedFirst}
 use Rattle.wide_ustr.proofs.lossy_with.after_faults.Given as goal
 

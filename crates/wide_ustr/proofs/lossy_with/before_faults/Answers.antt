@@ -1,6 +1,6 @@
 use Rattle.std.proofs.Common.{◌≡◌, ◌∷◌, ◌++◌, [], map, ap, ◌∙◌, arith}
-use Rattle.wide_unit.specs.Segmentation.{Fault}
-use Rattle.wide_unit.specs.Items.{items}
+use Rattle.wide_forms.specs.Segmentation.{Fault}
+use Rattle.wide_forms.specs.Items.{items}
 use Rattle.wide_unit.specs.Unit.{item_of}
 use Rattle.wide_ustr.proofs.FaultRuns.{one_more_last}
 use Rattle.wide_ustr.proofs.lossy_with.before_faults.Goals as goal

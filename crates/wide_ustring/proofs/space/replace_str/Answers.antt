@@ -1,7 +1,7 @@
 use Rattle.std.proofs.Common.{◌≡◌, ◌++◌, ◌∙◌, ap, arith, drop, length, map, sym, take}
 use Rattle.std.proofs.lemmas.Grind.{common_steps}
 use Rattle.std.specs.List.{splice}
-use Rattle.wide_unit.specs.Laws.Splices.{map-splice}
+use Rattle.wide_forms.specs.Laws.Splices.{map-splice}
 use Rattle.wide_ustring.proofs.space.replace_str.Goals as goal
 
 pub returns-clause-ok : goal.returns-clause-ok

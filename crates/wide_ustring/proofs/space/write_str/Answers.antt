@@ -1,6 +1,6 @@
 use Rattle.std.proofs.Common.{◌≡◌, ◌∙◌, ap, arith, length, sym}
 use Rattle.std.specs.Str.{chars}
-use Rattle.wide_unit.specs.EncodingForm.{encode}
+use Rattle.wide_forms.specs.EncodingForm.{encode}
 use Rattle.wide_ustring.proofs.Pushed.{all_written}
 use Rattle.wide_ustring.proofs.space.write_str.Goals as goal
 

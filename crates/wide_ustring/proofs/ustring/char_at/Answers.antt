@@ -1,7 +1,7 @@
 use Rattle.std.proofs.Common.{map, drop, arith}
 use Rattle.std.proofs.lemmas.Grind.{common_steps}
 use Rattle.std.proofs.lemmas.List.{take_rest}
-use Rattle.wide_unit.specs.Laws.WellFormed.{no_first_fault}
+use Rattle.wide_forms.specs.Laws.WellFormed.{no_first_fault}
 use Rattle.wide_ustring.proofs.CharAt.{char-near, char-rest, char-units}
 use Rattle.wide_ustring.proofs.ustring.char_at.Goals as goal
 

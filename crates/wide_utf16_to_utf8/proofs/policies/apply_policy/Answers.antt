@@ -1,8 +1,8 @@
 use Rattle.std.proofs.Common.{◌∙◌, sym, ap, arith, length, length-take}
-use Rattle.wide_unit.specs.EncodingForm.{Utf16, encode}
-use Rattle.wide_unit.specs.Items.{items}
-use Rattle.wide_unit.specs.Lossy.{lossy_after}
-use Rattle.wide_unit.specs.Laws.Lossy.{length-lossy}
+use Rattle.wide_forms.specs.EncodingForm.{Utf16, encode}
+use Rattle.wide_forms.specs.Items.{items}
+use Rattle.wide_forms.specs.Lossy.{lossy_after}
+use Rattle.wide_forms.specs.Laws.Lossy.{length-lossy}
 use Rattle.wide_utf16_to_utf8.proofs.policies.apply_policy.Goals as goal
 
 pub slice_bounds-copy_from_slice-end : goal.slice_bounds-copy_from_slice-end

@@ -1,7 +1,8 @@
 use Rattle.std.proofs.Common.{◌≡◌, ◌∙◌, ◌++◌, ap, length, take, arith, length-set, length-take, get_or-take, sym, ℕ}
 use Rattle.std.proofs.lemmas.List.{take_all}
 use Rattle.wide_utf16_to_utf8.proofs.Shuffles.{same-more}
-use Rattle.wide_utf16_to_utf8.proofs.Tables.{same-lists, stored-block}
+use Rattle.wide_forms.proofs.Stored.{stored-block}
+use Rattle.wide_utf16_to_utf8.proofs.Tables.{same-lists}
 use Rattle.wide_utf16_to_utf8.proofs.to_utf8.put_eight_ascii.Goals as goal
 
 pub loop-k-preserved : goal.loop-k-preserved

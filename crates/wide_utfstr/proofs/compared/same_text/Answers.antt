@@ -1,7 +1,7 @@
 use Rattle.std.proofs.Common.{◌≡◌, ◌++◌, ap, sym, ◌∙◌, length, take, drop, subst, arith}
 use Rattle.std.proofs.lemmas.List.{map-id}
-use Rattle.wide_unit.specs.EncodingForm.{Utf16}
-use Rattle.wide_unit.specs.Items.{IsWellFormed, chars}
+use Rattle.wide_forms.specs.EncodingForm.{Utf16}
+use Rattle.wide_forms.specs.Items.{IsWellFormed, chars}
 use Rattle.wide_utfstr.proofs.SameChunks.{same_scalars, same_after, no_chars, no_longer_same, same_at_end}
 use Rattle.wide_utfstr.proofs.compared.same_text.Goals as goal
 

@@ -1,6 +1,6 @@
 use Rattle.std.proofs.Common.{◌≡◌, ◌↔◌, length}
-use Rattle.wide_unit.specs.EncodingForm.{Utf16}
-use Rattle.wide_unit.specs.Items.{IsWellFormed, chars}
+use Rattle.wide_forms.specs.EncodingForm.{Utf16}
+use Rattle.wide_forms.specs.Items.{IsWellFormed, chars}
 use Rattle.wide_utfstr.specs.View.{text_seen}
 use Rattle.wide_utfstr.proofs.compared.same_text.Given as goal
 

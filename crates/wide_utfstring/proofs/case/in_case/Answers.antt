@@ -1,7 +1,7 @@
 use Rattle.std.proofs.Common.{ap, ◌∙◌, arith}
 use Rattle.std.proofs.lemmas.Grind.{common_steps}
-use Rattle.wide_unit.specs.Items.{characters}
-use Rattle.wide_unit.specs.Offsets.{text_of}
+use Rattle.wide_forms.specs.Items.{characters}
+use Rattle.wide_forms.specs.Offsets.{text_of}
 use Rattle.wide_unit.proofs.Front.{first_of_nil}
 use Rattle.wide_utfstr.specs.Iter.{chars_left}
 use Rattle.wide_utfstr.specs.View.{text_seen}

@@ -1,4 +1,4 @@
-use Rattle.wide_unit.specs.Offsets.{text_of}
+use Rattle.wide_forms.specs.Offsets.{text_of}
 use Rattle.wide_utfstr.specs.Iter.{chars_left}
 use Rattle.wide_utfstr.specs.View.{text_seen}
 use Rattle.wide_utfstring.specs.Case.{mapping}

@@ -1,6 +1,6 @@
 use Rattle.std.proofs.Common.{◌≡◌, length, map, drop}
-use Rattle.wide_unit.specs.EncodingForm.{encode}
-use Rattle.wide_unit.specs.Items.{IsWellFormed, chars}
+use Rattle.wide_forms.specs.EncodingForm.{encode}
+use Rattle.wide_forms.specs.Items.{IsWellFormed, chars}
 use Rattle.widestring_c.proofs.Buffers.{Puts}
 use Rattle.widestring_c.proofs.between.put_recoded.Given as goal
 

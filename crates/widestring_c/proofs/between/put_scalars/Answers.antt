@@ -1,8 +1,8 @@
 use Rattle.std.proofs.Common.{◌≡◌, ◌∙◌, ℕ, ap, arith, length, map, sym}
 use Rattle.std.proofs.lemmas.List.{map-id}
-use Rattle.wide_unit.specs.EncodingForm.{Utf16, Utf32, encode}
-use Rattle.wide_unit.specs.Items.{chars}
-use Rattle.wide_unit.specs.Laws.Utf32.{encode32}
+use Rattle.wide_forms.specs.EncodingForm.{Utf16, Utf32, encode}
+use Rattle.wide_forms.specs.Items.{chars}
+use Rattle.wide_forms.specs.Laws.Utf32.{encode32}
 use Rattle.widestring_c.proofs.between.put_scalars.Goals as goal
 
 pub returns-in-Some-clause-len : goal.returns-in-Some-clause-len

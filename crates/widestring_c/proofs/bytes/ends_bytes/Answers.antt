@@ -1,8 +1,8 @@
 use Rattle.std.proofs.Common.{◌+◌, ◌≤◌, [], ap, sym, ◌∙◌, arith, length, take, drop}
-use Rattle.wide_unit.specs.EncodingForm.{Utf16}
-use Rattle.wide_unit.specs.Laws.Items.{IsCut}
+use Rattle.wide_forms.specs.EncodingForm.{Utf16}
+use Rattle.wide_forms.specs.Laws.Items.{IsCut}
 use Rattle.wide_bytes.specs.Bytes.{units_in}
-use Rattle.wide_bytes.specs.Lossied.{faulty}
+use Rattle.wide_transcode.specs.Lossied.{faulty}
 use Rattle.widestring_c.proofs.Pieces.{cut-before_none, ends-beyond, none-last}
 use Rattle.widestring_c.proofs.bytes.ends_bytes.Goals as goal
 

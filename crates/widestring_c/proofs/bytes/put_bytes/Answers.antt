@@ -1,5 +1,5 @@
 use Rattle.std.proofs.Common.{arith}
-use Rattle.wide_unit.specs.EncodingForm.{Utf16}
+use Rattle.wide_forms.specs.EncodingForm.{Utf16}
 use Rattle.wide_bytes.specs.Bytes.{units_in}
 use Rattle.wide_bytes.proofs.Pairs.{length-units_in}
 use Rattle.widestring_c.proofs.Fits.{bytes-lossy_after}

@@ -1,7 +1,7 @@
 use Rattle.std.proofs.Common.{◌≡◌, ◌++◌, ◌/◌, ◌<◌, ℕ, List, [], ap, sym, ◌∙◌, subst, arith, length, map, take, drop}
 use Rattle.std.proofs.lemmas.List.{map-id}
 use Rattle.wide_bytes.specs.Bytes.{units_in}
-use Rattle.wide_bytes.specs.Lossied.{faulty, lossy_text}
+use Rattle.wide_transcode.specs.Lossied.{faulty, lossy_text}
 use Rattle.widestring_c.proofs.Buffers.{Writing, after_more, counted_prefix, one_more, written_all}
 use Rattle.widestring_c.proofs.Pieces.{no_text-left, text-parted}
 use Rattle.widestring_c.proofs.bytes.put_bytes_by.Goals as goal

@@ -1,6 +1,6 @@
 use Rattle.std.proofs.Common.{◌≡◌, length, drop}
 use Rattle.wide_bytes.specs.Bytes.{units_in}
-use Rattle.wide_bytes.specs.Lossied.{lossy_text}
+use Rattle.wide_transcode.specs.Lossied.{lossy_text}
 use Rattle.widestring_c.proofs.Buffers.{Writing}
 use Rattle.widestring_c.proofs.bytes.put_bytes_by.Given as goal
 

@@ -1,9 +1,9 @@
 use Rattle.std.proofs.Common.{◌≡◌, ap, ◌∙◌, arith, length}
-use Rattle.wide_unit.specs.EncodingForm.{Utf16}
-use Rattle.wide_unit.specs.Items.{chars, items}
-use Rattle.wide_unit.specs.Lossy.{lossy}
-use Rattle.wide_unit.specs.Utf8.{utf8}
-use Rattle.wide_unit.specs.Laws.Lossy.{lossy-well_formed}
+use Rattle.wide_forms.specs.EncodingForm.{Utf16}
+use Rattle.wide_forms.specs.Items.{chars, items}
+use Rattle.wide_forms.specs.Lossy.{lossy}
+use Rattle.wide_forms.specs.Utf8.{utf8}
+use Rattle.wide_forms.specs.Laws.Lossy.{lossy-well_formed}
 use Rattle.wide_bytes.specs.Bytes.{units_in}
 use Rattle.widestring_c.proofs.bytes.put_valid_bytes.Goals.{else-bytes-eq0-via-then-bytes-eq0+else-valid_units-bytes, else-bytes-eq0-via-else-bytes-eq0}
 use Rattle.widestring_c.proofs.bytes.put_valid_bytes.Goals as goal

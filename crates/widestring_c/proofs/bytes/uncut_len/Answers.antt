@@ -1,6 +1,6 @@
 use Rattle.std.proofs.Common.{◌≡◌, ◌-◌, ◌+◌, ◌++◌, ◌∙◌, ap, subst, arith, take, drop, get_or}
-use Rattle.wide_unit.specs.EncodingForm.{Utf16}
-use Rattle.wide_unit.specs.Laws.Items.{IsCut}
+use Rattle.wide_forms.specs.EncodingForm.{Utf16}
+use Rattle.wide_forms.specs.Laws.Items.{IsCut}
 use Rattle.wide_bytes.specs.Bytes.{unit_in, units_in}
 use Rattle.widestring_c.proofs.Cuts.{cut-at_prefix, cut-before_high, cut-after_plain}
 use Rattle.widestring_c.proofs.bytes.uncut_len.Goals.{else-prefix-ge2-via-then-prefix-ge2+else-unit_in-eq54, else-prefix-ge2-via-else-prefix-ge2}

@@ -1,7 +1,7 @@
 use Rattle.std.proofs.Common.{◌≡◌, ◌+◌, ◌/◌, ◌<◌, ℕ, List, ap, sym, ◌∙◌, subst, arith, length, map, take, drop, length-take-le, length-drop}
 use Rattle.std.proofs.lemmas.List.{map-id, take_all}
-use Rattle.wide_unit.specs.EncodingForm.{Utf16}
-use Rattle.wide_unit.specs.Items.{IsFirstFault, IsWellFormed}
+use Rattle.wide_forms.specs.EncodingForm.{Utf16}
+use Rattle.wide_forms.specs.Items.{IsFirstFault, IsWellFormed}
 use Rattle.wide_unit.proofs.Faults.{first_fault-below, first_fault-not_well_formed}
 use Rattle.wide_bytes.specs.Bytes.{units_in}
 use Rattle.wide_bytes.proofs.Pairs.{length-units_in}

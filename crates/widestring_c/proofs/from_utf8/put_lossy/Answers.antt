@@ -1,7 +1,7 @@
 use Rattle.std.proofs.Common.{◌≡◌, ◌++◌, [], ap, sym, ◌∙◌, subst, arith, drop, length, map, take}
 use Rattle.std.specs.Str.{chars}
-use Rattle.wide_unit.specs.EncodingForm.{encode}
-use Rattle.wide_unit.specs.Lossy.{lossy_after, lossy_by}
+use Rattle.wide_forms.specs.EncodingForm.{encode}
+use Rattle.wide_forms.specs.Lossy.{lossy_after, lossy_by}
 use Rattle.wide_conversions.specs.Utf8Items.{IsLossyPrefix, utf8_items}
 use Rattle.widestring_c.proofs.Buffers.{Puts, one_more_by, one_more_of, after_more, counted_all, written_all_of}
 use Rattle.widestring_c.proofs.Chunks.{lossy_end, lossy_prefix}

@@ -1,6 +1,6 @@
 use Rattle.std.proofs.Common.{◌≡◌, length, map, drop}
-use Rattle.wide_unit.specs.EncodingForm.{encode}
-use Rattle.wide_unit.specs.Lossy.{lossy_after, lossy_by}
+use Rattle.wide_forms.specs.EncodingForm.{encode}
+use Rattle.wide_forms.specs.Lossy.{lossy_after, lossy_by}
 use Rattle.wide_conversions.specs.Utf8Items.{utf8_items}
 use Rattle.widestring_c.proofs.Buffers.{Puts}
 use Rattle.widestring_c.proofs.from_utf8.put_lossy.Given as goal

@@ -1,7 +1,7 @@
 use Rattle.std.proofs.Common.{◌∙◌, ap, arith, length, sym}
 use Rattle.std.proofs.lemmas.List.{map-id}
-use Rattle.wide_unit.specs.Lossy.{lossy_by}
-use Rattle.wide_unit.specs.Laws.Utf32.{encode32}
+use Rattle.wide_forms.specs.Lossy.{lossy_by}
+use Rattle.wide_forms.specs.Laws.Utf32.{encode32}
 use Rattle.wide_conversions.specs.Utf8Items.{utf8_items}
 use Rattle.widestring_c.proofs.from_utf8.put_lossy_32.Goals as goal
 

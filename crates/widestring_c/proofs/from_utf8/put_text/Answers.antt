@@ -2,7 +2,7 @@ use Rattle.std.proofs.Common.{◌≡◌, ◌++◌, ◌∷◌, ◌+◌, ◌-◌, 
 use Rattle.std.proofs.lemmas.List.{length-map}
 use Rattle.std.proofs.lemmas.Slice.{drop-put_mid}
 use Rattle.std.specs.Str.{IsUtf8, chars}
-use Rattle.wide_unit.specs.EncodingForm.{EncodingForm, encode}
+use Rattle.wide_forms.specs.EncodingForm.{EncodingForm, encode}
 use Rattle.widestring_c.proofs.Buffers.{Puts, nothing_yet, one_more_of, counted_all, written_all_of}
 use Rattle.widestring_c.proofs.Windows.{drop-later, few_bytes, length-window, one_window}
 use Rattle.widestring_c.proofs.from_utf8.put_text.Goals as goal

@@ -1,7 +1,7 @@
 use Rattle.std.proofs.Common.{◌≡◌, ◌+◌, ◌-◌, ◌^◌, length, map, drop}
 use Rattle.std.specs.Prelude.{min}
 use Rattle.std.specs.Str.{IsUtf8, chars}
-use Rattle.wide_unit.specs.EncodingForm.{encode}
+use Rattle.wide_forms.specs.EncodingForm.{encode}
 use Rattle.widestring_c.proofs.Buffers.{Puts}
 use Rattle.widestring_c.proofs.from_utf8.put_text.Given as goal
 

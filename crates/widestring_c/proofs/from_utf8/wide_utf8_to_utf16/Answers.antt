@@ -1,5 +1,5 @@
 use Rattle.std.proofs.Common.{arith}
-use Rattle.wide_unit.specs.EncodingForm.{Utf16}
+use Rattle.wide_forms.specs.EncodingForm.{Utf16}
 use Rattle.widestring_c.proofs.Chunks.{not_text}
 use Rattle.widestring_c.proofs.Fits.{units-text}
 use Rattle.widestring_c.proofs.from_utf8.wide_utf8_to_utf16.Goals as goal

@@ -1,8 +1,8 @@
 use Rattle.std.proofs.Common.{◌∙◌, ap, arith, length, sym}
 use Rattle.std.specs.Str.{chars}
 use Rattle.std.proofs.lemmas.List.{map-id}
-use Rattle.wide_unit.specs.EncodingForm.{Utf32}
-use Rattle.wide_unit.specs.Laws.Utf32.{encode32}
+use Rattle.wide_forms.specs.EncodingForm.{Utf32}
+use Rattle.wide_forms.specs.Laws.Utf32.{encode32}
 use Rattle.widestring_c.proofs.Chunks.{not_text}
 use Rattle.widestring_c.proofs.Fits.{units-text}
 use Rattle.widestring_c.proofs.from_utf8.wide_utf8_to_utf32.Goals as goal

@@ -1,8 +1,8 @@
 use Rattle.std.proofs.Common.{◌≡◌, ap, arith, length, map}
 use Rattle.std.proofs.lemmas.List.{map-id}
-use Rattle.wide_unit.specs.EncodingForm.{Utf32}
-use Rattle.wide_unit.specs.Items.{chars}
-use Rattle.wide_unit.specs.Laws.Utf32.{encode32}
+use Rattle.wide_forms.specs.EncodingForm.{Utf32}
+use Rattle.wide_forms.specs.Items.{chars}
+use Rattle.wide_forms.specs.Laws.Utf32.{encode32}
 use Rattle.widestring_c.proofs.Fits.{units-between}
 use Rattle.widestring_c.proofs.lengths.wide_utf32_char_count.Goals as goal
 

@@ -1,8 +1,8 @@
 use Rattle.std.proofs.Common.{◌≡◌, ap, arith, length, map}
 use Rattle.std.proofs.lemmas.List.{map-id}
-use Rattle.wide_unit.specs.EncodingForm.{Utf32}
-use Rattle.wide_unit.specs.Items.{chars}
-use Rattle.wide_unit.specs.Utf8.{utf8}
+use Rattle.wide_forms.specs.EncodingForm.{Utf32}
+use Rattle.wide_forms.specs.Items.{chars}
+use Rattle.wide_forms.specs.Utf8.{utf8}
 use Rattle.widestring_c.proofs.Fits.{bytes-well_formed}
 use Rattle.widestring_c.proofs.lengths.wide_utf32_utf8_length.Goals as goal
 

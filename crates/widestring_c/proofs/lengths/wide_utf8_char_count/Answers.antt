@@ -1,7 +1,7 @@
 use Rattle.std.proofs.Common.{arith, ap, length}
 use Rattle.std.specs.Str.{chars}
-use Rattle.wide_unit.specs.EncodingForm.{Utf32}
-use Rattle.wide_unit.specs.Laws.Utf32.{encode32}
+use Rattle.wide_forms.specs.EncodingForm.{Utf32}
+use Rattle.wide_forms.specs.Laws.Utf32.{encode32}
 use Rattle.widestring_c.proofs.Chunks.{not_text}
 use Rattle.widestring_c.proofs.Fits.{units-text}
 use Rattle.widestring_c.proofs.lengths.wide_utf8_char_count.Goals as goal

@@ -1,6 +1,6 @@
 use Rattle.std.proofs.Common.{ap, arith, length}
 use Rattle.std.specs.Str.{chars}
-use Rattle.wide_unit.specs.EncodingForm.{Utf16, encode}
+use Rattle.wide_forms.specs.EncodingForm.{Utf16, encode}
 use Rattle.widestring_c.proofs.Chunks.{not_text}
 use Rattle.widestring_c.proofs.Fits.{units-text}
 use Rattle.widestring_c.proofs.lengths.wide_utf8_utf16_length.Goals as goal

@@ -1,5 +1,5 @@
 use Rattle.std.proofs.Common.{length}
-use Rattle.wide_unit.specs.EncodingForm.{Utf16}
+use Rattle.wide_forms.specs.EncodingForm.{Utf16}
 use Rattle.widestring_c.proofs.Repaired.{repaired}
 use Rattle.widestring_c.proofs.repair.wide_utf16_repair.Goals as goal
 

@@ -1,6 +1,6 @@
 use Rattle.std.proofs.Common.{◌∙◌, length}
-use Rattle.wide_unit.specs.EncodingForm.{Utf32}
-use Rattle.wide_unit.specs.Laws.Utf32.{encode32}
+use Rattle.wide_forms.specs.EncodingForm.{Utf32}
+use Rattle.wide_forms.specs.Laws.Utf32.{encode32}
 use Rattle.widestring_c.proofs.Repaired.{repaired}
 use Rattle.widestring_c.proofs.repair.wide_utf32_repair.Goals as goal
 

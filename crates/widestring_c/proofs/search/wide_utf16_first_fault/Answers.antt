@@ -1,7 +1,7 @@
 use Rattle.std.proofs.Common.{subst}
 use Rattle.std.proofs.lemmas.List.{map-id}
-use Rattle.wide_unit.specs.EncodingForm.{Utf16}
-use Rattle.wide_unit.specs.Items.{IsFirstFault}
+use Rattle.wide_forms.specs.EncodingForm.{Utf16}
+use Rattle.wide_forms.specs.Items.{IsFirstFault}
 use Rattle.widestring_c.proofs.search.wide_utf16_first_fault.Goals as goal
 
 pub returns-in-Err-clause-fault : goal.returns-in-Err-clause-fault

@@ -1,6 +1,6 @@
 use Rattle.std.proofs.Common.{◌≡◌, ◌++◌, refl, ap, sym, ◌∙◌, subst, arith, length, map, take}
-use Rattle.wide_unit.specs.Items.{IsWellFormed, chars}
-use Rattle.wide_unit.specs.Utf8.{utf8}
+use Rattle.wide_forms.specs.Items.{IsWellFormed, chars}
+use Rattle.wide_forms.specs.Utf8.{utf8}
 use Rattle.wide_conversions.proofs.Utf8Texts.{no_text}
 use Rattle.widestring_c.proofs.Buffers.{Puts, nothing_yet, one_more, after_more, counted_all, written_all}
 use Rattle.widestring_c.proofs.to_utf8.put_chunks.Goals as goal

@@ -1,9 +1,9 @@
 use Rattle.std.proofs.Common.{◌≡◌, ◌<◌, ◌≤◌, ◌++◌, [], ◌∷◌, true, refl, ap, sym, ◌∙◌, subst, arith, length, map, take, drop, if◌then◌else◌, append-nil}
 use Rattle.std.proofs.lemmas.List.{drop-map, length-map, take-map, take_all}
-use Rattle.wide_unit.specs.Items.{IsWellFormed, chars, items}
-use Rattle.wide_unit.specs.Lossy.{lossy_after}
-use Rattle.wide_unit.specs.Segmentation.{Fault}
-use Rattle.wide_unit.specs.Utf8.{utf8}
+use Rattle.wide_forms.specs.Items.{IsWellFormed, chars, items}
+use Rattle.wide_forms.specs.Lossy.{lossy_after}
+use Rattle.wide_forms.specs.Segmentation.{Fault}
+use Rattle.wide_forms.specs.Utf8.{utf8}
 use Rattle.wide_conversions.proofs.LossyFaults.{lossy-fault, lossy-valid}
 use Rattle.widestring_c.proofs.Buffers.{Puts, nothing_yet, one_more, after_more, counted_all, written_all}
 use Rattle.widestring_c.proofs.Chunks.{lossy_units_end, replacement, three_texts}

@@ -1,7 +1,7 @@
 use Rattle.std.proofs.Common.{◌≡◌, length, map, drop}
-use Rattle.wide_unit.specs.Items.{items}
-use Rattle.wide_unit.specs.Lossy.{lossy_after}
-use Rattle.wide_unit.specs.Utf8.{utf8}
+use Rattle.wide_forms.specs.Items.{items}
+use Rattle.wide_forms.specs.Lossy.{lossy_after}
+use Rattle.wide_forms.specs.Utf8.{utf8}
 use Rattle.widestring_c.proofs.Buffers.{Puts}
 use Rattle.widestring_c.proofs.to_utf8.put_lossy_after.Given as goal
 

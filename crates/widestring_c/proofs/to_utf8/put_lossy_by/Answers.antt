@@ -1,8 +1,8 @@
 use Rattle.std.proofs.Common.{ap, ◌∙◌, arith, length, map}
 use Rattle.std.proofs.lemmas.List.{length-map}
-use Rattle.wide_unit.specs.Items.{items}
-use Rattle.wide_unit.specs.Utf8.{utf8}
-use Rattle.wide_unit.specs.Laws.Policies.{lossy_after-none}
+use Rattle.wide_forms.specs.Items.{items}
+use Rattle.wide_forms.specs.Utf8.{utf8}
+use Rattle.wide_forms.specs.Laws.Policies.{lossy_after-none}
 use Rattle.widestring_c.proofs.Fits.{bytes-lossy_by}
 use Rattle.widestring_c.proofs.to_utf8.put_lossy_by.Goals as goal
 

@@ -1,11 +1,11 @@
 use Rattle.std.proofs.Common.{◌≡◌, ℕ, List, ap, sym, ◌∙◌, subst, arith, length, map, take}
 use Rattle.std.proofs.lemmas.List.{map-id}
-use Rattle.wide_unit.specs.EncodingForm.{Utf16, encode}
-use Rattle.wide_unit.specs.Items.{IsWellFormed, chars, items}
-use Rattle.wide_unit.specs.Lossy.{lossy}
-use Rattle.wide_unit.specs.Utf8.{utf8}
-use Rattle.wide_unit.specs.Laws.Lossy.{scalars-lossy, well_formed-lossy}
-use Rattle.wide_unit.specs.Laws.Offsets.{chars-encode}
+use Rattle.wide_forms.specs.EncodingForm.{Utf16, encode}
+use Rattle.wide_forms.specs.Items.{IsWellFormed, chars, items}
+use Rattle.wide_forms.specs.Lossy.{lossy}
+use Rattle.wide_forms.specs.Utf8.{utf8}
+use Rattle.wide_forms.specs.Laws.Lossy.{scalars-lossy, well_formed-lossy}
+use Rattle.wide_forms.specs.Laws.Offsets.{chars-encode}
 use Rattle.widestring_c.proofs.to_utf8.put_repaired.Goals as goal
 
 -- repaired units are the units of the lossy text

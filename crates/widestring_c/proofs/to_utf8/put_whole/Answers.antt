@@ -1,5 +1,5 @@
 use Rattle.std.proofs.Common.{ap, arith, length}
-use Rattle.wide_unit.specs.EncodingForm.{Utf16}
+use Rattle.wide_forms.specs.EncodingForm.{Utf16}
 use Rattle.widestring_c.proofs.Fits.{bytes-well_formed}
 use Rattle.widestring_c.proofs.to_utf8.put_whole.Goals as goal
 

@@ -1,9 +1,9 @@
 use Rattle.std.proofs.Common.{◌≡◌, arith, ap, sym, ◌∙◌, length}
-use Rattle.wide_unit.specs.EncodingForm.{Utf16}
-use Rattle.wide_unit.specs.Items.{chars, items}
-use Rattle.wide_unit.specs.Lossy.{lossy}
-use Rattle.wide_unit.specs.Laws.Lossy.{lossy-well_formed}
-use Rattle.wide_unit.specs.Utf8.{utf8}
+use Rattle.wide_forms.specs.EncodingForm.{Utf16}
+use Rattle.wide_forms.specs.Items.{chars, items}
+use Rattle.wide_forms.specs.Lossy.{lossy}
+use Rattle.wide_forms.specs.Laws.Lossy.{lossy-well_formed}
+use Rattle.wide_forms.specs.Utf8.{utf8}
 use Rattle.widestring_c.proofs.to_utf8.wide_utf16_to_utf8_lossy.Goals as goal
 
 pub returns-in-Some-clause-len : goal.returns-in-Some-clause-len

@@ -1,7 +1,7 @@
 use Rattle.std.proofs.Common.{◌≡◌, ap, ◌∙◌, rules}
 use Rattle.std.proofs.lemmas.Iterator.Consumers.{map_from_collect}
-use Rattle.wide_unit.specs.EncodingForm.{Utf16}
-use Rattle.wide_unit.specs.Items.{items}
+use Rattle.wide_forms.specs.EncodingForm.{Utf16}
+use Rattle.wide_forms.specs.Items.{items}
 use Rattle.wide_unit.specs.Unit.{reported_item}
 use Rattle.wide_iter.specs.Source.{inner_of}
 use Rattle.wide_iter.specs.Decoder16.{items_left, source_of}

@@ -1,7 +1,7 @@
 use Rattle.std.proofs.Common.{◌≡◌, ap, ◌∙◌}
 use Rattle.std.specs.Vec.Iter.{into_iter_items}
-use Rattle.wide_unit.specs.Items.{items}
-use Rattle.wide_unit.specs.EncodingForm.{Utf16}
+use Rattle.wide_forms.specs.Items.{items}
+use Rattle.wide_forms.specs.EncodingForm.{Utf16}
 use Rattle.wide_unit.specs.Unit.{reported_item}
 use Rattle.wide_iter.specs.Decoder16.{items_left}
 use Rattle.wide_iter.proofs.Sources.{vec_gives_first}

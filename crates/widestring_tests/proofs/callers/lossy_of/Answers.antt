@@ -1,8 +1,8 @@
 use Rattle.std.proofs.Common.{◌≡◌, ap, ◌∙◌}
 use Rattle.std.proofs.lemmas.Iterator.{items_from_collect}
-use Rattle.wide_unit.specs.EncodingForm.{Utf16}
-use Rattle.wide_unit.specs.Items.{items}
-use Rattle.wide_unit.specs.Lossy.{lossy}
+use Rattle.wide_forms.specs.EncodingForm.{Utf16}
+use Rattle.wide_forms.specs.Items.{items}
+use Rattle.wide_forms.specs.Lossy.{lossy}
 use Rattle.wide_iter.specs.Lossy.{lossy16_left}
 use Rattle.wide_iter.proofs.Runs.{YieldsList-over}
 use Rattle.widestring_tests.proofs.callers.lossy_of.Goals as goal

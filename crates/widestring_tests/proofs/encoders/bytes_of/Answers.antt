@@ -1,6 +1,6 @@
 use Rattle.std.proofs.Common.{rules, ◌≡◌, ap, ◌∙◌}
 use Rattle.std.proofs.lemmas.Iterator.{items_from_collect}
-use Rattle.wide_unit.specs.Utf8.{utf8}
+use Rattle.wide_forms.specs.Utf8.{utf8}
 use Rattle.wide_iter.specs.Sources.{copied_rest}
 use Rattle.wide_iter.specs.Encoder8.{bytes_left}
 use Rattle.wide_iter.proofs.Sources.{copied_gives_first}

@@ -1,6 +1,6 @@
 use Rattle.std.proofs.Common.{◌≡◌, ap, ◌∙◌}
 use Rattle.std.specs.Vec.Iter.{into_iter_items}
-use Rattle.wide_unit.specs.EncodingForm.{Utf32, encode}
+use Rattle.wide_forms.specs.EncodingForm.{Utf32, encode}
 use Rattle.wide_iter.specs.Encoder32.{units_left}
 use Rattle.wide_iter.proofs.Sources.{vec_gives_last}
 use Rattle.wide_iter.proofs.Runs.{last_shown}

@@ -1,7 +1,7 @@
 use Rattle.std.proofs.Common.{rules, ◌≡◌, ap, ◌∙◌}
 use Rattle.std.proofs.lemmas.Iterator.{items_from_collect}
 use Rattle.std.specs.Str.{chars}
-use Rattle.wide_unit.specs.EncodingForm.{Utf16, encode}
+use Rattle.wide_forms.specs.EncodingForm.{Utf16, encode}
 use Rattle.wide_iter.specs.Sources.{text_rest}
 use Rattle.wide_iter.specs.Encoder16.{units_left}
 use Rattle.wide_iter.proofs.Sources.{text_gives_first}

@@ -2,7 +2,7 @@ use Rattle.std.proofs.Common.{◌≡◌, ◌≤◌, ◌++◌}
 use Rattle.std.specs.Prelude.{string_bytes}
 use Rattle.std.specs.Char.Escape.{escape_default}
 use Rattle.std.specs.Char.Iter.{escape_rest, escape_end}
-use Rattle.wide_unit.specs.Utf8.{utf8}
+use Rattle.wide_forms.specs.Utf8.{utf8}
 use Rattle.widetext_command.proofs.edit_lines.push_escape.Given as goal
 
 abbrev pub invariant-loop-escape : goal.invariant-loop-escape

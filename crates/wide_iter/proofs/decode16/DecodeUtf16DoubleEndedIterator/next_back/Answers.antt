@@ -1,4 +1,4 @@
-use Rattle.wide_unit.specs.EncodingForm.{Utf16}
+use Rattle.wide_forms.specs.EncodingForm.{Utf16}
 use Rattle.wide_iter.proofs.Steps.{none_left, last_char, last_pair, last_no_low, last_at_front, last_apart}
 use Rattle.wide_iter.proofs.Hands.{put_back}
 use Rattle.wide_iter.proofs.decode16.DecodeUtf16DoubleEndedIterator.next_back.Goals as goal

@@ -1,4 +1,4 @@
-use Rattle.wide_unit.specs.EncodingForm.{Utf16}
+use Rattle.wide_forms.specs.EncodingForm.{Utf16}
 use Rattle.wide_iter.proofs.Steps.{none_left, first_char, first_pair, first_no_high, first_at_end, first_apart}
 use Rattle.wide_iter.proofs.Hands.{put_front}
 use Rattle.wide_iter.proofs.decode16.DecodeUtf16Iterator.next.Goals as goal

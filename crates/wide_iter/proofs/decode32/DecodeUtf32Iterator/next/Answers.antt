@@ -1,5 +1,5 @@
 use Rattle.std.proofs.Common.{rules, Some}
-use Rattle.wide_unit.specs.EncodingForm.{Utf32}
+use Rattle.wide_forms.specs.EncodingForm.{Utf32}
 use Rattle.wide_iter.proofs.Ended.{unasked_first}
 use Rattle.wide_iter.proofs.Steps.{none_left, first_unit32}
 use Rattle.wide_iter.proofs.decode32.DecodeUtf32Iterator.next.Goals as goal

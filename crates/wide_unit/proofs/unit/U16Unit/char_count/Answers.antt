@@ -1,6 +1,6 @@
 use Rattle.std.proofs.Common.{ℕ, ◌-◌, List, sym, ◌∙◌, ap, length, count_by}
 use Rattle.std.proofs.lemmas.List.{map-id}
-use Rattle.wide_unit.specs.Searches.{is_low}
+use Rattle.wide_forms.specs.Searches.{is_low}
 use Rattle.wide_unit.proofs.Counts.{length-chars16}
 use Rattle.wide_unit.proofs.unit.U16Unit.char_count.Goals as goal
 

@@ -1,4 +1,4 @@
-use Rattle.wide_unit.specs.EncodingForm.{Utf32}
+use Rattle.wide_forms.specs.EncodingForm.{Utf32}
 use Rattle.wide_unit.proofs.Whole.{chars-none}
 use Rattle.wide_unit.proofs.unit.U32Unit.leading_pairs.Goals as goal
 

@@ -1,8 +1,8 @@
 use Rattle.std.proofs.Common.{◌∙◌, ℕ, List, sym, ap, length, take}
 use Rattle.std.proofs.lemmas.List.{map-id}
-use Rattle.wide_unit.specs.EncodingForm.{Utf32, encode}
-use Rattle.wide_unit.specs.Items.{items}
-use Rattle.wide_unit.specs.Lossy.{lossy}
+use Rattle.wide_forms.specs.EncodingForm.{Utf32, encode}
+use Rattle.wide_forms.specs.Items.{items}
+use Rattle.wide_forms.specs.Lossy.{lossy}
 use Rattle.wide_unit.proofs.unit.U32Unit.repair.Goals as goal
 
 pub returns-clause-units : goal.returns-clause-units

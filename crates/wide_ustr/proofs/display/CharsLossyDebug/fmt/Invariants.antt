@@ -1,5 +1,5 @@
 use Rattle.std.proofs.Common.{map}
-use Rattle.wide_unit.specs.Segmentation.{Char}
+use Rattle.wide_forms.specs.Segmentation.{Char}
 use Rattle.wide_unit.proofs.Debugged.{HasQuoted}
 use Rattle.wide_ustr.specs.Iter.{lossy_left}
 use Rattle.wide_ustr.proofs.display.CharsLossyDebug.fmt.Given as goal

@@ -1,6 +1,6 @@
 use Rattle.std.proofs.Common.{map, ap, refl, true, subst}
 use Rattle.std.specs.Fmt.{HasWritten}
-use Rattle.wide_unit.specs.Segmentation.{Char}
+use Rattle.wide_forms.specs.Segmentation.{Char}
 use Rattle.wide_unit.proofs.Debugged.{quoted-more, quoted-all, escape-bytes}
 use Rattle.wide_unit.proofs.Printed.{plain-of_styled}
 use Rattle.wide_ustr.specs.LossyWith.{lossy_with_left}

@@ -1,6 +1,6 @@
 use Rattle.std.proofs.Common.{◌++◌, ap, ◌∙◌, encode_utf8, refl, true}
-use Rattle.wide_unit.specs.Utf8.{utf8}
-use Rattle.wide_unit.specs.Laws.Utf8.{utf8_bytes-encode_utf8}
+use Rattle.wide_forms.specs.Utf8.{utf8}
+use Rattle.wide_forms.specs.Laws.Utf8.{utf8_bytes-encode_utf8}
 use Rattle.wide_unit.proofs.Printed.{styled-none, styled-more, styled-all, plain-of_styled}
 use Rattle.wide_ustr.specs.Iter.{lossy_left}
 use Rattle.wide_ustr.proofs.display.DisplayDisplay.fmt.Goals as goal

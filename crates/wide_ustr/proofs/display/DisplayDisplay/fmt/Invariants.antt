@@ -1,7 +1,7 @@
 use Rattle.std.proofs.Common.{map}
 use Rattle.std.specs.Fmt.{IsFlush}
-use Rattle.wide_unit.specs.Texts.{display_text}
-use Rattle.wide_unit.specs.Utf8.{utf8}
+use Rattle.wide_forms.specs.Texts.{display_text}
+use Rattle.wide_forms.specs.Utf8.{utf8}
 use Rattle.wide_unit.proofs.Printed.{HasPrintedStyled}
 use Rattle.wide_ustr.specs.Iter.{lossy_left}
 use Rattle.wide_ustr.proofs.display.DisplayDisplay.fmt.Given as goal

@@ -1,8 +1,8 @@
 use Rattle.std.proofs.Common.{◌++◌, ap, ◌∙◌, encode_utf8, refl, true}
 use Rattle.std.specs.List.{filter}
-use Rattle.wide_unit.specs.Texts.{is_kept}
-use Rattle.wide_unit.specs.Utf8.{utf8}
-use Rattle.wide_unit.specs.Laws.Utf8.{utf8_bytes-encode_utf8}
+use Rattle.wide_forms.specs.Texts.{is_kept}
+use Rattle.wide_forms.specs.Utf8.{utf8}
+use Rattle.wide_forms.specs.Laws.Utf8.{utf8_bytes-encode_utf8}
 use Rattle.wide_unit.proofs.Kept.{kept-yes, kept-no}
 use Rattle.wide_unit.proofs.Printed.{styled-none, styled-more, styled-same, styled-all, plain-of_styled}
 use Rattle.wide_ustr.specs.Iter.{lossy_left}

@@ -1,8 +1,8 @@
 use Rattle.std.proofs.Common.{map}
 use Rattle.std.specs.Fmt.{IsFlush}
 use Rattle.std.specs.List.{filter}
-use Rattle.wide_unit.specs.Texts.{is_kept, skipping_text}
-use Rattle.wide_unit.specs.Utf8.{utf8}
+use Rattle.wide_forms.specs.Texts.{is_kept, skipping_text}
+use Rattle.wide_forms.specs.Utf8.{utf8}
 use Rattle.wide_unit.proofs.Printed.{HasPrintedStyled}
 use Rattle.wide_ustr.specs.Iter.{lossy_left}
 use Rattle.wide_ustr.proofs.display.DisplaySkippingDisplay.fmt.Given as goal

@@ -1,7 +1,7 @@
 use Rattle.std.proofs.Common.{◌∷◌, map, ap, ◌∙◌, refl, true, subst, rules}
 use Rattle.std.specs.Fmt.{HasWritten}
-use Rattle.wide_unit.specs.Segmentation.{Char, Fault}
-use Rattle.wide_unit.specs.Items.{items}
+use Rattle.wide_forms.specs.Segmentation.{Char, Fault}
+use Rattle.wide_forms.specs.Items.{items}
 use Rattle.wide_unit.specs.Unit.{item_of}
 use Rattle.wide_unit.proofs.Debugged.{quoted-more, quoted-all, escape-bytes}
 use Rattle.wide_unit.proofs.Printed.{plain-of_styled}

@@ -1,5 +1,5 @@
 use Rattle.std.proofs.Common.{map, length}
-use Rattle.wide_unit.specs.Items.{items}
+use Rattle.wide_forms.specs.Items.{items}
 use Rattle.wide_unit.proofs.Debugged.{HasQuoted}
 use Rattle.wide_ustr.proofs.display.UStrDebug.fmt.Given as goal
 

@@ -1,8 +1,8 @@
 use Rattle.std.proofs.Common.{◌≡◌, ◌∷◌, ◌++◌, [], map, ap, ◌∙◌, arith}
 use Rattle.std.proofs.lemmas.List.{append-nil}
-use Rattle.wide_unit.specs.Segmentation.{Char, Fault}
-use Rattle.wide_unit.specs.Items.{items, characters}
-use Rattle.wide_unit.specs.Laws.Policies.{characters-append}
+use Rattle.wide_forms.specs.Segmentation.{Char, Fault}
+use Rattle.wide_forms.specs.Items.{items, characters}
+use Rattle.wide_forms.specs.Laws.Policies.{characters-append}
 use Rattle.wide_unit.specs.Unit.{item_of}
 use Rattle.wide_ustr.proofs.lossy_with.CharsLossyWith.last_character.Goals as goal
 

@@ -1,6 +1,6 @@
 use Rattle.std.proofs.Common.{◌++◌, ap, ◌∙◌, arith}
-use Rattle.wide_unit.specs.Offsets.{text_of}
-use Rattle.wide_unit.specs.Utf8.{utf8}
+use Rattle.wide_forms.specs.Offsets.{text_of}
+use Rattle.wide_forms.specs.Utf8.{utf8}
 use Rattle.wide_ustr.specs.LossyWith.{lossy_with_left}
 use Rattle.wide_ustr.proofs.LossyChunks.{written_on}
 use Rattle.wide_ustr.proofs.lossy_with.CharsLossyWith.push_to.Goals as goal

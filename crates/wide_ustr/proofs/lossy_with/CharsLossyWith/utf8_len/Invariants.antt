@@ -1,5 +1,5 @@
 use Rattle.std.proofs.Common.{◌≡◌, ◌≤◌, ◌+◌, ◌-◌, ◌^◌, length, min}
-use Rattle.wide_unit.specs.Utf8.{utf8}
+use Rattle.wide_forms.specs.Utf8.{utf8}
 use Rattle.wide_ustr.specs.LossyWith.{lossy_with_left}
 use Rattle.wide_ustr.proofs.lossy_with.CharsLossyWith.utf8_len.Given as goal
 

@@ -1,6 +1,6 @@
 use Rattle.std.proofs.Common.{◌≡◌, ◌∷◌, ◌++◌, [], map, ap, ◌∙◌}
-use Rattle.wide_unit.specs.Segmentation.{Char, Fault}
-use Rattle.wide_unit.specs.Items.{items}
+use Rattle.wide_forms.specs.Segmentation.{Char, Fault}
+use Rattle.wide_forms.specs.Items.{items}
 use Rattle.wide_unit.specs.Unit.{item_of}
 use Rattle.wide_ustr.proofs.FaultRuns.{last_char, run_next_back}
 use Rattle.wide_ustr.proofs.lossy_with.CharsLossyWithDoubleEndedIterator.next_back.Goals as goal

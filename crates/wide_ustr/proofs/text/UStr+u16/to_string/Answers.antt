@@ -1,8 +1,8 @@
 use Rattle.std.proofs.Common.{ap, ◌∙◌}
 use Rattle.std.proofs.lemmas.List.{map-id}
-use Rattle.wide_unit.specs.EncodingForm.{Utf16}
-use Rattle.wide_unit.specs.Items.{chars}
-use Rattle.wide_unit.specs.Utf8.{utf8}
+use Rattle.wide_forms.specs.EncodingForm.{Utf16}
+use Rattle.wide_forms.specs.Items.{chars}
+use Rattle.wide_forms.specs.Utf8.{utf8}
 use Rattle.wide_ustr.specs.View.{units_seen}
 use Rattle.wide_ustr.proofs.text.UStr+u16.to_string.Goals as goal
 

@@ -1,9 +1,9 @@
 use Rattle.std.proofs.Common.{◌≡◌, ◌++◌, ap, map, ◌∙◌}
 use Rattle.std.specs.Str.{chars}
-use Rattle.wide_unit.specs.EncodingForm.{encode}
-use Rattle.wide_unit.specs.Items.{chars as text_chars}
-use Rattle.wide_unit.specs.Utf8.{utf8}
-use Rattle.wide_unit.specs.Laws.Texts.{text-back}
+use Rattle.wide_forms.specs.EncodingForm.{encode}
+use Rattle.wide_forms.specs.Items.{chars as text_chars}
+use Rattle.wide_forms.specs.Utf8.{utf8}
+use Rattle.wide_forms.specs.Laws.Texts.{text-back}
 use Rattle.wide_ustring.proofs.ustring.UString.from_str.Goals as goal
 
 pub returns-clause-read_back : goal.returns-clause-read_back

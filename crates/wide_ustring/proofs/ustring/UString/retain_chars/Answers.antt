@@ -1,5 +1,5 @@
 use Rattle.std.proofs.Common.{arith, of_calls, ◌<◌, ◌∙◌, refl, sym, ap, subst, length, map, drop}
-use Rattle.wide_unit.specs.Items.{IsWellFormed}
+use Rattle.wide_forms.specs.Items.{IsWellFormed}
 use Rattle.wide_ustring.proofs.CharFilters.{begins, ends, keeps, drops, asks}
 use Rattle.wide_ustring.proofs.ustring.UString.retain_chars.Goals as goal
 

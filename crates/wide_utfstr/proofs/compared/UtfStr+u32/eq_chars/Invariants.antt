@@ -1,5 +1,5 @@
 use Rattle.std.proofs.Common.{drop}
-use Rattle.wide_unit.specs.EncodingForm.{Utf32}
+use Rattle.wide_forms.specs.EncodingForm.{Utf32}
 use Rattle.wide_utfstr.specs.View.{text_seen}
 use Rattle.wide_utfstr.specs.Iter.{chars_left}
 use Rattle.wide_utfstr.proofs.Same.{IsSameAs}

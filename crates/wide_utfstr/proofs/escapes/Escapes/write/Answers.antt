@@ -3,8 +3,8 @@ use Rattle.std.proofs.lemmas.Bool.{and_parts}
 use Rattle.std.proofs.lemmas.List.Concat.{flat_map-append}
 use Rattle.std.specs.Char.Iter.{escape_rest}
 use Rattle.std.specs.List.{flat_map, list_all}
-use Rattle.wide_unit.specs.Utf8.{utf8, utf8_bytes}
-use Rattle.wide_unit.specs.Laws.Utf8.{utf8-encode_utf8_all}
+use Rattle.wide_forms.specs.Utf8.{utf8, utf8_bytes}
+use Rattle.wide_forms.specs.Laws.Utf8.{utf8-encode_utf8_all}
 use Rattle.wide_unit.proofs.Printed.{styled-none, styled-more, styled-all, plain-of_styled}
 use Rattle.wide_utfstr.specs.Pending.{pending_rest}
 use Rattle.wide_utfstr.specs.Iter.{chars_left}

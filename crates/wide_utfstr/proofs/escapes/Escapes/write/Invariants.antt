@@ -1,7 +1,7 @@
 use Rattle.std.proofs.Common.{◌≡◌, true}
 use Rattle.std.specs.Fmt.{IsFlush}
 use Rattle.std.specs.List.{flat_map, list_all}
-use Rattle.wide_unit.specs.Utf8.{utf8}
+use Rattle.wide_forms.specs.Utf8.{utf8}
 use Rattle.wide_unit.proofs.Printed.{HasPrintedStyled}
 use Rattle.wide_utfstr.specs.Iter.{chars_left}
 use Rattle.wide_utfstr.specs.Escapes.{escapes_rest, escapes_left}

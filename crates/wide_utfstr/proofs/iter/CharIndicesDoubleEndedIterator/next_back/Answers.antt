@@ -1,5 +1,5 @@
 use Rattle.std.proofs.Common.{refl, sym, ap, ◌∙◌, ◌+◌, ◌++◌, ◌∷◌, [], map}
-use Rattle.wide_unit.specs.Items.{chars}
+use Rattle.wide_forms.specs.Items.{chars}
 use Rattle.wide_utfstr.specs.Indexed.{indexed_chars}
 use Rattle.wide_utfstr.proofs.IndexedLemmas.{indexed_chars-last}
 use Rattle.wide_utfstr.proofs.iter.CharIndicesDoubleEndedIterator.next_back.Goals as goal

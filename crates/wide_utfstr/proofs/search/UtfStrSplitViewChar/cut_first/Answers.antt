@@ -1,6 +1,6 @@
 use Rattle.std.proofs.Common.{map}
-use Rattle.wide_unit.specs.EncodingForm.{code_units}
-use Rattle.wide_unit.specs.Laws.Forms.{some_units}
+use Rattle.wide_forms.specs.EncodingForm.{code_units}
+use Rattle.wide_forms.specs.Laws.Forms.{some_units}
 use Rattle.wide_search.specs.Laws.Cuts.{substrings-none, substrings-first, split-at}
 use Rattle.wide_utfstr.specs.View.{units_seen}
 use Rattle.wide_utfstr.proofs.search.UtfStrSplitViewChar.cut_first.Goals as goal

@@ -2,10 +2,10 @@ use Rattle.std.proofs.Common.{◌≡◌, ◌∷◌, [], ℕ, List, map, length, 
 use Rattle.std.specs.Char.{IsScalar}
 use Rattle.std.proofs.lemmas.List.{map-id}
 use Rattle.std.proofs.lemmas.Option.{slice_get-get_or}
-use Rattle.wide_unit.specs.EncodingForm.{Utf32}
-use Rattle.wide_unit.specs.Items.{IsWellFormed}
-use Rattle.wide_unit.specs.Laws.Utf32.{chars32-well_formed}
-use Rattle.wide_unit.specs.Laws.Offsets.{scalars-chars}
+use Rattle.wide_forms.specs.EncodingForm.{Utf32}
+use Rattle.wide_forms.specs.Items.{IsWellFormed}
+use Rattle.wide_forms.specs.Laws.Utf32.{chars32-well_formed}
+use Rattle.wide_forms.specs.Laws.Offsets.{scalars-chars}
 use Rattle.wide_utfstr.proofs.view.UtfStr+u32.char_at.Goals as goal
 
 well32 : (us : List ℕ) → IsWellFormed Utf32 (map (λ u. u) us) → IsWellFormed Utf32 us

@@ -1,5 +1,5 @@
 use Rattle.std.proofs.Common.{map, sym, subst}
-use Rattle.wide_unit.specs.Items.{IsWellFormed}
+use Rattle.wide_forms.specs.Items.{IsWellFormed}
 use Rattle.wide_utfstr.proofs.view.UtfStr.as_ustr.Goals as goal
 
 pub returns-clause-well_formed : goal.returns-clause-well_formed

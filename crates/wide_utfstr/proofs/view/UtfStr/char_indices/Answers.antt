@@ -1,5 +1,5 @@
 use Rattle.std.proofs.Common.{[], ap, map, refl}
-use Rattle.wide_unit.specs.Items.{chars}
+use Rattle.wide_forms.specs.Items.{chars}
 use Rattle.wide_utfstr.proofs.Indices.{boundaries_from, indices_in_order, indices_in_reverse}
 use Rattle.wide_utfstr.proofs.view.UtfStr.char_indices.Goals as goal
 

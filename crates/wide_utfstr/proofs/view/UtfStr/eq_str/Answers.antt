@@ -1,8 +1,8 @@
 use Rattle.std.proofs.Common.{◌≡◌, ◌↔◌, ◌++◌, ap, sym, ◌∙◌, map, length, take, drop, subst, arith}
 use Rattle.std.specs.Str.{chars as str_chars}
-use Rattle.wide_unit.specs.Items.{chars}
-use Rattle.wide_unit.specs.Utf8.{utf8}
-use Rattle.wide_unit.specs.Laws.Offsets.{scalars-chars}
+use Rattle.wide_forms.specs.Items.{chars}
+use Rattle.wide_forms.specs.Utf8.{utf8}
+use Rattle.wide_forms.specs.Laws.Offsets.{scalars-chars}
 use Rattle.wide_conversions.proofs.Utf8Texts.{no_text}
 use Rattle.wide_utfstr.specs.View.{text_seen}
 use Rattle.wide_utfstr.proofs.SameChunks.{same_bytes, same_after, no_longer_same, same_at_end}

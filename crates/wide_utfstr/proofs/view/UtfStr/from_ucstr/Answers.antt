@@ -1,6 +1,6 @@
 use Rattle.std.proofs.Common.{map, subst, ◌↔◌}
 use Rattle.std.specs.Prelude.{OnOk, IsOk}
-use Rattle.wide_unit.specs.Items.{IsWellFormed}
+use Rattle.wide_forms.specs.Items.{IsWellFormed}
 use Rattle.wide_utfstr.proofs.view.UtfStr.from_ucstr.Goals as goal
 
 pub returns-clause-ok : goal.returns-clause-ok

@@ -1,5 +1,5 @@
 use Rattle.std.proofs.Common.{map, sym, subst}
-use Rattle.wide_unit.specs.Items.{IsWellFormed}
+use Rattle.wide_forms.specs.Items.{IsWellFormed}
 use Rattle.wide_utfstr.proofs.view.UtfStr.from_ucstr_unchecked.Goals as goal
 
 pub from_slice_unchecked-requires : goal.from_slice_unchecked-requires

@@ -1,7 +1,7 @@
 use Rattle.std.proofs.Common.{map, subst, ◌↔◌, arith}
 use Rattle.std.proofs.lemmas.Grind.{common_steps}
 use Rattle.std.specs.Prelude.{OnOk, IsOk}
-use Rattle.wide_unit.specs.Items.{IsWellFormed}
+use Rattle.wide_forms.specs.Items.{IsWellFormed}
 use Rattle.wide_utfstr.proofs.view.UtfStr.from_ustr.Goals as goal
 
 pub returns-clause-ok : goal.returns-clause-ok

@@ -1,7 +1,7 @@
 use Rattle.std.proofs.Common.{◌≡◌, ◌+◌, ◌≤◌, length, map, subst, sym, ap, ◌∙◌, ◌++◌, arith, length-drop}
 use Rattle.std.proofs.lemmas.List.{length-map, map-append}
 use Rattle.std.proofs.lemmas.Bool.{eqb-true}
-use Rattle.wide_unit.specs.Offsets.{IsOffsetOf}
+use Rattle.wide_forms.specs.Offsets.{IsOffsetOf}
 use Rattle.wide_utfstr.proofs.Walk.{IsLeftFrom, left-prefix, left-all, left-offset}
 use Rattle.wide_utfstr.proofs.view.UtfStr.is_offset_of_itself.Goals.{After-char_count}
 use Rattle.wide_utfstr.proofs.view.UtfStr.is_offset_of_itself.Goals as goal

@@ -1,6 +1,6 @@
 use Rattle.std.proofs.Common.{rules, IfSome, map}
 use Rattle.std.proofs.lemmas.Option.{IfSome_then}
-use Rattle.wide_unit.specs.EncodingForm.{code_units}
+use Rattle.wide_forms.specs.EncodingForm.{code_units}
 use Rattle.wide_search.specs.Occurrences.{IsLastAt}
 use Rattle.wide_search.proofs.Texts.{char-ends}
 use Rattle.wide_utfstr.specs.View.{units_seen}

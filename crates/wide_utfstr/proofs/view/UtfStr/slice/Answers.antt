@@ -1,7 +1,7 @@
 use Rattle.std.proofs.Common.{map, arith}
 use Rattle.std.proofs.lemmas.Grind.{common_steps}
 use Rattle.wide_unit.proofs.CharBoundaries.{IsTextRange-of_chars}
-use Rattle.wide_unit.specs.Laws.Splices.{IsWellFormed-map_part}
+use Rattle.wide_forms.specs.Laws.Splices.{IsWellFormed-map_part}
 use Rattle.wide_utfstr.proofs.view.UtfStr.slice.Goals as goal
 
 pub invariant_of-result : goal.invariant_of-result

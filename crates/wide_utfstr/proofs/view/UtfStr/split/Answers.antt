@@ -3,7 +3,7 @@ use Rattle.std.specs.Prelude.{map}
 use Rattle.std.proofs.lemmas.List.{nil_from_length}
 use Rattle.wide_search.specs.Substrings.{AreSubstrings}
 use Rattle.wide_search.specs.Laws.Cuts.{substrings-cut, substrings-empty}
-use Rattle.wide_unit.specs.UnitBytes.{unit_width}
+use Rattle.wide_forms.specs.UnitBytes.{unit_width}
 use Rattle.wide_ustr.proofs.SubstringCounts.{substrings-most, substrings-fit}
 use Rattle.wide_utfstr.specs.View.{units_seen}
 use Rattle.wide_utfstr.proofs.view.UtfStr.split.Goals as goal

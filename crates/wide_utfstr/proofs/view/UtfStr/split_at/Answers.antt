@@ -1,7 +1,7 @@
 use Rattle.std.proofs.Common.{map, sym, subst}
 use Rattle.wide_unit.proofs.CharBoundaries.{IsBoundary-of_char}
-use Rattle.wide_unit.specs.Items.{IsWellFormed}
-use Rattle.wide_unit.specs.Laws.Splices.{IsWellFormed-map_take, IsWellFormed-map_drop}
+use Rattle.wide_forms.specs.Items.{IsWellFormed}
+use Rattle.wide_forms.specs.Laws.Splices.{IsWellFormed-map_take, IsWellFormed-map_drop}
 use Rattle.wide_utfstr.proofs.Boundary.{boundary-within}
 use Rattle.wide_utfstr.proofs.view.UtfStr.split_at.Goals as goal
 

@@ -1,9 +1,9 @@
 use Rattle.std.proofs.Common.{◌*◌, sym, ◌∙◌, subst, map, ap, arith, length}
-use Rattle.wide_unit.specs.EncodingForm.{code_units}
-use Rattle.wide_unit.specs.Laws.Forms.{some_units}
+use Rattle.wide_forms.specs.EncodingForm.{code_units}
+use Rattle.wide_forms.specs.Laws.Forms.{some_units}
 use Rattle.wide_search.specs.Cut.{substrings-are}
 use Rattle.wide_search.specs.Substrings.{AreSubstrings}
-use Rattle.wide_unit.specs.UnitBytes.{unit_width}
+use Rattle.wide_forms.specs.UnitBytes.{unit_width}
 use Rattle.wide_ustr.proofs.SubstringCounts.{substrings-most, substrings-fit}
 use Rattle.wide_utfstr.specs.View.{units_seen}
 use Rattle.wide_utfstr.proofs.view.UtfStr.split_char.Goals as goal

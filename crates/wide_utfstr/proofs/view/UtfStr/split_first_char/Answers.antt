@@ -1,7 +1,7 @@
 use Rattle.std.proofs.Common.{◌∷◌, ap, ◌∙◌, map}
-use Rattle.wide_unit.specs.Items.{items}
+use Rattle.wide_forms.specs.Items.{items}
 use Rattle.wide_unit.specs.Unit.{item_of}
-use Rattle.wide_unit.specs.Laws.WellFormed.{no_first_fault, well_formed-rest}
+use Rattle.wide_forms.specs.Laws.WellFormed.{no_first_fault, well_formed-rest}
 use Rattle.wide_utfstr.proofs.view.UtfStr.split_first_char.Goals as goal
 
 pub invariant_of-result : goal.invariant_of-result

@@ -1,5 +1,5 @@
 use Rattle.std.proofs.Common.{refl, sym, subst, map}
-use Rattle.wide_unit.specs.Offsets.{IsCharBoundary}
+use Rattle.wide_forms.specs.Offsets.{IsCharBoundary}
 use Rattle.wide_search.proofs.Texts.{begins-end}
 use Rattle.wide_utfstr.specs.View.{units_seen}
 use Rattle.wide_utfstr.proofs.view.UtfStr.strip_prefix.Goals as goal

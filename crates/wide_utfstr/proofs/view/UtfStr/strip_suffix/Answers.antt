@@ -1,5 +1,5 @@
 use Rattle.std.proofs.Common.{◌≡◌, ◌-◌, refl, sym, ◌∙◌, ap, subst, map, length}
-use Rattle.wide_unit.specs.Offsets.{IsCharBoundary}
+use Rattle.wide_forms.specs.Offsets.{IsCharBoundary}
 use Rattle.wide_search.proofs.Texts.{ends-start}
 use Rattle.wide_utfstr.specs.View.{units_seen}
 use Rattle.wide_utfstr.proofs.view.UtfStr.strip_suffix.Goals as goal

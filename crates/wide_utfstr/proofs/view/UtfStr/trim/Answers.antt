@@ -1,5 +1,5 @@
 use Rattle.std.proofs.Common.{map}
-use Rattle.wide_unit.specs.Items.{chars}
+use Rattle.wide_forms.specs.Items.{chars}
 use Rattle.wide_utfstr.proofs.Trims.{trimmed-both, middle-both}
 use Rattle.wide_utfstr.proofs.view.UtfStr.trim.Goals as goal
 

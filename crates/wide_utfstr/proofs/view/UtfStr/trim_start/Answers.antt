@@ -1,6 +1,6 @@
 use Rattle.std.proofs.Common.{◌≡◌, true, rules, length}
 use Rattle.std.specs.Char.{is_whitespace}
-use Rattle.wide_unit.specs.EncodingForm.{code_units}
+use Rattle.wide_forms.specs.EncodingForm.{code_units}
 use Rattle.wide_utfstr.specs.View.{text_seen}
 use Rattle.wide_utfstr.proofs.Trims.{past-more, back-more}
 use Rattle.wide_utfstr.proofs.view.UtfStr.trim_start.Goals as goal

@@ -1,8 +1,8 @@
 use Rattle.std.proofs.Common.{◌≡◌, ℕ, ◌+◌, ◌-◌, ◌<◌, ◌≤◌, ◌↔◌, Option, Some, None, IsSome, List, map, take, length, length-take, refl, subst, sym, ap, ◌∙◌, ◌++◌, arith}
 use Rattle.std.proofs.lemmas.List.{length-map, map-append}
-use Rattle.wide_unit.specs.EncodingForm.{EncodingForm}
-use Rattle.wide_unit.specs.Items.{chars, IsWellFormed}
-use Rattle.wide_unit.specs.Offsets.{IsOffsetOf, IsCharBoundary}
+use Rattle.wide_forms.specs.EncodingForm.{EncodingForm}
+use Rattle.wide_forms.specs.Items.{chars, IsWellFormed}
+use Rattle.wide_forms.specs.Offsets.{IsOffsetOf, IsCharBoundary}
 use Rattle.wide_unit.proofs.CharBoundaries.{IsCharBoundary-of}
 use Rattle.wide_utfstr.proofs.Walk.{left-prefix, left-all, left-count, left-none, left-more, left-shorter, left-offset}
 use Rattle.wide_utfstr.proofs.Boundary.{boundary_near}

@@ -1,4 +1,4 @@
-use Rattle.wide_unit.specs.Laws.Splices.{IsWellFormed-nil}
+use Rattle.wide_forms.specs.Laws.Splices.{IsWellFormed-nil}
 use Rattle.wide_utfstr.proofs.view.UtfStrDefault.default.Goals as goal
 
 pub invariant_of-result : goal.invariant_of-result

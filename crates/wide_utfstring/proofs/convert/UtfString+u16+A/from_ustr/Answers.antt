@@ -1,7 +1,7 @@
 use Rattle.std.proofs.Common.{arith}
 use Rattle.std.proofs.lemmas.Grind.{common_steps}
 use Rattle.std.proofs.lemmas.Result.{err_from_is_err_and}
-use Rattle.wide_unit.specs.EncodingForm.{Utf16}
+use Rattle.wide_forms.specs.EncodingForm.{Utf16}
 use Rattle.wide_utfstring.proofs.Copies.{fault-of_copy}
 use Rattle.wide_utfstring.proofs.convert.UtfString+u16+A.from_ustr.Goals as goal
 

@@ -1,5 +1,5 @@
 use Rattle.std.proofs.Common.{sym, ap, arith, length, map, slice_range, subst}
-use Rattle.wide_unit.specs.Items.{IsWellFormed}
+use Rattle.wide_forms.specs.Items.{IsWellFormed}
 use Rattle.wide_utfstring.proofs.iter.DrainUtf.as_utfstr.Goals as goal
 
 pub from_slice_unchecked-requires : goal.from_slice_unchecked-requires

@@ -1,6 +1,6 @@
 use Rattle.std.proofs.Common.{◌≡◌, [], ◌∙◌, ap, sym, arith, subst, length, map, slice_range}
 use Rattle.std.specs.List.{splice}
-use Rattle.wide_unit.specs.Items.{IsWellFormed}
+use Rattle.wide_forms.specs.Items.{IsWellFormed}
 use Rattle.wide_utfstring.proofs.Drained.{gone_or_same}
 use Rattle.wide_utfstring.proofs.iter.DrainUtf.drop.Goals as goal
 use Rattle.wide_utfstring.proofs.iter.DrainUtf.drop.Goals.{then-len-total, else-len-total}

@@ -1,7 +1,7 @@
 use Rattle.std.proofs.Common.{sym, ◌∙◌, ap, length, map}
 use Rattle.std.proofs.lemmas.List.{length-map}
 use Rattle.wide_utfstr.specs.View.{units_seen}
-use Rattle.wide_unit.specs.Laws.Utf32.{chars32-well_formed}
+use Rattle.wide_forms.specs.Laws.Utf32.{chars32-well_formed}
 use Rattle.wide_utfstring.proofs.iter.DrainUtfU32ExactSizeIterator.len.Goals as goal
 
 pub returns-clause-value : goal.returns-clause-value

@@ -1,8 +1,8 @@
 use Rattle.std.proofs.Common.{◌≡◌, ◌∷◌, [], ◌++◌, length, length-append, map, ap, sym, subst, ◌∙◌, arith, append_assoc}
 use Rattle.std.proofs.lemmas.List.{append-nil, map-id}
-use Rattle.wide_unit.specs.EncodingForm.{Utf32}
-use Rattle.wide_unit.specs.Items.{chars, IsWellFormed}
-use Rattle.wide_unit.specs.Laws.Utf32.{chars32-well_formed}
+use Rattle.wide_forms.specs.EncodingForm.{Utf32}
+use Rattle.wide_forms.specs.Items.{chars, IsWellFormed}
+use Rattle.wide_forms.specs.Laws.Utf32.{chars32-well_formed}
 use Rattle.wide_utfstr.specs.Iter.{chars_left}
 use Rattle.wide_utfstring.proofs.Units32.{well32}
 use Rattle.wide_utfstring.proofs.utfstring.UtfString+u32+A.copy_chars.Goals as goal

@@ -1,5 +1,5 @@
 use Rattle.std.proofs.Common.{◌≡◌, ◌+◌, ◌≤◌, ◌++◌, length, vec_capacity}
-use Rattle.wide_unit.specs.EncodingForm.{Utf32}
+use Rattle.wide_forms.specs.EncodingForm.{Utf32}
 use Rattle.wide_utfstr.specs.Iter.{chars_left}
 use Rattle.wide_utfstring.proofs.utfstring.UtfString+u32+A.copy_chars.Given as goal
 

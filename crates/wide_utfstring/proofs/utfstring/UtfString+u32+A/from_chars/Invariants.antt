@@ -1,6 +1,6 @@
 use Rattle.std.proofs.Common.{◌≡◌, take}
-use Rattle.wide_unit.specs.EncodingForm.{Utf32}
-use Rattle.wide_unit.specs.Items.{chars}
+use Rattle.wide_forms.specs.EncodingForm.{Utf32}
+use Rattle.wide_forms.specs.Items.{chars}
 use Rattle.wide_utfstring.proofs.utfstring.UtfString+u32+A.from_chars.Given as goal
 
 abbrev pub invariant-loop-c : goal.invariant-loop-c

@@ -1,7 +1,7 @@
 use Rattle.std.proofs.Common.{◌≡◌, ◌<◌, length, length-set, map, set, ap, sym, subst, ◌∙◌}
 use Rattle.std.proofs.lemmas.List.{map-id}
-use Rattle.wide_unit.specs.EncodingForm.{Utf32}
-use Rattle.wide_unit.specs.Items.{chars, IsWellFormed}
+use Rattle.wide_forms.specs.EncodingForm.{Utf32}
+use Rattle.wide_forms.specs.Items.{chars, IsWellFormed}
 use Rattle.wide_utfstring.proofs.Units32.{well32, set-well_formed, set-chars, refill_all}
 use Rattle.wide_utfstring.proofs.utfstring.UtfString+u32+A.set_char.Goals as goal
 

@@ -1,4 +1,4 @@
-use Rattle.wide_unit.specs.Laws.Splices.{IsWellFormed-nil}
+use Rattle.wide_forms.specs.Laws.Splices.{IsWellFormed-nil}
 use Rattle.wide_utfstring.proofs.utfstring.UtfString.clear.Goals as goal
 
 pub invariant_of-self : goal.invariant_of-self

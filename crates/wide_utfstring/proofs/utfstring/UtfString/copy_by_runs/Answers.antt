@@ -1,7 +1,7 @@
 use Rattle.std.proofs.Common.{◌≡◌, ◌++◌, take, map, ap, sym, ◌∙◌, arith}
-use Rattle.wide_unit.specs.EncodingForm.{code_units}
-use Rattle.wide_unit.specs.Items.{IsWellFormed}
-use Rattle.wide_unit.specs.Laws.Policies.{encode-lossy_by}
+use Rattle.wide_forms.specs.EncodingForm.{code_units}
+use Rattle.wide_forms.specs.Items.{IsWellFormed}
+use Rattle.wide_forms.specs.Laws.Policies.{encode-lossy_by}
 use Rattle.std.proofs.lemmas.List.{map-append}
 use Rattle.wide_utfstring.proofs.Lossies.{prefix_well_formed, lossy_run, fewer_items, with_one, with_none}
 use Rattle.wide_utfstring.proofs.utfstring.UtfString.copy_by_runs.Goals.{in-Run+in_ok-push, in_default-policy}

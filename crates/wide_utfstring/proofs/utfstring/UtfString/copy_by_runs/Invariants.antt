@@ -1,8 +1,8 @@
 use Rattle.std.proofs.Common.{◌≡◌, ◌<◌, ◌≤◌, ◌++◌, map, length}
 use Rattle.std.specs.Prelude.{OnOk, IfErr}
-use Rattle.wide_unit.specs.EncodingForm.{encode}
-use Rattle.wide_unit.specs.Items.{items, IsWellFormed, IsFirstFault}
-use Rattle.wide_unit.specs.Lossy.{lossy_by}
+use Rattle.wide_forms.specs.EncodingForm.{encode}
+use Rattle.wide_forms.specs.Items.{items, IsWellFormed, IsFirstFault}
+use Rattle.wide_forms.specs.Lossy.{lossy_by}
 use Rattle.wide_utfstring.proofs.utfstring.UtfString.copy_by_runs.Given as goal
 
 -- The loop invariant: the text copied so far and the lossy text of the rest make up the whole lossy text, and `found`

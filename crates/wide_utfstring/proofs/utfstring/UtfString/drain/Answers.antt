@@ -1,8 +1,8 @@
 use Rattle.std.proofs.Common.{◌≡◌, ◌≤◌, [], ◌∙◌, ap, sym, arith, subst, length, map}
 use Rattle.std.proofs.lemmas.List.{length-map}
 use Rattle.std.specs.Range.Bound.{end_index}
-use Rattle.wide_unit.specs.Items.{IsWellFormed, IsBoundary}
-use Rattle.wide_unit.specs.Laws.Splices.{IsWellFormed-map_part, IsWellFormed-map_splice, IsWellFormed-nil}
+use Rattle.wide_forms.specs.Items.{IsWellFormed, IsBoundary}
+use Rattle.wide_forms.specs.Laws.Splices.{IsWellFormed-map_part, IsWellFormed-map_splice, IsWellFormed-nil}
 use Rattle.wide_unit.proofs.CharBoundaries.{IsTextRange-of_chars}
 use Rattle.wide_utfstring.proofs.Drains.{drain_in_order, drain_in_reverse, drain_stays}
 use Rattle.wide_utfstring.proofs.utfstring.UtfString.drain.Goals as goal

@@ -1,4 +1,4 @@
-use Rattle.wide_unit.specs.Laws.Texts.{IsWellFormed-text, chars-text}
+use Rattle.wide_forms.specs.Laws.Texts.{IsWellFormed-text, chars-text}
 use Rattle.wide_utfstring.proofs.utfstring.UtfString.from_str.Goals as goal
 
 pub invariant_of-result : goal.invariant_of-result

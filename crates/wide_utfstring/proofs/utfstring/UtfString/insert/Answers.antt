@@ -1,12 +1,12 @@
 use Rattle.std.proofs.Common.{map, ap, ◌∙◌, arith}
 use Rattle.std.specs.List.{splice}
 use Rattle.std.proofs.lemmas.List.{length-map}
-use Rattle.wide_unit.specs.EncodingForm.{code_units}
-use Rattle.wide_unit.specs.Items.{chars, IsBoundary}
-use Rattle.wide_unit.specs.Offsets.{chars_before}
-use Rattle.wide_unit.specs.Laws.Ends.{IsWellFormed-code_units}
-use Rattle.wide_unit.specs.Laws.Offsets.{IsBoundary-within}
-use Rattle.wide_unit.specs.Laws.Splices.{IsWellFormed-splice, chars-splice, chars-code_units}
+use Rattle.wide_forms.specs.EncodingForm.{code_units}
+use Rattle.wide_forms.specs.Items.{chars, IsBoundary}
+use Rattle.wide_forms.specs.Offsets.{chars_before}
+use Rattle.wide_forms.specs.Laws.Ends.{IsWellFormed-code_units}
+use Rattle.wide_forms.specs.Laws.Offsets.{IsBoundary-within}
+use Rattle.wide_forms.specs.Laws.Splices.{IsWellFormed-splice, chars-splice, chars-code_units}
 use Rattle.wide_unit.proofs.CharBoundaries.{IsBoundary-of_char}
 use Rattle.wide_utfstring.proofs.Edits.{kept, on_ok}
 use Rattle.wide_utfstring.proofs.utfstring.UtfString.insert.Goals as goal

@@ -1,10 +1,10 @@
 use Rattle.std.proofs.Common.{map, ap, ◌∙◌, arith}
 use Rattle.std.specs.List.{splice}
 use Rattle.std.proofs.lemmas.List.{length-map}
-use Rattle.wide_unit.specs.Items.{chars, IsBoundary}
-use Rattle.wide_unit.specs.Offsets.{chars_before}
-use Rattle.wide_unit.specs.Laws.Offsets.{IsBoundary-within}
-use Rattle.wide_unit.specs.Laws.Splices.{IsWellFormed-map_splice, chars-map_splice}
+use Rattle.wide_forms.specs.Items.{chars, IsBoundary}
+use Rattle.wide_forms.specs.Offsets.{chars_before}
+use Rattle.wide_forms.specs.Laws.Offsets.{IsBoundary-within}
+use Rattle.wide_forms.specs.Laws.Splices.{IsWellFormed-map_splice, chars-map_splice}
 use Rattle.wide_ustr.specs.View.{units_seen}
 use Rattle.wide_unit.proofs.CharBoundaries.{IsBoundary-of_char}
 use Rattle.wide_utfstring.proofs.Edits.{kept, on_ok}

@@ -1,8 +1,8 @@
 use Rattle.std.proofs.Common.{◌≡◌, [], ◌∷◌, ◌++◌, map, length, take, sym, ap, ◌∙◌}
-use Rattle.wide_unit.specs.Segmentation.{Char}
-use Rattle.wide_unit.specs.Items.{items, characters, IsWellFormed}
+use Rattle.wide_forms.specs.Segmentation.{Char}
+use Rattle.wide_forms.specs.Items.{items, characters, IsWellFormed}
 use Rattle.wide_unit.specs.Unit.{item_of}
-use Rattle.wide_unit.specs.Laws.WellFormed.{no_last_fault, well_formed-prefix, characters-push}
+use Rattle.wide_forms.specs.Laws.WellFormed.{no_last_fault, well_formed-prefix, characters-push}
 use Rattle.wide_utfstring.proofs.utfstring.UtfString.pop.Goals as goal
 
 pub unreachable-requires : goal.unreachable-requires

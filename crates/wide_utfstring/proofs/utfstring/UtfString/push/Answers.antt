@@ -1,8 +1,8 @@
 use Rattle.std.proofs.Common.{◌++◌, map, ap, ◌∙◌}
-use Rattle.wide_unit.specs.EncodingForm.{code_units}
-use Rattle.wide_unit.specs.Items.{chars}
-use Rattle.wide_unit.specs.Laws.Ends.{IsWellFormed-code_units}
-use Rattle.wide_unit.specs.Laws.Splices.{IsWellFormed-append, chars-append, chars-code_units}
+use Rattle.wide_forms.specs.EncodingForm.{code_units}
+use Rattle.wide_forms.specs.Items.{chars}
+use Rattle.wide_forms.specs.Laws.Ends.{IsWellFormed-code_units}
+use Rattle.wide_forms.specs.Laws.Splices.{IsWellFormed-append, chars-append, chars-code_units}
 use Rattle.wide_utfstring.proofs.Edits.{kept, on_ok}
 use Rattle.wide_utfstring.proofs.utfstring.UtfString.push.Goals as goal
 

@@ -1,9 +1,9 @@
 use Rattle.std.proofs.Common.{◌++◌, map, ap, ◌∙◌}
 use Rattle.std.specs.Str.{chars as str_chars}
-use Rattle.wide_unit.specs.EncodingForm.{encode}
-use Rattle.wide_unit.specs.Items.{chars}
-use Rattle.wide_unit.specs.Laws.Splices.{IsWellFormed-append, chars-append}
-use Rattle.wide_unit.specs.Laws.Texts.{IsWellFormed-text, chars-text}
+use Rattle.wide_forms.specs.EncodingForm.{encode}
+use Rattle.wide_forms.specs.Items.{chars}
+use Rattle.wide_forms.specs.Laws.Splices.{IsWellFormed-append, chars-append}
+use Rattle.wide_forms.specs.Laws.Texts.{IsWellFormed-text, chars-text}
 use Rattle.wide_utfstring.proofs.Edits.{kept, on_ok}
 use Rattle.wide_utfstring.proofs.utfstring.UtfString.push_str.Goals as goal
 

@@ -1,7 +1,7 @@
 use Rattle.std.proofs.Common.{◌++◌, map, ap, ◌∙◌}
 use Rattle.std.proofs.lemmas.List.{map-append}
-use Rattle.wide_unit.specs.Items.{chars}
-use Rattle.wide_unit.specs.Laws.Splices.{chars-append}
+use Rattle.wide_forms.specs.Items.{chars}
+use Rattle.wide_forms.specs.Laws.Splices.{chars-append}
 use Rattle.wide_ustr.specs.View.{units_seen}
 use Rattle.wide_utfstring.proofs.Edits.{joined, kept, on_ok}
 use Rattle.wide_utfstring.proofs.utfstring.UtfString.push_utfstr.Goals as goal

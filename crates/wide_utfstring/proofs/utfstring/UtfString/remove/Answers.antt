@@ -1,6 +1,6 @@
 use Rattle.std.proofs.Common.{map, drop}
-use Rattle.wide_unit.specs.Items.{IsBoundary}
-use Rattle.wide_unit.specs.Laws.Offsets.{IsWellFormed-drop}
+use Rattle.wide_forms.specs.Items.{IsBoundary}
+use Rattle.wide_forms.specs.Laws.Offsets.{IsWellFormed-drop}
 use Rattle.wide_unit.proofs.CharBoundaries.{IsBoundary-of_char}
 use Rattle.wide_utfstring.proofs.Removed.{taken-scalar, removed-well_formed, removed-units, removed-text, removed-taken, taken_of_map, prefix_of_map}
 use Rattle.wide_utfstring.proofs.utfstring.UtfString.remove.Goals as goal

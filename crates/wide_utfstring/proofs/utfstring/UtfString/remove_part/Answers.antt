@@ -1,6 +1,6 @@
 use Rattle.std.proofs.Common.{◌≡◌, [], sym, ◌∙◌, ap, map, subst}
 use Rattle.std.specs.List.{splice}
-use Rattle.wide_unit.specs.Items.{IsWellFormed}
+use Rattle.wide_forms.specs.Items.{IsWellFormed}
 use Rattle.wide_utfstring.proofs.utfstring.UtfString.remove_part.Goals as goal
 
 pub invariant_of-self : goal.invariant_of-self

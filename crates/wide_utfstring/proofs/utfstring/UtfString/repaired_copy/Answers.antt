@@ -1,10 +1,10 @@
 use Rattle.std.proofs.Common.{◌≡◌, ◌++◌, ◌∙◌, ◌-◌, replicate, sym, ap, subst, length, take, arith, map}
 use Rattle.std.proofs.lemmas.List.{take-append-drop}
 use Rattle.std.specs.Prelude.{vec_len}
-use Rattle.wide_unit.specs.EncodingForm.{encode}
-use Rattle.wide_unit.specs.Items.{items, IsWellFormed}
-use Rattle.wide_unit.specs.Lossy.{lossy}
-use Rattle.wide_unit.specs.Laws.Lossy.{well_formed-lossy}
+use Rattle.wide_forms.specs.EncodingForm.{encode}
+use Rattle.wide_forms.specs.Items.{items, IsWellFormed}
+use Rattle.wide_forms.specs.Lossy.{lossy}
+use Rattle.wide_forms.specs.Laws.Lossy.{well_formed-lossy}
 use Rattle.wide_utfstring.proofs.Lossies.{taken_back, repaired_text}
 use Rattle.wide_utfstring.proofs.utfstring.UtfString.repaired_copy.Given.{Over}
 use Rattle.wide_utfstring.proofs.utfstring.UtfString.repaired_copy.Goals as goal

@@ -1,9 +1,9 @@
 use Rattle.std.proofs.Common.{map, ap, ◌∙◌, arith}
 use Rattle.std.proofs.lemmas.Grind.{common_steps}
 use Rattle.std.specs.List.{splice}
-use Rattle.wide_unit.specs.Items.{chars}
-use Rattle.wide_unit.specs.Offsets.{chars_before, IsTextRange}
-use Rattle.wide_unit.specs.Laws.Splices.{IsWellFormed-map_splice, chars-map_splice}
+use Rattle.wide_forms.specs.Items.{chars}
+use Rattle.wide_forms.specs.Offsets.{chars_before, IsTextRange}
+use Rattle.wide_forms.specs.Laws.Splices.{IsWellFormed-map_splice, chars-map_splice}
 use Rattle.wide_ustr.specs.View.{units_seen}
 use Rattle.wide_ustring.specs.Units.{ustring_len}
 use Rattle.std.specs.Range.Bound.{start_index, end_index}

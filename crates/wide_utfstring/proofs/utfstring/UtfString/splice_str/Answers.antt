@@ -2,11 +2,11 @@ use Rattle.std.proofs.Common.{map, ap, ◌∙◌, arith}
 use Rattle.std.specs.List.{splice}
 use Rattle.std.specs.Str.{chars as str_chars}
 use Rattle.std.proofs.lemmas.List.{length-map}
-use Rattle.wide_unit.specs.EncodingForm.{encode}
-use Rattle.wide_unit.specs.Items.{chars}
-use Rattle.wide_unit.specs.Offsets.{chars_before, IsTextRange}
-use Rattle.wide_unit.specs.Laws.Splices.{IsWellFormed-splice, chars-splice}
-use Rattle.wide_unit.specs.Laws.Texts.{IsWellFormed-text, chars-text}
+use Rattle.wide_forms.specs.EncodingForm.{encode}
+use Rattle.wide_forms.specs.Items.{chars}
+use Rattle.wide_forms.specs.Offsets.{chars_before, IsTextRange}
+use Rattle.wide_forms.specs.Laws.Splices.{IsWellFormed-splice, chars-splice}
+use Rattle.wide_forms.specs.Laws.Texts.{IsWellFormed-text, chars-text}
 use Rattle.wide_unit.proofs.CharBoundaries.{IsTextRange-of_chars}
 use Rattle.wide_utfstring.proofs.Edits.{kept, on_ok}
 use Rattle.wide_utfstring.proofs.utfstring.UtfString.splice_str.Goals as goal

@@ -1,7 +1,7 @@
 use Rattle.std.proofs.Common.{map, inr, arith}
 use Rattle.std.proofs.lemmas.List.{length-map}
-use Rattle.wide_unit.specs.Laws.Offsets.{IsBoundary-within}
-use Rattle.wide_unit.specs.Laws.Splices.{IsWellFormed-map_take, IsWellFormed-map_drop}
+use Rattle.wide_forms.specs.Laws.Offsets.{IsBoundary-within}
+use Rattle.wide_forms.specs.Laws.Splices.{IsWellFormed-map_take, IsWellFormed-map_drop}
 use Rattle.wide_unit.proofs.CharBoundaries.{IsBoundary-of_char}
 use Rattle.wide_utfstring.proofs.Edits.{prefix_text, rest_text}
 use Rattle.wide_utfstring.proofs.utfstring.UtfString.split_off.Goals as goal

@@ -1,4 +1,4 @@
-use Rattle.wide_unit.specs.Laws.Splices.{IsWellFormed-nil}
+use Rattle.wide_forms.specs.Laws.Splices.{IsWellFormed-nil}
 use Rattle.wide_utfstring.proofs.utfstring.UtfString.with_capacity.Goals as goal
 
 pub invariant_of-result : goal.invariant_of-result

@@ -1,0 +1,14 @@
+pub mod EncodingForm
+pub mod Utf8
+pub mod CodePoint
+pub mod Segmentation
+pub mod Items
+pub mod Range
+pub mod Offsets
+pub mod Lossy
+pub mod Lines
+pub mod Texts
+pub mod UnitBytes
+pub mod Searches
+pub mod Statements
+pub mod Laws

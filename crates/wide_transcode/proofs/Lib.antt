@@ -1,0 +1,11 @@
+pub mod Certain
+pub mod Encodings
+pub mod Finish
+pub mod Pending
+pub mod Lossied
+pub mod LossyEnds
+pub mod Boms
+pub mod ChunkEnds
+mod Characters
+pub mod Sofar
+pub mod UnitsPending
