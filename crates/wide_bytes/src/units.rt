@@ -5,6 +5,7 @@ ghost use Rattle.std.specs.List.{ends_with};
 ghost use Rattle.wide_bytes.specs.Bytes.{units_in, units_of_bytes, without_bom};
 ghost use Rattle.wide_bytes.specs.UnitsOfBytes.{units_left};
 
+use super::bom::without_bom;
 use super::order::{BoM, byte_order};
 use super::units_from_bytes::unit_in;
 
@@ -44,17 +45,6 @@ impl Iterator for UnitsOfBytes<'_> {
     {
         let len = self.bytes.len() / 2;
         (len, Some(len))
-    }
-}
-
-/// Returns the bytes after the BOM, or all bytes if there is none (Unicode Standard, section 23.8).
-pub fn without_bom(bytes: &[u8]) -> &[u8]
-    ensures { result.now ≡ without_bom bytes.now }
-{
-    if byte_order(bytes).is_some() {
-        &bytes[2..]
-    } else {
-        bytes
     }
 }
 

@@ -4,8 +4,9 @@ ghost use Rattle.wide_bytes.specs.Bytes.{half_of, is_odd, bom_of, order_of, unit
 ghost use Rattle.wide_bytes.specs.UnitsOfBytes.{units_left};
 ghost use Rattle.wide_bytes.specs.Utf16OfBytes.{whole_bytes};
 
+use crate::bom::without_bom;
 use crate::order::{BoM, byte_order};
-use crate::units::{UnitsOfBytes, units_in, without_bom};
+use crate::units::{UnitsOfBytes, units_in};
 
 /// The BOM, the code units and the half unit of UTF-16 in bytes. [`utf16_of_bytes`] creates it. The Rust crate has no
 /// such type.

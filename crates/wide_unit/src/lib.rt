@@ -30,3 +30,4 @@ pub use split::{split_first, split_last};
 pub use unit::Unit;
 pub use utf8::{length_as_utf16, length_as_utf32, next_code_point};
 pub use validation::{FirstFault, check};
+pub use wide_forms::Policy;

@@ -1,10 +1,11 @@
 //! Tests of the callers at concrete units.
 use crate::all_hold::all_hold;
 use crate::callers::{
-    Front, all_of, all_of_prefix, all_of_source, all_of32, first_of, last_lossy_of32, last_of,
-    lossy_of, lossy_of16, text_of,
+    all_of, all_of_prefix, all_of_source, all_of32, first_of, last_lossy_of32, last_of, lossy_of,
+    lossy_of16, text_of,
 };
 use crate::encoders::{bytes_of, last_unit_of, units_of};
+use crate::front::Front;
 use std::test::Fail;
 use widestring::error::DecodeUtf16Error;
 

@@ -1,6 +1,6 @@
 //! Callers at concrete sources, whose contracts follow from those of the library.
 ghost use Rattle.std.specs.Prelude.{◌≡◌, ℕ, [], IfOk, MatchOption, List, map, ◌∷◌, ◌++◌};
-ghost use Rattle.std.specs.Iterator.{IsFinite, YieldsFirst, item_count};
+ghost use Rattle.std.specs.Iterator.{IsFinite};
 ghost use Rattle.widestring.specs.Over.{GivesFirst};
 ghost use Rattle.widestring.specs.EncodingForm.{Utf16, Utf32, IsCodeUnit};
 ghost use Rattle.widestring.specs.Items.{items};
@@ -11,6 +11,7 @@ ghost use Rattle.widestring_tests.specs.Front.{prefix_rest};
 ghost use Rattle.widestring.specs.Transcoded.{transcoded, Clean};
 ghost use Rattle.wide_transcode.specs.declared.mode.Mode.TheVariants.{Strict};
 
+use crate::front::Front;
 use std::alloc::{AllocError, Global};
 use widestring::bytes::{FromRead, FromWrite, Mode, transcode};
 use widestring::error::{DecodeUtf16Error, DecodeUtf32Error, TranscodeError};
@@ -77,27 +78,6 @@ pub fn all_of_source<I: Iterator<Item = u16>>(
     ensures { (rest : I → List ℕ) → GivesFirst (IsCodeUnit Utf16) I.next_gives rest → IfOk result (λ v. map reported_item v.items ≡ items Utf16 (rest units)) }
 {
     decode_utf16(units).collect(alloc)
-}
-
-/// The units of a slice, from the front: a manually written source.
-#[derive(Clone, Copy, Debug)]
-pub struct Front<'a> {
-    /// The units that are left.
-    pub rest: &'a [u16],
-}
-
-impl Iterator for Front<'_> {
-    type Item = u16;
-
-    ghost next_gives = { YieldsFirst prefix_rest };
-
-    ghost remaining = { item_count prefix_rest };
-
-    fn next(&mut self) -> Option<u16> {
-        let (first, others) = self.rest.split_first()?;
-        self.rest = others;
-        Some(*first)
-    }
 }
 
 /// Returns all items of the units that a manually written source yields.

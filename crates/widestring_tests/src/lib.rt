@@ -13,7 +13,8 @@ mod all_hold;
 mod alternate_tests;
 #[cfg(test)]
 mod caller_tests;
-pub mod callers;
+#[cfg(test)]
+mod callers;
 #[cfg(test)]
 mod capacity_tests;
 #[cfg(test)]
@@ -28,9 +29,11 @@ mod device_tests;
 mod edit_failure_tests;
 #[cfg(test)]
 mod edit_script_tests;
-pub mod encoders;
+#[cfg(test)]
+mod encoders;
 #[cfg(test)]
 mod error_tests;
+pub mod front;
 #[cfg(test)]
 mod law_tests;
 #[cfg(test)]
