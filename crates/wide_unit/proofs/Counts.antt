@@ -1,14 +1,11 @@
 -- The number of characters in well-formed units.
-use Rattle.std.proofs.Common.{◌≡◌, ℕ, ◌+◌, ◌-◌, ◌*◌, ◌/◌, ◌<◌, ◌≤◌, Bool, true, false, List, [], ◌∷◌, inl, inr, refl, sym, ◌∙◌, ap, subst, arith, suc, cond, get_or, take, drop, length, length-append, count_by, sum_by}
-use Rattle.std.specs.Char.{IsScalar}
-use Rattle.std.proofs.lemmas.Bool.{cases_lt}
+use Rattle.std.proofs.Common.{◌≡◌, ℕ, ◌+◌, ◌-◌, ◌*◌, ◌/◌, ◌<◌, Bool, List, [], sym, ◌∙◌, ap, subst, arith, cond, get_or, take, drop, length, count_by}
 use Rattle.std.proofs.lemmas.List.Sums.{sum_by-append, sum_by-take-drop}
 use Rattle.std.proofs.Math.Seq.{take-add}
 use Rattle.std.specs.Simd.{first_chunks}
-use Rattle.wide_forms.specs.EncodingForm.{Utf16, Utf32, code_units, encode}
+use Rattle.wide_forms.specs.EncodingForm.{Utf16, Utf32, encode}
 use Rattle.wide_forms.specs.Items.{chars, IsWellFormed}
 use Rattle.wide_forms.specs.Searches.{is_low}
-use Rattle.wide_forms.specs.Laws.Forms.{ranges, one_unit, two_units, high_of, low_of}
 use Rattle.wide_forms.specs.Laws.Offsets.{scalars-chars, encode-chars}
 use Rattle.wide_forms.specs.Laws.LowSurrogates.{low-encode}
 use Rattle.wide_unit.proofs.Lengths.{length-encode_utf32}

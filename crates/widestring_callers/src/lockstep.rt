@@ -1,11 +1,11 @@
 //! Edits as data: of one text, of two with the same characters in two encodings, and of a text with an offset index.
-ghost use Rattle.std.specs.Prelude.{◌≡◌, ◌<◌, ◌≤◌, ◌↔◌, [], ◌∷◌, length, take, map, IsSome, IfSome, IfOk, IfErr, OnOk, OnErr};
+ghost use Rattle.std.specs.Prelude.{◌≡◌, ◌<◌, ◌≤◌, ◌+◌, ◌↔◌, [], ◌∷◌, length, take, map, IsSome, IfSome, IfOk, IfErr, OnOk, OnErr};
 ghost use Rattle.std.specs.Str.{chars as str_chars};
 ghost use Rattle.widestring.specs.EncodingForm.{Utf16, Utf32, encode};
 ghost use Rattle.widestring.specs.Items.{chars};
 ghost use Rattle.widestring.specs.Step.{step, meaning, answer_of, Done, Char, BadPlace};
 ghost use Rattle.widestring.specs.Counted.{AddsAtMost};
-ghost use Rattle.widestring.specs.Marks.{marked_text, marks_of};
+ghost use Rattle.widestring.specs.Marks.{marked_text, marks_of, units_after};
 
 use std::alloc::Global;
 use widestring::edit::{Edit, Marked16, Reply, Steps, Stopped, TextEdit, run, run_both};
@@ -181,4 +181,23 @@ pub fn entries_after<'a>(
     let space = marked.prepare(alloc, edit)?;
     marked.apply(edit, space);
     Ok(marked.marks())
+}
+
+/// Makes one edit of a string with an offset index, and counts the steps of it: at most 512, and the units after the
+/// last index entry that is not past the edit.
+///
+/// # Errors
+///
+/// [`OutOfMemory`] if the allocation fails.
+pub fn edit_counted(
+    alloc: Global,
+    marked: &mut Marked16,
+    edit: Edit<'_>,
+    steps: &mut Steps,
+) -> Result<Reply, OutOfMemory>
+    ensures text { OnOk result (marked_text marked.new ≡ (step (marked_text marked.old) edit.entry).0) }
+    ensures steps { OnOk result (AddsAtMost steps.old steps.new (512 + units_after (marked_text marked.old) (marked_text marked.new) edit.entry)) }
+{
+    let space = marked.prepare(alloc, edit)?;
+    Ok(marked.apply_counted(edit, space, steps))
 }
