@@ -3,12 +3,15 @@
 mod chars32;
 mod drain;
 mod edits;
+mod outcomes;
 mod pieces;
 mod text_calls;
+mod text_items;
 mod ucstring;
 mod ucstring_calls;
 mod ustring;
 mod ustring_calls;
+mod ustring_items;
 mod utfstring;
 
 use widestring_replay::Suite;

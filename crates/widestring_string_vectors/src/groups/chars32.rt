@@ -8,7 +8,9 @@
 //! - `v` for the vector of the text's characters, made from a text with a spare capacity of three units.
 //!
 //! The answer is the units, and after a `#` the number of requests.
+use crate::groups::outcomes::finished;
 use crate::groups::ucstring::copied;
+use crate::groups::{text_calls, ustring_calls};
 use widestring::{U32CString, U32String, Utf32String};
 use widestring_replay::parse::{self, Memory, NoAnswer};
 use widestring_replay::show::Answer;
@@ -17,8 +19,10 @@ use widestring_testing::Heap;
 // Returns the text of characters, with spare capacity.
 fn text<'a>(heap: &'a Heap, chars: &[char]) -> Result<Utf32String<&'a Heap>, NoAnswer> {
     let mut text = Utf32String::with_capacity(heap, chars.len().saturating_add(3))?;
-    text.extend_char_refs(chars)?;
-    Ok(text)
+    match text.extend_char_refs(chars) {
+        Ok(()) => Ok(text),
+        Err(_) => Err(NoAnswer::OutOfMemory),
+    }
 }
 
 // Adds the characters of a text. If the copy fails to allocate, the text must be returned unchanged.
@@ -83,27 +87,50 @@ fn lengths(
     Ok(())
 }
 
+// Makes a call of a text of these characters.
+fn of_text<'a>(
+    answer: &mut Answer,
+    mut text: Utf32String<&'a Heap>,
+    chars: &[char],
+    kind: u8,
+    more: &str,
+) -> Result<(), NoAnswer> {
+    match kind {
+        b's' => set(answer, &mut text, more),
+        b'l' => lengths(answer, &mut text, parse::value(more)?),
+        _ => characters(answer, text, chars),
+    }
+}
+
+// Makes a string of characters, and adds its units.
+fn of_chars(
+    heap: &Heap,
+    answer: &mut Answer,
+    chars: &[char],
+    question: &str,
+) -> Result<(), NoAnswer> {
+    match question {
+        "u" => ustring_calls::shown(answer, U32String::from_chars(heap, chars)),
+        "t" => text_calls::shown(answer, Utf32String::from_chars(heap, chars)),
+        "c" => copied(answer, U32CString::from_chars(heap, chars)),
+        "cc" => copied(answer, U32CString::from_chars_truncate(heap, chars)),
+        "c!" if chars.len() <= 1 => copied(answer, U32CString::from_chars_unchecked(heap, chars)),
+        _ => Err(NoAnswer::Unparsed),
+    }
+}
+
 /// Returns the answer to a question about a call by characters.
 pub fn made(memory: Memory<'_>, list: &str, question: &str) -> Result<String, NoAnswer> {
     let heap = memory.heap;
-    let chars = parse::list::<char>(memory.alloc, list)?;
     let (kind, more) = parse::kind(question)?;
-    let mut text = text(heap, &chars)?;
+    let chars = parse::list::<char>(memory.alloc, list)?;
+    let text = text(heap, &chars)?;
     let mut answer = Answer::new(memory.alloc);
     let left = heap.left();
-    match (kind, more) {
-        (b'u', "") => answer.units(U32String::from_chars(heap, &chars)?.as_slice()),
-        (b't', "") => answer.units(Utf32String::from_chars(heap, &chars)?.as_slice()),
-        (b'c', "") => answer = copied(memory, U32CString::from_chars(heap, &chars))?,
-        (b'c', "c") => answer = copied(memory, U32CString::from_chars_truncate(heap, &chars))?,
-        (b'c', "!") if chars.len() <= 1 => {
-            answer = copied(memory, U32CString::from_chars_unchecked(heap, &chars))?;
-        }
-        (b's', _) => set(&mut answer, &mut text, more)?,
-        (b'l', _) => lengths(&mut answer, &mut text, parse::value(more)?)?,
-        (b'v', "") => characters(&mut answer, text, &chars)?,
-        _ => return Err(NoAnswer::Unparsed),
-    }
+    let called = match kind {
+        b's' | b'l' | b'v' => of_text(&mut answer, text, &chars, kind, more),
+        _ => of_chars(heap, &mut answer, &chars, question),
+    };
     answer.requests(memory.requests_since(left));
-    answer.finish()
+    finished(answer, called)
 }

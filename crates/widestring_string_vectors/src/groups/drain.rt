@@ -29,7 +29,7 @@ fn drained<C: FaultUnit>(
             answer.unit(asked!(drain, end));
         }
         let len = drain.as_slice().len();
-        if drain.len() != len || drain.size_hint() != (len, Some(len)) {
+        if (drain.len() != len) | (drain.size_hint() != (len, Some(len))) {
             answer.word("?");
         }
         answer.part();

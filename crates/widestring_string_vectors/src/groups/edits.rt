@@ -15,9 +15,11 @@
 //! of them differ. A question may also be empty.
 use std::alloc::{AllocError, Global};
 use widestring::edit::{Edit, Marked16, Reply, Steps, TextEdit, run, run_both};
+use widestring::error::OutOfMemory;
+use widestring::utfstring::UtfString;
 use widestring::{Utf16String, Utf32String};
 use widestring_replay::parse::{self, NoAnswer};
-use widestring_replay::show::Answer;
+use widestring_replay::show::{Answer, ReportedUnit};
 
 // A parsed edit: its letter, and all arguments that a letter may have: offsets, and characters, also as a text.
 #[derive(Drop)]
@@ -105,39 +107,101 @@ impl Written {
     }
 }
 
+// A text in which edits were made, and their replies.
+#[derive(Drop)]
+struct Edited<T> {
+    text: T,
+    replies: Vec<Reply>,
+}
+
 // Makes all edits in one call. Their replies come after one that was there before, which is then removed.
-fn ran<T: TextEdit>(
+fn run_after_one<T: TextEdit>(
     alloc: Global,
     text: &mut T,
     edits: &[Edit<'_>],
-) -> Result<Vec<Reply>, NoAnswer> {
-    let mut replies = Vec::new(alloc);
+    replies: &mut Vec<Reply>,
+) -> Result<(), NoAnswer> {
     replies.push(Reply::NoChar)?;
-    if run(alloc, text, edits, &mut replies).is_err() {
+    if run(alloc, text, edits, replies).is_err() {
         return Err(NoAnswer::OutOfMemory);
     }
     if replies.first() != Some(&Reply::NoChar) {
         return Err(NoAnswer::Unparsed);
     }
     replies.remove(0);
-    Ok(replies)
+    Ok(())
 }
 
-// Makes runs of edits of two texts, each in one call. Returns `None` if their replies differ.
-fn ran_both<T: TextEdit, U: TextEdit>(
+// Makes all edits of a text in one call.
+fn edit_all<T: TextEdit + Drop>(
+    alloc: Global,
+    text: Result<T, OutOfMemory>,
+    edits: &[Edit<'_>],
+) -> Result<Edited<T>, NoAnswer> {
+    let mut text = text?;
+    let mut replies = Vec::new(alloc);
+    match run_after_one(alloc, &mut text, edits, &mut replies) {
+        Ok(()) => Ok(Edited { text, replies }),
+        Err(error) => Err(error),
+    }
+}
+
+// Makes edits of two texts in one call, and appends the replies of each.
+fn run_together<T: TextEdit, U: TextEdit>(
     alloc: Global,
     first: &mut T,
     second: &mut U,
-    runs: &[&[Edit<'_>]],
-) -> Result<Option<Vec<Reply>>, NoAnswer> {
-    let mut replies = Vec::new(alloc);
-    let mut same = Vec::new(alloc);
-    for edits in runs {
-        let Ok(()) = run_both(alloc, first, second, edits, &mut replies, &mut same) else {
-            return Err(NoAnswer::OutOfMemory);
-        };
+    edits: &[Edit<'_>],
+    ours: &mut Vec<Reply>,
+    theirs: &mut Vec<Reply>,
+) -> Result<(), NoAnswer> {
+    match run_both(alloc, first, second, edits, ours, theirs) {
+        Ok(()) => Ok(()),
+        Err(_) => Err(NoAnswer::OutOfMemory),
     }
-    Ok(if replies == same { Some(replies) } else { None })
+}
+
+// Makes each edit of two texts in a call of its own, and appends the replies of each.
+fn run_one_by_one<T: TextEdit, U: TextEdit>(
+    alloc: Global,
+    first: &mut T,
+    second: &mut U,
+    edits: &[Edit<'_>],
+    ours: &mut Vec<Reply>,
+    theirs: &mut Vec<Reply>,
+) -> Result<(), NoAnswer> {
+    for edit in edits.chunks(1) {
+        run_together(alloc, first, second, edit, ours, theirs)?;
+    }
+    Ok(())
+}
+
+// Returns whether two texts make these replies to edits in one call.
+fn reply_together<T: TextEdit, U: TextEdit>(
+    alloc: Global,
+    first: &mut T,
+    second: &mut U,
+    edits: &[Edit<'_>],
+    replies: &[Reply],
+) -> Result<bool, NoAnswer> {
+    let mut ours = Vec::new(alloc);
+    let mut theirs = Vec::new(alloc);
+    run_together(alloc, first, second, edits, &mut ours, &mut theirs)?;
+    Ok((ours.as_slice() == replies) & (theirs.as_slice() == replies))
+}
+
+// Returns whether two texts make these replies to edits in calls of their own.
+fn reply_one_by_one<T: TextEdit, U: TextEdit>(
+    alloc: Global,
+    first: &mut T,
+    second: &mut U,
+    edits: &[Edit<'_>],
+    replies: &[Reply],
+) -> Result<bool, NoAnswer> {
+    let mut ours = Vec::new(alloc);
+    let mut theirs = Vec::new(alloc);
+    run_one_by_one(alloc, first, second, edits, &mut ours, &mut theirs)?;
+    Ok((ours.as_slice() == replies) & (theirs.as_slice() == replies))
 }
 
 fn marked(alloc: Global, text: &str) -> Result<Marked16, NoAnswer> {
@@ -188,8 +252,8 @@ fn agreed(
     marked: Marked16,
     wide: &Utf32String,
 ) -> Result<String, NoAnswer> {
-    let mut answer = Answer::new(alloc);
     let marks = Vec::from_slice(alloc, marked.marks())?;
+    let mut answer = Answer::new(alloc);
     for reply in replies {
         show(&mut answer, reply);
         answer.part();
@@ -211,93 +275,111 @@ fn disagreed(alloc: Global) -> Result<String, NoAnswer> {
     answer.finish()
 }
 
-// Returns whether two strings made the same replies, and these.
-fn is_same(both: Option<Vec<Reply>>, replies: &[Reply]) -> bool {
-    match both {
-        Some(same) => same.as_slice() == replies,
-        None => false,
-    }
-}
-
-// Returns whether strings of both widths make these replies to the edits in one call, and then hold these units.
+// Returns whether strings of both widths reply and become the same when all edits are made in one call.
 fn agree_in_one_call(
     alloc: Global,
     text: &str,
     edits: &[Edit<'_>],
-    replies: &[Reply],
-    narrow: &[u16],
-    wide: &[u32],
+    narrow: &Edited<Utf16String>,
+    wide: &Edited<Utf32String>,
 ) -> Result<bool, NoAnswer> {
     let mut first = Utf16String::from_str(alloc, text)?;
     let mut second = Utf32String::from_str(alloc, text)?;
-    let both = ran_both(alloc, &mut first, &mut second, &[edits])?;
-    let holds = first.as_slice() == narrow && second.as_slice() == wide;
-    Ok(is_same(both, replies) && holds)
+    let alike = reply_together(alloc, &mut first, &mut second, edits, &narrow.replies)?;
+    Ok(alike & is_text(&narrow.text, first.as_slice()) & is_text(&wide.text, second.as_slice()))
 }
 
-// Splits edits into lists of one edit each.
-fn one_by_one<'e, 't>(
+// Returns whether a text has these units.
+fn is_text<C: ReportedUnit>(text: &UtfString<C>, units: &[C]) -> bool {
+    text.as_slice() == units
+}
+
+// Returns whether a string with an offset index and one in UTF-32 reply and become the same, and the index is right.
+fn agree_with_marks(
     alloc: Global,
-    edits: &'e [Edit<'t>],
-) -> Result<Vec<&'e [Edit<'t>]>, NoAnswer> {
-    let mut lists = Vec::new(alloc);
-    for edit in edits.chunks(1) {
-        lists.push(edit)?;
-    }
-    Ok(lists)
+    first: &mut Marked16,
+    second: &mut Utf32String,
+    edits: &[Edit<'_>],
+    narrow: &Edited<Utf16String>,
+    wide: &Edited<Utf32String>,
+) -> Result<bool, NoAnswer> {
+    let mut same = reply_one_by_one(alloc, first, second, edits, &narrow.replies)?;
+    same &= is_text(&narrow.text, first.as_utfstr().as_slice());
+    same &= is_text(&wide.text, second.as_slice());
+    Ok(same & has_offsets(first, second))
 }
 
 // Returns the answer of a string with an offset index that is edited one by one beside one in UTF-32. It is a `?` if
-// they do not make these replies or do not hold these units afterwards.
+// they do not reply the same, or become another text.
 fn with_marks(
     alloc: Global,
     text: &str,
-    lists: &[&[Edit<'_>]],
-    replies: &[Reply],
-    narrow: &[u16],
-    wide: &[u32],
+    edits: &[Edit<'_>],
+    narrow: &Edited<Utf16String>,
+    wide: &Edited<Utf32String>,
 ) -> Result<String, NoAnswer> {
     let mut first = marked(alloc, text)?;
     let mut second = Utf32String::from_str(alloc, text)?;
-    let both = ran_both(alloc, &mut first, &mut second, lists)?;
-    let mut same = is_same(both, replies);
-    same &= first.as_utfstr().as_slice() == narrow;
-    same &= second.as_slice() == wide;
-    same &= has_offsets(&first, &second);
-    if same {
-        agreed(alloc, replies, first, &second)
-    } else {
-        disagreed(alloc)
+    match agree_with_marks(alloc, &mut first, &mut second, edits, narrow, wide) {
+        Ok(true) => agreed(alloc, &narrow.replies, first, &second),
+        Ok(false) => disagreed(alloc),
+        Err(error) => Err(error),
     }
+}
+
+// Returns the answer if strings of both widths reply and become the same in each way.
+fn compared(
+    alloc: Global,
+    text: &str,
+    edits: &[Edit<'_>],
+    narrow: &Edited<Utf16String>,
+    wide: &Edited<Utf32String>,
+) -> Result<String, NoAnswer> {
+    if narrow.replies != wide.replies {
+        return disagreed(alloc);
+    }
+    if !agree_in_one_call(alloc, text, edits, narrow, wide)? {
+        return disagreed(alloc);
+    }
+    with_marks(alloc, text, edits, narrow, wide)
 }
 
 // Returns the answer: what the edits make of a text.
 fn made(alloc: Global, text: &str, edits: &[Edit<'_>]) -> Result<String, NoAnswer> {
-    let mut narrow = Utf16String::from_str(alloc, text)?;
-    let mut wide = Utf32String::from_str(alloc, text)?;
-    let replies = ran(alloc, &mut narrow, edits)?;
-    let others = ran(alloc, &mut wide, edits)?;
-    let (narrow, wide) = (narrow.as_slice(), wide.as_slice());
-    let same = agree_in_one_call(alloc, text, edits, &replies, narrow, wide)?;
-    if !same || others != replies {
-        return disagreed(alloc);
+    let narrow = edit_all(alloc, Utf16String::from_str(alloc, text), edits)?;
+    let wide = edit_all(alloc, Utf32String::from_str(alloc, text), edits)?;
+    compared(alloc, text, edits, &narrow, &wide)
+}
+
+// Parses edits, separated by `/`.
+fn parse_edits(alloc: Global, question: &str) -> Result<Vec<Written>, NoAnswer> {
+    let mut words = Vec::new(alloc);
+    if question.is_empty() {
+        return Ok(words);
     }
-    let lists = one_by_one(alloc, edits)?;
-    with_marks(alloc, text, &lists, &replies, narrow, wide)
+    for word in question.split('/') {
+        words.push(parse_edit(alloc, word)?)?;
+    }
+    Ok(words)
+}
+
+// Returns the edits that are written.
+fn edits_of(alloc: Global, words: &[Written]) -> Result<Vec<Edit<'_>>, NoAnswer> {
+    let mut edits = Vec::new(alloc);
+    for word in words {
+        edits.push(word.edit()?)?;
+    }
+    Ok(edits)
+}
+
+// Parses the characters of a text.
+fn parse_text(alloc: Global, list: &str) -> Result<String, NoAnswer> {
+    Ok(text_of(alloc, &parse::list::<char>(alloc, list)?)?)
 }
 
 /// Returns the answer: what edits reply, and what they leave.
 pub fn replies(alloc: Global, list: &str, question: &str) -> Result<String, NoAnswer> {
-    let text = text_of(alloc, &parse::list::<char>(alloc, list)?)?;
-    let mut words = Vec::new(alloc);
-    if !question.is_empty() {
-        for word in question.split('/') {
-            words.push(parse_edit(alloc, word)?)?;
-        }
-    }
-    let mut edits = Vec::new(alloc);
-    for word in &words {
-        edits.push(word.edit()?)?;
-    }
-    made(alloc, text.as_str(), &edits)
+    let words = parse_edits(alloc, question)?;
+    let edits = edits_of(alloc, &words)?;
+    made(alloc, &parse_text(alloc, list)?, &edits)
 }

@@ -1,6 +1,6 @@
 //! Items that strings are extended by and made of. They are separated by commas, and each is a list of units.
 use std::alloc::Global;
-use widestring::error::FaultUnit;
+use widestring::error::{FaultUnit, OutOfMemory};
 use widestring::ucstr::UCStr;
 use widestring::ucstring::UCString;
 use widestring::ustr::UStr;
@@ -8,7 +8,7 @@ use widestring::ustring::{BoxedUStr, CowUStr, UString};
 use widestring::utfstr::UtfStr;
 use widestring::utfstring::{BoxedUtfStr, CowUtfStr, UtfString};
 use widestring_replay::made::{c_string, text_of};
-use widestring_replay::parse::{self, FromHex, NoAnswer};
+use widestring_replay::parse::{self, FromHex, Memory, NoAnswer};
 use widestring_replay::show::ReportedUnit;
 use widestring_testing::Heap;
 
@@ -18,15 +18,13 @@ pub type Units<'a, C> = UString<C, &'a Heap>;
 /// A string of well-formed text, whose requests are counted.
 pub type Text<'a, C> = UtfString<C, &'a Heap>;
 
-// Makes the vector of what an expression makes of each item.
-macro_rules! each_item {
-    ($alloc:expr, $items:expr, $item:ident => $made:expr) => {{
-        let mut made = Vec::new($alloc);
-        for $item in $items {
-            made.push($made)?;
-        }
-        Ok(made)
-    }};
+/// How a call takes items.
+#[derive(Clone, Copy)]
+pub enum How {
+    /// It extends a string.
+    Extend,
+    /// It makes a string of them, in place of another one.
+    Make,
 }
 
 /// Returns the vector of units, on the counted heap, with this spare capacity.
@@ -36,18 +34,24 @@ pub fn vec_on<'a, C: Copy>(
     spare: usize,
 ) -> Result<Vec<C, &'a Heap>, NoAnswer> {
     let mut copy = Vec::with_capacity(heap, units.len().saturating_add(spare))?;
-    copy.extend_from_slice(units)?;
-    Ok(copy)
+    match copy.extend_from_slice(units) {
+        Ok(()) => Ok(copy),
+        Err(_) => Err(NoAnswer::OutOfMemory),
+    }
+}
+
+/// Returns the vector of a list, on the counted heap, with this spare capacity.
+pub fn counted<'a, C: Copy + FromHex + Drop>(
+    memory: Memory<'a>,
+    list: &str,
+    spare: usize,
+) -> Result<Vec<C, &'a Heap>, NoAnswer> {
+    vec_on(memory.heap, &parse::list(memory.alloc, list)?, spare)
 }
 
 /// Returns the text of a list of units.
 pub fn text<C: FaultUnit + FromHex>(alloc: Global, list: &str) -> Result<String, NoAnswer> {
     text_of(alloc, &parse::list::<C>(alloc, list)?)
-}
-
-/// Returns the characters of items, one each.
-pub fn chars<C: FaultUnit + FromHex>(alloc: Global, items: &str) -> Result<Vec<char>, NoAnswer> {
-    each_item!(alloc, items.split(','), item => only_char(&text::<C>(alloc, item)?)?)
 }
 
 /// Returns the character of a text that has exactly one.
@@ -56,90 +60,6 @@ pub fn only_char(text: &str) -> Result<char, NoAnswer> {
         Some(c) if c.len_utf8() == text.len() => Ok(c),
         _ => Err(NoAnswer::Unparsed),
     }
-}
-
-/// Returns the texts of items.
-pub fn strings<C: FaultUnit + FromHex>(
-    alloc: Global,
-    items: &str,
-) -> Result<Vec<String>, NoAnswer> {
-    each_item!(alloc, items.split(','), item => text::<C>(alloc, item)?)
-}
-
-/// Returns views of texts.
-pub fn strs(alloc: Global, strings: &[String]) -> Result<Vec<&str>, NoAnswer> {
-    each_item!(alloc, strings, string => string.as_str())
-}
-
-/// Returns the strings of any units of items.
-pub fn ustrings<C: FaultUnit + FromHex>(
-    alloc: Global,
-    items: &str,
-) -> Result<Vec<UString<C>>, NoAnswer> {
-    each_item!(alloc, items.split(','), item => UString::from_vec(parse::list(alloc, item)?))
-}
-
-// Returns a view of a string, the default one if it is empty.
-fn ustr<C: FaultUnit>(string: &UString<C>) -> UStr<'_, C> {
-    if string.is_empty() {
-        return UStr::default();
-    }
-    string.as_ustr()
-}
-
-/// Returns views of strings.
-pub fn ustrs<C: FaultUnit>(
-    alloc: Global,
-    strings: &[UString<C>],
-) -> Result<Vec<UStr<'_, C>>, NoAnswer> {
-    each_item!(alloc, strings, string => ustr(string))
-}
-
-fn boxed_ustr<C: FaultUnit + FromHex>(alloc: Global, item: &str) -> Result<BoxedUStr<C>, NoAnswer> {
-    match UString::from_vec(parse::list(alloc, item)?).into_boxed_ustr() {
-        Ok(boxed) => Ok(boxed),
-        Err(_) => Err(NoAnswer::OutOfMemory),
-    }
-}
-
-/// Returns the boxed units of items.
-pub fn boxed_ustrs<C: FaultUnit + FromHex>(
-    alloc: Global,
-    items: &str,
-) -> Result<Vec<BoxedUStr<C>>, NoAnswer> {
-    each_item!(alloc, items.split(','), item => boxed_ustr(alloc, item)?)
-}
-
-/// Returns borrowed and owned units in turn.
-pub fn cow_ustrs<C: FaultUnit>(
-    alloc: Global,
-    strings: &[UString<C>],
-) -> Result<Vec<CowUStr<'_, C>>, NoAnswer> {
-    let mut made = Vec::new(alloc);
-    for (index, string) in strings.iter().enumerate() {
-        if index % 2 == 0 {
-            made.push(CowUStr::Borrowed(string.as_ustr()))?;
-        } else {
-            made.push(CowUStr::Owned(string.try_clone()?))?;
-        }
-    }
-    Ok(made)
-}
-
-/// Returns the C strings of items, which have no NUL.
-pub fn ucstrings<C: FaultUnit + FromHex>(
-    alloc: Global,
-    items: &str,
-) -> Result<Vec<UCString<C>>, NoAnswer> {
-    each_item!(alloc, items.split(','), item => c_string(parse::list(alloc, item)?)?)
-}
-
-/// Returns views of C strings.
-pub fn ucstrs<C: FaultUnit>(
-    alloc: Global,
-    strings: &[UCString<C>],
-) -> Result<Vec<UCStr<'_, C>>, NoAnswer> {
-    each_item!(alloc, strings, string => string.as_ucstr())
 }
 
 /// Returns the text of units, which must be well formed.
@@ -153,54 +73,161 @@ pub fn utfstring<C: FaultUnit + FromHex>(
     }
 }
 
-/// Returns the strings of well-formed text of items.
-pub fn utfstrings<C: FaultUnit + FromHex>(
-    alloc: Global,
-    items: &str,
-) -> Result<Vec<UtfString<C>>, NoAnswer> {
-    each_item!(alloc, items.split(','), item => utfstring(alloc, item)?)
+/// What a list of units stands for as an item.
+pub trait Item<C>: Sized {
+    /// Parses a list.
+    fn of(alloc: Global, list: &str) -> Result<Self, NoAnswer>;
 }
 
-/// Returns views of strings of text.
-pub fn utfstrs<C: FaultUnit>(
-    alloc: Global,
-    strings: &[UtfString<C>],
-) -> Result<Vec<UtfStr<'_, C>>, NoAnswer> {
-    each_item!(alloc, strings, string => string.as_utfstr())
+impl<C: FaultUnit + FromHex> Item<C> for char {
+    fn of(alloc: Global, list: &str) -> Result<char, NoAnswer> {
+        only_char(&text::<C>(alloc, list)?)
+    }
 }
 
-fn boxed_utfstr<C: FaultUnit + FromHex>(
-    alloc: Global,
-    item: &str,
-) -> Result<BoxedUtfStr<C>, NoAnswer> {
-    match utfstring(alloc, item)?.into_boxed_utfstr() {
-        Ok(boxed) => Ok(boxed),
+impl<C: FaultUnit + FromHex> Item<C> for String {
+    fn of(alloc: Global, list: &str) -> Result<String, NoAnswer> {
+        text::<C>(alloc, list)
+    }
+}
+
+impl<C: FaultUnit + FromHex> Item<C> for UString<C> {
+    fn of(alloc: Global, list: &str) -> Result<UString<C>, NoAnswer> {
+        Ok(UString::from_vec(parse::list(alloc, list)?))
+    }
+}
+
+impl<C: FaultUnit + FromHex> Item<C> for BoxedUStr<C> {
+    fn of(alloc: Global, list: &str) -> Result<BoxedUStr<C>, NoAnswer> {
+        match UString::from_vec(parse::list(alloc, list)?).into_boxed_ustr() {
+            Ok(boxed) => Ok(boxed),
+            Err(_) => Err(NoAnswer::OutOfMemory),
+        }
+    }
+}
+
+impl<C: FaultUnit + FromHex> Item<C> for UCString<C> {
+    fn of(alloc: Global, list: &str) -> Result<UCString<C>, NoAnswer> {
+        c_string(parse::list(alloc, list)?)
+    }
+}
+
+impl<C: FaultUnit + FromHex> Item<C> for UtfString<C> {
+    fn of(alloc: Global, list: &str) -> Result<UtfString<C>, NoAnswer> {
+        utfstring(alloc, list)
+    }
+}
+
+impl<C: FaultUnit + FromHex> Item<C> for BoxedUtfStr<C> {
+    fn of(alloc: Global, list: &str) -> Result<BoxedUtfStr<C>, NoAnswer> {
+        match utfstring(alloc, list)?.into_boxed_utfstr() {
+            Ok(boxed) => Ok(boxed),
+            Err(_) => Err(NoAnswer::OutOfMemory),
+        }
+    }
+}
+
+// Appends an item.
+fn push<T: Drop>(items: &mut Vec<T>, item: T) -> Result<(), NoAnswer> {
+    match items.push(item) {
+        Ok(()) => Ok(()),
         Err(_) => Err(NoAnswer::OutOfMemory),
     }
 }
 
-/// Returns the boxed texts of items.
-pub fn boxed_utfstrs<C: FaultUnit + FromHex>(
+// Parses items, and appends them.
+fn push_items<C, T: Item<C> + Drop>(
     alloc: Global,
-    items: &str,
-) -> Result<Vec<BoxedUtfStr<C>>, NoAnswer> {
-    each_item!(alloc, items.split(','), item => boxed_utfstr(alloc, item)?)
+    items: &mut Vec<T>,
+    lists: &str,
+) -> Result<(), NoAnswer> {
+    for list in lists.split(',') {
+        push(items, T::of(alloc, list)?)?;
+    }
+    Ok(())
 }
 
-/// Returns borrowed and owned texts in turn.
-pub fn cow_utfstrs<C: FaultUnit>(
-    alloc: Global,
-    strings: &[UtfString<C>],
-) -> Result<Vec<CowUtfStr<'_, C>>, NoAnswer> {
-    let mut made = Vec::new(alloc);
-    for (index, string) in strings.iter().enumerate() {
-        if index % 2 == 0 {
-            made.push(CowUtfStr::Borrowed(string.as_utfstr()))?;
-        } else {
-            made.push(CowUtfStr::Owned(string.try_clone()?))?;
-        }
+/// Parses items.
+pub fn items<C, T: Item<C> + Drop>(alloc: Global, lists: &str) -> Result<Vec<T>, NoAnswer> {
+    let mut items = Vec::new(alloc);
+    match push_items(alloc, &mut items, lists) {
+        Ok(()) => Ok(items),
+        Err(error) => Err(error),
     }
-    Ok(made)
+}
+
+/// An item that borrows from an owned one.
+pub trait View<'a, T>: Sized {
+    /// Returns the view of an owned item. A `Cow` owns its units at an odd index.
+    fn of(owner: &'a T, index: usize) -> Result<Self, OutOfMemory>;
+}
+
+impl<'a> View<'a, String> for &'a str {
+    fn of(owner: &'a String, _index: usize) -> Result<&'a str, OutOfMemory> {
+        Ok(owner.as_str())
+    }
+}
+
+impl<'a, C: FaultUnit> View<'a, UString<C>> for UStr<'a, C> {
+    // The view of an empty string is the default one.
+    fn of(owner: &'a UString<C>, _index: usize) -> Result<UStr<'a, C>, OutOfMemory> {
+        if owner.is_empty() {
+            return Ok(UStr::default());
+        }
+        Ok(owner.as_ustr())
+    }
+}
+
+impl<'a, C: FaultUnit> View<'a, UString<C>> for CowUStr<'a, C> {
+    fn of(owner: &'a UString<C>, index: usize) -> Result<CowUStr<'a, C>, OutOfMemory> {
+        if index % 2 == 0 {
+            return Ok(CowUStr::Borrowed(owner.as_ustr()));
+        }
+        Ok(CowUStr::Owned(owner.try_clone()?))
+    }
+}
+
+impl<'a, C: FaultUnit> View<'a, UCString<C>> for UCStr<'a, C> {
+    fn of(owner: &'a UCString<C>, _index: usize) -> Result<UCStr<'a, C>, OutOfMemory> {
+        Ok(owner.as_ucstr())
+    }
+}
+
+impl<'a, C: FaultUnit> View<'a, UtfString<C>> for UtfStr<'a, C> {
+    fn of(owner: &'a UtfString<C>, _index: usize) -> Result<UtfStr<'a, C>, OutOfMemory> {
+        Ok(owner.as_utfstr())
+    }
+}
+
+impl<'a, C: FaultUnit> View<'a, UtfString<C>> for CowUtfStr<'a, C> {
+    fn of(owner: &'a UtfString<C>, index: usize) -> Result<CowUtfStr<'a, C>, OutOfMemory> {
+        if index % 2 == 0 {
+            return Ok(CowUtfStr::Borrowed(owner.as_utfstr()));
+        }
+        Ok(CowUtfStr::Owned(owner.try_clone()?))
+    }
+}
+
+/// Returns views of owned items.
+pub fn views<'a, T, V: View<'a, T> + Drop>(
+    alloc: Global,
+    owners: &'a [T],
+) -> Result<Vec<V>, NoAnswer> {
+    let mut views = Vec::new(alloc);
+    for (index, owner) in owners.iter().enumerate() {
+        views.push(V::of(owner, index)?)?;
+    }
+    Ok(views)
+}
+
+// Returns the units after those of an item, if they begin with it, and the length of the item.
+fn after_item<'a, C: ReportedUnit>(
+    alloc: Global,
+    units: &'a [C],
+    item: &str,
+) -> Result<(Option<&'a [C]>, usize), NoAnswer> {
+    let item = parse::list::<C>(alloc, item)?;
+    Ok((units.strip_prefix(item.as_slice()), item.len()))
 }
 
 // Returns whether `before` is followed by the first of the items, each whole, and as many as the capacity allows, but
@@ -215,12 +242,10 @@ fn are_whole_items<C: ReportedUnit>(
         return Ok(false);
     };
     for item in items.split(',') {
-        let units = parse::list::<C>(alloc, item)?;
-        match rest.strip_prefix(units.as_slice()) {
-            Some(more) => rest = more,
-            None => {
-                let needed = after.len().saturating_add(units.len());
-                return Ok(rest.is_empty() && needed > capacity);
+        match after_item(alloc, rest, item)? {
+            (Some(more), _) => rest = more,
+            (None, len) => {
+                return Ok(rest.is_empty() && after.len().saturating_add(len) > capacity);
             }
         }
     }
@@ -242,6 +267,6 @@ pub fn is_kept<C: ReportedUnit>(
         Some((name, items)) if name.starts_with("from_iter_") => {
             are_whole_items(alloc, &[], after, items)
         }
-        _ => Ok(before.0 == after.0 && before.1 == after.1),
+        _ => Ok((before.0 == after.0) & (before.1 == after.1)),
     }
 }

@@ -22,25 +22,21 @@ use widestring_testing::Heap;
 /// What a constructor makes, or its error.
 pub type Made<'a, C> = Result<UCString<C, &'a Heap>, UCStringError<C, &'a Heap>>;
 
-// Returns the answer: a view of all units.
-fn view<C: FaultUnit>(alloc: Global, units: &[C]) -> Result<Answer, NoAnswer> {
-    let mut answer = Answer::new(alloc);
+// Adds a view of all units.
+fn view<C: FaultUnit>(answer: &mut Answer, units: &[C]) {
     match UCStr::from_slice(units) {
         Ok(view) => answer.units(view.as_slice()),
         Err(NulError::MissingNulTerminator(_)) => answer.number(None),
         Err(NulError::ContainsNul(error)) => answer.inner_nul(error),
     }
-    Ok(answer)
 }
 
-// Returns the answer: a view of the units up to the first NUL.
-fn view_cut<C: FaultUnit>(alloc: Global, units: &[C]) -> Result<Answer, NoAnswer> {
-    let mut answer = Answer::new(alloc);
+// Adds a view of the units up to the first NUL.
+fn view_cut<C: FaultUnit>(answer: &mut Answer, units: &[C]) {
     match UCStr::from_slice_truncate(units) {
         Ok(view) => answer.units(view.as_slice()),
         Err(_) => answer.number(None),
     }
-    Ok(answer)
 }
 
 // Adds what a C string holds. The error is the vector that an allocation failure returns, if it returns one.
@@ -56,99 +52,129 @@ fn show<'a, C: ReportedUnit>(
     Ok(())
 }
 
-/// Returns the answer: a C string of a copy.
-pub fn copied<'a, C: ReportedUnit>(
-    memory: Memory<'a>,
-    made: Made<'a, C>,
-) -> Result<Answer, NoAnswer> {
-    let mut answer = Answer::new(memory.alloc);
-    match show(&mut answer, made) {
-        Ok(()) => Ok(answer),
+/// Adds a C string of a copy.
+pub fn copied<C: ReportedUnit>(answer: &mut Answer, made: Made<'_, C>) -> Result<(), NoAnswer> {
+    match show(answer, made) {
+        Ok(()) => Ok(()),
         Err(None) => Err(NoAnswer::OutOfMemory),
         Err(Some(_back)) => {
             answer.word("?");
-            Ok(answer)
+            Ok(())
         }
     }
 }
 
-// Returns the answer: a C string of a vector.
-fn of_vec<C: ReportedUnit>(
+// Adds a C string of a vector of these units and this capacity, which an allocation failure must return.
+fn taken<C: ReportedUnit>(
+    answer: &mut Answer,
+    made: Made<'_, C>,
+    units: &[C],
+    capacity: usize,
+) -> Result<(), NoAnswer> {
+    match show(answer, made) {
+        Ok(()) => return Ok(()),
+        Err(Some(back)) if back.as_slice() == units && back.capacity() == capacity => {
+            return Err(NoAnswer::OutOfMemory);
+        }
+        Err(_) => answer.word("?"),
+    }
+    Ok(())
+}
+
+// Makes a C string of a vector.
+fn of_vec<'a, C: ReportedUnit>(call: &str, vec: Vec<C, &'a Heap>) -> Result<Made<'a, C>, NoAnswer> {
+    match call {
+        "v" => Ok(UCString::from_vec(vec)),
+        "vc" => Ok(UCString::from_vec_truncate(vec)),
+        "v!" if vec.len() <= 1 => Ok(UCString::from_vec_unchecked(vec)),
+        _ => Err(NoAnswer::Unparsed),
+    }
+}
+
+// Adds a C string of a vector, and returns the number of requests.
+fn by_vec<C: ReportedUnit>(
     memory: Memory<'_>,
+    answer: &mut Answer,
     call: &str,
     units: &[C],
     spare: usize,
-) -> Result<(Answer, u64), NoAnswer> {
+) -> Result<u64, NoAnswer> {
     let vec = pieces::vec_on(memory.heap, units, spare)?;
     let capacity = vec.capacity();
     let left = memory.heap.left();
-    let made = match call {
-        "v" => UCString::from_vec(vec),
-        "vc" => UCString::from_vec_truncate(vec),
-        "v!" if vec.len() <= 1 => UCString::from_vec_unchecked(vec),
-        _ => return Err(NoAnswer::Unparsed),
-    };
-    let mut answer = Answer::new(memory.alloc);
-    match show(&mut answer, made) {
-        Ok(()) => {}
-        Err(None) => answer.word("?"),
-        Err(Some(back)) => {
-            if back.as_slice() == units && back.capacity() == capacity {
-                return Err(NoAnswer::OutOfMemory);
-            }
-            answer.word("?");
-        }
-    }
-    Ok((answer, memory.requests_since(left)))
+    taken(answer, of_vec(call, vec)?, units, capacity)?;
+    Ok(memory.requests_since(left))
 }
 
-// Returns the answer: a C string of a copy of units.
-fn of_units<'a, C: ReportedUnit>(
-    memory: Memory<'a>,
+// Adds a C string of a copy of units.
+fn of_units<C: ReportedUnit>(
+    heap: &Heap,
+    answer: &mut Answer,
     call: &str,
     units: &[C],
-) -> Result<Answer, NoAnswer> {
+) -> Result<(), NoAnswer> {
     let view = UStr::from_slice(units);
-    let made: Made<'a, C> = match call {
-        "n" if UCString::<C, Global>::NUL_TERMINATOR == C::NUL => UCString::new(memory.heap),
-        "u" => UCString::from_ustr(memory.heap, view),
-        "uc" => UCString::from_ustr_truncate(memory.heap, view),
-        "u!" if view.len() <= 1 => UCString::from_ustr_unchecked(memory.heap, view),
-        _ => return Err(NoAnswer::Unparsed),
-    };
-    copied(memory, made)
+    match call {
+        "n" if UCString::<C, Global>::NUL_TERMINATOR == C::NUL => {
+            copied::<C>(answer, UCString::new(heap))
+        }
+        "u" => copied(answer, UCString::from_ustr(heap, view)),
+        "uc" => copied(answer, UCString::from_ustr_truncate(heap, view)),
+        "u!" if view.len() <= 1 => copied(answer, UCString::from_ustr_unchecked(heap, view)),
+        _ => Err(NoAnswer::Unparsed),
+    }
 }
 
-// Returns the answer: a C string of a text.
-fn of_text<'a, C: ReportedUnit>(
-    memory: Memory<'a>,
+// Adds a C string of a text.
+fn of_text<C: ReportedUnit>(
+    heap: &Heap,
+    answer: &mut Answer,
     call: &str,
     text: &str,
-) -> Result<Answer, NoAnswer> {
-    let made: Made<'a, C> = match call {
-        "t" => UCString::from_str(memory.heap, text),
-        "tc" => UCString::from_str_truncate(memory.heap, text),
-        "l" => UCString::from_str_literal(memory.heap, text),
-        "t!" if C::text_len(text) <= 1 => UCString::from_str_unchecked(memory.heap, text),
-        _ => return Err(NoAnswer::Unparsed),
-    };
-    copied(memory, made)
+) -> Result<(), NoAnswer> {
+    match call {
+        "t" => copied::<C>(answer, UCString::from_str(heap, text)),
+        "tc" => copied::<C>(answer, UCString::from_str_truncate(heap, text)),
+        "l" => copied::<C>(answer, UCString::from_str_literal(heap, text)),
+        "t!" if C::text_len(text) <= 1 => {
+            copied::<C>(answer, UCString::from_str_unchecked(heap, text))
+        }
+        _ => Err(NoAnswer::Unparsed),
+    }
 }
 
-// Returns the answer to a call, and the number of its requests.
-fn answer_to<C: ReportedUnit>(
+// Adds a view, or a C string of a copy.
+fn by_slice<C: ReportedUnit>(
     memory: Memory<'_>,
+    answer: &mut Answer,
     call: &str,
     units: &[C],
-) -> Result<(Answer, u64), NoAnswer> {
+) -> Result<(), NoAnswer> {
+    match call {
+        "s" => view(answer, units),
+        "sc" => view_cut(answer, units),
+        "t" | "tc" | "l" | "t!" => {
+            return of_text::<C>(memory.heap, answer, call, &text_of(memory.alloc, units)?);
+        }
+        _ => return of_units(memory.heap, answer, call, units),
+    }
+    Ok(())
+}
+
+// Adds what a constructor makes, and returns the number of its requests.
+fn constructed<C: ReportedUnit>(
+    memory: Memory<'_>,
+    answer: &mut Answer,
+    call: &str,
+    units: &[C],
+    spare: usize,
+) -> Result<u64, NoAnswer> {
+    if call.starts_with('v') {
+        return by_vec(memory, answer, call, units, spare);
+    }
     let left = memory.heap.left();
-    let answer = match call {
-        "s" => view(memory.alloc, units)?,
-        "sc" => view_cut(memory.alloc, units)?,
-        "t" | "tc" | "l" | "t!" => of_text::<C>(memory, call, &text_of(memory.alloc, units)?)?,
-        _ => of_units(memory, call, units)?,
-    };
-    Ok((answer, memory.requests_since(left)))
+    by_slice(memory, answer, call, units)?;
+    Ok(memory.requests_since(left))
 }
 
 /// Returns the answer: the C string that a constructor makes, or its error.
@@ -157,9 +183,8 @@ pub fn made<C: ReportedUnit>(
     list: &str,
     question: &str,
 ) -> Result<String, NoAnswer> {
-    let units = parse::list::<C>(memory.alloc, list)?;
     if let Some(call) = question.strip_prefix('.') {
-        return ucstring_calls::called(memory, units, call);
+        return ucstring_calls::called::<C>(memory, list, call);
     }
     let (call, counts) = match question.strip_suffix('#') {
         Some(call) => (call, true),
@@ -169,11 +194,9 @@ pub fn made<C: ReportedUnit>(
         Some((call, spare)) => (call, parse::value(spare)?),
         None => (call, 0),
     };
-    let (mut answer, requests) = if call.starts_with('v') {
-        of_vec(memory, call, &units, spare)?
-    } else {
-        answer_to(memory, call, &units)?
-    };
+    let units = parse::list::<C>(memory.alloc, list)?;
+    let mut answer = Answer::new(memory.alloc);
+    let requests = constructed(memory, &mut answer, call, &units, spare)?;
     if counts {
         answer.requests(requests);
     }

@@ -1,6 +1,7 @@
 //! Calls of a C string, by name. `repeat` has the number of times after a space, and `boxed` the spare capacity of the
 //! C string. The answer is the units that the call returns, and after a `#` the number of its requests.
-use crate::groups::pieces;
+use crate::groups::outcomes::finished;
+use crate::groups::{pieces, ustring_calls};
 use widestring::error::OutOfMemory;
 use widestring::ucstr::UCStr;
 use widestring::ucstring::{CowUCStr, UCStrInUcstring, UCString};
@@ -10,20 +11,36 @@ use widestring_testing::Heap;
 
 type CString<'a, C> = UCString<C, &'a Heap>;
 
-// Copies a C string. Returns `None` if the call is not one that copies.
-fn copy<'a, C: ReportedUnit>(
+// Adds the units of a C string that a call made.
+fn shown<C: ReportedUnit>(
+    answer: &mut Answer,
+    made: Result<CString<'_, C>, OutOfMemory>,
+) -> Result<(), NoAnswer> {
+    match made {
+        Ok(made) => {
+            answer.units(made.as_ucstr().as_slice_with_nul());
+            Ok(())
+        }
+        Err(OutOfMemory) => Err(NoAnswer::OutOfMemory),
+    }
+}
+
+// Copies a C string, and adds the copy.
+fn copied<'a, C: ReportedUnit>(
     heap: &'a Heap,
+    answer: &mut Answer,
     string: &CString<'a, C>,
     name: &str,
     times: usize,
-) -> Result<Option<CString<'a, C>>, OutOfMemory> {
+) -> Result<(), NoAnswer> {
     let view = string.as_ucstr();
     match name {
-        "to_ucstring" => Ok(Some(view.to_ucstring(heap)?)),
-        "try_clone" => Ok(Some(string.try_clone()?)),
-        "repeat" => Ok(Some(view.repeat(heap, times)?)),
-        "into_owned" => Ok(Some(owned(heap, view)?)),
-        _ => Ok(None),
+        "to_ucstring" => shown(answer, view.to_ucstring(heap)),
+        "try_clone" => shown(answer, string.try_clone()),
+        "repeat" => shown(answer, view.repeat(heap, times)),
+        "into_owned" => shown(answer, owned(heap, view)),
+        "to_ustring" => ustring_calls::shown(answer, view.to_ustring(heap)),
+        _ => Err(NoAnswer::Unparsed),
     }
 }
 
@@ -44,20 +61,21 @@ fn kept<'a, C: ReportedUnit>(
     owned.into_owned(heap)
 }
 
-// Returns the vector of a call that consumes the C string.
+// Makes a call that consumes a C string, and adds what it returns.
 fn taken<'a, C: ReportedUnit>(
     heap: &'a Heap,
+    answer: &mut Answer,
     string: CString<'a, C>,
     name: &str,
-) -> Result<Vec<C, &'a Heap>, NoAnswer> {
+) -> Result<(), NoAnswer> {
     match name {
-        "into_vec" => Ok(string.into_vec()),
-        "into_vec_with_nul" => Ok(string.into_vec_with_nul()),
-        "into_ustring" => Ok(string.into_ustring().into_vec()),
-        "into_ustring_with_nul" => Ok(string.into_ustring_with_nul().into_vec()),
-        "keep" => Ok(kept(heap, string)?.into_vec_with_nul()),
-        _ => Err(NoAnswer::Unparsed),
+        "into_vec" => answer.units(&string.into_vec()),
+        "into_vec_with_nul" => answer.units(&string.into_vec_with_nul()),
+        "into_ustring" => answer.units(&string.into_ustring().into_vec()),
+        "into_ustring_with_nul" => answer.units(&string.into_ustring_with_nul().into_vec()),
+        _ => return shown(answer, kept(heap, string)),
     }
+    Ok(())
 }
 
 // Adds the units of a C string that was in a box. If the allocation of the box fails, the C string must be returned
@@ -73,43 +91,62 @@ fn boxed<'a, C: ReportedUnit>(
             answer.units(boxed.into_ucstring().as_ucstr().as_slice_with_nul());
             Ok(())
         }
-        Err(string) => {
-            let is_kept = string.as_ucstr().as_slice() == contents;
-            if is_kept && string.into_vec_with_nul().capacity() == capacity {
-                return Err(NoAnswer::OutOfMemory);
-            }
-            answer.word("?");
-            Ok(())
-        }
+        Err(string) => handed_back(answer, string, contents, capacity),
     }
 }
 
-/// Returns the answer: what a call of the C string of these contents returns.
-pub fn called<C: ReportedUnit>(
-    memory: Memory<'_>,
-    contents: Vec<C>,
-    call: &str,
+// Returns the error of a call that returned a C string, which must have these contents and this capacity.
+fn handed_back<C: ReportedUnit>(
+    answer: &mut Answer,
+    string: CString<'_, C>,
+    contents: &[C],
+    capacity: usize,
+) -> Result<(), NoAnswer> {
+    let has_contents = string.as_ucstr().as_slice() == contents;
+    let left = string.into_vec_with_nul().capacity();
+    if has_contents & (left == capacity) {
+        return Err(NoAnswer::OutOfMemory);
+    }
+    answer.word("?");
+    Ok(())
+}
+
+// Returns the answer: what a call of a C string of these contents and this capacity returns.
+fn answer_of<'a, C: ReportedUnit>(
+    memory: Memory<'a>,
+    string: CString<'a, C>,
+    (contents, capacity): (&[C], usize),
+    (name, number): (&str, usize),
 ) -> Result<String, NoAnswer> {
     let heap = memory.heap;
+    let mut answer = Answer::new(memory.alloc);
+    let left = heap.left();
+    let called = match name {
+        "boxed" => boxed(&mut answer, string, contents, capacity),
+        "into_vec" | "into_vec_with_nul" | "into_ustring" | "into_ustring_with_nul" | "keep" => {
+            taken(heap, &mut answer, string, name)
+        }
+        _ => copied(heap, &mut answer, &string, name, number),
+    };
+    answer.requests(memory.requests_since(left));
+    finished(answer, called)
+}
+
+/// Returns the answer: what a call of the C string of this list returns.
+pub fn called<C: ReportedUnit>(
+    memory: Memory<'_>,
+    list: &str,
+    call: &str,
+) -> Result<String, NoAnswer> {
     let (name, number) = match call.split_once(' ') {
         Some((name, number)) => (name, parse::value::<usize>(number)?),
         None => (call, 0),
     };
-    let vec = pieces::vec_on(heap, &contents, number.saturating_add(1))?;
+    let contents = parse::list::<C>(memory.alloc, list)?;
+    let vec = pieces::vec_on(memory.heap, &contents, number.saturating_add(1))?;
     let capacity = vec.capacity();
-    let Ok(string) = UCString::from_vec(vec) else {
-        return Err(NoAnswer::Unparsed);
-    };
-    let mut answer = Answer::new(memory.alloc);
-    let left = heap.left();
-    match copy(heap, &string, name, number)? {
-        Some(made) => answer.units(made.as_ucstr().as_slice_with_nul()),
-        None if name == "to_ustring" => {
-            answer.units(string.as_ucstr().to_ustring(heap)?.as_slice());
-        }
-        None if name == "boxed" => boxed(&mut answer, string, &contents, capacity)?,
-        None => answer.units(&taken(heap, string, name)?),
+    match UCString::from_vec(vec) {
+        Ok(string) => answer_of(memory, string, (&contents, capacity), (name, number)),
+        Err(_) => Err(NoAnswer::Unparsed),
     }
-    answer.requests(memory.requests_since(left));
-    answer.finish()
 }

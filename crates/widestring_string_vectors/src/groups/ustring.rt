@@ -1,7 +1,8 @@
 //! Calls of owned strings of units of either width, and what they leave of the string. The answer is a `-` if the
 //! offset or the range is out of bounds. The fields of an answer are separated by `;`.
+use crate::groups::outcomes::{done, finished};
 use std::alloc::Global;
-use widestring::error::FaultUnit;
+use widestring::error::{FaultUnit, OutOfMemory};
 use widestring::unit::range_check;
 use widestring::ustr::UStr;
 use widestring::ustring::UString;
@@ -20,11 +21,15 @@ pub fn outside(alloc: Global) -> Result<String, NoAnswer> {
     answer.finish()
 }
 
-// Returns the answer: the units of a string.
-fn units_of<C: FaultUnit>(alloc: Global, string: &UString<C>) -> Result<String, NoAnswer> {
+// Returns the answer: the units of a string after a call.
+fn units_after<C: FaultUnit>(
+    alloc: Global,
+    string: &UString<C>,
+    called: Result<(), OutOfMemory>,
+) -> Result<String, NoAnswer> {
     let mut answer = Answer::new(alloc);
     answer.units(string.as_slice());
-    answer.finish()
+    finished(answer, done(called))
 }
 
 /// Returns the answer: what `pop_char` returns for as many calls as there are units, and one more. A question is empty.
@@ -61,36 +66,6 @@ pub fn remove<C: FaultUnit + FromHex>(
     answer.finish()
 }
 
-// Returns the answer: the units after a character is inserted.
-fn insert_char<C: FaultUnit>(
-    alloc: Global,
-    mut string: UString<C>,
-    at: usize,
-    c: &str,
-) -> Result<String, NoAnswer> {
-    let c = parse::value(c)?;
-    if at > string.len() {
-        return outside(alloc);
-    }
-    string.insert_char(at, c)?;
-    units_of(alloc, &string)
-}
-
-// Returns the answer: the units after those of a view are inserted.
-fn insert_units<C: FaultUnit + FromHex>(
-    alloc: Global,
-    mut string: UString<C>,
-    at: usize,
-    units: &str,
-) -> Result<String, NoAnswer> {
-    let units = parse::list::<C>(alloc, units)?;
-    if at > string.len() {
-        return outside(alloc);
-    }
-    string.insert_ustr(at, UStr::from_slice(&units))?;
-    units_of(alloc, &string)
-}
-
 /// Returns the answer: the units after an insertion. A question is a `c` for a character or an `s` for a view, an
 /// offset, a colon, and the character or the view's units.
 pub fn insert<C: FaultUnit + FromHex>(
@@ -101,12 +76,16 @@ pub fn insert<C: FaultUnit + FromHex>(
     let (before, more) = parse::parts(question)?;
     let (kind, position) = parse::kind(before)?;
     let at = parse::value::<usize>(position)?;
-    let string = string::<C>(alloc, list)?;
-    match kind {
-        b'c' => insert_char(alloc, string, at, more),
-        b's' => insert_units(alloc, string, at, more),
-        _ => Err(NoAnswer::Unparsed),
+    let mut string = string::<C>(alloc, list)?;
+    if at > string.len() {
+        return outside(alloc);
     }
+    let called = match kind {
+        b'c' => string.insert_char(at, parse::value(more)?),
+        b's' => string.insert_ustr(at, UStr::from_slice(&parse::list(alloc, more)?)),
+        _ => return Err(NoAnswer::Unparsed),
+    };
+    units_after(alloc, &string, called)
 }
 
 /// Returns the answer: the units after a range is replaced. A question is a range, a colon, and the units of a view.
@@ -117,60 +96,61 @@ pub fn replace<C: FaultUnit + FromHex>(
 ) -> Result<String, NoAnswer> {
     let (range, more) = parse::parts(question)?;
     let range = parse::range(range)?;
-    let units = parse::list::<C>(alloc, more)?;
     let mut string = string::<C>(alloc, list)?;
     if range_check(range, string.len()).is_none() {
         return outside(alloc);
     }
-    string.replace_range(range, UStr::from_slice(&units))?;
-    units_of(alloc, &string)
+    let called = string.replace_range(range, UStr::from_slice(&parse::list(alloc, more)?));
+    units_after(alloc, &string, called)
 }
 
-// Returns the answer: the number of calls that `retain` makes, and the units left. The closure returns true for a call
-// whose bit is a `1`.
-fn retain_by_call<C: FaultUnit>(
-    alloc: Global,
-    mut string: UString<C>,
-    bits: &[u8],
-) -> Result<String, NoAnswer> {
+// Retains the units whose call has the bit `1`, and adds the number of calls.
+fn retain_by_call<C: FaultUnit>(string: &mut UString<C>, answer: &mut Answer, bits: &[u8]) {
     let mut calls = 0;
     string.retain(|_unit| {
         let bit = bits.get(calls).copied();
         calls = calls.saturating_add(1);
         bit == Some(b'1')
     });
-    let mut answer = Answer::new(alloc);
-    answer.number(u32::try_from(calls).ok());
+    answer.count(Some(calls));
     answer.part();
-    answer.units(string.as_slice());
-    answer.finish()
 }
 
-// Returns the answer: the units left if those with this number are removed.
-fn retain_others<C: FaultUnit + FromHex>(
-    alloc: Global,
-    mut string: UString<C>,
-    gone: &str,
-) -> Result<String, NoAnswer> {
-    let gone = parse::value::<C>(gone)?.code();
+// Retains the units that do not have this number.
+fn retain_others<C: FaultUnit>(string: &mut UString<C>, gone: u32) {
     string.retain(|unit| unit.code() != gone);
-    units_of(alloc, &string)
 }
 
 /// Returns the answer: what `retain` leaves. A question is a `c` and a bit for each call, or a `u` and the unit that is
-/// removed.
+/// removed. For a `c` the number of calls comes first.
 pub fn retain<C: FaultUnit + FromHex>(
     alloc: Global,
     list: &str,
     question: &str,
 ) -> Result<String, NoAnswer> {
     let (kind, word) = parse::kind(question)?;
-    let string = string::<C>(alloc, list)?;
-    match kind {
-        b'c' => retain_by_call(alloc, string, word.as_bytes()),
-        b'u' => retain_others(alloc, string, word),
-        _ => Err(NoAnswer::Unparsed),
+    let mut string = string::<C>(alloc, list)?;
+    let mut answer = Answer::new(alloc);
+    if kind == b'c' {
+        retain_by_call(&mut string, &mut answer, word.as_bytes());
+    } else {
+        retain_others(&mut string, parse::value::<C>(word)?.code());
     }
+    answer.units(string.as_slice());
+    answer.finish()
+}
+
+// Returns the answer: the units of two strings.
+fn units_of_both<C: FaultUnit>(
+    alloc: Global,
+    string: &UString<C>,
+    rest: &UString<C>,
+) -> Result<String, NoAnswer> {
+    let mut answer = Answer::new(alloc);
+    answer.units(string.as_slice());
+    answer.part();
+    answer.units(rest.as_slice());
+    answer.finish()
 }
 
 /// Returns the answer: the units that `split_off` leaves, and those that it returns. A question is an offset.
@@ -184,10 +164,8 @@ pub fn split_off<C: FaultUnit + FromHex>(
     if at > string.len() {
         return outside(alloc);
     }
-    let rest = string.split_off(at)?;
-    let mut answer = Answer::new(alloc);
-    answer.units(string.as_slice());
-    answer.part();
-    answer.units(rest.as_slice());
-    answer.finish()
+    match string.split_off(at) {
+        Ok(rest) => units_of_both(alloc, &string, &rest),
+        Err(OutOfMemory) => Err(NoAnswer::OutOfMemory),
+    }
 }

@@ -4,141 +4,18 @@
 //!
 //! A call adds to the answer what it returns, a `;`, the units that it leaves, and after a `#` the number of its
 //! requests. A string that would be too long is a `-`, with no request.
-use crate::groups::pieces::{self, Units};
+use crate::groups::outcomes::{done, finished, refused, replaced};
+use crate::groups::pieces::{self, How, Item, Units};
+use crate::groups::ustring_items::by_items;
+use std::alloc::Global;
+use std::mem;
 use widestring::error::OutOfMemory;
-use widestring::ucstring::{UStringInUcstring, UStringOverUcstrs};
 use widestring::unit::range_check;
 use widestring::ustr::UStr;
 use widestring::ustring::{CowUStr, UStrInUstring, UString};
-use widestring::utfstring::{UStringInUtfstring, UStringOverUtfstrs};
 use widestring_replay::parse::{self, Memory, NoAnswer};
 use widestring_replay::show::{Answer, ReportedUnit};
 use widestring_testing::Heap;
-
-// Extends a string by items of text.
-fn extend_by_text<C: ReportedUnit>(
-    memory: Memory<'_>,
-    string: &mut Units<'_, C>,
-    kind: &str,
-    items: &str,
-) -> Result<(), NoAnswer> {
-    let alloc = memory.alloc;
-    match kind {
-        "chars" => string.extend_chars(pieces::chars::<C>(alloc, items)?)?,
-        "char_refs" => string.extend_char_refs(&pieces::chars::<C>(alloc, items)?)?,
-        "strs" => {
-            let texts = pieces::strings::<C>(alloc, items)?;
-            string.extend_strs(pieces::strs(alloc, &texts)?)?;
-        }
-        "strings" => string.extend_strings(pieces::strings::<C>(alloc, items)?)?,
-        "utfstrs" => {
-            let texts = pieces::utfstrings::<C>(alloc, items)?;
-            string.extend_utfstrs(pieces::utfstrs(alloc, &texts)?)?;
-        }
-        "utfstrings" => string.extend_utfstrings(pieces::utfstrings::<C>(alloc, items)?)?,
-        _ => return Err(NoAnswer::Unparsed),
-    }
-    Ok(())
-}
-
-// Extends a string by items of any units.
-fn extend_by_units<C: ReportedUnit>(
-    memory: Memory<'_>,
-    string: &mut Units<'_, C>,
-    kind: &str,
-    items: &str,
-) -> Result<(), NoAnswer> {
-    let alloc = memory.alloc;
-    match kind {
-        "ustrs" => {
-            let strings = pieces::ustrings::<C>(alloc, items)?;
-            string.extend_ustrs(pieces::ustrs(alloc, &strings)?)?;
-        }
-        "ustrings" => string.extend_ustrings(pieces::ustrings::<C>(alloc, items)?)?,
-        "ucstrs" => {
-            let strings = pieces::ucstrings::<C>(alloc, items)?;
-            string.extend_ucstrs(pieces::ucstrs(alloc, &strings)?)?;
-        }
-        "ucstrings" => string.extend_ucstrings(pieces::ucstrings::<C>(alloc, items)?)?,
-        "boxed" => string.extend_boxed(pieces::boxed_ustrs::<C>(alloc, items)?)?,
-        "cows" => {
-            let strings = pieces::ustrings::<C>(alloc, items)?;
-            string.extend_cows(pieces::cow_ustrs(alloc, &strings)?)?;
-        }
-        _ => return extend_by_text(memory, string, kind, items),
-    }
-    Ok(())
-}
-
-// Makes a string of items of text. The error is the string of the items before the request that failed.
-fn made_of_text<'a, C: ReportedUnit>(
-    memory: Memory<'a>,
-    kind: &str,
-    items: &str,
-) -> Result<Result<Units<'a, C>, Units<'a, C>>, NoAnswer> {
-    let (heap, alloc) = (memory.heap, memory.alloc);
-    Ok(match kind {
-        "chars" => UString::from_iter_chars(heap, pieces::chars::<C>(alloc, items)?),
-        "char_refs" => UString::from_iter_char_refs(heap, &pieces::chars::<C>(alloc, items)?),
-        "strs" => {
-            let texts = pieces::strings::<C>(alloc, items)?;
-            UString::from_iter_strs(heap, pieces::strs(alloc, &texts)?)
-        }
-        "strings" => UString::from_iter_strings(heap, pieces::strings::<C>(alloc, items)?),
-        "utfstrs" => {
-            let texts = pieces::utfstrings::<C>(alloc, items)?;
-            UString::from_iter_utfstrs(heap, pieces::utfstrs(alloc, &texts)?)
-        }
-        "utfstrings" => UString::from_iter_utfstrings(heap, pieces::utfstrings(alloc, items)?),
-        _ => return Err(NoAnswer::Unparsed),
-    })
-}
-
-// Makes a string of items of any units. The error is the string of the items before the request that failed.
-fn made_of_units<'a, C: ReportedUnit>(
-    memory: Memory<'a>,
-    kind: &str,
-    items: &str,
-) -> Result<Result<Units<'a, C>, Units<'a, C>>, NoAnswer> {
-    let (heap, alloc) = (memory.heap, memory.alloc);
-    Ok(match kind {
-        "ustrs" => {
-            let strings = pieces::ustrings::<C>(alloc, items)?;
-            UString::from_iter_ustrs(heap, pieces::ustrs(alloc, &strings)?)
-        }
-        "ustrings" => UString::from_iter_ustrings(heap, pieces::ustrings::<C>(alloc, items)?),
-        "ucstrs" => {
-            let strings = pieces::ucstrings::<C>(alloc, items)?;
-            UString::from_iter_ucstrs(heap, pieces::ucstrs(alloc, &strings)?)
-        }
-        "ucstrings" => UString::from_iter_ucstrings(heap, pieces::ucstrings(alloc, items)?),
-        "boxed" => UString::from_iter_boxed(heap, pieces::boxed_ustrs::<C>(alloc, items)?),
-        "cows" => {
-            let strings = pieces::ustrings::<C>(alloc, items)?;
-            UString::from_iter_cows(heap, pieces::cow_ustrs(alloc, &strings)?)
-        }
-        _ => return made_of_text(memory, kind, items),
-    })
-}
-
-// Replaces a string by the string of items. If a request fails, by that of the items before it.
-fn collect<'a, C: ReportedUnit>(
-    memory: Memory<'a>,
-    string: &mut Units<'a, C>,
-    kind: &str,
-    items: &str,
-) -> Result<(), NoAnswer> {
-    match made_of_units(memory, kind, items)? {
-        Ok(made) => {
-            *string = made;
-            Ok(())
-        }
-        Err(made) => {
-            *string = made;
-            Err(NoAnswer::OutOfMemory)
-        }
-    }
-}
 
 // Makes a call that takes a text.
 fn with_text<'a, C: ReportedUnit>(
@@ -148,15 +25,29 @@ fn with_text<'a, C: ReportedUnit>(
     text: &str,
 ) -> Result<(), NoAnswer> {
     match name {
-        "push_str" => string.push_str(text)?,
-        "write_str" => string.write_str(text)?,
-        _ => *string = UString::from_str(memory.heap, text)?,
+        "push_str" => done(string.push_str(text)),
+        "write_str" => done(string.write_str(text)),
+        _ => replaced(string, UString::from_str(memory.heap, text)),
     }
-    Ok(())
+}
+
+// Makes a call that takes a capacity, or a number of units.
+fn with_number<'a, C: ReportedUnit>(
+    memory: Memory<'a>,
+    string: &mut Units<'a, C>,
+    name: &str,
+    number: usize,
+) -> Result<(), NoAnswer> {
+    match name {
+        "with_capacity" => replaced(string, UString::with_capacity(memory.heap, number)),
+        "reserve" => done(string.reserve(number)),
+        "reserve_exact" => done(string.reserve_exact(number)),
+        _ => done(string.shrink_to(number)),
+    }
 }
 
 // Makes a call that takes a number, and adds whether the capacity is then as its contract says.
-fn with_number<'a, C: ReportedUnit>(
+fn sized<'a, C: ReportedUnit>(
     memory: Memory<'a>,
     string: &mut Units<'a, C>,
     answer: &mut Answer,
@@ -164,12 +55,7 @@ fn with_number<'a, C: ReportedUnit>(
     number: usize,
 ) -> Result<(), NoAnswer> {
     let (len, before) = (string.len(), string.capacity());
-    match name {
-        "with_capacity" => *string = UString::with_capacity(memory.heap, number)?,
-        "reserve" => string.reserve(number)?,
-        "reserve_exact" => string.reserve_exact(number)?,
-        _ => string.shrink_to(number)?,
-    }
+    with_number(memory, string, name, number)?;
     answer.decided(has_capacity(name, number, len, before, string.capacity()));
     Ok(())
 }
@@ -182,8 +68,8 @@ pub fn has_capacity(name: &str, number: usize, len: usize, before: usize, after:
         "reserve" => after >= len.saturating_add(number),
         "reserve_exact" => after == before.max(len.saturating_add(number)),
         _ => {
-            let is_smaller = after < before || before <= len.max(number);
-            is_smaller && after >= number.min(before) && after <= before
+            let is_smaller = (after < before) | (before <= len.max(number));
+            is_smaller & (after >= number.min(before)) & (after <= before)
         }
     }
 }
@@ -193,11 +79,24 @@ fn with_units<C: ReportedUnit>(
     string: &mut Units<'_, C>,
     name: &str,
     units: &[C],
-) -> Result<(), OutOfMemory> {
-    let view = UStr::from_slice(units);
+) -> Result<(), NoAnswer> {
     match name {
-        "push" => string.push(view),
-        _ => string.push_slice(units),
+        "push" => done(string.push(UStr::from_slice(units))),
+        _ => done(string.push_slice(units)),
+    }
+}
+
+/// Adds the units of a string that a call made.
+pub fn shown<C: ReportedUnit>(
+    answer: &mut Answer,
+    made: Result<Units<'_, C>, OutOfMemory>,
+) -> Result<(), NoAnswer> {
+    match made {
+        Ok(made) => {
+            answer.units(made.as_vec());
+            Ok(())
+        }
+        Err(OutOfMemory) => Err(NoAnswer::OutOfMemory),
     }
 }
 
@@ -211,11 +110,29 @@ fn owned<'a, C: ReportedUnit>(
 
 // Makes an owned string of an owned one.
 fn kept<'a, C: ReportedUnit>(
-    memory: Memory<'a>,
+    heap: &'a Heap,
     string: Units<'a, C>,
 ) -> Result<Units<'a, C>, OutOfMemory> {
     let owned: CowUStr<'a, C, &'a Heap> = CowUStr::Owned(string);
-    owned.into_owned(memory.heap)
+    owned.into_owned(heap)
+}
+
+// Repeats the units of a string.
+fn repeat<'a, C: ReportedUnit>(
+    heap: &'a Heap,
+    string: &mut Units<'a, C>,
+    times: usize,
+) -> Result<(), NoAnswer> {
+    let made = string.as_ustr().repeat(heap, times);
+    replaced(string, made)
+}
+
+// Shrinks the capacity to the length, and adds whether it is then as the call's contract says.
+fn fitted<C: ReportedUnit>(string: &mut Units<'_, C>, answer: &mut Answer) -> Result<(), NoAnswer> {
+    let before = string.capacity();
+    done(string.shrink_to_fit())?;
+    answer.decided(has_capacity("", 0, string.len(), before, string.capacity()));
+    Ok(())
 }
 
 // Makes a call that takes nothing and may allocate.
@@ -225,43 +142,28 @@ fn alone<'a, C: ReportedUnit>(
     answer: &mut Answer,
     name: &str,
 ) -> Result<(), NoAnswer> {
+    let heap = memory.heap;
     match name {
-        "new" => {
-            *string = UString::new(memory.heap);
-            answer.count(Some(string.capacity()));
-        }
-        "shrink_to_fit" => {
-            let before = string.capacity();
-            string.shrink_to_fit()?;
-            answer.decided(has_capacity("", 0, string.len(), before, string.capacity()));
-        }
-        "try_clone" => answer.units(string.try_clone()?.as_vec()),
-        "to_ustring" => answer.units(string.as_ustr().to_ustring(memory.heap)?.as_slice()),
-        "into_owned" => answer.units(owned(memory.heap, string.as_ustr())?.as_slice()),
+        "shrink_to_fit" => fitted(string, answer),
+        "try_clone" => shown(answer, string.try_clone()),
+        "to_ustring" => shown(answer, string.as_ustr().to_ustring(heap)),
+        "into_owned" => shown(answer, owned(heap, string.as_ustr())),
         "keep" => {
-            let given = std::mem::replace(string, UString::new(memory.heap));
-            *string = kept(memory, given)?;
+            let given = mem::replace(string, UString::new(heap));
+            replaced(string, kept(heap, given))
         }
-        "boxed" => return boxed(memory, string),
-        _ => without_memory(string, answer, name)?,
+        "boxed" => boxed(heap, string),
+        _ => without_memory(heap, string, answer, name),
     }
-    Ok(())
 }
 
 // Makes a box of a string, and a string of that, whose capacity must be its length.
-fn boxed<'a, C: ReportedUnit>(
-    memory: Memory<'a>,
-    string: &mut Units<'a, C>,
-) -> Result<(), NoAnswer> {
-    match std::mem::replace(string, UString::new(memory.heap)).into_boxed_ustr() {
+fn boxed<'a, C: ReportedUnit>(heap: &'a Heap, string: &mut Units<'a, C>) -> Result<(), NoAnswer> {
+    match mem::replace(string, UString::new(heap)).into_boxed_ustr() {
         Ok(boxed) => {
             let len = boxed.as_ustr().len();
             *string = boxed.into_ustring();
-            if string.len() == len && string.capacity() == len {
-                Ok(())
-            } else {
-                Err(NoAnswer::Unparsed)
-            }
+            is_exact(string, len)
         }
         Err(given) => {
             *string = given;
@@ -270,13 +172,27 @@ fn boxed<'a, C: ReportedUnit>(
     }
 }
 
+// Returns an error if a string has another length, or spare capacity.
+fn is_exact<C: ReportedUnit>(string: &Units<'_, C>, len: usize) -> Result<(), NoAnswer> {
+    if (string.len() == len) & (string.capacity() == len) {
+        Ok(())
+    } else {
+        Err(NoAnswer::Unparsed)
+    }
+}
+
 // Makes a call that takes nothing and does not allocate.
-fn without_memory<C: ReportedUnit>(
-    string: &mut Units<'_, C>,
+fn without_memory<'a, C: ReportedUnit>(
+    heap: &'a Heap,
+    string: &mut Units<'a, C>,
     answer: &mut Answer,
     name: &str,
 ) -> Result<(), NoAnswer> {
     match name {
+        "new" => {
+            *string = UString::new(heap);
+            answer.count(Some(string.capacity()));
+        }
         "clear" => {
             string.clear();
             answer.decided(string.is_empty());
@@ -289,15 +205,15 @@ fn without_memory<C: ReportedUnit>(
 }
 
 // Makes a call at an offset, if it is within bounds.
-fn at_offset<'a, C: ReportedUnit>(
-    string: &mut Units<'a, C>,
+fn at_offset<C: ReportedUnit>(
+    string: &mut Units<'_, C>,
     answer: &mut Answer,
     name: &str,
     at: usize,
 ) -> Result<(), NoAnswer> {
     match name {
         "truncate" => string.truncate(at),
-        "split_off" if at <= string.len() => answer.units(string.split_off(at)?.as_slice()),
+        "split_off" if at <= string.len() => return shown(answer, string.split_off(at)),
         "remove_char" if at < string.len() => answer.number(Some(string.remove_char(at))),
         _ => return Err(NoAnswer::Unparsed),
     }
@@ -306,53 +222,77 @@ fn at_offset<'a, C: ReportedUnit>(
 
 // Makes a call at an offset that takes more arguments.
 fn put_in<C: ReportedUnit>(
-    memory: Memory<'_>,
+    alloc: Global,
     string: &mut Units<'_, C>,
     name: &str,
     more: &str,
 ) -> Result<(), NoAnswer> {
-    let (at, more) = parse::parts(more)?;
+    let (at, list) = parse::parts(more)?;
     let at = parse::value::<usize>(at)?;
-    let units = parse::list::<C>(memory.alloc, more)?;
     if at > string.len() {
         return Err(NoAnswer::Unparsed);
     }
-    if name == "insert_ustr" {
-        string.insert_ustr(at, UStr::from_slice(&units))?;
-    } else {
-        string.insert_char(
-            at,
-            pieces::only_char(&pieces::text::<C>(memory.alloc, more)?)?,
-        )?;
+    if name == "insert_char" {
+        return done(string.insert_char(at, Item::<C>::of(alloc, list)?));
     }
-    Ok(())
+    done(string.insert_ustr(at, UStr::from_slice(&parse::list(alloc, list)?)))
 }
 
 // Makes a call at a range.
 fn at_range<C: ReportedUnit>(
-    memory: Memory<'_>,
+    alloc: Global,
     string: &mut Units<'_, C>,
     answer: &mut Answer,
     name: &str,
     more: &str,
 ) -> Result<(), NoAnswer> {
-    let (range, more) = parse::parts(more)?;
+    let (range, list) = parse::parts(more)?;
     let range = parse::range(range)?;
     let Some(found) = range_check(range, string.len()) else {
         return Err(NoAnswer::Unparsed);
     };
     match name {
         "splice_str" => {
-            let text = pieces::text::<C>(memory.alloc, more)?;
-            string.splice_str(found.start, found.end, &text)?;
+            let text = pieces::text::<C>(alloc, list)?;
+            done(string.splice_str(found.start, found.end, &text))
         }
         "replace_range" => {
-            let units = parse::list::<C>(memory.alloc, more)?;
-            string.replace_range(range, UStr::from_slice(&units))?;
+            let units = parse::list::<C>(alloc, list)?;
+            done(string.replace_range(range, UStr::from_slice(&units)))
         }
-        _ => answer.unit(string.drain(range).next()),
+        _ => {
+            answer.unit(string.drain(range).next());
+            Ok(())
+        }
     }
-    Ok(())
+}
+
+// Makes a call that takes text, characters or units.
+fn with_list<'a, C: ReportedUnit>(
+    memory: Memory<'a>,
+    string: &mut Units<'a, C>,
+    name: &str,
+    list: &str,
+) -> Result<(), NoAnswer> {
+    let alloc = memory.alloc;
+    match name {
+        "push_str" | "write_str" | "from_str" => {
+            with_text(memory, string, name, &pieces::text::<C>(alloc, list)?)
+        }
+        "push_char" => done(string.push_char(parse::value(list)?)),
+        "write_char" => done(string.write_char(parse::value(list)?)),
+        "push" | "push_slice" => with_units(string, name, &parse::list(alloc, list)?),
+        "retain_other" => {
+            retain_other(string, &parse::list(alloc, list)?);
+            Ok(())
+        }
+        _ => Err(NoAnswer::Unparsed),
+    }
+}
+
+// Retains the units that are not given.
+fn retain_other<C: ReportedUnit>(string: &mut Units<'_, C>, gone: &[C]) {
+    string.retain(|unit| !gone.contains(&unit));
 }
 
 // Makes a call, and adds what it returns.
@@ -362,46 +302,34 @@ fn call<'a, C: ReportedUnit>(
     answer: &mut Answer,
     call: &str,
 ) -> Result<(), NoAnswer> {
-    let alloc = memory.alloc;
     let Some((name, more)) = call.split_once(' ') else {
         return alone(memory, string, answer, call);
     };
     if let Some(kind) = name.strip_prefix("extend_") {
-        return extend_by_units(memory, string, kind, more);
+        return by_items(memory, string, How::Extend, kind, more);
     }
     if let Some(kind) = name.strip_prefix("from_iter_") {
-        return collect(memory, string, kind, more);
+        return by_items(memory, string, How::Make, kind, more);
     }
     match name {
-        "push_str" | "write_str" | "from_str" => {
-            with_text(memory, string, name, &pieces::text::<C>(alloc, more)?)
-        }
-        "push_char" => Ok(string.push_char(parse::value(more)?)?),
-        "write_char" => Ok(string.write_char(parse::value(more)?)?),
-        "push" | "push_slice" => Ok(with_units(string, name, &parse::list(alloc, more)?)?),
         "with_capacity" | "reserve" | "reserve_exact" | "shrink_to" => {
-            with_number(memory, string, answer, name, parse::value(more)?)
+            sized(memory, string, answer, name, parse::value(more)?)
         }
-        "repeat" => {
-            *string = string.as_ustr().repeat(memory.heap, parse::value(more)?)?;
-            Ok(())
-        }
-        "retain_other" => {
-            let gone = parse::list::<C>(alloc, more)?;
-            string.retain(|unit| !gone.contains(&unit));
-            Ok(())
-        }
+        "repeat" => repeat(memory.heap, string, parse::value(more)?),
         "truncate" | "split_off" | "remove_char" => {
             at_offset(string, answer, name, parse::value(more)?)
         }
-        "insert_ustr" | "insert_char" => put_in(memory, string, name, more),
-        _ => at_range(memory, string, answer, name, more),
+        "insert_ustr" | "insert_char" => put_in(memory.alloc, string, name, more),
+        "splice_str" | "replace_range" | "drain" => {
+            at_range(memory.alloc, string, answer, name, more)
+        }
+        _ => with_list(memory, string, name, more),
     }
 }
 
-// Makes a call of a script, and adds what it returns, leaves and requests. Adds a `?` if a request failed and the
-// string is then not as the contract says.
-fn step<'a, C: ReportedUnit>(
+// Makes a call of a script, and adds what it returns. Adds a `?` if a request failed and the string is then not as the
+// contract says.
+fn tried<'a, C: ReportedUnit>(
     memory: Memory<'a>,
     string: &mut Units<'a, C>,
     answer: &mut Answer,
@@ -409,23 +337,35 @@ fn step<'a, C: ReportedUnit>(
 ) -> Result<(), NoAnswer> {
     let units = Vec::from_slice(memory.alloc, string.as_slice())?;
     let before = (units.as_slice(), string.capacity());
-    let left = memory.heap.left();
     match call(memory, string, answer, written) {
         Err(NoAnswer::OutOfMemory) => {
             let after = (string.as_slice(), string.capacity());
-            if !pieces::is_kept(memory.alloc, written, before, after)? {
-                answer.word("?");
-            } else if memory.heap.refused() == 0 {
-                answer.word("-");
-            } else {
-                return Err(NoAnswer::OutOfMemory);
-            }
+            let is_kept = pieces::is_kept(memory.alloc, written, before, after);
+            refused(memory.heap, answer, is_kept)
         }
-        done => done?,
+        called => called,
     }
-    answer.part();
-    answer.units(string.as_slice());
-    answer.requests(memory.requests_since(left));
+}
+
+// Makes the calls of a script, and adds what each returns, leaves and requests.
+fn make_calls<'a, C: ReportedUnit>(
+    memory: Memory<'a>,
+    string: &mut Units<'a, C>,
+    answer: &mut Answer,
+    calls: &str,
+) -> Result<(), NoAnswer> {
+    let mut is_first = true;
+    for written in calls.split('/') {
+        if !is_first {
+            answer.part();
+        }
+        is_first = false;
+        let left = memory.heap.left();
+        tried(memory, string, answer, written)?;
+        answer.part();
+        answer.units(string.as_slice());
+        answer.requests(memory.requests_since(left));
+    }
     Ok(())
 }
 
@@ -435,19 +375,12 @@ pub fn script<C: ReportedUnit>(
     list: &str,
     question: &str,
 ) -> Result<String, NoAnswer> {
-    let units = parse::list::<C>(memory.alloc, list)?;
     let Some((spare, calls)) = question.split_once('/') else {
         return Err(NoAnswer::Unparsed);
     };
-    let mut string = UString::from_vec(pieces::vec_on(memory.heap, &units, parse::value(spare)?)?);
+    let units = pieces::counted::<C>(memory, list, parse::value(spare)?)?;
+    let mut string = UString::from_vec(units);
     let mut answer = Answer::new(memory.alloc);
-    let mut is_first = true;
-    for written in calls.split('/') {
-        if !is_first {
-            answer.part();
-        }
-        is_first = false;
-        step(memory, &mut string, &mut answer, written)?;
-    }
-    answer.finish()
+    let called = make_calls(memory, &mut string, &mut answer, calls);
+    finished(answer, called)
 }

@@ -21,8 +21,9 @@
 //!   closure.
 //! - `p`, `l`: `pop`, `clear`.
 //! - `.`: a call by its name, of `text_calls`.
+use crate::groups::outcomes::{done, finished, refused};
 use crate::groups::pieces::{self, Text};
-use crate::groups::text_calls;
+use crate::groups::text_calls::{self, shown};
 use std::alloc::Global;
 use std::ops::Bound;
 use widestring::error::{FaultUnit, UtfError};
@@ -33,25 +34,9 @@ use widestring::ustring::UString;
 use widestring::utfstr::UtfStr;
 use widestring::utfstring::UtfString;
 use widestring_replay::asked;
-use widestring_replay::made::text_of;
 use widestring_replay::parse::{self, FromHex, Memory, NoAnswer};
 use widestring_replay::show::{Answer, ReportedUnit};
 use widestring_testing::Heap;
-
-// Makes the string of a text.
-fn of_text<'a, C: FaultUnit>(memory: Memory<'a>, units: &[C]) -> Result<Text<'a, C>, NoAnswer> {
-    let text = text_of(memory.alloc, units)?;
-    Ok(UtfString::from_str(memory.heap, &text)?)
-}
-
-// Makes the string of the characters of a text.
-fn of_chars<'a, C: FaultUnit>(memory: Memory<'a>, units: &[C]) -> Result<Text<'a, C>, NoAnswer> {
-    let text = text_of(memory.alloc, units)?;
-    match UtfString::from_iter_chars(memory.heap, text.chars()) {
-        Ok(string) => Ok(string),
-        Err(_) => Err(NoAnswer::OutOfMemory),
-    }
-}
 
 // Inserts a character at an offset.
 fn insert<C: FaultUnit>(
@@ -62,27 +47,23 @@ fn insert<C: FaultUnit>(
 ) -> Result<(), NoAnswer> {
     let c = parse::value(c)?;
     if string.as_utfstr().is_char_boundary(at) {
-        string.insert(at, c)?;
-    } else {
-        answer.number(None);
+        return done(string.insert(at, c));
     }
+    answer.number(None);
     Ok(())
 }
 
 // Inserts a text at an offset.
-fn insert_text<C: FaultUnit + FromHex>(
-    alloc: Global,
+fn insert_text<C: FaultUnit>(
     string: &mut Text<'_, C>,
     answer: &mut Answer,
     at: usize,
-    list: &str,
+    with: UtfStr<'_, C>,
 ) -> Result<(), NoAnswer> {
-    let with = pieces::utfstring(alloc, list)?;
     if string.as_utfstr().is_char_boundary(at) {
-        string.insert_utfstr(at, with.as_utfstr())?;
-    } else {
-        answer.number(None);
+        return done(string.insert_utfstr(at, with));
     }
+    answer.number(None);
     Ok(())
 }
 
@@ -111,10 +92,9 @@ fn split_off<C: FaultUnit>(
     at: usize,
 ) -> Result<(), NoAnswer> {
     if string.as_utfstr().is_char_boundary(at) {
-        answer.units(string.split_off(at)?.as_slice());
-    } else {
-        answer.number(None);
+        return shown(answer, string.split_off(at));
     }
+    answer.number(None);
     Ok(())
 }
 
@@ -148,11 +128,10 @@ fn replace<C: FaultUnit>(
     range: (Bound<usize>, Bound<usize>),
     with: UtfStr<'_, C>,
 ) -> Result<(), NoAnswer> {
-    if string.as_utfstr().get(range).is_none() {
-        answer.number(None);
-        return Ok(());
+    if string.as_utfstr().get(range).is_some() {
+        return done(string.replace_range(range, with));
     }
-    string.replace_range(range, with)?;
+    answer.number(None);
     Ok(())
 }
 
@@ -184,34 +163,10 @@ fn extend<C: FaultUnit>(
     chars: Vec<char>,
 ) -> Result<(), NoAnswer> {
     if kind == b'e' {
-        string.extend_chars(chars)?;
+        done(string.extend_chars(chars))
     } else {
-        string.extend_char_refs(&chars)?;
+        done(string.extend_char_refs(&chars))
     }
-    Ok(())
-}
-
-// Appends a text, by its characters.
-fn push_str<C: FaultUnit + FromHex>(
-    alloc: Global,
-    string: &mut Text<'_, C>,
-    list: &str,
-) -> Result<(), NoAnswer> {
-    let units = parse::list::<C>(alloc, list)?;
-    let text = text_of(alloc, &units)?;
-    string.push_str(&text)?;
-    Ok(())
-}
-
-// Appends a text, by its units.
-fn push_view<C: FaultUnit + FromHex>(
-    alloc: Global,
-    string: &mut Text<'_, C>,
-    list: &str,
-) -> Result<(), NoAnswer> {
-    let with = pieces::utfstring(alloc, list)?;
-    string.push_utfstr(with.as_utfstr())?;
-    Ok(())
 }
 
 // Inserts a character (`i`) or a text at an offset, and adds the answer.
@@ -222,12 +177,17 @@ fn put_in<C: FaultUnit + FromHex>(
     kind: u8,
     more: &str,
 ) -> Result<(), NoAnswer> {
-    let (position, more) = parse::parts(more)?;
+    let (position, list) = parse::parts(more)?;
     let at = parse::value(position)?;
     if kind == b'i' {
-        return insert(string, answer, at, more);
+        return insert(string, answer, at, list);
     }
-    insert_text(alloc, string, answer, at, more)
+    insert_text(
+        string,
+        answer,
+        at,
+        pieces::utfstring(alloc, list)?.as_utfstr(),
+    )
 }
 
 // Removes the character at an offset (`r`) or all text from there on, and adds the answer.
@@ -240,7 +200,7 @@ fn cut<C: FaultUnit>(
     match kind {
         b'r' => remove(string, answer, at),
         b't' => truncate(string, answer, at),
-        _ => split_off(string, answer, at)?,
+        _ => return split_off(string, answer, at),
     }
     Ok(())
 }
@@ -267,6 +227,23 @@ fn call_in<C: FaultUnit + FromHex>(
     )
 }
 
+// Makes a call that removes text and allocates nothing, and adds what it returns.
+fn removed<C: FaultUnit>(
+    string: &mut Text<'_, C>,
+    answer: &mut Answer,
+    kind: u8,
+    more: &str,
+) -> Result<(), NoAnswer> {
+    match kind {
+        b'k' => retain(string, answer, parse::value(more)?),
+        b'K' => retain_by_call(string, answer, more.as_bytes()),
+        b'p' => answer.character(string.pop()),
+        b'l' => string.clear(),
+        _ => return Err(NoAnswer::Unparsed),
+    }
+    Ok(())
+}
+
 // Makes a call, and adds what it returns.
 fn call<'a, C: ReportedUnit>(
     memory: Memory<'a>,
@@ -277,21 +254,16 @@ fn call<'a, C: ReportedUnit>(
     let alloc = memory.alloc;
     let (kind, more) = parse::kind(call)?;
     match kind {
-        b'c' => string.push(parse::value(more)?)?,
-        b's' => push_str(alloc, string, more)?,
-        b'u' => push_view(alloc, string, more)?,
-        b'e' | b'n' => extend(string, kind, parse::list(alloc, more)?)?,
-        b'i' | b'j' => put_in(alloc, string, answer, kind, more)?,
-        b'r' | b't' | b'o' => cut(string, answer, kind, parse::value(more)?)?,
-        b'x' | b'd' => call_in(alloc, string, answer, kind, more)?,
-        b'k' => retain(string, answer, parse::value(more)?),
-        b'K' => retain_by_call(string, answer, more.as_bytes()),
-        b'p' => answer.character(string.pop()),
-        b'l' => string.clear(),
-        b'.' => text_calls::named(memory, string, answer, more)?,
-        _ => return Err(NoAnswer::Unparsed),
+        b'c' => done(string.push(parse::value(more)?)),
+        b's' => done(string.push_str(&pieces::text::<C>(alloc, more)?)),
+        b'u' => done(string.push_utfstr(pieces::utfstring(alloc, more)?.as_utfstr())),
+        b'e' | b'n' => extend(string, kind, parse::list(alloc, more)?),
+        b'i' | b'j' => put_in(alloc, string, answer, kind, more),
+        b'r' | b't' | b'o' => cut(string, answer, kind, parse::value(more)?),
+        b'x' | b'd' => call_in(alloc, string, answer, kind, more),
+        b'.' => text_calls::named(memory, string, answer, more),
+        _ => removed(string, answer, kind, more),
     }
-    Ok(())
 }
 
 // Returns whether a call whose request failed left the string as its contract says.
@@ -304,12 +276,12 @@ fn is_kept<C: ReportedUnit>(
     match parse::kind(call)? {
         (b'e' | b'n', _) => Ok(after.0.starts_with(before.0)),
         (b'.', named) => pieces::is_kept(alloc, named, before, after),
-        _ => Ok(before.0 == after.0 && before.1 == after.1),
+        _ => Ok((before.0 == after.0) & (before.1 == after.1)),
     }
 }
 
 // Makes a call of a script, and adds what it returns. A text that would be too long is a `-`, with no request.
-fn step<'a, C: ReportedUnit>(
+fn tried<'a, C: ReportedUnit>(
     memory: Memory<'a>,
     string: &mut Text<'a, C>,
     answer: &mut Answer,
@@ -320,21 +292,36 @@ fn step<'a, C: ReportedUnit>(
     match call(memory, string, answer, written) {
         Err(NoAnswer::OutOfMemory) => {
             let after = (string.as_slice(), string.capacity());
-            if !is_kept(memory.alloc, written, before, after)? {
-                answer.word("?");
-            } else if memory.heap.refused() == 0 {
-                answer.word("-");
-            } else {
-                return Err(NoAnswer::OutOfMemory);
-            }
-            Ok(())
+            let is_kept = is_kept(memory.alloc, written, before, after);
+            refused(memory.heap, answer, is_kept)
         }
-        done => done,
+        called => called,
     }
 }
 
-// Returns the answer: what the calls after the first return and leave, if there are any, and how many requests each
-// makes, if the question asks for that.
+// Makes the calls of a script. Adds what each returns and leaves, and how many requests it makes, if the question asks
+// for that.
+fn make_calls<'a, C: ReportedUnit>(
+    memory: Memory<'a>,
+    string: &mut Text<'a, C>,
+    answer: &mut Answer,
+    calls: &str,
+    counts: bool,
+) -> Result<(), NoAnswer> {
+    for written in calls.split('/') {
+        answer.part();
+        let left = memory.heap.left();
+        tried(memory, string, answer, written)?;
+        answer.part();
+        answer.units(string.as_slice());
+        if counts {
+            answer.requests(memory.requests_since(left));
+        }
+    }
+    Ok(())
+}
+
+// Returns the answer about a string: its units, and what comes of the calls, if there are any.
 fn edited<'a, C: ReportedUnit>(
     memory: Memory<'a>,
     mut string: Text<'a, C>,
@@ -343,24 +330,15 @@ fn edited<'a, C: ReportedUnit>(
 ) -> Result<String, NoAnswer> {
     let mut answer = Answer::new(memory.alloc);
     answer.units(string.as_slice());
-    let Some(calls) = calls else {
-        return answer.finish();
+    let called = match calls {
+        None => Ok(()),
+        Some(calls) => make_calls(memory, &mut string, &mut answer, calls, counts),
     };
-    for written in calls.split('/') {
-        answer.part();
-        let left = memory.heap.left();
-        step(memory, &mut string, &mut answer, written)?;
-        answer.part();
-        answer.units(string.as_slice());
-        if counts {
-            answer.requests(memory.requests_since(left));
-        }
-    }
-    answer.finish()
+    finished(answer, called)
 }
 
 // Returns the answer: the fault of ill-formed units.
-fn refused<'a, C: ReportedUnit>(
+fn faulty<'a, C: ReportedUnit>(
     alloc: Global,
     error: UtfError<C, &'a Heap>,
 ) -> Result<String, NoAnswer> {
@@ -371,18 +349,49 @@ fn refused<'a, C: ReportedUnit>(
     answer.finish()
 }
 
-// Makes the string of a vector, of a string of any units or of a C string.
-fn of_vec<'a, C: ReportedUnit>(
+// What a call makes of a list, or its error.
+type Made<'a, C> = Result<Result<Text<'a, C>, UtfError<C, &'a Heap>>, NoAnswer>;
+
+// Makes the string of a text.
+fn of_text<'a, C: FaultUnit>(heap: &'a Heap, text: &str) -> Made<'a, C> {
+    match UtfString::from_str(heap, text) {
+        Ok(string) => Ok(Ok(string)),
+        Err(_) => Err(NoAnswer::OutOfMemory),
+    }
+}
+
+// Makes the string of the characters of a text.
+fn of_chars<'a, C: FaultUnit>(heap: &'a Heap, text: &str) -> Made<'a, C> {
+    match UtfString::from_iter_chars(heap, text.chars()) {
+        Ok(string) => Ok(Ok(string)),
+        Err(_) => Err(NoAnswer::OutOfMemory),
+    }
+}
+
+// Makes the string of a C string.
+fn of_c_string<'a, C: ReportedUnit>(units: Vec<C, &'a Heap>) -> Made<'a, C> {
+    match UCString::from_vec(units) {
+        Ok(string) => Ok(UtfString::from_ucstring(string)),
+        Err(_) => Err(NoAnswer::OutOfMemory),
+    }
+}
+
+// Makes the string of a list, by the letter of what it is made from.
+fn made<'a, C: ReportedUnit>(
+    memory: Memory<'a>,
     kind: &str,
-    units: Vec<C, &'a Heap>,
-) -> Result<Result<Text<'a, C>, UtfError<C, &'a Heap>>, NoAnswer> {
+    list: &str,
+    spare: usize,
+) -> Made<'a, C> {
     match kind {
-        "v" => Ok(UtfString::from_vec(units)),
-        "u" => Ok(UtfString::from_ustring(UString::from_vec(units))),
-        "c" => match UCString::from_vec(units) {
-            Ok(string) => Ok(UtfString::from_ucstring(string)),
-            Err(_) => Err(NoAnswer::OutOfMemory),
-        },
+        "t" => of_text(memory.heap, &pieces::text::<C>(memory.alloc, list)?),
+        "f" => of_chars(memory.heap, &pieces::text::<C>(memory.alloc, list)?),
+        "v" => Ok(UtfString::from_vec(pieces::counted(memory, list, spare)?)),
+        "u" => {
+            let units = pieces::counted(memory, list, spare)?;
+            Ok(UtfString::from_ustring(UString::from_vec(units)))
+        }
+        "c" => of_c_string(pieces::counted(memory, list, spare)?),
         _ => Err(NoAnswer::Unparsed),
     }
 }
@@ -397,24 +406,14 @@ pub fn script<C: ReportedUnit>(
         None => (question, None),
         Some((maker, calls)) => (maker, Some(calls)),
     };
-    let (kind, spare) = match maker.split_once('+') {
-        None => (maker, None),
-        Some((kind, spare)) => (kind, Some(parse::value::<usize>(spare)?)),
+    let (kind, spare, counts) = match maker.split_once('+') {
+        None => (maker, 0, false),
+        Some((kind, spare)) => (kind, parse::value::<usize>(spare)?, true),
     };
-    let units = parse::list::<C>(memory.alloc, list)?;
-    let counts = spare.is_some();
-    if kind == "t" {
-        return edited(memory, of_text(memory, &units)?, calls, counts);
-    }
-    if kind == "f" {
-        return edited(memory, of_chars(memory, &units)?, calls, counts);
-    }
-    match of_vec(
-        kind,
-        pieces::vec_on(memory.heap, &units, spare.unwrap_or(0))?,
-    )? {
-        Ok(string) => edited(memory, string, calls, counts),
-        Err(error) if calls.is_none() => refused(memory.alloc, error),
-        Err(_) => Err(NoAnswer::Unparsed),
+    match made::<C>(memory, kind, list, spare) {
+        Ok(Ok(string)) => edited(memory, string, calls, counts),
+        Ok(Err(error)) if calls.is_none() => faulty(memory.alloc, error),
+        Ok(Err(_)) => Err(NoAnswer::Unparsed),
+        Err(error) => Err(error),
     }
 }
