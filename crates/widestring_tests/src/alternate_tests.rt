@@ -75,37 +75,57 @@ fn c_strings(rt: HostRuntime) -> Result<(), Fail> {
     Ok(())
 }
 
+// Returns whether borrowed units print as a view does.
+fn prints_borrowed_units(alloc: Global, string: U16String) -> bool {
+    let borrowed: CowUStr<'_, u16> = CowUStr::Borrowed(string.as_ustr());
+    prints(alloc, &borrowed, DEBUG)
+}
+
+// The same for text.
+fn prints_borrowed_text(alloc: Global, string: Utf16String) -> bool {
+    let borrowed: CowUtfStr<'_, u16> = CowUtfStr::Borrowed(string.as_utfstr());
+    prints(alloc, &borrowed, DEBUG)
+}
+
 #[test]
 fn borrowed_strings(rt: HostRuntime) -> Result<(), Fail> {
     let alloc = rt.alloc();
-    let units: U16String = U16String::from_str(alloc, TEXT)?;
-    let text: Utf16String = Utf16String::from_str(alloc, TEXT)?;
-    let units: CowUStr<'_, u16> = CowUStr::Borrowed(units.as_ustr());
-    let text: CowUtfStr<'_, u16> = CowUtfStr::Borrowed(text.as_utfstr());
-    assert!(rt; prints(alloc, &units, DEBUG) && prints(alloc, &text, DEBUG));
+    let is_units = prints_borrowed_units(alloc, U16String::from_str(alloc, TEXT)?);
+    let is_text = prints_borrowed_text(alloc, Utf16String::from_str(alloc, TEXT)?);
+    all_hold(&rt, &[is_units, is_text]);
     Ok(())
+}
+
+// Returns whether a boxed view of any units prints as a view does.
+fn prints_boxed_units(alloc: Global, string: U16String) -> bool {
+    match string.into_boxed_ustr() {
+        Ok(boxed) => prints(alloc, &boxed, DEBUG),
+        Err(_) => false,
+    }
+}
+
+// The same for text.
+fn prints_boxed_text(alloc: Global, string: Utf16String) -> bool {
+    match string.into_boxed_utfstr() {
+        Ok(boxed) => prints(alloc, &boxed, DEBUG),
+        Err(_) => false,
+    }
+}
+
+// The same for a C string.
+fn prints_boxed_c_string(alloc: Global, string: U16CString) -> bool {
+    match string.into_boxed_ucstr() {
+        Ok(boxed) => prints(alloc, &boxed, DEBUG_WITH_NUL),
+        Err(_) => false,
+    }
 }
 
 #[test]
 fn boxed_strings(rt: HostRuntime) -> Result<(), Fail> {
     let alloc = rt.alloc();
-    let units: U16String = U16String::from_str(alloc, TEXT)?;
-    let text: Utf16String = Utf16String::from_str(alloc, TEXT)?;
-    let string: U16CString = U16CString::from_str(alloc, TEXT)?;
-    let cases = [
-        match units.into_boxed_ustr() {
-            Ok(boxed) => prints(alloc, &boxed, DEBUG),
-            Err(_) => false,
-        },
-        match text.into_boxed_utfstr() {
-            Ok(boxed) => prints(alloc, &boxed, DEBUG),
-            Err(_) => false,
-        },
-        match string.into_boxed_ucstr() {
-            Ok(boxed) => prints(alloc, &boxed, DEBUG_WITH_NUL),
-            Err(_) => false,
-        },
-    ];
-    all_hold(&rt, &cases);
+    let is_units = prints_boxed_units(alloc, U16String::from_str(alloc, TEXT)?);
+    let is_text = prints_boxed_text(alloc, Utf16String::from_str(alloc, TEXT)?);
+    let is_c_string = prints_boxed_c_string(alloc, U16CString::from_str(alloc, TEXT)?);
+    all_hold(&rt, &[is_units, is_text, is_c_string]);
     Ok(())
 }

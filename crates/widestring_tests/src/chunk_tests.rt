@@ -1,5 +1,6 @@
 //! Tests of `transcode` with texts split in many ways, with faults, pairs, BOMs and zero units around the ends of the
 //! chunks that it reads. The expected result is what the standard library's decoder makes of the whole file.
+use crate::all_hold::{all_hold, case_holds};
 use std::alloc::{AllocError, Global};
 use widestring::Policy;
 use widestring::bytes::{FromWrite, Mode, transcode, transcode_with};
@@ -10,35 +11,40 @@ use widestring_testing::SlowSource;
 const PIECE: usize = 4096;
 
 // A text of UTF-16 in a file.
-#[derive(Drop)]
-struct File {
-    units: Vec<u16>,
+#[derive(Clone, Copy)]
+struct File<'a> {
+    units: &'a [u16],
     is_big: bool,
     has_mark: bool,
     is_odd: bool,
 }
 
-impl File {
-    fn bytes(&self, alloc: Global) -> Result<Vec<u8>, AllocError> {
-        let mut bytes = Vec::new(alloc);
-        let mark = if self.has_mark { Some(0xfeff) } else { None };
-        for unit in mark.iter().chain(self.units.iter()) {
-            let pair = if self.is_big {
-                unit.to_be_bytes()
-            } else {
-                unit.to_le_bytes()
-            };
-            bytes.extend_from_slice(&pair)?;
+impl File<'_> {
+    fn push_unit(self, bytes: &mut Vec<u8>, unit: u16) -> Result<(), AllocError> {
+        let pair = if self.is_big {
+            unit.to_be_bytes()
+        } else {
+            unit.to_le_bytes()
+        };
+        Ok(bytes.extend_from_slice(&pair)?)
+    }
+
+    fn push_bytes(self, bytes: &mut Vec<u8>) -> Result<(), AllocError> {
+        if self.has_mark {
+            self.push_unit(bytes, 0xfeff)?;
+        }
+        for unit in self.units {
+            self.push_unit(bytes, *unit)?;
         }
         if self.is_odd {
             bytes.push(b'x')?;
         }
-        Ok(bytes)
+        Ok(())
     }
 
     // Returns the units without a last zero, if the file has whole units.
     fn read_units(&self) -> &[u16] {
-        match self.units.as_slice() {
+        match self.units {
             [prefix @ .., 0] if !self.is_odd => prefix,
             units => units,
         }
@@ -46,7 +52,7 @@ impl File {
 }
 
 // What happens at a fault.
-#[derive(Clone, Copy, Debug, PartialEq, Eq)]
+#[derive(Clone, Copy, PartialEq, Eq)]
 enum Run {
     // By `transcode`: the run ends, or U+FFFD is written.
     Strict,
@@ -66,52 +72,79 @@ impl Run {
     }
 }
 
-// Returns the text of a whole file, and how the run ends.
-fn decoded(
-    alloc: Global,
-    file: &File,
-    run: Run,
-) -> Result<(String, Result<(), TranscodeError>), AllocError> {
-    let mut text = String::new(alloc);
-    let (mut index, mut item) = (0usize, 0usize);
+// Appends the text of units, up to the first fault if the run then ends.
+fn push_text(text: &mut String, units: &[u16], run: Run) -> Result<(), AllocError> {
     let mut after_fault = false;
-    for read in char::decode_utf16(file.read_units().iter().copied()) {
+    for read in char::decode_utf16(units.iter().copied()) {
+        let is_fault = read.is_err();
+        if is_fault && run == Run::Strict {
+            break;
+        }
+        if !is_fault || run.marks(after_fault) {
+            text.push(read.unwrap_or('\u{fffd}'))?;
+        }
+        after_fault = is_fault;
+    }
+    Ok(())
+}
+
+// Returns the first fault of units as an error, if there is one.
+fn check(units: &[u16]) -> Result<(), TranscodeError> {
+    let (mut index, mut item) = (0usize, 0usize);
+    for read in char::decode_utf16(units.iter().copied()) {
         match read {
             Ok(c) => {
-                text.push(c)?;
                 index = index.saturating_add(c.len_utf16());
                 item = item.saturating_add(1);
             }
-            Err(fault) if run == Run::Strict => {
+            Err(fault) => {
                 let unit = fault.unpaired_surrogate();
-                return Ok((text, Err(TranscodeError::Utf16 { index, item, unit })));
+                return Err(TranscodeError::Utf16 { index, item, unit });
             }
-            Err(_) if run.marks(after_fault) => text.push('\u{fffd}')?,
-            Err(_) => {}
         }
-        after_fault = read.is_err();
     }
-    if file.is_odd {
-        return Ok((text, Err(TranscodeError::OddLength)));
-    }
-    Ok((text, Ok(())))
+    Ok(())
 }
 
-// Returns whether the file becomes what the decoder makes of it, with a source that gives `step` bytes in a call.
-fn becomes_it(alloc: Global, file: &File, step: usize, run: Run) -> Result<bool, AllocError> {
-    let bytes = file.bytes(alloc)?;
-    let (text, ending) = decoded(alloc, file, run)?;
-    let mut source = SlowSource::new(&bytes, step);
+// Returns how the run of a file ends.
+fn ending(file: File<'_>, run: Run) -> Result<(), TranscodeError> {
+    if run == Run::Strict {
+        check(file.read_units())?;
+    }
+    if file.is_odd {
+        return Err(TranscodeError::OddLength);
+    }
+    Ok(())
+}
+
+// Returns whether bytes become this text and the run ends like this, with a source that gives `step` bytes in a call.
+fn is_transcoded(
+    alloc: Global,
+    bytes: &[u8],
+    step: usize,
+    run: Run,
+    text: &str,
+    ending: Result<(), TranscodeError>,
+) -> bool {
+    let mut source = SlowSource::new(bytes, step);
     let mut sink = FromWrite::new(Vec::new(alloc));
     let answer = match run {
         Run::Strict => transcode(&mut source, &mut sink, Mode::Strict),
         Run::Lossy => transcode(&mut source, &mut sink, Mode::Lossy),
         Run::With(policy) => transcode_with(&mut source, &mut sink, policy),
     };
-    Ok((answer == ending) & (sink.into_inner().as_slice() == text.as_bytes()))
+    (answer == ending) & (sink.into_inner().as_slice() == text.as_bytes())
 }
 
-const INSERTS: [&[u16]; 8] = [
+// Returns whether the file becomes what the decoder makes of it, with a source that gives `step` bytes in a call.
+fn becomes_it(alloc: Global, file: File<'_>, step: usize, run: Run) -> bool {
+    let (mut bytes, mut text) = (Vec::new(alloc), String::new(alloc));
+    file.push_bytes(&mut bytes).is_ok()
+        && push_text(&mut text, file.read_units(), run).is_ok()
+        && is_transcoded(alloc, &bytes, step, run, &text, ending(file, run))
+}
+
+static INSERTS: [&[u16]; 8] = [
     &[0xd83d, 0xde00],
     &[0xd800],
     &[0xdc00],
@@ -122,81 +155,119 @@ const INSERTS: [&[u16]; 8] = [
     &[0xd800, 0],
 ];
 
-const STEPS: [usize; 6] = [1, 2, 3, 4095, 4096, 0];
+static STEPS: [usize; 6] = [1, 2, 3, 4095, 4096, 0];
 
-// Makes a file of `offset` units, then `insert`, then some more units. `kind` selects the byte order, a BOM and half a
-// unit at the end.
-fn file_around(
-    alloc: Global,
-    offset: usize,
-    insert: &[u16],
-    kind: usize,
-) -> Result<File, AllocError> {
-    let mut units = Vec::new(alloc);
-    for k in 0..offset {
-        // Mostly ASCII, and blocks of other characters.
-        units.push(match k / 32 % 8 {
-            0 => 0xe9,
-            1 => 0x4e16,
-            2 if k % 2 == 0 => 0xd83d,
-            2 => 0xde00,
-            _ => 0x61,
-        })?;
+// Returns a unit at this index: mostly ASCII, and blocks of other characters.
+fn unit_at(index: usize) -> u16 {
+    let pair = [0xd83d, 0xde00];
+    match index / 32 % 8 {
+        0 => 0xe9,
+        1 => 0x4e16,
+        2 => pair[index % 2],
+        _ => 0x61,
+    }
+}
+
+// Appends `offset` units, then `insert`, then some more units.
+fn push_around(units: &mut Vec<u16>, offset: usize, insert: &[u16]) -> Result<(), AllocError> {
+    for index in 0..offset {
+        units.push(unit_at(index))?;
     }
     units.extend_from_slice(insert)?;
-    units.resize(units.len().saturating_add(offset % 3), 0x4e16)?;
-    Ok(File {
+    Ok(units.resize(units.len().saturating_add(offset % 3), 0x4e16)?)
+}
+
+// Makes a file of units. `kind` selects the byte order, a BOM and half a unit at the end.
+fn file_of(units: &[u16], kind: usize) -> File<'_> {
+    File {
         units,
         is_big: kind % 2 == 1,
         has_mark: kind % 2 == 1 || kind / 2 % 2 == 1,
         is_odd: kind / 4 % 2 == 1,
-    })
+    }
 }
 
-// Returns whether files of each kind with the insert at this offset become what they should. Each is split in one way.
-fn is_well_at(alloc: Global, offset: usize, insert: &[u16]) -> Result<bool, AllocError> {
+// Returns whether files of each kind become what they should. Each is split in one way.
+fn is_well_in_kinds(alloc: Global, units: &[u16], offset: usize) -> bool {
     let mut well = true;
     for kind in 0..8 {
-        let file = file_around(alloc, offset, insert, kind)?;
+        let file = file_of(units, kind);
         let step = STEPS[(offset % 6 + kind) % 6];
-        well &= becomes_it(alloc, &file, step, Run::Strict)?;
-        well &= becomes_it(alloc, &file, step, Run::Lossy)?;
+        well &= becomes_it(alloc, file, step, Run::Strict);
+        well &= becomes_it(alloc, file, step, Run::Lossy);
     }
-    Ok(well)
+    well
 }
+
+// Returns whether files with the insert at this offset become what they should.
+fn is_well_at(alloc: Global, offset: usize, insert: &[u16]) -> bool {
+    let mut units = Vec::new(alloc);
+    push_around(&mut units, offset, insert).is_ok() && is_well_in_kinds(alloc, &units, offset)
+}
+
+// The same for each insert.
+fn are_well_at(alloc: Global, offset: usize) -> bool {
+    let mut well = true;
+    for index in 0..INSERTS.len() {
+        well &= is_well_at(alloc, offset, INSERTS[index]);
+    }
+    well
+}
+
+// A chunk has 2,048 units, and one less after a BOM.
+static ENDS: [usize; 6] = [2043, 2045, 2046, 2047, 2048, 4094];
 
 #[test]
 fn ends_of_pieces(rt: HostRuntime) {
-    // A chunk has 2,048 units, and one less after a BOM.
-    for offset in [2043, 2045, 2046, 2047, 2048, 4094] {
-        for insert in INSERTS {
-            let well = is_well_at(rt.alloc(), offset, insert);
-            assert!(rt; well == Ok(true), "{offset} {insert:?}");
-        }
+    for index in 0..ENDS.len() {
+        case_holds(&rt, ENDS[index], are_well_at(rt.alloc(), ENDS[index]));
     }
 }
 
-// Makes a file of letters, this many high surrogates, and more units.
-fn run_of_faults(
-    alloc: Global,
+// Appends letters, this many high surrogates, and more units.
+fn push_faults(
+    units: &mut Vec<u16>,
     letters: usize,
     faults: usize,
     more: &[u16],
-) -> Result<File, AllocError> {
-    let mut units = Vec::new(alloc);
+) -> Result<(), AllocError> {
     units.resize(letters, 0x61)?;
     units.resize(letters.saturating_add(faults), 0xd800)?;
-    units.extend_from_slice(more)?;
-    Ok(File {
-        units,
-        is_big: false,
-        has_mark: false,
-        is_odd: false,
-    })
+    Ok(units.extend_from_slice(more)?)
+}
+
+// Returns whether units become what they should under each policy, with sources of several steps.
+fn is_well_in_steps(alloc: Global, units: &[u16]) -> bool {
+    let file = file_of(units, 0);
+    let mut well = true;
+    for step in [1, 3, PIECE, 0] {
+        well &= becomes_it(alloc, file, step, Run::With(Policy::Each));
+        well &= becomes_it(alloc, file, step, Run::With(Policy::Run));
+        well &= becomes_it(alloc, file, step, Run::With(Policy::Skip));
+    }
+    well
+}
+
+// Returns whether letters, high surrogates and more units become what they should.
+fn is_well_after(alloc: Global, letters: usize, faults: usize, more: &[u16]) -> bool {
+    let mut units = Vec::new(alloc);
+    push_faults(&mut units, letters, faults, more).is_ok() && is_well_in_steps(alloc, &units)
+}
+
+// What follows a run of faults: nothing, a letter, and more runs around U+FFFD and zero units.
+static AFTER: [&[u16]; 4] = [&[], &[0x61], &[0xfffd, 0xdc00, 0xd800], &[0, 0xd800, 0]];
+
+// The same for whatever follows.
+fn are_well_after(alloc: Global, letters: usize, faults: usize) -> bool {
+    let mut well = true;
+    for index in 0..AFTER.len() {
+        well &= is_well_after(alloc, letters, faults, AFTER[index]);
+    }
+    well
 }
 
 // Numbers of letters, and of high surrogates after them.
-const CASES: [(usize, usize); 6] = [
+static CASES: [(usize, usize); 6] = [
     (2045, 3),
     (2046, 3),
     (2047, 3),
@@ -205,52 +276,30 @@ const CASES: [(usize, usize); 6] = [
     (4095, 4),
 ];
 
-// What follows a run of faults: nothing, a letter, and more runs around U+FFFD and zero units.
-const AFTER: [&[u16]; 4] = [&[], &[0x61], &[0xfffd, 0xdc00, 0xd800], &[0, 0xd800, 0]];
-
 #[test]
 fn rows_of_faults(rt: HostRuntime) {
-    for policy in [Policy::Each, Policy::Run, Policy::Skip] {
-        for (letters, faults) in CASES {
-            for more in AFTER {
-                let file = run_of_faults(rt.alloc(), letters, faults, more);
-                let well = is_well_in_steps(rt.alloc(), file, Run::With(policy));
-                assert!(rt; well == Ok(true), "{policy:?} {letters} {faults} {more:?}");
-            }
-        }
+    for index in 0..CASES.len() {
+        let (letters, faults) = CASES[index];
+        case_holds(&rt, letters, are_well_after(rt.alloc(), letters, faults));
     }
 }
 
-// Returns whether a file becomes what it should with sources of several steps.
-fn is_well_in_steps(
-    alloc: Global,
-    file: Result<File, AllocError>,
-    run: Run,
-) -> Result<bool, AllocError> {
-    let file = file?;
-    let mut well = true;
-    for step in [1, 3, PIECE, 0] {
-        well &= becomes_it(alloc, &file, step, run)?;
-    }
-    Ok(well)
+// Returns whether a file of a BOM, letters and these units becomes what it should.
+fn is_well_after_mark(alloc: Global, letters: usize, pair: &[u16], step: usize) -> bool {
+    let mut units = Vec::new(alloc);
+    push_faults(&mut units, letters, 0, pair).is_ok()
+        && becomes_it(alloc, file_of(&units, 2), step, Run::Strict)
 }
 
 #[test]
 fn pairs_across_pieces(rt: HostRuntime) {
-    for (count, pair, step) in [
-        (2047, [].as_slice(), PIECE - 1),
-        (2046, [0xd83d, 0xde00].as_slice(), PIECE),
-        (2046, [0xd83d, 0xde00].as_slice(), 1),
-    ] {
-        let well = match run_of_faults(rt.alloc(), count, 0, pair) {
-            Ok(mut file) => {
-                file.has_mark = true;
-                becomes_it(rt.alloc(), &file, step, Run::Strict)
-            }
-            Err(fault) => Err(fault),
-        };
-        assert!(rt; well == Ok(true), "{count} {step}");
-    }
+    let pair = [0xd83d, 0xde00];
+    let cases = [
+        is_well_after_mark(rt.alloc(), 2047, &[], PIECE - 1),
+        is_well_after_mark(rt.alloc(), 2046, &pair, PIECE),
+        is_well_after_mark(rt.alloc(), 2046, &pair, 1),
+    ];
+    all_hold(&rt, &cases);
 }
 
 // Returns whether a fault is returned before the source is called again, which would fail.
@@ -270,7 +319,11 @@ fn is_returned_at_once(alloc: Global, step: usize, calls: usize) -> bool {
 
 #[test]
 fn faults_are_returned_at_once(rt: HostRuntime) {
-    for (step, calls) in [(1, 6), (2, 3), (4, 2), (PIECE, 1)] {
-        assert!(rt; is_returned_at_once(rt.alloc(), step, calls), "{step}");
-    }
+    let cases = [
+        is_returned_at_once(rt.alloc(), 1, 6),
+        is_returned_at_once(rt.alloc(), 2, 3),
+        is_returned_at_once(rt.alloc(), 4, 2),
+        is_returned_at_once(rt.alloc(), PIECE, 1),
+    ];
+    all_hold(&rt, &cases);
 }

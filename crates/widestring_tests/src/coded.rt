@@ -1,4 +1,5 @@
 //! Units of either width from numbers, of which some are no characters.
+use crate::random::Random;
 use std::alloc::AllocError;
 use widestring::error::FaultUnit;
 use widestring::unit::Unit;
@@ -29,4 +30,16 @@ impl Coded for u16 {
             None => Ok(units.push(u16::try_from(number).unwrap_or(0xdc00))?),
         }
     }
+}
+
+// Appends the units of so many numbers made at random.
+pub(crate) fn push_numbers<C: Coded>(
+    units: &mut Vec<C>,
+    random: &mut Random,
+    count: usize,
+) -> Result<(), AllocError> {
+    for _ in 0..count {
+        C::push(units, random.number())?;
+    }
+    Ok(())
 }

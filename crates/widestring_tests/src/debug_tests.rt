@@ -1,11 +1,13 @@
 //! Tests that debug text escapes each character and each fault as a loop over them does, by [`char::escape_debug`]. The
 //! contracts say what is printed for ASCII only.
-use crate::coded::Coded;
+use crate::all_hold::case_holds;
+use crate::coded::{Coded, push_numbers};
 use crate::print_loops::{Items, LossyChars, PolicyChars};
 use crate::random::Random;
 use std::alloc::{AllocError, Global};
 use std::fmt;
 use std::fmt::Write;
+use std::process::Abort;
 use std::test::Fail;
 use widestring::Policy;
 use widestring::ustr::UStr;
@@ -96,54 +98,56 @@ fn prints_block<C: Coded>(units: &[C], last: u32) -> bool {
     }
 }
 
-// Returns the last number of the first block of units that print something else, of all numbers below `end`.
-fn first_wrong<C: Coded>(alloc: Global, end: u32) -> Result<Option<u32>, AllocError> {
-    let mut units = Vec::new(alloc);
+// Asserts that each block of units prints what the loop prints, of all numbers below `end`.
+fn assert_blocks<C: Coded>(
+    rt: &impl Abort,
+    units: &mut Vec<C>,
+    end: u32,
+) -> Result<(), AllocError> {
     for number in 0..end {
-        C::push(&mut units, number)?;
+        C::push(units, number)?;
         if units.len() >= BLOCK || number + 1 == end {
-            if !prints_block::<C>(units.as_slice(), number) {
-                return Ok(Some(number));
-            }
+            case_holds(
+                rt,
+                number as usize,
+                prints_block::<C>(units.as_slice(), number),
+            );
             units.clear();
         }
     }
-    Ok(None)
+    Ok(())
 }
 
-// Returns the length of the first text made at random that prints something else, one of each length.
-fn first_wrong_length<C: Coded>(alloc: Global) -> Result<Option<usize>, AllocError> {
-    let mut random = Random::new(1);
-    let mut units = Vec::new(alloc);
+// Asserts that texts made at random print what the loop prints, one of each length.
+fn assert_lengths<C: Coded>(
+    rt: &impl Abort,
+    units: &mut Vec<C>,
+    random: &mut Random,
+) -> Result<(), AllocError> {
     for length in 0..=LONGEST {
         units.clear();
-        for _ in 0..length {
-            C::push(&mut units, random.number())?;
-        }
+        push_numbers::<C>(units, random, length)?;
         units.truncate(length);
-        if !prints_each::<C>(units.as_slice()) {
-            return Ok(Some(length));
-        }
+        case_holds(rt, length, prints_each::<C>(units.as_slice()));
     }
-    Ok(None)
+    Ok(())
 }
 
 #[test]
 fn characters_of_one_16_bit_unit(rt: HostRuntime) -> Result<(), Fail> {
-    assert_eq!(rt; first_wrong::<u16>(rt.alloc(), 0x1_0000)?, None);
-    Ok(())
+    let mut units = Vec::new(rt.alloc());
+    Ok(assert_blocks::<u16>(&rt, &mut units, 0x1_0000)?)
 }
 
 #[test]
 fn all_characters(rt: HostRuntime) -> Result<(), Fail> {
-    assert_eq!(rt; first_wrong::<u32>(rt.alloc(), 0x11_0010)?, None);
-    Ok(())
+    let mut units = Vec::new(rt.alloc());
+    Ok(assert_blocks::<u32>(&rt, &mut units, 0x11_0010)?)
 }
 
 #[test]
 fn texts_of_each_length(rt: HostRuntime) -> Result<(), Fail> {
-    let narrow = first_wrong_length::<u16>(rt.alloc())?;
-    let wide = first_wrong_length::<u32>(rt.alloc())?;
-    assert_eq!(rt; (narrow, wide), (None, None));
-    Ok(())
+    let (mut narrow, mut wide) = (Vec::new(rt.alloc()), Vec::new(rt.alloc()));
+    assert_lengths::<u16>(&rt, &mut narrow, &mut Random::new(1))?;
+    Ok(assert_lengths::<u32>(&rt, &mut wide, &mut Random::new(1))?)
 }

@@ -20,22 +20,35 @@ const EDITS: [Edit<'static>; 8] = [
     Edit::SplitOff(1),
 ];
 
-// Returns the characters of the text after the first `done` edits, and whether the replies of two texts are those of
-// the list. Returns `None` if the list's allocation fails: a run fails at one allocation, and that was not one of the
-// edits.
+// Makes the first `done` edits of the text as a list, and appends their replies. Returns `None` if an allocation fails:
+// a run fails at one allocation, and that was not one of the edits.
+fn edit_plain(
+    alloc: Global,
+    list: &mut Vec<char>,
+    replies: &mut Vec<Reply>,
+    done: usize,
+) -> Option<()> {
+    list.extend(TEXT.chars()).ok()?;
+    for edit in EDITS.iter().take(done) {
+        replies.push(edit_list(alloc, list, *edit).ok()?).ok()?;
+    }
+    Some(())
+}
+
+// Returns whether the replies of two texts to the first `done` edits are those of the list, which is then edited.
+// Returns `None` if the list's allocation fails.
 fn plain(
     alloc: Global,
+    list: &mut Vec<char>,
     done: usize,
     replies: &[Reply],
     same_replies: &[Reply],
-) -> Option<(bool, Vec<char>)> {
-    let mut list = TEXT.chars().collect::<Vec<char>>(alloc).ok()?;
+) -> Option<bool> {
     let mut wanted = Vec::new(alloc);
-    for edit in EDITS.iter().take(done) {
-        wanted.push(edit_list(alloc, &mut list, *edit).ok()?).ok()?;
+    match edit_plain(alloc, list, &mut wanted, done) {
+        Some(()) => Some((replies == wanted.as_slice()) & (same_replies == wanted.as_slice())),
+        None => None,
     }
-    let wanted = wanted.as_slice();
-    Some(((replies == wanted) & (same_replies == wanted), list))
 }
 
 // Returns a string of the text with an offset index. If the allocation of the index fails, the string must be returned
@@ -50,91 +63,107 @@ fn marked(alloc: Global) -> Result<Marked16, bool> {
     }
 }
 
-// Returns whether a string with an offset index and one in UTF-32, edited in lockstep until an allocation fails, hold
-// what the plain list does. If the strings themselves can't be allocated, there are no edits.
-fn stops_alike(alloc: Global) -> bool {
-    let mut first = match marked(alloc) {
-        Ok(marked) => marked,
-        Err(is_right) => return is_right,
-    };
-    let Ok(mut second) = Utf32String::from_str(alloc, TEXT) else {
-        return true;
-    };
+// Edits both strings in lockstep until an allocation fails. Returns whether they hold what the plain list does.
+fn stop_alike(alloc: Global, first: &mut Marked16, second: &mut Utf32String) -> bool {
     let (mut replies, mut same) = (Vec::new(alloc), Vec::new(alloc));
-    let ran = run_both(
-        alloc,
-        &mut first,
-        &mut second,
-        &EDITS,
-        &mut replies,
-        &mut same,
-    );
-    let done = match ran {
+    let mut list = Vec::new(alloc);
+    let done = match run_both(alloc, first, second, &EDITS, &mut replies, &mut same) {
         Ok(()) => EDITS.len(),
         Err(Stopped { done }) => done,
     };
-    match plain(alloc, done, &replies, &same) {
-        Some((well, list)) => well & hold_marked(list.as_slice(), &first, &second),
+    match plain(alloc, &mut list, done, &replies, &same) {
+        Some(well) => well & hold_marked(list.as_slice(), first, second),
         None => true,
     }
 }
 
-// Edits one string until an allocation fails, and makes as many edits of a string in UTF-32. Returns whether their
-// replies are those of the plain list, the list and the other string. Returns `None` if these can't be allocated.
-fn run_one<T: TextEdit>(alloc: Global, first: &mut T) -> Option<(bool, Vec<char>, Utf32String)> {
-    let mut second = Utf32String::from_str(alloc, TEXT).ok()?;
+// Returns whether a string with an offset index and one in UTF-32, edited in lockstep until an allocation fails, hold
+// what the plain list does. If the strings themselves can't be allocated, there are no edits.
+fn stops_alike(alloc: Global) -> bool {
+    match (marked(alloc), Utf32String::from_str(alloc, TEXT)) {
+        (Ok(mut first), Ok(mut second)) => stop_alike(alloc, &mut first, &mut second),
+        (Ok(_), Err(_)) => true,
+        (Err(is_right), _) => is_right,
+    }
+}
+
+// Edits one string until an allocation fails, and makes as many edits of a string in UTF-32 and of the plain list.
+// Returns whether their replies are those of the list. Returns `None` if the others can't be allocated.
+fn run_one<T: TextEdit>(
+    alloc: Global,
+    first: &mut T,
+    second: &mut Utf32String,
+    list: &mut Vec<char>,
+) -> Option<bool> {
     let (mut replies, mut same) = (Vec::new(alloc), Vec::new(alloc));
     let done = match run(alloc, first, &EDITS, &mut replies) {
         Ok(()) => EDITS.len(),
         Err(Stopped { done }) => done,
     };
-    let Ok(()) = run(alloc, &mut second, &EDITS[..done], &mut same) else {
-        return None;
-    };
-    let (well, list) = plain(alloc, done, &replies, &same)?;
-    Some((well, list, second))
+    match run(alloc, second, &EDITS[..done], &mut same) {
+        Ok(()) => plain(alloc, list, done, &replies, &same),
+        Err(_) => None,
+    }
 }
 
 // Returns whether a string without an offset index holds what the plain list does.
 fn stops(alloc: Global) -> bool {
-    let Ok(mut first) = Utf16String::from_str(alloc, TEXT) else {
-        return true;
-    };
-    match run_one(alloc, &mut first) {
-        Some((well, list, second)) => well & hold(list.as_slice(), &first, &second),
-        None => true,
+    let mut list = Vec::new(alloc);
+    match (
+        Utf16String::from_str(alloc, TEXT),
+        Utf32String::from_str(alloc, TEXT),
+    ) {
+        (Ok(mut first), Ok(mut second)) => {
+            match run_one(alloc, &mut first, &mut second, &mut list) {
+                Some(well) => well & hold(list.as_slice(), &first, &second),
+                None => true,
+            }
+        }
+        _ => true,
     }
 }
 
 // Returns whether a single string with an offset index holds what the plain list does, and has the right index.
 fn stops_marked(alloc: Global) -> bool {
-    let mut first = match marked(alloc) {
-        Ok(marked) => marked,
-        Err(is_right) => return is_right,
-    };
-    match run_one(alloc, &mut first) {
-        Some((well, list, second)) => well & hold_marked(list.as_slice(), &first, &second),
-        None => true,
+    let mut list = Vec::new(alloc);
+    match (marked(alloc), Utf32String::from_str(alloc, TEXT)) {
+        (Ok(mut first), Ok(mut second)) => {
+            match run_one(alloc, &mut first, &mut second, &mut list) {
+                Some(well) => well & hold_marked(list.as_slice(), &first, &second),
+                None => true,
+            }
+        }
+        (Ok(_), Err(_)) => true,
+        (Err(is_right), _) => is_right,
+    }
+}
+
+// Returns whether the plain list replies so to an edit, or an allocation of it fails.
+fn replies_so(alloc: Global, edit: Edit<'_>, reply: &Reply) -> bool {
+    let mut list = Vec::new(alloc);
+    if list.extend(TEXT.chars()).is_err() {
+        return true;
+    }
+    match edit_list(alloc, &mut list, edit) {
+        Ok(wanted) => *reply == wanted,
+        Err(_) => true,
     }
 }
 
 // Returns whether an edit that fails to allocate leaves the text and the offset index unchanged, and one that succeeds
 // has the same reply as for the plain list.
+fn is_prepared_for(alloc: Global, text: &mut Marked16, edit: Edit<'_>) -> bool {
+    match text.prepare(alloc, edit) {
+        Ok(space) => replies_so(alloc, edit, &text.apply(edit, space)),
+        Err(_) => text.as_utfstr().eq_str(TEXT) & (text.marks() == [65].as_slice()),
+    }
+}
+
+// The same for a new string.
 fn is_prepared(alloc: Global, edit: Edit<'_>) -> bool {
-    let mut first = match marked(alloc) {
-        Ok(marked) => marked,
-        Err(is_right) => return is_right,
-    };
-    let Ok(space) = first.prepare(alloc, edit) else {
-        return first.as_utfstr().eq_str(TEXT) & (first.marks() == [65].as_slice());
-    };
-    let reply = first.apply(edit, space);
-    let Ok(mut list) = TEXT.chars().collect::<Vec<char>>(alloc) else {
-        return true;
-    };
-    match edit_list(alloc, &mut list, edit) {
-        Ok(wanted) => reply == wanted,
-        Err(_) => true,
+    match marked(alloc) {
+        Ok(mut text) => is_prepared_for(alloc, &mut text, edit),
+        Err(is_right) => is_right,
     }
 }
 

@@ -1,4 +1,5 @@
 //! Random scripts of edits, of strings in UTF-16 and in UTF-32 and of a plain list of characters.
+use crate::all_hold::case_holds;
 use crate::plain::edit_list;
 use crate::random::Random;
 use std::alloc::Global;
@@ -62,37 +63,21 @@ pub fn hold_marked(list: &[char], first: &Marked16, second: &Utf32String) -> boo
     well
 }
 
-// Returns the reply to one edit of the list, if both strings reply the same and hold the same characters. One of them
-// has an offset index.
-fn step(
+// Returns whether both strings reply so to an edit, which it makes. One of them has an offset index.
+fn reply_so(
     alloc: Global,
-    list: &mut Vec<char>,
     first: &mut Marked16,
     second: &mut Utf32String,
     edit: Edit<'_>,
-) -> Option<Reply> {
-    let mut replies = Vec::new(alloc);
-    let mut same_replies = Vec::new(alloc);
-    let ran = run_both(
-        alloc,
-        first,
-        second,
-        &[edit],
-        &mut replies,
-        &mut same_replies,
-    );
-    let Ok(wanted) = edit_list(alloc, list, edit) else {
-        return None;
-    };
-    let well = match (replies.as_slice(), same_replies.as_slice()) {
-        ([reply], [same]) => (*reply == wanted) & (*same == wanted),
+    wanted: &Reply,
+) -> bool {
+    let (mut replies, mut same) = (Vec::new(alloc), Vec::new(alloc));
+    let ran = run_both(alloc, first, second, &[edit], &mut replies, &mut same);
+    let well = match (replies.as_slice(), same.as_slice()) {
+        ([reply], [same]) => (reply == wanted) & (same == wanted),
         _ => false,
     };
-    if well & ran.is_ok() & hold_marked(list.as_slice(), first, second) {
-        Some(wanted)
-    } else {
-        None
-    }
+    well & ran.is_ok()
 }
 
 // A script of one to eight edits, its replies and the characters that it leaves.
@@ -103,70 +88,110 @@ struct Script {
     list: Vec<char>,
 }
 
-// Makes a script for a text. Returns `None` if an edit has different effects on the strings and on the list.
-fn made(alloc: Global, random: &mut Random, text: &str) -> Option<Script> {
-    let mut first = Marked16::new(alloc, Utf16String::from_str(alloc, text).ok()?).ok()?;
-    let mut second = Utf32String::from_str(alloc, text).ok()?;
-    let mut list = text.chars().collect::<Vec<char>>(alloc).ok()?;
-    let mut edits = Vec::new(alloc);
-    let mut replies = Vec::new(alloc);
-    for _ in 0..=random.below(8) {
-        let edit = random.edit(list.len());
-        edits.push(edit).ok()?;
-        replies
-            .push(step(alloc, &mut list, &mut first, &mut second, edit)?)
-            .ok()?;
+impl Script {
+    fn new(alloc: Global) -> Script {
+        Script {
+            edits: Vec::new(alloc),
+            replies: Vec::new(alloc),
+            list: Vec::new(alloc),
+        }
     }
-    Some(Script {
-        edits,
-        replies,
-        list,
-    })
+
+    // Adds an edit, and returns whether both strings reply to it as the list does, and then hold the same characters.
+    fn step(
+        &mut self,
+        alloc: Global,
+        first: &mut Marked16,
+        second: &mut Utf32String,
+        edit: Edit<'static>,
+    ) -> bool {
+        let Ok(wanted) = edit_list(alloc, &mut self.list, edit) else {
+            return false;
+        };
+        let well = reply_so(alloc, first, second, edit, &wanted)
+            && hold_marked(self.list.as_slice(), first, second);
+        well & self.edits.push(edit).is_ok() & self.replies.push(wanted).is_ok()
+    }
+
+    // Makes a script of the characters of both strings. Returns false if an edit has different effects on the strings
+    // and on the list.
+    fn make(
+        &mut self,
+        alloc: Global,
+        random: &mut Random,
+        first: &mut Marked16,
+        second: &mut Utf32String,
+    ) -> bool {
+        for _ in 0..=random.below(8) {
+            let edit = random.edit(self.list.len());
+            if !self.step(alloc, first, second, edit) {
+                return false;
+            }
+        }
+        true
+    }
 }
 
-// Makes all edits of a script in one call, and returns the string if the replies are those of the script.
-fn run_whole<C: FaultUnit>(alloc: Global, text: &str, script: &Script) -> Option<UtfString<C>> {
-    let mut string = UtfString::<C>::from_str(alloc, text).ok()?;
+// Returns a string of the text with an offset index.
+fn marked(alloc: Global, text: &str) -> Option<Marked16> {
+    Marked16::new(alloc, Utf16String::from_str(alloc, text).ok()?).ok()
+}
+
+// Makes a script for a text, edit by edit.
+fn is_made(alloc: Global, random: &mut Random, text: &str, script: &mut Script) -> bool {
+    match (marked(alloc, text), Utf32String::from_str(alloc, text)) {
+        (Some(mut first), Ok(mut second)) => {
+            script.list.extend(text.chars()).is_ok()
+                && script.make(alloc, random, &mut first, &mut second)
+        }
+        _ => false,
+    }
+}
+
+// Makes all edits of a script in one call, and returns whether the replies are those of the script.
+fn is_run<C: FaultUnit>(alloc: Global, string: &mut UtfString<C>, script: &Script) -> bool {
     let mut replies = Vec::new(alloc);
-    let ran = run(alloc, &mut string, script.edits.as_slice(), &mut replies);
-    if ran.is_ok() && replies.as_slice() == script.replies.as_slice() {
-        Some(string)
-    } else {
-        None
+    run(alloc, string, script.edits.as_slice(), &mut replies).is_ok()
+        && replies.as_slice() == script.replies.as_slice()
+}
+
+// Returns whether a script has the same effect on strings of the text in one call.
+fn is_run_whole(alloc: Global, text: &str, script: &Script) -> bool {
+    match (
+        Utf16String::from_str(alloc, text),
+        Utf32String::from_str(alloc, text),
+    ) {
+        (Ok(mut first), Ok(mut second)) => {
+            is_run(alloc, &mut first, script)
+                && is_run(alloc, &mut second, script)
+                && hold(script.list.as_slice(), &first, &second)
+        }
+        _ => false,
     }
 }
 
 // Returns whether a random script has the same effect on the strings and on the list, edit by edit and in one call.
 fn agrees(alloc: Global, seed: u64) -> bool {
     let mut random = Random::new(seed);
-    let Ok(text) = random.text(alloc) else {
-        return false;
-    };
-    let Some(script) = made(alloc, &mut random, text.as_str()) else {
-        return false;
-    };
-    match (
-        run_whole::<u16>(alloc, text.as_str(), &script),
-        run_whole::<u32>(alloc, text.as_str(), &script),
-    ) {
-        (Some(first), Some(second)) => hold(script.list.as_slice(), &first, &second),
-        _ => false,
+    let mut script = Script::new(alloc);
+    match random.text(alloc) {
+        Ok(text) => {
+            is_made(alloc, &mut random, text.as_str(), &mut script)
+                && is_run_whole(alloc, text.as_str(), &script)
+        }
+        Err(_) => false,
     }
 }
 
 #[test]
 fn random_scripts(rt: HostRuntime) {
     for seed in 0..20_000 {
-        assert!(rt; agrees(rt.alloc(), seed), "the script of seed {seed}");
+        case_holds(&rt, seed, agrees(rt.alloc(), seed as u64));
     }
 }
 
-// Makes an edit of a string with an offset index, and returns whether the index is then that of a new one of its text.
-fn keeps_index(alloc: Global, text: &mut Marked16, edit: Edit<'_>) -> bool {
-    let Ok(space) = text.prepare(alloc, edit) else {
-        return false;
-    };
-    let _reply = text.apply(edit, space);
+// Returns whether the index of a text is that of a new one.
+fn has_new_index(alloc: Global, text: &Marked16) -> bool {
     let Ok(copy) = text.as_utfstr().to_utfstring(alloc) else {
         return false;
     };
@@ -176,30 +201,41 @@ fn keeps_index(alloc: Global, text: &mut Marked16, edit: Edit<'_>) -> bool {
     }
 }
 
-// Returns whether twenty small edits of a long text each leave the index of the text.
-fn keep_index(alloc: Global, seed: u64) -> bool {
-    let mut random = Random::new(seed);
-    let Ok(text) = random.long_text(alloc) else {
+// Makes an edit of a string with an offset index, and returns whether the index is then that of a new one of its text.
+fn keeps_index(alloc: Global, text: &mut Marked16, edit: Edit<'_>) -> bool {
+    let Ok(space) = text.prepare(alloc, edit) else {
         return false;
     };
-    let Ok(string) = Utf16String::from_str(alloc, text.as_str()) else {
-        return false;
-    };
-    let Ok(mut marked) = Marked16::new(alloc, string) else {
-        return false;
-    };
+    let _reply = text.apply(edit, space);
+    has_new_index(alloc, text)
+}
+
+// Returns whether twenty small edits of a text each leave the index of the text.
+fn keeps_it_each_time(alloc: Global, random: &mut Random, text: &mut Marked16) -> bool {
     for _ in 0..20 {
-        let edit = random.small_edit(TextEdit::char_count(&marked));
-        if !keeps_index(alloc, &mut marked, edit) {
+        let edit = random.small_edit(TextEdit::char_count(text));
+        if !keeps_index(alloc, text, edit) {
             return false;
         }
     }
     true
 }
 
+// Returns whether twenty small edits of a long text each leave the index of the text.
+fn keep_index(alloc: Global, seed: u64) -> bool {
+    let mut random = Random::new(seed);
+    let Ok(text) = random.long_text(alloc) else {
+        return false;
+    };
+    match marked(alloc, text.as_str()) {
+        Some(mut text) => keeps_it_each_time(alloc, &mut random, &mut text),
+        None => false,
+    }
+}
+
 #[test]
 fn small_edits_of_long_texts(rt: HostRuntime) {
     for seed in 0..120 {
-        assert!(rt; keep_index(rt.alloc(), seed), "the edits of seed {seed}");
+        case_holds(&rt, seed, keep_index(rt.alloc(), seed as u64));
     }
 }

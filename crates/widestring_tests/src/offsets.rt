@@ -1,8 +1,9 @@
 //! Tests of vectorized reads of views: each kind of character and of fault, at each offset of texts of each length, at
 //! both widths. The standard library makes the expected results.
+use crate::all_hold::case_holds;
 use std::alloc::{AllocError, Global};
 use std::char;
-use std::test::Fail;
+use std::process::Abort;
 use widestring::error::FaultUnit;
 use widestring::ustr::UStr;
 use widestring::utfstr::UtfStr;
@@ -11,20 +12,19 @@ use widestring::{Policy, U16Str, U32Str};
 
 // Units as the standard library reads them.
 trait ReadUnit: FaultUnit {
-    // Returns the characters, and `None` for each fault.
-    fn read(alloc: Global, units: &[Self]) -> Result<Vec<Option<char>>, AllocError>;
+    // Appends the characters, and `None` for each fault.
+    fn read(chars: &mut Vec<Option<char>>, units: &[Self]) -> Result<(), AllocError>;
 
     // Returns the view's text if it is well formed.
     fn to_text(alloc: Global, units: &[Self]) -> Option<String>;
 }
 
 impl ReadUnit for u16 {
-    fn read(alloc: Global, units: &[u16]) -> Result<Vec<Option<char>>, AllocError> {
-        let mut chars = Vec::new(alloc);
+    fn read(chars: &mut Vec<Option<char>>, units: &[u16]) -> Result<(), AllocError> {
         for decoded in char::decode_utf16(units.iter().copied()) {
             chars.push(decoded.ok())?;
         }
-        Ok(chars)
+        Ok(())
     }
 
     fn to_text(alloc: Global, units: &[u16]) -> Option<String> {
@@ -33,12 +33,11 @@ impl ReadUnit for u16 {
 }
 
 impl ReadUnit for u32 {
-    fn read(alloc: Global, units: &[u32]) -> Result<Vec<Option<char>>, AllocError> {
-        let mut chars = Vec::new(alloc);
+    fn read(chars: &mut Vec<Option<char>>, units: &[u32]) -> Result<(), AllocError> {
         for unit in units {
             chars.push(char::from_u32(*unit))?;
         }
-        Ok(chars)
+        Ok(())
     }
 
     fn to_text(alloc: Global, units: &[u32]) -> Option<String> {
@@ -73,28 +72,32 @@ static KINDS32: [&[u32]; 8] = [
 // A text of letters, each of which is one unit, with units of one kind at some offsets.
 #[derive(Drop)]
 struct Case<'a, C> {
-    // The text of at least as many letters, and how many bytes each has.
-    letters: &'a str,
-    width: usize,
+    letter: char,
     // All units, the units that are put at the offsets, and the offsets.
     units: &'a [C],
     kind: &'a [C],
     offsets: &'a [usize],
 }
 
-// Returns the text of characters and faults under a policy.
-fn text_by(alloc: Global, chars: &[Option<char>], policy: Policy) -> Result<String, AllocError> {
-    let mut text = String::new(alloc);
+// Appends a letter as often.
+fn push_letters(text: &mut String, letter: char, count: usize) -> Result<(), AllocError> {
+    for _ in 0..count {
+        text.push(letter)?;
+    }
+    Ok(())
+}
+
+// Appends the text of characters and faults under a policy.
+fn push_by(text: &mut String, chars: &[Option<char>], policy: Policy) -> Result<(), AllocError> {
     let mut after_fault = false;
     for read in chars {
-        match read {
-            Some(c) => text.push(*c)?,
-            None if policy == Policy::Skip || policy == Policy::Run && after_fault => {}
-            None => text.push('\u{fffd}')?,
-        }
+        let is_silent = policy == Policy::Skip || policy == Policy::Run && after_fault;
         after_fault = read.is_none();
+        if !(after_fault && is_silent) {
+            text.push(read.unwrap_or('\u{fffd}'))?;
+        }
     }
-    Ok(text)
+    Ok(())
 }
 
 // Returns whether this text was made.
@@ -105,36 +108,41 @@ fn is_made<E: Drop>(made: Result<String, E>, text: &str) -> bool {
     }
 }
 
-impl<C: ReadUnit> Case<'_, C> {
-    // Returns the text of this many letters.
-    fn letters(&self, count: usize) -> &str {
-        let letters = self.letters.get(..count.saturating_mul(self.width));
-        match letters {
-            Some(letters) => letters,
-            None => "",
-        }
-    }
+// Returns whether a view is equal neither to a text nor to what is left of it without its last two characters.
+fn differs<C: ReadUnit>(view: UtfStr<'_, C>, text: &mut String) -> bool {
+    let differs = !view.eq_str(text);
+    let _last = text.pop();
+    differs & (text.pop().is_none() || !view.eq_str(text))
+}
 
-    // Returns the whole text, with `middle` at each offset.
-    fn text(&self, alloc: Global, middle: &str) -> Result<String, AllocError> {
-        let mut text = String::new(alloc);
+impl<C: ReadUnit> Case<'_, C> {
+    // Appends the whole text, with `middle` at each offset.
+    fn push_whole(&self, text: &mut String, middle: &str) -> Result<(), AllocError> {
         let mut end = 0usize;
         for offset in self.offsets {
-            text.push_str(self.letters(offset.saturating_sub(end)))?;
+            push_letters(text, self.letter, offset.saturating_sub(end))?;
             text.push_str(middle)?;
             end = offset.saturating_add(self.kind.len());
         }
-        text.push_str(self.letters(self.units.len().saturating_sub(end)))?;
-        Ok(text)
+        push_letters(text, self.letter, self.units.len().saturating_sub(end))
+    }
+
+    // Makes the whole text under a policy, if the kind is these characters and faults.
+    fn make(
+        &self,
+        text: &mut String,
+        middle: &mut String,
+        chars: &[Option<char>],
+        policy: Policy,
+    ) -> Result<(), AllocError> {
+        push_by(middle, chars, policy)?;
+        self.push_whole(text, middle)
     }
 
     // Returns whether the lossy text is this one under a policy.
     fn is_lossy(&self, alloc: Global, policy: Policy, text: &str) -> bool {
         let view = UStr::from_slice(self.units);
-        let mut well = is_made(view.to_string_lossy_with(alloc, policy), text);
-        if policy == Policy::Each {
-            well &= is_made(view.to_string_lossy(alloc), text);
-        }
+        let well = is_made(view.to_string_lossy_with(alloc, policy), text);
         match UtfString::from_slice_lossy_with(alloc, self.units, policy) {
             Ok(made) => well & made.as_utfstr().eq_str(text),
             Err(_) => false,
@@ -152,6 +160,15 @@ impl<C: ReadUnit> Case<'_, C> {
         offset
     }
 
+    // Returns whether a character stands at one of the offsets, before or after.
+    fn is_near(&self, index: usize) -> bool {
+        let mut is_near = false;
+        for offset in self.offsets {
+            is_near |= index.abs_diff(*offset) < 2;
+        }
+        is_near
+    }
+
     // Returns whether each character begins at the right offset, the end too, and no character after it.
     fn has_offsets(&self, view: UtfStr<'_, C>) -> bool {
         let more = self
@@ -164,11 +181,8 @@ impl<C: ReadUnit> Case<'_, C> {
         for index in 0..count {
             // A search takes as many steps as there are units before its result. So in short texts only the characters
             // around the offsets and at the end are searched.
-            let is_near = self
-                .offsets
-                .iter()
-                .any(|offset| index.abs_diff(*offset) < 2);
-            if is_near || index.saturating_add(2) > count || self.units.len() >= 70 {
+            let is_last = index.saturating_add(2) > count;
+            if is_last || self.units.len() >= 70 || self.is_near(index) {
                 well &= view.unit_offset(index) == Some(self.offset_of(index));
             }
         }
@@ -177,60 +191,87 @@ impl<C: ReadUnit> Case<'_, C> {
     }
 
     // Returns whether well-formed units are equal to this text, and not to a text of one character more or less.
-    fn is_text(&self, alloc: Global, view: UtfStr<'_, C>, text: &str) -> Result<bool, AllocError> {
-        let mut well = view.eq_str(text) & self.has_offsets(view);
-        well &= is_made(view.to_string(alloc), text);
+    fn is_text(&self, alloc: Global, view: UtfStr<'_, C>, text: &str) -> bool {
         let mut other = String::new(alloc);
-        other.push_str(text)?;
-        other.push('x')?;
-        well &= !view.eq_str(&other);
-        let _x = other.pop();
-        Ok(well & (other.pop().is_none() || !view.eq_str(&other)))
+        view.eq_str(text)
+            && self.has_offsets(view)
+            && is_made(view.to_string(alloc), text)
+            && other.push_str(text).is_ok()
+            && other.push('x').is_ok()
+            && differs(view, &mut other)
     }
 
-    // Returns whether each call agrees with the standard library's results for the kind and for letters.
-    fn holds(&self, alloc: Global) -> Result<bool, AllocError> {
-        let chars = C::read(alloc, self.kind)?;
-        let mut well = true;
-        for policy in [Policy::Run, Policy::Skip, Policy::Each] {
-            let text = self.text(alloc, &text_by(alloc, &chars, policy)?)?;
-            well &= self.is_lossy(alloc, policy, &text);
-        }
-        let text = self.text(alloc, &text_by(alloc, &chars, Policy::Each)?)?;
-        let is_faulty = chars.iter().any(|read| read.is_none());
-        well &= match C::to_text(alloc, self.units) {
-            Some(made) => !is_faulty && made == text,
+    // Returns whether the units are this text, which is lossy if there is a fault.
+    fn is_whole(&self, alloc: Global, text: &str, is_faulty: bool) -> bool {
+        let well = match C::to_text(alloc, self.units) {
+            Some(made) => !is_faulty && made.as_str() == text,
             None => is_faulty,
         };
         match UtfStr::from_slice(self.units) {
-            Ok(view) => Ok(well & !is_faulty & self.is_text(alloc, view, &text)?),
-            Err(_) => Ok(well & is_faulty),
+            Ok(view) => well && !is_faulty && self.is_text(alloc, view, text),
+            Err(_) => well && is_faulty,
         }
     }
+
+    // Returns whether the calls that read lossy text agree with the standard library's result under a policy.
+    fn holds_by(&self, alloc: Global, chars: &[Option<char>], policy: Policy) -> bool {
+        let (mut text, mut middle) = (String::new(alloc), String::new(alloc));
+        self.make(&mut text, &mut middle, chars, policy).is_ok()
+            && self.is_lossy(alloc, policy, &text)
+    }
+
+    // Returns the same for the calls that mark each fault, and for those that convert no faults.
+    fn holds_by_each(&self, alloc: Global, chars: &[Option<char>]) -> bool {
+        let (mut text, mut middle) = (String::new(alloc), String::new(alloc));
+        let view = UStr::from_slice(self.units);
+        self.make(&mut text, &mut middle, chars, Policy::Each)
+            .is_ok()
+            && is_made(view.to_string_lossy(alloc), &text)
+            && self.is_whole(alloc, &text, chars.contains(&None))
+    }
+
+    // Returns whether each call agrees with the standard library's results for the kind and for letters.
+    fn holds(&self, alloc: Global) -> bool {
+        let mut chars = Vec::new(alloc);
+        C::read(&mut chars, self.kind).is_ok()
+            && self.holds_by(alloc, &chars, Policy::Run)
+            && self.holds_by(alloc, &chars, Policy::Skip)
+            && self.holds_by(alloc, &chars, Policy::Each)
+            && self.holds_by_each(alloc, &chars)
+    }
 }
+
+// Puts a kind at each of the offsets, cut off at the end, and returns how many of its units the last one has.
+fn put<C: ReadUnit>(units: &mut [C], offsets: &[usize], kind: &[C]) -> usize {
+    let mut fits = 0;
+    for offset in offsets {
+        fits = kind.len().min(units.len().saturating_sub(*offset));
+        for (unit, other) in units.iter_mut().skip(*offset).zip(kind.iter()) {
+            *unit = *other;
+        }
+    }
+    fits
+}
+
+// A letter as a unit, and as the character.
+type Letter<C> = (C, char);
 
 // Returns whether all calls agree for a text of letters with a kind at each of the offsets, cut off at the end of the
 // text.
 fn holds_with<C: ReadUnit>(
     alloc: Global,
-    letters: &(C, &str, usize),
+    letter: Letter<C>,
     len: usize,
     offsets: &[usize],
     kind: &[C],
-) -> Result<bool, AllocError> {
-    let (letter, text, width) = *letters;
+) -> bool {
     let mut units = Vec::new(alloc);
-    units.resize(len, letter)?;
-    let mut fits = 0;
-    for offset in offsets {
-        fits = kind.len().min(len.saturating_sub(*offset));
-        for (unit, other) in units.iter_mut().skip(*offset).zip(kind.iter()) {
-            *unit = *other;
-        }
+    if units.resize(len, letter.0).is_err() {
+        return false;
     }
+    let fits = put(&mut units, offsets, kind);
     let case = Case {
-        letters: text,
-        width,
+        letter: letter.1,
         units: &units,
         kind: kind.get(..fits).unwrap_or(kind),
         offsets,
@@ -238,69 +279,45 @@ fn holds_with<C: ReadUnit>(
     case.holds(alloc)
 }
 
-// Returns the text of 600 letters.
-fn letters(alloc: Global, letter: char) -> Result<String, AllocError> {
-    let mut text = String::new(alloc);
-    for _ in 0..600 {
-        text.push(letter)?;
+// Returns whether all calls agree for texts of this length, with each kind at each offset.
+fn hold_at_len<C: ReadUnit>(alloc: Global, letter: Letter<C>, len: usize, kinds: &[&[C]]) -> bool {
+    let mut well = true;
+    for offset in 0..=len {
+        for kind in kinds {
+            well &= holds_with(alloc, letter, len, &[offset], kind);
+        }
     }
-    Ok(text)
+    well
 }
 
-// Returns the first text for which a call disagrees: its length, the offset of the kind among the letters, and the
-// index of the kind.
-fn first_failure<C: ReadUnit>(
+// Asserts that all calls agree for texts of each length with each kind, and with a pair among the first of many letters
+// and one more block of 256 units after it.
+fn assert_agreement<C: ReadUnit>(
+    rt: &impl Abort,
     alloc: Global,
-    letters: &(C, &str, usize),
+    letter: Letter<C>,
     kinds: &[&[C]],
-) -> Option<(usize, usize, usize)> {
+    pair: &[C],
+) {
     for len in 0..=70 {
-        for offset in 0..=len {
-            for (number, &kind) in kinds.iter().enumerate() {
-                if holds_with(alloc, letters, len, &[offset], kind) != Ok(true) {
-                    return Some((len, offset, number));
-                }
-            }
-        }
+        case_holds(rt, len, hold_at_len(alloc, letter, len, kinds));
     }
-    None
-}
-
-// Returns the first offset for which a call disagrees in a long text, with the kind there and one more block of 256
-// units after it.
-fn first_far_failure<C: ReadUnit>(
-    alloc: Global,
-    letters: &(C, &str, usize),
-    kind: &[C],
-) -> Option<usize> {
     for offset in 250..260 {
-        if holds_with(alloc, letters, 600, &[offset, offset + 256], kind) != Ok(true) {
-            return Some(offset);
-        }
+        let far = [offset, offset + 256];
+        case_holds(rt, offset, holds_with(alloc, letter, 600, &far, pair));
     }
-    None
 }
 
 #[test]
-fn units_of_16_bits(rt: HostRuntime) -> Result<(), Fail> {
-    for (unit, letter) in [(0x61, 'a'), (0x3042, 'あ')] {
-        let text = letters(rt.alloc(), letter)?;
-        let of = (unit, text.as_str(), letter.len_utf8());
-        assert_eq!(rt; first_failure(rt.alloc(), &of, &KINDS16), None, "{letter}");
-        let far = first_far_failure(rt.alloc(), &of, &[0xd83d, 0xde00]);
-        assert_eq!(rt; far, None, "far among {letter}");
-    }
-    Ok(())
+fn units_of_16_bits(rt: HostRuntime) {
+    let pair = [0xd83d, 0xde00];
+    assert_agreement(&rt, rt.alloc(), (0x61, 'a'), &KINDS16, &pair);
+    assert_agreement(&rt, rt.alloc(), (0x3042, 'あ'), &KINDS16, &pair);
 }
 
 #[test]
-fn units_of_32_bits(rt: HostRuntime) -> Result<(), Fail> {
-    for (unit, letter) in [(0x61, 'a'), (0x3042, 'あ')] {
-        let text = letters(rt.alloc(), letter)?;
-        let of = (unit, text.as_str(), letter.len_utf8());
-        assert_eq!(rt; first_failure(rt.alloc(), &of, &KINDS32), None, "{letter}");
-        let far = first_far_failure(rt.alloc(), &of, &[0x1_f600]);
-        assert_eq!(rt; far, None, "far among {letter}");
-    }
-    Ok(())
+fn units_of_32_bits(rt: HostRuntime) {
+    let pair = [0x1_f600];
+    assert_agreement(&rt, rt.alloc(), (0x61, 'a'), &KINDS32, &pair);
+    assert_agreement(&rt, rt.alloc(), (0x3042, 'あ'), &KINDS32, &pair);
 }

@@ -1,12 +1,13 @@
 //! Tests of how much text `from_utf8_prefix` converts where the units have no space for all of it, which its contract
 //! leaves open: as many characters as fit. The expected numbers are those of a loop over the characters.
+use crate::all_hold::case_holds;
 use std::alloc::{AllocError, Global};
 use wide_conversions::from_utf8_prefix;
 use wide_unit::Unit;
 
 // Characters of one to four bytes, alone and mixed, which are repeated to make a text. Between others, the characters
 // of one byte fill fewer than eight bytes, eight, more than sixteen and other numbers of them.
-const PATTERNS: [&str; 14] = [
+static PATTERNS: [&str; 14] = [
     "abcdefg",
     "\u{e9}",
     "\u{4e2d}",
@@ -28,17 +29,23 @@ const CHARS: usize = 48;
 
 const SPACE: usize = 40;
 
-// Returns a text of some characters, which repeats a pattern.
-fn repeated(alloc: Global, pattern: &str, len: usize) -> Result<String, AllocError> {
-    let mut text = String::new(alloc);
+// Appends the first characters of a pattern.
+fn push_first(text: &mut String, pattern: &str, count: usize) -> Result<(), AllocError> {
+    for c in pattern.chars().take(count) {
+        text.push(c)?;
+    }
+    Ok(())
+}
+
+// Makes a text of some characters, which repeats a pattern.
+fn repeat(text: &mut String, pattern: &str, len: usize) -> Result<(), AllocError> {
+    let count = pattern.chars().count();
     let mut left = len;
     for _ in 0..len {
-        for c in pattern.chars().take(left) {
-            text.push(c)?;
-            left = left.saturating_sub(1);
-        }
+        push_first(text, pattern, left)?;
+        left = left.saturating_sub(count);
     }
-    Ok(text)
+    Ok(())
 }
 
 // Returns how many bytes the characters have that fit, and how many units.
@@ -56,28 +63,40 @@ fn fitting<C: Unit>(text: &str, space: usize) -> (usize, usize) {
 }
 
 // Returns whether the conversion ends where the loop does.
-fn ends_alike<C: Unit>(alloc: Global, text: &str, space: usize) -> Result<bool, AllocError> {
+fn ends_alike<C: Unit>(alloc: Global, text: &str, space: usize) -> bool {
     let mut units = Vec::new(alloc);
-    for _ in 0..space {
-        units.push(C::NUL)?;
+    units.resize(space, C::NUL).is_ok()
+        && from_utf8_prefix(text.as_bytes(), units.as_mut_slice()) == fitting::<C>(text, space)
+}
+
+// Returns whether conversions of a text into each space end where the loop does, at both widths.
+fn end_alike(alloc: Global, text: &str) -> bool {
+    let mut well = true;
+    for space in 0..=SPACE {
+        well &= ends_alike::<u16>(alloc, text, space);
+        well &= ends_alike::<u32>(alloc, text, space);
     }
-    let ends = from_utf8_prefix(text.as_bytes(), units.as_mut_slice());
-    Ok(ends == fitting::<C>(text, space))
+    well
+}
+
+// Returns whether this holds for texts of a pattern.
+fn holds_for(alloc: Global, pattern: &str, len: usize) -> bool {
+    let mut text = String::new(alloc);
+    repeat(&mut text, pattern, len).is_ok() && end_alike(alloc, &text)
+}
+
+// The same for each length.
+fn hold_for(alloc: Global, pattern: &str) -> bool {
+    let mut well = true;
+    for len in 0..=CHARS {
+        well &= holds_for(alloc, pattern, len);
+    }
+    well
 }
 
 #[test]
 fn as_many_characters_as_fit(rt: HostRuntime) {
-    for pattern in PATTERNS {
-        for len in 0..=CHARS {
-            let Ok(text) = repeated(rt.alloc(), pattern, len) else {
-                panic!(rt; "no memory");
-            };
-            for space in 0..=SPACE {
-                let narrow = ends_alike::<u16>(rt.alloc(), &text, space);
-                assert!(rt; narrow == Ok(true), "UTF-16, {space} units for {text}");
-                let wide = ends_alike::<u32>(rt.alloc(), &text, space);
-                assert!(rt; wide == Ok(true), "UTF-32, {space} units for {text}");
-            }
-        }
+    for index in 0..PATTERNS.len() {
+        case_holds(&rt, index, hold_for(rt.alloc(), PATTERNS[index]));
     }
 }

@@ -1,11 +1,13 @@
 //! Tests of what a sink holds at an error, if it takes a write whole or not at all: printing hands on each character as
 //! a write of its own, in the same writes as a loop over them, so every character before the refused write is held.
-use crate::coded::Coded;
+use crate::all_hold::case_holds;
+use crate::coded::{Coded, push_numbers};
 use crate::print_loops::{Items, Lossy, LossyChars, PolicyChars, Skipping};
 use crate::random::Random;
 use std::alloc::{AllocError, Global};
 use std::fmt;
 use std::fmt::Write;
+use std::process::Abort;
 use std::test::Fail;
 use widestring::Policy;
 use widestring::ustr::UStr;
@@ -17,7 +19,7 @@ const SPACE: usize = 600;
 const NUMBERS: usize = 700;
 
 // How many bytes a sink takes in all, and in one write.
-#[derive(Clone, Copy, Debug, PartialEq)]
+#[derive(Clone, Copy, PartialEq)]
 struct Limits {
     space: usize,
     longest: usize,
@@ -96,54 +98,40 @@ fn prints_alike<C: Coded>(alloc: Global, limits: Limits, policy: Policy, units: 
         )
 }
 
-// Returns the first limits of a sink to which the units do not print alike.
-fn first_unlike<C: Coded>(alloc: Global, policy: Policy, units: &[C]) -> Option<Limits> {
+// Asserts that units print alike to sinks of each space, and to those that take writes of some bytes.
+fn assert_alike<C: Coded>(rt: &impl Abort, alloc: Global, policy: Policy, units: &[C]) {
     for space in 0..=SPACE {
-        let limits = Limits {
-            space,
-            longest: usize::MAX,
-        };
-        if !prints_alike::<C>(alloc, limits, policy, units) {
-            return Some(limits);
-        }
+        let longest = usize::MAX;
+        let limits = Limits { space, longest };
+        case_holds(rt, space, prints_alike::<C>(alloc, limits, policy, units));
     }
     for longest in 0..8 {
-        let limits = Limits {
-            space: usize::MAX,
-            longest,
-        };
-        if !prints_alike::<C>(alloc, limits, policy, units) {
-            return Some(limits);
-        }
+        let space = usize::MAX;
+        let limits = Limits { space, longest };
+        case_holds(rt, longest, prints_alike::<C>(alloc, limits, policy, units));
     }
-    None
 }
 
-// Returns the first limits of a sink to which a text made at random does not print alike.
-fn first_unlike_text<C: Coded>(
+// Asserts that a text made at random prints alike to all sinks.
+fn assert_text_alike<C: Coded>(
+    rt: &impl Abort,
     alloc: Global,
     seed: u64,
     policy: Policy,
-) -> Result<Option<Limits>, AllocError> {
-    let mut random = Random::new(seed);
+) -> Result<(), AllocError> {
     let mut units = Vec::new(alloc);
-    for _ in 0..NUMBERS {
-        C::push(&mut units, random.number())?;
-    }
-    Ok(first_unlike::<C>(alloc, policy, units.as_slice()))
+    push_numbers::<C>(&mut units, &mut Random::new(seed), NUMBERS)?;
+    assert_alike::<C>(rt, alloc, policy, units.as_slice());
+    Ok(())
 }
 
 #[test]
 fn sinks_of_16_bit_units(rt: HostRuntime) -> Result<(), Fail> {
-    let each = first_unlike_text::<u16>(rt.alloc(), 1, Policy::Each)?;
-    let skip = first_unlike_text::<u16>(rt.alloc(), 2, Policy::Skip)?;
-    assert_eq!(rt; (each, skip), (None, None));
-    Ok(())
+    assert_text_alike::<u16>(&rt, rt.alloc(), 1, Policy::Each)?;
+    Ok(assert_text_alike::<u16>(&rt, rt.alloc(), 2, Policy::Skip)?)
 }
 
 #[test]
 fn sinks_of_32_bit_units(rt: HostRuntime) -> Result<(), Fail> {
-    let run = first_unlike_text::<u32>(rt.alloc(), 3, Policy::Run)?;
-    assert_eq!(rt; run, None);
-    Ok(())
+    Ok(assert_text_alike::<u32>(&rt, rt.alloc(), 3, Policy::Run)?)
 }

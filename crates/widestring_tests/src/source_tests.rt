@@ -2,8 +2,8 @@
 ghost use Rattle.std.specs.Prelude.{length};
 ghost use Rattle.std.specs.Iterator.{at_most};
 
-use crate::all_hold::all_hold;
-use std::alloc::{AllocError, Global};
+use crate::all_hold::{all_hold, case_holds, is_collected};
+use std::alloc::Global;
 use std::cell::Cell;
 use widestring::{U16String, Utf32String, encode_utf8, encode_utf16};
 
@@ -41,14 +41,6 @@ fn vague_source(is_bounded: bool) -> Vague<'static> {
     Vague {
         rest: &CHARS,
         is_bounded,
-    }
-}
-
-// Returns whether these units were collected.
-fn is_collected<T: PartialEq + Drop>(made: Result<Vec<T>, AllocError>, expected: &[T]) -> bool {
-    match made {
-        Ok(given) => given.as_slice() == expected,
-        Err(_) => false,
     }
 }
 
@@ -129,9 +121,6 @@ fn is_kept(alloc: Global, before: usize) -> bool {
 #[test]
 fn sources_that_fail(rt: HostRuntime) {
     for before in 0..4 {
-        assert!(rt;
-            is_kept(rt.alloc(), before),
-            "a fault after {before} characters"
-        );
+        case_holds(&rt, before, is_kept(rt.alloc(), before));
     }
 }
