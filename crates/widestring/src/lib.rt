@@ -9,6 +9,7 @@ pub mod edit;
 pub mod error;
 pub mod utfstring;
 
+pub use wide_forms::Policy;
 pub use wide_iter as iter;
 pub use wide_iter::{
     decode_utf16, decode_utf16_lossy, decode_utf16_lossy_with, decode_utf32, decode_utf32_lossy,
@@ -20,7 +21,6 @@ pub use wide_ucstr::{U16CStr, U32CStr, WideCStr};
 pub use wide_ucstring as ucstring;
 pub use wide_ucstring::{U16CString, U32CString, WideCString};
 pub use wide_unit as unit;
-pub use wide_forms::Policy;
 pub use wide_ustr as ustr;
 pub use wide_ustr::{U16Str, U32Str, WideChar, WideStr};
 pub use wide_ustring as ustring;
