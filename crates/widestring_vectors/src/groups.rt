@@ -1,5 +1,6 @@
 //! The groups of cases, and the calls of the library that each makes.
 
+mod answers;
 mod bytes;
 mod compare;
 mod conversions;
@@ -20,9 +21,10 @@ mod views;
 mod walks;
 mod width;
 
-use widestring::Policy;
+use std::alloc::Global;
 use widestring_replay::Suite;
-use widestring_replay::parse::{Memory, NoAnswer};
+use widestring_replay::parse::{self, Memory, NoAnswer};
+use width::Width;
 
 /// Decoders, encoders, views with their iterators, conversions, searches and devices.
 pub struct ViewSuite;
@@ -98,80 +100,108 @@ impl Suite for ViewSuite {
         list: &str,
         question: &str,
     ) -> Result<String, NoAnswer> {
-        let alloc = memory.alloc;
         match group {
-            "items16" => items::utf16(memory, list, question),
-            "items32" => items::utf32(memory, list, question),
-            "lossy16" => lossy::utf16(alloc, list, question),
-            "lossy32" => lossy::utf32(alloc, list, question),
-            "offsets16" => offsets::offsets::<u16>(alloc, list, question),
-            "offsets32" => offsets::offsets::<u32>(alloc, list, question),
-            "from_slice16" => from_slice::checked::<u16>(alloc, list, question),
-            "from_slice32" => from_slice::checked::<u32>(alloc, list, question),
-            "encode8" => encode::utf8(alloc, list, question),
-            "encode16" => encode::utf16(alloc, list, question),
-            "encode32" => encode::utf32(alloc, list, question),
-            "hints16" => hints::utf16(alloc, list, question),
-            "hints32" => hints::utf32(alloc, list, question),
-            "hints_lossy16" => hints::lossy_utf16(alloc, list, question),
-            "hints_lossy32" => hints::lossy_utf32(alloc, list, question),
-            "hints_encode8" => hints::of_utf8_encoder(alloc, list, question),
-            "hints_encode16" => hints::of_utf16_encoder(alloc, list, question),
-            _ => answer_of_views(memory, group, list, question),
+            "encode8" | "encode16" | "encode32" | "hints_encode8" | "hints_encode16" => {
+                of_chars(memory.alloc, group, list, question)
+            }
+            "files" | "transcode" => of_bytes(memory, group, list, question),
+            "to_string16" if question == "i" => of_bytes(memory, group, list, question),
+            _ => of_units(memory, group, list, question),
         }
     }
 }
 
-// Returns the answer about views, texts, units or searches, and passes other groups on to `answer_of_conversions`.
-fn answer_of_views(
-    memory: Memory<'_>,
+// Returns the answer of a group whose lists are characters.
+fn of_chars(alloc: Global, group: &str, list: &str, question: &str) -> Result<String, NoAnswer> {
+    let chars = parse::list::<char>(alloc, list)?;
+    answer_of_chars(alloc, group, &chars, question)
+}
+
+fn answer_of_chars(
+    alloc: Global,
     group: &str,
-    list: &str,
+    chars: &[char],
     question: &str,
 ) -> Result<String, NoAnswer> {
-    let alloc = memory.alloc;
     match group {
-        "texts16" => texts::text::<u16>(alloc, list, question),
-        "texts32" => texts::text::<u32>(alloc, list, question),
-        "views16" => views::view::<u16>(memory, list, question),
-        "views32" => views::view::<u32>(memory, list, question),
-        "walks16" => walks::walk::<u16>(memory, list, question),
-        "walks32" => walks::walk::<u32>(memory, list, question),
-        "prints16" => prints::printed::<u16>(memory, list, question),
-        "prints32" => prints::printed::<u32>(memory, list, question),
-        "compare16" => compare::compared::<u16>(memory, list, question),
-        "compare32" => compare::compared::<u32>(memory, list, question),
-        "units16" => units::asked::<u16>(memory, list, question),
-        "units32" => units::asked::<u32>(memory, list, question),
-        "searches16" => searches::found::<u16>(alloc, list, question),
-        "searches32" => searches::found::<u32>(alloc, list, question),
-        _ => answer_of_conversions(memory, group, list, question),
+        "encode8" => encode::utf8(alloc, chars, question),
+        "encode16" => encode::utf16(alloc, chars, question),
+        "encode32" => encode::utf32(alloc, chars, question),
+        "hints_encode8" => hints::of_utf8_encoder(alloc, chars, question),
+        "hints_encode16" => hints::of_utf16_encoder(alloc, chars, question),
+        _ => Err(NoAnswer::Unparsed),
     }
 }
 
-// Returns the answer about conversions, bytes or devices.
-fn answer_of_conversions(
+// Returns the answer of a group whose lists are bytes.
+fn of_bytes(
     memory: Memory<'_>,
     group: &str,
     list: &str,
     question: &str,
 ) -> Result<String, NoAnswer> {
+    let bytes = parse::list::<u8>(memory.alloc, list)?;
+    match group {
+        "files" => files::of_bytes(memory, &bytes, question),
+        "transcode" => devices::run(memory.alloc, &bytes, question),
+        _ => conversions::file(memory, &bytes),
+    }
+}
+
+// Returns the answer of a group whose lists are units, of the width that the group's name ends with.
+fn of_units(
+    memory: Memory<'_>,
+    group: &str,
+    list: &str,
+    question: &str,
+) -> Result<String, NoAnswer> {
+    if let Some(name) = group.strip_suffix("16") {
+        return of_width::<u16>(memory, name, list, question);
+    }
+    match group.strip_suffix("32") {
+        Some(name) => of_width::<u32>(memory, name, list, question),
+        None => Err(NoAnswer::Unparsed),
+    }
+}
+
+fn of_width<C: Width>(
+    memory: Memory<'_>,
+    group: &str,
+    list: &str,
+    question: &str,
+) -> Result<String, NoAnswer> {
+    let units = parse::list::<C>(memory.alloc, list)?;
+    answer_of_units(memory, group, &units, question)
+}
+
+fn answer_of_units<C: Width>(
+    memory: Memory<'_>,
+    group: &str,
+    units: &[C],
+    question: &str,
+) -> Result<String, NoAnswer> {
     let alloc = memory.alloc;
     match group {
-        "bytes16" => bytes::of_units16(memory, list, question),
-        "bytes32" => bytes::of_units32(memory, list, question),
-        "files" => files::of_bytes(memory, list, question),
-        "lossy_text16" => conversions::lossy::<u16>(memory, list, question),
-        "lossy_text32" => conversions::lossy::<u32>(memory, list, question),
-        "to_string16" => conversions::text16(memory, list, question),
-        "to_string32" => conversions::text32(memory, list, question),
-        "each16" => policies::utf16(memory, list, question, Policy::Each),
-        "run16" => policies::utf16(memory, list, question, Policy::Run),
-        "skip16" => policies::utf16(memory, list, question, Policy::Skip),
-        "each32" => policies::utf32(memory, list, question, Policy::Each),
-        "run32" => policies::utf32(memory, list, question, Policy::Run),
-        "skip32" => policies::utf32(memory, list, question, Policy::Skip),
-        "transcode" => devices::run(alloc, list, question),
-        _ => Err(NoAnswer::Unparsed),
+        "offsets" => offsets::offsets(alloc, units, question),
+        "from_slice" => from_slice::checked(alloc, units, question),
+        "texts" => texts::text(alloc, units, question),
+        "views" => views::view(alloc, units, question),
+        "walks" => walks::walk(alloc, units, question),
+        "prints" => prints::printed(alloc, units, question),
+        "compare" => compare::compared(alloc, units, question),
+        "units" => units::asked(alloc, units, question),
+        "searches" => searches::found(alloc, units, question),
+        "lossy_text" => conversions::lossy(memory, units, question),
+        "hints" | "bytes" | "to_string" => C::answer(memory, group, units, question),
+        _ => decoded(memory, group, units, question),
     }
+}
+
+fn decoded<C: Width>(
+    memory: Memory<'_>,
+    group: &str,
+    units: &[C],
+    word: &str,
+) -> Result<String, NoAnswer> {
+    C::decoded(memory, group, units, &parse::calls(memory.alloc, word)?)
 }

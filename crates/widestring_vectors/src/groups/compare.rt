@@ -7,16 +7,18 @@
 //! - `mixed` asks whether text is equal to the other units, to the C string of them, and to their text at the other
 //!   width, each from both sides. `str` asks whether the text is equal to the text of the other units as a `str`, and
 //!   `chars` whether it has its characters.
+use crate::groups::answers;
 use crate::groups::texts::c_string;
 use crate::groups::width::{Width, as_text};
 use std::alloc::Global;
 use std::hash::{DefaultHasher, Hash, Hasher};
+use widestring::ucstring::UCString;
 use widestring::ustr::UStr;
 use widestring::ustring::UString;
 use widestring::utfstr::{UCStrInUtfstr, UStrInUtfstr, UtfStr};
 use widestring::utfstring::UtfString;
 use widestring_replay::made::text_of;
-use widestring_replay::parse::{self, Memory, NoAnswer};
+use widestring_replay::parse::{self, NoAnswer};
 use widestring_replay::show::Answer;
 
 fn hash_of(value: &impl Hash) -> u64 {
@@ -26,71 +28,87 @@ fn hash_of(value: &impl Hash) -> u64 {
 }
 
 // Adds how one value compares with another.
-macro_rules! compared {
-    ($answer:expr, $left:expr, $right:expr) => {
-        $answer.decided($left == $right);
-        $answer.order($left.cmp($right));
-        $answer.decided(hash_of($left) == hash_of($right));
-    };
+fn compare<T: Ord + Hash>(answer: &mut Answer, left: &T, right: &T) {
+    answer.decided(left == right);
+    answer.order(left.cmp(right));
+    answer.decided(hash_of(left) == hash_of(right));
 }
 
-fn views<C: Width>(answer: &mut Answer, list: &[C], other: &[C]) {
-    let left = UStr::from_slice(list);
-    let right = UStr::from_slice(other);
-    compared!(answer, &left, &right);
+// Returns the answer: how two views compare.
+fn of_views<T: Ord + Hash>(alloc: Global, left: &T, right: &T) -> Result<String, NoAnswer> {
+    let mut answer = Answer::new(alloc);
+    compare(&mut answer, left, right);
+    answer.finish()
 }
 
-fn contents<C: Width>(
-    answer: &mut Answer,
+// Returns the answer: how two strings compare, and whether the first has the hash of its view.
+fn of_strings<T: Ord + Hash>(
     alloc: Global,
-    list: &[C],
-    other: &[C],
-) -> Result<(), NoAnswer> {
+    left: &T,
+    right: &T,
+    hash_of_view: u64,
+) -> Result<String, NoAnswer> {
+    let mut answer = Answer::new(alloc);
+    compare(&mut answer, left, right);
+    answer.decided(hash_of(left) == hash_of_view);
+    answer.finish()
+}
+
+fn of_c_strings<C: Width>(
+    alloc: Global,
+    left: &UCString<C>,
+    right: &UCString<C>,
+) -> Result<String, NoAnswer> {
+    let mut answer = Answer::new(alloc);
+    compare(&mut answer, &left.as_ucstr(), &right.as_ucstr());
+    answer.part();
+    compare(&mut answer, left, right);
+    answer.decided(hash_of(left) == hash_of(&left.as_ucstr()));
+    answer.finish()
+}
+
+fn contents<C: Width>(alloc: Global, list: &[C], other: &[C]) -> Result<String, NoAnswer> {
     let left = c_string(alloc, list)?;
     let right = c_string(alloc, other)?;
-    compared!(answer, &left.as_ucstr(), &right.as_ucstr());
-    answer.part();
-    compared!(answer, &left, &right);
-    answer.decided(hash_of(&left) == hash_of(&left.as_ucstr()));
-    Ok(())
+    of_c_strings(alloc, &left, &right)
 }
 
-fn unit_strings<C: Width>(
-    answer: &mut Answer,
-    alloc: Global,
-    list: &[C],
-    other: &[C],
-) -> Result<(), NoAnswer> {
-    let mut left = UString::with_capacity(alloc, list.len().saturating_add(10))?;
-    left.push_slice(list)?;
+// Returns the string of units, with capacity to spare.
+fn spacious<C: Width>(alloc: Global, units: &[C]) -> Result<UString<C>, NoAnswer> {
+    let mut string = UString::with_capacity(alloc, units.len().saturating_add(10))?;
+    string.push_slice(units)?;
+    Ok(string)
+}
+
+fn unit_strings<C: Width>(alloc: Global, list: &[C], other: &[C]) -> Result<String, NoAnswer> {
+    let left = spacious(alloc, list)?;
     let right = UString::from_vec(Vec::from_slice(alloc, other)?);
-    compared!(answer, &left, &right);
-    answer.decided(hash_of(&left) == hash_of(&left.as_ustr()));
-    Ok(())
+    of_strings(alloc, &left, &right, hash_of(&left.as_ustr()))
 }
 
-fn texts<C: Width>(answer: &mut Answer, list: &[C], other: &[C]) -> Result<(), NoAnswer> {
-    let left = as_text(list)?;
-    let right = as_text(other)?;
-    compared!(answer, &left, &right);
-    Ok(())
+// Returns the string of a text, with capacity to spare.
+fn spacious_text<C: Width>(alloc: Global, text: UtfStr<'_, C>) -> Result<UtfString<C>, NoAnswer> {
+    let mut string = UtfString::with_capacity(alloc, text.len().saturating_add(10))?;
+    string.push_utfstr(text)?;
+    Ok(string)
 }
 
-fn strings<C: Width>(
-    answer: &mut Answer,
-    alloc: Global,
-    list: &[C],
-    other: &[C],
-) -> Result<(), NoAnswer> {
-    let list = as_text(list)?;
-    let other = as_text(other)?;
-    let mut left = UtfString::with_capacity(alloc, list.len().saturating_add(10))?;
-    left.push_utfstr(list)?;
-    let mut right = UtfString::new(alloc);
-    right.push_utfstr(other)?;
-    compared!(answer, &left, &right);
-    answer.decided(hash_of(&left) == hash_of(&left.as_utfstr()));
-    Ok(())
+// Returns the string of a text, which grows as it is made.
+fn grown_text<C: Width>(alloc: Global, text: UtfStr<'_, C>) -> Result<UtfString<C>, NoAnswer> {
+    let mut string = UtfString::new(alloc);
+    string.push_utfstr(text)?;
+    Ok(string)
+}
+
+fn strings<C: Width>(alloc: Global, list: &[C], other: &[C]) -> Result<String, NoAnswer> {
+    let (list, other) = (as_text(list)?, as_text(other)?);
+    let left = spacious_text(alloc, list)?;
+    let right = grown_text(alloc, other)?;
+    of_strings(alloc, &left, &right, hash_of(&left.as_utfstr()))
+}
+
+fn texts<C: Width>(alloc: Global, list: &[C], other: &[C]) -> Result<String, NoAnswer> {
+    of_views(alloc, &as_text(list)?, &as_text(other)?)
 }
 
 // Adds whether a text is equal to the contents of a C string of units, if there is one.
@@ -104,6 +122,16 @@ fn with_contents<C: Width>(answer: &mut Answer, alloc: Global, list: UtfStr<'_, 
     }
 }
 
+// Returns whether a text is equal to the text of units at the other width, asked from both sides.
+fn eq_other<C: Width>(
+    alloc: Global,
+    list: UtfStr<'_, C>,
+    other: &[C],
+) -> Result<[bool; 2], NoAnswer> {
+    let theirs = text_of(alloc, other)?;
+    C::eq_other(list.as_slice(), &theirs, alloc)
+}
+
 // Adds whether a text is equal to the text of units at the other width, if they are text.
 fn with_other_width<C: Width>(
     answer: &mut Answer,
@@ -111,31 +139,34 @@ fn with_other_width<C: Width>(
     list: UtfStr<'_, C>,
     other: &[C],
 ) -> Result<(), NoAnswer> {
-    if UtfStr::from_slice(other).is_err() {
+    if as_text(other).is_err() {
         return Ok(());
     }
-    let theirs = text_of(alloc, other)?;
-    let [to_other, from_other] = C::eq_other(list.as_slice(), &theirs, alloc)?;
+    let [to_other, from_other] = eq_other(alloc, list, other)?;
     answer.decided(to_other);
     answer.decided(from_other);
     Ok(())
 }
 
-// Adds whether a text is equal to units, to the contents of the C string of them, and to their text at the other width.
-fn mixed<C: Width>(
-    answer: &mut Answer,
-    alloc: Global,
-    list: &[C],
-    other: &[C],
-) -> Result<(), NoAnswer> {
+// Returns the answer: whether a text is equal to units, to the contents of the C string of them, and to their text at
+// the other width.
+fn mixed<C: Width>(alloc: Global, list: &[C], other: &[C]) -> Result<String, NoAnswer> {
     let list = as_text(list)?;
     let view = UStr::from_slice(other);
+    let mut answer = Answer::new(alloc);
     answer.decided(list.eq_ustr(view));
     answer.decided(view.eq_utfstr(list));
     answer.part();
-    with_contents(answer, alloc, list, other);
+    with_contents(&mut answer, alloc, list, other);
     answer.part();
-    with_other_width(answer, alloc, list, other)
+    with_other_width(&mut answer, alloc, list, other)?;
+    answer.finish()
+}
+
+fn with_str<C: Width>(alloc: Global, list: &[C], other: &[C]) -> Result<String, NoAnswer> {
+    let list = as_text(list)?;
+    let theirs = text_of(alloc, other)?;
+    answers::decided(alloc, list.eq_str(&theirs))
 }
 
 fn characters<C: Width>(alloc: Global, units: &[C]) -> Result<Vec<char>, NoAnswer> {
@@ -146,42 +177,31 @@ fn characters<C: Width>(alloc: Global, units: &[C]) -> Result<Vec<char>, NoAnswe
     Ok(chars)
 }
 
-// Returns whether a text is equal to this `str`, or has its characters.
-fn with_text<C: Width>(
+fn eq_chars<C: Width>(alloc: Global, list: &[C], other: &[C]) -> Result<bool, NoAnswer> {
+    C::eq_chars(list, &characters(alloc, other)?)
+}
+
+fn of_lists<C: Width>(
     alloc: Global,
     word: &str,
     list: &[C],
     other: &[C],
-) -> Result<bool, NoAnswer> {
-    let list = as_text(list)?;
-    if word == "str" {
-        let theirs = text_of(alloc, other)?;
-        return Ok(list.eq_str(&theirs));
+) -> Result<String, NoAnswer> {
+    match word {
+        "units" => of_views(alloc, &UStr::from_slice(list), &UStr::from_slice(other)),
+        "unit_string" => unit_strings(alloc, list, other),
+        "contents" => contents(alloc, list, other),
+        "text" => texts(alloc, list, other),
+        "string" => strings(alloc, list, other),
+        "mixed" => mixed(alloc, list, other),
+        "str" => with_str(alloc, list, other),
+        "chars" => answers::decided(alloc, eq_chars(alloc, list, other)?),
+        _ => Err(NoAnswer::Unparsed),
     }
-    let chars = characters(alloc, other)?;
-    C::eq_chars(list.as_slice(), &chars)
 }
 
 /// Returns the answer to a question about two lists of units.
-pub fn compared<C: Width>(
-    memory: Memory<'_>,
-    list: &str,
-    question: &str,
-) -> Result<String, NoAnswer> {
-    let alloc = memory.alloc;
+pub fn compared<C: Width>(alloc: Global, list: &[C], question: &str) -> Result<String, NoAnswer> {
     let (word, more) = parse::word(question);
-    let list = parse::list::<C>(alloc, list)?;
-    let other = parse::list::<C>(alloc, more)?;
-    let mut answer = Answer::new(alloc);
-    match word {
-        "units" => views(&mut answer, &list, &other),
-        "unit_string" => unit_strings(&mut answer, alloc, &list, &other)?,
-        "contents" => contents(&mut answer, alloc, &list, &other)?,
-        "text" => texts(&mut answer, &list, &other)?,
-        "string" => strings(&mut answer, alloc, &list, &other)?,
-        "mixed" => mixed(&mut answer, alloc, &list, &other)?,
-        "str" | "chars" => answer.decided(with_text(alloc, word, &list, &other)?),
-        _ => return Err(NoAnswer::Unparsed),
-    }
-    answer.finish()
+    of_lists(alloc, word, list, &parse::list::<C>(alloc, more)?)
 }

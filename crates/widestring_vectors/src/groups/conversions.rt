@@ -12,18 +12,20 @@
 //!
 //! A conversion makes one request, and none if there is nothing to store or the text is borrowed; else the answer has a
 //! `?`. Lossy text of which a policy leaves nothing may also make one.
-use std::alloc::Allocator;
+use crate::groups::bytes;
+use crate::groups::width::as_text;
+use std::alloc::{Allocator, Global};
 use widestring::bytes::include_utf16str;
 use widestring::error::{
-    FaultUnit, Utf16BytesError, Utf16ConvertError, Utf32ConvertError, UtfError,
+    FaultUnit, OutOfMemory, Utf16BytesError, Utf16ConvertError, Utf32ConvertError, UtfError,
 };
 use widestring::ucstr::UCStr;
+use widestring::ucstring::UCString;
 use widestring::ustr::UStr;
-use widestring::utfstr::UtfStr;
 use widestring::utfstring::{CowUtfStr, UtfString};
 use widestring::{Policy, U16Str, U32Str, Utf16String, Utf32String};
 use widestring_replay::made;
-use widestring_replay::parse::{self, Memory, NoAnswer};
+use widestring_replay::parse::{Memory, NoAnswer};
 use widestring_replay::show::{Answer, ReportedUnit};
 use widestring_testing::Heap;
 
@@ -37,33 +39,48 @@ fn check(memory: Memory<'_>, answer: &mut Answer, left: u64, makes_one: bool) {
 fn bytes_of(memory: Memory<'_>, left: u64, bytes: &[u8]) -> Result<String, NoAnswer> {
     let mut answer = Answer::new(memory.alloc);
     check(memory, &mut answer, left, !bytes.is_empty());
-    for byte in bytes {
-        answer.number(Some(u32::from(*byte)));
-    }
+    answer.bytes(bytes);
     answer.finish()
 }
 
 // Returns the answer to a question about lossy text.
-fn made<C: FaultUnit>(
+fn lossy_units<C: FaultUnit>(
     memory: Memory<'_>,
     left: u64,
-    made: &CowUtfStr<'_, C, &Heap>,
+    made: Result<CowUtfStr<'_, C, &Heap>, OutOfMemory>,
 ) -> Result<String, NoAnswer> {
-    let mut answer = Answer::new(memory.alloc);
-    match made {
-        CowUtfStr::Borrowed(_) => {
-            answer.word("b");
-            check(memory, &mut answer, left, false);
-        }
+    match made? {
+        CowUtfStr::Borrowed(text) => shown(memory, left, "b", false, text.as_slice()),
         CowUtfStr::Owned(text) => {
-            answer.word("o");
             // A policy may leave nothing of units for which memory was allocated.
             let makes_one = !text.is_empty() || memory.requests_since(left) == 1;
-            check(memory, &mut answer, left, makes_one);
+            shown(memory, left, "o", makes_one, text.as_slice())
         }
     }
-    answer.units(made.as_utfstr().as_slice());
+}
+
+// Returns the answer: a letter, and units.
+fn shown<C: FaultUnit>(
+    memory: Memory<'_>,
+    left: u64,
+    letter: &str,
+    makes_one: bool,
+    units: &[C],
+) -> Result<String, NoAnswer> {
+    let mut answer = Answer::new(memory.alloc);
+    answer.word(letter);
+    check(memory, &mut answer, left, makes_one);
+    answer.units(units);
     answer.finish()
+}
+
+// Returns the answer to a question about lossy text in UTF-8.
+fn lossy_bytes(
+    memory: Memory<'_>,
+    left: u64,
+    made: Result<String<&Heap>, OutOfMemory>,
+) -> Result<String, NoAnswer> {
+    bytes_of(memory, left, made?.as_bytes())
 }
 
 // Parses the letter and the policy of a question about lossy text.
@@ -84,13 +101,31 @@ fn lossy_slice<C: FaultUnit>(
 ) -> Result<String, NoAnswer> {
     let (heap, left) = (memory.heap, memory.heap.left());
     match policy {
-        None => made(memory, left, &UtfString::from_slice_lossy(heap, units)?),
-        Some(policy) => made(
+        None => lossy_units(memory, left, UtfString::from_slice_lossy(heap, units)),
+        Some(policy) => lossy_units(
             memory,
             left,
-            &UtfString::from_slice_lossy_with(heap, units, policy)?,
+            UtfString::from_slice_lossy_with(heap, units, policy),
         ),
     }
+}
+
+// Returns the answer to a question about the lossy text of a view, for which a string has these constructors.
+macro_rules! lossy_of {
+    ($memory:expr, $view:expr, $asked:expr, $made:ident, $made_with:ident) => {{
+        let (memory, heap, left) = ($memory, $memory.heap, $memory.heap.left());
+        match $asked {
+            (b'l', None) => lossy_units(memory, left, UtfString::$made(heap, $view)),
+            (b'l', Some(policy)) => {
+                lossy_units(memory, left, UtfString::$made_with(heap, $view, policy))
+            }
+            (b'y', None) => lossy_bytes(memory, left, $view.to_string_lossy(heap)),
+            (b'y', Some(policy)) => {
+                lossy_bytes(memory, left, $view.to_string_lossy_with(heap, policy))
+            }
+            _ => Err(NoAnswer::Unparsed),
+        }
+    }};
 }
 
 fn lossy_view<C: FaultUnit>(
@@ -98,74 +133,59 @@ fn lossy_view<C: FaultUnit>(
     view: UStr<'_, C>,
     asked: (u8, Option<Policy>),
 ) -> Result<String, NoAnswer> {
-    let (heap, left) = (memory.heap, memory.heap.left());
-    match asked {
-        (b'l', None) => made(memory, left, &UtfString::from_ustr_lossy(heap, view)?),
-        (b'l', Some(policy)) => made(
-            memory,
-            left,
-            &UtfString::from_ustr_lossy_with(heap, view, policy)?,
-        ),
-        (b'y', None) => bytes_of(memory, left, view.to_string_lossy(heap)?.as_bytes()),
-        (b'y', Some(policy)) => bytes_of(
-            memory,
-            left,
-            view.to_string_lossy_with(heap, policy)?.as_bytes(),
-        ),
-        _ => Err(NoAnswer::Unparsed),
-    }
+    lossy_of!(memory, view, asked, from_ustr_lossy, from_ustr_lossy_with)
 }
 
-fn lossy_c_string<C: FaultUnit>(
+fn lossy_contents<C: FaultUnit>(
     memory: Memory<'_>,
     view: UCStr<'_, C>,
     asked: (u8, Option<Policy>),
 ) -> Result<String, NoAnswer> {
-    let (heap, left) = (memory.heap, memory.heap.left());
-    match asked {
-        (b'l', None) => made(memory, left, &UtfString::from_ucstr_lossy(heap, view)?),
-        (b'l', Some(policy)) => made(
-            memory,
-            left,
-            &UtfString::from_ucstr_lossy_with(heap, view, policy)?,
-        ),
-        (b'y', None) => bytes_of(memory, left, view.to_string_lossy(heap)?.as_bytes()),
-        (b'y', Some(policy)) => bytes_of(
-            memory,
-            left,
-            view.to_string_lossy_with(heap, policy)?.as_bytes(),
-        ),
-        _ => Err(NoAnswer::Unparsed),
-    }
+    lossy_of!(memory, view, asked, from_ucstr_lossy, from_ucstr_lossy_with)
+}
+
+// Returns the C string whose contents are these units.
+fn c_string<C: FaultUnit>(alloc: Global, units: &[C]) -> Result<UCString<C>, NoAnswer> {
+    made::c_string(Vec::from_slice(alloc, units)?)
+}
+
+fn lossy_c_string<C: FaultUnit>(
+    memory: Memory<'_>,
+    units: &[C],
+    asked: (u8, Option<Policy>),
+) -> Result<String, NoAnswer> {
+    let string = c_string(memory.alloc, units)?;
+    lossy_contents(memory, string.as_ucstr(), asked)
 }
 
 /// Returns the answer to a question about the lossy text of units.
-pub fn lossy<C: ReportedUnit>(
+pub fn lossy<C: FaultUnit>(
     memory: Memory<'_>,
-    list: &str,
+    units: &[C],
     question: &str,
 ) -> Result<String, NoAnswer> {
-    let units = parse::list::<C>(memory.alloc, list)?;
     if let Some(question) = question.strip_prefix('c') {
-        let string = made::c_string(units)?;
-        return lossy_c_string(memory, string.as_ucstr(), asked(question)?);
+        return lossy_c_string(memory, units, asked(question)?);
     }
     if let Some(question) = question.strip_prefix('v') {
-        return lossy_view(memory, UStr::from_slice(&units), asked(question)?);
+        return lossy_view(memory, UStr::from_slice(units), asked(question)?);
     }
     match asked(question)? {
-        (b'l', policy) => lossy_slice(memory, &units, policy),
-        asked => lossy_view(memory, UStr::from_slice(&units), asked),
+        (b'l', policy) => lossy_slice(memory, units, policy),
+        asked => lossy_view(memory, UStr::from_slice(units), asked),
     }
 }
 
-// Adds a text in UTF-8, or the fault of ill-formed units.
+// What a conversion returns: a value or the fault of ill-formed units, if no allocation failed.
+type Made<T, C, A> = Result<Result<T, UtfError<C, A>>, NoAnswer>;
+
+// Returns the answer: a text in UTF-8, or the fault of ill-formed units.
 fn reported<C: ReportedUnit>(
     memory: Memory<'_>,
     left: u64,
-    made: Result<String<&Heap>, UtfError<C>>,
+    made: Made<String<&Heap>, C, Global>,
 ) -> Result<String, NoAnswer> {
-    match made {
+    match made? {
         Ok(text) => bytes_of(memory, left, text.as_bytes()),
         Err(fault) => {
             let mut answer = Answer::new(memory.alloc);
@@ -176,84 +196,91 @@ fn reported<C: ReportedUnit>(
     }
 }
 
-// Adds the string of a copy, or the fault with the copy.
-fn copied<'a, C: ReportedUnit>(
-    memory: Memory<'a>,
+// Returns the answer: the units of a copy.
+fn copy<C: ReportedUnit>(memory: Memory<'_>, left: u64, units: &[C]) -> Result<String, NoAnswer> {
+    shown(memory, left, "", !units.is_empty(), units)
+}
+
+// Returns the answer: the fault of a copy, and the copy that the error returns.
+fn refused<C: ReportedUnit>(
+    memory: Memory<'_>,
     left: u64,
-    made: Result<UtfString<C, &'a Heap>, UtfError<C, &'a Heap>>,
+    fault: UtfError<C, &Heap>,
 ) -> Result<String, NoAnswer> {
     let mut answer = Answer::new(memory.alloc);
-    match made {
-        Ok(string) => {
-            check(memory, &mut answer, left, !string.is_empty());
-            answer.units(string.as_slice());
-        }
-        Err(fault) => {
-            check(memory, &mut answer, left, true);
-            answer.fault_at(&fault);
-            answer.part();
-            answer.handed_back(fault.into_vec());
-        }
-    }
+    check(memory, &mut answer, left, true);
+    answer.fault_at(&fault);
+    answer.part();
+    answer.handed_back(fault.into_vec());
     answer.finish()
 }
 
-// Returns the answer to a question about the string of a file.
-fn file(memory: Memory<'_>, bytes: &[u8]) -> Result<String, NoAnswer> {
-    let left = memory.heap.left();
-    match include_utf16str(memory.heap, bytes) {
-        Ok(string) => copied(memory, left, Ok(string)),
-        Err(Utf16BytesError::Utf16(fault)) => copied(memory, left, Err(fault)),
-        Err(Utf16BytesError::OutOfMemory) => Err(NoAnswer::OutOfMemory),
-        Err(Utf16BytesError::OddLength) => {
-            let mut answer = Answer::new(memory.alloc);
-            check(memory, &mut answer, left, false);
-            answer.word("odd");
-            answer.finish()
-        }
+// Returns the answer: the string of a copy, or the fault with the copy.
+fn copied<'a, C: ReportedUnit>(
+    memory: Memory<'a>,
+    left: u64,
+    made: Made<UtfString<C, &'a Heap>, C, &'a Heap>,
+) -> Result<String, NoAnswer> {
+    match made? {
+        Ok(string) => copy(memory, left, string.as_slice()),
+        Err(fault) => refused(memory, left, fault),
     }
 }
 
-// Adds bytes, which must be in a block of their size.
+// Returns the answer: that there is an odd number of bytes.
+fn odd(memory: Memory<'_>, left: u64) -> Result<String, NoAnswer> {
+    let mut answer = Answer::new(memory.alloc);
+    check(memory, &mut answer, left, false);
+    answer.word("odd");
+    answer.finish()
+}
+
+/// Returns the answer to a question about the string of a file.
+pub fn file(memory: Memory<'_>, bytes: &[u8]) -> Result<String, NoAnswer> {
+    let left = memory.heap.left();
+    match include_utf16str(memory.heap, bytes) {
+        Ok(string) => copy(memory, left, string.as_slice()),
+        Err(Utf16BytesError::Utf16(fault)) => refused(memory, left, fault),
+        Err(Utf16BytesError::OutOfMemory) => Err(NoAnswer::OutOfMemory),
+        Err(Utf16BytesError::OddLength) => odd(memory, left),
+    }
+}
+
+// Returns the answer: bytes, which must be in a block of their size.
 fn stored<C: ReportedUnit>(
     memory: Memory<'_>,
     view: UStr<'_, C>,
     question: &str,
 ) -> Result<String, NoAnswer> {
-    let (heap, left) = (memory.heap, memory.heap.left());
-    let bytes = match question {
-        "L" => view.to_le_bytes(heap)?,
-        "B" => view.to_be_bytes(heap)?,
-        "LM" => view.to_le_bytes_with_bom(heap)?,
-        "BM" => view.to_be_bytes_with_bom(heap)?,
-        _ => return Err(NoAnswer::Unparsed),
-    };
-    if bytes.capacity() != bytes.len() {
-        return Err(NoAnswer::Unparsed);
+    let left = memory.heap.left();
+    let bytes = bytes::made(memory.heap, view, question)?;
+    if bytes.capacity() == bytes.len() {
+        bytes_of(memory, left, &bytes)
+    } else {
+        Err(NoAnswer::Unparsed)
     }
-    bytes_of(memory, left, &bytes)
 }
 
-// Returns the answer to a question that either width has.
+// Returns the answer: the text of well-formed units in UTF-8.
+fn text<C: ReportedUnit>(memory: Memory<'_>, units: &[C]) -> Result<String, NoAnswer> {
+    let left = memory.heap.left();
+    let text = as_text(units)?.to_string(memory.heap)?;
+    bytes_of(memory, left, text.as_bytes())
+}
+
 fn of_either_width<C: ReportedUnit>(
     memory: Memory<'_>,
     units: &[C],
     question: &str,
 ) -> Result<String, NoAnswer> {
-    if question != "u" {
-        return stored(memory, UStr::from_slice(units), question);
-    }
-    let left = memory.heap.left();
-    match UtfStr::from_slice(units) {
-        Ok(text) => bytes_of(memory, left, text.to_string(memory.heap)?.as_bytes()),
-        Err(_) => Err(NoAnswer::Unparsed),
+    match question {
+        "u" => text(memory, units),
+        _ => stored(memory, UStr::from_slice(units), question),
     }
 }
 
 // Splits the result of a conversion of 16-bit units into a value or a fault, and allocation failures.
-fn found16<T, A: Allocator>(
-    made: Result<T, Utf16ConvertError<A>>,
-) -> Result<Result<T, UtfError<u16, A>>, NoAnswer> {
+fn found16<T, A: Allocator>(made: Result<T, Utf16ConvertError<A>>) -> Made<T, u16, A> {
     match made {
         Ok(value) => Ok(Ok(value)),
         Err(Utf16ConvertError::Utf16(fault)) => Ok(Err(fault)),
@@ -262,9 +289,7 @@ fn found16<T, A: Allocator>(
 }
 
 // Splits the result of a conversion of 32-bit units into a value or a fault, and allocation failures.
-fn found32<T, A: Allocator>(
-    made: Result<T, Utf32ConvertError<A>>,
-) -> Result<Result<T, UtfError<u32, A>>, NoAnswer> {
+fn found32<T, A: Allocator>(made: Result<T, Utf32ConvertError<A>>) -> Made<T, u32, A> {
     match made {
         Ok(value) => Ok(Ok(value)),
         Err(Utf32ConvertError::Utf32(fault)) => Ok(Err(fault)),
@@ -272,57 +297,56 @@ fn found32<T, A: Allocator>(
     }
 }
 
-/// Returns the answer to a question about the text of 16-bit units.
-pub fn text16(memory: Memory<'_>, list: &str, question: &str) -> Result<String, NoAnswer> {
+fn contents16(memory: Memory<'_>, units: &[u16], is_copied: bool) -> Result<String, NoAnswer> {
     let (heap, left) = (memory.heap, memory.heap.left());
-    if question == "i" {
-        return file(memory, &parse::list::<u8>(memory.alloc, list)?);
+    let string = c_string(memory.alloc, units)?;
+    if is_copied {
+        copied(
+            memory,
+            left,
+            found16(Utf16String::from_ucstr(heap, string.as_ucstr())),
+        )
+    } else {
+        reported(memory, left, found16(string.as_ucstr().to_string(heap)))
     }
-    let units = parse::list::<u16>(memory.alloc, list)?;
+}
+
+fn contents32(memory: Memory<'_>, units: &[u32], is_copied: bool) -> Result<String, NoAnswer> {
+    let (heap, left) = (memory.heap, memory.heap.left());
+    let string = c_string(memory.alloc, units)?;
+    if is_copied {
+        copied(
+            memory,
+            left,
+            found32(Utf32String::from_ucstr(heap, string.as_ucstr())),
+        )
+    } else {
+        reported(memory, left, found32(string.as_ucstr().to_string(heap)))
+    }
+}
+
+/// Returns the answer to a question about the text of 16-bit units.
+pub fn text16(memory: Memory<'_>, units: &[u16], question: &str) -> Result<String, NoAnswer> {
+    let (heap, left) = (memory.heap, memory.heap.left());
+    let view = U16Str::from_slice(units);
     match question {
-        "s" => {
-            let made = U16Str::from_slice(&units).to_string(heap);
-            reported(memory, left, found16(made)?)
-        }
-        "f" => {
-            let made = Utf16String::from_ustr(heap, U16Str::from_slice(&units));
-            copied(memory, left, found16(made)?)
-        }
-        "c" => {
-            let string = made::c_string(units)?;
-            reported(memory, left, found16(string.as_ucstr().to_string(heap))?)
-        }
-        "g" => {
-            let string = made::c_string(units)?;
-            let made = Utf16String::from_ucstr(heap, string.as_ucstr());
-            copied(memory, left, found16(made)?)
-        }
-        _ => of_either_width(memory, &units, question),
+        "s" => reported(memory, left, found16(view.to_string(heap))),
+        "f" => copied(memory, left, found16(Utf16String::from_ustr(heap, view))),
+        "c" => contents16(memory, units, false),
+        "g" => contents16(memory, units, true),
+        _ => of_either_width(memory, units, question),
     }
 }
 
 /// Returns the answer to a question about the text of 32-bit units.
-pub fn text32(memory: Memory<'_>, list: &str, question: &str) -> Result<String, NoAnswer> {
+pub fn text32(memory: Memory<'_>, units: &[u32], question: &str) -> Result<String, NoAnswer> {
     let (heap, left) = (memory.heap, memory.heap.left());
-    let units = parse::list::<u32>(memory.alloc, list)?;
+    let view = U32Str::from_slice(units);
     match question {
-        "s" => {
-            let made = U32Str::from_slice(&units).to_string(heap);
-            reported(memory, left, found32(made)?)
-        }
-        "f" => {
-            let made = Utf32String::from_ustr(heap, U32Str::from_slice(&units));
-            copied(memory, left, found32(made)?)
-        }
-        "c" => {
-            let string = made::c_string(units)?;
-            reported(memory, left, found32(string.as_ucstr().to_string(heap))?)
-        }
-        "g" => {
-            let string = made::c_string(units)?;
-            let made = Utf32String::from_ucstr(heap, string.as_ucstr());
-            copied(memory, left, found32(made)?)
-        }
-        _ => of_either_width(memory, &units, question),
+        "s" => reported(memory, left, found32(view.to_string(heap))),
+        "f" => copied(memory, left, found32(Utf32String::from_ustr(heap, view))),
+        "c" => contents32(memory, units, false),
+        "g" => contents32(memory, units, true),
+        _ => of_either_width(memory, units, question),
     }
 }

@@ -11,6 +11,7 @@
 //! and the unit of the fault. It is a `?` if the flags of the devices contradict it.
 ghost use Rattle.std.specs.Prelude.{◌≡◌, IfOk, false};
 
+use crate::groups::answers;
 use std::alloc::Global;
 use widestring::Policy;
 use widestring::bytes::{ByteSink, ByteSource, Mode, transcode, transcode_with};
@@ -89,30 +90,49 @@ fn is_flagged(
     }
 }
 
-/// Returns the answer: what a run writes, and how it ends.
-pub fn run(alloc: Global, list: &str, question: &str) -> Result<String, NoAnswer> {
-    let bytes = parse::list::<u8>(alloc, list)?;
-    let (mode, devices) = parse::parts(question)?;
-    let (from, to) = parse::parts(devices)?;
-    let mut source = source(from, &bytes)?;
-    let mut sink = sink(alloc, to)?;
-    let ending = match mode {
-        "s" => transcode(&mut source, &mut sink, Mode::Strict),
-        "l" => transcode(&mut source, &mut sink, Mode::Lossy),
-        "e" => transcode_with(&mut source, &mut sink, Policy::Each),
-        "r" => transcode_with(&mut source, &mut sink, Policy::Run),
-        "k" => transcode_with(&mut source, &mut sink, Policy::Skip),
-        _ => return Err(NoAnswer::Unparsed),
-    };
+// Makes a run in a mode.
+fn moved(
+    mode: &str,
+    source: &mut SlowSource<'_>,
+    sink: &mut SlowSink,
+) -> Result<Result<(), TranscodeError>, NoAnswer>
+    requires source_unfailed { source.old.failed ≡ false }
+    requires source_open { source.old.ended ≡ false }
+    requires sink_unfailed { sink.old.failed ≡ false }
+{
+    match mode {
+        "s" => Ok(transcode(source, sink, Mode::Strict)),
+        "l" => Ok(transcode(source, sink, Mode::Lossy)),
+        "e" => Ok(transcode_with(source, sink, Policy::Each)),
+        "r" => Ok(transcode_with(source, sink, Policy::Run)),
+        "k" => Ok(transcode_with(source, sink, Policy::Skip)),
+        _ => Err(NoAnswer::Unparsed),
+    }
+}
+
+// Returns the answer: the bytes that were written, and how a run ends.
+fn shown(
+    alloc: Global,
+    written: &[u8],
+    ending: Result<(), TranscodeError>,
+) -> Result<String, NoAnswer> {
     let mut answer = Answer::new(alloc);
-    if !is_flagged(ending, &source, &sink) {
-        answer.word("?");
-        return answer.finish();
-    }
-    for byte in &sink.bytes {
-        answer.number(Some(u32::from(*byte)));
-    }
+    answer.bytes(written);
     answer.part();
     show(&mut answer, ending)?;
     answer.finish()
+}
+
+/// Returns the answer: what a run writes, and how it ends.
+pub fn run(alloc: Global, bytes: &[u8], question: &str) -> Result<String, NoAnswer> {
+    let (mode, devices) = parse::parts(question)?;
+    let (from, to) = parse::parts(devices)?;
+    let mut source = source(from, bytes)?;
+    let mut sink = sink(alloc, to)?;
+    let ending = moved(mode, &mut source, &mut sink)?;
+    if is_flagged(ending, &source, &sink) {
+        shown(alloc, &sink.bytes, ending)
+    } else {
+        answers::word(alloc, "?")
+    }
 }

@@ -7,9 +7,8 @@ use widestring_replay::parse::{self, NoAnswer};
 use widestring_replay::show::Answer;
 
 /// Returns the answer: all bytes of an encoder to UTF-8.
-pub fn utf8(alloc: Global, list: &str, question: &str) -> Result<String, NoAnswer> {
+pub fn utf8(alloc: Global, chars: &[char], question: &str) -> Result<String, NoAnswer> {
     parse::no_question(question)?;
-    let chars = parse::list::<char>(alloc, list)?;
     let mut answer = Answer::new(alloc);
     for byte in encode_utf8(chars.iter().copied()) {
         answer.number(Some(u32::from(byte)));
@@ -18,9 +17,8 @@ pub fn utf8(alloc: Global, list: &str, question: &str) -> Result<String, NoAnswe
 }
 
 /// Returns the answer: all units of an encoder to UTF-16.
-pub fn utf16(alloc: Global, list: &str, question: &str) -> Result<String, NoAnswer> {
+pub fn utf16(alloc: Global, chars: &[char], question: &str) -> Result<String, NoAnswer> {
     parse::no_question(question)?;
-    let chars = parse::list::<char>(alloc, list)?;
     let mut answer = Answer::new(alloc);
     for unit in encode_utf16(chars.iter().copied()) {
         answer.number(Some(u32::from(unit)));
@@ -28,14 +26,16 @@ pub fn utf16(alloc: Global, list: &str, question: &str) -> Result<String, NoAnsw
     answer.finish()
 }
 
-/// Returns the answer: what an encoder to UTF-32 returns for each call.
-pub fn utf32(alloc: Global, list: &str, word: &str) -> Result<String, NoAnswer> {
-    let calls = parse::calls(alloc, word)?;
-    let chars = parse::list::<char>(alloc, list)?;
+fn of_calls(alloc: Global, chars: &[char], calls: &[End]) -> Result<String, NoAnswer> {
     let mut encoder = encode_utf32(chars.iter().copied());
     let mut answer = Answer::new(alloc);
-    for end in &calls {
+    for end in calls {
         answer.number(asked!(encoder, end));
     }
     answer.finish()
+}
+
+/// Returns the answer: what an encoder to UTF-32 returns for each call.
+pub fn utf32(alloc: Global, chars: &[char], word: &str) -> Result<String, NoAnswer> {
+    of_calls(alloc, chars, &parse::calls(alloc, word)?)
 }

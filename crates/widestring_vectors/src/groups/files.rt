@@ -5,25 +5,37 @@
 //! For UTF-8, `code` is the first code point, decoded by the layout of its bytes, and the bytes after it; `valid` is
 //! the lengths of the text in UTF-16 and in UTF-32, or, after a `!`, how many bytes precede the first fault; `lossy`
 //! has the units of the lossy text in UTF-16.
+use crate::groups::answers;
+use std::alloc::Global;
 use std::str;
 use widestring::Utf16String;
 use widestring::bytes::{BoM, byte_order, include_utf16str, units_of_bytes, utf16_of_bytes};
-use widestring::error::Utf16BytesError;
+use widestring::error::{Utf16BytesError, Utf16Error};
 use widestring::unit::{length_as_utf16, length_as_utf32, next_code_point};
-use widestring_replay::parse::{self, Memory, NoAnswer};
+use widestring_replay::parse::{Memory, NoAnswer};
 use widestring_replay::show::Answer;
+use widestring_testing::Heap;
 
-fn order(answer: &mut Answer, order: Option<BoM>) {
-    answer.word(match order {
+fn letter(order: Option<BoM>) -> &'static str {
+    match order {
         None => "-",
         Some(BoM::Little) => "l",
         Some(BoM::Big) => "b",
-    });
+    }
 }
 
-fn parts(answer: &mut Answer, bytes: &[u8]) {
+fn units(alloc: Global, bytes: &[u8]) -> Result<String, NoAnswer> {
+    let mut answer = Answer::new(alloc);
+    for unit in units_of_bytes(bytes) {
+        answer.unit(Some(unit));
+    }
+    answer.finish()
+}
+
+fn parts(alloc: Global, bytes: &[u8]) -> Result<String, NoAnswer> {
     let parts = utf16_of_bytes(bytes);
-    order(answer, Some(parts.order));
+    let mut answer = Answer::new(alloc);
+    answer.word(letter(Some(parts.order)));
     answer.decided(parts.has_bom);
     answer.part();
     for unit in parts.units {
@@ -31,67 +43,80 @@ fn parts(answer: &mut Answer, bytes: &[u8]) {
     }
     answer.part();
     answer.number(parts.half.map(u32::from));
+    answer.finish()
 }
 
-fn text(memory: Memory<'_>, answer: &mut Answer, bytes: &[u8]) -> Result<(), NoAnswer> {
+fn refused(alloc: Global, fault: Utf16Error<&Heap>) -> Result<String, NoAnswer> {
+    let mut answer = Answer::new(alloc);
+    answer.first_fault(&fault);
+    answer.part();
+    answer.handed_back(fault.into_vec());
+    answer.finish()
+}
+
+fn text(memory: Memory<'_>, bytes: &[u8]) -> Result<String, NoAnswer> {
     match include_utf16str(memory.heap, bytes) {
-        Ok(string) => answer.units(string.as_slice()),
-        Err(Utf16BytesError::OddLength) => answer.word("odd"),
-        Err(Utf16BytesError::OutOfMemory) => return Err(NoAnswer::OutOfMemory),
-        Err(Utf16BytesError::Utf16(fault)) => {
-            answer.first_fault(&fault);
-            answer.part();
-            answer.handed_back(fault.into_vec());
-        }
+        Ok(string) => answers::units(memory.alloc, string.as_slice()),
+        Err(Utf16BytesError::OddLength) => answers::word(memory.alloc, "odd"),
+        Err(Utf16BytesError::OutOfMemory) => Err(NoAnswer::OutOfMemory),
+        Err(Utf16BytesError::Utf16(fault)) => refused(memory.alloc, fault),
     }
-    Ok(())
 }
 
-fn valid(answer: &mut Answer, bytes: &[u8]) {
+fn lengths(alloc: Global, text: &str) -> Result<String, NoAnswer> {
+    let mut answer = Answer::new(alloc);
+    answer.count(Some(length_as_utf16(text)));
+    answer.count(Some(length_as_utf32(text)));
+    answer.finish()
+}
+
+fn valid_up_to(alloc: Global, count: usize) -> Result<String, NoAnswer> {
+    let mut answer = Answer::new(alloc);
+    answer.word("!");
+    answer.part();
+    answer.count(Some(count));
+    answer.finish()
+}
+
+fn valid(alloc: Global, bytes: &[u8]) -> Result<String, NoAnswer> {
     match str::from_utf8(bytes) {
-        Ok(text) => {
-            answer.count(Some(length_as_utf16(text)));
-            answer.count(Some(length_as_utf32(text)));
-        }
-        Err(fault) => {
-            answer.word("!");
-            answer.part();
-            answer.count(Some(fault.valid_up_to()));
-        }
+        Ok(text) => lengths(alloc, text),
+        Err(fault) => valid_up_to(alloc, fault.valid_up_to()),
     }
 }
 
-fn code(answer: &mut Answer, bytes: &[u8]) {
-    match next_code_point(bytes) {
-        None => answer.number(None),
-        Some((code, rest)) => {
-            answer.number(Some(code));
-            answer.part();
-            answer.bytes(rest);
-        }
-    }
+fn code(alloc: Global, bytes: &[u8]) -> Result<String, NoAnswer> {
+    let Some((code, rest)) = next_code_point(bytes) else {
+        return answers::word(alloc, "-");
+    };
+    let mut answer = Answer::new(alloc);
+    answer.number(Some(code));
+    answer.part();
+    answer.bytes(rest);
+    answer.finish()
+}
+
+fn in_utf16(memory: Memory<'_>, text: &str) -> Result<String, NoAnswer> {
+    let text = Utf16String::from_str(memory.heap, text)?;
+    answers::units(memory.alloc, text.as_slice())
+}
+
+fn lossy(memory: Memory<'_>, bytes: &[u8]) -> Result<String, NoAnswer> {
+    let text = String::from_utf8_lossy(memory.alloc, bytes)?;
+    in_utf16(memory, &text)
 }
 
 /// Returns the answer to a question about bytes.
-pub fn of_bytes(memory: Memory<'_>, list: &str, question: &str) -> Result<String, NoAnswer> {
-    let bytes = parse::list::<u8>(memory.alloc, list)?;
-    let mut answer = Answer::new(memory.alloc);
+pub fn of_bytes(memory: Memory<'_>, bytes: &[u8], question: &str) -> Result<String, NoAnswer> {
+    let alloc = memory.alloc;
     match question {
-        "order" => order(&mut answer, byte_order(&bytes)),
-        "units" => {
-            for unit in units_of_bytes(&bytes) {
-                answer.unit(Some(unit));
-            }
-        }
-        "parts" => parts(&mut answer, &bytes),
-        "text" => text(memory, &mut answer, &bytes)?,
-        "code" => code(&mut answer, &bytes),
-        "valid" => valid(&mut answer, &bytes),
-        "lossy" => {
-            let text = String::from_utf8_lossy(memory.alloc, &bytes)?;
-            answer.units(Utf16String::from_str(memory.heap, &text)?.as_slice());
-        }
-        _ => return Err(NoAnswer::Unparsed),
+        "order" => answers::word(alloc, letter(byte_order(bytes))),
+        "units" => units(alloc, bytes),
+        "parts" => parts(alloc, bytes),
+        "text" => text(memory, bytes),
+        "code" => code(alloc, bytes),
+        "valid" => valid(alloc, bytes),
+        "lossy" => lossy(memory, bytes),
+        _ => Err(NoAnswer::Unparsed),
     }
-    answer.finish()
 }

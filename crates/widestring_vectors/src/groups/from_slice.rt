@@ -1,5 +1,6 @@
 //! Whether units are well formed. A question is empty, and the answer is `ok`, or the index, the item number and the
 //! unit of the first fault.
+use crate::groups::answers;
 use std::alloc::Global;
 use widestring::utfstr::UtfStr;
 use widestring_replay::parse::{self, NoAnswer};
@@ -8,15 +9,16 @@ use widestring_replay::show::{Answer, ReportedUnit};
 /// Returns the answer: whether units of either width are well formed.
 pub fn checked<C: ReportedUnit>(
     alloc: Global,
-    list: &str,
+    units: &[C],
     question: &str,
 ) -> Result<String, NoAnswer> {
     parse::no_question(question)?;
-    let units = parse::list::<C>(alloc, list)?;
-    let mut answer = Answer::new(alloc);
-    match UtfStr::from_slice(&units) {
-        Ok(_) => answer.word("ok"),
-        Err(error) => answer.first_fault(&error),
+    match UtfStr::from_slice(units) {
+        Ok(_) => answers::word(alloc, "ok"),
+        Err(error) => {
+            let mut answer = Answer::new(alloc);
+            answer.first_fault(&error);
+            answer.finish()
+        }
     }
-    answer.finish()
 }

@@ -29,7 +29,8 @@ fn of_slice(alloc: Global, units: &[u16], calls: &[End]) -> Result<String, NoAns
     bounds_of!(alloc, decode_utf16(units.iter().copied()), calls)
 }
 
-fn of_vec(alloc: Global, units: Vec<u16>, calls: &[End]) -> Result<String, NoAnswer> {
+fn of_vec(alloc: Global, units: &[u16], calls: &[End]) -> Result<String, NoAnswer> {
+    let units = Vec::from_slice(alloc, units)?;
     bounds_of!(alloc, decode_utf16(units), calls)
 }
 
@@ -91,28 +92,23 @@ fn of_vague(alloc: Global, source: Vague, calls: &[End]) -> Result<String, NoAns
     bounds_of!(alloc, decode_utf16(source), calls)
 }
 
+fn of_source(alloc: Global, source: u8, units: &[u16], calls: &[End]) -> Result<String, NoAnswer> {
+    let bounded = source == b'm';
+    match source {
+        b's' => of_slice(alloc, units, calls),
+        b'a' => of_units(alloc, units, calls),
+        b'v' => of_vec(alloc, units, calls),
+        b'm' | b'n' => of_vague(alloc, Vague { units, bounded }, calls),
+        _ => Err(NoAnswer::Unparsed),
+    }
+}
+
 /// Returns the answer: the bounds of a decoder of UTF-16. A question is a letter for the source, and then a word of
 /// calls: `s` for the copied units of a slice, `a` for an array, `v` for a vector, `m` for units whose source says that
 /// they are at most `usize::MAX`, and `n` for units of which it says nothing.
-pub fn utf16(alloc: Global, list: &str, question: &str) -> Result<String, NoAnswer> {
+pub fn utf16(alloc: Global, units: &[u16], question: &str) -> Result<String, NoAnswer> {
     let (source, word) = parse::kind(question)?;
-    let calls = parse::calls(alloc, word)?;
-    let units = parse::list::<u16>(alloc, list)?;
-    let bounded = source == b'm';
-    match source {
-        b's' => of_slice(alloc, &units, &calls),
-        b'a' => of_units(alloc, &units, &calls),
-        b'v' => of_vec(alloc, units, &calls),
-        b'm' | b'n' => of_vague(
-            alloc,
-            Vague {
-                units: &units,
-                bounded,
-            },
-            &calls,
-        ),
-        _ => Err(NoAnswer::Unparsed),
-    }
+    of_source(alloc, source, units, &parse::calls(alloc, word)?)
 }
 
 fn of_slice32(alloc: Global, units: &[u32], calls: &[End]) -> Result<String, NoAnswer> {
@@ -121,34 +117,18 @@ fn of_slice32(alloc: Global, units: &[u32], calls: &[End]) -> Result<String, NoA
 
 /// Returns the answer: the bounds of a decoder of UTF-32 over the copied units of a slice. A question is a word of
 /// calls.
-pub fn utf32(alloc: Global, list: &str, word: &str) -> Result<String, NoAnswer> {
-    let units = parse::list::<u32>(alloc, list)?;
-    let calls = parse::calls(alloc, word)?;
-    of_slice32(alloc, &units, &calls)
+pub fn utf32(alloc: Global, units: &[u32], word: &str) -> Result<String, NoAnswer> {
+    of_slice32(alloc, units, &parse::calls(alloc, word)?)
 }
 
-fn of_lossy16(alloc: Global, units: &[u16], calls: &[End]) -> Result<String, NoAnswer> {
+/// Returns the answer: the bounds of a lossy decoder of UTF-16 over the copied units of a slice.
+pub fn lossy_utf16(alloc: Global, units: &[u16], calls: &[End]) -> Result<String, NoAnswer> {
     bounds_of!(alloc, decode_utf16_lossy(units.iter().copied()), calls)
 }
 
-/// Returns the answer: the bounds of a lossy decoder of UTF-16 over the copied units of a slice. A question is a word
-/// of calls.
-pub fn lossy_utf16(alloc: Global, list: &str, word: &str) -> Result<String, NoAnswer> {
-    let units = parse::list::<u16>(alloc, list)?;
-    let calls = parse::calls(alloc, word)?;
-    of_lossy16(alloc, &units, &calls)
-}
-
-fn of_lossy32(alloc: Global, units: &[u32], calls: &[End]) -> Result<String, NoAnswer> {
+/// Returns the answer: the bounds of a lossy decoder of UTF-32 over the copied units of a slice.
+pub fn lossy_utf32(alloc: Global, units: &[u32], calls: &[End]) -> Result<String, NoAnswer> {
     bounds_of!(alloc, decode_utf32_lossy(units.iter().copied()), calls)
-}
-
-/// Returns the answer: the bounds of a lossy decoder of UTF-32 over the copied units of a slice. A question is a word
-/// of calls.
-pub fn lossy_utf32(alloc: Global, list: &str, word: &str) -> Result<String, NoAnswer> {
-    let units = parse::list::<u32>(alloc, list)?;
-    let calls = parse::calls(alloc, word)?;
-    of_lossy32(alloc, &units, &calls)
 }
 
 // Returns the answer: the bounds of an encoder, at first and after each call from the front.
@@ -165,26 +145,16 @@ macro_rules! prefix_bounds_of {
     }};
 }
 
-fn of_encoded8(alloc: Global, chars: &[char], calls: usize) -> Result<String, NoAnswer> {
-    prefix_bounds_of!(alloc, encode_utf8(chars.iter().copied()), calls)
-}
-
 /// Returns the answer: the bounds of an encoder to UTF-8 over the copied characters of a slice. A question is a word of
 /// calls, all from the front.
-pub fn of_utf8_encoder(alloc: Global, list: &str, word: &str) -> Result<String, NoAnswer> {
+pub fn of_utf8_encoder(alloc: Global, chars: &[char], word: &str) -> Result<String, NoAnswer> {
     let calls = parse::prefix_calls(word)?;
-    let chars = parse::list::<char>(alloc, list)?;
-    of_encoded8(alloc, &chars, calls)
-}
-
-fn of_encoded16(alloc: Global, chars: &[char], calls: usize) -> Result<String, NoAnswer> {
-    prefix_bounds_of!(alloc, encode_utf16(chars.iter().copied()), calls)
+    prefix_bounds_of!(alloc, encode_utf8(chars.iter().copied()), calls)
 }
 
 /// Returns the answer: the bounds of an encoder to UTF-16 over the copied characters of a slice. A question is a word
 /// of calls, all from the front.
-pub fn of_utf16_encoder(alloc: Global, list: &str, word: &str) -> Result<String, NoAnswer> {
+pub fn of_utf16_encoder(alloc: Global, chars: &[char], word: &str) -> Result<String, NoAnswer> {
     let calls = parse::prefix_calls(word)?;
-    let chars = parse::list::<char>(alloc, list)?;
-    of_encoded16(alloc, &chars, calls)
+    prefix_bounds_of!(alloc, encode_utf16(chars.iter().copied()), calls)
 }

@@ -40,19 +40,26 @@ fn of_characters<C: ReportedUnit>(
     answer.finish()
 }
 
+fn of_calls<C: ReportedUnit>(
+    alloc: Global,
+    kind: u8,
+    view: UStr<'_, C>,
+    calls: &[End],
+) -> Result<String, NoAnswer> {
+    match kind {
+        b'c' => of_items(alloc, view, calls),
+        b'l' => of_characters(alloc, view, calls),
+        _ => Err(NoAnswer::Unparsed),
+    }
+}
+
 /// Returns the answer to a question about the indices of the items of units of either width.
 pub fn offsets<C: ReportedUnit>(
     alloc: Global,
-    list: &str,
+    units: &[C],
     question: &str,
 ) -> Result<String, NoAnswer> {
     let (kind, word) = parse::kind(question)?;
     let calls = parse::calls(alloc, word)?;
-    let units = parse::list::<C>(alloc, list)?;
-    let view = UStr::from_slice(&units);
-    match kind {
-        b'c' => of_items(alloc, view, &calls),
-        b'l' => of_characters(alloc, view, &calls),
-        _ => Err(NoAnswer::Unparsed),
-    }
+    of_calls(alloc, kind, UStr::from_slice(units), &calls)
 }

@@ -8,17 +8,19 @@
 //!
 //! - For units, `debug` is the view; `display` and `skipping` are the values that print its text; `chars`, `lossy`,
 //!   `each`, `run` and `skip` are its characters; `string` is the string of them, `box` the boxed string, and `cow` the
-//!   view as a borrowed string; `repaired` is what lossy text prints, `fault` the error of ill-formed units, `refused`
+//!   view as a borrowed string; `mended` is what lossy text prints, `fault` the error of ill-formed units, `refused`
 //!   that of units that are not a C string, and `escape` what characters print as escapes.
 //! - For a C string there are `c_debug`, `c_display`, `c_skipping`, `c_string`, `c_box` and `c_cow`; for text
 //!   `t_debug`, `t_string`, `t_box`, `t_chars`, the three escapes `escape_debug`, `escape_default` and
 //!   `escape_unicode`, and `drain` for the characters of a range, which follows the calls.
-use crate::groups::width::Width;
+ghost use Rattle.std.specs.Iterator.{IsFinite};
+
+use crate::groups::width::{Width, as_contents, as_text};
 use std::alloc::Global;
 use std::fmt::{self, Debug, Display, Write};
 use std::ops::Bound;
 use widestring::Policy;
-use widestring::error::NulError;
+use widestring::error::{ContainsNul, NulError};
 use widestring::iter::End;
 use widestring::ucstr::UCStr;
 use widestring::ucstring::{CowUCStr, UCString};
@@ -28,23 +30,45 @@ use widestring::ustring::{CowUStr, UStrInUstring};
 use widestring::utfstr::UtfStr;
 use widestring::utfstring::{UtfStrInUtfstring, UtfString};
 use widestring_replay::asked;
-use widestring_replay::parse::{self, Memory, NoAnswer};
+use widestring_replay::parse::{self, NoAnswer};
 use widestring_replay::show::Answer;
 
-// A sink that keeps what it takes, counts the writes and fails at one of them.
+// A sink that takes a known text and nothing else, counts the writes and fails at one of them.
 #[derive(Drop)]
-struct Sink {
-    text: String,
+struct Sink<'a> {
+    // What is still to come of the text.
+    rest: &'a str,
     writes: usize,
     fails_at: usize,
+    is_wrong: bool,
 }
 
-impl Write for Sink {
+impl<'a> Sink<'a> {
+    fn new(text: &'a str, fails_at: usize) -> Sink<'a> {
+        Sink {
+            rest: text,
+            writes: 0,
+            fails_at,
+            is_wrong: false,
+        }
+    }
+
+    // Returns whether it took the whole text.
+    fn is_full(&self) -> bool {
+        self.rest.is_empty() & !self.is_wrong
+    }
+}
+
+impl Write for Sink<'_> {
     fn write_str(&mut self, s: &str) -> fmt::Result {
         let number = self.writes;
         self.writes = number.saturating_add(1);
-        if number == self.fails_at || self.text.push_str(s).is_err() {
+        if number == self.fails_at {
             return Err(fmt::Error);
+        }
+        match self.rest.strip_prefix(s) {
+            Some(rest) => self.rest = rest,
+            None => self.is_wrong = true,
         }
         Ok(())
     }
@@ -72,25 +96,21 @@ impl Display for Escaped {
 
 // Returns whether printing into a sink that fails at a write ends at this write, with what comes before it in the text.
 // Returns `None` if everything was printed before.
-fn is_cut(alloc: Global, value: &impl Display, whole: &str, fails_at: usize) -> Option<bool> {
-    let mut sink = Sink {
-        text: String::new(alloc),
-        writes: 0,
-        fails_at,
-    };
-    match write!(sink, "{value}") {
-        Ok(()) if sink.writes <= fails_at && sink.text.as_str() == whole => None,
-        Ok(()) => Some(false),
-        Err(_) => {
-            Some(sink.writes == fails_at.saturating_add(1) && whole.starts_with(sink.text.as_str()))
-        }
+fn is_cut(value: &impl Display, whole: &str, fails_at: usize) -> Option<bool> {
+    let mut sink = Sink::new(whole, fails_at);
+    if write!(sink, "{value}").is_err() {
+        Some(!sink.is_wrong & (sink.writes == fails_at.saturating_add(1)))
+    } else if sink.is_full() & (sink.writes <= fails_at) {
+        None
+    } else {
+        Some(false)
     }
 }
 
 // Returns whether each failing write ends the printing.
-fn ends_at_failures(alloc: Global, value: &impl Display, whole: &str) -> bool {
+fn ends_at_failures(value: &impl Display, whole: &str) -> bool {
     for fails_at in 0..1000 {
-        match is_cut(alloc, value, whole, fails_at) {
+        match is_cut(value, whole, fails_at) {
             None => return true,
             Some(true) => {}
             Some(false) => return false,
@@ -99,13 +119,27 @@ fn ends_at_failures(alloc: Global, value: &impl Display, whole: &str) -> bool {
     false
 }
 
+// Returns whether a width and fills change nothing.
+fn is_unpadded(value: &impl Display, whole: &str) -> bool {
+    let mut filled = Sink::new(whole, usize::MAX);
+    let mut wide = Sink::new(whole, usize::MAX);
+    let mut zeros = Sink::new(whole, usize::MAX);
+    let written = write!(filled, "{value:_>40}").is_ok()
+        & write!(wide, "{value:>8}").is_ok()
+        & write!(zeros, "{value:08}").is_ok();
+    written & filled.is_full() & wide.is_full() & zeros.is_full()
+}
+
+// Returns whether a width and a fill change nothing in debug text.
+fn is_debug_unpadded(value: &impl Debug, whole: &str) -> bool {
+    let mut filled = Sink::new(whole, usize::MAX);
+    write!(filled, "{value:_>40?}").is_ok() && filled.is_full()
+}
+
 /// Adds what a value prints.
 pub fn print(alloc: Global, answer: &mut Answer, value: &impl Display) -> Result<(), NoAnswer> {
     let text: String = format!(in alloc; "{value}")?;
-    let filled: String = format!(in alloc; "{value:_>40}")?;
-    let wide: String = format!(in alloc; "{value:>8}")?;
-    let zeros: String = format!(in alloc; "{value:08}")?;
-    if filled == text && wide == text && zeros == text && ends_at_failures(alloc, value, &text) {
+    if is_unpadded(value, &text) && ends_at_failures(value, &text) {
         answer.text(&text);
     } else {
         answer.word("?");
@@ -114,96 +148,130 @@ pub fn print(alloc: Global, answer: &mut Answer, value: &impl Display) -> Result
 }
 
 // Adds a `;` and the debug text of a value.
-fn debug(alloc: Global, answer: &mut Answer, value: &impl Debug) -> Result<(), NoAnswer> {
+fn add_debug(alloc: Global, answer: &mut Answer, value: &impl Debug) -> Result<(), NoAnswer> {
     answer.part();
     let plain: String = format!(in alloc; "{value:?}")?;
-    let filled: String = format!(in alloc; "{value:_>40?}")?;
-    if plain != filled {
+    if !is_debug_unpadded(value, &plain) {
         answer.word("?");
     }
     print(alloc, answer, &Debugged(value))
 }
 
-// Adds the text and the debug text of a value.
-fn both<T: Display + Debug>(alloc: Global, answer: &mut Answer, value: &T) -> Result<(), NoAnswer> {
-    print(alloc, answer, value)?;
-    debug(alloc, answer, value)
+// Returns the answer: a `;` and the debug text of a value.
+fn debug(alloc: Global, value: &impl Debug) -> Result<String, NoAnswer> {
+    let mut answer = Answer::new(alloc);
+    add_debug(alloc, &mut answer, value)?;
+    answer.finish()
 }
 
-fn of_units<C: Width>(
-    alloc: Global,
-    answer: &mut Answer,
-    view: UStr<'_, C>,
-    word: &str,
-) -> Result<(), NoAnswer> {
+// Returns the answer: the text and the debug text of a value.
+fn both<T: Display + Debug>(alloc: Global, value: &T) -> Result<String, NoAnswer> {
+    let mut answer = Answer::new(alloc);
+    print(alloc, &mut answer, value)?;
+    add_debug(alloc, &mut answer, value)?;
+    answer.finish()
+}
+
+fn of_units<C: Width>(alloc: Global, view: UStr<'_, C>, word: &str) -> Result<String, NoAnswer> {
     match word {
-        "debug" => debug(alloc, answer, &view),
-        "display" => both(alloc, answer, &view.display()),
-        "skipping" => both(alloc, answer, &view.display_skipping()),
-        "chars" => debug(alloc, answer, &view.chars()),
-        "lossy" => debug(alloc, answer, &view.chars_lossy()),
-        "each" => debug(alloc, answer, &view.chars_lossy_with(Policy::Each)),
-        "run" => debug(alloc, answer, &view.chars_lossy_with(Policy::Run)),
-        "skip" => debug(alloc, answer, &view.chars_lossy_with(Policy::Skip)),
-        "string" => debug(alloc, answer, &view.to_ustring(alloc)?),
-        "box" => match view.to_ustring(alloc)?.into_boxed_ustr() {
-            Ok(boxed) => debug(alloc, answer, &boxed),
-            Err(_) => Err(NoAnswer::OutOfMemory),
-        },
-        "cow" => {
-            let borrowed: CowUStr<'_, C> = CowUStr::Borrowed(view);
-            debug(alloc, answer, &borrowed)
-        }
-        "mended" => both(alloc, answer, &UtfString::from_ustr_lossy(alloc, view)?),
-        _ => of_error(alloc, answer, view.as_slice(), word),
+        "debug" => debug(alloc, &view),
+        "display" => both(alloc, &view.display()),
+        "skipping" => both(alloc, &view.display_skipping()),
+        "chars" => debug(alloc, &view.chars()),
+        "lossy" => debug(alloc, &view.chars_lossy()),
+        "each" => debug(alloc, &view.chars_lossy_with(Policy::Each)),
+        "run" => debug(alloc, &view.chars_lossy_with(Policy::Run)),
+        "skip" => debug(alloc, &view.chars_lossy_with(Policy::Skip)),
+        "cow" => borrowed(alloc, view),
+        "string" => string(alloc, view),
+        "box" => boxed(alloc, view),
+        "mended" => mended(alloc, view),
+        _ => of_error(alloc, view.as_slice(), word),
     }
 }
 
-// Adds the text and the derived debug text of errors.
-fn of_error<C: Width>(
+fn borrowed<C: Width>(alloc: Global, view: UStr<'_, C>) -> Result<String, NoAnswer> {
+    let borrowed: CowUStr<'_, C> = CowUStr::Borrowed(view);
+    debug(alloc, &borrowed)
+}
+
+fn string<C: Width>(alloc: Global, view: UStr<'_, C>) -> Result<String, NoAnswer> {
+    debug(alloc, &view.to_ustring(alloc)?)
+}
+
+fn boxed<C: Width>(alloc: Global, view: UStr<'_, C>) -> Result<String, NoAnswer> {
+    match view.to_ustring(alloc)?.into_boxed_ustr() {
+        Ok(boxed) => debug(alloc, &boxed),
+        Err(_) => Err(NoAnswer::OutOfMemory),
+    }
+}
+
+fn mended<C: Width>(alloc: Global, view: UStr<'_, C>) -> Result<String, NoAnswer> {
+    both(alloc, &UtfString::from_ustr_lossy(alloc, view)?)
+}
+
+// Returns the answer: the texts of errors, or escapes.
+fn of_error<C: Width>(alloc: Global, units: &[C], word: &str) -> Result<String, NoAnswer> {
+    let mut answer = Answer::new(alloc);
+    match word {
+        "fault" => C::print_fault(alloc, &mut answer, units),
+        "refused" => refused(alloc, &mut answer, units),
+        "escape" => escapes(alloc, &mut answer, units),
+        _ => Err(NoAnswer::Unparsed),
+    }?;
+    answer.finish()
+}
+
+fn refused<C: Width>(alloc: Global, answer: &mut Answer, units: &[C]) -> Result<(), NoAnswer> {
+    match UCStr::from_slice(units) {
+        Ok(_) => Err(NoAnswer::Unparsed),
+        Err(NulError::ContainsNul(fault)) => inner_nul(alloc, answer, fault),
+        Err(fault) => print(alloc, answer, &fault),
+    }
+}
+
+fn inner_nul<C: Width>(
     alloc: Global,
     answer: &mut Answer,
-    units: &[C],
-    word: &str,
+    fault: ContainsNul<C>,
 ) -> Result<(), NoAnswer> {
-    match (word, UtfStr::from_slice(units), UCStr::from_slice(units)) {
-        ("fault", _, _) => C::print_fault(alloc, answer, units),
-        ("refused", _, Err(NulError::ContainsNul(fault))) => {
-            print(alloc, answer, &fault)?;
-            answer.part();
-            print(alloc, answer, &NulError::ContainsNul(fault))
-        }
-        ("refused", _, Err(fault)) => print(alloc, answer, &fault),
-        ("escape", Ok(text), _) => {
-            for c in text.chars() {
-                print(alloc, answer, &Escaped(c))?;
-            }
-            Ok(())
-        }
-        _ => Err(NoAnswer::Unparsed),
+    print(alloc, answer, &fault)?;
+    answer.part();
+    print(alloc, answer, &NulError::ContainsNul(fault))
+}
+
+fn escapes<C: Width>(alloc: Global, answer: &mut Answer, units: &[C]) -> Result<(), NoAnswer> {
+    for c in as_text(units)?.chars() {
+        print(alloc, answer, &Escaped(c))?;
     }
+    Ok(())
 }
 
 fn of_contents<C: Width>(
     alloc: Global,
-    answer: &mut Answer,
     view: UCStr<'_, C>,
     word: &str,
-) -> Result<(), NoAnswer> {
+) -> Result<String, NoAnswer> {
     match word {
-        "c_debug" => debug(alloc, answer, &view),
-        "c_display" => both(alloc, answer, &view.display()),
-        "c_skipping" => both(alloc, answer, &view.display_skipping()),
-        "c_cow" => {
-            let borrowed: CowUCStr<'_, C> = CowUCStr::Borrowed(view);
-            debug(alloc, answer, &borrowed)
-        }
-        "c_string" => debug(alloc, answer, &c_string(alloc, view)?),
-        "c_box" => match c_string(alloc, view)?.into_boxed_ucstr() {
-            Ok(boxed) => debug(alloc, answer, &boxed),
-            Err(_) => Err(NoAnswer::OutOfMemory),
-        },
+        "c_debug" => debug(alloc, &view),
+        "c_display" => both(alloc, &view.display()),
+        "c_skipping" => both(alloc, &view.display_skipping()),
+        "c_cow" => borrowed_contents(alloc, view),
+        "c_string" => debug(alloc, &c_string(alloc, view)?),
+        "c_box" => boxed_contents(alloc, view),
         _ => Err(NoAnswer::Unparsed),
+    }
+}
+
+fn borrowed_contents<C: Width>(alloc: Global, view: UCStr<'_, C>) -> Result<String, NoAnswer> {
+    let borrowed: CowUCStr<'_, C> = CowUCStr::Borrowed(view);
+    debug(alloc, &borrowed)
+}
+
+fn boxed_contents<C: Width>(alloc: Global, view: UCStr<'_, C>) -> Result<String, NoAnswer> {
+    match c_string(alloc, view)?.into_boxed_ucstr() {
+        Ok(boxed) => debug(alloc, &boxed),
+        Err(_) => Err(NoAnswer::OutOfMemory),
     }
 }
 
@@ -216,48 +284,57 @@ fn c_string<C: Width>(alloc: Global, view: UCStr<'_, C>) -> Result<UCString<C>, 
 
 fn of_text<C: Width>(
     alloc: Global,
-    answer: &mut Answer,
     text: UtfStr<'_, C>,
     word: &str,
     more: &str,
-) -> Result<(), NoAnswer> {
+) -> Result<String, NoAnswer> {
     match word {
-        "t_debug" => both(alloc, answer, &text),
-        "t_string" => both(alloc, answer, &text.to_utfstring(alloc)?),
-        "t_box" => match text.to_utfstring(alloc)?.into_boxed_utfstr() {
-            Ok(boxed) => both(alloc, answer, &boxed),
-            Err(_) => Err(NoAnswer::OutOfMemory),
-        },
-        "t_chars" => {
-            let mut chars = text.chars();
-            for end in &parse::calls(alloc, more)? {
-                let _c = asked!(chars, end);
-            }
-            both(alloc, answer, &chars)
-        }
-        "drain" => {
-            let (calls, range) = parse::word(more);
-            let calls = parse::calls(alloc, calls)?;
-            drained(
-                alloc,
-                answer,
-                text.to_utfstring(alloc)?,
-                &calls,
-                parse::range(range)?,
-            )
-        }
-        _ => of_escapes(alloc, answer, text, word, more),
+        "t_debug" => both(alloc, &text),
+        "t_string" => owned_text(alloc, text),
+        "t_box" => boxed_text(alloc, text),
+        "t_chars" => called_chars(alloc, text, more),
+        "drain" => drain(alloc, text, more),
+        _ => of_escapes(alloc, text, word, parse::prefix_calls(more)?),
     }
 }
 
-// Adds what a drain prints after it returned some characters.
+fn owned_text<C: Width>(alloc: Global, text: UtfStr<'_, C>) -> Result<String, NoAnswer> {
+    both(alloc, &text.to_utfstring(alloc)?)
+}
+
+fn boxed_text<C: Width>(alloc: Global, text: UtfStr<'_, C>) -> Result<String, NoAnswer> {
+    match text.to_utfstring(alloc)?.into_boxed_utfstr() {
+        Ok(boxed) => both(alloc, &boxed),
+        Err(_) => Err(NoAnswer::OutOfMemory),
+    }
+}
+
+fn called_chars<C: Width>(
+    alloc: Global,
+    text: UtfStr<'_, C>,
+    calls: &str,
+) -> Result<String, NoAnswer> {
+    let mut chars = text.chars();
+    for end in &parse::calls(alloc, calls)? {
+        let _c = asked!(chars, end);
+    }
+    both(alloc, &chars)
+}
+
+fn drain<C: Width>(alloc: Global, text: UtfStr<'_, C>, more: &str) -> Result<String, NoAnswer> {
+    let (calls, range) = parse::word(more);
+    let range = parse::range(range)?;
+    let calls = parse::calls(alloc, calls)?;
+    drained(alloc, text.to_utfstring(alloc)?, &calls, range)
+}
+
+// Returns the answer: what a drain prints after it returned some characters.
 fn drained<C: Width>(
     alloc: Global,
-    answer: &mut Answer,
     mut string: UtfString<C>,
     calls: &[End],
     range: (Bound<usize>, Bound<usize>),
-) -> Result<(), NoAnswer> {
+) -> Result<String, NoAnswer> {
     if string.as_utfstr().get(range).is_none() {
         return Err(NoAnswer::Unparsed);
     }
@@ -265,49 +342,49 @@ fn drained<C: Width>(
     for end in calls {
         let _c = asked!(drain, end);
     }
-    both(alloc, answer, &drain)
+    both(alloc, &drain)
 }
 
-// Adds what the escapes of a text print after they returned some characters from the front.
+// Returns the answer: what an iterator prints after it returned some items from the front.
+fn called<I: Iterator + Display + Debug>(
+    alloc: Global,
+    mut iterator: I,
+    calls: usize,
+) -> Result<String, NoAnswer>
+where
+    I::Item: Drop,
+    requires can_next { (i : I) → I.can_next i }
+    requires finite { (i : I) → IsFinite (I.remaining i) }
+{
+    for _call in 0..calls {
+        let _c = iterator.next();
+    }
+    both(alloc, &iterator)
+}
+
+// Returns the answer: what the escapes of a text print after they returned some characters from the front.
 fn of_escapes<C: Width>(
     alloc: Global,
-    answer: &mut Answer,
     text: UtfStr<'_, C>,
     word: &str,
-    more: &str,
-) -> Result<(), NoAnswer> {
-    macro_rules! escaped {
-        ($escape:expr) => {{
-            let mut escape = $escape;
-            for _call in 0..parse::prefix_calls(more)? {
-                let _c = escape.next();
-            }
-            both(alloc, answer, &escape)
-        }};
-    }
+    calls: usize,
+) -> Result<String, NoAnswer> {
     match word {
-        "escape_debug" => escaped!(text.escape_debug()),
-        "escape_default" => escaped!(text.escape_default()),
-        "escape_unicode" => escaped!(text.escape_unicode()),
+        "escape_debug" => called(alloc, text.escape_debug(), calls),
+        "escape_default" => called(alloc, text.escape_default(), calls),
+        "escape_unicode" => called(alloc, text.escape_unicode(), calls),
         _ => Err(NoAnswer::Unparsed),
     }
 }
 
 /// Returns the answer: what a value prints.
-pub fn printed<C: Width>(
-    memory: Memory<'_>,
-    list: &str,
-    question: &str,
-) -> Result<String, NoAnswer> {
-    let alloc = memory.alloc;
+pub fn printed<C: Width>(alloc: Global, units: &[C], question: &str) -> Result<String, NoAnswer> {
     let (word, more) = parse::word(question);
-    let units = parse::list::<C>(alloc, list)?;
-    let mut answer = Answer::new(alloc);
-    match (UtfStr::from_slice(&units), UCStr::from_slice(&units)) {
-        (_, Ok(view)) if word.starts_with("c_") => of_contents(alloc, &mut answer, view, word)?,
-        (Ok(text), _) if word.starts_with("t_") || word.starts_with("escape_") || word == "drain" =>
-            { of_text(alloc, &mut answer, text, word, more)? }
-        _ => of_units(alloc, &mut answer, UStr::from_slice(&units), word)?,
+    if word.starts_with("c_") {
+        return of_contents(alloc, as_contents(units)?, word);
     }
-    answer.finish()
+    if word.starts_with("t_") || word.starts_with("escape_") || word == "drain" {
+        return of_text(alloc, as_text(units)?, word, more);
+    }
+    of_units(alloc, UStr::from_slice(units), word)
 }

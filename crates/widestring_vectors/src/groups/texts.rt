@@ -12,7 +12,8 @@
 //!   `>`. `x` is whether the text and another are equal, `1` or `0`.
 ghost use Rattle.std.specs.Iterator.{IsFinite};
 
-use crate::groups::width::Width;
+use crate::groups::answers;
+use crate::groups::width::{Width, as_text};
 use std::alloc::Global;
 use std::cmp::Ordering;
 use std::fmt::{Debug, Display};
@@ -46,36 +47,16 @@ fn debugged(alloc: Global, value: &impl Debug) -> Result<String, NoAnswer> {
     characters(alloc, text.chars())
 }
 
-fn units<C: FaultUnit>(alloc: Global, units: &[C]) -> Result<String, NoAnswer> {
-    let mut answer = Answer::new(alloc);
-    answer.units(units);
-    answer.finish()
-}
-
-fn word(alloc: Global, word: &str) -> Result<String, NoAnswer> {
-    let mut answer = Answer::new(alloc);
-    answer.word(word);
-    answer.finish()
-}
-
-fn ordered(alloc: Global, order: Ordering) -> Result<String, NoAnswer> {
-    match order {
-        Ordering::Less => word(alloc, "<"),
-        Ordering::Equal => word(alloc, "="),
-        Ordering::Greater => word(alloc, ">"),
-    }
-}
-
-fn decided(alloc: Global, holds: bool) -> Result<String, NoAnswer> {
-    word(alloc, if holds { "1" } else { "0" })
-}
-
 /// Returns the C string of units and a NUL.
 pub fn c_string<C: FaultUnit>(alloc: Global, units: &[C]) -> Result<UCString<C>, NoAnswer> {
     match UCString::from_ustr(alloc, UStr::from_slice(units)) {
         Ok(string) => Ok(string),
         Err(_) => Err(NoAnswer::Unparsed),
     }
+}
+
+fn debugged_contents<C: FaultUnit>(alloc: Global, units: &[C]) -> Result<String, NoAnswer> {
+    debugged(alloc, &c_string(alloc, units)?)
 }
 
 fn lines_of_units<C: FaultUnit>(alloc: Global, view: UStr<'_, C>) -> Result<String, NoAnswer> {
@@ -133,9 +114,9 @@ fn with_contents<C: FaultUnit>(
     let order = view.cmp_ucstr(contents);
     let same = order == Ordering::Equal;
     if view.eq_ucstr(contents) != same || contents.cmp_ustr(view) != order.reverse() {
-        return word(alloc, "?");
+        return answers::word(alloc, "?");
     }
-    ordered(alloc, order)
+    answers::ordered(alloc, order)
 }
 
 // Returns the answer to a question about any units.
@@ -149,12 +130,20 @@ fn of_units<C: FaultUnit + FromHex + Ord>(
         b'l' => lines_of_units(alloc, view),
         b'i' => line_offsets_of_units(alloc, view),
         b'g' => debugged(alloc, &view),
-        b'G' => debugged(alloc, &c_string(alloc, view.as_slice())?),
+        b'G' => debugged_contents(alloc, view.as_slice()),
         b'p' => printed(alloc, &view.display()),
-        b'c' => ordered(alloc, view.cmp(&UStr::from_slice(other))),
+        b'c' => answers::ordered(alloc, view.cmp(&UStr::from_slice(other))),
         b'k' => with_contents(alloc, view, other),
         _ => Err(NoAnswer::Unparsed),
     }
+}
+
+fn lowercase<C: FaultUnit>(alloc: Global, text: UtfStr<'_, C>) -> Result<String, NoAnswer> {
+    answers::units(alloc, text.to_lowercase(alloc)?.as_slice())
+}
+
+fn uppercase<C: FaultUnit>(alloc: Global, text: UtfStr<'_, C>) -> Result<String, NoAnswer> {
+    answers::units(alloc, text.to_uppercase(alloc)?.as_slice())
 }
 
 // Returns the answer to a question about a text.
@@ -162,53 +151,53 @@ fn of_text<C: FaultUnit>(alloc: Global, kind: u8, text: UtfStr<'_, C>) -> Result
     match kind {
         b'L' => lines_of_text(alloc, text),
         b'I' => line_offsets_of_text(alloc, text),
-        b't' => units(alloc, text.trim().as_slice()),
-        b'<' => units(alloc, text.trim_start().as_slice()),
-        b'>' => units(alloc, text.trim_end().as_slice()),
+        b't' => answers::units(alloc, text.trim().as_slice()),
+        b'<' => answers::units(alloc, text.trim_start().as_slice()),
+        b'>' => answers::units(alloc, text.trim_end().as_slice()),
         b'f' => debugged(alloc, &text),
         b'P' => printed(alloc, &text),
         b'd' => characters(alloc, text.escape_debug()),
         b'e' => characters(alloc, text.escape_default()),
         b'u' => characters(alloc, text.escape_unicode()),
-        b'w' => units(alloc, text.to_lowercase(alloc)?.as_slice()),
-        b'W' => units(alloc, text.to_uppercase(alloc)?.as_slice()),
+        b'w' => lowercase(alloc, text),
+        b'W' => uppercase(alloc, text),
         _ => Err(NoAnswer::Unparsed),
     }
 }
 
-fn asked<C: FaultUnit + FromHex + Ord>(
+// Returns the answer: whether a text is equal to a `str`, asked of the text, of both widths, and of the units.
+fn with_str<C: Width>(
     alloc: Global,
-    kind: u8,
-    list: &[C],
-    other: &[C],
+    text: UtfStr<'_, C>,
+    theirs: &str,
+    other: UStr<'_, C>,
 ) -> Result<String, NoAnswer> {
+    let same = text.eq_str(theirs);
+    let others = C::eq_other(text.as_slice(), theirs, alloc)?;
+    if others != [same, same] || text.eq_ustr(other) != same {
+        return answers::word(alloc, "?");
+    }
+    answers::decided(alloc, same)
+}
+
+fn with_text<C: Width>(alloc: Global, list: &[C], other: &[C]) -> Result<String, NoAnswer> {
+    let text = as_text(list)?;
+    let theirs = text_of(alloc, other)?;
+    with_str(alloc, text, &theirs, UStr::from_slice(other))
+}
+
+fn asked<C: Width>(alloc: Global, kind: u8, list: &[C], other: &[C]) -> Result<String, NoAnswer> {
     match kind {
         b'l' | b'i' | b'g' | b'G' | b'p' | b'c' | b'k' => {
             of_units(alloc, kind, UStr::from_slice(list), other)
         }
-        _ => match UtfStr::from_slice(list) {
-            Ok(text) => of_text(alloc, kind, text),
-            Err(_) => Err(NoAnswer::Unparsed),
-        },
+        b'x' => with_text(alloc, list, other),
+        _ => of_text(alloc, kind, as_text(list)?),
     }
 }
 
 /// Returns the answer to a question about a list of units.
-pub fn text<C: Width>(alloc: Global, list: &str, question: &str) -> Result<String, NoAnswer> {
+pub fn text<C: Width>(alloc: Global, list: &[C], question: &str) -> Result<String, NoAnswer> {
     let (kind, more) = parse::kind(question)?;
-    let list = parse::list::<C>(alloc, list)?;
-    let other = parse::list::<C>(alloc, more)?;
-    if kind != b'x' {
-        return asked(alloc, kind, &list, &other);
-    }
-    let Ok(text) = UtfStr::from_slice(&list) else {
-        return Err(NoAnswer::Unparsed);
-    };
-    let theirs = text_of(alloc, &other)?;
-    let same = text.eq_str(&theirs);
-    let others = C::eq_other(&list, &theirs, alloc)?;
-    if others != [same, same] || text.eq_ustr(UStr::from_slice(&other)) != same {
-        return word(alloc, "?");
-    }
-    decided(alloc, same)
+    asked(alloc, kind, list, &parse::list::<C>(alloc, more)?)
 }

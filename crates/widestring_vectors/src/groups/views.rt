@@ -10,224 +10,276 @@
 //! - `empty` is the length of the empty view, and `nul` the NUL.
 //! - For text, `count` is its number of characters, `offset` and an index the offset of a character, `boundary` and an
 //!   offset whether it is a boundary, and `at` and an index a character.
-use crate::groups::width::Width;
-use std::ops::Bound;
+use crate::groups::answers;
+use crate::groups::width::{Width, as_contents, as_text};
+use std::alloc::Global;
 use widestring::error::UtfError;
 use widestring::ucstr::UCStr;
 use widestring::ustr::UStr;
 use widestring::utfstr::UtfStr;
-use widestring_replay::parse::{self, Memory, NoAnswer};
+use widestring_replay::parse::{self, NoAnswer};
 use widestring_replay::show::Answer;
 
-type Range = (Bound<usize>, Bound<usize>);
-
-// Adds what the three calls for a subslice of a view return.
+// Returns the answer: what the three calls for a subslice of a view return.
 macro_rules! part_of {
-    ($answer:expr, $view:expr, $range:expr) => {{
-        let range = $range;
+    ($alloc:expr, $view:expr, $range:expr) => {{
+        let range = parse::range($range)?;
         match $view.get(range) {
-            None => $answer.number(None),
-            Some(part) => {
-                $answer.units(part.as_slice());
-                $answer.part();
-                $answer.units($view.slice(range).as_slice());
-                $answer.part();
-                $answer.units($view.get_unchecked(range).as_slice());
-            }
+            None => answers::word($alloc, "-"),
+            Some(part) => answers::fields(
+                $alloc,
+                &[
+                    part.as_slice(),
+                    $view.slice(range).as_slice(),
+                    $view.get_unchecked(range).as_slice(),
+                ],
+            ),
         }
     }};
 }
 
-// Adds both halves of a view.
+// Returns the answer: both halves of a view, if it can be split at an offset.
 macro_rules! halves {
-    ($answer:expr, $halves:expr) => {{
-        let (prefix, back) = $halves;
-        $answer.units(prefix.as_slice());
-        $answer.part();
-        $answer.units(back.as_slice());
-    }};
+    ($alloc:expr, $view:expr, $can_split:expr, $mid:expr) => {
+        if $can_split {
+            let (prefix, back) = $view.split_at($mid);
+            answers::fields($alloc, &[prefix.as_slice(), back.as_slice()])
+        } else {
+            answers::word($alloc, "-")
+        }
+    };
 }
 
-fn split_units<C: Width>(answer: &mut Answer, view: UStr<'_, C>, mid: usize) {
-    if mid <= view.len() {
-        halves!(answer, view.split_at(mid));
-    } else {
-        answer.number(None);
-    }
+// Returns the answer: a length, whether it is 0, and units.
+fn whole<C: Width>(
+    alloc: Global,
+    length: usize,
+    is_empty: bool,
+    fields: &[&[C]],
+) -> Result<String, NoAnswer> {
+    let mut answer = Answer::new(alloc);
+    answer.count(Some(length));
+    answer.decided(is_empty);
+    answers::add_fields(&mut answer, fields);
+    answer.finish()
 }
 
-fn split_contents<C: Width>(answer: &mut Answer, view: UCStr<'_, C>, mid: usize) {
-    if mid <= view.len() {
-        halves!(answer, view.split_at(mid));
-    } else {
-        answer.number(None);
-    }
+fn part_of_units<C: Width>(
+    alloc: Global,
+    view: UStr<'_, C>,
+    range: &str,
+) -> Result<String, NoAnswer> {
+    part_of!(alloc, view, range)
 }
 
-fn split_text<C: Width>(answer: &mut Answer, text: UtfStr<'_, C>, mid: usize) {
-    if text.is_char_boundary(mid) {
-        halves!(answer, text.split_at(mid));
-    } else {
-        answer.number(None);
-    }
+fn part_of_contents<C: Width>(
+    alloc: Global,
+    view: UCStr<'_, C>,
+    range: &str,
+) -> Result<String, NoAnswer> {
+    part_of!(alloc, view, range)
 }
 
-fn refused<C: Width>(answer: &mut Answer, fault: UtfError<C>) {
+fn part_of_text<C: Width>(
+    alloc: Global,
+    text: UtfStr<'_, C>,
+    range: &str,
+) -> Result<String, NoAnswer> {
+    part_of!(alloc, text, range)
+}
+
+fn split_units<C: Width>(alloc: Global, view: UStr<'_, C>, mid: &str) -> Result<String, NoAnswer> {
+    let mid = parse::value(mid)?;
+    halves!(alloc, view, mid <= view.len(), mid)
+}
+
+fn split_contents<C: Width>(
+    alloc: Global,
+    view: UCStr<'_, C>,
+    mid: &str,
+) -> Result<String, NoAnswer> {
+    let mid = parse::value(mid)?;
+    halves!(alloc, view, mid <= view.len(), mid)
+}
+
+fn split_text<C: Width>(alloc: Global, text: UtfStr<'_, C>, mid: &str) -> Result<String, NoAnswer> {
+    let mid = parse::value(mid)?;
+    halves!(alloc, text, text.is_char_boundary(mid), mid)
+}
+
+// Returns the answer: the first fault, and the units that the error returns.
+fn refused<C: Width>(alloc: Global, fault: UtfError<C>) -> Result<String, NoAnswer> {
+    let mut answer = Answer::new(alloc);
     answer.first_fault(&fault);
     answer.part();
     answer.handed_back(fault.into_vec());
+    answer.finish()
 }
 
-fn made<C: Width>(answer: &mut Answer, made: Result<UtfStr<'_, C>, UtfError<C>>) {
-    match made {
-        Ok(text) => answer.units(text.as_slice()),
-        Err(fault) => refused(answer, fault),
+// Returns the answer: the text of the units before a NUL at the end, checked and not checked, and nothing for units
+// that are not a C string.
+fn made_of_contents<C: Width>(alloc: Global, units: &[C]) -> Result<String, NoAnswer> {
+    match as_contents(units) {
+        Ok(view) => text_of_contents(alloc, view),
+        Err(_) => answers::word(alloc, ""),
     }
 }
 
-// Adds the text of the units before a NUL at the end, checked and not checked, and nothing for units that are not a C
-// string.
-fn made_of_contents<C: Width>(answer: &mut Answer, units: &[C]) {
-    let Ok(view) = UCStr::from_slice(units) else {
-        return;
-    };
+fn text_of_contents<C: Width>(alloc: Global, view: UCStr<'_, C>) -> Result<String, NoAnswer> {
     match UtfStr::from_ucstr(view) {
-        Ok(text) => {
-            answer.units(text.as_slice());
-            answer.part();
-            answer.units(UtfStr::from_ucstr_unchecked(view).as_slice());
-        }
-        Err(fault) => refused(answer, fault),
+        Ok(text) => answers::fields(
+            alloc,
+            &[
+                text.as_slice(),
+                UtfStr::from_ucstr_unchecked(view).as_slice(),
+            ],
+        ),
+        Err(fault) => refused(alloc, fault),
     }
 }
 
 fn of_units<C: Width>(
-    answer: &mut Answer,
+    alloc: Global,
     view: UStr<'_, C>,
     word: &str,
     more: &str,
-) -> Result<(), NoAnswer> {
+) -> Result<String, NoAnswer> {
     match word {
-        "whole" => {
-            answer.count(Some(view.len()));
-            answer.decided(view.is_empty());
-            answer.units(view.as_slice());
-        }
-        "part" => part_of!(answer, view, parse::range(more)?),
-        "split" => split_units(answer, view, parse::value(more)?),
-        "empty" => answer.count(Some(UStr::<C>::default().len())),
-        "made" => made_of_contents(answer, view.as_slice()),
-        _ => return Err(NoAnswer::Unparsed),
+        "whole" => whole(alloc, view.len(), view.is_empty(), &[view.as_slice()]),
+        "part" => part_of_units(alloc, view, more),
+        "split" => split_units(alloc, view, more),
+        "empty" => answers::count(alloc, Some(UStr::<C>::default().len())),
+        "made" => made_of_contents(alloc, view.as_slice()),
+        _ => Err(NoAnswer::Unparsed),
     }
-    Ok(())
+}
+
+fn whole_contents<C: Width>(alloc: Global, view: UCStr<'_, C>) -> Result<String, NoAnswer> {
+    let fields = [
+        view.as_slice(),
+        view.as_ustr().as_slice(),
+        view.as_slice_with_nul(),
+        view.as_ustr_with_nul().as_slice(),
+    ];
+    whole(alloc, view.len(), view.is_empty(), &fields)
+}
+
+// Returns the answer: the contents of a C string that is made of units unchecked, and those of a copy.
+fn made_again<C: Width>(alloc: Global, view: UCStr<'_, C>) -> Result<String, NoAnswer> {
+    let made = UCStr::from_slice_unchecked(view.as_slice_with_nul());
+    let copy = view.clone()?;
+    answers::fields(alloc, &[made.as_slice(), copy.as_slice()])
+}
+
+fn nul<C: Width>(alloc: Global) -> Result<String, NoAnswer> {
+    let mut answer = Answer::new(alloc);
+    answer.unit(Some(UCStr::<C>::NUL_TERMINATOR));
+    answer.finish()
 }
 
 fn of_contents<C: Width>(
-    answer: &mut Answer,
+    alloc: Global,
     view: UCStr<'_, C>,
     word: &str,
     more: &str,
-) -> Result<(), NoAnswer> {
+) -> Result<String, NoAnswer> {
     match word {
-        "whole" => {
-            answer.count(Some(view.len()));
-            answer.decided(view.is_empty());
-            answer.units(view.as_slice());
-            answer.part();
-            answer.units(view.as_ustr().as_slice());
-            answer.part();
-            answer.units(view.as_slice_with_nul());
-            answer.part();
-            answer.units(view.as_ustr_with_nul().as_slice());
-        }
-        "part" => part_of!(answer, view, parse::range(more)?),
-        "split" => split_contents(answer, view, parse::value(more)?),
-        "made" => {
-            answer.units(UCStr::from_slice_unchecked(view.as_slice_with_nul()).as_slice());
-            answer.part();
-            answer.units(view.clone()?.as_slice());
-        }
-        "empty" => C::show_no_contents(answer),
-        "nul" => answer.unit(Some(UCStr::<C>::NUL_TERMINATOR)),
-        _ => return Err(NoAnswer::Unparsed),
+        "whole" => whole_contents(alloc, view),
+        "part" => part_of_contents(alloc, view, more),
+        "split" => split_contents(alloc, view, more),
+        "made" => made_again(alloc, view),
+        "empty" => C::no_contents(alloc),
+        "nul" => nul::<C>(alloc),
+        _ => Err(NoAnswer::Unparsed),
     }
-    Ok(())
 }
 
-fn of_text<C: Width>(
-    answer: &mut Answer,
-    text: UtfStr<'_, C>,
-    word: &str,
-    more: &str,
-) -> Result<(), NoAnswer> {
-    match word {
-        "whole" => {
-            answer.count(Some(text.len()));
-            answer.decided(text.is_empty());
-            answer.units(text.as_slice());
-            answer.part();
-            answer.units(text.as_ustr().as_slice());
-        }
-        "part" => part_of!(answer, text, parse::range(more)?),
-        "split" => split_text(answer, text, parse::value(more)?),
-        "made" => {
-            made(answer, UtfStr::from_ustr(text.as_ustr()));
-            answer.part();
-            answer.units(UtfStr::from_slice_unchecked(text.as_slice()).as_slice());
-            answer.part();
-            answer.units(UtfStr::from_ustr_unchecked(text.as_ustr()).as_slice());
-        }
-        "empty" => answer.count(Some(UtfStr::<C>::default().len())),
-        "count" => answer.count(Some(text.char_count())),
-        "offset" => answer.count(text.unit_offset(parse::value(more)?)),
-        "boundary" => answer.decided(text.is_char_boundary(parse::value(more)?)),
-        "at" => answer.character(Some(C::char_at(text.as_slice(), parse::value(more)?)?)),
-        _ => return Err(NoAnswer::Unparsed),
-    }
-    Ok(())
-}
-
-// Returns the answer to a question about the text of units, also if they are ill-formed.
-fn in_text<C: Width>(
-    answer: &mut Answer,
-    units: &[C],
-    word: &str,
-    more: &str,
-) -> Result<(), NoAnswer> {
-    if let Ok(text) = UtfStr::from_slice(units) {
-        return of_text(answer, text, word, more);
-    }
-    if word != "made" {
-        return Err(NoAnswer::Unparsed);
-    }
-    made(answer, UtfStr::from_ustr(UStr::from_slice(units)));
-    Ok(())
-}
-
-// Returns the answer to a question about the C string of units.
-fn in_contents<C: Width>(
-    answer: &mut Answer,
-    units: &[C],
-    word: &str,
-    more: &str,
-) -> Result<(), NoAnswer> {
-    match UCStr::from_slice(units) {
-        Ok(view) => of_contents(answer, view, word, more),
+// Returns the answer: the text that is made of a view, checked, and then of units and of a view, not checked.
+fn made_of_text<C: Width>(alloc: Global, text: UtfStr<'_, C>) -> Result<String, NoAnswer> {
+    match UtfStr::from_ustr(text.as_ustr()) {
+        Ok(made) => answers::fields(
+            alloc,
+            &[
+                made.as_slice(),
+                UtfStr::from_slice_unchecked(text.as_slice()).as_slice(),
+                UtfStr::from_ustr_unchecked(text.as_ustr()).as_slice(),
+            ],
+        ),
         Err(_) => Err(NoAnswer::Unparsed),
     }
 }
 
+fn offset<C: Width>(alloc: Global, text: UtfStr<'_, C>, index: &str) -> Result<String, NoAnswer> {
+    answers::count(alloc, text.unit_offset(parse::value(index)?))
+}
+
+fn boundary<C: Width>(
+    alloc: Global,
+    text: UtfStr<'_, C>,
+    position: &str,
+) -> Result<String, NoAnswer> {
+    answers::decided(alloc, text.is_char_boundary(parse::value(position)?))
+}
+
+fn at<C: Width>(alloc: Global, text: UtfStr<'_, C>, index: &str) -> Result<String, NoAnswer> {
+    let c = C::char_at(text.as_slice(), parse::value(index)?)?;
+    answers::character(alloc, Some(c))
+}
+
+fn of_text<C: Width>(
+    alloc: Global,
+    text: UtfStr<'_, C>,
+    word: &str,
+    more: &str,
+) -> Result<String, NoAnswer> {
+    match word {
+        "whole" => whole(
+            alloc,
+            text.len(),
+            text.is_empty(),
+            &[text.as_slice(), text.as_ustr().as_slice()],
+        ),
+        "part" => part_of_text(alloc, text, more),
+        "split" => split_text(alloc, text, more),
+        "made" => made_of_text(alloc, text),
+        "empty" => answers::count(alloc, Some(UtfStr::<C>::default().len())),
+        "count" => answers::count(alloc, Some(text.char_count())),
+        "offset" => offset(alloc, text, more),
+        "boundary" => boundary(alloc, text, more),
+        "at" => at(alloc, text, more),
+        _ => Err(NoAnswer::Unparsed),
+    }
+}
+
+// Returns the answer to a question about the text of units. Ill-formed units only have the fault of their view.
+fn in_text<C: Width>(
+    alloc: Global,
+    units: &[C],
+    word: &str,
+    more: &str,
+) -> Result<String, NoAnswer> {
+    match as_text(units) {
+        Ok(text) => of_text(alloc, text, word, more),
+        Err(_) if word == "made" => fault(alloc, UStr::from_slice(units)),
+        Err(why) => Err(why),
+    }
+}
+
+fn fault<C: Width>(alloc: Global, view: UStr<'_, C>) -> Result<String, NoAnswer> {
+    match UtfStr::from_ustr(view) {
+        Ok(_) => Err(NoAnswer::Unparsed),
+        Err(fault) => refused(alloc, fault),
+    }
+}
+
 /// Returns the answer to a question about a view.
-pub fn view<C: Width>(memory: Memory<'_>, list: &str, question: &str) -> Result<String, NoAnswer> {
+pub fn view<C: Width>(alloc: Global, units: &[C], question: &str) -> Result<String, NoAnswer> {
     let (kind, rest) = parse::word(question);
     let (word, more) = parse::word(rest);
-    let units = parse::list::<C>(memory.alloc, list)?;
-    let mut answer = Answer::new(memory.alloc);
     match kind {
-        "u" => of_units(&mut answer, UStr::from_slice(&units), word, more)?,
-        "t" => in_text(&mut answer, &units, word, more)?,
-        "c" => in_contents(&mut answer, &units, word, more)?,
-        _ => return Err(NoAnswer::Unparsed),
+        "u" => of_units(alloc, UStr::from_slice(units), word, more),
+        "t" => in_text(alloc, units, word, more),
+        "c" => of_contents(alloc, as_contents(units)?, word, more),
+        _ => Err(NoAnswer::Unparsed),
     }
-    answer.finish()
 }

@@ -1,5 +1,6 @@
 //! What the iterators of a view return for steps: `F` and `B` are calls from the front and from the back, and at a `C`
-//! a copy of the iterator continues. A question is a word for the iterator, a space and its steps.
+//! a copy of the iterator continues. A question is a word for the iterator, a space and its steps. A step that an
+//! encoder does not have is a `?`.
 //!
 //! `chars`, `lossy`, `each`, `run` and `skip` are the characters of the units, strictly, lossily and lossily under a
 //! policy; `indices` and `lossy_indices` have each character's index, with the offset that the iterator reports after
@@ -7,15 +8,17 @@
 //! `t_indices`, `t_units`, which are its units, and `utf8` and `other`, its encoders to UTF-8 and to the other width.
 //! The second field of the answer has the bounds that the iterator returns in the end. `lines` asks for the bounds of
 //! the lines, and `lengths` for the length of each iterator that has one, at first and after a call from the back.
-use crate::groups::width::Width;
+ghost use Rattle.std.specs.Iterator.{IsFinite};
+
+use crate::groups::width::{Width, as_contents, as_text};
 use std::alloc::Global;
 use widestring::iter::{End, decode_utf32, decode_utf32_lossy, encode_utf32};
 use widestring::ucstr::UCStr;
-use widestring::ustr::{CharIndices, CharIndicesLossy, Chars, CharsLossy, CharsLossyWith, UStr};
+use widestring::ustr::{CharIndices, CharIndicesLossy, Chars, UStr};
 use widestring::utfstr::UtfStr;
 use widestring::{Policy, U32Str, Utf16Str, Utf32Str};
 use widestring_replay::asked;
-use widestring_replay::parse::{self, Memory, NoAnswer};
+use widestring_replay::parse::{self, NoAnswer};
 use widestring_replay::show::{Answer, ReportedUnit};
 
 // Makes steps with an iterator, adds each item, and then the bounds.
@@ -38,23 +41,6 @@ macro_rules! walked {
     }};
 }
 
-// Makes steps with an encoder, which has no copy and only calls from the front, adds each item, and then the bounds.
-macro_rules! encoded {
-    ($alloc:expr, $steps:expr, $encoder:expr, $number:ident => $shown:expr) => {{
-        let mut encoder = $encoder;
-        let mut answer = Answer::new($alloc);
-        for step in $steps {
-            if *step != Some(End::Front) {
-                return Err(NoAnswer::Unparsed);
-            }
-            answer.number(encoder.next().map(|$number| $shown));
-        }
-        answer.part();
-        answer.bounds(encoder.size_hint());
-        answer.finish()
-    }};
-}
-
 fn chars<C: ReportedUnit>(
     alloc: Global,
     chars: Chars<'_, C>,
@@ -68,24 +54,16 @@ fn chars<C: ReportedUnit>(
     )
 }
 
-fn lossy<C: ReportedUnit>(
+fn characters<I: DoubleEndedIterator<Item = char> + Clone>(
     alloc: Global,
-    chars: CharsLossy<'_, C>,
+    chars: I,
     steps: &[Option<End>],
-) -> Result<String, NoAnswer> {
-    walked!(
-        alloc,
-        steps,
-        chars = chars,
-        |answer, item| answer.character(item)
-    )
-}
-
-fn lossy_with<C: ReportedUnit>(
-    alloc: Global,
-    chars: CharsLossyWith<'_, C>,
-    steps: &[Option<End>],
-) -> Result<String, NoAnswer> {
+) -> Result<String, NoAnswer>
+where
+    requires front { (i : I) → I.can_next i }
+    requires back { (i : I) → I.can_next_back i }
+    requires finite { (i : I) → IsFinite (I.remaining i) }
+{
     walked!(
         alloc,
         steps,
@@ -120,19 +98,6 @@ fn lossy_indices<C: ReportedUnit>(
     )
 }
 
-fn text_chars<C: ReportedUnit>(
-    alloc: Global,
-    text: UtfStr<'_, C>,
-    steps: &[Option<End>],
-) -> Result<String, NoAnswer> {
-    walked!(
-        alloc,
-        steps,
-        chars = text.chars(),
-        |answer, item| answer.character(item)
-    )
-}
-
 fn text_indices<C: ReportedUnit>(
     alloc: Global,
     text: UtfStr<'_, C>,
@@ -160,17 +125,32 @@ pub fn code_units(
     )
 }
 
-fn utf8<C: ReportedUnit>(
+// Returns the answer: what an encoder returns for calls from the front, and then its bounds. It has no copy.
+fn encoded<I: Iterator>(
     alloc: Global,
-    text: UtfStr<'_, C>,
+    mut encoder: I,
     steps: &[Option<End>],
-) -> Result<String, NoAnswer> {
-    encoded!(alloc, steps, text.encode_utf8(), byte => u32::from(byte))
+) -> Result<String, NoAnswer>
+where
+    I::Item: Into<u32>,
+    requires front { (i : I) → I.can_next i }
+    requires finite { (i : I) → IsFinite (I.remaining i) }
+{
+    let mut answer = Answer::new(alloc);
+    for step in steps {
+        match step {
+            Some(End::Front) => answer.number(encoder.next().map(|number| number.into())),
+            _ => answer.word("?"),
+        }
+    }
+    answer.part();
+    answer.bounds(encoder.size_hint());
+    answer.finish()
 }
 
 /// Returns the answer: the units of a text in UTF-16.
 pub fn utf16(alloc: Global, text: Utf32Str<'_>, steps: &[Option<End>]) -> Result<String, NoAnswer> {
-    encoded!(alloc, steps, text.encode_utf16(), unit => u32::from(unit))
+    encoded(alloc, text.encode_utf16(), steps)
 }
 
 /// Returns the answer: the units of a text in UTF-32, from both ends.
@@ -178,10 +158,10 @@ pub fn utf32(alloc: Global, text: Utf16Str<'_>, steps: &[Option<End>]) -> Result
     let mut encoder = text.encode_utf32();
     let mut answer = Answer::new(alloc);
     for step in steps {
-        let Some(end) = step else {
-            return Err(NoAnswer::Unparsed);
-        };
-        answer.number(asked!(encoder, end));
+        match step {
+            Some(end) => answer.number(asked!(encoder, end)),
+            None => answer.word("?"),
+        }
     }
     answer.part();
     answer.bounds(encoder.size_hint());
@@ -189,42 +169,45 @@ pub fn utf32(alloc: Global, text: Utf16Str<'_>, steps: &[Option<End>]) -> Result
 }
 
 // Adds the length of an iterator, at first and after a call from the back.
-macro_rules! lengths_of {
-    ($answer:expr, $iterator:expr) => {
-        let mut iterator = $iterator;
-        $answer.count(Some(iterator.len()));
-        let _last = iterator.next_back();
-        $answer.count(Some(iterator.len()));
-    };
+fn lengths<I: ExactSizeIterator + DoubleEndedIterator>(answer: &mut Answer, mut iterator: I)
+where
+    I::Item: Drop,
+    requires { I.can_next_back iterator }
+{
+    answer.count(Some(iterator.len()));
+    let _last = iterator.next_back();
+    answer.count(Some(iterator.len()));
 }
 
-/// Adds the lengths of the iterator over 16-bit units that has one.
-pub fn lengths16(answer: &mut Answer, units: &[u16]) -> Result<(), NoAnswer> {
-    match Utf16Str::from_slice(units) {
-        Ok(text) => {
-            lengths_of!(answer, text.code_units());
-            Ok(())
-        }
-        Err(_) => Err(NoAnswer::Unparsed),
-    }
+/// Returns the answer: the lengths of the iterator over the text of 16-bit units that has one.
+pub fn lengths16(alloc: Global, units: &[u16]) -> Result<String, NoAnswer> {
+    let text: Utf16Str<'_> = as_text(units)?;
+    let mut answer = Answer::new(alloc);
+    lengths(&mut answer, text.code_units());
+    answer.finish()
 }
 
-/// Adds the lengths of the iterators over 32-bit units and over their text.
-pub fn lengths32(answer: &mut Answer, units: &[u32]) -> Result<(), NoAnswer> {
+fn lengths_of_text(answer: &mut Answer, text: Utf32Str<'_>) {
+    answer.part();
+    lengths(answer, text.chars());
+    lengths(answer, text.char_indices());
+    lengths(answer, encode_utf32(text.chars()));
+}
+
+/// Returns the answer: the lengths of the iterators over 32-bit units, and over their text if they are well formed.
+pub fn lengths32(alloc: Global, units: &[u32]) -> Result<String, NoAnswer> {
     let view = U32Str::from_slice(units);
-    lengths_of!(answer, view.chars());
-    lengths_of!(answer, view.chars_lossy());
-    lengths_of!(answer, view.char_indices());
-    lengths_of!(answer, view.char_indices_lossy());
-    lengths_of!(answer, decode_utf32(units.iter().copied()));
-    lengths_of!(answer, decode_utf32_lossy(units.iter().copied()));
-    if let Ok(text) = Utf32Str::from_slice(units) {
-        answer.part();
-        lengths_of!(answer, text.chars());
-        lengths_of!(answer, text.char_indices());
-        lengths_of!(answer, encode_utf32(text.chars()));
+    let mut answer = Answer::new(alloc);
+    lengths(&mut answer, view.chars());
+    lengths(&mut answer, view.chars_lossy());
+    lengths(&mut answer, view.char_indices());
+    lengths(&mut answer, view.char_indices_lossy());
+    lengths(&mut answer, decode_utf32(units.iter().copied()));
+    lengths(&mut answer, decode_utf32_lossy(units.iter().copied()));
+    if let Ok(text) = as_text(units) {
+        lengths_of_text(&mut answer, text);
     }
-    Ok(())
+    answer.finish()
 }
 
 // Returns the answer: the bounds of the lines of units, alone and with their offsets.
@@ -243,13 +226,12 @@ fn of_units<C: ReportedUnit>(
 ) -> Result<String, NoAnswer> {
     match word {
         "chars" => chars(alloc, view.chars(), steps),
-        "lossy" => lossy(alloc, view.chars_lossy(), steps),
-        "each" => lossy_with(alloc, view.chars_lossy_with(Policy::Each), steps),
-        "run" => lossy_with(alloc, view.chars_lossy_with(Policy::Run), steps),
-        "skip" => lossy_with(alloc, view.chars_lossy_with(Policy::Skip), steps),
+        "lossy" => characters(alloc, view.chars_lossy(), steps),
+        "each" => characters(alloc, view.chars_lossy_with(Policy::Each), steps),
+        "run" => characters(alloc, view.chars_lossy_with(Policy::Run), steps),
+        "skip" => characters(alloc, view.chars_lossy_with(Policy::Skip), steps),
         "indices" => indices(alloc, view.char_indices(), steps),
         "lossy_indices" => lossy_indices(alloc, view.char_indices_lossy(), steps),
-        "lines" => line_bounds(alloc, view),
         _ => Err(NoAnswer::Unparsed),
     }
 }
@@ -262,10 +244,10 @@ fn of_contents<C: ReportedUnit>(
 ) -> Result<String, NoAnswer> {
     match word {
         "c_chars" => chars(alloc, view.chars(), steps),
-        "c_lossy" => lossy(alloc, view.chars_lossy(), steps),
-        "c_each" => lossy_with(alloc, view.chars_lossy_with(Policy::Each), steps),
-        "c_run" => lossy_with(alloc, view.chars_lossy_with(Policy::Run), steps),
-        "c_skip" => lossy_with(alloc, view.chars_lossy_with(Policy::Skip), steps),
+        "c_lossy" => characters(alloc, view.chars_lossy(), steps),
+        "c_each" => characters(alloc, view.chars_lossy_with(Policy::Each), steps),
+        "c_run" => characters(alloc, view.chars_lossy_with(Policy::Run), steps),
+        "c_skip" => characters(alloc, view.chars_lossy_with(Policy::Skip), steps),
         "c_indices" => indices(alloc, view.char_indices(), steps),
         "c_lossy_indices" => lossy_indices(alloc, view.char_indices_lossy(), steps),
         _ => Err(NoAnswer::Unparsed),
@@ -279,36 +261,35 @@ fn of_text<C: Width>(
     steps: &[Option<End>],
 ) -> Result<String, NoAnswer> {
     match word {
-        "t_chars" => text_chars(alloc, text, steps),
+        "t_chars" => characters(alloc, text.chars(), steps),
         "t_indices" => text_indices(alloc, text, steps),
         "t_units" => C::code_units(alloc, text.as_slice(), steps),
-        "utf8" => utf8(alloc, text, steps),
+        "utf8" => encoded(alloc, text.encode_utf8(), steps),
         "other" => C::encode_other(alloc, text.as_slice(), steps),
         _ => Err(NoAnswer::Unparsed),
     }
 }
 
-/// Returns the answer: what an iterator of a view returns.
-pub fn walk<C: Width>(memory: Memory<'_>, list: &str, question: &str) -> Result<String, NoAnswer> {
-    let alloc = memory.alloc;
-    let (word, steps) = parse::word(question);
-    let units = parse::list::<C>(alloc, list)?;
-    if word == "lengths" {
-        let mut answer = Answer::new(alloc);
-        C::lengths(&mut answer, &units)?;
-        return answer.finish();
-    }
-    let steps = parse::steps(alloc, steps)?;
+fn of_steps<C: Width>(
+    alloc: Global,
+    units: &[C],
+    word: &str,
+    steps: &[Option<End>],
+) -> Result<String, NoAnswer> {
     if word.starts_with("c_") {
-        return match UCStr::from_slice(&units) {
-            Ok(view) => of_contents(alloc, view, word, &steps),
-            Err(_) => Err(NoAnswer::Unparsed),
-        };
+        return of_contents(alloc, as_contents(units)?, word, steps);
     }
-    match UtfStr::from_slice(&units) {
-        Ok(text) if word.starts_with("t_") || word == "utf8" || word == "other" => {
-            of_text(alloc, text, word, &steps)
-        }
-        _ => of_units(alloc, UStr::from_slice(&units), word, &steps),
+    if word.starts_with("t_") || word == "utf8" || word == "other" {
+        return of_text(alloc, as_text(units)?, word, steps);
+    }
+    of_units(alloc, UStr::from_slice(units), word, steps)
+}
+
+/// Returns the answer: what an iterator of a view returns.
+pub fn walk<C: Width>(alloc: Global, units: &[C], question: &str) -> Result<String, NoAnswer> {
+    match parse::word(question) {
+        ("lengths", _) => C::lengths(alloc, units),
+        ("lines", _) => line_bounds(alloc, UStr::from_slice(units)),
+        (word, steps) => of_steps(alloc, units, word, &parse::steps(alloc, steps)?),
     }
 }

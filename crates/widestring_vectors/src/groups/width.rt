@@ -2,13 +2,14 @@
 //!
 //! The functions take units and not views of them: the bound of a view is the trait `Unit`, and an impl for one width
 //! whose signatures name a view would need a manual proof.
-use crate::groups::{prints, walks};
+use crate::groups::{answers, bytes, conversions, hints, items, lossy, policies, prints, walks};
 use std::alloc::Global;
 use std::hash::Hash;
 use widestring::iter::End;
+use widestring::ucstr::UCStr;
 use widestring::utfstr::UtfStr;
-use widestring::{U16CStr, U32CStr, Utf16Str, Utf16String, Utf32Str, Utf32String};
-use widestring_replay::parse::{FromHex, NoAnswer};
+use widestring::{Policy, U16CStr, U32CStr, Utf16Str, Utf16String, Utf32Str, Utf32String};
+use widestring_replay::parse::{FromHex, Memory, NoAnswer};
 use widestring_replay::show::{Answer, ReportedUnit};
 
 /// Returns the text of units.
@@ -19,10 +20,34 @@ pub fn as_text<C: ReportedUnit>(units: &[C]) -> Result<UtfStr<'_, C>, NoAnswer> 
     }
 }
 
+/// Returns the C string of units that end with a NUL.
+pub fn as_contents<C: ReportedUnit>(units: &[C]) -> Result<UCStr<'_, C>, NoAnswer> {
+    match UCStr::from_slice(units) {
+        Ok(contents) => Ok(contents),
+        Err(_) => Err(NoAnswer::Unparsed),
+    }
+}
+
 /// A width of units.
 pub trait Width: ReportedUnit + FromHex + Ord + Hash + 'static {
-    /// Adds the units of the empty C string, with its NUL.
-    fn show_no_contents(answer: &mut Answer);
+    /// Returns the answer of a group whose calls have a name for each width.
+    fn answer(
+        memory: Memory<'_>,
+        group: &str,
+        units: &[Self],
+        question: &str,
+    ) -> Result<String, NoAnswer>;
+
+    /// Returns the answer of a group of decoders whose questions are words of calls.
+    fn decoded(
+        memory: Memory<'_>,
+        group: &str,
+        units: &[Self],
+        calls: &[End],
+    ) -> Result<String, NoAnswer>;
+
+    /// Returns the answer: the units of the empty C string, with its NUL.
+    fn no_contents(alloc: Global) -> Result<String, NoAnswer>;
 
     /// Returns whether the text of units is equal to one of the other width, asked from both sides.
     fn eq_other(units: &[Self], other: &str, alloc: Global) -> Result<[bool; 2], NoAnswer>;
@@ -46,13 +71,44 @@ pub trait Width: ReportedUnit + FromHex + Ord + Hash + 'static {
     /// Adds the text of the error of ill-formed units, and of its cause.
     fn print_fault(alloc: Global, answer: &mut Answer, units: &[Self]) -> Result<(), NoAnswer>;
 
-    /// Adds the lengths of the iterators that have one, at first and after a call from the back.
-    fn lengths(answer: &mut Answer, units: &[Self]) -> Result<(), NoAnswer>;
+    /// Returns the answer: the lengths of the iterators that have one, at first and after a call from the back.
+    fn lengths(alloc: Global, units: &[Self]) -> Result<String, NoAnswer>;
 }
 
 impl Width for u16 {
-    fn show_no_contents(answer: &mut Answer) {
-        answer.units(U16CStr::default().as_slice_with_nul());
+    fn answer(
+        memory: Memory<'_>,
+        group: &str,
+        units: &[u16],
+        question: &str,
+    ) -> Result<String, NoAnswer> {
+        match group {
+            "hints" => hints::utf16(memory.alloc, units, question),
+            "bytes" => bytes::of_units16(memory, units, question),
+            "to_string" => conversions::text16(memory, units, question),
+            _ => Err(NoAnswer::Unparsed),
+        }
+    }
+
+    fn decoded(
+        memory: Memory<'_>,
+        group: &str,
+        units: &[u16],
+        calls: &[End],
+    ) -> Result<String, NoAnswer> {
+        match group {
+            "items" => items::utf16(memory, units, calls),
+            "lossy" => lossy::utf16(memory.alloc, units, calls),
+            "hints_lossy" => hints::lossy_utf16(memory.alloc, units, calls),
+            "each" => policies::utf16(memory, units, calls, Policy::Each),
+            "run" => policies::utf16(memory, units, calls, Policy::Run),
+            "skip" => policies::utf16(memory, units, calls, Policy::Skip),
+            _ => Err(NoAnswer::Unparsed),
+        }
+    }
+
+    fn no_contents(alloc: Global) -> Result<String, NoAnswer> {
+        answers::units(alloc, U16CStr::default().as_slice_with_nul())
     }
 
     fn eq_other(units: &[u16], other: &str, alloc: Global) -> Result<[bool; 2], NoAnswer> {
@@ -91,14 +147,45 @@ impl Width for u16 {
         prints::print(alloc, answer, &fault.cause())
     }
 
-    fn lengths(answer: &mut Answer, units: &[u16]) -> Result<(), NoAnswer> {
-        walks::lengths16(answer, units)
+    fn lengths(alloc: Global, units: &[u16]) -> Result<String, NoAnswer> {
+        walks::lengths16(alloc, units)
     }
 }
 
 impl Width for u32 {
-    fn show_no_contents(answer: &mut Answer) {
-        answer.units(U32CStr::default().as_slice_with_nul());
+    fn answer(
+        memory: Memory<'_>,
+        group: &str,
+        units: &[u32],
+        question: &str,
+    ) -> Result<String, NoAnswer> {
+        match group {
+            "hints" => hints::utf32(memory.alloc, units, question),
+            "bytes" => bytes::of_units32(memory, units, question),
+            "to_string" => conversions::text32(memory, units, question),
+            _ => Err(NoAnswer::Unparsed),
+        }
+    }
+
+    fn decoded(
+        memory: Memory<'_>,
+        group: &str,
+        units: &[u32],
+        calls: &[End],
+    ) -> Result<String, NoAnswer> {
+        match group {
+            "items" => items::utf32(memory, units, calls),
+            "lossy" => lossy::utf32(memory.alloc, units, calls),
+            "hints_lossy" => hints::lossy_utf32(memory.alloc, units, calls),
+            "each" => policies::utf32(memory, units, calls, Policy::Each),
+            "run" => policies::utf32(memory, units, calls, Policy::Run),
+            "skip" => policies::utf32(memory, units, calls, Policy::Skip),
+            _ => Err(NoAnswer::Unparsed),
+        }
+    }
+
+    fn no_contents(alloc: Global) -> Result<String, NoAnswer> {
+        answers::units(alloc, U32CStr::default().as_slice_with_nul())
     }
 
     fn eq_other(units: &[u32], other: &str, alloc: Global) -> Result<[bool; 2], NoAnswer> {
@@ -147,7 +234,7 @@ impl Width for u32 {
         prints::print(alloc, answer, &fault.cause())
     }
 
-    fn lengths(answer: &mut Answer, units: &[u32]) -> Result<(), NoAnswer> {
-        walks::lengths32(answer, units)
+    fn lengths(alloc: Global, units: &[u32]) -> Result<String, NoAnswer> {
+        walks::lengths32(alloc, units)
     }
 }
