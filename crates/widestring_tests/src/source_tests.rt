@@ -44,27 +44,34 @@ fn vague_source(is_bounded: bool) -> Vague<'static> {
     }
 }
 
+// The characters in UTF-16.
+static UNITS: [u16; 4] = [0x61, 0xd83d, 0xde00, 0xe9];
+
+// Returns whether a string of 16-bit units takes all characters.
+fn is_taken_by_16(alloc: Global, is_bounded: bool) -> bool {
+    let mut string = U16String::new(alloc);
+    string.extend_chars(vague_source(is_bounded)).is_ok() && string.as_slice() == UNITS.as_slice()
+}
+
+// The same for a string of 32-bit units.
+fn is_taken_by_32(alloc: Global, is_bounded: bool) -> bool {
+    let mut string = Utf32String::new(alloc);
+    string.extend_chars(vague_source(is_bounded)).is_ok() && string.len() == 3
+}
+
 // Returns whether strings and encoders take all characters, and the size hints of encoders claim no more than the
 // source's.
 fn is_taken(alloc: Global, is_bounded: bool) -> [bool; 7] {
-    let units = [0x61, 0xd83d, 0xde00, 0xe9];
-    let mut narrow = U16String::new(alloc);
-    let mut wide = Utf32String::new(alloc);
-    let extended = narrow.extend_chars(vague_source(is_bounded)).is_ok();
+    let utf16 = encode_utf16(vague_source(is_bounded));
+    let utf8 = encode_utf8(vague_source(is_bounded));
     [
-        extended && narrow.as_slice() == units.as_slice(),
-        wide.extend_chars(vague_source(is_bounded)).is_ok() && wide.len() == 3,
-        encode_utf16(vague_source(is_bounded)).size_hint() == (0, None),
-        encode_utf8(vague_source(is_bounded)).size_hint() == (0, None),
-        is_collected(
-            encode_utf16(vague_source(is_bounded)).collect(alloc),
-            &units,
-        ),
-        is_collected(encode_utf16(CHARS).collect(alloc), &units),
-        is_collected(
-            encode_utf8(vague_source(is_bounded)).collect(alloc),
-            "a😀é".as_bytes(),
-        ),
+        is_taken_by_16(alloc, is_bounded),
+        is_taken_by_32(alloc, is_bounded),
+        utf16.size_hint() == (0, None),
+        utf8.size_hint() == (0, None),
+        is_collected(utf16.collect(alloc), &UNITS),
+        is_collected(encode_utf16(CHARS).collect(alloc), &UNITS),
+        is_collected(utf8.collect(alloc), "a😀é".as_bytes()),
     ]
 }
 
