@@ -183,12 +183,12 @@ pub fn entries_after<'a>(
     Ok(marked.marks())
 }
 
-/// Makes one edit of a string with an offset index, and counts the steps of it: at most 512, and the units after the
-/// last index entry that is not past the edit.
+/// Makes one edit of a string with an offset index, and counts its steps: at most 512, and the units after the last
+/// index entry that is not past the edit.
 ///
 /// # Errors
 ///
-/// [`OutOfMemory`] if the allocation fails.
+/// [`OutOfMemory`] if an allocation fails. The text is unchanged, and no step is counted.
 pub fn edit_counted(
     alloc: Global,
     marked: &mut Marked16,
@@ -196,6 +196,9 @@ pub fn edit_counted(
     steps: &mut Steps,
 ) -> Result<Reply, OutOfMemory>
     ensures text { OnOk result (marked_text marked.new ≡ (step (marked_text marked.old) edit.entry).0) }
+    ensures reply { IfOk result (λ reply. answer_of reply ≡ (step (marked_text marked.old) edit.entry).1) }
+    ensures err { OnErr result (marked_text marked.new ≡ marked_text marked.old) }
+    ensures err_steps { OnErr result (steps.new ≡ steps.old) }
     ensures steps { OnOk result (AddsAtMost steps.old steps.new (512 + units_after (marked_text marked.old) (marked_text marked.new) edit.entry)) }
 {
     let space = marked.prepare(alloc, edit)?;

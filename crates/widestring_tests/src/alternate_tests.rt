@@ -81,7 +81,7 @@ fn prints_borrowed_units(alloc: Global, string: U16String) -> bool {
     prints(alloc, &borrowed, DEBUG)
 }
 
-// The same for text.
+// Returns whether borrowed text prints as a view does.
 fn prints_borrowed_text(alloc: Global, string: Utf16String) -> bool {
     let borrowed: CowUtfStr<'_, u16> = CowUtfStr::Borrowed(string.as_utfstr());
     prints(alloc, &borrowed, DEBUG)
@@ -104,7 +104,7 @@ fn prints_boxed_units(alloc: Global, string: U16String) -> bool {
     }
 }
 
-// The same for text.
+// Returns whether a boxed view of text prints as a view does.
 fn prints_boxed_text(alloc: Global, string: Utf16String) -> bool {
     match string.into_boxed_utfstr() {
         Ok(boxed) => prints(alloc, &boxed, DEBUG),
@@ -112,7 +112,7 @@ fn prints_boxed_text(alloc: Global, string: Utf16String) -> bool {
     }
 }
 
-// The same for a C string.
+// Returns whether a boxed C string prints as a view does.
 fn prints_boxed_c_string(alloc: Global, string: U16CString) -> bool {
     match string.into_boxed_ucstr() {
         Ok(boxed) => prints(alloc, &boxed, DEBUG_WITH_NUL),

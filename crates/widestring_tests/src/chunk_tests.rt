@@ -205,7 +205,7 @@ fn is_well_at(alloc: Global, offset: usize, insert: &[u16]) -> bool {
     push_around(&mut units, offset, insert).is_ok() && is_well_in_kinds(alloc, &units, offset)
 }
 
-// The same for each insert.
+// Returns whether files with each of the inserts at this offset become what they should.
 fn are_well_at(alloc: Global, offset: usize) -> bool {
     let mut well = true;
     for index in 0..INSERTS.len() {
@@ -257,7 +257,7 @@ fn is_well_after(alloc: Global, letters: usize, faults: usize, more: &[u16]) -> 
 // What follows a run of faults: nothing, a letter, and more runs around U+FFFD and zero units.
 static AFTER: [&[u16]; 4] = [&[], &[0x61], &[0xfffd, 0xdc00, 0xd800], &[0, 0xd800, 0]];
 
-// The same for whatever follows.
+// Returns whether letters and high surrogates become what they should, whatever follows them.
 fn are_well_after(alloc: Global, letters: usize, faults: usize) -> bool {
     let mut well = true;
     for index in 0..AFTER.len() {

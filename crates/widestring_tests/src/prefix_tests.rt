@@ -79,13 +79,13 @@ fn end_alike(alloc: Global, text: &str) -> bool {
     well
 }
 
-// Returns whether this holds for texts of a pattern.
+// Returns whether conversions of a text of this length that repeats a pattern end where the loop does.
 fn holds_for(alloc: Global, pattern: &str, len: usize) -> bool {
     let mut text = String::new(alloc);
     repeat(&mut text, pattern, len).is_ok() && end_alike(alloc, &text)
 }
 
-// The same for each length.
+// Returns whether conversions of texts of each length that repeat a pattern end where the loop does.
 fn hold_for(alloc: Global, pattern: &str) -> bool {
     let mut well = true;
     for len in 0..=CHARS {

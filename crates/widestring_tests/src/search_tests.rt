@@ -247,7 +247,7 @@ static STEPS: [(usize, [usize; 6]); 5] = [
     (5000, [0, 254, 257, 11_997, 11_998, 11_999]),
 ];
 
-// The same for 12,000 units and each of these offsets.
+// Returns whether the searches agree with the loop for 12,000 units and each of these offsets.
 fn are_found_after(alloc: Global, step: usize, offsets: &[usize]) -> bool {
     let mut well = true;
     for at in offsets {
@@ -294,7 +294,8 @@ fn is_found_alone(alloc: Global, len: usize, at: usize) -> bool {
     push_alone(&mut units, len, at).is_ok() && is_found(alloc, &units, &[1, 2])
 }
 
-// The same for a text of this length and offsets before its end, and at its beginning.
+// Returns whether the searches agree with the loop for a text of this length, at offsets near its end and at its
+// beginning.
 fn are_found_alone(alloc: Global, len: usize) -> bool {
     let mut well = true;
     for back in [0, 1, 2, 3, 8, 16, 17, len] {

@@ -53,7 +53,7 @@ fn is_taken_by_16(alloc: Global, is_bounded: bool) -> bool {
     string.extend_chars(vague_source(is_bounded)).is_ok() && string.as_slice() == UNITS.as_slice()
 }
 
-// The same for a string of 32-bit units.
+// Returns whether a string of 32-bit units takes all characters.
 fn is_taken_by_32(alloc: Global, is_bounded: bool) -> bool {
     let mut string = Utf32String::new(alloc);
     string.extend_chars(vague_source(is_bounded)).is_ok() && string.len() == 3
