@@ -97,8 +97,9 @@ def type_text(lines, at, derives):
     return text
 
 
-def quoted(path):
-    """Returns the headings, types and calls of a file, in order, each with the doc comment before it."""
+def quoted(path, exported=None):
+    """Returns the headings, types and calls of a file, in order, each with the doc comment before it. Functions of no
+    type are left out unless their names are in `exported`, if that is given."""
     lines = path.read_text(encoding="utf-8").split("\n")
     out, owner, is_public, at, doc, derives = [], None, False, 0, [], ""
     while at < len(lines):
@@ -131,6 +132,9 @@ def quoted(path):
             out.append(("call", f"  ghost {ghost[1]}: {ghost[2]}", [], []))
         call = CALL.match(line)
         if call and (call[2] or is_public and call[1]) and not line.strip().startswith("pub(crate)"):
+            if not call[1] and exported is not None and call[5] not in exported:
+                at, doc = declaration(lines, at)[2], []
+                continue
             if not call[1]:
                 owner = None
                 out.append(("owner", "", [], []))

@@ -1,8 +1,9 @@
 -- The units of a chunk that can be encoded whatever follows, and their lossy text.
-use Rattle.std.proofs.Common.{◌≡◌, ◌≢◌, ℕ, zero, suc, ◌+◌, ◌-◌, ◌*◌, ◌/◌, ◌%◌, ◌<◌, ◌≤◌, ◌⊎◌, inl, inr, Bool, true, false, List, [], ◌∷◌, ◌++◌, Option, Some, None, Result, Ok, Err, length, get_or, take, drop, refl, sym, ap, ◌∙◌, subst, arith, length-drop, length-take-le, drop-cons}
+use Rattle.std.proofs.Common.{◌≡◌, ◌≢◌, ℕ, zero, suc, ◌+◌, ◌-◌, ◌*◌, ◌/◌, ◌%◌, ◌<◌, ◌≤◌, ◌⊎◌, inl, inr, Bool, true, false, List, [], ◌∷◌, ◌++◌, Option, Some, None, length, get_or, take, drop, refl, sym, ap, ◌∙◌, subst, arith, length-drop, length-take-le, drop-cons, append_assoc, ◌^◌}
 use Rattle.std.proofs.Math.Seq.{take-suc}
-use Rattle.std.proofs.lemmas.List.{map-id}
-use Rattle.std.specs.Prelude.{map, nat_eq, IfNone, IfSome, unwrap_or}
+use Rattle.std.proofs.lemmas.Bool.{cases_lt}
+use Rattle.std.proofs.lemmas.List.{take_all}
+use Rattle.std.specs.Prelude.{nat_eq, IfNone, IfSome, unwrap_or}
 use Rattle.std.specs.List.{ends_with}
 use Rattle.wide_forms.specs.EncodingForm.{Utf16, encode, IsHighSurrogate, IsLowSurrogate}
 use Rattle.std.specs.Char.{IsScalar}
@@ -10,11 +11,11 @@ use Rattle.std.specs.List.{All}
 use Rattle.wide_forms.specs.Segmentation.{Item, Char, Fault, units_of}
 use Rattle.wide_forms.specs.Items.{items, chars, IsWellFormed}
 use Rattle.wide_forms.specs.Lossy.{lossy_after, lossy_by, past_faults, ends_in_fault}
-use Rattle.wide_unit.specs.Unit.{item_of}
 use Rattle.wide_forms.specs.Utf8.{utf8}
-use Rattle.wide_forms.specs.Laws.Forms.{IsPair-parts, high-no_low}
+use Rattle.wide_forms.specs.Laws.Forms.{IsPair-parts, high-no_low, pair16, unit-cases, surrogate-of_fault}
 use Rattle.wide_forms.specs.Laws.Chains.{Chain}
-use Rattle.wide_forms.specs.Laws.Items.{IsCut, chars-of_well_formed, items-chain, items-of_chain}
+use Rattle.wide_forms.specs.Laws.Ends.{items-back_char, items-back_high, items-back_low}
+use Rattle.wide_forms.specs.Laws.Items.{IsCut, chars-of_well_formed, items-chain, items-nil, items-of_chain}
 use Rattle.wide_forms.specs.Laws.Offsets.{IsWellFormed-encode, chars-encode}
 use Rattle.wide_forms.specs.Laws.Policies.{ends_in_fault-append, lossy_after-chars, scalars-lossy_by}
 use Rattle.wide_forms.specs.declared.policy.Policy.{Policy}
@@ -33,19 +34,80 @@ use Rattle.wide_bytes.proofs.UnitLists.{units_in-take, units_in-drop}
 last : (was : Bool) (us prefix : List ℕ) (i : Item) → items Utf16 us ≡ items Utf16 prefix ++ i ∷ [] → faulty was us ≡ ends_in_fault (faulty was prefix) (i ∷ [])
 last was us prefix i e = ap (λ is. ends_in_fault was is) e ∙ ends_in_fault-append was (items Utf16 prefix) (i ∷ [])
 
-same-items : (us prefix : List ℕ) (i : Item) → items Utf16 (map (λ u. u) us) ≡ items Utf16 (map (λ u. u) prefix) ++ i ∷ [] → items Utf16 us ≡ items Utf16 prefix ++ i ∷ []
-same-items us prefix i e = ap (λ xs. items Utf16 xs) (sym (map-id us)) ∙ e ∙ ap (λ xs. items Utf16 xs ++ i ∷ []) (map-id prefix)
-
-pub last-char : (was : Bool) (us prefix : List ℕ) (r : Result ℕ ℕ) (c : ℕ) → items Utf16 (map (λ u. u) us) ≡ items Utf16 (map (λ u. u) prefix) ++ item_of (λ u. u) r ∷ [] → r ≡ Ok c → false ≡ faulty was us
-last-char was us prefix r c e is = sym (last was us prefix (Char c) (same-items us prefix (Char c) (e ∙ ap (λ x. items Utf16 (map (λ u. u) prefix) ++ item_of (λ u. u) x ∷ []) is)))
-
-pub last-fault : (was : Bool) (us prefix : List ℕ) (r : Result ℕ ℕ) (v : ℕ) → items Utf16 (map (λ u. u) us) ≡ items Utf16 (map (λ u. u) prefix) ++ item_of (λ u. u) r ∷ [] → r ≡ Err v → true ≡ faulty was us
-last-fault was us prefix r v e is = sym (last was us prefix (Fault v) (same-items us prefix (Fault v) (e ∙ ap (λ x. items Utf16 (map (λ u. u) prefix) ++ item_of (λ u. u) x ∷ []) is)))
-
--- ---- a high surrogate is left
-
+-- What a surrogate is, by its upper bits.
 is-high : (u : ℕ) → u / 0x400 ≡ 54 → IsHighSurrogate Utf16 u
 is-high u e = (omega arith, omega arith)
+
+is-low : (u : ℕ) → u / 0x400 ≡ 55 → IsLowSurrogate Utf16 u
+is-low u e = (omega arith, omega arith)
+
+last-ready : (us : List ℕ) (r : ℕ) → r ≤ length us → (prefix : List ℕ) (h : ℕ) → take r us ≡ prefix ++ h ∷ [] → (0 < r) × (get_or us (r - 1) 0 ≡ h)
+last-ready us zero within [] h e = absurd cc
+last-ready us zero within (x ∷ prefix) h e = absurd cc
+last-ready us (suc q) within prefix h e =
+    let rest = last-of (take q us) (get_or us q 0 ∷ []) prefix h (λ none. absurd cc) (sym (take-suc us q 0 (omega arith)) ∙ e) in
+    let before : suc q - 1 ≡ q = omega arith in
+    (omega arith, ap (λ m. get_or us m 0) before ∙ only (get_or us q 0) h rest.0 rest.1)
+
+pub ends-empty : (was : Bool) (us : List ℕ) → length us ≡ 0 → was ≡ faulty was us
+ends-empty was [] e = ap (λ is. ends_in_fault was is) (sym (items-nil Utf16))
+ends-empty was (u ∷ us) e = absurd cc
+
+module _ (was : Bool) (us : List ℕ) (q : ℕ) (long : length us ≡ suc q) where
+  abbrev pub unit : ℕ
+  unit = get_or us q 0
+
+  split : us ≡ take q us ++ unit ∷ []
+  split = sym (take_all (length us) us (omega arith)) ∙ ap (λ k. take k us) long ∙ take-suc us q 0 (omega arith)
+
+  ends-in : (prefix : List ℕ) (i : Item) → items Utf16 (take q us ++ unit ∷ []) ≡ items Utf16 prefix ++ i ∷ [] → faulty was us ≡ ends_in_fault (faulty was prefix) (i ∷ [])
+  ends-in prefix i e = last was us prefix i (ap (λ xs. items Utf16 xs) split ∙ e)
+
+  ends-high : unit / 0x400 ≡ 54 → true ≡ faulty was us
+  ends-high e = sym (ends-in (take q us) (Fault unit) (items-back_high Utf16 (take q us) unit (is-high unit e)))
+
+  ends-low : unit / 0x400 ≡ 55 → (0 < q → get_or us (q - 1) 0 / 0x400 ≢ 54) → true ≡ faulty was us
+  ends-low e apart =
+      sym (ends-in (take q us) (Fault unit) (items-back_low Utf16 (take q us) unit (is-low unit e) (λ prefix h ends high. (
+      let at = last-ready us q (omega arith) prefix h ends in
+      apart at.0 (omega (arith, at.1, high.0, high.1))
+      ))))
+
+  ends-plain : unit < 2 ^ 16 → unit / 0x800 ≢ 27 → false ≡ faulty was us
+  ends-plain below e = elim (unit-cases Utf16 unit) [
+    | inl one ↦ sym (ends-in (take q us) (Char one.0) (ap (λ xs. items Utf16 (take q us ++ xs)) (sym one.2) ∙ items-back_char Utf16 (take q us) one.0 one.1))
+    | inr fault ↦ (let at = surrogate-of_fault unit below fault in absurd (omega (arith, e, at.0, at.1)))
+  ]
+
+  kinds : (unit / 0x400 ≡ 54) ⊎ ((unit / 0x400 ≡ 55) ⊎ (unit / 0x800 ≢ 27))
+  kinds = elim (cases_lt unit 0xD800) [
+    | inl below ↦ inr (inr (λ e. omega arith))
+    | inr from ↦ elim (cases_lt unit 0xDC00) [
+      | inl high ↦ inl (omega arith)
+      | inr low ↦ elim (cases_lt unit 0xE000) [ inl surrogate ↦ inr (inl (omega arith)) | inr past ↦ inr (inr (λ e. omega arith)) ]
+    ]
+  ]
+
+  -- The last unit is a fault if it is a surrogate and not the second of a pair.
+  pub ends-alone : unit < 2 ^ 16 → (0 < q → get_or us (q - 1) 0 / 0x400 ≡ 54 → unit / 0x400 ≢ 55) → nat_eq (unit / 0x800) 27 ≡ faulty was us
+  ends-alone below apart = elim kinds [
+    | inl high ↦ (let is : nat_eq (unit / 0x800) 27 ≡ true = grind (arith, high) in is ∙ ends-high high)
+    | inr (inl low) ↦ (let is : nat_eq (unit / 0x800) 27 ≡ true = grind (arith, low) in is ∙ ends-low low (λ some high. apart some high low))
+    | inr (inr plain) ↦ (let isnt : nat_eq (unit / 0x800) 27 ≡ false = grind (arith, plain) in isnt ∙ ends-plain below plain)
+  ]
+
+  pub ends-pair : 0 < q → get_or us (q - 1) 0 / 0x400 ≡ 54 → unit / 0x400 ≡ 55 → false ≡ faulty was us
+  ends-pair some high low =
+      let n : ℕ = q - 1 in
+      let h : ℕ = get_or us n 0 in
+      let next : q ≡ suc n = omega arith in
+      let begin : take q us ≡ take n us ++ h ∷ [] = ap (λ k. take k us) next ∙ take-suc us n 0 (omega arith) in
+      let at = is-high h high in
+      let pair = pair16 h unit (record { from = at.0; to = omega (arith, at.1) }) (record { from = (is-low unit low).0; to = omega (arith, (is-low unit low).1) }) in
+      let both : take q us ++ unit ∷ [] ≡ take n us ++ h ∷ unit ∷ [] = ap (λ xs. xs ++ unit ∷ []) begin ∙ append_assoc (take n us) (h ∷ []) (unit ∷ []) in
+      sym (ends-in (take n us) (Char pair.0) (ap (λ xs. items Utf16 xs) (both ∙ ap (λ xs. take n us ++ xs) (sym pair.2)) ∙ items-back_char Utf16 (take n us) pair.0 pair.1))
+
+-- ---- a high surrogate is left
 
 pending-high : (order : BoM) (rest tail : List ℕ) (u : ℕ) → length rest < 4 → units_in order rest ≡ u ∷ tail → IsHighSurrogate Utf16 u → IsPending order rest
 pending-high order [] tail u short e high = tt
@@ -108,19 +170,11 @@ module _ (order : BoM) (bytes us : List ℕ) (n : ℕ) (same : us ≡ units_in o
 
   -- If at most half a unit is left, the last unit that can be encoded is no high surrogate.
   module _ (plain : 0 < n / 2 → length bytes - 2 * (n / 2) < 2 → get_or us (n / 2 - 1) 0 / 0x400 ≢ 54) where
-    last-ready : (r : ℕ) → r ≤ length us → (prefix : List ℕ) (h : ℕ) → take r us ≡ prefix ++ h ∷ [] → (0 < r) × (get_or us (r - 1) 0 ≡ h)
-    last-ready zero within [] h e = absurd cc
-    last-ready zero within (x ∷ prefix) h e = absurd cc
-    last-ready (suc q) within prefix h e =
-        let rest = last-of (take q us) (get_or us q 0 ∷ []) prefix h (λ none. absurd cc) (sym (take-suc us q 0 (omega arith)) ∙ e) in
-        let before : suc q - 1 ≡ q = omega arith in
-        (omega arith, ap (λ m. get_or us m 0) before ∙ only (get_or us q 0) h rest.0 rest.1)
-
     whole-cut : n ≡ length bytes → (more : List ℕ) → IsCut Utf16 (units_in order (take (2 * (n / 2)) bytes)) (units_in order (drop (2 * (n / 2)) bytes ++ more))
     whole-cut all more prefix back h l ends begins pair =
         let r = n / 2 in
         let within : r ≤ length us = omega (arith, ap length same, length-units_in order bytes) in
-        let at = last-ready r within prefix h (ap (λ xs. take r xs) same ∙ sym (units_in-take order r bytes) ∙ ends) in
+        let at = last-ready us r within prefix h (ap (λ xs. take r xs) same ∙ sym (units_in-take order r bytes) ∙ ends) in
         let is : IsHighSurrogate Utf16 h = (IsPair-parts Utf16 h l pair).0 in
         plain at.0 (omega arith) (omega (arith, at.1, is.0, is.1))
 

@@ -15,7 +15,6 @@ use crate::lossy::{encode_end, encode_lossy};
 use wide_bytes::{BoM, ByteSink, ByteSource, fill_units, put_all, take_after, unit_in};
 use wide_error::TranscodeError;
 use wide_forms::Policy;
-use wide_unit::Unit;
 
 // The length of a chunk in bytes.
 pub(crate) const CHUNK: usize = 4096;
@@ -64,7 +63,7 @@ fn char_count(units: &[u16], text: &[u8]) -> usize
     if text.len() == units.len() {
         units.len()
     } else {
-        u16::char_count(units)
+        wide_lanes::char_count(units)
     }
 }
 

@@ -15,7 +15,7 @@ ghost use Rattle.wide_transcode.specs.Chunks.{units_after};
 use crate::chunk_encoding::len_before_zero;
 use wide_bytes::{BoM, unit_in};
 use wide_forms::Policy;
-use wide_unit::{Unit, split_last};
+use wide_lanes::repair_16;
 use wide_utf16_to_utf8::{apply_policy, checked_utf16_to_utf8, put_unit, writes_replacement};
 
 // U+FFFD REPLACEMENT CHARACTER.
@@ -61,15 +61,19 @@ fn certain_len(order: BoM, bytes: &[u8], units: &[u16]) -> usize
     }
 }
 
-/// Returns whether a fault was read last: whether the units end in a fault, or `after_fault` if there are none.
+/// Returns whether a fault was read last: whether the units end in a fault, or `after_fault` if there are none. A
+/// surrogate at the end is one, unless it is the second of a pair.
 pub fn ends_in_fault(units: &[u16], after_fault: bool) -> bool
     ensures { result ≡ faulty after_fault units.now }
 {
-    match split_last(units) {
-        None => after_fault,
-        Some((_, Ok(_))) => false,
-        Some((_, Err(_))) => true,
+    let len = units.len();
+    if len == 0 {
+        return after_fault;
     }
+    if len >= 2 && units[len - 2] / 0x400 == 54 && units[len - 1] / 0x400 == 55 {
+        return false;
+    }
+    units[len - 1] / 0x800 == 27
 }
 
 // Encodes any units as lossy text under a policy. It repairs them, and encodes what the policy retains. `after_fault`
@@ -87,7 +91,7 @@ fn encode_faulty(
     ensures text { take result out.new ≡ lossy_text policy after_fault units.now }
 {
     let (repaired, compressed) = spare.split_at_mut(units.len());
-    u16::repair(units, repaired);
+    repair_16(units, repaired);
     let len = apply_policy(units, repaired, policy, after_fault, compressed);
     // Lossy text is well formed.
     checked_utf16_to_utf8(&compressed[..len], out).unwrap_or(0)

@@ -14,8 +14,4 @@ pub mod Printed
 pub mod Kept
 pub mod Debugged
 mod Alone
-mod Mendings
-mod Masks
-mod Pairs
-mod Counts
 mod SameLanes

@@ -1,7 +1,7 @@
--- Characters before an offset, and the items from it on.
-use Rattle.std.proofs.Common.{◌≡◌, ℕ, ◌+◌, ◌-◌, List, [], ◌∷◌, ◌++◌, refl, sym, ◌∙◌, ap, subst, arith, length, append_assoc, length-append}
+-- Characters before an offset, where the units end or a fault follows.
+use Rattle.std.proofs.Common.{◌≡◌, ℕ, ◌+◌, ◌-◌, List, [], ◌∷◌, ◌++◌, refl, sym, ◌∙◌, ap, subst, arith, length, length-append}
 use Rattle.std.specs.Prelude.{map}
-use Rattle.std.proofs.lemmas.List.{append-nil, map_push}
+use Rattle.std.proofs.lemmas.List.{append-nil}
 use Rattle.wide_forms.specs.EncodingForm.{EncodingForm, encode}
 use Rattle.wide_forms.specs.Segmentation.{Item, Char, Fault, units_of}
 use Rattle.wide_forms.specs.Items.{items, IsWellFormed, IsFirstFault, BeginsWithChars}
@@ -10,15 +10,8 @@ use Rattle.wide_forms.specs.Laws.Boundaries.{units_of-append}
 use Rattle.wide_forms.specs.Offsets.{chars_before}
 use Rattle.wide_unit.proofs.Faults.{IsFirstFault-of, first_fault-item}
 
-pub chars-none : (form : EncodingForm) (us : List ℕ) → BeginsWithChars form us us
-chars-none form us = ([], refl)
-
 pub chars-end : (form : EncodingForm) (us rest : List ℕ) → BeginsWithChars form us rest → items form rest ≡ [] → IsWellFormed form us
 chars-end form us rest so_far e = IsWellFormed-of_chars form us so_far.0 (so_far.1 ∙ ap (λ is. map Char so_far.0 ++ is) e ∙ append-nil (map Char so_far.0))
-
-pub chars-more : (form : EncodingForm) (us rest tail : List ℕ) (c : ℕ) → BeginsWithChars form us rest → items form rest ≡ Char c ∷ items form tail → BeginsWithChars form us tail
-chars-more form us rest tail c so_far e =
-    (so_far.0 ++ c ∷ [], so_far.1 ∙ ap (λ is. map Char so_far.0 ++ is) e ∙ sym (append_assoc (map Char so_far.0) (Char c ∷ []) (items form tail)) ∙ ap (λ is. is ++ items form tail) (sym (map_push Char so_far.0 c)))
 
 pub chars-fault : (form : EncodingForm) (us rest : List ℕ) (u : ℕ) (after : List Item) → BeginsWithChars form us rest → items form rest ≡ Fault u ∷ after
     → IsFirstFault form us (length us - length rest) (chars_before form us (length us - length rest)) u

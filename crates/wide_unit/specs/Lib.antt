@@ -3,4 +3,3 @@ pub mod CommonPrefix
 pub mod Unit
 pub mod AnyUnits
 pub mod Nul
-pub mod Repaired

@@ -1,0 +1,5 @@
+pub mod Masks
+pub mod Prefixes
+mod Mendings
+mod Pairs
+mod Counts
