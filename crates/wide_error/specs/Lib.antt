@@ -1,4 +1,1 @@
-pub mod Nul
 pub mod Texts
-pub mod NulError
-pub mod UCStringError

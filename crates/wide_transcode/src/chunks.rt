@@ -63,7 +63,7 @@ fn char_count(units: &[u16], text: &[u8]) -> usize
     if text.len() == units.len() {
         units.len()
     } else {
-        wide_lanes::char_count(units)
+        wide_repair::char_count(units)
     }
 }
 

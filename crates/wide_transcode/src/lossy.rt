@@ -15,7 +15,7 @@ ghost use Rattle.wide_transcode.specs.Chunks.{units_after};
 use crate::chunk_encoding::len_before_zero;
 use wide_bytes::{BoM, unit_in};
 use wide_forms::Policy;
-use wide_lanes::repair_16;
+use wide_repair::repair_16;
 use wide_utf16_to_utf8::{apply_policy, checked_utf16_to_utf8, put_unit, writes_replacement};
 
 // U+FFFD REPLACEMENT CHARACTER.

@@ -1,9 +1,9 @@
 -- Why units are no C string.
 use Rattle.std.specs.Prelude.{◌≡◌, ℕ, ◌+◌, ◌<◌, List, length, None}
 use Rattle.wide_unit.specs.Nul.{IsFirstNul}
-use Rattle.wide_error.specs.Nul.{position_of, vec_of}
-use Rattle.wide_error.specs.declared.nul.NulError.{NulError}
-use Rattle.wide_error.specs.declared.nul.NulError.TheVariants.{MissingNulTerminator, ContainsNul}
+use Rattle.wide_utferror.specs.Nul.{position_of, vec_of}
+use Rattle.wide_utferror.specs.declared.nul.NulError.{NulError}
+use Rattle.wide_utferror.specs.declared.nul.NulError.TheVariants.{MissingNulTerminator, ContainsNul}
 use Rattle.wide_ucstr.specs.CString.{EndsInNul}
 
 -- The units do not end in a NUL, or they do, and it is not the first. The error holds no vector.

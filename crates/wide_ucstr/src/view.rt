@@ -14,14 +14,13 @@ ghost use Rattle.wide_ucstr.specs.CString.{IsCString};
 
 use std::alloc::AllocError;
 use std::ops::RangeBounds;
-use wide_error::{ContainsNul, MissingNulTerminator, NulError};
 use wide_forms::Policy;
 use wide_unit::{Unit, first_nul};
 use wide_ustr::{
     CharIndices, CharIndicesLossy, Chars, CharsLossy, CharsLossyWith, Display, DisplaySkipping,
     UStr,
 };
-use wide_utferror::FaultUnit;
+use wide_utferror::{ContainsNul, FaultUnit, MissingNulTerminator, NulError};
 
 /// A view of a wide C string. Its type guarantees that the last unit is a NUL, and the only one.
 ///

@@ -2,9 +2,9 @@
 use Rattle.std.specs.Prelude.{◌≡◌, ℕ, ◌+◌, ◌<◌, ◌≤◌, List, length, map, Option, Some, None, vec_capacity}
 use Rattle.std.specs.declared.vec.Vec.{Vec}
 use Rattle.wide_unit.specs.Nul.{HasNoNul, IsFirstNul}
-use Rattle.wide_error.specs.Nul.{position_of, vec_of}
-use Rattle.wide_error.specs.declared.nul.UCStringError.{UCStringError}
-use Rattle.wide_error.specs.declared.nul.UCStringError.TheVariants.{ContainsNul, OutOfMemory}
+use Rattle.wide_utferror.specs.Nul.{position_of, vec_of}
+use Rattle.wide_utferror.specs.declared.nul.UCStringError.{UCStringError}
+use Rattle.wide_utferror.specs.declared.nul.UCStringError.TheVariants.{ContainsNul, OutOfMemory}
 
 -- The first NUL is at this offset, before the last unit.
 abbrev pub IsInnerNul : List ℕ → ℕ → Type 0

@@ -14,12 +14,12 @@ ghost use Rattle.wide_ucstring.specs.Rejected.{RejectsInnerNul, RejectsInnerNulO
 
 use std::alloc::{Allocator, Global};
 use std::marker::Model;
-use wide_error::{ContainsNul, OutOfMemory, UCStringError};
+use wide_error::OutOfMemory;
 use wide_ucstr::UCStr;
 use wide_unit::first_nul;
 use wide_ustr::UStr;
 use wide_ustring::UString;
-use wide_utferror::FaultUnit;
+use wide_utferror::{ContainsNul, FaultUnit, UCStringError};
 
 /// An owned wide C string. Its type guarantees that the last unit is a NUL, and the only one.
 ///

@@ -11,7 +11,7 @@ use Rattle.wide_forms.specs.Items.{items, BeginsWithChars}
 use Rattle.wide_forms.specs.Searches.{IsFirstOffset, first_offset, is_surrogate, is_no_scalar, is_unit}
 use Rattle.wide_forms.specs.Laws.Forms.{unit-cases, IsFault-surrogate, surrogate-of_fault, IsFault-no_scalar, no_scalar-of_fault}
 use Rattle.wide_forms.specs.Laws.Ends.{items-first_char}
-use Rattle.wide_lanes.proofs.Masks.{NoneBefore, none_to_offset, offset_here, offset_in}
+use Rattle.wide_unit.proofs.Masks.{NoneBefore, none_to_offset, offset_here, offset_in}
 
 -- ---- the index of the first unit of a kind
 

@@ -15,3 +15,6 @@ pub mod Kept
 pub mod Debugged
 mod Alone
 mod SameLanes
+mod Prefixes
+mod Masks
+mod Pairs

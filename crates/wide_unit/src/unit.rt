@@ -14,11 +14,9 @@ ghost use Rattle.wide_forms.specs.Laws.Forms.{code_units-no_low_first};
 ghost use Rattle.wide_forms.specs.Laws.Items.{items-code_units, segmentation-unique};
 
 use crate::any_units::AnyUnits;
+use crate::lanes::{first_no_scalar, first_same_16, first_same_32, first_surrogate, leading_pairs};
 use crate::utf8::{length_as_utf16, length_as_utf32};
-use wide_lanes::{
-    char_count, first_no_scalar, first_same_16, first_same_32, first_surrogate, leading_pairs,
-    repair_16, repair_32,
-};
+use wide_repair::{char_count, repair_16, repair_32};
 
 /// A code unit: `u16` for UTF-16, `u32` for UTF-32 (Unicode Standard, D77).
 ///

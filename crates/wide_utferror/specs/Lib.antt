@@ -1,2 +1,5 @@
 pub mod UtfError
 pub mod Converted
+pub mod Nul
+pub mod NulError
+pub mod UCStringError

@@ -21,9 +21,9 @@ pub use Rattle.wide_search.specs.Substrings as SearchSubstrings
 pub use Rattle.wide_search.specs.Cut as SearchCut
 pub use Rattle.wide_search.specs.Statements as SearchStatements
 pub use Rattle.wide_forms.specs.UnitBytes
-pub use Rattle.wide_error.specs.Nul as NulOffsets
-pub use Rattle.wide_error.specs.NulError
-pub use Rattle.wide_error.specs.UCStringError
+pub use Rattle.wide_utferror.specs.Nul as NulOffsets
+pub use Rattle.wide_utferror.specs.NulError
+pub use Rattle.wide_utferror.specs.UCStringError
 pub use Rattle.wide_error.specs.Texts as ErrorTexts
 pub use Rattle.wide_utferror.specs.UtfError
 pub use Rattle.wide_utferror.specs.Converted

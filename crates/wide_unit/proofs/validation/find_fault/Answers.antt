@@ -6,7 +6,7 @@ use Rattle.wide_forms.specs.Segmentation.{Char, Fault}
 use Rattle.wide_unit.specs.Unit.{item_of}
 use Rattle.wide_unit.proofs.Front.{first_of_nil}
 use Rattle.wide_unit.proofs.Faults.{first_fault-not_well_formed}
-use Rattle.wide_lanes.proofs.Prefixes.{chars-more}
+use Rattle.wide_unit.proofs.Prefixes.{chars-more}
 use Rattle.wide_unit.proofs.Whole.{chars-end, chars-fault}
 use Rattle.wide_unit.proofs.validation.find_fault.Goals as goal
 

@@ -1,5 +1,0 @@
-pub mod Masks
-pub mod Prefixes
-mod Mendings
-mod Pairs
-mod Counts

@@ -1,5 +1,0 @@
-use Rattle.wide_lanes.proofs.Masks.{no_scalar_block}
-use Rattle.wide_lanes.proofs.lanes.NoScalarTestU328.bits.Goals as goal
-
-pub returns : goal.returns
-returns c = no_scalar_block c.args.block.now c.requires c.type_inv.block

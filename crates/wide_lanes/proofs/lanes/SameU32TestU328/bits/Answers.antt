@@ -1,5 +1,0 @@
-use Rattle.wide_lanes.proofs.Masks.{same_block32}
-use Rattle.wide_lanes.proofs.lanes.SameU32TestU328.bits.Goals as goal
-
-pub returns : goal.returns
-returns c = same_block32 c.args.self.unit c.args.block.now c.requires

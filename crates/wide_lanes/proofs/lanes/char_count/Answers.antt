@@ -1,6 +1,0 @@
-use Rattle.std.proofs.Common.{◌-◌, ◌∙◌, ap, length}
-use Rattle.wide_lanes.proofs.Counts.{length-chars16}
-use Rattle.wide_lanes.proofs.lanes.char_count.Goals as goal
-
-pub returns : goal.returns
-returns c = ap (λ n. length c.args.units.now - n) c.count_low.ensures ∙ length-chars16 c.args.units.now c.requires

@@ -1,5 +1,0 @@
-use Rattle.wide_lanes.proofs.Masks.{high_block}
-use Rattle.wide_lanes.proofs.lanes.high_bits.Goals as goal
-
-pub returns : goal.returns
-returns c = high_block c.args.block.now c.requires c.type_inv.block

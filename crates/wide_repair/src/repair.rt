@@ -1,0 +1,137 @@
+//! Replaces each unit that belongs to no character by U+FFFD (Unicode Standard, section 3.9, "U+FFFD Substitution of
+//! Maximal Subparts"), in SIMD lanes.
+ghost use Rattle.std.specs.Prelude.{◌≡◌, ◌+◌, ◌≤◌, ◌<◌, ◌∷◌, ℕ, slice_index, length, take, drop};
+ghost use Rattle.wide_forms.specs.EncodingForm.{Utf16, Utf32, encode};
+ghost use Rattle.wide_forms.specs.Items.{items};
+ghost use Rattle.wide_forms.specs.Lossy.{lossy};
+ghost use Rattle.wide_repair.specs.Repaired.{repaired_at, repaired_unit, repaired_scalar};
+
+// U+FFFD REPLACEMENT CHARACTER.
+const REPLACEMENT: u16 = 0xfffd;
+
+// Returns the unit, or U+FFFD if it is an unpaired surrogate between its neighbours.
+#[inline(always)]
+fn repaired_unit(before: u16, unit: u16, after: u16) -> u16
+    ensures { result ≡ repaired_unit before unit after }
+{
+    let lone_high = unit / 0x400 == 54 && after / 0x400 != 55;
+    let lone_low = unit / 0x400 == 55 && before / 0x400 != 54;
+    if lone_high || lone_low {
+        REPLACEMENT
+    } else {
+        unit
+    }
+}
+
+// Repairs the sixteen units between the first and the last of eighteen.
+#[inline(always)]
+fn repaired_lanes(units: &[u16], repaired: &mut [u16])
+    requires whole { length units.now ≡ 18 }
+    requires space { length repaired.old ≡ 16 }
+    ensures { (k : ℕ) → k < 16 → slice_index repaired.new k ≡ repaired_unit (slice_index units.now k) (slice_index units.now (k + 1)) (slice_index units.now (k + 2)) }
+{
+    for k in 0..16 {
+        repaired[k] = repaired_unit(units[k], units[k + 1], units[k + 2]);
+    }
+}
+
+// Returns the unit before an index, or 0 at the beginning.
+#[inline(always)]
+#[tactic(auto, using(crate::proofs::Mendings::unit_after_first))]
+fn unit_before(units: &[u16], at: usize) -> u16
+    requires { at < length units.now }
+    ensures { result ≡ slice_index (0 ∷ units.now) at }
+{
+    if at == 0 { 0 } else { units[at - 1] }
+}
+
+// Returns the unit after an index, or 0 at the end.
+#[inline(always)]
+#[tactic(auto, using(crate::proofs::Mendings::none_after_last))]
+fn unit_after(units: &[u16], at: usize) -> u16
+    requires { at < length units.now }
+    ensures { result ≡ slice_index units.now (at + 1) }
+{
+    if units.len() - at == 1 {
+        0
+    } else {
+        units[at + 1]
+    }
+}
+
+// Writes the repaired units over a slice of the same length. The first unit is repaired separately, since a vectorized
+// step reads the unit before its own.
+fn repair_whole(units: &[u16], repaired: &mut [u16])
+    requires { length repaired.old ≡ length units.now }
+    ensures each { (k : ℕ) → k < length units.now → slice_index repaired.new k ≡ repaired_at units.now k }
+    ensures space { length repaired.new ≡ length repaired.old }
+{
+    let mut done = 0;
+    if units.len() > 1 {
+        repaired[0] = repaired_unit(0, units[0], units[1]);
+        done = 1;
+    }
+    'sixteens: while done > 0 && units.len() - done >= 17 {
+        let mut lanes = [0u16; 16];
+        repaired_lanes(&units[done - 1..done + 17], &mut lanes);
+        repaired[done..done + 16].copy_from_slice(&lanes);
+        done += 16;
+    }
+    'units: while done < units.len() {
+        repaired[done] = repaired_unit(
+            unit_before(units, done),
+            units[done],
+            unit_after(units, done),
+        );
+        done += 1;
+    }
+}
+
+/// Writes the repaired units of UTF-16 to the beginning of `repaired`. The elements after them are unchanged.
+///
+/// # Requires
+///
+/// `repaired` is at least as long as `units`.
+pub fn repair_16(units: &[u16], repaired: &mut [u16])
+    requires { length units.now ≤ length repaired.old }
+    ensures units { take (length units.now) repaired.new ≡ encode Utf16 (lossy (items Utf16 units.now)) }
+    ensures beyond { drop (length units.now) repaired.new ≡ drop (length units.now) repaired.old }
+{
+    repair_whole(units, &mut repaired[..units.len()]);
+}
+
+// Returns the unit, or U+FFFD if it is no Unicode scalar value.
+#[inline(always)]
+fn repaired_scalar(unit: u32) -> u32
+    ensures { result ≡ repaired_scalar unit }
+{
+    if (0xd800 <= unit && unit <= 0xdfff) || 0x10_ffff < unit {
+        u32::from(REPLACEMENT)
+    } else {
+        unit
+    }
+}
+
+// Writes the repaired units over a slice of the same length.
+fn repair_scalars(units: &[u32], repaired: &mut [u32])
+    requires { length repaired.old ≡ length units.now }
+    ensures each { (k : ℕ) → k < length units.now → slice_index repaired.new k ≡ repaired_scalar (slice_index units.now k) }
+    ensures space { length repaired.new ≡ length repaired.old }
+{
+    for k in 0..units.len() {
+        repaired[k] = repaired_scalar(units[k]);
+    }
+}
+
+/// Writes the repaired units of UTF-32 to the beginning of `repaired`. The elements after them are unchanged.
+///
+/// # Requires
+///
+/// `repaired` is at least as long as `units`.
+pub fn repair_32(units: &[u32], repaired: &mut [u32])
+    requires { length units.now ≤ length repaired.old }
+    ensures units { take (length units.now) repaired.new ≡ encode Utf32 (lossy (items Utf32 units.now)) }
+    ensures beyond { drop (length units.now) repaired.new ≡ drop (length units.now) repaired.old }
+{
+    repair_scalars(units, &mut repaired[..units.len()]);
+}

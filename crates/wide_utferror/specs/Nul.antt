@@ -1,0 +1,12 @@
+-- What the error for a NUL before the last unit holds.
+use Rattle.std.specs.Prelude.{ℕ, Option}
+use Rattle.std.specs.declared.vec.Vec.{Vec}
+use Rattle.wide_utferror.specs.declared.nul.ContainsNul.{ContainsNul}
+
+module _ {C A : Type 0} where
+  -- The offset of the first NUL, and the vector to return.
+  abbrev pub position_of : ContainsNul C A → ℕ
+  position_of e = e.position
+
+  abbrev pub vec_of : ContainsNul C A → Option (Vec C A)
+  vec_of e = e.vec
