@@ -15,7 +15,7 @@ use std::io;
 ///
 /// # Errors
 ///
-/// The error of [`ByteSource::take`].
+/// The error of [`ByteSource::take`]. If the bytes of the source are known, none is taken.
 pub fn take_after<S: ByteSource>(
     source: &mut S,
     bytes: &mut [u8],

@@ -1,5 +1,5 @@
 -- Bytes that begin with two known ones, by what follows the BOM.
-use Rattle.std.proofs.Common.{◌≡◌, ℕ, ◌-◌, ◌%◌, ◌<◌, ◌≤◌, ◌⊎◌, Bool, true, false, eqb, cond, inl, inr, List, [], ◌∷◌, ◌++◌, Option, Some, None, length, drop, refl, sym, ap, ◌∙◌, subst, arith, length-append, length-drop, append_assoc}
+use Rattle.std.proofs.Common.{◌≡◌, ℕ, ◌-◌, ◌%◌, ◌<◌, ◌≤◌, ◌⊎◌, Bool, true, false, eqb, cond, inl, inr, List, [], ◌∷◌, ◌++◌, Option, Some, None, length, take, drop, refl, sym, ap, ◌∙◌, subst, arith, length-append, length-drop, append_assoc}
 use Rattle.std.specs.Prelude.{Result, Ok, Err, is_some, unwrap_or}
 use Rattle.wide_forms.specs.EncodingForm.{Utf16}
 use Rattle.wide_forms.specs.Items.{items, leading_characters, first_fault}
@@ -96,6 +96,11 @@ module _ (first : List ℕ) (long : 2 ≤ length first) (order : BoM) (in_order 
       → ReportsAtOnce r ended (transcoded_under policy) (first ++ bytes)
   reports-by-rest r ended policy bytes h = subst (λ t. ReportsFault r ended t.ending (whole_units (first ++ bytes))) (by-rest policy bytes) (subst (λ us. ReportsFault r ended (transcoded_after order policy (rest ++ bytes)).ending us) (whole-by-rest bytes) h)
 
+-- ---- the bytes after a BOM
+
+pub order-found : (first : List ℕ) (found : Option BoM) (order : BoM) → found ≡ bom_of first → order ≡ unwrap_or found Little → order ≡ order_of first
+order-found first found order e f = f ∙ ap (λ m. unwrap_or m Little) e
+
 -- ---- fewer than two bytes
 
 none-units : units_of_bytes [] ≡ []
@@ -167,3 +172,13 @@ bom-dropped (a ∷ b ∷ bytes) long =
       | true ↦ (let two : length (a ∷ b ∷ bytes) - length bytes ≡ 2 = omega arith in ap (λ n. drop n (a ∷ b ∷ bytes)) two)
       | false ↦ (let none : length (a ∷ b ∷ bytes) - length (a ∷ b ∷ bytes) ≡ 0 = omega arith in ap (λ n. drop n (a ∷ b ∷ bytes)) none)
     ]
+
+-- The bytes after the BOM, moved to the beginning of a chunk.
+pub rest-moved : (first chunk : List ℕ) (pending len : ℕ) → 2 ≤ length first → length first ≡ pending → len ≡ length (without_bom first) → take (pending - (pending - len)) chunk ≡ drop (pending - len) first → take len chunk ≡ without_bom first
+rest-moved first chunk pending len some long same moved =
+    let shorter = bom-shorter first in
+    let back : pending - (pending - len) ≡ len = omega arith in
+    let cut : pending - len ≡ length first - length (without_bom first) = omega arith in
+    let found : take len chunk ≡ drop (pending - len) first = ap (λ n. take n chunk) (sym back) ∙ moved in
+    let left : drop (pending - len) first ≡ without_bom first = ap (λ n. drop n first) cut ∙ bom-dropped first some in
+    found ∙ left

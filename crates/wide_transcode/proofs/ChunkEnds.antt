@@ -1,13 +1,15 @@
 -- How a run that reads chunk by chunk ends, by what has been transcoded so far.
-use Rattle.std.proofs.Common.{◌≡◌, ℕ, ◌+◌, ◌^◌, ◌<◌, inl, inr, Bool, true, false, List, [], ◌∷◌, ◌++◌, Option, None, length, take, drop, refl, sym, ap, ◌∙◌, subst, arith, append_assoc, length-append, take-add}
+use Rattle.std.proofs.Common.{◌≡◌, ℕ, ◌+◌, ◌/◌, ◌^◌, ◌<◌, ◌≤◌, inl, inr, Bool, true, false, List, [], ◌∷◌, ◌++◌, Option, None, length, take, drop, refl, sym, ap, ◌∙◌, subst, arith, append_assoc, length-append, take-add}
 use Rattle.std.proofs.lemmas.List.{append-nil}
-use Rattle.std.specs.Prelude.{Result, Ok, Err}
+use Rattle.std.specs.Prelude.{Result, Ok, Err, nat_eq}
+use Rattle.std.specs.List.{ends_with}
+use Rattle.wide_forms.specs.Items.{chars}
 use Rattle.std.specs.Io.KnownBytes.{Consumes, Appends, Keeps}
 use Rattle.std.proofs.KnownBytes.{Consumes-nil, Appends-nil, Appends-trans, Consumes-trans, Consumes-kept}
 use Rattle.wide_forms.specs.EncodingForm.{Utf16, IsHighSurrogate}
 use Rattle.wide_bytes.specs.Bytes.{unit_in, units_in}
 use Rattle.wide_utf16_to_utf8.specs.Encoded.{IsUnpaired}
-use Rattle.wide_transcode.specs.Encoded.{IsCertainFault, IsPending}
+use Rattle.wide_transcode.specs.Encoded.{Encoded, IsCertainFault, IsPending}
 use Rattle.wide_transcode.specs.Transcoded.{Ending, Clean, HalfUnit, Unpaired}
 use Rattle.wide_bytes.specs.Put.{IsBeginningOf, PutEnds}
 use Rattle.wide_transcode.specs.Run.{MayBePaired, Moves, Ends}
@@ -16,7 +18,16 @@ use Rattle.wide_bytes.specs.declared.order.BoM.{BoM}
 use Rattle.wide_error.specs.declared.error.TranscodeError.{TranscodeError}
 use Rattle.wide_error.specs.declared.error.TranscodeError.TheVariants.{Utf16 as Utf16Fault, OutOfMemory, OddLength, Read, Write}
 use Rattle.wide_bytes.proofs.Pairs.{length-units_in}
-use Rattle.wide_transcode.proofs.Sofar.{Sofar, begins, given-more, beginning, clean, clean-zero, half, at_fault, many_at_fault, many}
+use Rattle.wide_transcode.proofs.Characters.{counted}
+use Rattle.wide_transcode.proofs.Sofar.{Sofar, stepped, begins, given-more, beginning, clean, clean-zero, half, at_fault, many_at_fault, many}
+
+-- What has been transcoded after one more chunk, the prefix of `r` bytes of which was encoded: `us` are its units, and
+-- `put` is the text that the sink took.
+pub chunk-passed : {order : BoM} {all rest written : List ℕ} {offset number : ℕ} (us text put : List ℕ) (h r n : ℕ) → Sofar order all rest written offset number
+    → take h us ≡ units_in order rest → r ≤ length rest → r / 2 ≤ h → Encoded order (take r rest) [] text → put ≡ text → n ≡ length (chars Utf16 (take (r / 2) us)) → (r ≡ length rest → ends_with nat_eq rest (0 ∷ 0 ∷ []) ≡ false)
+    → Sofar order all (drop r rest) (written ++ put) (offset + r / 2) (number + n)
+chunk-passed {order} {all} {rest} us text put h r n s filled within half encoded same count no_zero =
+    stepped r n s within (subst (λ t. Encoded order (take r rest) [] t) (sym same) encoded) (counted order rest us h r n filled half count) no_zero
 
 -- ---- what moved
 

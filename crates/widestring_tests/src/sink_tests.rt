@@ -70,7 +70,7 @@ fn display_alike(
     ended == write!(second, "{other}") && first == second
 }
 
-// The same, for debug text.
+// Returns whether the debug texts of two values are in the same writes up to the one that is refused, and fail alike.
 fn debug_alike(
     alloc: Global,
     limits: Limits,

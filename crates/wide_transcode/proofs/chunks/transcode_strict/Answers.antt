@@ -1,10 +1,10 @@
 use Rattle.std.proofs.Common.{◌≡◌, ◌+◌, ◌-◌, ◌++◌, ◌/◌, [], true, take, drop, refl, sym, ◌∙◌, subst, arith, rules}
 use Rattle.std.proofs.lemmas.Grind.{common_steps}
 use Rattle.std.proofs.lemmas.Result.{err_from_is_err_and}
-use Rattle.wide_transcode.specs.Encoded.{Encoded, HoldsAt}
-use Rattle.wide_transcode.proofs.Characters.{prefix-units, encoded-units, counted}
+use Rattle.wide_transcode.specs.Encoded.{HoldsAt}
+use Rattle.wide_transcode.proofs.Characters.{prefix-units, encoded-units}
 use Rattle.wide_transcode.proofs.Sofar.{Sofar, stepped, number-within}
-use Rattle.wide_transcode.proofs.ChunkEnds.{no_moves, putting, taking, keeping, taking-none, put_error, beginning-of, write-ends, fault-ends, finish-ends, read-ends, wants-space, taken-beyond, started}
+use Rattle.wide_transcode.proofs.ChunkEnds.{chunk-passed, no_moves, putting, taking, keeping, taking-none, put_error, beginning-of, write-ends, fault-ends, finish-ends, read-ends, wants-space, taken-beyond, started}
 use Rattle.wide_transcode.proofs.chunks.transcode_strict.Goals as goal
 
 pub char_count-requires : goal.char_count-requires
@@ -44,15 +44,13 @@ pub fault_at-requires : goal.fault_at-requires
 fault_at-requires g c =
     let i = c.chunks.invariant.run in
     let step = c.encode_chunk-step in
-    let characters = counted c.args.order (take c.chunks.pending c.chunks.chunk) c.fill_units.new.units _ step.result.read c.char_count.result c.fill_units.ensures (omega (arith, step.ensures.read)) c.char_count.ensures in
-    number-within (stepped step.result.read c.char_count.result i.3 step.ensures.read step.ensures.text characters step.ensures.no_zero)
+    number-within (chunk-passed c.fill_units.new.units _ _ _ step.result.read c.char_count.result i.3 c.fill_units.ensures step.ensures.read (omega (arith, step.ensures.read)) step.ensures.text refl c.char_count.ensures step.ensures.no_zero)
 
 pub finish-requires-clause-few : goal.finish-requires-clause-few
 finish-requires-clause-few g c =
     let i = c.chunks.invariant.run in
     let step = c.encode_chunk-step in
-    let characters = counted c.args.order (take c.chunks.pending c.chunks.chunk) c.fill_units.new.units _ step.result.read c.char_count.result c.fill_units.ensures (omega (arith, step.ensures.read)) c.char_count.ensures in
-    number-within (stepped step.result.read c.char_count.result i.3 step.ensures.read step.ensures.text characters step.ensures.no_zero)
+    number-within (chunk-passed c.fill_units.new.units _ _ _ step.result.read c.char_count.result i.3 c.fill_units.ensures step.ensures.read (omega (arith, step.ensures.read)) step.ensures.text refl c.char_count.ensures step.ensures.no_zero)
 
 pub returns-in-Some-clause-run : goal.returns-in-Some-clause-run
 returns-in-Some-clause-run g c =
@@ -60,9 +58,7 @@ returns-in-Some-clause-run g c =
     let step = c.encode_chunk-step in
     let first = take c.args.start c.args.chunk.now in
     let put = c.in_ok-put_all.ensures in
-    let text : Encoded c.args.order (take step.result.read (take c.chunks.pending c.chunks.chunk)) [] put.0 = subst (λ t. Encoded c.args.order (take step.result.read (take c.chunks.pending c.chunks.chunk)) [] t) (sym put.2.1) step.ensures.text in
-    let characters = counted c.args.order (take c.chunks.pending c.chunks.chunk) c.fill_units.new.units _ step.result.read c.char_count.result c.fill_units.ensures (omega (arith, step.ensures.read)) c.char_count.ensures in
-    let s = stepped step.result.read c.char_count.result i.3 step.ensures.read text characters step.ensures.no_zero in
+    let s = chunk-passed c.fill_units.new.units _ put.0 _ step.result.read c.char_count.result i.3 c.fill_units.ensures step.ensures.read (omega (arith, step.ensures.read)) step.ensures.text put.2.1 c.char_count.ensures step.ensures.no_zero in
     let fault = subst (λ f. HoldsAt c.args.order (drop step.result.read (take c.chunks.pending c.chunks.chunk)) f) c.in-Some.is step.ensures.stop in
     let ends = fault-ends c.args.order first i.0 _ _ _ _ s (Unit {0}) c.fault_at.result c.in-Some.unit (g.S.ByteSource.has_ended c.chunks.source) c.chunks.invariant.source_open c.fault_at.ensures fault in
     (i.0, i.1 ++ put.0, putting _ _ _ _ _ _ _ _ i.2 put.1, ends.0, ends.1, ends.2)
@@ -73,9 +69,7 @@ returns-then-offset-gt-UNITS-clause-run g c =
     let step = c.encode_chunk-step in
     let first = take c.args.start c.args.chunk.now in
     let put = c.in_ok-put_all.ensures in
-    let text : Encoded c.args.order (take step.result.read (take c.chunks.pending c.chunks.chunk)) [] put.0 = subst (λ t. Encoded c.args.order (take step.result.read (take c.chunks.pending c.chunks.chunk)) [] t) (sym put.2.1) step.ensures.text in
-    let characters = counted c.args.order (take c.chunks.pending c.chunks.chunk) c.fill_units.new.units _ step.result.read c.char_count.result c.fill_units.ensures (omega (arith, step.ensures.read)) c.char_count.ensures in
-    let s = stepped step.result.read c.char_count.result i.3 step.ensures.read text characters step.ensures.no_zero in
+    let s = chunk-passed c.fill_units.new.units _ put.0 _ step.result.read c.char_count.result i.3 c.fill_units.ensures step.ensures.read (omega (arith, step.ensures.read)) step.ensures.text put.2.1 c.char_count.ensures step.ensures.no_zero in
     (i.0, i.1 ++ put.0, putting _ _ _ _ _ _ _ _ i.2 put.1, beginning-of c.args.order first i.0 _ _ _ _ s, wants-space c.args.order first i.0 _ _ _ _ s (omega arith), tt)
 
 pub returns-in-Err-clause-run : goal.returns-in-Err-clause-run
@@ -84,9 +78,7 @@ returns-in-Err-clause-run g c =
     let step = c.encode_chunk-step in
     let first = take c.args.start c.args.chunk.now in
     let put = c.in_ok-put_all.ensures in
-    let text : Encoded c.args.order (take step.result.read (take c.chunks.pending c.chunks.chunk)) [] put.0 = subst (λ t. Encoded c.args.order (take step.result.read (take c.chunks.pending c.chunks.chunk)) [] t) (sym put.2.1) step.ensures.text in
-    let characters = counted c.args.order (take c.chunks.pending c.chunks.chunk) c.fill_units.new.units _ step.result.read c.char_count.result c.fill_units.ensures (omega (arith, step.ensures.read)) c.char_count.ensures in
-    let s = stepped step.result.read c.char_count.result i.3 step.ensures.read text characters step.ensures.no_zero in
+    let s = chunk-passed c.fill_units.new.units _ put.0 _ step.result.read c.char_count.result i.3 c.fill_units.ensures step.ensures.read (omega (arith, step.ensures.read)) step.ensures.text put.2.1 c.char_count.ensures step.ensures.no_zero in
     let pending = subst (λ f. HoldsAt c.args.order (drop step.result.read (take c.chunks.pending c.chunks.chunk)) f) c.in_default.is step.ensures.stop in
     let ends = read-ends c.args.order first i.0 _ _ _ _ s (Unit {0}) (g.S.ByteSource.has_ended c.take_after.new.source) pending in
     (i.0, i.1 ++ put.0, keeping _ _ _ _ _ _ _ (putting _ _ _ _ _ _ _ _ i.2 put.1) c.in-Err.ensures.kept, ends.0, ends.1, ends.2)
@@ -97,9 +89,7 @@ returns-in-Ok-eq0-clause-run g c =
     let step = c.encode_chunk-step in
     let first = take c.args.start c.args.chunk.now in
     let put = c.in_ok-put_all.ensures in
-    let text : Encoded c.args.order (take step.result.read (take c.chunks.pending c.chunks.chunk)) [] put.0 = subst (λ t. Encoded c.args.order (take step.result.read (take c.chunks.pending c.chunks.chunk)) [] t) (sym put.2.1) step.ensures.text in
-    let characters = counted c.args.order (take c.chunks.pending c.chunks.chunk) c.fill_units.new.units _ step.result.read c.char_count.result c.fill_units.ensures (omega (arith, step.ensures.read)) c.char_count.ensures in
-    let s = stepped step.result.read c.char_count.result i.3 step.ensures.read text characters step.ensures.no_zero in
+    let s = chunk-passed c.fill_units.new.units _ put.0 _ step.result.read c.char_count.result i.3 c.fill_units.ensures step.ensures.read (omega (arith, step.ensures.read)) step.ensures.text put.2.1 c.char_count.ensures step.ensures.no_zero in
     let left : take (c.chunks.pending - step.result.read) c.take_after.new.bytes ≡ drop step.result.read (take c.chunks.pending c.chunks.chunk) = c.take_after.ensures.prefix ∙ c.move_to_start.ensures in
     let s' = subst (λ bs. Sofar c.args.order (first ++ i.0) bs (i.1 ++ put.0) (c.chunks.offset + step.result.read / 2) (c.chunks.item + c.char_count.result)) (sym left) s in
     let over : g.S.ByteSource.has_ended c.take_after.new.source ≡ true = search rules in
@@ -112,9 +102,7 @@ chunks-preserved g c =
     let step = c.encode_chunk-step in
     let first = take c.args.start c.args.chunk.now in
     let put = c.in_ok-put_all.ensures in
-    let text : Encoded c.args.order (take step.result.read (take c.chunks.pending c.chunks.chunk)) [] put.0 = subst (λ t. Encoded c.args.order (take step.result.read (take c.chunks.pending c.chunks.chunk)) [] t) (sym put.2.1) step.ensures.text in
-    let characters = counted c.args.order (take c.chunks.pending c.chunks.chunk) c.fill_units.new.units _ step.result.read c.char_count.result c.fill_units.ensures (omega (arith, step.ensures.read)) c.char_count.ensures in
-    let s = stepped step.result.read c.char_count.result i.3 step.ensures.read text characters step.ensures.no_zero in
+    let s = chunk-passed c.fill_units.new.units _ put.0 _ step.result.read c.char_count.result i.3 c.fill_units.ensures step.ensures.read (omega (arith, step.ensures.read)) step.ensures.text put.2.1 c.char_count.ensures step.ensures.no_zero in
     let left : take (c.chunks.pending - step.result.read) c.take_after.new.bytes ≡ drop step.result.read (take c.chunks.pending c.chunks.chunk) = c.take_after.ensures.prefix ∙ c.move_to_start.ensures in
     record {
       within = c.in-Ok.ensures.fits;

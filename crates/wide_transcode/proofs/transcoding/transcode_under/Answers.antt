@@ -1,11 +1,8 @@
-use Rattle.std.proofs.Common.{◌≡◌, ◌≤◌, ◌-◌, ◌++◌, [], length, take, drop, sym, ap, ◌∙◌, subst, arith, rules, length-take-le}
-use Rattle.std.specs.Prelude.{unwrap_or}
+use Rattle.std.proofs.Common.{◌≡◌, ◌≤◌, ◌++◌, [], length, take, ap, ◌∙◌, subst, arith, rules, length-take-le}
 use Rattle.std.specs.Io.KnownBytes.{Consumes}
 use Rattle.std.proofs.lemmas.Result.{err_from_is_err_and}
 use Rattle.std.proofs.KnownBytes.{Consumes-trans, Appends-nil}
-use Rattle.wide_bytes.specs.Bytes.{order_of, without_bom}
-use Rattle.wide_bytes.specs.declared.order.BoM.TheVariants.{Little}
-use Rattle.wide_transcode.proofs.Boms.{ends-by-rest, space-by-rest, reports-by-rest, nothing, one-byte, start-error, read-ends, bom-shorter, bom-dropped}
+use Rattle.wide_transcode.proofs.Boms.{ends-by-rest, space-by-rest, reports-by-rest, nothing, one-byte, start-error, read-ends, bom-shorter, order-found, rest-moved}
 use Rattle.wide_transcode.proofs.transcoding.transcode_under.Goals as goal
 
 pub returns-in_err-pending-clause-run : goal.returns-in_err-pending-clause-run
@@ -49,14 +46,9 @@ returns-clause-run g c =
     let first = take pending c.take_start.new.chunk in
     let len = length c.without_bom-len.result.now in
     let long : length first ≡ pending = length-take-le pending c.take_start.new.chunk t.2.0 in
-    let some : 2 ≤ length first = omega arith in
-    let order : c.unwrap_or-order.result ≡ order_of first = c.unwrap_or-order.ensures ∙ ap (λ m. unwrap_or m Little) c.byte_order-bom.ensures in
-    let shorter = bom-shorter first in
-    let same_len : len ≡ length (without_bom first) = ap length c.without_bom-len.ensures in
-    let back : pending - (pending - len) ≡ len = omega arith in
-    let moved : take len c.move_to_start.new.chunk ≡ drop (pending - len) first = ap (λ n. take n c.move_to_start.new.chunk) (sym back) ∙ c.move_to_start.ensures in
-    let cut : pending - len ≡ length first - length (without_bom first) = omega arith in
-    let rest : take len c.move_to_start.new.chunk ≡ without_bom first = moved ∙ ap (λ n. drop n first) cut ∙ bom-dropped first some in
+    let some : 2 ≤ length first = omega (arith, long, c.if-pending-lt2.false) in
+    let order = order-found first _ _ c.byte_order-bom.ensures c.unwrap_or-order.ensures in
+    let rest = rest-moved first c.move_to_start.new.chunk pending len some long (ap length c.without_bom-len.ensures) c.move_to_start.ensures in
     let r = c.transcode_after.ensures.run in
     let given = subst (λ bs. Consumes (g.S.ByteSource.left c.args.source.now) (g.S.ByteSource.left c.take_start.new.source) bs) t.2.1 t.1 in (
       first ++ r.0,
