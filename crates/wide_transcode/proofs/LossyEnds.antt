@@ -160,6 +160,16 @@ stepped {order} {policy} {after} {all} {rest} {written} {text} {offset} r is s w
       counted = omega (arith, s.counted, length-append s.passed (take r rest), long, e.even);
     }
 
+-- What has been transcoded after one more chunk, the prefix of `r` bytes of which was encoded, where `put` is the text
+-- that the sink took.
+pub chunk-passed : {order : BoM} {policy : Policy} {after : Bool} {all rest written : List ℕ} {offset : ℕ} (text put : List ℕ) (r : ℕ) (is : Bool) → SofarLossy order policy all rest after written offset → r ≤ length rest
+    → Lossied order policy (take r rest) (drop r rest) after [] is text → put ≡ text → SofarLossy order policy all (drop r rest) is (written ++ put) (offset + r / 2)
+chunk-passed {order} {policy} {after} {all} {rest} text put r is s within lossied same = stepped r is s within (subst (λ t. Lossied order policy (take r rest) (drop r rest) after [] is t) (sym same) lossied)
+
+-- The bytes that were not encoded have been moved to the beginning of a chunk.
+pub bytes-moved : {order : BoM} {policy : Policy} {after : Bool} {all rest written : List ℕ} {offset : ℕ} (left : List ℕ) → SofarLossy order policy all rest after written offset → left ≡ rest → SofarLossy order policy all left after written offset
+bytes-moved {order} {policy} {after} {all} {rest} {written} {offset} left s e = subst (λ bs. SofarLossy order policy all bs after written offset) (sym e) s
+
 pub started : (order : BoM) (policy : Policy) (first : List ℕ) → SofarLossy order policy (first ++ []) first false [] 0
 started order policy first = record { passed = []; split = append-nil first; lossied = lossied-none order policy false first []; counted = refl }
 

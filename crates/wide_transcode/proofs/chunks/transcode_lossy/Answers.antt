@@ -1,9 +1,8 @@
-use Rattle.std.proofs.Common.{◌≡◌, ◌+◌, ◌-◌, ◌++◌, ◌/◌, ◌%◌, [], true, take, drop, length, refl, sym, ◌∙◌, subst, arith, rules, length-take-le}
+use Rattle.std.proofs.Common.{◌≡◌, ◌-◌, ◌++◌, ◌%◌, [], true, take, drop, length, refl, ◌∙◌, arith, rules, length-take-le}
 use Rattle.std.proofs.lemmas.Grind.{common_steps}
 use Rattle.std.proofs.lemmas.Result.{err_from_is_err_and}
-use Rattle.wide_transcode.specs.Lossied.{Lossied}
 use Rattle.wide_transcode.proofs.ChunkEnds.{no_moves, putting, taking, keeping, taking-none, put_error}
-use Rattle.wide_transcode.proofs.LossyEnds.{SofarLossy, stepped, started, taken-beyond, beginning, ends-half, ends-clean, many, write-ends, last-write-ends, read-ends}
+use Rattle.wide_transcode.proofs.LossyEnds.{bytes-moved, chunk-passed, stepped, started, taken-beyond, beginning, ends-half, ends-clean, many, write-ends, last-write-ends, read-ends}
 use Rattle.wide_transcode.proofs.chunks.transcode_lossy.Goals as goal
 
 pub chunks-init : goal.chunks-init
@@ -34,9 +33,7 @@ returns-then-offset-gt-UNITS-clause-run g c =
     let step = c.encode_lossy-step in
     let first = take c.args.start c.args.chunk.now in
     let put = c.in_ok-put_all.ensures in
-    let rest = take c.chunks.pending c.chunks.chunk in
-    let text : Lossied c.args.order c.args.policy (take step.result.read rest) (drop step.result.read rest) c.chunks.after [] step.result.after_fault put.0 = subst (λ t. Lossied c.args.order c.args.policy (take step.result.read rest) (drop step.result.read rest) c.chunks.after [] step.result.after_fault t) (sym put.2.1) step.ensures.text in
-    let s = stepped step.result.read step.result.after_fault i.3 step.ensures.read text in
+    let s = chunk-passed _ put.0 step.result.read step.result.after_fault i.3 step.ensures.read step.ensures.text put.2.1 in
     (i.0, i.1 ++ put.0, putting _ _ _ _ _ _ _ _ i.2 put.1, beginning s, omega (arith, many s), tt)
 
 pub returns-in-Err-clause-run : goal.returns-in-Err-clause-run
@@ -45,9 +42,7 @@ returns-in-Err-clause-run g c =
     let step = c.encode_lossy-step in
     let first = take c.args.start c.args.chunk.now in
     let put = c.in_ok-put_all.ensures in
-    let rest = take c.chunks.pending c.chunks.chunk in
-    let text : Lossied c.args.order c.args.policy (take step.result.read rest) (drop step.result.read rest) c.chunks.after [] step.result.after_fault put.0 = subst (λ t. Lossied c.args.order c.args.policy (take step.result.read rest) (drop step.result.read rest) c.chunks.after [] step.result.after_fault t) (sym put.2.1) step.ensures.text in
-    let s = stepped step.result.read step.result.after_fault i.3 step.ensures.read text in
+    let s = chunk-passed _ put.0 step.result.read step.result.after_fault i.3 step.ensures.read step.ensures.text put.2.1 in
     let ends = read-ends first i.0 s (Unit {0}) (g.S.ByteSource.has_ended c.take_after.new.source) step.ensures.pending in
     (i.0, i.1 ++ put.0, keeping _ _ _ _ _ _ _ (putting _ _ _ _ _ _ _ _ i.2 put.1) c.in-Err.ensures.kept, ends.0, ends.1, ends.2)
 
@@ -57,11 +52,9 @@ returns-in_err-put_all-in-Ok-eq0-clause-run g c =
     let step = c.encode_lossy-step in
     let first = take c.args.start c.args.chunk.now in
     let put = c.in_ok-put_all.ensures in
-    let rest = take c.chunks.pending c.chunks.chunk in
-    let text : Lossied c.args.order c.args.policy (take step.result.read rest) (drop step.result.read rest) c.chunks.after [] step.result.after_fault put.0 = subst (λ t. Lossied c.args.order c.args.policy (take step.result.read rest) (drop step.result.read rest) c.chunks.after [] step.result.after_fault t) (sym put.2.1) step.ensures.text in
-    let s = stepped step.result.read step.result.after_fault i.3 step.ensures.read text in
-    let left : take (c.chunks.pending - step.result.read) c.take_after.new.bytes ≡ drop step.result.read rest = c.take_after.ensures.prefix ∙ c.move_to_start.ensures in
-    let s' = subst (λ bs. SofarLossy c.args.order c.args.policy (first ++ i.0) bs step.result.after_fault (i.1 ++ put.0) (c.chunks.offset + step.result.read / 2)) (sym left) s in
+    let s = chunk-passed _ put.0 step.result.read step.result.after_fault i.3 step.ensures.read step.ensures.text put.2.1 in
+    let left : take (c.chunks.pending - step.result.read) c.take_after.new.bytes ≡ drop step.result.read (take c.chunks.pending c.chunks.chunk) = c.take_after.ensures.prefix ∙ c.move_to_start.ensures in
+    let s' = bytes-moved (take (c.chunks.pending - step.result.read) c.take_after.new.bytes) s left in
     let moves = taking-none _ _ _ _ _ _ _ _ _ c.in-Ok-eq0.field-0-test (putting _ _ _ _ _ _ _ _ i.2 put.1) c.in-Ok-eq0.ensures.given in
     let last = c.in_err-put_all-in-Ok-eq0.ensures in
     let e = err_from_is_err_and c.from_residual-in_err-put_all-in-Ok-eq0.result c.from_residual-in_err-put_all-in-Ok-eq0.ensures.1 in
@@ -75,11 +68,9 @@ returns-then-pending-eq1-clause-run g c =
     let step = c.encode_lossy-step in
     let first = take c.args.start c.args.chunk.now in
     let put = c.in_ok-put_all.ensures in
-    let rest = take c.chunks.pending c.chunks.chunk in
-    let text : Lossied c.args.order c.args.policy (take step.result.read rest) (drop step.result.read rest) c.chunks.after [] step.result.after_fault put.0 = subst (λ t. Lossied c.args.order c.args.policy (take step.result.read rest) (drop step.result.read rest) c.chunks.after [] step.result.after_fault t) (sym put.2.1) step.ensures.text in
-    let s = stepped step.result.read step.result.after_fault i.3 step.ensures.read text in
-    let left : take (c.chunks.pending - step.result.read) c.take_after.new.bytes ≡ drop step.result.read rest = c.take_after.ensures.prefix ∙ c.move_to_start.ensures in
-    let s' = subst (λ bs. SofarLossy c.args.order c.args.policy (first ++ i.0) bs step.result.after_fault (i.1 ++ put.0) (c.chunks.offset + step.result.read / 2)) (sym left) s in
+    let s = chunk-passed _ put.0 step.result.read step.result.after_fault i.3 step.ensures.read step.ensures.text put.2.1 in
+    let left : take (c.chunks.pending - step.result.read) c.take_after.new.bytes ≡ drop step.result.read (take c.chunks.pending c.chunks.chunk) = c.take_after.ensures.prefix ∙ c.move_to_start.ensures in
+    let s' = bytes-moved (take (c.chunks.pending - step.result.read) c.take_after.new.bytes) s left in
     let moves = taking-none _ _ _ _ _ _ _ _ _ c.in-Ok-eq0.field-0-test (putting _ _ _ _ _ _ _ _ i.2 put.1) c.in-Ok-eq0.ensures.given in
     let over : g.S.ByteSource.has_ended c.take_after.new.source ≡ true = search rules in
     let n = c.chunks.pending - step.result.read in
@@ -94,11 +85,9 @@ returns-else-pending-eq1-clause-run g c =
     let step = c.encode_lossy-step in
     let first = take c.args.start c.args.chunk.now in
     let put = c.in_ok-put_all.ensures in
-    let rest = take c.chunks.pending c.chunks.chunk in
-    let text : Lossied c.args.order c.args.policy (take step.result.read rest) (drop step.result.read rest) c.chunks.after [] step.result.after_fault put.0 = subst (λ t. Lossied c.args.order c.args.policy (take step.result.read rest) (drop step.result.read rest) c.chunks.after [] step.result.after_fault t) (sym put.2.1) step.ensures.text in
-    let s = stepped step.result.read step.result.after_fault i.3 step.ensures.read text in
-    let left : take (c.chunks.pending - step.result.read) c.take_after.new.bytes ≡ drop step.result.read rest = c.take_after.ensures.prefix ∙ c.move_to_start.ensures in
-    let s' = subst (λ bs. SofarLossy c.args.order c.args.policy (first ++ i.0) bs step.result.after_fault (i.1 ++ put.0) (c.chunks.offset + step.result.read / 2)) (sym left) s in
+    let s = chunk-passed _ put.0 step.result.read step.result.after_fault i.3 step.ensures.read step.ensures.text put.2.1 in
+    let left : take (c.chunks.pending - step.result.read) c.take_after.new.bytes ≡ drop step.result.read (take c.chunks.pending c.chunks.chunk) = c.take_after.ensures.prefix ∙ c.move_to_start.ensures in
+    let s' = bytes-moved (take (c.chunks.pending - step.result.read) c.take_after.new.bytes) s left in
     let moves = taking-none _ _ _ _ _ _ _ _ _ c.in-Ok-eq0.field-0-test (putting _ _ _ _ _ _ _ _ i.2 put.1) c.in-Ok-eq0.ensures.given in
     let over : g.S.ByteSource.has_ended c.take_after.new.source ≡ true = search rules in
     let n = c.chunks.pending - step.result.read in
@@ -113,10 +102,8 @@ chunks-preserved g c =
     let step = c.encode_lossy-step in
     let first = take c.args.start c.args.chunk.now in
     let put = c.in_ok-put_all.ensures in
-    let rest = take c.chunks.pending c.chunks.chunk in
-    let text : Lossied c.args.order c.args.policy (take step.result.read rest) (drop step.result.read rest) c.chunks.after [] step.result.after_fault put.0 = subst (λ t. Lossied c.args.order c.args.policy (take step.result.read rest) (drop step.result.read rest) c.chunks.after [] step.result.after_fault t) (sym put.2.1) step.ensures.text in
-    let s = stepped step.result.read step.result.after_fault i.3 step.ensures.read text in
-    let left : take (c.chunks.pending - step.result.read) c.take_after.new.bytes ≡ drop step.result.read rest = c.take_after.ensures.prefix ∙ c.move_to_start.ensures in
+    let s = chunk-passed _ put.0 step.result.read step.result.after_fault i.3 step.ensures.read step.ensures.text put.2.1 in
+    let left : take (c.chunks.pending - step.result.read) c.take_after.new.bytes ≡ drop step.result.read (take c.chunks.pending c.chunks.chunk) = c.take_after.ensures.prefix ∙ c.move_to_start.ensures in
     record {
       within = c.in-Ok.ensures.fits;
       few = omega arith;
