@@ -2,6 +2,7 @@
 //! at each offset of texts of each length. The standard library makes the expected result for a kind. The letters
 //! before and after it convert to themselves.
 use crate::between::{wide_utf16_to_utf32, wide_utf32_to_utf16};
+use crate::bytes_cases::holds_in;
 use crate::from_utf8::{
     wide_utf8_first_fault, wide_utf8_to_utf16, wide_utf8_to_utf16_lossy,
     wide_utf8_to_utf16_lossy_with, wide_utf8_to_utf32, wide_utf8_to_utf32_lossy,
@@ -72,14 +73,13 @@ static KINDS8: [&[u8]; 12] = [
     &[0xff, 0xef, 0xbf, 0xbd, 0xe8, 0xaa, 0xff],
 ];
 
-// How a conversion is called: the strict one, the one that writes U+FFFD for each fault, the one with the number of a
-// policy, and with a number that is not a policy.
+// How a conversion is called: the strict one, the one that writes U+FFFD for each fault, and the one with the number of a
+// policy, or, for `None`, with a number that is not a policy.
 #[derive(Clone, Copy)]
 pub(crate) enum Way {
     Strict,
     Lossy,
-    By(u32),
-    ByNone,
+    By(Option<u32>),
 }
 
 impl Way {
@@ -87,81 +87,78 @@ impl Way {
     pub(crate) fn is_put(self, is_text: bool) -> bool {
         match self {
             Way::Strict => is_text,
-            Way::Lossy | Way::By(_) => true,
-            Way::ByNone => false,
+            Way::Lossy => true,
+            Way::By(number) => number.is_some(),
         }
     }
 }
 
-// Each policy with the calls that follow it.
-static POLICIES: [(Policy, &[Way]); 3] = [
-    (
-        Policy::Each,
-        &[Way::By(0), Way::Strict, Way::Lossy, Way::ByNone],
-    ),
-    (Policy::Run, &[Way::By(1)]),
-    (Policy::Skip, &[Way::By(2)]),
-];
+// The calls that follow each policy.
+static CALLS_OF_EACH: [Way; 4] = [Way::By(Some(0)), Way::Strict, Way::Lossy, Way::By(None)];
 
-// A text in UTF-8, UTF-16 and UTF-32.
+static CALLS_OF_RUN: [Way; 1] = [Way::By(Some(1))];
+
+static CALLS_OF_SKIP: [Way; 1] = [Way::By(Some(2))];
+
+// How long a buffer is: it fits exactly, is one element shorter, or five elements longer.
+#[derive(Clone, Copy)]
+pub(crate) enum Fit {
+    Exact,
+    Short,
+    Long,
+}
+
+// The characters of a kind, `None` for each fault. A kind has at most eight.
 #[derive(Drop)]
-pub(crate) struct Forms {
-    text: String,
-    units: Vec<u16>,
-    scalars: Vec<u32>,
+pub(crate) struct Items {
+    all: [Option<char>; 8],
+    len: usize,
 }
 
-// Encodes characters in the three forms, and replaces each fault, which is `None`, by the policy.
-fn forms_of(alloc: Global, items: &[Option<char>], policy: Policy) -> Result<Forms, AllocError> {
-    let mut text = String::new(alloc);
-    let mut after = false;
-    for item in items {
-        let writes_replacement = policy == Policy::Each || (policy == Policy::Run && !after);
-        after = item.is_none();
-        let mark = if writes_replacement {
-            Some('\u{fffd}')
-        } else {
-            None
-        };
-        if let Some(c) = item.or(mark) {
-            text.push(c)?;
+impl Items {
+    fn none() -> Items {
+        Items {
+            all: [None; 8],
+            len: 0,
         }
     }
-    let units = text.encode_utf16().collect(alloc)?;
-    let scalars = text.chars().map(u32::from).collect(alloc)?;
-    Ok(Forms {
-        text,
-        units,
-        scalars,
-    })
+
+    fn read(&self) -> &[Option<char>] {
+        self.all.as_slice().get(..self.len).unwrap_or_default()
+    }
+
+    fn push(&mut self, item: Option<char>) {
+        if self.len < 8 {
+            self.all[self.len] = item;
+            self.len += 1;
+        }
+    }
 }
 
-// Units of a width: the letters in it, a decoder that returns `None` for each fault, and a comparison of two blocks of
-// 64 units.
+// Units of a width: the letters in it, a decoder that adds `None` for each fault, and a comparison of two blocks of 64
+// units.
 pub(crate) trait Form: Copy {
-    fn letters(forms: &Forms) -> &[Self];
+    fn letters(targets: &Targets) -> &[Self];
 
-    fn items(alloc: Global, units: &[Self]) -> Result<Vec<Option<char>>, AllocError>;
+    fn decode(units: &[Self], items: &mut Items);
 
     fn are_same(left: &[Self], right: &[Self]) -> bool;
 }
 
 impl Form for u8 {
-    fn letters(forms: &Forms) -> &[u8] {
-        forms.text.as_bytes()
+    fn letters(targets: &Targets) -> &[u8] {
+        &targets.bytes.letters
     }
 
-    fn items(alloc: Global, units: &[u8]) -> Result<Vec<Option<char>>, AllocError> {
-        let mut items = Vec::new(alloc);
+    fn decode(units: &[u8], items: &mut Items) {
         for chunk in units.utf8_chunks() {
             for c in chunk.valid().chars() {
-                items.push(Some(c))?;
+                items.push(Some(c));
             }
             if !chunk.invalid().is_empty() {
-                items.push(None)?;
+                items.push(None);
             }
         }
-        Ok(items)
     }
 
     fn are_same(left: &[u8], right: &[u8]) -> bool {
@@ -174,14 +171,14 @@ impl Form for u8 {
 }
 
 impl Form for u16 {
-    fn letters(forms: &Forms) -> &[u16] {
-        &forms.units
+    fn letters(targets: &Targets) -> &[u16] {
+        &targets.units.letters
     }
 
-    fn items(alloc: Global, units: &[u16]) -> Result<Vec<Option<char>>, AllocError> {
-        char::decode_utf16(units.iter().copied())
-            .map(Result::ok)
-            .collect(alloc)
+    fn decode(units: &[u16], items: &mut Items) {
+        for decoded in char::decode_utf16(units.iter().copied()) {
+            items.push(decoded.ok());
+        }
     }
 
     fn are_same(left: &[u16], right: &[u16]) -> bool {
@@ -194,12 +191,14 @@ impl Form for u16 {
 }
 
 impl Form for u32 {
-    fn letters(forms: &Forms) -> &[u32] {
-        &forms.scalars
+    fn letters(targets: &Targets) -> &[u32] {
+        &targets.scalars.letters
     }
 
-    fn items(alloc: Global, units: &[u32]) -> Result<Vec<Option<char>>, AllocError> {
-        units.iter().copied().map(char::from_u32).collect(alloc)
+    fn decode(units: &[u32], items: &mut Items) {
+        for unit in units {
+            items.push(char::from_u32(*unit));
+        }
     }
 
     fn are_same(left: &[u32], right: &[u32]) -> bool {
@@ -223,18 +222,28 @@ fn are_all_same<T: Form>(left: &[T], right: &[T]) -> bool {
 }
 
 // Copies units to an offset if they fit, and returns the offset after them.
-fn put<T: Copy>(buffer: &mut [T], at: usize, units: &[T]) -> usize {
-    if let Some(rest) = buffer.get_mut(at..) {
-        if let Some(part) = rest.get_mut(..units.len()) {
-            part.copy_from_slice(units);
-        }
+pub(crate) fn put<T: Copy>(buffer: &mut [T], at: usize, units: &[T]) -> usize {
+    if at <= buffer.len() && units.len() <= buffer.len() - at {
+        buffer[at..at + units.len()].copy_from_slice(units);
     }
     at.saturating_add(units.len())
 }
 
-// A buffer to convert into, the expected result and its length, and what the buffer holds before the call.
+// Returns units again and again.
+fn repeated<T: Copy>(alloc: Global, units: &[T]) -> Result<Vec<T>, AllocError> {
+    let mut all = Vec::new(alloc);
+    for _ in 0..LETTERS {
+        all.extend_from_slice(units)?;
+    }
+    Ok(all)
+}
+
+// A buffer to convert into, the expected result and its length, and what the buffer holds before the call; also the
+// letters of the texts, and how many units one has.
 #[derive(Drop)]
 pub(crate) struct Target<T> {
+    letters: Vec<T>,
+    width: usize,
     buffer: Vec<T>,
     wanted: Vec<T>,
     len: usize,
@@ -242,8 +251,10 @@ pub(crate) struct Target<T> {
 }
 
 impl<T: Form> Target<T> {
-    fn new(alloc: Global, filler: T) -> Result<Target<T>, AllocError> {
+    fn new(alloc: Global, letter: &[T], filler: T) -> Result<Target<T>, AllocError> {
         Ok(Target {
+            letters: repeated(alloc, letter)?,
+            width: letter.len(),
             buffer: vec![in alloc; filler; SIZE]?,
             wanted: vec![in alloc; filler; SIZE]?,
             len: 0,
@@ -251,19 +262,29 @@ impl<T: Form> Target<T> {
         })
     }
 
-    // Sets the expected result: letters, a middle, and letters again.
-    fn want(&mut self, letters: &[T], before: usize, middle: &[T], after: usize) {
-        let at = put(
-            &mut self.wanted,
-            0,
-            letters.get(..before).unwrap_or_default(),
-        );
-        let at = put(&mut self.wanted, at, middle);
-        self.len = put(
-            &mut self.wanted,
-            at,
-            letters.get(..after).unwrap_or_default(),
-        );
+    // Adds units to the expected result.
+    fn append(&mut self, units: &[T]) {
+        self.len = put(&mut self.wanted, self.len, units);
+    }
+
+    // Adds letters to the expected result.
+    fn append_letters(&mut self, count: usize) {
+        let letters = self
+            .letters
+            .as_slice()
+            .get(..count.saturating_mul(self.width));
+        self.len = put(&mut self.wanted, self.len, letters.unwrap_or_default());
+    }
+
+    // Begins a new expected result with letters.
+    fn begin(&mut self, before: usize) {
+        self.len = 0;
+        self.append_letters(before);
+    }
+
+    // Ends the expected result with letters. What the buffer holds before a call follows it.
+    fn end(&mut self, after: usize) {
+        self.append_letters(after);
         let fillers = self.fillers.as_slice().get(..192);
         put(&mut self.wanted, self.len, fillers.unwrap_or_default());
     }
@@ -272,38 +293,45 @@ impl<T: Form> Target<T> {
         self.wanted.as_slice().get(..self.len).unwrap_or_default()
     }
 
-    // Returns whether a call with a buffer of this capacity returns the length of the text and writes it to the start
-    // if it fits, or, if `is_put` is false, returns `usize::MAX` and writes nothing. All elements after the result must
-    // be unchanged.
-    fn is_filled_at<F: Fn(&mut [T]) -> usize>(
-        &mut self,
-        call: &F,
-        is_put: bool,
-        capacity: usize,
-    ) -> bool
-        requires { F.IsAlwaysCallable call.now }
-    {
-        // Whole blocks of 64 units, the last of which is after the capacity.
-        let end = self.len.saturating_add(133) / 64 * 64;
+    fn capacity(&self, fit: Fit) -> usize {
+        match fit {
+            Fit::Exact => self.len,
+            Fit::Short => self.len.saturating_sub(1),
+            Fit::Long => self.len.saturating_add(5),
+        }
+    }
+
+    // Returns the end of whole blocks of 64 units, the last of which is after the capacity.
+    fn last_block(&self) -> usize {
+        self.len.saturating_add(133) / 64 * 64
+    }
+
+    // Returns a buffer for a call.
+    pub(crate) fn buffer(&mut self, fit: Fit) -> &mut [T] {
+        let end = self.last_block();
         put(
             &mut self.buffer,
             0,
             self.fillers.as_slice().get(..end).unwrap_or_default(),
         );
-        let Some(given) = self.buffer.as_mut_slice().get_mut(..capacity) else {
-            return false;
-        };
+        let capacity = self.capacity(fit).min(self.buffer.len());
+        &mut self.buffer[..capacity]
+    }
+
+    // Returns whether a call with this buffer returned the length of the text and wrote it to the start if it fits, or,
+    // if `is_put` is false, returned `usize::MAX` and wrote nothing. All elements after the result must be unchanged.
+    pub(crate) fn is_filled(&self, fit: Fit, returned: usize, is_put: bool) -> bool {
+        let capacity = self.capacity(fit);
         let len = if is_put { self.len } else { usize::MAX };
-        let is_len = call(given) == len;
         let is_put_so = if !is_put {
-            self.has(&self.fillers, 0, end)
+            self.has(&self.fillers, 0, self.last_block())
         } else if capacity < self.len {
             // If the text does not fit, only the units after the capacity are compared.
             self.has(&self.fillers, capacity, capacity.saturating_add(64))
         } else {
-            self.has(&self.wanted, 0, end)
+            self.has(&self.wanted, 0, self.last_block())
         };
-        is_len && is_put_so
+        (capacity <= SIZE) & (returned == len) & is_put_so
     }
 
     // Returns whether the buffer has these units from one offset to another.
@@ -314,24 +342,11 @@ impl<T: Form> Target<T> {
             units.get(first..end).unwrap_or_default(),
         )
     }
-
-    // Returns whether a call gives the expected result with a buffer that fits exactly, one that is one element
-    // shorter, and one that is five elements longer.
-    pub(crate) fn is_filled<F: Fn(&mut [T]) -> usize>(&mut self, call: F, is_put: bool) -> bool
-        requires { F.IsAlwaysCallable call }
-    {
-        let len = self.len;
-        let is_exact = self.is_filled_at(&call, is_put, len);
-        let is_short = self.is_filled_at(&call, is_put, len.saturating_sub(1));
-        is_exact && is_short && self.is_filled_at(&call, is_put, len.saturating_add(5))
-    }
 }
 
-// The letters of the texts, how many bytes one has, and a buffer for each form.
+// A buffer for each form.
 #[derive(Drop)]
 pub(crate) struct Targets {
-    letters: Forms,
-    width: usize,
     pub(crate) bytes: Target<u8>,
     units: Target<u16>,
     scalars: Target<u32>,
@@ -340,37 +355,48 @@ pub(crate) struct Targets {
 impl Targets {
     fn new(alloc: Global, letter: char) -> Result<Targets, AllocError> {
         Ok(Targets {
-            letters: forms_of(alloc, &[Some(letter); LETTERS], Policy::Each)?,
-            width: letter.len_utf8(),
-            bytes: Target::new(alloc, 0xaa)?,
-            units: Target::new(alloc, 0xaaaa)?,
-            scalars: Target::new(alloc, 0xaaaa_aaaa)?,
+            bytes: Target::new(alloc, letter.encode_utf8(&mut [0; 4]).as_bytes(), 0xaa)?,
+            units: Target::new(alloc, letter.encode_utf16(&mut [0; 2]), 0xaaaa)?,
+            scalars: Target::new(alloc, &[u32::from(letter)], 0xaaaa_aaaa)?,
         })
     }
 
+    // Adds a character to the expected results.
+    fn append(&mut self, c: char) {
+        self.bytes.append(c.encode_utf8(&mut [0; 4]).as_bytes());
+        self.units.append(c.encode_utf16(&mut [0; 2]));
+        self.scalars.append(&[u32::from(c)]);
+    }
+
     // Sets the expected results for a case by a policy.
-    fn want(&mut self, alloc: Global, case: &Case, policy: Policy) -> Result<(), AllocError> {
-        let middle = forms_of(alloc, case.items, policy)?;
-        let (before, after) = (case.before, case.after);
-        let letters = &self.letters;
-        let first = before.saturating_mul(self.width);
-        let last = after.saturating_mul(self.width);
-        self.bytes.want(letters.text.as_bytes(), first, middle.text.as_bytes(), last);
-        self.units
-            .want(&letters.units, before, &middle.units, after);
-        self.scalars
-            .want(&letters.scalars, before, &middle.scalars, after);
-        Ok(())
+    fn want(&mut self, case: &Case, policy: Policy) {
+        self.bytes.begin(case.before);
+        self.units.begin(case.before);
+        self.scalars.begin(case.before);
+        let mut after = false;
+        for item in case.items {
+            let is_marked = (policy == Policy::Each) | ((policy == Policy::Run) & !after);
+            after = item.is_none();
+            let mark = if is_marked { Some('\u{fffd}') } else { None };
+            if let Some(c) = item.or(mark) {
+                self.append(c);
+            }
+        }
+        self.bytes.end(case.after);
+        self.units.end(case.after);
+        self.scalars.end(case.after);
     }
 }
 
-// A text: characters, `None` for each fault, between this many letters before and after them; and the calls to make.
+// A text: characters, `None` for each fault, between this many letters before and after them; the calls to make, and
+// how long a buffer they get.
 #[derive(Clone, Copy)]
 pub(crate) struct Case<'a> {
     pub(crate) before: usize,
     pub(crate) items: &'a [Option<char>],
     pub(crate) after: usize,
     pub(crate) ways: &'a [Way],
+    pub(crate) fit: Fit,
 }
 
 impl<'a> Case<'a> {
@@ -382,97 +408,141 @@ impl<'a> Case<'a> {
     fn is_each(&self) -> bool {
         self.ways.len() > 1
     }
+
+    // Returns whether this is the first of the cases that differ in their buffers alone.
+    pub(crate) fn is_first(&self) -> bool {
+        matches!(self.fit, Fit::Exact)
+    }
 }
 
-// Returns whether each function gives the expected result for these units.
-fn holds16(_alloc: Global, targets: &mut Targets, units: &[u16], case: &Case) -> bool {
+// Units whose conversions are called.
+pub(crate) trait Called: Form {
+    // Returns whether each function gives the expected result for these units, or, if `order` is a number, for their
+    // bytes in the byte order with this number.
+    fn holds(
+        alloc: Global,
+        targets: &mut Targets,
+        units: &[Self],
+        case: &Case,
+        order: Option<u32>,
+    ) -> bool;
+}
+
+impl Called for u16 {
+    fn holds(
+        _alloc: Global,
+        targets: &mut Targets,
+        units: &[u16],
+        case: &Case,
+        order: Option<u32>,
+    ) -> bool {
+        match order {
+            None => holds16(targets, units, case),
+            Some(order) => holds_in(targets, units, order, case),
+        }
+    }
+}
+
+fn holds16(targets: &mut Targets, units: &[u16], case: &Case) -> bool {
     let is_text = case.is_text();
     let mut well = true;
     for way in case.ways {
-        well &= puts_text16(&mut targets.bytes, units, *way, way.is_put(is_text));
+        let returned = put_text16(units, *way, targets.bytes.buffer(case.fit));
+        well &= targets
+            .bytes
+            .is_filled(case.fit, returned, way.is_put(is_text));
     }
-    if case.is_each() {
-        well &= targets.units.len == units.len();
-        let to_scalars = |buffer: &mut [u32]| wide_utf16_to_utf32(units, buffer);
-        well &= targets.scalars.is_filled(to_scalars, is_text);
-        let repair = |buffer: &mut [u16]| wide_utf16_repair(units, buffer);
-        well &= targets.units.is_filled(repair, true);
-    }
-    well
+    well && (!case.is_each() || is_recoded16(targets, units, case.fit, is_text))
 }
 
-fn puts_text16(target: &mut Target<u8>, units: &[u16], way: Way, is_put: bool) -> bool {
-    let call = |buffer: &mut [u8]| {
-        match way {
-            Way::Strict => wide_utf16_to_utf8(units, buffer),
-            Way::Lossy => wide_utf16_to_utf8_lossy(units, buffer),
-            Way::By(number) => wide_utf16_to_utf8_lossy_with(units, number, buffer),
-            Way::ByNone => wide_utf16_to_utf8_lossy_with(units, 3, buffer),
+fn put_text16(units: &[u16], way: Way, text: &mut [u8]) -> usize {
+    match way {
+        Way::Strict => wide_utf16_to_utf8(units, text),
+        Way::Lossy => wide_utf16_to_utf8_lossy(units, text),
+        Way::By(number) => wide_utf16_to_utf8_lossy_with(units, number.unwrap_or(3), text),
+    }
+}
+
+fn is_recoded16(targets: &mut Targets, units: &[u16], fit: Fit, is_text: bool) -> bool {
+    let len = wide_utf16_to_utf32(units, targets.scalars.buffer(fit));
+    let is_recoded = targets.scalars.is_filled(fit, len, is_text);
+    let len = wide_utf16_repair(units, targets.units.buffer(fit));
+    is_recoded & targets.units.is_filled(fit, len, true) & (targets.units.len == units.len())
+}
+
+impl Called for u32 {
+    fn holds(
+        _alloc: Global,
+        targets: &mut Targets,
+        units: &[u32],
+        case: &Case,
+        _order: Option<u32>,
+    ) -> bool {
+        let is_text = case.is_text();
+        let mut well = true;
+        for way in case.ways {
+            let returned = put_text32(units, *way, targets.bytes.buffer(case.fit));
+            well &= targets
+                .bytes
+                .is_filled(case.fit, returned, way.is_put(is_text));
         }
-    };
-    target.is_filled(call, is_put)
-}
-
-fn holds32(_alloc: Global, targets: &mut Targets, units: &[u32], case: &Case) -> bool {
-    let is_text = case.is_text();
-    let mut well = true;
-    for way in case.ways {
-        well &= puts_text32(&mut targets.bytes, units, *way, way.is_put(is_text));
+        well && (!case.is_each() || is_recoded32(targets, units, case.fit, is_text))
     }
-    if case.is_each() {
-        well &= targets.scalars.len == units.len();
-        let to_units = |buffer: &mut [u16]| wide_utf32_to_utf16(units, buffer);
-        well &= targets.units.is_filled(to_units, is_text);
-        let repair = |buffer: &mut [u32]| wide_utf32_repair(units, buffer);
-        well &= targets.scalars.is_filled(repair, true);
+}
+
+fn put_text32(units: &[u32], way: Way, text: &mut [u8]) -> usize {
+    match way {
+        Way::Strict => wide_utf32_to_utf8(units, text),
+        Way::Lossy => wide_utf32_to_utf8_lossy(units, text),
+        Way::By(number) => wide_utf32_to_utf8_lossy_with(units, number.unwrap_or(4), text),
     }
-    well
 }
 
-fn puts_text32(target: &mut Target<u8>, units: &[u32], way: Way, is_put: bool) -> bool {
-    let call = |buffer: &mut [u8]| {
-        match way {
-            Way::Strict => wide_utf32_to_utf8(units, buffer),
-            Way::Lossy => wide_utf32_to_utf8_lossy(units, buffer),
-            Way::By(number) => wide_utf32_to_utf8_lossy_with(units, number, buffer),
-            Way::ByNone => wide_utf32_to_utf8_lossy_with(units, 4, buffer),
+fn is_recoded32(targets: &mut Targets, units: &[u32], fit: Fit, is_text: bool) -> bool {
+    let len = wide_utf32_to_utf16(units, targets.units.buffer(fit));
+    let is_recoded = targets.units.is_filled(fit, len, is_text);
+    let len = wide_utf32_repair(units, targets.scalars.buffer(fit));
+    is_recoded & targets.scalars.is_filled(fit, len, true) & (targets.scalars.len == units.len())
+}
+
+impl Called for u8 {
+    fn holds(
+        alloc: Global,
+        targets: &mut Targets,
+        units: &[u8],
+        case: &Case,
+        _order: Option<u32>,
+    ) -> bool {
+        let is_text = case.is_text();
+        let mut well = true;
+        for way in case.ways {
+            let is_put = way.is_put(is_text);
+            let returned = put_units(units, *way, targets.units.buffer(case.fit));
+            well &= targets.units.is_filled(case.fit, returned, is_put);
+            let returned = put_scalars(units, *way, targets.scalars.buffer(case.fit));
+            well &= targets.scalars.is_filled(case.fit, returned, is_put);
         }
-    };
-    target.is_filled(call, is_put)
-}
-
-fn holds8(alloc: Global, targets: &mut Targets, bytes: &[u8], case: &Case) -> bool {
-    let is_text = case.is_text();
-    let mut well = true;
-    for way in case.ways {
-        well &= puts_units(&mut targets.units, bytes, *way, way.is_put(is_text));
-        well &= puts_scalars(&mut targets.scalars, bytes, *way, way.is_put(is_text));
+        let is_read = !case.is_each() | !case.is_first();
+        well && (is_read || is_read_so(alloc, units, targets.bytes.wanted(), is_text))
     }
-    well && (!case.is_each() || is_read_so(alloc, bytes, targets.bytes.wanted(), is_text))
 }
 
-fn puts_units(target: &mut Target<u16>, bytes: &[u8], way: Way, is_put: bool) -> bool {
-    let call = |buffer: &mut [u16]| {
-        match way {
-            Way::Strict => wide_utf8_to_utf16(bytes, buffer),
-            Way::Lossy => wide_utf8_to_utf16_lossy(bytes, buffer),
-            Way::By(number) => wide_utf8_to_utf16_lossy_with(bytes, number, buffer),
-            Way::ByNone => wide_utf8_to_utf16_lossy_with(bytes, 3, buffer),
-        }
-    };
-    target.is_filled(call, is_put)
+fn put_units(bytes: &[u8], way: Way, units: &mut [u16]) -> usize {
+    match way {
+        Way::Strict => wide_utf8_to_utf16(bytes, units),
+        Way::Lossy => wide_utf8_to_utf16_lossy(bytes, units),
+        Way::By(number) => wide_utf8_to_utf16_lossy_with(bytes, number.unwrap_or(3), units),
+    }
 }
 
-fn puts_scalars(target: &mut Target<u32>, bytes: &[u8], way: Way, is_put: bool) -> bool {
-    let call = |buffer: &mut [u32]| {
-        match way {
-            Way::Strict => wide_utf8_to_utf32(bytes, buffer),
-            Way::Lossy => wide_utf8_to_utf32_lossy(bytes, buffer),
-            Way::By(number) => wide_utf8_to_utf32_lossy_with(bytes, number, buffer),
-            Way::ByNone => wide_utf8_to_utf32_lossy_with(bytes, u32::MAX, buffer),
+fn put_scalars(bytes: &[u8], way: Way, scalars: &mut [u32]) -> usize {
+    match way {
+        Way::Strict => wide_utf8_to_utf32(bytes, scalars),
+        Way::Lossy => wide_utf8_to_utf32_lossy(bytes, scalars),
+        Way::By(number) => {
+            wide_utf8_to_utf32_lossy_with(bytes, number.unwrap_or(u32::MAX), scalars)
         }
-    };
-    target.is_filled(call, is_put)
+    }
 }
 
 // Returns whether the standard library reads the bytes in the same way, and reports the same first fault.
@@ -489,81 +559,112 @@ fn is_read_so(alloc: Global, bytes: &[u8], wanted: &[u8], is_text: bool) -> bool
     is_lossy & is_whole & (wide_utf8_first_fault(bytes) == fault)
 }
 
-// Returns whether `holds` is true by each policy for letters with a middle at an offset.
-fn holds_with<T: Form, F: Fn(Global, &mut Targets, &[T], &Case) -> bool>(
+// Returns whether the calls of a case hold by its policy, with each buffer.
+fn holds_by<T: Called>(
     alloc: Global,
     targets: &mut Targets,
-    len: usize,
-    before: usize,
-    middle: &[T],
-    holds: &F,
-) -> Result<bool, AllocError>
-    requires { F.IsAlwaysCallable holds.now }
-{
-    let letters = T::letters(&targets.letters).get(..len).unwrap_or_default();
-    let mut text = letters.to_vec(alloc)?;
-    let after = len.saturating_sub(put(&mut text, before, middle));
-    let items = T::items(alloc, middle)?;
-    let mut well = true;
-    for (policy, ways) in POLICIES.iter() {
-        let case = Case {
-            before,
-            items: &items,
-            after,
-            ways: *ways,
-        };
-        // Without faults the text is the same by each policy, so it is made once.
-        if case.is_each() || !case.is_text() {
-            well &= targets.want(alloc, &case, *policy) == Ok(());
-        }
-        well &= holds(alloc, targets, &text, &case);
+    text: &[T],
+    case: &mut Case,
+    policy: Policy,
+    order: Option<u32>,
+) -> bool {
+    // Without faults the text is the same by each policy, so it is made once.
+    if case.is_each() | !case.is_text() {
+        targets.want(case, policy);
     }
-    Ok(well)
+    case.fit = Fit::Exact;
+    let is_exact = T::holds(alloc, targets, text, case, order);
+    case.fit = Fit::Short;
+    let is_short = T::holds(alloc, targets, text, case, order);
+    case.fit = Fit::Long;
+    is_exact & is_short & T::holds(alloc, targets, text, case, order)
 }
 
-// Returns whether `holds` is true for each kind at an offset, cut off at the end of the text.
-fn holds_at<T: Form, F: Fn(Global, &mut Targets, &[T], &Case) -> bool>(
+// Returns whether the calls hold by each policy for a text with a middle between letters.
+fn holds_with<T: Called>(
     alloc: Global,
     targets: &mut Targets,
+    text: &[T],
+    before: usize,
+    middle: &[T],
+    order: Option<u32>,
+) -> bool {
+    let mut items = Items::none();
+    T::decode(middle, &mut items);
+    let mut case = Case {
+        before,
+        items: items.read(),
+        after: text
+            .len()
+            .saturating_sub(before.saturating_add(middle.len())),
+        ways: &CALLS_OF_EACH,
+        fit: Fit::Exact,
+    };
+    let by_each = holds_by(alloc, targets, text, &mut case, Policy::Each, order);
+    case.ways = &CALLS_OF_RUN;
+    let by_run = holds_by(alloc, targets, text, &mut case, Policy::Run, order);
+    case.ways = &CALLS_OF_SKIP;
+    by_each & by_run & holds_by(alloc, targets, text, &mut case, Policy::Skip, order)
+}
+
+// Returns whether the calls hold for each kind at an offset of letters, cut off at the end of the text. Afterwards
+// `text` has letters alone again.
+fn holds_at<T: Called>(
+    alloc: Global,
+    targets: &mut Targets,
+    text: &mut [T],
     kinds: &[&[T]],
     len: usize,
     offset: usize,
-    holds: &F,
-) -> bool
-    requires { F.IsAlwaysCallable holds.now }
-{
+    order: Option<u32>,
+) -> bool {
     let space = len.saturating_sub(offset);
-    let mut well = true;
+    let mut well = len <= text.len();
     // At the end of the text nothing fits, and all kinds give the same text.
     let count = if space == 0 { 1 } else { kinds.len() };
     for kind in kinds.iter().take(count) {
         let middle = kind.get(..space).unwrap_or(*kind);
-        well &= holds_with(alloc, targets, len, offset, middle, holds) == Ok(true);
+        put(text, offset, middle);
+        let units = text.get(..len).unwrap_or_default();
+        well &= holds_with(alloc, targets, units, offset, middle, order);
+        let letters = T::letters(targets).get(..middle.len());
+        put(text, offset, letters.unwrap_or_default());
     }
     well
 }
 
-// Returns the first length for which `holds` is false for a text of these letters.
-pub(crate) fn first_failure<T: Form, F: Fn(Global, &mut Targets, &[T], &Case) -> bool>(
+// Returns the first length for which the calls do not hold.
+fn first_failing<T: Called>(
     alloc: Global,
-    letter: char,
+    targets: &mut Targets,
+    text: &mut [T],
     kinds: &[&[T]],
     lengths: &[(usize, usize, usize, usize)],
-    holds: F,
-) -> Result<Option<usize>, AllocError>
-    requires { F.IsAlwaysCallable holds }
-{
-    let mut targets = Targets::new(alloc, letter)?;
+    order: Option<u32>,
+) -> Option<usize> {
     for (least, greatest, first, last) in lengths {
         for len in *least..=*greatest {
             for offset in *first..=len.min(*last) {
-                if !holds_at(alloc, &mut targets, kinds, len, offset, &holds) {
-                    return Ok(Some(len));
+                if !holds_at(alloc, targets, text, kinds, len, offset, order) {
+                    return Some(len);
                 }
             }
         }
     }
-    Ok(None)
+    None
+}
+
+// Returns the first length for which the calls do not hold for a text of these letters.
+pub(crate) fn first_failure<T: Called>(
+    alloc: Global,
+    letter: char,
+    kinds: &[&[T]],
+    lengths: &[(usize, usize, usize, usize)],
+    order: Option<u32>,
+) -> Result<Option<usize>, AllocError> {
+    let mut targets = Targets::new(alloc, letter)?;
+    let mut text = T::letters(&targets).to_vec(alloc)?;
+    Ok(first_failing(alloc, &mut targets, &mut text, kinds, lengths, order))
 }
 
 // Fails if a length failed, and prints it and the letter of the texts.
@@ -585,7 +686,7 @@ pub(crate) fn all_hold(rt: &impl Abort, cases: &[bool]) {
 #[test]
 fn units_of_16_bits(rt: HostRuntime) {
     for letter in ['a', '\u{3042}'] {
-        let failing = first_failure(rt.alloc(), letter, &KINDS16, &LENGTHS, holds16);
+        let failing = first_failure(rt.alloc(), letter, &KINDS16, &LENGTHS, None);
         none_fails(&rt, letter, failing);
     }
 }
@@ -593,13 +694,13 @@ fn units_of_16_bits(rt: HostRuntime) {
 #[test]
 fn units_of_32_bits(rt: HostRuntime) {
     for letter in ['a', '\u{3042}'] {
-        let failing = first_failure(rt.alloc(), letter, &KINDS32, &LENGTHS, holds32);
+        let failing = first_failure(rt.alloc(), letter, &KINDS32, &LENGTHS, None);
         none_fails(&rt, letter, failing);
     }
 }
 
 #[test]
 fn bytes(rt: HostRuntime) {
-    let failing = first_failure(rt.alloc(), 'a', &KINDS8, &LENGTHS, holds8);
+    let failing = first_failure(rt.alloc(), 'a', &KINDS8, &LENGTHS, None);
     none_fails(&rt, 'a', failing);
 }

@@ -1,14 +1,11 @@
 //! Tests of UTF-16 in bytes of both byte orders: each kind of character and of fault, at each offset of short texts and
 //! around the ends of chunks. They convert the bytes as a whole, and as a caller reads a stream. The standard library
 //! makes the expected results.
-use crate::buffer_cases::{
-    Case, KINDS16, Target, Targets, Way, all_hold, first_failure, none_fails,
-};
+use crate::buffer_cases::{Case, KINDS16, Targets, Way, all_hold, first_failure, none_fails, put};
 use crate::bytes::{
     wide_utf16_bytes_complete, wide_utf16_bytes_end_in_fault, wide_utf16_bytes_first_fault,
     wide_utf16_bytes_order, wide_utf16_bytes_to_utf8, wide_utf16_bytes_to_utf8_lossy_with,
 };
-use std::alloc::{AllocError, Global};
 
 // Groups of cases: the least and the greatest length of texts in units, and the first and the last offset at which a
 // kind is put. Short texts have all offsets, longer ones those around the ends of chunks of 1024 units. Texts of 18 and
@@ -28,19 +25,18 @@ static LENGTHS: [(usize, usize, usize, usize); 7] = [
 // letters before a fault reach the same calls.
 static SIZES: [(usize, usize); 5] = [(1, 129), (2, 129), (3, 129), (7, 129), (1000, usize::MAX)];
 
-// Returns the bytes of units in the byte order with this number, and an odd byte after them.
-fn bytes_of(alloc: Global, units: &[u16], order: u32) -> Result<Vec<u8>, AllocError> {
-    let mut bytes = Vec::new(alloc);
+// Writes the bytes of units in the byte order with this number, and an odd byte after them. Returns how many there are.
+fn put_bytes(units: &[u16], order: u32, bytes: &mut [u8]) -> usize {
+    let mut at = 0;
     for unit in units {
         let pair = if order == 0 {
             unit.to_le_bytes()
         } else {
             unit.to_be_bytes()
         };
-        bytes.extend_from_slice(&pair)?;
+        at = put(bytes, at, &pair);
     }
-    bytes.push(0xd8)?;
-    Ok(bytes)
+    put(bytes, at, &[0xd8])
 }
 
 // Returns the offset of the first fault, or the number of units if there is none.
@@ -103,16 +99,27 @@ fn streams(bytes: &[u8], order: u32, policy: u32, size: usize, text: &[u8]) -> b
     }
 }
 
-// Returns whether the call gives the expected result for bytes: the wanted text, or the error if `is_put` is false.
-fn gives(target: &mut Target<u8>, bytes: &[u8], order: u32, way: Way, is_put: bool) -> bool {
-    let call = |text: &mut [u8]| {
-        match way {
-            Way::Strict | Way::Lossy => wide_utf16_bytes_to_utf8(bytes, order, text),
-            Way::By(number) => wide_utf16_bytes_to_utf8_lossy_with(bytes, order, number, 0, text),
-            Way::ByNone => wide_utf16_bytes_to_utf8_lossy_with(bytes, order, 3, 0, text),
+fn put_text(bytes: &[u8], order: u32, way: Way, text: &mut [u8]) -> usize {
+    match way {
+        Way::Strict | Way::Lossy => wide_utf16_bytes_to_utf8(bytes, order, text),
+        Way::By(number) => {
+            let policy = number.unwrap_or(3);
+            wide_utf16_bytes_to_utf8_lossy_with(bytes, order, policy, 0, text)
         }
-    };
-    target.is_filled(call, is_put)
+    }
+}
+
+// Returns whether the call gives the expected result for bytes: the wanted text, or the error if `is_put` is false.
+fn gives(
+    targets: &mut Targets,
+    bytes: &[u8],
+    order: u32,
+    way: Way,
+    case: &Case,
+    is_put: bool,
+) -> bool {
+    let returned = put_text(bytes, order, way, targets.bytes.buffer(case.fit));
+    targets.bytes.is_filled(case.fit, returned, is_put)
 }
 
 // Returns whether streams of bytes in chunks of each size give a text.
@@ -128,21 +135,38 @@ fn streams_each(bytes: &[u8], order: u32, policy: u32, text: &[u8]) -> bool {
 // it.
 fn both_give(targets: &mut Targets, odd: &[u8], order: u32, case: &Case) -> bool {
     let even = &odd[..odd.len().saturating_sub(1)];
+    let is_text = case.is_text();
     let mut well = true;
     for way in case.ways {
-        // There is no lossy call on bytes without a policy.
-        if let Way::Lossy = way {
-            continue;
-        }
-        let is_put = way.is_put(case.is_text());
+        let is_put = way.is_put(is_text);
         // The strict call rejects half a unit.
         let is_odd_put = is_put && !matches!(way, Way::Strict);
-        well &= gives(&mut targets.bytes, even, order, *way, is_put);
-        well &= gives(&mut targets.bytes, odd, order, *way, is_odd_put);
-        if let Way::By(number) = *way {
-            well &= streams_each(even, order, number, targets.bytes.wanted());
-            well &= streams_each(odd, order, number, targets.bytes.wanted());
+        // There is no lossy call on bytes without a policy.
+        if !matches!(way, Way::Lossy) {
+            well &= gives(targets, even, order, *way, case, is_put);
+            well &= gives(targets, odd, order, *way, case, is_odd_put);
         }
+    }
+    well
+}
+
+// Returns whether streams of the bytes, with an odd byte after them and without it, give the expected result by the
+// policy of a call.
+fn both_stream(odd: &[u8], order: u32, way: Way, text: &[u8]) -> bool {
+    match way {
+        Way::By(Some(policy)) => {
+            let even = &odd[..odd.len().saturating_sub(1)];
+            streams_each(even, order, policy, text) & streams_each(odd, order, policy, text)
+        }
+        _ => true,
+    }
+}
+
+// Returns whether streams of the bytes give the expected result by the policy of each call.
+fn all_stream(odd: &[u8], order: u32, case: &Case, text: &[u8]) -> bool {
+    let mut well = true;
+    for way in case.ways {
+        well &= both_stream(odd, order, *way, text);
     }
     well
 }
@@ -154,32 +178,28 @@ fn reports_faults(odd: &[u8], order: u32, case: &Case) -> bool {
     is_last & (wide_utf16_bytes_first_fault(odd, order) == first_fault_of(case))
 }
 
-// Returns whether all calls give the expected results for the bytes of these units in a byte order, with and without an
-// odd byte after them.
-fn holds(alloc: Global, targets: &mut Targets, units: &[u16], order: u32, case: &Case) -> bool {
-    match bytes_of(alloc, units, order) {
-        Ok(odd) => both_give(targets, &odd, order, case) && reports_faults(&odd, order, case),
-        Err(_refused) => false,
-    }
-}
-
-fn holds_little(alloc: Global, targets: &mut Targets, units: &[u16], case: &Case) -> bool {
-    holds(alloc, targets, units, 0, case)
-}
-
-fn holds_big(alloc: Global, targets: &mut Targets, units: &[u16], case: &Case) -> bool {
-    holds(alloc, targets, units, 1, case)
+// Returns whether all calls give the expected results for the bytes of these units in the byte order with this number,
+// with and without an odd byte after them.
+pub(crate) fn holds_in(targets: &mut Targets, units: &[u16], order: u32, case: &Case) -> bool {
+    // The longest text has 2101 units.
+    let mut bytes = [0; 4203];
+    let len = put_bytes(units, order, &mut bytes).min(4203);
+    let odd = &bytes[..len];
+    let is_read = !case.is_first()
+        || (all_stream(odd, order, case, targets.bytes.wanted())
+            && reports_faults(odd, order, case));
+    is_read && both_give(targets, odd, order, case)
 }
 
 #[test]
 fn little_endian(rt: HostRuntime) {
-    let failing = first_failure(rt.alloc(), 'a', &KINDS16, &LENGTHS, holds_little);
+    let failing = first_failure(rt.alloc(), 'a', &KINDS16, &LENGTHS, Some(0));
     none_fails(&rt, 'a', failing);
 }
 
 #[test]
 fn big_endian(rt: HostRuntime) {
-    let failing = first_failure(rt.alloc(), 'a', &KINDS16, &LENGTHS, holds_big);
+    let failing = first_failure(rt.alloc(), 'a', &KINDS16, &LENGTHS, Some(1));
     none_fails(&rt, 'a', failing);
 }
 
