@@ -108,6 +108,12 @@ pub(crate) enum Fit {
     Long,
 }
 
+impl Fit {
+    pub(crate) fn is_exact(self) -> bool {
+        matches!(self, Fit::Exact)
+    }
+}
+
 // The characters of a kind, `None` for each fault. A kind has at most eight.
 #[derive(Drop)]
 pub(crate) struct Items {
@@ -361,6 +367,14 @@ impl Targets {
         })
     }
 
+    // Sets the expected results for a case by a policy. Without faults the text is the same by each policy, so it is
+    // made once.
+    fn want_once(&mut self, case: &Case, policy: Policy) {
+        if case.is_each() | !case.is_text() {
+            self.want(case, policy);
+        }
+    }
+
     // Adds a character to the expected results.
     fn append(&mut self, c: char) {
         self.bytes.append(c.encode_utf8(&mut [0; 4]).as_bytes());
@@ -388,15 +402,13 @@ impl Targets {
     }
 }
 
-// A text: characters, `None` for each fault, between this many letters before and after them; the calls to make, and
-// how long a buffer they get.
+// A text: characters, `None` for each fault, between this many letters before and after them; and the calls to make.
 #[derive(Clone, Copy)]
 pub(crate) struct Case<'a> {
     pub(crate) before: usize,
     pub(crate) items: &'a [Option<char>],
     pub(crate) after: usize,
     pub(crate) ways: &'a [Way],
-    pub(crate) fit: Fit,
 }
 
 impl<'a> Case<'a> {
@@ -407,11 +419,6 @@ impl<'a> Case<'a> {
     // Returns whether these are the calls of the policy that writes U+FFFD for each fault.
     fn is_each(&self) -> bool {
         self.ways.len() > 1
-    }
-
-    // Returns whether this is the first of the cases that differ in their buffers alone.
-    pub(crate) fn is_first(&self) -> bool {
-        matches!(self.fit, Fit::Exact)
     }
 }
 
@@ -424,6 +431,7 @@ pub(crate) trait Called: Form {
         targets: &mut Targets,
         units: &[Self],
         case: &Case,
+        fit: Fit,
         order: Option<u32>,
     ) -> bool;
 }
@@ -434,25 +442,24 @@ impl Called for u16 {
         targets: &mut Targets,
         units: &[u16],
         case: &Case,
+        fit: Fit,
         order: Option<u32>,
     ) -> bool {
         match order {
-            None => holds16(targets, units, case),
-            Some(order) => holds_in(targets, units, order, case),
+            None => holds16(targets, units, case, fit),
+            Some(order) => holds_in(targets, units, order, case, fit),
         }
     }
 }
 
-fn holds16(targets: &mut Targets, units: &[u16], case: &Case) -> bool {
+fn holds16(targets: &mut Targets, units: &[u16], case: &Case, fit: Fit) -> bool {
     let is_text = case.is_text();
     let mut well = true;
     for way in case.ways {
-        let returned = put_text16(units, *way, targets.bytes.buffer(case.fit));
-        well &= targets
-            .bytes
-            .is_filled(case.fit, returned, way.is_put(is_text));
+        let returned = put_text16(units, *way, targets.bytes.buffer(fit));
+        well &= targets.bytes.is_filled(fit, returned, way.is_put(is_text));
     }
-    well && (!case.is_each() || is_recoded16(targets, units, case.fit, is_text))
+    well && (!case.is_each() || is_recoded16(targets, units, fit, is_text))
 }
 
 fn put_text16(units: &[u16], way: Way, text: &mut [u8]) -> usize {
@@ -476,17 +483,16 @@ impl Called for u32 {
         targets: &mut Targets,
         units: &[u32],
         case: &Case,
+        fit: Fit,
         _order: Option<u32>,
     ) -> bool {
         let is_text = case.is_text();
         let mut well = true;
         for way in case.ways {
-            let returned = put_text32(units, *way, targets.bytes.buffer(case.fit));
-            well &= targets
-                .bytes
-                .is_filled(case.fit, returned, way.is_put(is_text));
+            let returned = put_text32(units, *way, targets.bytes.buffer(fit));
+            well &= targets.bytes.is_filled(fit, returned, way.is_put(is_text));
         }
-        well && (!case.is_each() || is_recoded32(targets, units, case.fit, is_text))
+        well && (!case.is_each() || is_recoded32(targets, units, fit, is_text))
     }
 }
 
@@ -511,18 +517,19 @@ impl Called for u8 {
         targets: &mut Targets,
         units: &[u8],
         case: &Case,
+        fit: Fit,
         _order: Option<u32>,
     ) -> bool {
         let is_text = case.is_text();
         let mut well = true;
         for way in case.ways {
             let is_put = way.is_put(is_text);
-            let returned = put_units(units, *way, targets.units.buffer(case.fit));
-            well &= targets.units.is_filled(case.fit, returned, is_put);
-            let returned = put_scalars(units, *way, targets.scalars.buffer(case.fit));
-            well &= targets.scalars.is_filled(case.fit, returned, is_put);
+            let returned = put_units(units, *way, targets.units.buffer(fit));
+            well &= targets.units.is_filled(fit, returned, is_put);
+            let returned = put_scalars(units, *way, targets.scalars.buffer(fit));
+            well &= targets.scalars.is_filled(fit, returned, is_put);
         }
-        let is_read = !case.is_each() | !case.is_first();
+        let is_read = !case.is_each() | !fit.is_exact();
         well && (is_read || is_read_so(alloc, units, targets.bytes.wanted(), is_text))
     }
 }
@@ -564,20 +571,14 @@ fn holds_by<T: Called>(
     alloc: Global,
     targets: &mut Targets,
     text: &[T],
-    case: &mut Case,
+    case: &Case,
     policy: Policy,
     order: Option<u32>,
 ) -> bool {
-    // Without faults the text is the same by each policy, so it is made once.
-    if case.is_each() | !case.is_text() {
-        targets.want(case, policy);
-    }
-    case.fit = Fit::Exact;
-    let is_exact = T::holds(alloc, targets, text, case, order);
-    case.fit = Fit::Short;
-    let is_short = T::holds(alloc, targets, text, case, order);
-    case.fit = Fit::Long;
-    is_exact & is_short & T::holds(alloc, targets, text, case, order)
+    targets.want_once(case, policy);
+    let is_exact = T::holds(alloc, targets, text, case, Fit::Exact, order);
+    let is_short = T::holds(alloc, targets, text, case, Fit::Short, order);
+    is_exact & is_short & T::holds(alloc, targets, text, case, Fit::Long, order)
 }
 
 // Returns whether the calls hold by each policy for a text with a middle between letters.
@@ -598,13 +599,12 @@ fn holds_with<T: Called>(
             .len()
             .saturating_sub(before.saturating_add(middle.len())),
         ways: &CALLS_OF_EACH,
-        fit: Fit::Exact,
     };
-    let by_each = holds_by(alloc, targets, text, &mut case, Policy::Each, order);
+    let by_each = holds_by(alloc, targets, text, &case, Policy::Each, order);
     case.ways = &CALLS_OF_RUN;
-    let by_run = holds_by(alloc, targets, text, &mut case, Policy::Run, order);
+    let by_run = holds_by(alloc, targets, text, &case, Policy::Run, order);
     case.ways = &CALLS_OF_SKIP;
-    by_each & by_run & holds_by(alloc, targets, text, &mut case, Policy::Skip, order)
+    by_each & by_run & holds_by(alloc, targets, text, &case, Policy::Skip, order)
 }
 
 // Returns whether the calls hold for each kind at an offset of letters, cut off at the end of the text. Afterwards

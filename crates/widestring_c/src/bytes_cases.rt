@@ -1,7 +1,9 @@
 //! Tests of UTF-16 in bytes of both byte orders: each kind of character and of fault, at each offset of short texts and
 //! around the ends of chunks. They convert the bytes as a whole, and as a caller reads a stream. The standard library
 //! makes the expected results.
-use crate::buffer_cases::{Case, KINDS16, Targets, Way, all_hold, first_failure, none_fails, put};
+use crate::buffer_cases::{
+    Case, Fit, KINDS16, Targets, Way, all_hold, first_failure, none_fails, put,
+};
 use crate::bytes::{
     wide_utf16_bytes_complete, wide_utf16_bytes_end_in_fault, wide_utf16_bytes_first_fault,
     wide_utf16_bytes_order, wide_utf16_bytes_to_utf8, wide_utf16_bytes_to_utf8_lossy_with,
@@ -115,11 +117,11 @@ fn gives(
     bytes: &[u8],
     order: u32,
     way: Way,
-    case: &Case,
+    fit: Fit,
     is_put: bool,
 ) -> bool {
-    let returned = put_text(bytes, order, way, targets.bytes.buffer(case.fit));
-    targets.bytes.is_filled(case.fit, returned, is_put)
+    let returned = put_text(bytes, order, way, targets.bytes.buffer(fit));
+    targets.bytes.is_filled(fit, returned, is_put)
 }
 
 // Returns whether streams of bytes in chunks of each size give a text.
@@ -133,7 +135,7 @@ fn streams_each(bytes: &[u8], order: u32, policy: u32, text: &[u8]) -> bool {
 
 // Returns whether each call gives the expected result for bytes with an odd byte after them, and for the bytes without
 // it.
-fn both_give(targets: &mut Targets, odd: &[u8], order: u32, case: &Case) -> bool {
+fn both_give(targets: &mut Targets, odd: &[u8], order: u32, case: &Case, fit: Fit) -> bool {
     let even = &odd[..odd.len().saturating_sub(1)];
     let is_text = case.is_text();
     let mut well = true;
@@ -143,8 +145,8 @@ fn both_give(targets: &mut Targets, odd: &[u8], order: u32, case: &Case) -> bool
         let is_odd_put = is_put && !matches!(way, Way::Strict);
         // There is no lossy call on bytes without a policy.
         if !matches!(way, Way::Lossy) {
-            well &= gives(targets, even, order, *way, case, is_put);
-            well &= gives(targets, odd, order, *way, case, is_odd_put);
+            well &= gives(targets, even, order, *way, fit, is_put);
+            well &= gives(targets, odd, order, *way, fit, is_odd_put);
         }
     }
     well
@@ -180,15 +182,21 @@ fn reports_faults(odd: &[u8], order: u32, case: &Case) -> bool {
 
 // Returns whether all calls give the expected results for the bytes of these units in the byte order with this number,
 // with and without an odd byte after them.
-pub(crate) fn holds_in(targets: &mut Targets, units: &[u16], order: u32, case: &Case) -> bool {
+pub(crate) fn holds_in(
+    targets: &mut Targets,
+    units: &[u16],
+    order: u32,
+    case: &Case,
+    fit: Fit,
+) -> bool {
     // The longest text has 2101 units.
     let mut bytes = [0; 4203];
     let len = put_bytes(units, order, &mut bytes).min(4203);
     let odd = &bytes[..len];
-    let is_read = !case.is_first()
+    let is_read = !fit.is_exact()
         || (all_stream(odd, order, case, targets.bytes.wanted())
             && reports_faults(odd, order, case));
-    is_read && both_give(targets, odd, order, case)
+    is_read && both_give(targets, odd, order, case, fit)
 }
 
 #[test]
