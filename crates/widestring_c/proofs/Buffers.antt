@@ -1,6 +1,7 @@
 -- Writing a list into a buffer, chunk by chunk. Elements are counted whether they fit or not.
-use Rattle.std.proofs.Common.{◌≡◌, ◌≤◌, ◌+◌, ◌-◌, ◌^◌, ◌++◌, ℕ, List, [], refl, ap, arith, sym, ◌∙◌, length, map, take, drop, subst, length-append, append-nil, append_assoc}
+use Rattle.std.proofs.Common.{◌≡◌, ◌==◌, Bool, true, ◌≤◌, ◌+◌, ◌-◌, ◌^◌, ◌++◌, ℕ, List, [], refl, ap, arith, sym, ◌∙◌, length, map, take, drop, subst, length-append, append-nil, append_assoc}
 use Rattle.std.proofs.lemmas.List.{drop-drop, length-map, map-append, take-map}
+use Rattle.std.proofs.lemmas.Bool.Decides.{nat_tests}
 use Rattle.std.specs.Prelude.{min}
 
 -- state while `all` is put after the first `from` elements of `first`: `at` is the offset reached, `left` is the rest
@@ -29,11 +30,28 @@ module _ (first : List ℕ) (from : ℕ) (all : List ℕ) where
               ap (λ xs. xs ++ rest) (text (omega (arith, fits, space))) ∙ append_assoc (take at old) bs rest ∙ w.written (omega (arith, fits, space, offset, w.most));
         }
 
+    -- the same where the chunk and the rest are given as a division of what was left
+    pub next_part : (left : List ℕ) → left ≡ bs ++ rest → Puts first from all at old left → end ≡ min (at + length bs) (2 ^ 64 - 1) → (end ≤ length old → take end new ≡ take at old ++ bs) → length new ≡ length old → Puts first from all end new rest
+    next_part left parts w offset text space = one_more (subst (λ (us : List ℕ). Puts first from all at old us) parts w) offset text space
+
   pub counted_all : (out : List ℕ) (at : ℕ) → Puts first from all at out [] → at ≡ min (from + length all) (2 ^ 64 - 1)
   counted_all out at w = omega (arith, w.most, w.counted)
 
   pub written_all : (out : List ℕ) (at : ℕ) → Puts first from all at out [] → at ≤ length out → take at out ≡ take from first ++ all
   written_all out at w fits = sym (append-nil (take at out)) ∙ w.written fits
+
+  pub counted_end : (out left : List ℕ) (at : ℕ) → left ≡ [] → Puts first from all at out left → at ≡ min (from + length all) (2 ^ 64 - 1)
+  counted_end out left at none w = counted_all out at (subst (λ (us : List ℕ). Puts first from all at out us) none w)
+
+  pub written_end : (out left : List ℕ) (at : ℕ) → left ≡ [] → Puts first from all at out left → at ≤ length out → take at out ≡ take from first ++ all
+  written_end out left at none w fits = written_all out at (subst (λ (us : List ℕ). Puts first from all at out us) none w) fits
+
+-- a slice that `is_empty` calls empty has no elements
+pub is_none : (n : ℕ) (empty : Bool) → empty ≡ (n == 0) → empty ≡ true → n ≡ 0
+is_none n empty is holds = grind (arith, nat_tests)
+
+pub shorter : {X Y : Type 0} (old : List X) (new : List Y) (n : ℕ) → n ≤ length old → length new ≡ length old → n ≤ length new
+shorter old new n fits same = omega (arith, fits, same)
 
 -- one more chunk of elements that stand for numbers
 module _ {X : Type 0} (number : X → ℕ) where

@@ -1,6 +1,7 @@
 -- A slice has fewer than 2 ^ 63 bytes, so no text is as long as `usize::MAX`, which is returned for a fault.
-use Rattle.std.proofs.Common.{◌≡◌, ℕ, ◌+◌, ◌*◌, ◌-◌, ◌^◌, ◌≤◌, ◌<◌, inl, inr, List, [], ◌∷◌, ◌++◌, length, length-append, min, Bool, true, false, sym, ap, ◌∙◌, arith}
+use Rattle.std.proofs.Common.{◌≡◌, ℕ, ◌+◌, ◌*◌, ◌-◌, ◌^◌, ◌≤◌, ◌<◌, inl, inr, List, [], ◌∷◌, ◌++◌, length, length-append, map, min, Bool, true, false, sym, ap, ◌∙◌, arith}
 use Rattle.std.specs.Str.{IsUtf8, chars as str_chars}
+use Rattle.std.proofs.lemmas.List.{length-map}
 use Rattle.std.proofs.lemmas.Bool.{cases_lt}
 use Rattle.std.proofs.lemmas.Bool.Decides.{nat_tests}
 use Rattle.std.proofs.lemmas.Str.{encodes-chars}
@@ -19,6 +20,15 @@ use Rattle.wide_forms.specs.Laws.Utf32.{encode32}
 use Rattle.wide_conversions.specs.Laws.Utf8Items.{shorter-part}
 use Rattle.wide_conversions.specs.Utf8Items.{AreUtf8Items, none, character, part, utf8_items, utf8_items-divide}
 use Rattle.widestring_c.proofs.Windows.{bytes_of}
+
+-- what is counted up to `usize::MAX` is counted exactly, if there are at most four for each unit
+pub exact_count : {X : Type 0} (number : X → ℕ) (us : List X) (count all : ℕ) → 4 * length us < 2 ^ 64 - 1 → all ≤ 4 * length (map number us) → count ≡ min all (2 ^ 64 - 1) → (count ≡ all) × (count < 2 ^ 64 - 1)
+exact_count number us count all few most is =
+    let long : length (map number us) ≡ length us = length-map us number in
+    (omega (arith, few, most, is, long), omega (arith, few, most, is, long))
+
+pub exact_end : {X : Type 0} (number : X → ℕ) (us : List X) (end all : ℕ) → 4 * length us < 2 ^ 64 - 1 → all ≤ 4 * length (map number us) → end ≡ min (0 + all) (2 ^ 64 - 1) → (end ≡ all) × (end < 2 ^ 64 - 1)
+exact_end number us end all few most is = exact_count number us end all few most (omega (arith, is))
 
 -- a character has at least as many bytes in UTF-8 as units in the other forms
 units_of : (form : EncodingForm) (c : ℕ) → length (code_units form c) ≤ length (utf8_bytes c)

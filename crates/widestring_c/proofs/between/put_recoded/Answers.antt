@@ -3,7 +3,7 @@ use Rattle.wide_forms.specs.EncodingForm.{EncodingForm, encode}
 use Rattle.wide_forms.specs.Items.{IsWellFormed, chars}
 use Rattle.wide_forms.specs.Laws.Items.{items-nil}
 use Rattle.wide_forms.specs.Items.{characters}
-use Rattle.widestring_c.proofs.Buffers.{Puts, nothing_yet, one_more_of, after_more, counted_all, written_all_of}
+use Rattle.widestring_c.proofs.Buffers.{is_none, Puts, nothing_yet, one_more_of, after_more, counted_all, written_all_of}
 use Rattle.widestring_c.proofs.between.put_recoded.Goals as goal
 
 none_left : {X : Type 0} (form out : EncodingForm) (number : X → ℕ) (us : List X) → length us ≡ 0 → encode out (chars form (map number us)) ≡ []
@@ -42,13 +42,13 @@ pub returns-clause-len : goal.returns-clause-len
 returns-clause-len g c =
     let first = map g.D.Unit.number c.args.space.now in
     let all = encode g.D.Unit.form (chars g.C.Unit.form (map g.C.Unit.number c.args.units.now)) in
-    let none : length c.chunks.rest.now ≡ 0 = grind (arith, c.is_empty.ensures, c.chunks-test.false) in
+    let none : length c.chunks.rest.now ≡ 0 = is_none (length c.chunks.rest.now) c.is_empty.result c.is_empty.ensures c.chunks-test.false in
     omega (arith, counted_all first 0 all (map g.D.Unit.number c.chunks.space) c.chunks.at (subst (λ us. Puts first 0 all c.chunks.at (map g.D.Unit.number c.chunks.space) us) (none_left g.C.Unit.form g.D.Unit.form g.C.Unit.number c.chunks.rest.now none) c.chunks.invariant.so_far))
 
 pub returns-clause-units : goal.returns-clause-units
 returns-clause-units g c = λ fits.
     let first = map g.D.Unit.number c.args.space.now in
     let all = encode g.D.Unit.form (chars g.C.Unit.form (map g.C.Unit.number c.args.units.now)) in
-    let none : length c.chunks.rest.now ≡ 0 = grind (arith, c.is_empty.ensures, c.chunks-test.false) in
+    let none : length c.chunks.rest.now ≡ 0 = is_none (length c.chunks.rest.now) c.is_empty.result c.is_empty.ensures c.chunks-test.false in
     written_all_of g.D.Unit.number c.args.space.now 0 all c.chunks.space c.chunks.at (subst (λ us. Puts first 0 all c.chunks.at (map g.D.Unit.number c.chunks.space) us) (none_left g.C.Unit.form g.D.Unit.form g.C.Unit.number c.chunks.rest.now none) c.chunks.invariant.so_far)
     (omega (arith, fits, c.chunks.invariant.space))

@@ -3,7 +3,7 @@ use Rattle.std.specs.Str.{chars}
 use Rattle.wide_forms.specs.EncodingForm.{encode}
 use Rattle.wide_forms.specs.Lossy.{lossy_after, lossy_by}
 use Rattle.wide_conversions.specs.Utf8Items.{IsLossyPrefix, utf8_items}
-use Rattle.widestring_c.proofs.Buffers.{Puts, one_more_by, one_more_of, after_more, counted_all, written_all_of}
+use Rattle.widestring_c.proofs.Buffers.{is_none, Puts, one_more_by, one_more_of, after_more, counted_all, written_all_of}
 use Rattle.widestring_c.proofs.Chunks.{lossy_end, lossy_prefix}
 use Rattle.widestring_c.proofs.Fits.{units-lossy_by}
 use Rattle.widestring_c.proofs.from_utf8.put_lossy.Goals as goal
@@ -44,7 +44,7 @@ returns-clause-len g c =
     let number = g.C.Unit.number in
     let first = map number c.args.units.now in
     let all = encode g.C.Unit.form (lossy_by c.args.policy (utf8_items c.args.text.now)) in
-    let none : length c.prefixes.rest.now ≡ 0 = grind (arith, c.is_empty.ensures, c.prefixes-test.false) in
+    let none : length c.prefixes.rest.now ≡ 0 = is_none (length c.prefixes.rest.now) c.is_empty.result c.is_empty.ensures c.prefixes-test.false in
     let counted = counted_all first 0 all (map number c.prefixes.units) c.prefixes.at (subst (λ us. Puts first 0 all c.prefixes.at (map number c.prefixes.units) us) (lossy_end g.C.Unit.form c.args.policy c.prefixes.after c.prefixes.rest.now none) c.prefixes.invariant.so_far) in
     omega (arith, counted, units-lossy_by g.C.Unit.form c.args.policy c.args.text.now)
 
@@ -53,7 +53,7 @@ returns-clause-fits g c =
     let number = g.C.Unit.number in
     let first = map number c.args.units.now in
     let all = encode g.C.Unit.form (lossy_by c.args.policy (utf8_items c.args.text.now)) in
-    let none : length c.prefixes.rest.now ≡ 0 = grind (arith, c.is_empty.ensures, c.prefixes-test.false) in
+    let none : length c.prefixes.rest.now ≡ 0 = is_none (length c.prefixes.rest.now) c.is_empty.result c.is_empty.ensures c.prefixes-test.false in
     let counted = counted_all first 0 all (map number c.prefixes.units) c.prefixes.at (subst (λ us. Puts first 0 all c.prefixes.at (map number c.prefixes.units) us) (lossy_end g.C.Unit.form c.args.policy c.prefixes.after c.prefixes.rest.now none) c.prefixes.invariant.so_far) in
     omega (arith, counted, units-lossy_by g.C.Unit.form c.args.policy c.args.text.now)
 
@@ -62,5 +62,5 @@ returns-clause-units g c = λ fits.
     let number = g.C.Unit.number in
     let first = map number c.args.units.now in
     let all = encode g.C.Unit.form (lossy_by c.args.policy (utf8_items c.args.text.now)) in
-    let none : length c.prefixes.rest.now ≡ 0 = grind (arith, c.is_empty.ensures, c.prefixes-test.false) in
+    let none : length c.prefixes.rest.now ≡ 0 = is_none (length c.prefixes.rest.now) c.is_empty.result c.is_empty.ensures c.prefixes-test.false in
     written_all_of number c.args.units.now 0 all c.prefixes.units c.prefixes.at (subst (λ us. Puts first 0 all c.prefixes.at (map number c.prefixes.units) us) (lossy_end g.C.Unit.form c.args.policy c.prefixes.after c.prefixes.rest.now none) c.prefixes.invariant.so_far) (omega (arith, fits, c.prefixes.invariant.space))

@@ -3,7 +3,7 @@ use Rattle.std.proofs.lemmas.List.{length-map}
 use Rattle.std.proofs.lemmas.Slice.{drop-put_mid}
 use Rattle.std.specs.Str.{IsUtf8, chars}
 use Rattle.wide_forms.specs.EncodingForm.{EncodingForm, encode}
-use Rattle.widestring_c.proofs.Buffers.{Puts, nothing_yet, one_more_of, counted_all, written_all_of}
+use Rattle.widestring_c.proofs.Buffers.{is_none, Puts, nothing_yet, one_more_of, counted_all, written_all_of}
 use Rattle.widestring_c.proofs.Windows.{drop-later, few_bytes, length-window, one_window}
 use Rattle.widestring_c.proofs.from_utf8.put_text.Goals as goal
 
@@ -73,7 +73,7 @@ returns-clause-offset g c =
     let first = map g.C.Unit.number c.args.units.now in
     let all = encode g.C.Unit.form (chars c.args.text.now) in
     let out = map g.C.Unit.number c.chunks.units in
-    let none : length c.chunks.rest.now ≡ 0 = grind (arith, c.is_empty.ensures, c.chunks-test.false) in
+    let none : length c.chunks.rest.now ≡ 0 = is_none (length c.chunks.rest.now) c.is_empty.result c.is_empty.ensures c.chunks-test.false in
     counted_all first c.args.at all out c.chunks.at (subst (λ us. Puts first c.args.at all c.chunks.at out us) (none_left g.C.Unit.form c.chunks.rest.now none) c.chunks.invariant.so_far)
 
 pub returns-clause-units : goal.returns-clause-units
@@ -81,7 +81,7 @@ returns-clause-units g c = λ fits.
     let number = g.C.Unit.number in
     let first = map number c.args.units.now in
     let all = encode g.C.Unit.form (chars c.args.text.now) in
-    let none : length c.chunks.rest.now ≡ 0 = grind (arith, c.is_empty.ensures, c.chunks-test.false) in
+    let none : length c.chunks.rest.now ≡ 0 = is_none (length c.chunks.rest.now) c.is_empty.result c.is_empty.ensures c.chunks-test.false in
     written_all_of number c.args.units.now c.args.at all c.chunks.units c.chunks.at (subst (λ us. Puts first c.args.at all c.chunks.at (map number c.chunks.units) us) (none_left g.C.Unit.form c.chunks.rest.now none) c.chunks.invariant.so_far)
     (omega (arith, fits, c.chunks.invariant.space))
 
@@ -90,7 +90,7 @@ returns-clause-beyond g c =
     let first = map g.C.Unit.number c.args.units.now in
     let all = encode g.C.Unit.form (chars c.args.text.now) in
     let out = map g.C.Unit.number c.chunks.units in
-    let none : length c.chunks.rest.now ≡ 0 = grind (arith, c.is_empty.ensures, c.chunks-test.false) in
+    let none : length c.chunks.rest.now ≡ 0 = is_none (length c.chunks.rest.now) c.is_empty.result c.is_empty.ensures c.chunks-test.false in
     let end : c.chunks.at ≡ min (c.args.at + length all) (2 ^ 64 - 1) =
     counted_all first c.args.at all out c.chunks.at (subst (λ us. Puts first c.args.at all c.chunks.at out us) (none_left g.C.Unit.form c.chunks.rest.now none) c.chunks.invariant.so_far) in
     subst (λ k. drop k c.chunks.units ≡ drop k c.args.units.now) (sym end) c.chunks.invariant.beyond

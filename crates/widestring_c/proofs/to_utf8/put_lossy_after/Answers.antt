@@ -5,7 +5,7 @@ use Rattle.wide_forms.specs.Lossy.{lossy_after}
 use Rattle.wide_forms.specs.Segmentation.{Fault}
 use Rattle.wide_forms.specs.Utf8.{utf8}
 use Rattle.wide_conversions.proofs.LossyFaults.{lossy-fault, lossy-valid}
-use Rattle.widestring_c.proofs.Buffers.{Puts, nothing_yet, one_more, after_more, counted_all, written_all}
+use Rattle.widestring_c.proofs.Buffers.{is_none, Puts, nothing_yet, one_more, after_more, counted_all, written_all}
 use Rattle.widestring_c.proofs.Chunks.{lossy_units_end, replacement, three_texts}
 use Rattle.widestring_c.proofs.to_utf8.put_lossy_after.Given.{Over}
 use Rattle.widestring_c.proofs.to_utf8.put_lossy_after.Goals as goal
@@ -97,11 +97,11 @@ faults-preserved g c =
 pub returns-clause-offset : goal.returns-clause-offset
 returns-clause-offset g c =
     let all = utf8 (lossy_after c.args.policy c.args.after_fault (items g.C.Unit.form (map g.C.Unit.number c.args.units.now))) in
-    let none : length (map g.C.Unit.number c.faults.rest.now) ≡ 0 = grind (arith, c.is_empty.ensures, c.faults-test.false, length-map c.faults.rest.now g.C.Unit.number) in
+    let none : length (map g.C.Unit.number c.faults.rest.now) ≡ 0 = length-map c.faults.rest.now g.C.Unit.number ∙ is_none (length c.faults.rest.now) c.is_empty.result c.is_empty.ensures c.faults-test.false in
     counted_all c.args.text.now c.args.at all c.faults.text c.faults.at (subst (λ bs. Puts c.args.text.now c.args.at all c.faults.at c.faults.text bs) (lossy_units_end g.C.Unit.form c.args.policy c.faults.after (map g.C.Unit.number c.faults.rest.now) none) c.faults.invariant.so_far)
 
 pub returns-clause-text : goal.returns-clause-text
 returns-clause-text g c = λ fits.
     let all = utf8 (lossy_after c.args.policy c.args.after_fault (items g.C.Unit.form (map g.C.Unit.number c.args.units.now))) in
-    let none : length (map g.C.Unit.number c.faults.rest.now) ≡ 0 = grind (arith, c.is_empty.ensures, c.faults-test.false, length-map c.faults.rest.now g.C.Unit.number) in
+    let none : length (map g.C.Unit.number c.faults.rest.now) ≡ 0 = length-map c.faults.rest.now g.C.Unit.number ∙ is_none (length c.faults.rest.now) c.is_empty.result c.is_empty.ensures c.faults-test.false in
     written_all c.args.text.now c.args.at all c.faults.text c.faults.at (subst (λ bs. Puts c.args.text.now c.args.at all c.faults.at c.faults.text bs) (lossy_units_end g.C.Unit.form c.args.policy c.faults.after (map g.C.Unit.number c.faults.rest.now) none) c.faults.invariant.so_far) (omega (arith, fits, c.faults.invariant.space))

@@ -6,7 +6,7 @@ use Rattle.wide_forms.specs.Items.{chars, items}
 use Rattle.wide_forms.specs.Lossy.{lossy}
 use Rattle.wide_forms.specs.Utf8.{utf8, utf8_bytes}
 use Rattle.wide_forms.specs.Laws.Items.{items-nil}
-use Rattle.widestring_c.proofs.Buffers.{Writing, nothing_written, one_more, after_more, counted_prefix, written_all}
+use Rattle.widestring_c.proofs.Buffers.{is_none, Writing, nothing_written, one_more, after_more, counted_prefix, written_all}
 use Rattle.widestring_c.proofs.to_utf8.put_prefixes.Goals as goal
 
 none_left : (us : List ℕ) → length us ≡ 0 → utf8 (lossy (items Utf16 us)) ≡ []
@@ -42,11 +42,11 @@ prefixes-preserved c =
 pub returns-clause-len : goal.returns-clause-len
 returns-clause-len c =
     let all = utf8 (lossy (items Utf16 c.args.units.now)) in
-    let none : length c.prefixes.rest.now ≡ 0 = grind (arith, c.is_empty.ensures, c.prefixes-test.false) in
+    let none : length c.prefixes.rest.now ≡ 0 = is_none (length c.prefixes.rest.now) c.is_empty.result c.is_empty.ensures c.prefixes-test.false in
     counted_prefix all c.prefixes.text c.prefixes.at (subst (λ bs. Writing all c.prefixes.at c.prefixes.text bs) (none_left c.prefixes.rest.now none) c.prefixes.invariant.so_far)
 
 pub returns-clause-text : goal.returns-clause-text
 returns-clause-text c = λ fits.
     let all = utf8 (lossy (items Utf16 c.args.units.now)) in
-    let none : length c.prefixes.rest.now ≡ 0 = grind (arith, c.is_empty.ensures, c.prefixes-test.false) in
+    let none : length c.prefixes.rest.now ≡ 0 = is_none (length c.prefixes.rest.now) c.is_empty.result c.is_empty.ensures c.prefixes-test.false in
     written_all [] 0 all c.prefixes.text c.prefixes.at (subst (λ bs. Writing all c.prefixes.at c.prefixes.text bs) (none_left c.prefixes.rest.now none) c.prefixes.invariant.so_far) (omega (arith, fits, c.prefixes.invariant.space))
