@@ -1,5 +1,5 @@
 -- A slice has fewer than 2 ^ 63 bytes, so no text is as long as `usize::MAX`, which is returned for a fault.
-use Rattle.std.proofs.Common.{◌≡◌, ℕ, ◌+◌, ◌*◌, ◌-◌, ◌^◌, ◌≤◌, ◌<◌, inl, inr, List, [], ◌∷◌, ◌++◌, length, length-append, map, min, Bool, true, false, sym, ap, ◌∙◌, arith}
+use Rattle.std.proofs.Common.{◌≡◌, ℕ, ◌+◌, ◌*◌, ◌-◌, ◌^◌, ◌≤◌, ◌<◌, inl, inr, List, [], ◌∷◌, length, length-append, map, min, Bool, true, false, ap, ◌∙◌, arith}
 use Rattle.std.specs.Str.{IsUtf8, chars as str_chars}
 use Rattle.std.proofs.lemmas.List.{length-map}
 use Rattle.std.proofs.lemmas.Bool.{cases_lt}
@@ -16,7 +16,6 @@ use Rattle.wide_forms.specs.Laws.Forms.{one_unit, two_units}
 use Rattle.wide_forms.specs.Laws.Lossy.{length-lossy}
 use Rattle.wide_forms.specs.Laws.Offsets.{encode-chars}
 use Rattle.wide_forms.specs.Laws.Utf8.{utf8-encode_utf8_all}
-use Rattle.wide_forms.specs.Laws.Utf32.{encode32}
 use Rattle.wide_conversions.specs.Laws.Utf8Items.{shorter-part}
 use Rattle.wide_conversions.specs.Utf8Items.{AreUtf8Items, none, character, part, utf8_items, utf8_items-divide}
 use Rattle.widestring_c.proofs.Windows.{bytes_of}

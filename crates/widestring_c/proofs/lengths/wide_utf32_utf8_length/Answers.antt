@@ -1,4 +1,4 @@
-use Rattle.std.proofs.Common.{◌≡◌, ap, arith, length, map}
+use Rattle.std.proofs.Common.{ap, arith, length}
 use Rattle.std.proofs.lemmas.List.{map-id}
 use Rattle.wide_forms.specs.EncodingForm.{Utf32}
 use Rattle.wide_forms.specs.Items.{chars}
