@@ -1,5 +1,5 @@
 -- How many units the characters of an edited text take.
-use Rattle.std.proofs.Common.{◌≡◌, ℕ, ◌+◌, ◌≤◌, suc, List, [], ◌∷◌, ◌++◌, sym, ◌∙◌, ap, arith, length, take, drop, length-append, inl, inr}
+use Rattle.std.proofs.Common.{refl, ◌-◌, ◌≡◌, ℕ, ◌+◌, ◌≤◌, suc, List, [], ◌∷◌, ◌++◌, sym, ◌∙◌, ap, arith, length, take, drop, length-append, inl, inr}
 use Rattle.std.specs.Prelude.{Bool, true, false, cond, filter}
 use Rattle.std.specs.List.{splice}
 use Rattle.std.proofs.lemmas.Bool.Decides.{leb_tells}
@@ -7,8 +7,10 @@ use Rattle.std.proofs.lemmas.List.{append-nil, take-append-drop}
 use Rattle.std.proofs.lemmas.List.Concat.{flat_map-append}
 use Rattle.wide_forms.specs.EncodingForm.{EncodingForm, code_units, encode}
 use Rattle.wide_forms.specs.Laws.Encodings.{offsets-grow}
-use Rattle.wide_edit.specs.Step.{changed}
-use Rattle.wide_edit.specs.declared.edits.Edit.TheVariants.{Remove, SplitOff, Drain}
+use Rattle.wide_edit.specs.Step.{changed, occurs}
+use Rattle.std.specs.Borrow.{Bor}
+use Rattle.wide_edit.specs.declared.edits.Edit.{Edit}
+use Rattle.wide_edit.specs.declared.edits.Edit.TheVariants.{Push, PushStr, Pop, Truncate, Insert, InsertStr, Remove, Retain, Drain, Replace, SplitOff, Clear}
 
 module _ (form : EncodingForm) where
   -- The length in units of characters, and of the first of them.
@@ -67,3 +69,18 @@ module _ (form : EncodingForm) (l : List ℕ) where
     ]
     | inr t ↦ rw (t.0) (omega arith)
   ]
+
+  pub size-fewer : (e : Edit) → ((c : ℕ) → e ≡ Push c → ⊥) → ((t : Bor (List ℕ)) → e ≡ PushStr t → ⊥) → ((i c : ℕ) → e ≡ Insert i c → ⊥) → ((i : ℕ) (t : Bor (List ℕ)) → e ≡ InsertStr i t → ⊥)
+      → ((a b : ℕ) (t : Bor (List ℕ)) → e ≡ Replace a b t → ⊥) → size form (changed l e) ≤ size form l
+  size-fewer (Push c) push push_str insert insert_str replace = absurd (push c refl)
+  size-fewer (PushStr t) push push_str insert insert_str replace = absurd (push_str t refl)
+  size-fewer Pop push push_str insert insert_str replace = size-without form l (length l - 1) (length l) (omega arith)
+  size-fewer (Truncate m) push push_str insert insert_str replace = size-take form l m
+  size-fewer (Insert i c) push push_str insert insert_str replace = absurd (insert i c refl)
+  size-fewer (InsertStr i t) push push_str insert insert_str replace = absurd (insert_str i t refl)
+  size-fewer (Remove i) push push_str insert insert_str replace = size-remove i
+  size-fewer (Retain keep) push push_str insert insert_str replace = size-filter form (occurs keep.now) l
+  size-fewer (Drain a b) push push_str insert insert_str replace = size-drain a b
+  size-fewer (Replace a b t) push push_str insert insert_str replace = absurd (replace a b t refl)
+  size-fewer (SplitOff i) push push_str insert insert_str replace = size-split i
+  size-fewer Clear push push_str insert insert_str replace = omega arith

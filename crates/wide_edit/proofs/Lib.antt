@@ -7,3 +7,6 @@ pub mod Neighbors
 pub mod Passes
 pub mod Replaced
 pub mod Walks
+pub mod Applied
+pub mod AtFound
+pub mod Few

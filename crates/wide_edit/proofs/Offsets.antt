@@ -10,6 +10,7 @@ use Rattle.wide_forms.specs.Offsets.{IsOffsetOf, IsCharBoundary, IsCharRange, ch
 use Rattle.wide_forms.specs.Laws.Offsets.{offset-IsOffsetOf, IsOffsetOf-prefix, IsWellFormed-drop}
 use Rattle.wide_forms.specs.Laws.Splices.{chars-part, chars-nil}
 use Rattle.wide_forms.specs.Laws.Encodings.{offsets-grow}
+use Rattle.wide_unit.proofs.CharBoundaries.{IsCharBoundary-of}
 use Rattle.wide_edit.specs.Found.{IsFoundAt, IsFoundRange}
 
 -- The postcondition of a call that succeeded.
@@ -86,3 +87,15 @@ module _ (form : EncodingForm) (us : List ℕ) (well : IsWellFormed form us) (i 
 
   pub further : IsOffsetOf form us (i + k) (at + n)
   further = subst (λ m. IsOffsetOf form us (i + k) m) (sym further-offset) (IsOffsetOf-prefix form us well (i + k))
+
+-- A search from an earlier character on found an offset in the units after that one.
+module _ {X : Type 0} (form : EncodingForm) (number : X → ℕ) (xs : List X) (well : IsWellFormed form (map number xs)) (from to at ahead : ℕ) (forward : from ≤ to) (back : List X) (cut : back ≡ drop at xs) (first : Found form (map number xs) from at) where
+  pub found-second : to - from ≤ length (chars form (map number back)) → IsOffsetOf form (map number back) (to - from) ahead → IsFoundAt form (map number xs) to (Some (at + ahead))
+  found-second some further-on =
+      let us = map number xs in
+      let rest : map number back ≡ drop at us = ap (map number) cut ∙ sym (drop-map number at xs) in
+      let index : from + (to - from) ≡ to = omega (arith, forward) in
+      let offset : IsOffsetOf form us to (at + ahead) = subst (λ i. IsOffsetOf form us i (at + ahead)) index (further form us well from at first (to - from) ahead (subst (λ vs. IsOffsetOf form vs (to - from) ahead) rest further-on)) in
+      let characters : chars form (map number back) ≡ drop from (chars form us) = ap (chars form) rest ∙ first.offset.rest in
+      let within : to ≤ length (chars form us) = omega (arith, some, forward, first.within, ap length characters, length-drop from (chars form us)) in
+      record { some = (λ _. within, λ _. refl); offset = offset; boundary = IsCharBoundary-of form us (at + ahead) well offset.boundary }

@@ -102,17 +102,7 @@ fn units_counted(string: &Utf16String, edit: Edit<'_>, start: Option<usize>) -> 
             Some(at) => len - at,
             None => 0,
         },
-        Edit::Push(_) => 0,
-        Edit::PushStr(_) => 0,
-        Edit::Pop => 0,
-        Edit::Truncate(_) => 0,
-        Edit::Insert(_, _) => 0,
-        Edit::InsertStr(_, _) => 0,
-        Edit::Remove(_) => 0,
-        Edit::Retain(_) => 0,
-        Edit::Drain(_, _) => 0,
-        Edit::Replace(_, _, _) => 0,
-        Edit::Clear => 0,
+        _ => 0,
     }
 }
 

@@ -41,13 +41,7 @@ pub(crate) fn growth<C: FaultUnit>(
             Some(range) => C::text_len(text).saturating_sub(range.end - range.start),
             None => 0,
         },
-        Edit::Pop => 0,
-        Edit::Truncate(_) => 0,
-        Edit::Remove(_) => 0,
-        Edit::Retain(_) => 0,
-        Edit::Drain(_, _) => 0,
-        Edit::SplitOff(_) => 0,
-        Edit::Clear => 0,
+        _ => 0,
     }
 }
 
@@ -72,16 +66,7 @@ pub(crate) fn reply_len<C: FaultUnit>(
             Some(at) => s.as_utfstr().split_at(at).1.char_count(),
             None => 0,
         },
-        Edit::Push(_) => 0,
-        Edit::PushStr(_) => 0,
-        Edit::Pop => 0,
-        Edit::Truncate(_) => 0,
-        Edit::Insert(_, _) => 0,
-        Edit::InsertStr(_, _) => 0,
-        Edit::Remove(_) => 0,
-        Edit::Retain(_) => 0,
-        Edit::Replace(_, _, _) => 0,
-        Edit::Clear => 0,
+        _ => 0,
     }
 }
 

@@ -128,11 +128,7 @@ pub(crate) fn replaced_range(
         Edit::Remove(at) => Some(char_or_end(string, count, at, start, steps)),
         Edit::Drain(from, to) => Some(range_or_end(string, count, from, to, start, end)),
         Edit::Replace(from, to, _) => Some(range_or_end(string, count, from, to, start, end)),
-        Edit::Pop => None,
-        Edit::Truncate(_) => None,
-        Edit::Retain(_) => None,
-        Edit::SplitOff(_) => None,
-        Edit::Clear => None,
+        _ => None,
     }
 }
 

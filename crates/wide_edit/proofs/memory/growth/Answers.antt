@@ -1,12 +1,10 @@
-use Rattle.std.proofs.Common.{◌≤◌, ◌-◌, arith, subst, map, length, ◌∷◌, []}
-use Rattle.std.specs.Prelude.{nat_eq}
-use Rattle.std.specs.List.{list_any}
+use Rattle.std.proofs.Common.{◌≤◌, arith, subst, map, length, ◌∷◌, []}
 use Rattle.std.specs.Str.{chars}
 use Rattle.wide_forms.specs.Laws.Offsets.{offset-IsOffsetOf}
 use Rattle.wide_edit.specs.Found.{first_number}
 use Rattle.wide_forms.specs.Offsets.{text_of}
 use Rattle.wide_edit.proofs.Made.{in_place, past, in_range}
-use Rattle.wide_edit.proofs.Lengths.{size-splice, size-one, size-take, size-without, size-filter, size-remove, size-drain, size-split}
+use Rattle.wide_edit.proofs.Lengths.{size-splice, size-one, size-fewer}
 use Rattle.wide_edit.proofs.Offsets.{found_some, found_none, range-forward}
 use Rattle.wide_edit.proofs.memory.growth.Goals as goal
 
@@ -85,44 +83,8 @@ pub returns-in-None-range_at : goal.returns-in-None-range_at
 returns-in-None-range_at g c =
     rw (c.in-Replace.is, c.in-None-range_at.ensures.none) (omega (arith, c.recall.ensures.count))
 
-pub returns-in-Pop : goal.returns-in-Pop
-returns-in-Pop g c =
-    let form = g.C.Unit.form in
-    let number = g.C.Unit.number in
-    let l = text_of form number c.args.s.now.units in
-    rw c.in-Pop.is (omega (arith, size-without form l (length l - 1) (length l) (omega arith), c.recall.ensures.count))
-
-pub returns-in-Truncate : goal.returns-in-Truncate
-returns-in-Truncate g c =
-    let form = g.C.Unit.form in
-    let number = g.C.Unit.number in
-    let l = text_of form number c.args.s.now.units in
-    rw c.in-Truncate.is (omega (arith, size-take form l c.in-Truncate.field-0, c.recall.ensures.count))
-
-pub returns-in-Remove : goal.returns-in-Remove
-returns-in-Remove g c =
-    let form = g.C.Unit.form in
-    let number = g.C.Unit.number in
-    let l = text_of form number c.args.s.now.units in
-    rw c.in-Remove.is (omega (arith, size-remove form l c.in-Remove.field-0, c.recall.ensures.count))
-
-pub returns-in-Retain : goal.returns-in-Retain
-returns-in-Retain g c =
-    let form = g.C.Unit.form in
-    let number = g.C.Unit.number in
-    let l = text_of form number c.args.s.now.units in
-    rw c.in-Retain.is (omega (arith, size-filter form (λ x. list_any (λ k. nat_eq k x) c.in-Retain.field-0.now) l, c.recall.ensures.count))
-
-pub returns-in-Drain : goal.returns-in-Drain
-returns-in-Drain g c =
-    let form = g.C.Unit.form in
-    let number = g.C.Unit.number in
-    let l = text_of form number c.args.s.now.units in
-    rw c.in-Drain.is (omega (arith, size-drain form l c.in-Drain.field-0 c.in-Drain.field-1, c.recall.ensures.count))
-
-pub returns-in-SplitOff : goal.returns-in-SplitOff
-returns-in-SplitOff g c =
-    let form = g.C.Unit.form in
-    let number = g.C.Unit.number in
-    let l = text_of form number c.args.s.now.units in
-    rw c.in-SplitOff.is (omega (arith, size-split form l c.in-SplitOff.field-0, c.recall.ensures.count))
+pub returns-in_default : goal.returns-in_default
+returns-in_default g c =
+    let d = c.in_default in
+    let fewer = size-fewer g.C.Unit.form (text_of g.C.Unit.form g.C.Unit.number c.args.s.now.units) c.args.edit d.not-Push d.not-PushStr d.not-Insert d.not-InsertStr d.not-Replace in
+    omega (arith, fewer, c.recall.ensures.count)

@@ -1,4 +1,4 @@
-use Rattle.std.proofs.Common.{◌≡◌, ◌+◌, ◌-◌, ◌*◌, ap, arith, length}
+use Rattle.std.proofs.Common.{refl, ◌≡◌, ◌+◌, ◌-◌, ◌*◌, ap, arith, length}
 use Rattle.std.proofs.lemmas.List.{take_all}
 use Rattle.wide_forms.specs.EncodingForm.{Utf16}
 use Rattle.wide_forms.specs.Items.{chars}
@@ -33,3 +33,27 @@ returns-clause-offset c =
     let us = units_seen c.args.text in
     let cs = chars Utf16 us in
     omega (arith, c.len-len.ensures, whole-size us (well-formed us c.args.text.well_formed), ap (size Utf16) (take_all c.args.total cs (omega (arith, c.requires.total))))
+
+pub returns-then-number-entries-clause-index : goal.returns-then-number-entries-clause-index
+returns-then-number-entries-clause-index c = λ _. omega (arith, c.requires.old, c.requires.less, c.if-number-entries.true)
+
+pub returns-then-number-entries-clause-end : goal.returns-then-number-entries-clause-end
+returns-then-number-entries-clause-end c = λ past. absurd (omega (arith, past, c.if-number-entries.true))
+
+pub returns-then-number-entries-clause-least : goal.returns-then-number-entries-clause-least
+returns-then-number-entries-clause-least c = omega (arith, c.requires.old, c.requires.less, c.if-number-entries.true)
+
+pub returns-then-number-entries-clause-most : goal.returns-then-number-entries-clause-most
+returns-then-number-entries-clause-most c = omega (arith, c.requires.less)
+
+pub returns-clause-index : goal.returns-clause-index
+returns-clause-index c = λ below. absurd (omega (arith, below, c.if-number-entries.false))
+
+pub returns-clause-end : goal.returns-clause-end
+returns-clause-end c = λ _. refl
+
+pub returns-clause-least : goal.returns-clause-least
+returns-clause-least c = omega (arith, c.requires.within, c.requires.new)
+
+pub returns-clause-most : goal.returns-clause-most
+returns-clause-most c = omega (arith, c.requires.within)
