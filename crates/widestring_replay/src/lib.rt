@@ -21,8 +21,8 @@ pub trait Suite {
     /// then `.txt`.
     fn groups() -> &'static [&'static str];
 
-    /// Returns the name of the crate's fault for which a group has corrected answers, if there is one.
-    fn fault(group: &str) -> Option<&'static str>;
+    /// Returns the groups that have corrected answers, each with the name of the crate's fault that it is about.
+    fn faults() -> &'static [(&'static str, &'static str)];
 
     /// Returns the library's answer to a question about a list, in the form of the data.
     fn answer(

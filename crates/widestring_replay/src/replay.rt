@@ -42,6 +42,17 @@ fn parse_case<'a>(list: &'a str, text: &'a str) -> Option<Case<'a>> {
     })
 }
 
+// Returns whether a group has corrected answers about this fault of the crate.
+fn is_about(faults: &[(&'static str, &'static str)], group: &str, fault: &str) -> bool {
+    for index in 0..faults.len() {
+        let (name, known) = faults[index];
+        if name == group && known == fault {
+            return true;
+        }
+    }
+    false
+}
+
 // The state of a group's run.
 #[derive(Drop)]
 struct Replay {
@@ -124,7 +135,7 @@ impl Replay {
             self.agree = self.agree.saturating_add(1);
             return Ok(());
         };
-        if S::fault(self.group) != Some(repaired.fault) || repaired.own == case.expected {
+        if !is_about(S::faults(), self.group, repaired.fault) || repaired.own == case.expected {
             return self.unparsed(alloc, case.list, repaired.fault);
         }
         self.repaired = self.repaired.saturating_add(1);

@@ -78,20 +78,24 @@ static GROUPS: [&str; 45] = [
     "searches32",
 ];
 
+// The groups with corrected answers, and the crate's faults.
+static FAULTS: [(&str, &str); 7] = [
+    ("from_slice16", "utf16-error-index"),
+    ("to_string16", "utf16-error-index"),
+    ("hints16", "utf16-hint-held"),
+    ("hints_lossy16", "utf16-hint-held"),
+    ("hints_encode8", "utf8-encoder-hint-held"),
+    ("hints_encode16", "utf16-encoder-hint-held"),
+    ("lossy_text16", "from-slice-lossy-inside-a-pair"),
+];
+
 impl Suite for ViewSuite {
     fn groups() -> &'static [&'static str] {
         &GROUPS
     }
 
-    fn fault(group: &str) -> Option<&'static str> {
-        match group {
-            "from_slice16" | "to_string16" => Some("utf16-error-index"),
-            "hints16" | "hints_lossy16" => Some("utf16-hint-held"),
-            "hints_encode8" => Some("utf8-encoder-hint-held"),
-            "hints_encode16" => Some("utf16-encoder-hint-held"),
-            "lossy_text16" => Some("from-slice-lossy-inside-a-pair"),
-            _ => None,
-        }
+    fn faults() -> &'static [(&'static str, &'static str)] {
+        &FAULTS
     }
 
     fn answer(

@@ -47,11 +47,11 @@ pub fn units<C: Unit>(alloc: Global, units: &[C]) -> Result<String, NoAnswer> {
 
 /// Adds lists of units with a `;` between two.
 pub fn add_fields<C: Unit>(answer: &mut Answer, fields: &[&[C]]) {
-    for (index, units) in fields.iter().enumerate() {
+    for index in 0..fields.len() {
         if index > 0 {
             answer.part();
         }
-        answer.units(units);
+        answer.units(fields[index]);
     }
 }
 
