@@ -5,7 +5,7 @@ use Rattle.std.proofs.Math.Seq.{take-append_seam}
 use Rattle.std.proofs.lemmas.Slice.{take-put_mid}
 use borrow.Rule.Slice.PartMut.{put_mid, post_of}
 use Rattle.std.proofs.lemmas.List.Concat.{flat_map-append}
-use Rattle.std.specs.Prelude.{map}
+use Rattle.std.specs.Prelude.{map, Result, OnOk}
 use Rattle.wide_forms.specs.EncodingForm.{EncodingForm, code_units, encode}
 use Rattle.wide_forms.specs.Segmentation.{Item, Char, Fault}
 use Rattle.wide_forms.specs.Items.{items, characters, IsWellFormed, IsFirstFault}
@@ -22,6 +22,8 @@ use Rattle.wide_ustring.specs.Units.{Units}
 use Rattle.wide_utfstr.specs.View.{units_seen}
 use Rattle.wide_utfstr.specs.declared.view.UtfStr.{UtfStr}
 use Rattle.wide_utfstring.specs.CowText.{IsLossyBy}
+use Rattle.wide_utfstring.specs.Runs.{for_run}
+use Rattle.wide_utfstring.proofs.Edits.{on_ok}
 use Rattle.wide_utfstring.specs.declared.cow.CowUtfStr.TheVariants.{Borrowed, Owned}
 
 -- If a list consists of a prefix and filler, writing other elements over the filler gives the prefix and those
@@ -40,11 +42,6 @@ pub repaired_text : {C : Type 0} (form : EncodingForm) (number : C → ℕ) (uni
 repaired_text form number units prefix rest ys whole well long repaired =
     map-append number prefix ys ∙ ap (λ us. map number prefix ++ us) (ap (map number) (sym (take_all (length rest) ys (omega arith))) ∙ repaired)
     ∙ lossy_by-split Each form number units prefix rest whole well
-
--- What replaces a run of faults in the text.
-abbrev pub for_run : Policy → List ℕ
-for_run Run = 0xFFFD ∷ []
-for_run _ = []
 
 module _ (policy : Policy) (by_runs : policy ≢ Each) where
   past_run : (run : List ℕ) (u : ℕ) (is rest : List Item) → is ≡ map Fault (u ∷ run) ++ rest → BeginsPastFaults is rest → lossy_by policy is ≡ for_run policy ++ lossy_by policy rest
@@ -75,6 +72,18 @@ module _ (policy : Policy) (form : EncodingForm) where
       go Each isnt = sym (append-nil us)
       go Run isnt = absurd (isnt refl)
       go Skip isnt = sym (append-nil us)
+
+  -- What was appended before a run of faults, and in place of it.
+  module _ {C : Type 0} (number : C → ℕ) (old mid : Units C) (view prefix : List C) (was : mid.units ≡ old.units ++ view) (same : view ≡ prefix) where
+    both : map number mid.units ≡ map number (old.units ++ prefix)
+    both = ap (map number) (was ∙ ap (λ ys. old.units ++ ys) same)
+
+    pub with_run : {A E : Type 0} (r : Result A E) (new : Units C) → policy ≡ Run → OnOk r (map number new.units ≡ map number mid.units ++ code_units form 0xFFFD)
+        → OnOk r (map number new.units ≡ map number (old.units ++ prefix) ++ encode form (for_run policy))
+    with_run r new is = on_ok r (λ e. e ∙ ap (λ us. us ++ code_units form 0xFFFD) both ∙ with_one (map number (old.units ++ prefix)) is)
+
+    pub without_run : (policy ≡ Run → ⊥) → map number mid.units ≡ map number (old.units ++ prefix) ++ encode form (for_run policy)
+    without_run isnt = both ∙ with_none (map number (old.units ++ prefix)) isnt
 
 -- The units before the first fault are well formed.
 pub prefix_well_formed : {C : Type 0} (form : EncodingForm) (number : C → ℕ) (rest : List C) (index item u : ℕ) → IsFirstFault form (map number rest) index item u → IsWellFormed form (map number (take index rest))

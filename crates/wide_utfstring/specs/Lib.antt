@@ -2,3 +2,4 @@ pub mod Drain
 pub mod Faults
 pub mod Case
 pub mod CowText
+pub mod Runs

@@ -1,5 +1,5 @@
 //! Well-formed text made from any units, with U+FFFD for each fault.
-ghost use Rattle.std.specs.Prelude.{◌≡◌, ◌≢◌, ◌≤◌, ◌<◌, length, map, take, IsOk, IfOk};
+ghost use Rattle.std.specs.Prelude.{◌≡◌, ◌≢◌, ◌≤◌, ◌<◌, ◌++◌, [], length, map, take, IsOk, IfOk, OnOk, vec_capacity};
 ghost use Rattle.wide_forms.specs.EncodingForm.{encode};
 ghost use Rattle.wide_forms.specs.Items.{items, IsWellFormed, IsFirstFault};
 ghost use Rattle.wide_forms.specs.Lossy.{lossy, lossy_by};
@@ -7,6 +7,7 @@ ghost use Rattle.wide_forms.specs.declared.policy.Policy.TheVariants.{Each};
 ghost use Rattle.wide_ustr.specs.View.{units_seen as ustr_units};
 ghost use Rattle.wide_ucstr.specs.View.{contents_seen};
 ghost use Rattle.wide_utfstring.specs.CowText.{IsLossyOf, IsLossyBy};
+ghost use Rattle.wide_utfstring.specs.Runs.{for_run};
 
 use crate::{CowUtfStr, UtfString};
 use std::alloc::Allocator;
@@ -79,6 +80,23 @@ impl<C: FaultUnit, A: Allocator> UtfString<C, A> {
         }
     }
 
+    // Appends a copy of units that are well formed before `index`, with each fault replaced by U+FFFD, to an empty
+    // vector.
+    fn repair_into(text: &mut Vec<C, A>, units: &[C], index: usize) -> Result<(), OutOfMemory>
+        requires empty { text.old.items ≡ [] }
+        requires within { index ≤ length units.now }
+        requires prefix { IsWellFormed C.form (map C.number (take index units.now)) }
+        ensures made { OnOk result (map C.number text.new.items ≡ encode C.form (lossy (items C.form (map C.number units.now)))) }
+        ensures capacity { OnOk result (length units.now ≤ vec_capacity text.new) }
+    {
+        let (prefix, rest) = units.split_at(index);
+        text.reserve_exact(units.len())?;
+        text.extend_from_slice(prefix)?;
+        text.resize(units.len(), C::NUL)?;
+        C::repair(rest, &mut text[index..]);
+        Ok(())
+    }
+
     // Returns a copy of units that are well formed before `index`, with each fault replaced by U+FFFD.
     fn repaired_copy(alloc: A, units: &[C], index: usize) -> Result<Self, OutOfMemory>
         requires within { index ≤ length units.now }
@@ -86,15 +104,24 @@ impl<C: FaultUnit, A: Allocator> UtfString<C, A> {
         ensures made { IfOk result (λ s. map C.number s.units ≡ encode C.form (lossy (items C.form (map C.number units.now)))) }
         ensures capacity { IfOk result (λ s. length units.now ≤ s.capacity) }
     {
-        let (prefix, rest) = units.split_at(index);
         let mut text = Vec::new(alloc);
-        text.reserve_exact(units.len())?;
-        text.extend_from_slice(prefix)?;
-        text.resize(units.len(), C::NUL)?;
-        C::repair(rest, &mut text[index..]);
+        UtfString::repair_into(&mut text, units, index)?;
         Ok(UtfString {
             string: UString::from_vec(text),
         })
+    }
+
+    // Appends units that are well formed, and what replaces the run of faults after them.
+    fn push_before_run(&mut self, prefix: &[C], policy: Policy) -> Result<(), OutOfMemory>
+        requires { IsWellFormed C.form (map C.number prefix.now) }
+        ensures units { OnOk result (map C.number self.new.units ≡ map C.number (self.old.units ++ prefix.now) ++ encode C.form (for_run policy)) }
+        ensures capacity { self.old.capacity ≤ self.new.capacity }
+    {
+        self.push_utfstr(UtfStr::from_slice_unchecked(prefix))?;
+        match policy {
+            Policy::Run => self.push(char::REPLACEMENT_CHARACTER),
+            _ => Ok(()),
+        }
     }
 
     // Returns a copy of units whose first fault is given, with each longest run of faults replaced as the policy says.
@@ -116,10 +143,7 @@ impl<C: FaultUnit, A: Allocator> UtfString<C, A> {
         let mut found = Err(fault);
         while let Err(fault) = found {
             let (prefix, faults) = rest.split_at(fault.index);
-            text.push_utfstr(UtfStr::from_slice_unchecked(prefix))?;
-            if let Policy::Run = policy {
-                text.push(char::REPLACEMENT_CHARACTER)?;
-            }
+            text.push_before_run(prefix, policy)?;
             rest = after_faults(faults);
             found = check(rest);
         }
