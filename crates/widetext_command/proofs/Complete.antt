@@ -1,6 +1,5 @@
 -- Arguments that name something are parsed.
 use Rattle.std.proofs.Common.{◌≡◌, ◌≢◌, ℕ, zero, suc, ◌+◌, ◌*◌, ◌^◌, ◌<◌, ◌≤◌, Bool, true, false, ◌⊎◌, inl, inr, List, [], ◌∷◌, ◌++◌, map, take, drop, length, get_or, Option, Some, None, Result, Ok, Err, IsSome, MatchOption, Bor, ap, sym, ◌∙◌, subst, refl, encode_utf8, codes, arith}
-use Rattle.std.specs.Prelude.{string_bytes}
 use Rattle.std.specs.Char.{IsScalar, digit_value}
 use Rattle.std.specs.List.{All}
 use Rattle.std.specs.Str.Parse.{AllDigits, digits_value}
@@ -16,7 +15,7 @@ use Rattle.wide_iter.specs.declared.ends.End.{End}
 use Rattle.wide_iter.specs.declared.ends.End.TheVariants.{Front, Back}
 use Rattle.wide_edit.specs.declared.edits.Edit.{Edit}
 use Rattle.wide_edit.specs.declared.edits.Edit.TheVariants.{Push, PushStr, Pop, Truncate, Insert, InsertStr, Remove, Retain, Drain, Replace, SplitOff, Clear}
-use Rattle.widetext_command.specs.EditWords.{AreEach, HasTypes, IsNamedAt, IsNumber, IsNumberThen, NamesWord, WordHasTypes}
+use Rattle.widetext_command.specs.EditWords.{AreEach, HasTypes, IsNamedAt, IsNumber, IsNumberThen, WordHasTypes}
 use Rattle.widetext_command.specs.Command.{AreUnits, AreRead, IsEditOf, IsEndsOf, IsOfTypes, IsUnit, NamesUnits, end_letter}
 use Rattle.widetext_command.specs.declared.edit_words.EditWord.{EditWord}
 use Rattle.widetext_command.specs.declared.words.Request.{Request}
@@ -128,6 +127,11 @@ pub one_char : (text rest others : List ℕ) (c first second : ℕ) → text ≡
 one_char text rest others c first second e starts goes =
     let none = (encode_same c first [] rest (append-nil (encode_utf8 c) ∙ sym e ∙ starts)).1 in
     absurd (omega (arith, ap length none, ap length goes, length-append (encode_utf8 second) others, length-encode second, (len_utf8_bounds second).0))
+
+-- a text of one character and no more bytes
+pub alone : (text whole rest : List ℕ) (c : ℕ) → whole ≡ text → whole ≡ encode_utf8 c ++ rest → length rest ≡ 0 → text ≡ encode_utf8 c
+alone text whole [] c e starts none = sym e ∙ starts ∙ append-nil (encode_utf8 c)
+alone text whole (b ∷ rest) c e starts none = absurd (omega arith)
 
 -- the text is split at the comma after a number
 pub after_number : (values : List ℕ) (r : Option (Bor (List ℕ) × Bor (List ℕ))) (n : ℕ) (rest : List ℕ) → IsSplitOnceResult 44 values r → (is : IsNumberThen values n rest) → MatchOption r ⊥ (λ x. (x.0.now ≡ is.0) × (x.1.now ≡ rest))

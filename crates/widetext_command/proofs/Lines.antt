@@ -8,12 +8,6 @@ use Rattle.wide_forms.specs.Utf8.{utf8, utf8_bytes}
 use Rattle.wide_forms.specs.Laws.Utf8.{utf8_bytes-encode_utf8}
 use Rattle.widetext_command.specs.Lines.{escaped}
 
--- with one more element, its line is after those of the elements before it
-pub one_more : {X Y : Type 0} (line : Y → List ℕ) (read : X → Y) (xs : List X) (i : ℕ) (d : X) (new : List ℕ) → i < length xs
-    → new ≡ flat_map line (map read (take i xs)) ++ line (read (get_or xs i d)) → new ≡ flat_map line (map read (take (i + 1) xs))
-one_more line read xs i d new below e =
-    e ∙ sym (ap (λ ys. flat_map line (map read ys)) (take_more xs i d below) ∙ simp (map-append, flat_map-append, append-nil))
-
 -- with one more element, what is written for it is after what was written before, if writing distributes over
 -- concatenation
 pub more_of : {X : Type 0} (written : List X → List ℕ) (joins : (a b : List X) → written (a ++ b) ≡ written a ++ written b) (xs : List X) (i : ℕ) (d : X) (before old new : List ℕ) → i < length xs

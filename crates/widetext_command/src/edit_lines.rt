@@ -2,6 +2,8 @@
 ghost use Rattle.std.specs.Prelude.{◌≡◌, [], ◌∷◌, ◌++◌, map, codes, string_bytes, OnOk, IfOk};
 ghost use Rattle.std.specs.List.{flat_map};
 ghost use Rattle.std.specs.Str.{chars};
+ghost use Rattle.wide_forms.specs.EncodingForm.{Utf32};
+ghost use Rattle.wide_forms.specs.Offsets.{text_of};
 ghost use Rattle.wide_edit.specs.Marks.{marked_text, marked_units};
 ghost use Rattle.wide_edit.specs.Step.{answer_of};
 ghost use Rattle.widetext_command.specs.Lines as line;
@@ -105,6 +107,51 @@ fn marked(alloc: Global, text: &str) -> Result<Marked16, OutOfMemory>
     }
 }
 
+// Appends a line for each reply, and lines for the text and for the units of both strings.
+fn push_lines(
+    lines: &mut String,
+    replies: &[Reply],
+    narrow: &Marked16,
+    wide: &Utf32String,
+) -> Result<(), AllocError>
+    ensures { OnOk result (string_bytes lines.new ≡ string_bytes lines.old ++ (flat_map line.reply_line (map answer_of replies.now) ++ (line.text_line (marked_text narrow.now) ++ (line.units_line (codes "utf16") 4 (marked_units narrow.now) ++ line.units_line (codes "utf32") 8 wide.now.units)))) }
+{
+    push_replies(lines, replies)?;
+    push_strings(lines, narrow, wide)
+}
+
+// Returns these lines.
+fn lines_of(
+    alloc: Global,
+    replies: &[Reply],
+    narrow: &Marked16,
+    wide: &Utf32String,
+) -> Result<String, OutOfMemory>
+    ensures { IfOk result (λ lines. string_bytes lines ≡ flat_map line.reply_line (map answer_of replies.now) ++ (line.text_line (marked_text narrow.now) ++ (line.units_line (codes "utf16") 4 (marked_units narrow.now) ++ line.units_line (codes "utf32") 8 wide.now.units))) }
+{
+    let mut lines = String::new(alloc);
+    push_lines(&mut lines, replies, narrow, wide)?;
+    Ok(lines)
+}
+
+// Makes the edits of both strings, which have the same characters, and returns the lines.
+fn edited_lines(
+    alloc: Global,
+    narrow: &mut Marked16,
+    wide: &mut Utf32String,
+    edits: &[Edit<'_>],
+) -> Result<String, OutOfMemory>
+    requires { text_of Utf32 (λ u. u) wide.old.units ≡ marked_text narrow.old }
+    ensures { IfOk result (λ lines. string_bytes lines ≡ line.edit_lines (marked_text narrow.old) edits.now) }
+{
+    let mut replies = Vec::new(alloc);
+    let mut same_replies = Vec::new(alloc);
+    match run_both(alloc, narrow, wide, edits, &mut replies, &mut same_replies) {
+        Ok(()) => lines_of(alloc, &replies, narrow, wide),
+        Err(_stopped) => Err(OutOfMemory),
+    }
+}
+
 /// Returns a line for each reply to the edits of a text, and lines for the resulting text, its UTF-16 and its UTF-32.
 ///
 /// # Errors
@@ -115,22 +162,5 @@ pub fn edit_lines(alloc: Global, text: &str, edits: &[Edit<'_>]) -> Result<Strin
 {
     let mut narrow = marked(alloc, text)?;
     let mut wide = Utf32String::from_str(alloc, text)?;
-    let mut replies = Vec::new(alloc);
-    let mut same_replies = Vec::new(alloc);
-    if run_both(
-        alloc,
-        &mut narrow,
-        &mut wide,
-        edits,
-        &mut replies,
-        &mut same_replies,
-    )
-    .is_err()
-    {
-        return Err(OutOfMemory);
-    }
-    let mut lines = String::new(alloc);
-    push_replies(&mut lines, &replies)?;
-    push_strings(&mut lines, &narrow, &wide)?;
-    Ok(lines)
+    edited_lines(alloc, &mut narrow, &mut wide, edits)
 }

@@ -1,6 +1,7 @@
 //! The program `widetext`, over any devices.
 
-ghost use Rattle.std.specs.Prelude.{◌≡◌, ◌≢◌, ◌≤◌, ◌++◌, Option, IfErr, OnOk, OnErr, false, true, string_bytes};
+ghost use Rattle.std.specs.Prelude.{◌≡◌, ◌≢◌, ◌≤◌, ◌++◌, Option, IfErr, OnOk, OnErr, false, true, map, string_bytes};
+ghost use Rattle.std.specs.List.{flat_map};
 ghost use Rattle.std.specs.Io.KnownBytes.{Appends};
 ghost use Rattle.std.specs.Option.{option_map};
 ghost use Rattle.wide_unit.specs.Unit.{reported_item};
@@ -35,6 +36,19 @@ fn push_answer(
     }
 }
 
+// Appends a line for each of these items.
+fn push_answers(
+    lines: &mut String,
+    answers: &[Option<Result<char, DecodeUtf16Error>>],
+) -> Result<(), AllocError>
+    ensures { OnOk result (string_bytes lines.new ≡ string_bytes lines.old ++ flat_map answer_line (map (option_map reported_item) answers.now)) }
+{
+    for answer in answers {
+        push_answer(lines, answer)?;
+    }
+    Ok(())
+}
+
 // Writes one line for each item that a decoder of the units returns at the ends. It makes all lines before it writes
 // any.
 fn write_answers<K: ByteSink>(
@@ -52,9 +66,7 @@ fn write_answers<K: ByteSink>(
 {
     let answers = read_ends16(alloc, units, ends)?;
     let mut lines = String::new(alloc);
-    for answer in &answers {
-        push_answer(&mut lines, answer)?;
-    }
+    push_answers(&mut lines, &answers)?;
     put_all(sink, lines.as_bytes())
 }
 
