@@ -21,15 +21,6 @@ truncate-requires g c = rw c.in-Truncate.is at c.requires.start
 pub returns-in-Truncate-clause-made : goal.returns-in-Truncate-clause-made
 returns-in-Truncate-clause-made g c = rw c.in-Truncate.is c.truncate.ensures.made
 
-pub insert-requires-clause-found : goal.insert-requires-clause-found
-insert-requires-clause-found g c = rw c.in-Insert.is at c.requires.start
-
-pub insert-requires-clause-ready : goal.insert-requires-clause-ready
-insert-requires-clause-ready g c = rw c.in-Insert.is at c.requires.ready
-
-pub returns-in-Insert-clause-made : goal.returns-in-Insert-clause-made
-returns-in-Insert-clause-made g c = rw c.in-Insert.is c.insert.ensures.made
-
 pub insert_str-requires-clause-found : goal.insert_str-requires-clause-found
 insert_str-requires-clause-found g c = rw c.in-InsertStr.is at c.requires.start
 
