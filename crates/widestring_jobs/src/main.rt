@@ -19,24 +19,29 @@ use std::alloc::Global;
 use std::fmt::Write;
 use std::process::ExitCode;
 use std::{env, io};
-use texts::Words;
+use texts::{Words, granted};
 use widestring::error::OutOfMemory;
 
 const USAGE: &str = "usage: jobs JOB ROUNDS DIVISOR SEED";
 
+static JOBS: [&str; 6] = ["export", "table", "edits", "searches", "builds", "prints"];
+
 // Runs a job, and prints nothing. A name that is no job does nothing.
-fn run_job(words: &mut Words, job: &str, rounds: u64) -> Result<u64, OutOfMemory> {
-    let mut digest = Digest::new();
+fn run_job(
+    words: &mut Words,
+    job: &str,
+    rounds: u64,
+    digest: &mut Digest,
+) -> Result<(), OutOfMemory> {
     match job {
-        "export" => export::run(words, rounds, &mut digest)?,
-        "table" => table::run(words, rounds, &mut digest)?,
-        "edits" => edits::run_edits(words, rounds, &mut digest)?,
-        "searches" => searches::run(words, rounds, &mut digest)?,
-        "builds" => builds::run(words, rounds, &mut digest)?,
-        "prints" => prints::run(words, rounds, &mut digest)?,
-        _ => {}
+        "export" => export::run(words, rounds, digest),
+        "table" => table::run(words, rounds, digest),
+        "edits" => edits::run_edits(words, rounds, digest),
+        "searches" => searches::run(words, rounds, digest),
+        "builds" => builds::run(words, rounds, digest),
+        "prints" => prints::run(words, rounds, digest),
+        _ => Ok(()),
     }
-    Ok(digest.value())
 }
 
 // Which jobs to run, how often, and on which inputs.
@@ -49,48 +54,55 @@ struct Order<'a> {
     seed: u64,
 }
 
-// Runs a job with a vocabulary of its own and appends a line, if the order names the job or all of them.
+// Returns the digest of a job with a vocabulary of its own.
+fn digest_of(order: Order<'_>, job: &str) -> Result<u64, OutOfMemory> {
+    let mut digest = Digest::new();
+    let mut words = Words::new(order.alloc, order.divisor, order.seed)?;
+    match run_job(&mut words, job, order.rounds, &mut digest) {
+        Ok(()) => Ok(digest.value()),
+        Err(OutOfMemory) => Err(OutOfMemory),
+    }
+}
+
+// Runs a job and appends a line, if the order names the job or all of them.
 fn run_if_named(order: Order<'_>, job: &str, lines: &mut String) -> Result<(), OutOfMemory> {
     if order.name == job || order.name == "all" {
-        let mut words = Words::new(order.alloc, order.divisor, order.seed)?;
-        let value = run_job(&mut words, job, order.rounds)?;
-        writeln!(lines, "{job} {value:016x}")?;
+        let value = digest_of(order, job)?;
+        return granted(writeln!(lines, "{job} {value:016x}"));
     }
     Ok(())
 }
 
-// Runs the jobs of an order, and returns a line for each.
-fn run(order: Order<'_>) -> Result<String, OutOfMemory> {
-    let mut lines = String::new(order.alloc);
-    run_if_named(order, "export", &mut lines)?;
-    run_if_named(order, "table", &mut lines)?;
-    run_if_named(order, "edits", &mut lines)?;
-    run_if_named(order, "searches", &mut lines)?;
-    run_if_named(order, "builds", &mut lines)?;
-    run_if_named(order, "prints", &mut lines)?;
-    Ok(lines)
+// Runs the jobs of an order, and appends a line for each.
+fn run(order: Order<'_>, lines: &mut String) -> Result<(), OutOfMemory> {
+    for job in &JOBS {
+        run_if_named(order, job, lines)?;
+    }
+    Ok(())
+}
+
+// Returns the order that the words give, if they do.
+fn order_of<'a>(alloc: Global, words: &'a [String]) -> Option<Order<'a>> {
+    let [name, rounds, divisor, seed, ..] = words else {
+        return None;
+    };
+    Some(Order {
+        alloc,
+        name,
+        rounds: rounds.parse().ok()?,
+        divisor: divisor.parse().ok()?,
+        seed: seed.parse().ok()?,
+    })
 }
 
 fn main(rt: HostRuntime) -> io::Result<ExitCode> {
-    let mut arguments = env::args(&rt)?.skip(1);
-    let (name, rounds) = (arguments.next(), arguments.next());
-    let (divisor, seed) = (arguments.next(), arguments.next());
-    let (Some(name), Some(rounds), Some(divisor), Some(seed)) = (name, rounds, divisor, seed) else {
+    let words: Vec<String> = env::args(&rt)?.skip(1).collect(rt.alloc())?;
+    let Some(order) = order_of(rt.alloc(), &words) else {
         eprintln!(rt; "{USAGE}")?;
         return Ok(ExitCode::from(2));
     };
-    let (Ok(rounds), Ok(divisor), Ok(seed)) = (rounds.parse(), divisor.parse(), seed.parse()) else {
-        eprintln!(rt; "{USAGE}")?;
-        return Ok(ExitCode::from(2));
-    };
-    let order = Order {
-        alloc: rt.alloc(),
-        name: &name,
-        rounds,
-        divisor,
-        seed,
-    };
-    let lines = run(order)?;
+    let mut lines = String::new(rt.alloc());
+    run(order, &mut lines)?;
     print!(rt; "{lines}")?;
     Ok(ExitCode::SUCCESS)
 }

@@ -2,7 +2,7 @@
 ghost use Rattle.std.specs.Prelude.{◌<◌, length};
 
 use crate::random::Random;
-use std::alloc::Global;
+use std::alloc::{AllocError, Global};
 use widestring::U16Str;
 use widestring::error::OutOfMemory;
 
@@ -23,29 +23,92 @@ pub struct Words {
     pub units: Vec<Vec<u16>>,
 }
 
-fn word(alloc: Global, random: &mut Random) -> Result<String, OutOfMemory> {
-    let mut word = String::new(alloc);
-    match random.below(100) {
+/// Returns the result of a request for memory, with the library's error.
+pub fn granted(request: Result<(), AllocError>) -> Result<(), OutOfMemory> {
+    match request {
+        Ok(()) => Ok(()),
+        Err(_refused) => Err(OutOfMemory),
+    }
+}
+
+// Appends characters of a block.
+fn push_block(
+    random: &mut Random,
+    count: usize,
+    first: u32,
+    size: usize,
+    word: &mut String,
+) -> Result<(), OutOfMemory>
+    requires { 0 < size }
+{
+    for _ in 0..count {
+        word.push(random.char_of(first, size))?;
+    }
+    Ok(())
+}
+
+// Appends English letters.
+fn push_letters(random: &mut Random, count: usize, word: &mut String) -> Result<(), OutOfMemory> {
+    for _ in 0..count {
+        word.push(char::from(random.pick(LETTERS)))?;
+    }
+    Ok(())
+}
+
+// Appends English letters and an emoji.
+fn push_emoji(random: &mut Random, count: usize, word: &mut String) -> Result<(), OutOfMemory> {
+    push_letters(random, count, word)?;
+    push_block(random, 1, 0x1f600, 64, word)
+}
+
+// Appends the characters of a word.
+fn push_word(random: &mut Random, word: &mut String) -> Result<(), OutOfMemory> {
+    let kind = random.below(100);
+    match kind {
         0..8 => {
-            for _ in 0..random.below(7).saturating_add(3) {
-                word.push(random.char_of(0x430, 32))?;
-            }
+            let count = random.below(7).saturating_add(3);
+            push_block(random, count, 0x430, 32, word)
         }
         8..12 => {
-            for _ in 0..random.below(4).saturating_add(1) {
-                word.push(random.char_of(0x4e00, 0x5000))?;
-            }
+            let count = random.below(4).saturating_add(1);
+            push_block(random, count, 0x4e00, 0x5000, word)
         }
-        kind => {
-            for _ in 0..random.below(9).saturating_add(2) {
-                word.push(char::from(random.pick(LETTERS)))?;
-            }
+        _ => {
+            let count = random.below(9).saturating_add(2);
             if kind == 12 {
-                word.push(random.char_of(0x1f600, 64))?;
+                push_emoji(random, count, word)
+            } else {
+                push_letters(random, count, word)
             }
         }
     }
-    Ok(word)
+}
+
+// Appends a word to a vocabulary.
+fn push_entry(
+    alloc: Global,
+    random: &mut Random,
+    texts: &mut Vec<String>,
+    units: &mut Vec<Vec<u16>>,
+) -> Result<(), OutOfMemory> {
+    let mut text = String::new(alloc);
+    push_word(random, &mut text)?;
+    units.push(text.encode_utf16().collect(alloc)?)?;
+    texts.push(text)?;
+    Ok(())
+}
+
+// Appends the words of a vocabulary.
+fn push_entries(
+    alloc: Global,
+    random: &mut Random,
+    texts: &mut Vec<String>,
+    units: &mut Vec<Vec<u16>>,
+) -> Result<(), OutOfMemory> {
+    for _ in 0..WORDS {
+        push_entry(alloc, random, texts, units)?;
+    }
+    Ok(())
 }
 
 impl Words {
@@ -55,11 +118,7 @@ impl Words {
         let mut random = Random::new(seed);
         let mut texts = Vec::new(alloc);
         let mut units = Vec::new(alloc);
-        for _ in 0..WORDS {
-            let text = word(alloc, &mut random)?;
-            units.push(text.encode_utf16().collect(alloc)?)?;
-            texts.push(text)?;
-        }
+        push_entries(alloc, &mut random, &mut texts, &mut units)?;
         Ok(Words {
             alloc,
             random,
@@ -104,17 +163,29 @@ impl Words {
         Ok(())
     }
 
-    /// Returns a text of at least `len` units, in lines of 20 to 200 units.
-    pub fn text(&mut self, len: usize) -> Result<Vec<u16>, OutOfMemory> {
-        let mut text = Vec::with_capacity(self.alloc, len.saturating_add(400))?;
+    // Appends a line of 20 to 200 units.
+    fn push_line(&mut self, text: &mut Vec<u16>) -> Result<(), OutOfMemory> {
+        let len = self.random.below(181).saturating_add(20);
+        self.push_many(text, len)?;
+        self.push_ascii(text, "\r\n")
+    }
+
+    // Appends lines up to `len` units.
+    fn push_lines(&mut self, text: &mut Vec<u16>, len: usize) -> Result<(), OutOfMemory> {
+        text.reserve(len.saturating_add(400))?;
         for _ in 0..len {
             if text.len() >= len {
-                return Ok(text);
+                return Ok(());
             }
-            let line = self.random.below(181).saturating_add(20);
-            self.push_many(&mut text, line)?;
-            self.push_ascii(&mut text, "\r\n")?;
+            self.push_line(text)?;
         }
+        Ok(())
+    }
+
+    /// Returns a text of at least `len` units, in lines of 20 to 200 units.
+    pub fn text(&mut self, len: usize) -> Result<Vec<u16>, OutOfMemory> {
+        let mut text = Vec::new(self.alloc);
+        self.push_lines(&mut text, len)?;
         Ok(text)
     }
 
