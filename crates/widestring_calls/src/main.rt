@@ -11,7 +11,7 @@ mod strings;
 mod walking;
 
 use converting::Converting;
-use input::{Call, Input, repeat, units16, units32};
+use input::{Call, Input, Texts, Width, repeat};
 use searching::Searching;
 use sources::Sources;
 use std::alloc::Global;
@@ -19,80 +19,78 @@ use std::process::ExitCode;
 use std::{env, fs, io};
 use strings::Strings;
 use walking::Walking;
-use widestring::error::{FaultUnit, OutOfMemory};
+use widestring::error::OutOfMemory;
 
 const USAGE: &str = "usage: calls CALL WIDTH ROUNDS TEXT NEEDLE";
 
 // Makes the call of a name, if there is one, `rounds` times.
-fn run<C: FaultUnit + Ord>(
+fn run<'a, C: Width>(
     name: &str,
     rounds: u64,
-    alloc: Global,
-    units: &[C],
-    needle: &[C],
+    input: Input<'a, C>,
+    copy: &'a [C],
 ) -> Result<Option<u64>, OutOfMemory> {
     if let Some(call) = Searching::named(name) {
-        return Ok(Some(repeat(call, rounds, alloc, units, needle)?));
+        return repeat(call, rounds, input, copy);
     }
     if let Some(call) = Walking::named(name) {
-        return Ok(Some(repeat(call, rounds, alloc, units, needle)?));
+        return repeat(call, rounds, input, copy);
     }
     if let Some(call) = Converting::named(name) {
-        return Ok(Some(repeat(call, rounds, alloc, units, needle)?));
+        return repeat(call, rounds, input, copy);
     }
     if let Some(call) = Strings::named(name) {
-        return Ok(Some(repeat(call, rounds, alloc, units, needle)?));
+        return repeat(call, rounds, input, copy);
     }
     if let Some(call) = Sources::named(name) {
-        return Ok(Some(repeat(call, rounds, alloc, units, needle)?));
+        return repeat(call, rounds, input, copy);
     }
     Ok(None)
 }
 
-// Makes the calls at one of the widths.
-fn run_at(
-    width: &str,
+// Makes the calls on units of one of the widths.
+fn run_at<C: Width>(
     name: &str,
     rounds: u64,
     alloc: Global,
     text: &[u8],
     needle: &[u8],
 ) -> Result<Option<u64>, OutOfMemory> {
-    match width {
-        "16" => run(
-            name,
-            rounds,
-            alloc,
-            &units16(alloc, text)?,
-            &units16(alloc, needle)?,
-        ),
-        "32" => run(
-            name,
-            rounds,
-            alloc,
-            &units32(alloc, text)?,
-            &units32(alloc, needle)?,
-        ),
-        _ => Ok(None),
+    let mut texts: Texts<C> = Texts::new(alloc);
+    match texts.read(text, needle) {
+        Ok(()) => run(name, rounds, texts.input(), texts.copy()),
+        Err(OutOfMemory) => Err(OutOfMemory),
     }
 }
 
+// Returns the sum, or none if the words or the name of the call are wrong.
+fn answer(rt: &HostRuntime, words: &[String]) -> io::Result<Option<u64>> {
+    let [name, width, rounds, text, needle, ..] = words else {
+        return Ok(None);
+    };
+    let Ok(rounds) = rounds.parse::<u64>() else {
+        return Ok(None);
+    };
+    let text = fs::read(rt, text)?;
+    let needle = fs::read(rt, needle)?;
+    let sum = match width.as_str() {
+        "16" => run_at::<u16>(name, rounds, rt.alloc(), &text, &needle),
+        "32" => run_at::<u32>(name, rounds, rt.alloc(), &text, &needle),
+        _ => Ok(None),
+    };
+    Ok(sum?)
+}
+
 fn main(rt: HostRuntime) -> io::Result<ExitCode> {
-    let mut arguments = env::args(&rt)?.skip(1);
-    let (name, width, rounds) = (arguments.next(), arguments.next(), arguments.next());
-    let (text, needle) = (arguments.next(), arguments.next());
-    if let (Some(name), Some(width), Some(rounds), Some(text), Some(needle)) = (
-        name, width, rounds, text, needle,
-    )
-        && let Ok(rounds) = rounds.parse::<u64>()
-    {
-        let text = fs::read(&rt, &text)?;
-        let needle = fs::read(&rt, &needle)?;
-        if let Some(sum) = run_at(&width, &name, rounds, rt.alloc(), &text, &needle)? {
+    let words: Vec<String> = env::args(&rt)?.skip(1).collect(rt.alloc())?;
+    match answer(&rt, &words)? {
+        Some(sum) => {
             println!(rt; "{sum}")?;
-            return Ok(ExitCode::SUCCESS);
+            Ok(ExitCode::SUCCESS)
+        }
+        None => {
+            eprintln!(rt; "{USAGE}")?;
+            Ok(ExitCode::from(2))
         }
     }
-    eprintln!(rt; "{USAGE}")?;
-    Ok(ExitCode::from(2))
 }

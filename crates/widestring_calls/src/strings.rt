@@ -1,6 +1,6 @@
 //! Edits of strings, each of a copy of the text.
 
-use crate::input::{Call, Input};
+use crate::input::{Call, Input, length_after, named_in};
 use widestring::error::{FaultUnit, OutOfMemory};
 use widestring::unit::Unit;
 use widestring::ustring::{UStrInUstring, UString};
@@ -23,6 +23,21 @@ pub enum Strings {
     SplitOff,
 }
 
+static CALLS: [(&str, Strings); 12] = [
+    ("try_clone", Strings::TryClone),
+    ("push_str", Strings::PushStr),
+    ("push_char", Strings::PushChars),
+    ("insert_ustr", Strings::InsertUstr),
+    ("insert_char", Strings::InsertChar),
+    ("replace_range", Strings::ReplaceRange),
+    ("remove_char", Strings::RemoveChar),
+    ("retain", Strings::Retain),
+    ("retain_chars", Strings::RetainChars),
+    ("pop_char", Strings::PopChars),
+    ("drain", Strings::Drain),
+    ("split_off", Strings::SplitOff),
+];
+
 // Appends the characters of a text one by one.
 fn push_chars<C: FaultUnit>(
     string: &mut UString<C>,
@@ -34,6 +49,7 @@ fn push_chars<C: FaultUnit>(
     Ok(())
 }
 
+// Removes the characters from the back one by one.
 fn pop_chars<C: FaultUnit>(string: &mut UString<C>) -> u64 {
     let mut sum = 0u64;
     for _ in 0..string.len() {
@@ -44,51 +60,72 @@ fn pop_chars<C: FaultUnit>(string: &mut UString<C>) -> u64 {
     sum
 }
 
+fn copied<C: FaultUnit>(string: &mut UString<C>) -> Result<(), OutOfMemory> {
+    *string = string.try_clone()?;
+    Ok(())
+}
+
+// Removes the character at an offset, if there is one, and returns it, or else the length.
+fn without_char<C: FaultUnit>(string: &mut UString<C>, at: usize) -> u64 {
+    if at < string.len() {
+        u64::from(string.remove_char(at))
+    } else {
+        string.len() as u64
+    }
+}
+
+fn retained<C: FaultUnit>(string: &mut UString<C>) -> u64 {
+    string.retain(|unit| unit.code() != 0x65);
+    string.len() as u64
+}
+
+fn retained_chars<C: FaultUnit>(input: &Input<'_, C>) -> Result<u64, OutOfMemory> {
+    let mut text: UtfString<C> = UtfString::from_str(input.alloc, input.utf8)?;
+    text.retain(|c| c != 'e');
+    Ok(text.len() as u64)
+}
+
+// Cuts off the second half, and returns its length.
+fn split_off<C: FaultUnit>(string: &mut UString<C>) -> Result<u64, OutOfMemory> {
+    match string.split_off(string.len() / 2) {
+        Ok(rest) => Ok(rest.len() as u64),
+        Err(OutOfMemory) => Err(OutOfMemory),
+    }
+}
+
+impl Strings {
+    // Makes the call on a copy of the text.
+    fn edit<C: FaultUnit>(
+        self,
+        string: &mut UString<C>,
+        input: &Input<'_, C>,
+    ) -> Result<u64, OutOfMemory> {
+        let middle = string.len() / 2;
+        let done = match self {
+            Strings::TryClone => copied(string),
+            Strings::PushStr => string.push_str(input.utf8),
+            Strings::PushChars => push_chars(string, input),
+            Strings::InsertUstr => string.insert_ustr(middle, input.needle),
+            Strings::InsertChar => string.insert_char(middle, 'x'),
+            Strings::ReplaceRange => string.replace_range(middle..middle, input.needle),
+            Strings::RemoveChar => return Ok(without_char(string, middle)),
+            Strings::Retain => return Ok(retained(string)),
+            Strings::RetainChars => return retained_chars(input),
+            Strings::PopChars => return Ok(pop_chars(string)),
+            Strings::Drain => return Ok(string.drain(middle..).len() as u64),
+            Strings::SplitOff => return split_off(string),
+        };
+        length_after(done, string.len())
+    }
+}
+
 impl Call for Strings {
     fn named(name: &str) -> Option<Strings> {
-        let call = match name {
-            "try_clone" => Strings::TryClone,
-            "push_str" => Strings::PushStr,
-            "push_char" => Strings::PushChars,
-            "insert_ustr" => Strings::InsertUstr,
-            "insert_char" => Strings::InsertChar,
-            "replace_range" => Strings::ReplaceRange,
-            "remove_char" => Strings::RemoveChar,
-            "retain" => Strings::Retain,
-            "retain_chars" => Strings::RetainChars,
-            "pop_char" => Strings::PopChars,
-            "drain" => Strings::Drain,
-            "split_off" => Strings::SplitOff,
-            _ => return None,
-        };
-        Some(call)
+        named_in(&CALLS, name)
     }
 
     fn make<C: FaultUnit + Ord>(self, input: &Input<'_, C>) -> Result<u64, OutOfMemory> {
         let mut string = input.units.to_ustring(input.alloc)?;
-        let middle = string.len() / 2;
-        match self {
-            Strings::TryClone => string = string.try_clone()?,
-            Strings::PushStr => string.push_str(input.utf8)?,
-            Strings::PushChars => push_chars(&mut string, input)?,
-            Strings::InsertUstr => string.insert_ustr(middle, input.needle)?,
-            Strings::InsertChar => string.insert_char(middle, 'x')?,
-            Strings::ReplaceRange => string.replace_range(middle..middle, input.needle)?,
-            Strings::RemoveChar => {
-                if middle < string.len() {
-                    return Ok(u64::from(string.remove_char(middle)));
-                }
-            }
-            Strings::Retain => string.retain(|unit| unit.code() != 0x65),
-            Strings::RetainChars => {
-                let mut text: UtfString<C> = UtfString::from_str(input.alloc, input.utf8)?;
-                text.retain(|c| c != 'e');
-                return Ok(text.len() as u64);
-            }
-            Strings::PopChars => return Ok(pop_chars(&mut string)),
-            Strings::Drain => return Ok(string.drain(middle..).len() as u64),
-            Strings::SplitOff => return Ok(string.split_off(middle)?.len() as u64),
-        }
-        Ok(string.len() as u64)
+        self.edit(&mut string, input)
     }
 }
