@@ -26,15 +26,16 @@ use Rattle.wide_utfstring.specs.Runs.{for_run}
 use Rattle.wide_utfstring.proofs.Edits.{on_ok}
 use Rattle.wide_utfstring.specs.declared.cow.CowUtfStr.TheVariants.{Borrowed, Owned}
 
--- If a list consists of a prefix and filler, writing other elements over the filler gives the prefix and those
--- elements.
-pub taken_back : {C : Type 0} (now prefix fill ys more : List C) (index m k n : ℕ) → now ≡ take m prefix ++ fill → length prefix ≡ index → index ≤ m → n ≡ index + length ys → take n (put_mid index k now ys ++ more) ≡ prefix ++ ys
-taken_back now prefix fill ys more index m k n is long within all =
-    let begins : now ≡ prefix ++ fill = is ∙ ap (λ xs. xs ++ fill) (take_all m prefix (omega arith)) in
-    let enough : index ≤ length now = omega (arith, ap length begins, length-append prefix fill) in
-    let filled : n ≤ length (put_mid index k now ys) = omega (arith, length-append (take index now) (ys ++ post_of index k now), length-append ys (post_of index k now), length-take index now) in
-    let first : take index now ≡ prefix = ap (take index) begins ∙ ap (λ n. take n (prefix ++ fill)) (sym long) ∙ take-append_seam prefix fill in
-    take-append-le n (put_mid index k now ys) more filled ∙ take-put_mid index k now ys n all enough ∙ ap (λ xs. xs ++ ys) first
+-- A prefix with filler begins with the prefix.
+pub filled : {C : Type 0} (now old prefix fill : List C) (len : ℕ) → now ≡ take len old ++ fill → old ≡ prefix → length prefix ≤ len → take (length prefix) now ≡ prefix
+filled now old prefix fill len is same within =
+    ap (take (length prefix)) (is ∙ ap (λ xs. take len xs ++ fill) same ∙ ap (λ xs. xs ++ fill) (take_all len prefix within)) ∙ take-append_seam prefix fill
+
+-- Writing other elements over those after a prefix gives the prefix and these elements.
+pub written_over : {C : Type 0} (now prefix ys more : List C) (index k n : ℕ) → take index now ≡ prefix → index ≤ length now → n ≡ index + length ys → take n (put_mid index k now ys ++ more) ≡ prefix ++ ys
+written_over now prefix ys more index k n first enough all =
+    let long : n ≤ length (put_mid index k now ys) = omega (arith, all, length-append (take index now) (ys ++ post_of index k now), length-append ys (post_of index k now), length-take index now, enough) in
+    take-append-le n (put_mid index k now ys) more long ∙ take-put_mid index k now ys n all enough ∙ ap (λ xs. xs ++ ys) first
 
 -- A well-formed prefix and the repaired rest make up the lossy text.
 pub repaired_text : {C : Type 0} (form : EncodingForm) (number : C → ℕ) (units prefix rest ys : List C) → prefix ++ rest ≡ units → IsWellFormed form (map number prefix) → length ys ≡ length rest

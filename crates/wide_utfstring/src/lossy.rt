@@ -1,5 +1,5 @@
 //! Well-formed text made from any units, with U+FFFD for each fault.
-ghost use Rattle.std.specs.Prelude.{◌≡◌, ◌≢◌, ◌≤◌, ◌<◌, ◌++◌, [], length, map, take, IsOk, IfOk, OnOk, vec_capacity};
+ghost use Rattle.std.specs.Prelude.{◌≡◌, ◌≢◌, ◌≤◌, ◌<◌, ◌++◌, [], length, map, take, IsOk, IfOk, OnOk, vec_capacity, vec_len};
 ghost use Rattle.wide_forms.specs.EncodingForm.{encode};
 ghost use Rattle.wide_forms.specs.Items.{items, IsWellFormed, IsFirstFault};
 ghost use Rattle.wide_forms.specs.Lossy.{lossy, lossy_by};
@@ -80,20 +80,18 @@ impl<C: FaultUnit, A: Allocator> UtfString<C, A> {
         }
     }
 
-    // Appends a copy of units that are well formed before `index`, with each fault replaced by U+FFFD, to an empty
-    // vector.
-    fn repair_into(text: &mut Vec<C, A>, units: &[C], index: usize) -> Result<(), OutOfMemory>
+    // Copies units to an empty vector, and fills it with NUL up to a length.
+    fn fill(text: &mut Vec<C, A>, prefix: &[C], len: usize) -> Result<(), OutOfMemory>
         requires empty { text.old.items ≡ [] }
-        requires within { index ≤ length units.now }
-        requires prefix { IsWellFormed C.form (map C.number (take index units.now)) }
-        ensures made { OnOk result (map C.number text.new.items ≡ encode C.form (lossy (items C.form (map C.number units.now)))) }
-        ensures capacity { OnOk result (length units.now ≤ vec_capacity text.new) }
+        requires within { length prefix.now ≤ len }
+        ensures prefix { OnOk result (take (length prefix.now) text.new.items ≡ prefix.now) }
+        ensures length { OnOk result (length text.new.items ≡ len) }
+        ensures len { OnOk result (vec_len text.new ≡ len) }
+        ensures capacity { OnOk result (len ≤ vec_capacity text.new) }
     {
-        let (prefix, rest) = units.split_at(index);
-        text.reserve_exact(units.len())?;
+        text.reserve_exact(len)?;
         text.extend_from_slice(prefix)?;
-        text.resize(units.len(), C::NUL)?;
-        C::repair(rest, &mut text[index..]);
+        text.resize(len, C::NUL)?;
         Ok(())
     }
 
@@ -104,8 +102,10 @@ impl<C: FaultUnit, A: Allocator> UtfString<C, A> {
         ensures made { IfOk result (λ s. map C.number s.units ≡ encode C.form (lossy (items C.form (map C.number units.now)))) }
         ensures capacity { IfOk result (λ s. length units.now ≤ s.capacity) }
     {
+        let (prefix, rest) = units.split_at(index);
         let mut text = Vec::new(alloc);
-        UtfString::repair_into(&mut text, units, index)?;
+        UtfString::fill(&mut text, prefix, units.len())?;
+        C::repair(rest, &mut text[index..]);
         Ok(UtfString {
             string: UString::from_vec(text),
         })
