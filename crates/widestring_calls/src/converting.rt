@@ -2,7 +2,7 @@
 
 use crate::input::{Call, Input, named_in};
 use std::alloc::Global;
-use std::fmt::{Debug, Display, Write};
+use std::fmt::{Display, Write};
 use widestring::Policy;
 use widestring::error::{FaultUnit, OutOfMemory};
 use widestring::ucstr::UCStr;
@@ -58,10 +58,10 @@ fn printed(alloc: Global, value: &impl Display) -> Result<u64, OutOfMemory> {
     }
 }
 
-// Prints a value in its debug form, and returns the length of that.
-fn debug_printed(alloc: Global, value: &impl Debug) -> Result<u64, OutOfMemory> {
+// Prints units in their debug form, and returns the length of that.
+fn debug_printed<C: FaultUnit>(alloc: Global, units: UStr<'_, C>) -> Result<u64, OutOfMemory> {
     let mut sink = String::new(alloc);
-    match write!(sink, "{value:?}") {
+    match write!(sink, "{units:?}") {
         Ok(()) => Ok(sink.len() as u64),
         Err(_refused) => Err(OutOfMemory),
     }
@@ -124,7 +124,7 @@ impl Call for Converting {
         match self {
             Converting::Display => printed(alloc, &units.display()),
             Converting::DisplaySkipping => printed(alloc, &units.display_skipping()),
-            Converting::Debug => debug_printed(alloc, &units),
+            Converting::Debug => debug_printed(alloc, units),
             Converting::TextDisplay => printed(alloc, &text),
             Converting::EscapeDebug => printed(alloc, &text.escape_debug()),
             Converting::EscapeUnicode => printed(alloc, &text.escape_unicode()),

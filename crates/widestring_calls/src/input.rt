@@ -52,106 +52,59 @@ pub fn length_after(edit: Result<(), OutOfMemory>, len: usize) -> Result<u64, Ou
     }
 }
 
-/// Units that little-endian bytes hold.
-pub trait Width: FaultUnit + Ord {
-    /// Appends the units of bytes.
-    fn append(units: &mut Vec<Self>, bytes: &[u8]) -> Result<(), OutOfMemory>;
+/// Returns the units of bytes.
+pub fn units16(alloc: Global, bytes: &[u8]) -> Result<Vec<u16>, OutOfMemory> {
+    let (pairs, _) = bytes.as_chunks::<2>();
+    let mut units = Vec::with_capacity(alloc, pairs.len())?;
+    for pair in pairs {
+        units.push(u16::from_le_bytes(*pair))?;
+    }
+    Ok(units)
 }
 
-impl Width for u16 {
-    fn append(units: &mut Vec<u16>, bytes: &[u8]) -> Result<(), OutOfMemory> {
-        let (pairs, _) = bytes.as_chunks::<2>();
-        units.reserve(pairs.len())?;
-        for pair in pairs {
-            units.push(u16::from_le_bytes(*pair))?;
-        }
-        Ok(())
+/// Returns the units of bytes.
+pub fn units32(alloc: Global, bytes: &[u8]) -> Result<Vec<u32>, OutOfMemory> {
+    let (groups, _) = bytes.as_chunks::<4>();
+    let mut units = Vec::with_capacity(alloc, groups.len())?;
+    for group in groups {
+        units.push(u32::from_le_bytes(*group))?;
     }
+    Ok(units)
 }
 
-impl Width for u32 {
-    fn append(units: &mut Vec<u32>, bytes: &[u8]) -> Result<(), OutOfMemory> {
-        let (groups, _) = bytes.as_chunks::<4>();
-        units.reserve(groups.len())?;
-        for group in groups {
-            units.push(u32::from_le_bytes(*group))?;
-        }
-        Ok(())
-    }
-}
-
-/// Two copies of the units and what else inputs refer to.
-#[derive(Drop)]
-pub struct Texts<C: FaultUnit> {
-    alloc: Global,
-    units: Vec<C>,
-    copy: Vec<C>,
-    needle: Vec<C>,
-    utf8: String,
-    bytes: Vec<u8>,
-}
-
-impl<C: Width> Texts<C> {
-    pub fn new(alloc: Global) -> Texts<C> {
-        Texts {
-            alloc,
-            units: Vec::new(alloc),
-            copy: Vec::new(alloc),
-            needle: Vec::new(alloc),
-            utf8: String::new(alloc),
-            bytes: Vec::new(alloc),
-        }
-    }
-
-    /// Reads the units of bytes.
-    pub fn read(&mut self, text: &[u8], needle: &[u8]) -> Result<(), OutOfMemory> {
-        C::append(&mut self.units, text)?;
-        C::append(&mut self.copy, text)?;
-        C::append(&mut self.needle, needle)?;
-        let units = UStr::from_slice(&self.units);
-        self.utf8 = units.to_string_lossy(self.alloc)?;
-        self.bytes = units.to_le_bytes(self.alloc)?;
-        Ok(())
-    }
-
-    /// Returns the input of the units.
-    pub fn input(&self) -> Input<'_, C> {
-        Input {
-            alloc: self.alloc,
-            units: UStr::from_slice(&self.units),
-            text: UtfStr::from_slice(&self.units).unwrap_or_default(),
-            utf8: &self.utf8,
-            bytes: &self.bytes,
-            needle: UStr::from_slice(&self.needle),
-        }
-    }
-
-    /// Returns the copy of the units.
-    pub fn copy(&self) -> &[C] {
-        &self.copy
-    }
-}
-
-/// Makes a call `rounds` times, by turns on an input and on a copy of its units, so that no result can be taken from the
-/// call before. Returns the sum of the numbers.
+/// Makes a call `rounds` times, by turns on two copies of the units, so that no result can be taken from the call before.
 pub fn repeat<'a, K: Call, C: FaultUnit + Ord>(
     call: K,
     rounds: u64,
-    first: Input<'a, C>,
-    copy: &'a [C],
-) -> Result<Option<u64>, OutOfMemory> {
+    alloc: Global,
+    units: &'a [C],
+    needle: &'a [C],
+) -> Result<u64, OutOfMemory> {
+    let mut copy = Vec::new(alloc);
+    copy.extend_from_slice(units)?;
+    let utf8 = UStr::from_slice(units).to_string_lossy(alloc)?;
+    let bytes = UStr::from_slice(units).to_le_bytes(alloc)?;
+    let needle = UStr::from_slice(needle);
+    let first = Input {
+        alloc,
+        units: UStr::from_slice(units),
+        text: UtfStr::from_slice(units).unwrap_or_default(),
+        utf8: &utf8,
+        bytes: &bytes,
+        needle,
+    };
     let second = Input {
-        alloc: first.alloc,
-        units: UStr::from_slice(copy),
-        text: UtfStr::from_slice(copy).unwrap_or_default(),
-        utf8: first.utf8,
-        bytes: first.bytes,
-        needle: first.needle,
+        alloc,
+        units: UStr::from_slice(&copy),
+        text: UtfStr::from_slice(&copy).unwrap_or_default(),
+        utf8: &utf8,
+        bytes: &bytes,
+        needle,
     };
     let mut sum = 0u64;
     for round in 0..rounds {
         let input = if round % 2 == 0 { &first } else { &second };
         sum = sum.wrapping_mul(3).wrapping_add(call.make(input)?);
     }
-    Ok(Some(sum))
+    Ok(sum)
 }

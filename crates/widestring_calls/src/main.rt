@@ -11,7 +11,7 @@ mod strings;
 mod walking;
 
 use converting::Converting;
-use input::{Call, Input, Texts, Width, repeat};
+use input::{Call, Input, repeat, units16, units32};
 use searching::Searching;
 use sources::Sources;
 use std::alloc::Global;
@@ -19,78 +19,80 @@ use std::process::ExitCode;
 use std::{env, fs, io};
 use strings::Strings;
 use walking::Walking;
-use widestring::error::OutOfMemory;
+use widestring::error::{FaultUnit, OutOfMemory};
 
 const USAGE: &str = "usage: calls CALL WIDTH ROUNDS TEXT NEEDLE";
 
 // Makes the call of a name, if there is one, `rounds` times.
-fn run<'a, C: Width>(
+fn run<C: FaultUnit + Ord>(
     name: &str,
     rounds: u64,
-    input: Input<'a, C>,
-    copy: &'a [C],
+    alloc: Global,
+    units: &[C],
+    needle: &[C],
 ) -> Result<Option<u64>, OutOfMemory> {
     if let Some(call) = Searching::named(name) {
-        return repeat(call, rounds, input, copy);
+        return Ok(Some(repeat(call, rounds, alloc, units, needle)?));
     }
     if let Some(call) = Walking::named(name) {
-        return repeat(call, rounds, input, copy);
+        return Ok(Some(repeat(call, rounds, alloc, units, needle)?));
     }
     if let Some(call) = Converting::named(name) {
-        return repeat(call, rounds, input, copy);
+        return Ok(Some(repeat(call, rounds, alloc, units, needle)?));
     }
     if let Some(call) = Strings::named(name) {
-        return repeat(call, rounds, input, copy);
+        return Ok(Some(repeat(call, rounds, alloc, units, needle)?));
     }
     if let Some(call) = Sources::named(name) {
-        return repeat(call, rounds, input, copy);
+        return Ok(Some(repeat(call, rounds, alloc, units, needle)?));
     }
     Ok(None)
 }
 
-// Makes the calls on units of one of the widths.
-fn run_at<C: Width>(
+// Makes the calls at one of the widths.
+fn run_at(
+    width: &str,
     name: &str,
     rounds: u64,
     alloc: Global,
     text: &[u8],
     needle: &[u8],
 ) -> Result<Option<u64>, OutOfMemory> {
-    let mut texts: Texts<C> = Texts::new(alloc);
-    match texts.read(text, needle) {
-        Ok(()) => run(name, rounds, texts.input(), texts.copy()),
-        Err(OutOfMemory) => Err(OutOfMemory),
-    }
-}
-
-// Returns the sum, or none if the words or the name of the call are wrong.
-fn answer(rt: &HostRuntime, words: &[String]) -> io::Result<Option<u64>> {
-    let [name, width, rounds, text, needle, ..] = words else {
-        return Ok(None);
-    };
-    let Ok(rounds) = rounds.parse::<u64>() else {
-        return Ok(None);
-    };
-    let text = fs::read(rt, text)?;
-    let needle = fs::read(rt, needle)?;
-    let sum = match width.as_str() {
-        "16" => run_at::<u16>(name, rounds, rt.alloc(), &text, &needle),
-        "32" => run_at::<u32>(name, rounds, rt.alloc(), &text, &needle),
+    match width {
+        "16" => run(
+            name,
+            rounds,
+            alloc,
+            &units16(alloc, text)?,
+            &units16(alloc, needle)?,
+        ),
+        "32" => run(
+            name,
+            rounds,
+            alloc,
+            &units32(alloc, text)?,
+            &units32(alloc, needle)?,
+        ),
         _ => Ok(None),
-    };
-    Ok(sum?)
+    }
 }
 
 fn main(rt: HostRuntime) -> io::Result<ExitCode> {
-    let words: Vec<String> = env::args(&rt)?.skip(1).collect(rt.alloc())?;
-    match answer(&rt, &words)? {
-        Some(sum) => {
+    let mut arguments = env::args(&rt)?.skip(1);
+    let (name, width, rounds) = (arguments.next(), arguments.next(), arguments.next());
+    let (text, needle) = (arguments.next(), arguments.next());
+    if let (Some(name), Some(width), Some(rounds), Some(text), Some(needle)) = (
+        name, width, rounds, text, needle,
+    )
+        && let Ok(rounds) = rounds.parse::<u64>()
+    {
+        let text = fs::read(&rt, &text)?;
+        let needle = fs::read(&rt, &needle)?;
+        if let Some(sum) = run_at(&width, &name, rounds, rt.alloc(), &text, &needle)? {
             println!(rt; "{sum}")?;
-            Ok(ExitCode::SUCCESS)
-        }
-        None => {
-            eprintln!(rt; "{USAGE}")?;
-            Ok(ExitCode::from(2))
+            return Ok(ExitCode::SUCCESS);
         }
     }
+    eprintln!(rt; "{USAGE}")?;
+    Ok(ExitCode::from(2))
 }

@@ -1,10 +1,9 @@
 //! Searches, splits, prefixes, comparisons.
 
-use crate::input::{Call, Input, named_in, number_of};
+use crate::input::{Call, Input, number_of};
 use std::cmp::Ordering;
 use widestring::error::{FaultUnit, OutOfMemory};
 use widestring::ustr::UStr;
-use widestring::utfstr::UtfStr;
 
 /// A call that looks for the needle, for its first unit, or for its first character.
 #[derive(Clone, Copy)]
@@ -24,23 +23,6 @@ pub enum Searching {
     Equal,
     Compare,
 }
-
-static CALLS: [(&str, Searching); 14] = [
-    ("find", Searching::Find),
-    ("rfind", Searching::Rfind),
-    ("find_unit", Searching::FindUnit),
-    ("rfind_unit", Searching::RfindUnit),
-    ("find_char", Searching::FindChar),
-    ("rfind_char", Searching::RfindChar),
-    ("starts_with", Searching::StartsWith),
-    ("ends_with", Searching::EndsWith),
-    ("split_once", Searching::SplitOnce),
-    ("rsplit_once", Searching::RsplitOnce),
-    ("split", Searching::Split),
-    ("split_char", Searching::SplitChar),
-    ("eq", Searching::Equal),
-    ("cmp", Searching::Compare),
-];
 
 // Returns the needle's first unit, or zero.
 fn first_unit<C: FaultUnit>(needle: UStr<'_, C>) -> C {
@@ -68,27 +50,41 @@ fn lengths<C: FaultUnit>(parts: Option<(UStr<'_, C>, UStr<'_, C>)>) -> u64 {
     }
 }
 
-// Returns the lengths of the parts between needles as one number.
-fn parts<C: FaultUnit>(units: UStr<'_, C>, needle: UStr<'_, C>) -> u64 {
+// Returns the lengths of all parts of the text as one number.
+fn parts<C: FaultUnit>(input: &Input<'_, C>, is_char: bool) -> u64 {
     let mut sum = 0u64;
-    for part in units.split(needle) {
-        sum = sum.wrapping_mul(3).wrapping_add(part.len() as u64);
-    }
-    sum
-}
-
-// Returns the lengths of the parts between occurrences of a character as one number.
-fn parts_at_char<C: FaultUnit>(text: UtfStr<'_, C>, c: char) -> u64 {
-    let mut sum = 0u64;
-    for part in text.split_char(c) {
-        sum = sum.wrapping_mul(3).wrapping_add(part.len() as u64);
+    if is_char {
+        for part in input.text.split_char(first_char(input.needle)) {
+            sum = sum.wrapping_mul(3).wrapping_add(part.len() as u64);
+        }
+    } else {
+        for part in input.units.split(input.needle) {
+            sum = sum.wrapping_mul(3).wrapping_add(part.len() as u64);
+        }
     }
     sum
 }
 
 impl Call for Searching {
     fn named(name: &str) -> Option<Searching> {
-        named_in(&CALLS, name)
+        let call = match name {
+            "find" => Searching::Find,
+            "rfind" => Searching::Rfind,
+            "find_unit" => Searching::FindUnit,
+            "rfind_unit" => Searching::RfindUnit,
+            "find_char" => Searching::FindChar,
+            "rfind_char" => Searching::RfindChar,
+            "starts_with" => Searching::StartsWith,
+            "ends_with" => Searching::EndsWith,
+            "split_once" => Searching::SplitOnce,
+            "rsplit_once" => Searching::RsplitOnce,
+            "split" => Searching::Split,
+            "split_char" => Searching::SplitChar,
+            "eq" => Searching::Equal,
+            "cmp" => Searching::Compare,
+            _ => return None,
+        };
+        Some(call)
     }
 
     fn make<C: FaultUnit + Ord>(self, input: &Input<'_, C>) -> Result<u64, OutOfMemory> {
@@ -104,8 +100,8 @@ impl Call for Searching {
             Searching::EndsWith => u64::from(units.ends_with(needle)),
             Searching::SplitOnce => lengths(units.split_once(needle)),
             Searching::RsplitOnce => lengths(units.rsplit_once(needle)),
-            Searching::Split => parts(units, needle),
-            Searching::SplitChar => parts_at_char(input.text, first_char(needle)),
+            Searching::Split => parts(input, false),
+            Searching::SplitChar => parts(input, true),
             Searching::Equal => u64::from(units == needle),
             Searching::Compare => u64::from(units.cmp(&needle) == Ordering::Less),
         })

@@ -93,32 +93,6 @@ fn split_off<C: FaultUnit>(string: &mut UString<C>) -> Result<u64, OutOfMemory> 
     }
 }
 
-impl Strings {
-    // Makes the call on a copy of the text.
-    fn edit<C: FaultUnit>(
-        self,
-        string: &mut UString<C>,
-        input: &Input<'_, C>,
-    ) -> Result<u64, OutOfMemory> {
-        let middle = string.len() / 2;
-        let done = match self {
-            Strings::TryClone => copied(string),
-            Strings::PushStr => string.push_str(input.utf8),
-            Strings::PushChars => push_chars(string, input),
-            Strings::InsertUstr => string.insert_ustr(middle, input.needle),
-            Strings::InsertChar => string.insert_char(middle, 'x'),
-            Strings::ReplaceRange => string.replace_range(middle..middle, input.needle),
-            Strings::RemoveChar => return Ok(without_char(string, middle)),
-            Strings::Retain => return Ok(retained(string)),
-            Strings::RetainChars => return retained_chars(input),
-            Strings::PopChars => return Ok(pop_chars(string)),
-            Strings::Drain => return Ok(string.drain(middle..).len() as u64),
-            Strings::SplitOff => return split_off(string),
-        };
-        length_after(done, string.len())
-    }
-}
-
 impl Call for Strings {
     fn named(name: &str) -> Option<Strings> {
         named_in(&CALLS, name)
@@ -126,6 +100,26 @@ impl Call for Strings {
 
     fn make<C: FaultUnit + Ord>(self, input: &Input<'_, C>) -> Result<u64, OutOfMemory> {
         let mut string = input.units.to_ustring(input.alloc)?;
-        self.edit(&mut string, input)
+        let middle = string.len() / 2;
+        match self {
+            Strings::TryClone => length_after(copied(&mut string), string.len()),
+            Strings::PushStr => length_after(string.push_str(input.utf8), string.len()),
+            Strings::PushChars => length_after(push_chars(&mut string, input), string.len()),
+            Strings::InsertUstr => length_after(
+                string.insert_ustr(middle, input.needle),
+                string.len(),
+            ),
+            Strings::InsertChar => length_after(string.insert_char(middle, 'x'), string.len()),
+            Strings::ReplaceRange => length_after(
+                string.replace_range(middle..middle, input.needle),
+                string.len(),
+            ),
+            Strings::RemoveChar => Ok(without_char(&mut string, middle)),
+            Strings::Retain => Ok(retained(&mut string)),
+            Strings::RetainChars => retained_chars(input),
+            Strings::PopChars => Ok(pop_chars(&mut string)),
+            Strings::Drain => Ok(string.drain(middle..).len() as u64),
+            Strings::SplitOff => split_off(&mut string),
+        }
     }
 }
