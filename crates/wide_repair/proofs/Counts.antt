@@ -1,5 +1,5 @@
 -- The number of characters in well-formed units.
-use Rattle.std.proofs.Common.{◌≡◌, ℕ, zero, suc, ◌+◌, ◌-◌, ◌*◌, ◌/◌, ◌<◌, Bool, List, refl, sym, ◌∙◌, ap, subst, arith, cond, get_or, take, drop, length, count_by, zero-mul}
+use Rattle.std.proofs.Common.{◌≡◌, ℕ, zero, suc, ◌+◌, ◌-◌, ◌*◌, ◌/◌, ◌<◌, Bool, List, refl, ◌∙◌, ap, subst, arith, cond, get_or, take, drop, length, count_by, zero-mul}
 use Rattle.std.proofs.lemmas.List.Sums.{sum_by-append, sum_by-take-drop}
 use Rattle.std.proofs.Math.Seq.{take-add}
 use Rattle.std.proofs.lemmas.Grind.{common_steps}
