@@ -50,9 +50,17 @@ spaced_unit width u = 32 ∷ padded_hex width u
 abbrev pub units_line : List ℕ → ℕ → List ℕ → List ℕ
 units_line name width us = name ++ (flat_map (spaced_unit width) us ++ codes "\n")
 
--- the line of a text, and those of its units in UTF-16 and in UTF-32
+-- the line of a text, and those of units in UTF-16 and in UTF-32
+abbrev pub string_lines : List ℕ → List ℕ → List ℕ → List ℕ
+string_lines cs narrow wide = text_line cs ++ (units_line (codes "utf16") 4 narrow ++ units_line (codes "utf32") 8 wide)
+
+-- those of a text and of its own units
 abbrev pub text_lines : List ℕ → List ℕ
-text_lines cs = text_line cs ++ (units_line (codes "utf16") 4 (encode Utf16 cs) ++ units_line (codes "utf32") 8 (encode Utf32 cs))
+text_lines cs = string_lines cs (encode Utf16 cs) (encode Utf32 cs)
+
+-- the lines of replies, and then those of the text and of the units of two strings
+abbrev pub result_lines : List step.Answer → List ℕ → List ℕ → List ℕ → List ℕ
+result_lines replies cs narrow wide = flat_map reply_line replies ++ string_lines cs narrow wide
 
 -- the lines of the replies to the edits of a text, and then those of the resulting text
 abbrev pub edit_lines : List ℕ → List Edit → List ℕ

@@ -114,20 +114,20 @@ fn push_lines(
     narrow: &Marked16,
     wide: &Utf32String,
 ) -> Result<(), AllocError>
-    ensures { OnOk result (string_bytes lines.new ≡ string_bytes lines.old ++ (flat_map line.reply_line (map answer_of replies.now) ++ (line.text_line (marked_text narrow.now) ++ (line.units_line (codes "utf16") 4 (marked_units narrow.now) ++ line.units_line (codes "utf32") 8 wide.now.units)))) }
+    ensures { OnOk result (string_bytes lines.new ≡ string_bytes lines.old ++ line.result_lines (map answer_of replies.now) (marked_text narrow.now) (marked_units narrow.now) wide.now.units) }
 {
     push_replies(lines, replies)?;
     push_strings(lines, narrow, wide)
 }
 
-// Returns these lines.
+// Returns a line for each reply, and lines for the text and for the units of both strings.
 fn lines_of(
     alloc: Global,
     replies: &[Reply],
     narrow: &Marked16,
     wide: &Utf32String,
 ) -> Result<String, OutOfMemory>
-    ensures { IfOk result (λ lines. string_bytes lines ≡ flat_map line.reply_line (map answer_of replies.now) ++ (line.text_line (marked_text narrow.now) ++ (line.units_line (codes "utf16") 4 (marked_units narrow.now) ++ line.units_line (codes "utf32") 8 wide.now.units))) }
+    ensures { IfOk result (λ lines. string_bytes lines ≡ line.result_lines (map answer_of replies.now) (marked_text narrow.now) (marked_units narrow.now) wide.now.units) }
 {
     let mut lines = String::new(alloc);
     push_lines(&mut lines, replies, narrow, wide)?;
