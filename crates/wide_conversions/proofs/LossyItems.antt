@@ -14,9 +14,9 @@ use Rattle.wide_forms.specs.Laws.Policies.{ends_in_fault-append, lossy_after-app
 use Rattle.wide_forms.specs.declared.policy.Policy.{Policy}
 use Rattle.wide_conversions.specs.Utf8Items.{BeginsWith, IsLossyPrefix, utf8_items}
 use Rattle.wide_conversions.proofs.FirstItems.{begins-ascii}
-use Rattle.wide_conversions.proofs.PrefixUnits.{beyond-is}
+use Rattle.wide_from_utf8.proofs.PrefixUnits.{beyond-is}
 use Rattle.wide_conversions.proofs.PartTexts.{utf8_items-prefix}
-use Rattle.wide_conversions.proofs.StoredUnits.{one_unit-plain}
+use Rattle.wide_utf16_to_utf8.proofs.UnitEncodings.{one_unit-plain}
 
 -- ASCII characters are their own items and units.
 items-ascii : (n : ℕ) (bs : List ℕ) → n ≤ length bs → ((k : ℕ) → k < n → get_or bs k 0 < 0x80) → utf8_items bs ≡ map Char (take n bs) ++ utf8_items (drop n bs)

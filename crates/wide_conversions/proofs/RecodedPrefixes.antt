@@ -5,9 +5,9 @@ use Rattle.std.proofs.lemmas.List.Concat.{flat_map-append}
 use Rattle.wide_forms.specs.EncodingForm.{EncodingForm, code_units, encode}
 use Rattle.wide_forms.specs.Segmentation.{Char}
 use Rattle.wide_forms.specs.Items.{IsWellFormed, chars, items}
-use Rattle.wide_conversions.proofs.PrefixUnits.{beyond-is}
-use Rattle.wide_conversions.proofs.ScalarPrefixes.{IsPrefixChars, prefix_chars-one, prefix_chars-then, prefix_chars-units}
-use Rattle.wide_conversions.proofs.ScalarTexts.{encode-narrow}
+use Rattle.wide_from_utf8.proofs.PrefixUnits.{beyond-is}
+use Rattle.wide_from_units.proofs.ScalarPrefixes.{IsPrefixChars, prefix_chars-one, prefix_chars-then, prefix_chars-units}
+use Rattle.wide_from_units.proofs.ScalarTexts.{encode-narrow}
 
 -- The number of the unit at an index.
 pub number-at : {X : Type 0} (number : X → ℕ) (xs : List X) (k : ℕ) (x : X) → k < length xs → x ≡ get_or xs k x → number x ≡ get_or (map number xs) k 0

@@ -6,7 +6,7 @@ ghost use Rattle.std.specs.Prelude.{◌≡◌, ◌++◌, ◌+◌, ◌*◌, ◌<�
 ghost use Rattle.wide_forms.specs.EncodingForm.{encode};
 ghost use Rattle.wide_forms.specs.Items.{IsWellFormed, chars};
 
-use crate::from_utf8::{char_of, put_char};
+use wide_from_utf8::{char_of, put_char};
 use wide_unit::{Unit, split_first};
 
 // Returns whether each of sixteen units is a character below 0x1_0000.

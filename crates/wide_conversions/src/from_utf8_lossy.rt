@@ -8,8 +8,8 @@ ghost use Rattle.std.specs.Str.Lossy.{second_byte_max, second_byte_min};
 ghost use Rattle.wide_forms.specs.Segmentation.{Char, Fault};
 ghost use Rattle.wide_conversions.specs.Utf8Items.{BeginsWith, IsLossyPrefix};
 
-use crate::from_utf8::{char_of, low_len, put_bytes, put_char};
 use wide_forms::Policy;
+use wide_from_utf8::{char_of, low_len, put_bytes, put_char};
 use wide_unit::Unit;
 use wide_utf16_to_utf8::writes_replacement;
 

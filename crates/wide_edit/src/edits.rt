@@ -1,10 +1,5 @@
-//! Edits, their replies, and the trait of texts that can be edited.
-ghost use Rattle.std.specs.Prelude.{◌≡◌, ◌≤◌, ℕ, List, length, IfOk, OnOk};
-ghost use Rattle.wide_forms.specs.EncodingForm.{EncodingForm, encode};
-ghost use Rattle.wide_edit.specs.Step.{step, answer_of};
-ghost use Rattle.wide_edit.specs.Edited.{HasReplySpace};
+//! Edits and their replies.
 
-use std::alloc::Global;
 use std::error::Error;
 use std::fmt;
 use wide_error::OutOfMemory;
@@ -84,58 +79,3 @@ impl fmt::Display for Stopped {
 }
 
 impl Error for Stopped {}
-
-/// A text that can be edited: a list of characters, stored as the code units of one encoding form.
-pub trait TextEdit {
-    ghost use Rattle.wide_edit.specs.declared.edits.Edit.{Edit};
-
-    // The characters.
-    ghost text: { Self → List ℕ };
-
-    // The numbers of the code units.
-    ghost units: { Self → List ℕ };
-
-    // The encoding form of the units.
-    ghost form: { EncodingForm };
-
-    // How many units fit without allocating.
-    ghost capacity: { Self → ℕ };
-
-    // The text has all the capacity that the edit needs.
-    ghost is_ready: { Self → Edit → Type 0 };
-
-    /// Returns the number of characters.
-    fn char_count(&self) -> usize
-        ensures { result ≡ length (text self.now) };
-
-    /// Returns the number of code units of the text. They are the encoding of its characters (Unicode Standard, D79).
-    fn unit_count(&self) -> usize
-        ensures count { result ≡ length (units self.now) }
-        ensures encoded { units self.now ≡ encode form (text self.now) };
-
-    /// Allocates all memory that an edit needs: capacity in the text, and a vector for the characters of its reply,
-    /// which is returned. The text keeps its units, and its capacity does not shrink.
-    ///
-    /// # Errors
-    ///
-    /// [`OutOfMemory`] if an allocation fails. The text keeps its units, and its capacity does not shrink.
-    fn prepare(&mut self, alloc: Global, edit: Edit<'_>) -> Result<Vec<char>, OutOfMemory>
-        ensures ready { OnOk result (is_ready self.new edit.entry) }
-        ensures space { IfOk result (λ space. HasReplySpace (text self.new) edit.entry space) }
-        ensures text { text self.new ≡ text self.old }
-        ensures units { units self.new ≡ units self.old }
-        ensures capacity { capacity self.old ≤ capacity self.new };
-
-    /// Makes an edit in memory that was allocated for it, so that no allocation can fail. The capacity does not shrink.
-    ///
-    /// # Requires
-    ///
-    /// The text has the capacity that the edit needs, and the vector is empty and has capacity for the characters of
-    /// the reply, as after [`TextEdit::prepare`] for this edit.
-    fn apply(&mut self, edit: Edit<'_>, space: Vec<char>) -> Reply
-        requires ready { is_ready self.old edit }
-        requires space { HasReplySpace (text self.old) edit space }
-        ensures text { text self.new ≡ (step (text self.old) edit.entry).0 }
-        ensures reply { answer_of result ≡ (step (text self.old) edit.entry).1 }
-        ensures capacity { capacity self.old ≤ capacity self.new };
-}

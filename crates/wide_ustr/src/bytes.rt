@@ -5,8 +5,8 @@ ghost use Rattle.wide_ustr.specs.View.{units_seen};
 
 use crate::view::UStr;
 use std::alloc::{AllocError, Allocator};
-use wide_conversions::{byte_len, byte_width, put_be_bom, put_be_bytes, put_le_bom, put_le_bytes};
 use wide_error::OutOfMemory;
+use wide_from_units::{byte_len, byte_width, put_be_bom, put_be_bytes, put_le_bom, put_le_bytes};
 use wide_unit::Unit;
 
 // Returns `len` bytes, in a single allocation.

@@ -10,8 +10,8 @@ ghost use Rattle.wide_ustr.specs.View.{units_seen};
 use crate::lossy_with::CharsLossyWith;
 use crate::view::UStr;
 use std::alloc::{AllocError, Allocator};
-use wide_conversions::{lossy_prefix, push_utf8, utf8_len, valid_len};
 use wide_forms::Policy;
+use wide_from_units::{lossy_prefix, push_utf8, utf8_len, valid_len};
 use wide_unit::{AnyUnits, Unit};
 
 // How many units are repaired in one step.

@@ -9,7 +9,7 @@ ghost use Rattle.wide_ustr.specs.View.{numbers_seen};
 
 use crate::view::UStr;
 use std::iter::FusedIterator;
-use wide_conversions::byte_len;
+use wide_from_units::byte_len;
 use wide_unit::Unit;
 
 /// A view that can be split at a separator of some type: units, or a character.

@@ -10,9 +10,9 @@ ghost use Rattle.wide_ustr.specs.View.{units_seen};
 use crate::lossy_text::lossy_string;
 use crate::view::UStr;
 use std::alloc::Allocator;
-use wide_conversions::utf8_string;
 use wide_error::OutOfMemory;
 use wide_forms::Policy;
+use wide_from_units::utf8_string;
 use wide_unit::{Unit, check};
 use wide_utferror::{Utf16ConvertError, Utf32ConvertError, UtfError};
 

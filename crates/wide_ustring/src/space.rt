@@ -6,8 +6,8 @@ ghost use Rattle.wide_forms.specs.EncodingForm.{code_units, encode};
 
 use crate::moves::move_within;
 use std::alloc::Allocator;
-use wide_conversions::from_utf8_prefix;
 use wide_error::OutOfMemory;
+use wide_from_utf8::from_utf8_prefix;
 use wide_unit::Unit;
 
 // Removes the units from `from` up to `to`. Each unit after them moves once. If there are none, no unit moves.

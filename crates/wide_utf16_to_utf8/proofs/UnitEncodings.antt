@@ -4,10 +4,15 @@ use Rattle.std.proofs.lemmas.List.{append-nil}
 use Rattle.std.proofs.lemmas.List.Concat.{flat_map-append}
 use Rattle.std.specs.Char.{IsScalar}
 use Rattle.std.specs.List.{All}
-use Rattle.wide_forms.specs.EncodingForm.{Utf16, code_units, encode, IsHighSurrogate}
+use Rattle.wide_forms.specs.EncodingForm.{EncodingForm, Utf16, Utf32, code_units, encode, IsHighSurrogate}
 use Rattle.wide_forms.specs.Utf8.{utf8, utf8_bytes}
 use Rattle.wide_forms.specs.Laws.Forms.{scalar_from, one_unit, two_units, high_of, low_of}
 use Rattle.wide_utf16_to_utf8.specs.Encoded.{EncodedUnits, BeginsWithFault, AreCutShort}
+
+-- A character below 0x1_0000 is its own unit.
+pub one_unit-plain : (form : EncodingForm) (c : ℕ) → c < 0x1_0000 → code_units form c ≡ c ∷ []
+one_unit-plain Utf16 c below = one_unit c below
+one_unit-plain Utf32 c below = refl
 
 pub all-append : (P : ℕ → Type 0) (xs ys : List ℕ) → All P xs → All P ys → All P (xs ++ ys)
 all-append P [] ys a b k d within = b k d within

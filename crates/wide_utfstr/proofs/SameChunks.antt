@@ -16,7 +16,7 @@ use Rattle.wide_forms.specs.Utf8.{utf8}
 use Rattle.wide_forms.specs.Laws.Items.{items-nil}
 use Rattle.wide_forms.specs.Laws.Utf32.{chars32-well_formed}
 use Rattle.wide_forms.specs.Laws.Utf8.{utf8-encode_utf8_all}
-use Rattle.wide_conversions.proofs.Utf8Texts.{all_scalars-of_All}
+use Rattle.wide_from_units.proofs.Utf8Texts.{all_scalars-of_All}
 
 -- Characters equal those of a text if and only if the bytes are equal.
 pub same_bytes : (cs bs : List ℕ) → All IsScalar cs → IsUtf8 bs → (cs ≡ str_chars bs) ↔ (utf8 cs ≡ bs)

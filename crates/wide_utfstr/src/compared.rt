@@ -4,7 +4,7 @@ ghost use Rattle.std.specs.Str.{chars as str_chars};
 ghost use Rattle.wide_utfstr.specs.View.{text_seen};
 
 use crate::view::{Utf16Str, Utf32Str, UtfStr};
-use wide_conversions::{to_utf8_prefix, utf16_to_scalars_prefix};
+use wide_from_units::{to_utf8_prefix, utf16_to_scalars_prefix};
 use wide_unit::Unit;
 
 // The most bytes, or scalar values, that are compared in one step.

@@ -9,7 +9,7 @@ ghost use Rattle.wide_utfstr.specs.View.{units_seen, numbers_seen};
 ghost use Rattle.wide_utfstr.specs.Split.{text_substrings_left, char_substrings_left};
 
 use crate::view::UtfStr;
-use wide_conversions::byte_len;
+use wide_from_units::byte_len;
 use wide_unit::Unit;
 use wide_ustr::{Split, SplitView};
 

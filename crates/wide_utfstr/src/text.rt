@@ -5,8 +5,8 @@ ghost use Rattle.wide_utfstr.specs.View.{units_seen, text_seen};
 
 use crate::view::UtfStr;
 use std::alloc::Allocator;
-use wide_conversions::utf8_string;
 use wide_error::OutOfMemory;
+use wide_from_units::utf8_string;
 use wide_unit::Unit;
 
 impl<C: Unit> UtfStr<'_, C> {

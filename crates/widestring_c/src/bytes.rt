@@ -12,8 +12,8 @@ ghost use Rattle.widestring_c.specs.Policies.{policy_of};
 use crate::policies::policy_of;
 use crate::to_utf8::{LARGE, put_lossy_after};
 use wide_bytes::{BoM, byte_order, fill_units, unit_in};
-use wide_conversions::valid_len;
 use wide_forms::Policy;
+use wide_from_units::valid_len;
 use wide_transcode::ends_in_fault;
 
 // How many units are read at a time.

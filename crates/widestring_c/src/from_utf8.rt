@@ -9,10 +9,10 @@ ghost use Rattle.widestring_c.specs.Policies.{policy_of};
 
 use crate::caller_buffer::put_items;
 use crate::policies::policy_of;
-use wide_conversions::{
-    first_utf8_chunk, from_utf8_lossy_prefix, from_utf8_prefix, is_after_fault,
-};
+use wide_conversions::{first_utf8_chunk, from_utf8_lossy_prefix};
 use wide_forms::Policy;
+use wide_from_units::is_after_fault;
+use wide_from_utf8::from_utf8_prefix;
 use wide_unit::Unit;
 
 // Sizes of the array, in units, that converted units are copied from: small for a short input, so that less of it is

@@ -7,7 +7,8 @@ ghost use Rattle.wide_forms.specs.Items.{IsWellFormed, chars};
 ghost use Rattle.wide_forms.specs.Utf8.{utf8};
 
 use std::str;
-use wide_conversions::{first_utf8_chunk, utf8_len};
+use wide_conversions::first_utf8_chunk;
+use wide_from_units::utf8_len;
 use wide_unit::{Unit, check, length_as_utf16, length_as_utf32};
 
 /// Returns the length in bytes of well-formed UTF-16 (Unicode Standard, D91) in UTF-8 (D92), or `usize::MAX` if the

@@ -8,8 +8,8 @@ ghost use Rattle.widestring_c.specs.Policies.{policy_of};
 
 use crate::caller_buffer::put_items;
 use crate::policies::policy_of;
-use wide_conversions::{is_after_fault, lossy_prefix, to_utf8_prefix, valid_len};
 use wide_forms::Policy;
+use wide_from_units::{is_after_fault, lossy_prefix, to_utf8_prefix, valid_len};
 use wide_unit::{Unit, check};
 use wide_utf16_to_utf8::{checked_utf16_to_utf8, writes_replacement};
 

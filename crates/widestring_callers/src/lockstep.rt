@@ -5,7 +5,8 @@ ghost use Rattle.widestring.specs.EncodingForm.{Utf16, Utf32, encode};
 ghost use Rattle.widestring.specs.Items.{chars};
 ghost use Rattle.widestring.specs.Step.{step, meaning, answer_of, Done, Char, BadPlace};
 ghost use Rattle.widestring.specs.Counted.{AddsAtMost};
-ghost use Rattle.widestring.specs.Marks.{marked_text, marks_of, units_after};
+ghost use Rattle.widestring.specs.Marked.{marked_text, units_after};
+ghost use Rattle.widestring.specs.Marks.{marks_of};
 
 use std::alloc::Global;
 use widestring::edit::{Edit, Marked16, Reply, Steps, Stopped, TextEdit, run, run_both};

@@ -2,7 +2,7 @@
 //! leaves open: as many characters as fit. The expected numbers are those of a loop over the characters.
 use crate::all_hold::case_holds;
 use std::alloc::{AllocError, Global};
-use wide_conversions::from_utf8_prefix;
+use wide_from_utf8::from_utf8_prefix;
 use wide_unit::Unit;
 
 // Characters of one to four bytes, alone and mixed, which are repeated to make a text. Between others, the characters

@@ -1,100 +1,27 @@
 //! The output of the subcommand `edit`.
-ghost use Rattle.std.specs.Prelude.{◌≡◌, [], ◌∷◌, ◌++◌, map, codes, string_bytes, OnOk, IfOk};
-ghost use Rattle.std.specs.List.{flat_map};
+ghost use Rattle.std.specs.Prelude.{◌≡◌, ◌++◌, map, string_bytes, OnOk, IfOk};
 ghost use Rattle.std.specs.Str.{chars};
 ghost use Rattle.wide_forms.specs.EncodingForm.{Utf32};
 ghost use Rattle.wide_forms.specs.Offsets.{text_of};
-ghost use Rattle.wide_edit.specs.Marks.{marked_text, marked_units};
+ghost use Rattle.wide_editable.specs.Marked.{marked_text, marked_units};
 ghost use Rattle.wide_edit.specs.Step.{answer_of};
-ghost use Rattle.widetext_command.specs.Lines as line;
+ghost use Rattle.widetext_requests.specs.Lines as line;
 
 use std::alloc::{AllocError, Global};
 use std::fmt::Write;
-use wide_edit::{Edit, Marked16, Reply, run_both};
+use wide_edit::{Edit, Reply};
+use wide_editable::{Marked16, run_both};
 use wide_error::OutOfMemory;
 use wide_utfstring::{Utf16String, Utf32String};
-
-// Appends a character as `char::escape_default` escapes it.
-fn push_escape(lines: &mut String, c: char) -> Result<(), AllocError>
-    ensures { OnOk result (string_bytes lines.new ≡ string_bytes lines.old ++ line.escaped (c ∷ [])) }
-{
-    for escape in c.escape_default() {
-        lines.push(escape)?;
-    }
-    Ok(())
-}
-
-// Appends characters, each as `char::escape_default` escapes it.
-fn push_escaped(lines: &mut String, text: &[char]) -> Result<(), AllocError>
-    ensures { OnOk result (string_bytes lines.new ≡ string_bytes lines.old ++ line.escaped text.now) }
-{
-    for c in text {
-        push_escape(lines, *c)?;
-    }
-    Ok(())
-}
-
-// Appends a line for the reply of an edit.
-fn push_reply(lines: &mut String, reply: &Reply) -> Result<(), AllocError>
-    ensures { OnOk result (string_bytes lines.new ≡ string_bytes lines.old ++ line.reply_line (answer_of reply.now)) }
-{
-    match reply {
-        Reply::Done => writeln!(lines, "done"),
-        Reply::Char(c) => {
-            lines.push_str("char ")?;
-            push_escape(lines, *c)?;
-            lines.push('\n')
-        }
-        Reply::NoChar => writeln!(lines, "nochar"),
-        Reply::Chars(text) => {
-            lines.push_str("chars ")?;
-            push_escaped(lines, text)?;
-            lines.push('\n')
-        }
-        Reply::BadPlace => writeln!(lines, "badplace"),
-        Reply::BadRange => writeln!(lines, "badrange"),
-    }
-}
-
-// Appends a line for units of UTF-16.
-fn push_units16(lines: &mut String, units: &[u16]) -> Result<(), AllocError>
-    ensures { OnOk result (string_bytes lines.new ≡ string_bytes lines.old ++ line.units_line (codes "utf16") 4 units.now) }
-{
-    lines.push_str("utf16")?;
-    for unit in units {
-        write!(lines, " {unit:04X}")?;
-    }
-    lines.push('\n')
-}
-
-// Appends a line for units of UTF-32.
-fn push_units32(lines: &mut String, units: &[u32]) -> Result<(), AllocError>
-    ensures { OnOk result (string_bytes lines.new ≡ string_bytes lines.old ++ line.units_line (codes "utf32") 8 units.now) }
-{
-    lines.push_str("utf32")?;
-    for unit in units {
-        write!(lines, " {unit:08X}")?;
-    }
-    lines.push('\n')
-}
+use widetext_requests::{push_replies, push_units16, push_units32};
 
 // Appends lines for the text, and for the units of both strings.
 fn push_strings(lines: &mut String, narrow: &Marked16, wide: &Utf32String) -> Result<(), AllocError>
-    ensures { OnOk result (string_bytes lines.new ≡ string_bytes lines.old ++ (line.text_line (marked_text narrow.now) ++ (line.units_line (codes "utf16") 4 (marked_units narrow.now) ++ line.units_line (codes "utf32") 8 wide.now.units))) }
+    ensures { OnOk result (string_bytes lines.new ≡ string_bytes lines.old ++ line.string_lines (marked_text narrow.now) (marked_units narrow.now) wide.now.units) }
 {
     writeln!(lines, "text {}", narrow.as_utfstr().escape_default())?;
     push_units16(lines, narrow.as_utfstr().as_slice())?;
     push_units32(lines, wide.as_slice())
-}
-
-// Appends a line for each reply.
-fn push_replies(lines: &mut String, replies: &[Reply]) -> Result<(), AllocError>
-    ensures { OnOk result (string_bytes lines.new ≡ string_bytes lines.old ++ flat_map line.reply_line (map answer_of replies.now)) }
-{
-    for reply in replies {
-        push_reply(lines, reply)?;
-    }
-    Ok(())
 }
 
 // Returns the text in UTF-16, with an offset index.

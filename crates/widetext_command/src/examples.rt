@@ -1,6 +1,6 @@
 //! Runs of the program with a known subcommand: what the output holds afterwards.
 ghost use Rattle.std.specs.Prelude.{◌≡◌, false};
-ghost use Rattle.widetext_command.specs.Command.{AsksForEnds, AsksForEdits, WritesEnds, WritesEdits};
+ghost use Rattle.widetext_requests.specs.Command.{AsksForEnds, AsksForEdits, WritesEnds, WritesEdits};
 
 use crate::program::command;
 use std::alloc::Global;

@@ -2,9 +2,7 @@
 #![tactic(auto)]
 
 mod edit_lines;
-mod edit_words;
 pub mod examples;
 mod program;
-mod words;
 
 pub use program::command;

@@ -1,74 +1,18 @@
 //! The program `widetext`, over any devices.
 
-ghost use Rattle.std.specs.Prelude.{◌≡◌, ◌≢◌, ◌≤◌, ◌++◌, Option, IfErr, OnOk, OnErr, false, true, map, string_bytes};
-ghost use Rattle.std.specs.List.{flat_map};
-ghost use Rattle.std.specs.Io.KnownBytes.{Appends};
-ghost use Rattle.std.specs.Option.{option_map};
-ghost use Rattle.wide_unit.specs.Unit.{reported_item};
+ghost use Rattle.std.specs.Prelude.{◌≡◌, ◌≢◌, ◌≤◌, Option, IfErr, OnOk, OnErr, false, true};
 ghost use Rattle.wide_forms.specs.declared.policy.Policy.{Policy};
 ghost use Rattle.wide_error.specs.Texts.{transcode_error_text};
-ghost use Rattle.widetext_base.specs.Command.{AppendsPrefix, AsksForUtf8, AsksForNoUtf8, Says, Utf8Run};
-ghost use Rattle.widetext_command.specs.Command.{AsksForEnds, AsksForEdits, IsAskedBy, IsEdited, IsEditedInPart, IsOfTypes, IsWritten, IsWrittenInPart, WritesEnds, WritesEndsInPart, WritesEdits, WritesEditsInPart, IsUnknown, refusal_of};
-ghost use Rattle.widetext_command.specs.declared.words.Request.{Request};
-ghost use Rattle.widetext_command.specs.Lines.{answer_line, ends_lines};
+ghost use Rattle.widetext_base.specs.Command.{AsksForUtf8, AsksForNoUtf8, Says, Utf8Run};
+ghost use Rattle.widetext_requests.specs.Command.{AsksForEnds, AsksForEdits, IsAskedBy, IsEdited, IsEditedInPart, IsOfTypes, IsWritten, IsWrittenInPart, WritesEnds, WritesEndsInPart, WritesEdits, WritesEditsInPart, IsUnknown, refusal_of};
+ghost use Rattle.widetext_requests.specs.declared.words.Request.{Request};
 
 use crate::edit_lines::edit_lines;
-use crate::edit_words::{EditWord, edits_of};
-use crate::words::{Request, parse_words};
-use std::alloc::{AllocError, Global};
-use std::fmt::Write;
+use std::alloc::Global;
 use wide_bytes::{ByteSink, ByteSource, put_all};
-use wide_error::{DecodeUtf16Error, TranscodeError};
-use wide_iter::{End, read_ends16};
+use wide_error::TranscodeError;
 use widetext_base::{USAGE, end, parse_utf8, refuse_words, write_utf8};
-
-// Appends a line for an item of a decoder.
-fn push_answer(
-    lines: &mut String,
-    answer: &Option<Result<char, DecodeUtf16Error>>,
-) -> Result<(), AllocError>
-    ensures { OnOk result (string_bytes lines.new ≡ string_bytes lines.old ++ answer_line (option_map reported_item answer.now)) }
-{
-    match answer {
-        Some(Ok(c)) => writeln!(lines, "U+{:04X}", u32::from(*c)),
-        Some(Err(fault)) => writeln!(lines, "fault {:x}", fault.unpaired_surrogate()),
-        None => writeln!(lines, "none"),
-    }
-}
-
-// Appends a line for each of these items.
-fn push_answers(
-    lines: &mut String,
-    answers: &[Option<Result<char, DecodeUtf16Error>>],
-) -> Result<(), AllocError>
-    ensures { OnOk result (string_bytes lines.new ≡ string_bytes lines.old ++ flat_map answer_line (map (option_map reported_item) answers.now)) }
-{
-    for answer in answers {
-        push_answer(lines, answer)?;
-    }
-    Ok(())
-}
-
-// Writes one line for each item that a decoder of the units returns at the ends. It makes all lines before it writes
-// any.
-fn write_answers<K: ByteSink>(
-    alloc: Global,
-    sink: &mut K,
-    units: &[u16],
-    ends: &[End],
-) -> Result<(), TranscodeError>
-    requires { K.has_failed sink.old ≡ false }
-    ensures written { OnOk result (Appends (K.held sink.old) (K.held sink.new) (ends_lines units.now ends.now)) }
-    ensures valid { OnOk result (K.has_failed sink.new ≡ false) }
-    ensures refused { OnErr result (K.has_failed sink.new ≡ false → sink.new ≡ sink.old) }
-    ensures begun { OnErr result (K.has_failed sink.new ≡ true → AppendsPrefix (K.held sink.old) (K.held sink.new) (ends_lines units.now ends.now)) }
-    ensures refusal { IfErr result (λ error. error ≡ refusal_of (K.has_failed sink.new)) }
-{
-    let answers = read_ends16(alloc, units, ends)?;
-    let mut lines = String::new(alloc);
-    push_answers(&mut lines, &answers)?;
-    put_all(sink, lines.as_bytes())
-}
+use widetext_requests::{EditWord, Request, edits_of, parse_words, write_answers};
 
 // Writes the replies to the edits of a text, and the resulting text. It makes all lines before it writes any.
 fn write_edits<K: ByteSink>(

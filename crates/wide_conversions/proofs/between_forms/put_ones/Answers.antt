@@ -5,7 +5,7 @@ use Rattle.wide_forms.specs.Items.{IsWellFormed, items}
 use Rattle.wide_unit.specs.Unit.{item_of}
 use Rattle.wide_forms.specs.Laws.WellFormed.{no_first_fault}
 use Rattle.wide_conversions.proofs.RecodedPrefixes.{IsRecoded, recoded-one}
-use Rattle.wide_conversions.proofs.ScalarPrefixes.{left-beyond}
+use Rattle.wide_from_units.proofs.ScalarPrefixes.{left-beyond}
 use Rattle.wide_conversions.proofs.between_forms.put_ones.Goals as goal
 
 -- The first item of well-formed units is a character, so it is not replaced.

@@ -4,7 +4,7 @@ use Rattle.std.proofs.lemmas.Slice.{take-put_mid}
 use borrow.Rule.Slice.PartMut.{put_mid}
 use Rattle.wide_forms.specs.Laws.Forms.{scalar_from}
 use Rattle.wide_conversions.proofs.RecodedPrefixes.{number-at}
-use Rattle.wide_conversions.proofs.StoredUnits.{stored-more, unit-number}
+use Rattle.wide_from_utf8.proofs.StoredUnits.{stored-more, unit-number}
 use Rattle.wide_conversions.proofs.between_forms.put_plain.Goals as goal
 
 pub char_of-requires : goal.char_of-requires

@@ -3,7 +3,7 @@ use Rattle.wide_forms.specs.Lossy.{lossy_after}
 use Rattle.wide_forms.specs.Segmentation.{Char, Fault}
 use Rattle.wide_conversions.specs.Utf8Items.{BeginsWith}
 use Rattle.wide_conversions.proofs.LossyItems.{lossy-ascii, lossy-character, lossy-marked, lossy-unmarked}
-use Rattle.wide_conversions.proofs.StoredUnits.{stored-prefix}
+use Rattle.wide_from_utf8.proofs.StoredUnits.{stored-prefix}
 use Rattle.wide_conversions.proofs.from_utf8_lossy.put_prefix.Goals as goal
 
 pub returns-then-ascii-gt0-clause-units : goal.returns-then-ascii-gt0-clause-units

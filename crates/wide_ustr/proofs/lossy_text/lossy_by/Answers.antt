@@ -2,7 +2,7 @@ use Rattle.std.proofs.Common.{map}
 use Rattle.wide_forms.specs.Items.{items}
 use Rattle.wide_forms.specs.Lossy.{lossy_by}
 use Rattle.wide_forms.specs.Laws.Policies.{scalars-lossy_by}
-use Rattle.wide_conversions.proofs.Utf8Texts.{IsUtf8-utf8}
+use Rattle.wide_from_units.proofs.Utf8Texts.{IsUtf8-utf8}
 use Rattle.wide_ustr.specs.View.{units_seen}
 use Rattle.wide_ustr.proofs.lossy_text.lossy_by.Goals as goal
 

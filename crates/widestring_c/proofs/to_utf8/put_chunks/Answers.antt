@@ -2,7 +2,7 @@ use Rattle.std.proofs.Common.{◌≡◌, ◌++◌, ◌∙◌, ℕ, List, refl, s
 use Rattle.wide_forms.specs.EncodingForm.{EncodingForm}
 use Rattle.wide_forms.specs.Items.{IsWellFormed, chars}
 use Rattle.wide_forms.specs.Utf8.{utf8}
-use Rattle.wide_conversions.proofs.Utf8Texts.{no_text}
+use Rattle.wide_from_units.proofs.Utf8Texts.{no_text}
 use Rattle.widestring_c.proofs.Buffers.{after_more, counted_end, is_none, next_part, nothing_yet, shorter, written_end}
 use Rattle.widestring_c.proofs.to_utf8.put_chunks.Goals as goal
 

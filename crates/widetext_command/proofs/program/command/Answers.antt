@@ -1,5 +1,5 @@
 use Rattle.std.proofs.Common.{rules}
-use Rattle.widetext_command.proofs.Asking.{ends_no_utf8, edits_no_utf8}
+use Rattle.widetext_requests.proofs.Asking.{ends_no_utf8, edits_no_utf8}
 use Rattle.widetext_command.proofs.program.command.Goals as goal
 
 pub returns-in-Some-clause-reads : goal.returns-in-Some-clause-reads

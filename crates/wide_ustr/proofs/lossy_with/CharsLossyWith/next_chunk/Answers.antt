@@ -1,5 +1,5 @@
 use Rattle.std.proofs.Common.{◌≡◌, ◌<◌, arith, length}
-use Rattle.wide_conversions.proofs.LossyPrefixes.{halves}
+use Rattle.wide_from_units.proofs.LossyPrefixes.{halves}
 use Rattle.wide_ustr.proofs.LossyChunks.{no_lossy_text, some_text, valid_chunk}
 use Rattle.wide_ustr.proofs.lossy_with.CharsLossyWith.next_chunk.Goals as goal
 

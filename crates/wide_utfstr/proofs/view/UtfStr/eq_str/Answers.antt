@@ -3,7 +3,7 @@ use Rattle.std.specs.Str.{chars as str_chars}
 use Rattle.wide_forms.specs.Items.{chars}
 use Rattle.wide_forms.specs.Utf8.{utf8}
 use Rattle.wide_forms.specs.Laws.Offsets.{scalars-chars}
-use Rattle.wide_conversions.proofs.Utf8Texts.{no_text}
+use Rattle.wide_from_units.proofs.Utf8Texts.{no_text}
 use Rattle.wide_utfstr.specs.View.{text_seen}
 use Rattle.wide_utfstr.proofs.SameChunks.{same_bytes, same_after, no_longer_same, same_at_end}
 use Rattle.wide_utfstr.proofs.view.UtfStr.eq_str.Goals as goal

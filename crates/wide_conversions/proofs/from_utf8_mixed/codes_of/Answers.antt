@@ -1,5 +1,0 @@
-use Rattle.wide_conversions.proofs.CodeLanes.{lanes-are}
-use Rattle.wide_conversions.proofs.from_utf8_mixed.codes_of.Goals as goal
-
-pub returns : goal.returns
-returns c = lanes-are 8 c.args.text.now c.requires

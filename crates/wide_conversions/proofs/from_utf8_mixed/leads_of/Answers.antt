@@ -1,5 +1,0 @@
-use Rattle.wide_conversions.proofs.CodeLanes.{leads-are}
-use Rattle.wide_conversions.proofs.from_utf8_mixed.leads_of.Goals as goal
-
-pub returns : goal.returns
-returns c = leads-are c.args.text.now c.requires (λ k. (c.type_inv.text k).fits)

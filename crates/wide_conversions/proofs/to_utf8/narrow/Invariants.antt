@@ -1,8 +1,0 @@
-use Rattle.std.proofs.Common.{◌≡◌, ◌<◌, ℕ, get_or, length}
-use Rattle.wide_conversions.proofs.to_utf8.narrow.Given as goal
-
-abbrev pub invariant-loop-k : goal.invariant-loop-k
-invariant-loop-k l = record {
-  long : length l.units ≡ 16;
-  same : (j : ℕ) → j < l.k → get_or l.units j 0 ≡ get_or l.block j 0;
-}

@@ -1,7 +1,0 @@
-use Rattle.wide_forms.specs.EncodingForm.{Utf16}
-use Rattle.wide_forms.specs.UnitBytes.{little_bytes}
-use Rattle.wide_conversions.proofs.StoredBytes.{AreStored}
-use Rattle.wide_conversions.proofs.unit_bytes.put_little_16.Given as goal
-
-abbrev pub invariant-loop-k : goal.invariant-loop-k
-invariant-loop-k l = AreStored (little_bytes Utf16) 2 l.units l.fn.bytes l.bytes l.k

@@ -1,6 +1,0 @@
-use Rattle.std.proofs.Common.{rules, refl}
-use Rattle.std.proofs.lemmas.Fn.{filter_same}
-use Rattle.wide_edit.proofs.operations.retain.Goals as goal
-
-pub returns-clause-made : goal.returns-clause-made
-returns-clause-made g c = record { text = filter_same _ _ _ (λ x b f' k. search rules) _ _ c.retain.ensures.filtered; answer = refl }

@@ -1,0 +1,4 @@
+pub mod Capacity
+pub mod Numbers
+pub mod Marked
+pub mod Replaced

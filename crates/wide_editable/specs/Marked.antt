@@ -1,0 +1,79 @@
+-- A UTF-16 string with an offset index, and what an edit leaves of the index.
+use Rattle.std.specs.Prelude.{ℕ, ◌+◌, ◌-◌, ◌/◌, ◌≤◌, List, drop, length, min, refl}
+use Rattle.std.specs.Coded.{Coded, code_by, coded×, coded_ℕ}
+use Rattle.wide_forms.specs.EncodingForm.{Utf16, encode}
+use Rattle.wide_forms.specs.Items.{chars}
+use Rattle.wide_ustring.specs.Units.{Units, units_code}
+use Rattle.wide_offset_index.specs.Marks.{mark}
+use Rattle.wide_edit.specs.Step.{step}
+use Rattle.wide_edit.specs.declared.edits.Edit.{Edit}
+use Rattle.wide_edit.specs.declared.edits.Edit.TheVariants.{Push, PushStr, Pop, Truncate, Insert, InsertStr, Remove, Retain, Drain, Replace, SplitOff, Clear}
+use Rattle.wide_editable.specs.Capacity.{CanHold}
+
+-- The index of the first character that an edit can change, in a text of so many characters. The characters before it
+-- stay as they are.
+abbrev pub edit_offset : ℕ → Edit → ℕ
+edit_offset count (Push c) = count
+edit_offset count (PushStr t) = count
+edit_offset count Pop = count - 1
+edit_offset count (Truncate m) = min m count
+edit_offset count (Insert i c) = min i count
+edit_offset count (InsertStr i t) = min i count
+edit_offset count (Remove i) = min i count
+edit_offset count (Retain keep) = 0
+edit_offset count (Drain a b) = min a count
+edit_offset count (Replace a b t) = min a count
+edit_offset count (SplitOff i) = min i count
+edit_offset count Clear = 0
+
+-- How many index entries of these characters are not past the edit's first character.
+abbrev pub marks_kept : List ℕ → Edit → ℕ
+marks_kept cs edit = edit_offset (length cs) edit / 64
+
+-- The number of units after the last of those entries, before the edit and after it.
+abbrev pub units_after : List ℕ → List ℕ → Edit → ℕ
+units_after old new edit =
+    (length (encode Utf16 old) - mark old (marks_kept old edit)) + (length (encode Utf16 new) - mark new (marks_kept old edit))
+
+-- The number of units that are read to count the characters of a reply: those of the characters that a `SplitOff`
+-- removes.
+abbrev pub units_split_off : List ℕ → Edit → ℕ
+units_split_off cs (Push c) = 0
+units_split_off cs (PushStr t) = 0
+units_split_off cs Pop = 0
+units_split_off cs (Truncate m) = 0
+units_split_off cs (Insert i c) = 0
+units_split_off cs (InsertStr i t) = 0
+units_split_off cs (Remove i) = 0
+units_split_off cs (Retain keep) = 0
+units_split_off cs (Drain a b) = 0
+units_split_off cs (Replace a b t) = 0
+units_split_off cs (SplitOff i) = length (encode Utf16 (drop i cs))
+units_split_off cs Clear = 0
+
+-- What contracts say about a string with an offset index: the string, and how many entries fit without allocating.
+pub record Marked : Type 0 where
+  pub string : Units ℕ
+  pub marks_space : ℕ
+
+abbrev pub marked_code : Coded Marked
+marked_code =
+    code_by (Units ℕ × ℕ) (coded× (units_code coded_ℕ) coded_ℕ) (λ m. (m.string, m.marks_space))
+    (λ p. record { string = p.0; marks_space = p.1 }) (λ _. refl)
+
+-- Its units.
+abbrev pub marked_units : Marked → List ℕ
+marked_units m = m.string.units
+
+-- How many units fit without allocating.
+abbrev pub marked_capacity : Marked → ℕ
+marked_capacity m = m.string.capacity
+
+-- Its characters.
+abbrev pub marked_text : Marked → List ℕ
+marked_text m = chars Utf16 m.string.units
+
+-- The new units and the new index entries fit without allocating.
+pub record IsMarkedReady (m : Marked) (edit : Edit) : Type 0 where
+  pub units : CanHold Utf16 m.string (step (marked_text m) edit).0
+  pub marks : length (step (marked_text m) edit).0 / 64 ≤ m.marks_space

@@ -1,0 +1,6 @@
+pub mod ScalarTexts
+pub mod ScalarPrefixes
+pub mod Utf8Texts
+pub mod Utf8Lengths
+pub mod LossyPrefixes
+pub mod StoredBytes

@@ -1,0 +1,8 @@
+pub mod Lengths
+pub mod Offsets
+pub mod Marking
+pub mod Neighbors
+pub mod Parts
+pub mod Passes
+pub mod Few
+pub mod Walks

@@ -1,0 +1,4 @@
+pub mod Counted
+pub mod Found
+pub mod Marks
+pub mod Passed

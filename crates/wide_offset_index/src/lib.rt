@@ -1,0 +1,17 @@
+//! The offset index of a UTF-16 text: the offsets of every 64th character, searches from them, and what an edit of the
+//! text makes of them.
+//!
+//! [`Steps`] is public in the crate `widestring`; everything else serves the string that has such an index.
+#![tactic(auto)]
+
+mod counting;
+mod marks;
+mod passing;
+mod shifting;
+mod ticking;
+
+pub use counting::Steps;
+pub use marks::{count_from, find_from, repair, units_from};
+pub use passing::pass_on;
+pub use shifting::{Range16, count_if_few, shift};
+pub use ticking::tick;

@@ -1,0 +1,259 @@
+//! The offset index after an edit that replaces few characters by few: the entries after them are moved, and not
+//! counted again.
+ghost use Rattle.std.specs.Prelude.{◌≡◌, ◌+◌, ◌-◌, ◌*◌, ◌/◌, ◌<◌, ◌≤◌, ◌↔◌, length, take, map, max, slice_index, vec_capacity, IsSome, IfSome};
+ghost use Rattle.std.specs.List.{range_with_len};
+ghost use Rattle.wide_forms.specs.EncodingForm.{Utf16};
+ghost use Rattle.wide_forms.specs.Items.{chars};
+ghost use Rattle.wide_utfstr.specs.View.{units_seen};
+ghost use Rattle.wide_offset_index.specs.Counted.{counted, AddsAtMost};
+ghost use Rattle.wide_offset_index.specs.Marks.{offset, mark, marks_of, IsEdited, AreMoved};
+ghost use Rattle.wide_offset_index.specs.Passed.{units_put, IsShort, IsFew, marks_left, AddsMoved};
+
+use crate::counting::Steps;
+use crate::passing::{between, pass_back, pass_on};
+use crate::ticking::tick;
+use wide_utfstr::Utf16Str;
+
+// If an edit removes or adds more characters, the entries after them are counted again.
+const FEW: usize = 31;
+
+/// A range of characters, and where it is in the units.
+#[derive(Clone, Copy)]
+pub struct Range16 {
+    /// The index of the first character.
+    pub from: usize,
+    /// The index of the first character after the range.
+    pub to: usize,
+    /// The offset, in units, of the character at index `from`.
+    pub start: usize,
+    /// The offset, in units, of the character at index `to`.
+    pub end: usize,
+}
+
+/// Returns the number of characters of a text whose characters in a range were replaced by others, if both are few. The
+/// text had `count` characters and `units` units before. It reads the new characters, if they have few units, and counts
+/// these.
+pub fn count_if_few(
+    text: Utf16Str<'_>,
+    range: Range16,
+    count: usize,
+    units: usize,
+    steps: &mut Steps,
+) -> Option<usize>
+    requires edited { IsEdited (chars Utf16 (units_seen text)) count units range.from range.to range.start range.end }
+    ensures count { IfSome result (λ total. total ≡ length (chars Utf16 (units_seen text.entry))) }
+    ensures few { IfSome result (λ total. (range.to ≤ range.from + 31) × (total ≤ count + 31)) }
+    ensures some { IsSome result ↔ IsFew (units_seen text.entry) count units range }
+    ensures read { IsShort (units_seen text.entry) units range → counted steps.new ≡ counted steps.old + units_put (units_seen text.entry) units range }
+    ensures many_removed { range.from + 31 < range.to → counted steps.new ≡ counted steps.old }
+    ensures many_put { 62 < units_put (units_seen text.entry) units range → counted steps.new ≡ counted steps.old }
+    ensures steps { AddsAtMost steps.old steps.new 62 }
+{
+    let stop = text.len() - (units - range.end);
+    let removed = range.to - range.from;
+    let more = stop - range.start;
+    if removed > FEW || more > 2 * FEW {
+        return None;
+    }
+    tick(steps, more);
+    let added = text.slice(range.start..stop).char_count();
+    if added > FEW {
+        return None;
+    }
+    Some(count - removed + added)
+}
+
+// Returns the number of a character whose offset is known from old entry number `number + 1`, and its offset in the new
+// text, or those of the end if there is no such entry.
+fn known_from(
+    text: Utf16Str<'_>,
+    entries: &[usize],
+    number: usize,
+    count: usize,
+    units: usize,
+    total: usize,
+) -> (usize, usize)
+    requires within { number ≤ length entries.now }
+    requires total { total ≡ length (chars Utf16 (units_seen text)) }
+    requires less { count ≤ total + 31 }
+    requires old { 64 * length entries.now ≤ count }
+    requires new { 64 * length entries.now ≤ total }
+    requires moved { AreMoved (chars Utf16 (units_seen text)) count units (64 * (number + 1)) entries.now }
+    ensures offset { result.1 ≡ offset (chars Utf16 (units_seen text.entry)) result.0 }
+    ensures index { number < length entries.now → result.0 + count ≡ total + 64 * (number + 1) }
+    ensures end { length entries.now ≤ number → result.0 ≡ total }
+    ensures least { 64 * number ≤ result.0 }
+    ensures most { result.0 ≤ total }
+{
+    let len = text.len();
+    if number < entries.len() {
+        let index = total - (count - 64 * (number + 1));
+        return (index, len - (units - entries[number]));
+    }
+    (total, len)
+}
+
+// Returns the new entry number `number + 1`, given the new entry before it, and the old entries from it on.
+fn moved_entry(
+    text: Utf16Str<'_>,
+    entries: &[usize],
+    number: usize,
+    count: usize,
+    units: usize,
+    total: usize,
+    steps: &mut Steps,
+) -> usize
+    requires within { number < length entries.now }
+    requires some { 0 < number }
+    requires total { total ≡ length (chars Utf16 (units_seen text)) }
+    requires more { total ≤ count + 31 }
+    requires less { count ≤ total + 31 }
+    requires old { 64 * length entries.now ≤ count }
+    requires new { 64 * length entries.now ≤ total }
+    requires before { slice_index entries.now (number - 1) ≡ mark (chars Utf16 (units_seen text)) number }
+    requires moved { AreMoved (chars Utf16 (units_seen text)) count units (64 * (number + 1)) entries.now }
+    ensures entry { result ≡ mark (chars Utf16 (units_seen text.entry)) (number + 1) }
+    ensures passes { AddsMoved (chars Utf16 (units_seen text.entry)) steps.old steps.new (length entries.now) number count total }
+    ensures steps { AddsAtMost steps.old steps.new 62 }
+{
+    let to = 64 * (number + 1);
+    let known = known_from(text, entries, number, count, units, total);
+    if count <= total {
+        return between(text, (to - 64, entries[number - 1]), known, to, steps);
+    }
+    let next = known_from(text, entries, number + 1, count, units, total);
+    between(text, known, next, to, steps)
+}
+
+// Returns the new entry number `number + 1`: the first one after the range is counted from there, the others are moved.
+fn next_entry(
+    text: Utf16Str<'_>,
+    entries: &[usize],
+    number: usize,
+    range: Range16,
+    count: usize,
+    units: usize,
+    total: usize,
+    steps: &mut Steps,
+) -> usize
+    requires edited { IsEdited (chars Utf16 (units_seen text)) count units range.from range.to range.start range.end }
+    requires kept { range.from / 64 ≤ number }
+    requires within { number < length entries.now }
+    requires total { total ≡ length (chars Utf16 (units_seen text)) }
+    requires more { total ≤ count + 31 }
+    requires less { count ≤ total + 31 }
+    requires old { 64 * length entries.now ≤ count }
+    requires new { 64 * length entries.now ≤ total }
+    requires before { 0 < number → slice_index entries.now (number - 1) ≡ mark (chars Utf16 (units_seen text)) number }
+    requires moved { range.from / 64 < number → AreMoved (chars Utf16 (units_seen text)) count units (64 * (number + 1)) entries.now }
+    ensures entry { result ≡ mark (chars Utf16 (units_seen text.entry)) (number + 1) }
+    ensures grows { counted steps.old ≤ counted steps.new }
+    ensures first { number ≡ range.from / 64 → counted steps.new + range.start ≡ counted steps.old + result }
+    ensures passes { range.from / 64 < number → AddsMoved (chars Utf16 (units_seen text.entry)) steps.old steps.new (length entries.now) number count total }
+    ensures later { range.from / 64 < number → counted steps.new ≤ counted steps.old + 62 }
+{
+    if number == range.from / 64 {
+        return pass_on(text, range.from, range.start, 64 * (number + 1), steps);
+    }
+    moved_entry(text, entries, number, count, units, total, steps)
+}
+
+// Makes the entries from the first one past the beginning of the range on those of the edited text, and counts a step
+// for each of them.
+fn move_entries(
+    text: Utf16Str<'_>,
+    entries: &mut [usize],
+    range: Range16,
+    count: usize,
+    units: usize,
+    total: usize,
+    steps: &mut Steps,
+)
+    requires edited { IsEdited (chars Utf16 (units_seen text)) count units range.from range.to range.start range.end }
+    requires few { range.to ≤ range.from + 31 }
+    requires total { total ≡ length (chars Utf16 (units_seen text)) }
+    requires more { total ≤ count + 31 }
+    requires less { count ≤ total + 31 }
+    requires old { 64 * length entries.old ≤ count }
+    requires new { 64 * length entries.old ≤ total }
+    requires kept { range.from / 64 ≤ length entries.old }
+    requires some { take (range.from / 64) entries.old ≡ map (mark (chars Utf16 (units_seen text))) (range_with_len 1 (range.from / 64)) }
+    requires moved { AreMoved (chars Utf16 (units_seen text)) count units range.to entries.old }
+    ensures entries { entries.new ≡ map (mark (chars Utf16 (units_seen text.entry))) (range_with_len 1 (length entries.old)) }
+    ensures grows { counted steps.old ≤ counted steps.new }
+    ensures none { length entries.old ≤ range.from / 64 → counted steps.new ≡ counted steps.old }
+    ensures least { range.from / 64 < length entries.old → counted steps.old + (length entries.old - range.from / 64) + mark (chars Utf16 (units_seen text.entry)) (range.from / 64 + 1) ≤ counted steps.new + range.start }
+    ensures steps { counted steps.new + range.start ≤ counted steps.old + 1 + max range.start (mark (chars Utf16 (units_seen text.entry)) (length entries.old)) }
+{
+    let _units = text.len();
+    for number in range.from / 64..entries.len() {
+        tick(steps, 1);
+        let entry = next_entry(text, entries, number, range, count, units, total, steps);
+        entries[number] = entry;
+    }
+}
+
+// Appends the last entry if it is missing, and counts it from the end of a text of `total` characters.
+fn push_last(text: Utf16Str<'_>, marks: &mut Vec<usize>, total: usize, steps: &mut Steps)
+    requires total { total ≡ length (chars Utf16 (units_seen text)) }
+    requires some { marks.old.items ≡ map (mark (chars Utf16 (units_seen text))) (range_with_len 1 (length marks.old.items)) }
+    requires within { length marks.old.items ≤ total / 64 }
+    requires long { total / 64 ≤ length marks.old.items + 1 }
+    requires space { total / 64 ≤ vec_capacity marks.old }
+    ensures marks { marks.new.items ≡ marks_of (chars Utf16 (units_seen text.entry)) }
+    ensures space { vec_capacity marks.new ≡ vec_capacity marks.old }
+    ensures missing { length marks.old.items < total / 64 → counted steps.new + mark (chars Utf16 (units_seen text.entry)) (length marks.old.items + 1) ≡ counted steps.old + length (units_seen text.entry) }
+    ensures whole { total / 64 ≤ length marks.old.items → counted steps.new ≡ counted steps.old }
+{
+    let len = text.len();
+    let number = marks.len() + 1;
+    if number <= total / 64 {
+        let at = pass_back(text, total, len, 64 * number, steps);
+        marks.push_reserved(at);
+    }
+}
+
+/// Makes the entries those of a text whose characters in a range were replaced by others, both few. The text had `count`
+/// characters and `units` units before, and has `total` characters now. It counts a step for each entry that it moves,
+/// and for each unit that it reads.
+///
+/// # Requires
+///
+/// The entries are those of the text before, and there is capacity for those of the text now.
+pub fn shift(
+    text: Utf16Str<'_>,
+    marks: &mut Vec<usize>,
+    range: Range16,
+    count: usize,
+    units: usize,
+    total: usize,
+    steps: &mut Steps,
+)
+    requires edited { IsEdited (chars Utf16 (units_seen text)) count units range.from range.to range.start range.end }
+    requires few { range.to ≤ range.from + 31 }
+    requires total { total ≡ length (chars Utf16 (units_seen text)) }
+    requires more { total ≤ count + 31 }
+    requires long { length marks.old.items ≡ count / 64 }
+    requires some { take (range.from / 64) marks.old.items ≡ take (range.from / 64) (marks_of (chars Utf16 (units_seen text))) }
+    requires moved { AreMoved (chars Utf16 (units_seen text)) count units range.to marks.old.items }
+    requires space { length (chars Utf16 (units_seen text)) / 64 ≤ vec_capacity marks.old }
+    ensures marks { marks.new.items ≡ marks_of (chars Utf16 (units_seen text.entry)) }
+    ensures space { vec_capacity marks.new ≡ vec_capacity marks.old }
+    ensures grows { counted steps.old ≤ counted steps.new }
+    ensures least { range.from / 64 < marks_left count total → counted steps.old + (marks_left count total - range.from / 64) + mark (chars Utf16 (units_seen text.entry)) (range.from / 64 + 1) ≤ counted steps.new + range.start }
+    ensures missing { count / 64 < total / 64 → counted steps.old + (count / 64 - range.from / 64) + length (units_seen text.entry) ≤ counted steps.new + mark (chars Utf16 (units_seen text.entry)) (count / 64 + 1) }
+    ensures steps { counted steps.new + range.start ≤ counted steps.old + 1 + length (units_seen text.entry) }
+{
+    let _units = text.len();
+    marks.truncate(total / 64);
+    move_entries(
+        text,
+        marks.as_mut_slice(),
+        range,
+        count,
+        units,
+        total,
+        steps,
+    );
+    push_last(text, marks, total, steps);
+}

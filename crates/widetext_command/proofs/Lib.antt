@@ -1,6 +1,0 @@
-mod Lines
-mod Edits
-mod Units
-mod Hex
-mod Asking
-mod Complete

@@ -1,6 +1,0 @@
-use Rattle.std.proofs.Common.{rules}
-use Rattle.widetext_command.proofs.Hex.{hex_hole}
-use Rattle.widetext_command.proofs.program.push_answer.Goals as goal
-
-pub returns-in-Some-Ok : goal.returns-in-Some-Ok
-returns-in-Some-Ok c = search (rules, hex_hole 4)
