@@ -150,6 +150,16 @@ pub fn steps(alloc: Global, word: &str) -> Result<Vec<Option<End>>, NoAnswer> {
     Ok(steps)
 }
 
+/// Returns the value of a word in a table.
+pub fn named<T: Copy>(table: &[(&str, T)], word: &str) -> Result<T, NoAnswer> {
+    for (known, value) in table {
+        if *known == word {
+            return Ok(*value);
+        }
+    }
+    Err(NoAnswer::Unparsed)
+}
+
 /// Splits a question into its first word and what follows the space after it.
 pub fn word(question: &str) -> (&str, &str) {
     question.split_once(' ').unwrap_or((question, ""))

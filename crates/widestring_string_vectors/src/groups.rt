@@ -15,7 +15,8 @@ mod ustring_items;
 mod utfstring;
 
 use widestring_replay::Suite;
-use widestring_replay::parse::{Memory, NoAnswer};
+use widestring_replay::parse::{self, Memory, NoAnswer};
+use widestring_replay::show::ReportedUnit;
 
 /// Owned strings: of any units, of well-formed text, and C strings.
 pub struct StringSuite;
@@ -53,6 +54,34 @@ static FAULTS: [(&str, &str); 3] = [
     ("utfstring16", "utf16-error-index"),
 ];
 
+// The groups whose lists are units, without the width that ends their names.
+#[derive(Clone, Copy)]
+enum OfUnits {
+    Pop,
+    Remove,
+    Insert,
+    Replace,
+    Drain,
+    Retain,
+    SplitOff,
+    CString,
+    Text,
+    Calls,
+}
+
+static OF_UNITS: [(&str, OfUnits); 10] = [
+    ("pop", OfUnits::Pop),
+    ("remove", OfUnits::Remove),
+    ("insert", OfUnits::Insert),
+    ("replace", OfUnits::Replace),
+    ("drain", OfUnits::Drain),
+    ("retain", OfUnits::Retain),
+    ("split_off", OfUnits::SplitOff),
+    ("ucstring", OfUnits::CString),
+    ("utfstring", OfUnits::Text),
+    ("ustring_calls", OfUnits::Calls),
+];
+
 impl Suite for StringSuite {
     fn groups() -> &'static [&'static str] {
         &GROUPS
@@ -68,43 +97,47 @@ impl Suite for StringSuite {
         list: &str,
         question: &str,
     ) -> Result<String, NoAnswer> {
-        let alloc = memory.alloc;
         match group {
-            "pop16" => ustring::pop::<u16>(alloc, list, question),
-            "pop32" => ustring::pop::<u32>(alloc, list, question),
-            "remove16" => ustring::remove::<u16>(alloc, list, question),
-            "remove32" => ustring::remove::<u32>(alloc, list, question),
-            "insert16" => ustring::insert::<u16>(alloc, list, question),
-            "insert32" => ustring::insert::<u32>(alloc, list, question),
-            "replace16" => ustring::replace::<u16>(alloc, list, question),
-            "replace32" => ustring::replace::<u32>(alloc, list, question),
-            "drain16" => drain::drain::<u16>(alloc, list, question),
-            "drain32" => drain::drain::<u32>(alloc, list, question),
-            "retain16" => ustring::retain::<u16>(alloc, list, question),
-            "retain32" => ustring::retain::<u32>(alloc, list, question),
-            "split_off16" => ustring::split_off::<u16>(alloc, list, question),
-            "split_off32" => ustring::split_off::<u32>(alloc, list, question),
-            "edits" => edits::replies(alloc, list, question),
-            _ => answer_of_scripts(memory, group, list, question),
+            "edits" => edits::replies(memory.alloc, list, question),
+            "chars32" => chars32::made(memory, list, question),
+            _ => of_units(memory, group, list, question),
         }
     }
 }
 
-// Returns the answer to a script of calls, about a C string, or to a call by characters.
-fn answer_of_scripts(
+// Returns the answer of a group whose lists are units, of the width that the group's name ends with.
+fn of_units(
     memory: Memory<'_>,
     group: &str,
     list: &str,
     question: &str,
 ) -> Result<String, NoAnswer> {
+    if let Some(name) = group.strip_suffix("16") {
+        return of_width::<u16>(memory, parse::named(&OF_UNITS, name)?, list, question);
+    }
+    match group.strip_suffix("32") {
+        Some(name) => of_width::<u32>(memory, parse::named(&OF_UNITS, name)?, list, question),
+        None => Err(NoAnswer::Unparsed),
+    }
+}
+
+fn of_width<C: ReportedUnit>(
+    memory: Memory<'_>,
+    group: OfUnits,
+    list: &str,
+    question: &str,
+) -> Result<String, NoAnswer> {
+    let alloc = memory.alloc;
     match group {
-        "ucstring16" => ucstring::made::<u16>(memory, list, question),
-        "ucstring32" => ucstring::made::<u32>(memory, list, question),
-        "utfstring16" => utfstring::script::<u16>(memory, list, question),
-        "utfstring32" => utfstring::script::<u32>(memory, list, question),
-        "ustring_calls16" => ustring_calls::script::<u16>(memory, list, question),
-        "ustring_calls32" => ustring_calls::script::<u32>(memory, list, question),
-        "chars32" => chars32::made(memory, list, question),
-        _ => Err(NoAnswer::Unparsed),
+        OfUnits::Pop => ustring::pop::<C>(alloc, list, question),
+        OfUnits::Remove => ustring::remove::<C>(alloc, list, question),
+        OfUnits::Insert => ustring::insert::<C>(alloc, list, question),
+        OfUnits::Replace => ustring::replace::<C>(alloc, list, question),
+        OfUnits::Drain => drain::drain::<C>(alloc, list, question),
+        OfUnits::Retain => ustring::retain::<C>(alloc, list, question),
+        OfUnits::SplitOff => ustring::split_off::<C>(alloc, list, question),
+        OfUnits::CString => ucstring::made::<C>(memory, list, question),
+        OfUnits::Text => utfstring::script::<C>(memory, list, question),
+        OfUnits::Calls => ustring_calls::script::<C>(memory, list, question),
     }
 }

@@ -22,6 +22,7 @@ mod walks;
 mod width;
 
 use std::alloc::Global;
+use widestring::Policy;
 use widestring_replay::Suite;
 use widestring_replay::parse::{self, Memory, NoAnswer};
 use width::Width;
@@ -89,6 +90,74 @@ static FAULTS: [(&str, &str); 7] = [
     ("lossy_text16", "from-slice-lossy-inside-a-pair"),
 ];
 
+// The groups whose lists are characters.
+#[derive(Clone, Copy)]
+enum OfChars {
+    Utf8,
+    Utf16,
+    Utf32,
+    Utf8Hints,
+    Utf16Hints,
+}
+
+static OF_CHARS: [(&str, OfChars); 5] = [
+    ("encode8", OfChars::Utf8),
+    ("encode16", OfChars::Utf16),
+    ("encode32", OfChars::Utf32),
+    ("hints_encode8", OfChars::Utf8Hints),
+    ("hints_encode16", OfChars::Utf16Hints),
+];
+
+// The decoders of units, whose questions are words of calls.
+#[derive(Clone, Copy)]
+enum Decoder {
+    Strict,
+    Lossy,
+    LossyHints,
+    Under(Policy),
+}
+
+// The groups whose lists are units, without the width that ends their names.
+#[derive(Clone, Copy)]
+enum OfUnits {
+    Offsets,
+    FromSlice,
+    Hints,
+    Texts,
+    Views,
+    Walks,
+    Prints,
+    Compare,
+    Units,
+    Bytes,
+    LossyText,
+    ToString,
+    Searches,
+    Decoded(Decoder),
+}
+
+static OF_UNITS: [(&str, OfUnits); 19] = [
+    ("items", OfUnits::Decoded(Decoder::Strict)),
+    ("lossy", OfUnits::Decoded(Decoder::Lossy)),
+    ("hints_lossy", OfUnits::Decoded(Decoder::LossyHints)),
+    ("each", OfUnits::Decoded(Decoder::Under(Policy::Each))),
+    ("run", OfUnits::Decoded(Decoder::Under(Policy::Run))),
+    ("skip", OfUnits::Decoded(Decoder::Under(Policy::Skip))),
+    ("offsets", OfUnits::Offsets),
+    ("from_slice", OfUnits::FromSlice),
+    ("hints", OfUnits::Hints),
+    ("texts", OfUnits::Texts),
+    ("views", OfUnits::Views),
+    ("walks", OfUnits::Walks),
+    ("prints", OfUnits::Prints),
+    ("compare", OfUnits::Compare),
+    ("units", OfUnits::Units),
+    ("bytes", OfUnits::Bytes),
+    ("lossy_text", OfUnits::LossyText),
+    ("to_string", OfUnits::ToString),
+    ("searches", OfUnits::Searches),
+];
+
 impl Suite for ViewSuite {
     fn groups() -> &'static [&'static str] {
         &GROUPS
@@ -104,10 +173,10 @@ impl Suite for ViewSuite {
         list: &str,
         question: &str,
     ) -> Result<String, NoAnswer> {
+        if let Ok(group) = parse::named(&OF_CHARS, group) {
+            return of_chars(memory.alloc, group, list, question);
+        }
         match group {
-            "encode8" | "encode16" | "encode32" | "hints_encode8" | "hints_encode16" => {
-                of_chars(memory.alloc, group, list, question)
-            }
             "files" | "transcode" => of_bytes(memory, group, list, question),
             "to_string16" if question == "i" => of_bytes(memory, group, list, question),
             _ => of_units(memory, group, list, question),
@@ -115,25 +184,23 @@ impl Suite for ViewSuite {
     }
 }
 
-// Returns the answer of a group whose lists are characters.
-fn of_chars(alloc: Global, group: &str, list: &str, question: &str) -> Result<String, NoAnswer> {
+fn of_chars(alloc: Global, group: OfChars, list: &str, question: &str) -> Result<String, NoAnswer> {
     let chars = parse::list::<char>(alloc, list)?;
     answer_of_chars(alloc, group, &chars, question)
 }
 
 fn answer_of_chars(
     alloc: Global,
-    group: &str,
+    group: OfChars,
     chars: &[char],
     question: &str,
 ) -> Result<String, NoAnswer> {
     match group {
-        "encode8" => encode::utf8(alloc, chars, question),
-        "encode16" => encode::utf16(alloc, chars, question),
-        "encode32" => encode::utf32(alloc, chars, question),
-        "hints_encode8" => hints::of_utf8_encoder(alloc, chars, question),
-        "hints_encode16" => hints::of_utf16_encoder(alloc, chars, question),
-        _ => Err(NoAnswer::Unparsed),
+        OfChars::Utf8 => encode::utf8(alloc, chars, question),
+        OfChars::Utf16 => encode::utf16(alloc, chars, question),
+        OfChars::Utf32 => encode::utf32(alloc, chars, question),
+        OfChars::Utf8Hints => hints::of_utf8_encoder(alloc, chars, question),
+        OfChars::Utf16Hints => hints::of_utf16_encoder(alloc, chars, question),
     }
 }
 
@@ -160,17 +227,17 @@ fn of_units(
     question: &str,
 ) -> Result<String, NoAnswer> {
     if let Some(name) = group.strip_suffix("16") {
-        return of_width::<u16>(memory, name, list, question);
+        return of_width::<u16>(memory, parse::named(&OF_UNITS, name)?, list, question);
     }
     match group.strip_suffix("32") {
-        Some(name) => of_width::<u32>(memory, name, list, question),
+        Some(name) => of_width::<u32>(memory, parse::named(&OF_UNITS, name)?, list, question),
         None => Err(NoAnswer::Unparsed),
     }
 }
 
 fn of_width<C: Width>(
     memory: Memory<'_>,
-    group: &str,
+    group: OfUnits,
     list: &str,
     question: &str,
 ) -> Result<String, NoAnswer> {
@@ -180,32 +247,40 @@ fn of_width<C: Width>(
 
 fn answer_of_units<C: Width>(
     memory: Memory<'_>,
-    group: &str,
+    group: OfUnits,
     units: &[C],
     question: &str,
 ) -> Result<String, NoAnswer> {
     let alloc = memory.alloc;
     match group {
-        "offsets" => offsets::offsets(alloc, units, question),
-        "from_slice" => from_slice::checked(alloc, units, question),
-        "texts" => texts::text(alloc, units, question),
-        "views" => views::view(alloc, units, question),
-        "walks" => walks::walk(alloc, units, question),
-        "prints" => prints::printed(alloc, units, question),
-        "compare" => compare::compared(alloc, units, question),
-        "units" => units::asked(alloc, units, question),
-        "searches" => searches::found(alloc, units, question),
-        "lossy_text" => conversions::lossy(memory, units, question),
-        "hints" | "bytes" | "to_string" => C::answer(memory, group, units, question),
-        _ => decoded(memory, group, units, question),
+        OfUnits::Offsets => offsets::offsets(alloc, units, question),
+        OfUnits::FromSlice => from_slice::checked(alloc, units, question),
+        OfUnits::Hints => C::hints(alloc, units, question),
+        OfUnits::Texts => texts::text(alloc, units, question),
+        OfUnits::Views => views::view(alloc, units, question),
+        OfUnits::Walks => walks::walk(alloc, units, question),
+        OfUnits::Prints => prints::printed(alloc, units, question),
+        OfUnits::Compare => compare::compared(alloc, units, question),
+        OfUnits::Units => units::asked(alloc, units, question),
+        OfUnits::Bytes => C::bytes(memory, units, question),
+        OfUnits::LossyText => conversions::lossy(memory, units, question),
+        OfUnits::ToString => C::text(memory, units, question),
+        OfUnits::Searches => searches::found(alloc, units, question),
+        OfUnits::Decoded(decoder) => decoded(memory, decoder, units, question),
     }
 }
 
 fn decoded<C: Width>(
     memory: Memory<'_>,
-    group: &str,
+    decoder: Decoder,
     units: &[C],
-    word: &str,
+    calls: &str,
 ) -> Result<String, NoAnswer> {
-    C::decoded(memory, group, units, &parse::calls(memory.alloc, word)?)
+    let calls = parse::calls(memory.alloc, calls)?;
+    match decoder {
+        Decoder::Strict => C::items(memory, units, &calls),
+        Decoder::Lossy => C::lossy(memory.alloc, units, &calls),
+        Decoder::LossyHints => C::lossy_hints(memory.alloc, units, &calls),
+        Decoder::Under(policy) => C::under(memory, units, &calls, policy),
+    }
 }

@@ -8,7 +8,7 @@
 //! - `v` for the vector of the text's characters, made from a text with a spare capacity of three units.
 //!
 //! The answer is the units, and after a `#` the number of requests.
-use crate::groups::outcomes::finished;
+use crate::groups::outcomes::{finished, handed_back};
 use crate::groups::ucstring::copied;
 use crate::groups::{text_calls, ustring_calls};
 use widestring::{U32CString, U32String, Utf32String};
@@ -34,18 +34,19 @@ fn characters<'a>(
     let capacity = text.capacity();
     match text.into_char_vec() {
         Ok(vec) => {
-            for c in &vec {
-                answer.character(Some(*c));
-            }
+            add_characters(answer, &vec);
             Ok(())
         }
-        Err(text) => {
-            if text.capacity() != capacity || !has_chars(text.as_slice(), chars) {
-                answer.word("?");
-                return Ok(());
-            }
-            Err(NoAnswer::OutOfMemory)
-        }
+        Err(text) => handed_back(
+            answer,
+            (text.capacity() == capacity) & has_chars(text.as_slice(), chars),
+        ),
+    }
+}
+
+fn add_characters(answer: &mut Answer, chars: &[char]) {
+    for c in chars {
+        answer.character(Some(*c));
     }
 }
 
@@ -75,8 +76,9 @@ fn set(answer: &mut Answer, text: &mut Utf32String<&Heap>, more: &str) -> Result
 fn lengths(
     answer: &mut Answer,
     text: &mut Utf32String<&Heap>,
-    count: usize,
+    count: &str,
 ) -> Result<(), NoAnswer> {
+    let count = parse::value::<usize>(count)?;
     if text.as_utfstr().get(..count).is_none() {
         return Err(NoAnswer::Unparsed);
     }
@@ -97,7 +99,7 @@ fn of_text<'a>(
 ) -> Result<(), NoAnswer> {
     match kind {
         b's' => set(answer, &mut text, more),
-        b'l' => lengths(answer, &mut text, parse::value(more)?),
+        b'l' => lengths(answer, &mut text, more),
         _ => characters(answer, text, chars),
     }
 }
@@ -119,18 +121,36 @@ fn of_chars(
     }
 }
 
-/// Returns the answer to a question about a call by characters.
-pub fn made(memory: Memory<'_>, list: &str, question: &str) -> Result<String, NoAnswer> {
-    let heap = memory.heap;
-    let (kind, more) = parse::kind(question)?;
-    let chars = parse::list::<char>(memory.alloc, list)?;
-    let text = text(heap, &chars)?;
+// Returns the answer: what a call of a text of these characters returns.
+fn answer_of_text(
+    memory: Memory<'_>,
+    chars: &[char],
+    kind: u8,
+    more: &str,
+) -> Result<String, NoAnswer> {
+    let text = text(memory.heap, chars)?;
     let mut answer = Answer::new(memory.alloc);
-    let left = heap.left();
-    let called = match kind {
-        b's' | b'l' | b'v' => of_text(&mut answer, text, &chars, kind, more),
-        _ => of_chars(heap, &mut answer, &chars, question),
-    };
+    let left = memory.heap.left();
+    let called = of_text(&mut answer, text, chars, kind, more);
     answer.requests(memory.requests_since(left));
     finished(answer, called)
+}
+
+// Returns the answer: the string of these characters.
+fn answer_of_chars(memory: Memory<'_>, chars: &[char], question: &str) -> Result<String, NoAnswer> {
+    let mut answer = Answer::new(memory.alloc);
+    let left = memory.heap.left();
+    let called = of_chars(memory.heap, &mut answer, chars, question);
+    answer.requests(memory.requests_since(left));
+    finished(answer, called)
+}
+
+/// Returns the answer to a question about a call by characters.
+pub fn made(memory: Memory<'_>, list: &str, question: &str) -> Result<String, NoAnswer> {
+    let (kind, more) = parse::kind(question)?;
+    let chars = parse::list::<char>(memory.alloc, list)?;
+    match kind {
+        b's' | b'l' | b'v' => answer_of_text(memory, &chars, kind, more),
+        _ => answer_of_chars(memory, &chars, question),
+    }
 }

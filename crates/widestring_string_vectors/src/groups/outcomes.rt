@@ -53,6 +53,15 @@ pub fn refused(
     Ok(())
 }
 
+/// Returns the error of a call that handed a string back, which must be unchanged; else adds a `?`.
+pub fn handed_back(answer: &mut Answer, is_unchanged: bool) -> Result<(), NoAnswer> {
+    if is_unchanged {
+        return Err(NoAnswer::OutOfMemory);
+    }
+    answer.word("?");
+    Ok(())
+}
+
 /// Returns the whole answer, if the calls that it is about have one.
 pub fn finished(answer: Answer, called: Result<(), NoAnswer>) -> Result<String, NoAnswer> {
     match called {

@@ -9,8 +9,9 @@ fn by_chars<'a, C: ReportedUnit>(
     memory: Memory<'a>,
     string: &mut Text<'a, C>,
     how: How,
-    items: Vec<char>,
+    lists: &str,
 ) -> Result<(), NoAnswer> {
+    let items = items::<C, char>(memory.alloc, lists)?;
     match how {
         How::Extend => done(string.extend_chars(items)),
         How::Make => collected(string, UtfString::from_iter_chars(memory.heap, items)),
@@ -21,11 +22,12 @@ fn by_char_refs<'a, C: ReportedUnit>(
     memory: Memory<'a>,
     string: &mut Text<'a, C>,
     how: How,
-    items: &[char],
+    lists: &str,
 ) -> Result<(), NoAnswer> {
+    let items = items::<C, char>(memory.alloc, lists)?;
     match how {
-        How::Extend => done(string.extend_char_refs(items)),
-        How::Make => collected(string, UtfString::from_iter_char_refs(memory.heap, items)),
+        How::Extend => done(string.extend_char_refs(&items)),
+        How::Make => collected(string, UtfString::from_iter_char_refs(memory.heap, &items)),
     }
 }
 
@@ -33,9 +35,10 @@ fn by_strs<'a, C: ReportedUnit>(
     memory: Memory<'a>,
     string: &mut Text<'a, C>,
     how: How,
-    owners: &[String],
+    lists: &str,
 ) -> Result<(), NoAnswer> {
-    let items = views(memory.alloc, owners)?;
+    let owners = items::<C, String>(memory.alloc, lists)?;
+    let items = views(memory.alloc, &owners)?;
     match how {
         How::Extend => done(string.extend_strs(items)),
         How::Make => collected(string, UtfString::from_iter_strs(memory.heap, items)),
@@ -46,8 +49,9 @@ fn by_strings<'a, C: ReportedUnit>(
     memory: Memory<'a>,
     string: &mut Text<'a, C>,
     how: How,
-    items: Vec<String>,
+    lists: &str,
 ) -> Result<(), NoAnswer> {
+    let items = items::<C, String>(memory.alloc, lists)?;
     match how {
         How::Extend => done(string.extend_strings(items)),
         How::Make => collected(string, UtfString::from_iter_strings(memory.heap, items)),
@@ -58,9 +62,10 @@ fn by_utfstrs<'a, C: ReportedUnit>(
     memory: Memory<'a>,
     string: &mut Text<'a, C>,
     how: How,
-    owners: &[UtfString<C>],
+    lists: &str,
 ) -> Result<(), NoAnswer> {
-    let items = views(memory.alloc, owners)?;
+    let owners = items::<C, UtfString<C>>(memory.alloc, lists)?;
+    let items = views(memory.alloc, &owners)?;
     match how {
         How::Extend => done(string.extend_utfstrs(items)),
         How::Make => collected(string, UtfString::from_iter_utfstrs(memory.heap, items)),
@@ -71,8 +76,9 @@ fn by_utfstrings<'a, C: ReportedUnit>(
     memory: Memory<'a>,
     string: &mut Text<'a, C>,
     how: How,
-    items: Vec<UtfString<C>>,
+    lists: &str,
 ) -> Result<(), NoAnswer> {
+    let items = items::<C, UtfString<C>>(memory.alloc, lists)?;
     match how {
         How::Extend => done(string.extend_utfstrings(items)),
         How::Make => collected(string, UtfString::from_iter_utfstrings(memory.heap, items)),
@@ -83,8 +89,9 @@ fn by_boxed<'a, C: ReportedUnit>(
     memory: Memory<'a>,
     string: &mut Text<'a, C>,
     how: How,
-    items: Vec<BoxedUtfStr<C>>,
+    lists: &str,
 ) -> Result<(), NoAnswer> {
+    let items = items::<C, BoxedUtfStr<C>>(memory.alloc, lists)?;
     match how {
         How::Extend => done(string.extend_boxed(items)),
         How::Make => collected(string, UtfString::from_iter_boxed(memory.heap, items)),
@@ -95,9 +102,10 @@ fn by_cows<'a, C: ReportedUnit>(
     memory: Memory<'a>,
     string: &mut Text<'a, C>,
     how: How,
-    owners: &[UtfString<C>],
+    lists: &str,
 ) -> Result<(), NoAnswer> {
-    let items = views(memory.alloc, owners)?;
+    let owners = items::<C, UtfString<C>>(memory.alloc, lists)?;
+    let items = views(memory.alloc, &owners)?;
     match how {
         How::Extend => done(string.extend_cows(items)),
         How::Make => collected(string, UtfString::from_iter_cows(memory.heap, items)),
@@ -112,31 +120,15 @@ pub fn by_items<'a, C: ReportedUnit>(
     kind: &str,
     lists: &str,
 ) -> Result<(), NoAnswer> {
-    let alloc = memory.alloc;
     match kind {
-        "chars" => by_chars(memory, string, how, items::<C, char>(alloc, lists)?),
-        "char_refs" => by_char_refs(memory, string, how, &items::<C, char>(alloc, lists)?),
-        "strs" => by_strs(memory, string, how, &items::<C, String>(alloc, lists)?),
-        "strings" => by_strings(memory, string, how, items::<C, String>(alloc, lists)?),
-        "utfstrs" => by_utfstrs(
-            memory,
-            string,
-            how,
-            &items::<C, UtfString<C>>(alloc, lists)?,
-        ),
-        "utfstrings" => by_utfstrings(memory, string, how, items::<C, UtfString<C>>(alloc, lists)?),
-        "boxed" => by_boxed(
-            memory,
-            string,
-            how,
-            items::<C, BoxedUtfStr<C>>(alloc, lists)?,
-        ),
-        "cows" => by_cows(
-            memory,
-            string,
-            how,
-            &items::<C, UtfString<C>>(alloc, lists)?,
-        ),
+        "chars" => by_chars(memory, string, how, lists),
+        "char_refs" => by_char_refs(memory, string, how, lists),
+        "strs" => by_strs(memory, string, how, lists),
+        "strings" => by_strings(memory, string, how, lists),
+        "utfstrs" => by_utfstrs(memory, string, how, lists),
+        "utfstrings" => by_utfstrings(memory, string, how, lists),
+        "boxed" => by_boxed(memory, string, how, lists),
+        "cows" => by_cows(memory, string, how, lists),
         _ => Err(NoAnswer::Unparsed),
     }
 }

@@ -7,6 +7,7 @@
 //!
 //! The answer is the contents of a view, or the units of an owned C string and its NUL; a `-` if there is no NUL to end
 //! a view; or the offset of an inner NUL and the vector that the error returns.
+use crate::groups::outcomes::handed_back;
 use crate::groups::{pieces, ucstring_calls};
 use std::alloc::Global;
 use widestring::error::{FaultUnit, NulError, UCStringError};
@@ -72,13 +73,13 @@ fn taken<C: ReportedUnit>(
     capacity: usize,
 ) -> Result<(), NoAnswer> {
     match show(answer, made) {
-        Ok(()) => return Ok(()),
-        Err(Some(back)) if back.as_slice() == units && back.capacity() == capacity => {
-            return Err(NoAnswer::OutOfMemory);
-        }
-        Err(_) => answer.word("?"),
+        Ok(()) => Ok(()),
+        Err(Some(back)) => handed_back(
+            answer,
+            (back.as_slice() == units) & (back.capacity() == capacity),
+        ),
+        Err(None) => handed_back(answer, false),
     }
-    Ok(())
 }
 
 // Makes a C string of a vector.

@@ -1,7 +1,7 @@
 //! Calls of a C string, by name. `repeat` has the number of times after a space, and `boxed` the spare capacity of the
 //! C string. The answer is the units that the call returns, and after a `#` the number of its requests.
 use crate::groups::outcomes::finished;
-use crate::groups::{pieces, ustring_calls};
+use crate::groups::{outcomes, pieces, ustring_calls};
 use widestring::error::OutOfMemory;
 use widestring::ucstr::UCStr;
 use widestring::ucstring::{CowUCStr, UCStrInUcstring, UCString};
@@ -29,7 +29,7 @@ fn shown<C: ReportedUnit>(
 fn copied<'a, C: ReportedUnit>(
     heap: &'a Heap,
     answer: &mut Answer,
-    string: &CString<'a, C>,
+    string: CString<'a, C>,
     name: &str,
     times: usize,
 ) -> Result<(), NoAnswer> {
@@ -104,11 +104,7 @@ fn handed_back<C: ReportedUnit>(
 ) -> Result<(), NoAnswer> {
     let has_contents = string.as_ucstr().as_slice() == contents;
     let left = string.into_vec_with_nul().capacity();
-    if has_contents & (left == capacity) {
-        return Err(NoAnswer::OutOfMemory);
-    }
-    answer.word("?");
-    Ok(())
+    outcomes::handed_back(answer, has_contents & (left == capacity))
 }
 
 // Returns the answer: what a call of a C string of these contents and this capacity returns.
@@ -126,7 +122,7 @@ fn answer_of<'a, C: ReportedUnit>(
         "into_vec" | "into_vec_with_nul" | "into_ustring" | "into_ustring_with_nul" | "keep" => {
             taken(heap, &mut answer, string, name)
         }
-        _ => copied(heap, &mut answer, &string, name, number),
+        _ => copied(heap, &mut answer, string, name, number),
     };
     answer.requests(memory.requests_since(left));
     finished(answer, called)

@@ -11,8 +11,9 @@ fn by_chars<'a, C: ReportedUnit>(
     memory: Memory<'a>,
     string: &mut Units<'a, C>,
     how: How,
-    items: Vec<char>,
+    lists: &str,
 ) -> Result<(), NoAnswer> {
+    let items = items::<C, char>(memory.alloc, lists)?;
     match how {
         How::Extend => done(string.extend_chars(items)),
         How::Make => collected(string, UString::from_iter_chars(memory.heap, items)),
@@ -23,11 +24,12 @@ fn by_char_refs<'a, C: ReportedUnit>(
     memory: Memory<'a>,
     string: &mut Units<'a, C>,
     how: How,
-    items: &[char],
+    lists: &str,
 ) -> Result<(), NoAnswer> {
+    let items = items::<C, char>(memory.alloc, lists)?;
     match how {
-        How::Extend => done(string.extend_char_refs(items)),
-        How::Make => collected(string, UString::from_iter_char_refs(memory.heap, items)),
+        How::Extend => done(string.extend_char_refs(&items)),
+        How::Make => collected(string, UString::from_iter_char_refs(memory.heap, &items)),
     }
 }
 
@@ -35,9 +37,10 @@ fn by_strs<'a, C: ReportedUnit>(
     memory: Memory<'a>,
     string: &mut Units<'a, C>,
     how: How,
-    owners: &[String],
+    lists: &str,
 ) -> Result<(), NoAnswer> {
-    let items = views(memory.alloc, owners)?;
+    let owners = items::<C, String>(memory.alloc, lists)?;
+    let items = views(memory.alloc, &owners)?;
     match how {
         How::Extend => done(string.extend_strs(items)),
         How::Make => collected(string, UString::from_iter_strs(memory.heap, items)),
@@ -48,8 +51,9 @@ fn by_strings<'a, C: ReportedUnit>(
     memory: Memory<'a>,
     string: &mut Units<'a, C>,
     how: How,
-    items: Vec<String>,
+    lists: &str,
 ) -> Result<(), NoAnswer> {
+    let items = items::<C, String>(memory.alloc, lists)?;
     match how {
         How::Extend => done(string.extend_strings(items)),
         How::Make => collected(string, UString::from_iter_strings(memory.heap, items)),
@@ -60,9 +64,10 @@ fn by_utfstrs<'a, C: ReportedUnit>(
     memory: Memory<'a>,
     string: &mut Units<'a, C>,
     how: How,
-    owners: &[UtfString<C>],
+    lists: &str,
 ) -> Result<(), NoAnswer> {
-    let items = views(memory.alloc, owners)?;
+    let owners = items::<C, UtfString<C>>(memory.alloc, lists)?;
+    let items = views(memory.alloc, &owners)?;
     match how {
         How::Extend => done(string.extend_utfstrs(items)),
         How::Make => collected(string, UString::from_iter_utfstrs(memory.heap, items)),
@@ -73,8 +78,9 @@ fn by_utfstrings<'a, C: ReportedUnit>(
     memory: Memory<'a>,
     string: &mut Units<'a, C>,
     how: How,
-    items: Vec<UtfString<C>>,
+    lists: &str,
 ) -> Result<(), NoAnswer> {
+    let items = items::<C, UtfString<C>>(memory.alloc, lists)?;
     match how {
         How::Extend => done(string.extend_utfstrings(items)),
         How::Make => collected(string, UString::from_iter_utfstrings(memory.heap, items)),
@@ -85,9 +91,10 @@ fn by_ustrs<'a, C: ReportedUnit>(
     memory: Memory<'a>,
     string: &mut Units<'a, C>,
     how: How,
-    owners: &[UString<C>],
+    lists: &str,
 ) -> Result<(), NoAnswer> {
-    let items = views(memory.alloc, owners)?;
+    let owners = items::<C, UString<C>>(memory.alloc, lists)?;
+    let items = views(memory.alloc, &owners)?;
     match how {
         How::Extend => done(string.extend_ustrs(items)),
         How::Make => collected(string, UString::from_iter_ustrs(memory.heap, items)),
@@ -98,8 +105,9 @@ fn by_ustrings<'a, C: ReportedUnit>(
     memory: Memory<'a>,
     string: &mut Units<'a, C>,
     how: How,
-    items: Vec<UString<C>>,
+    lists: &str,
 ) -> Result<(), NoAnswer> {
+    let items = items::<C, UString<C>>(memory.alloc, lists)?;
     match how {
         How::Extend => done(string.extend_ustrings(items)),
         How::Make => collected(string, UString::from_iter_ustrings(memory.heap, items)),
@@ -110,9 +118,10 @@ fn by_ucstrs<'a, C: ReportedUnit>(
     memory: Memory<'a>,
     string: &mut Units<'a, C>,
     how: How,
-    owners: &[UCString<C>],
+    lists: &str,
 ) -> Result<(), NoAnswer> {
-    let items = views(memory.alloc, owners)?;
+    let owners = items::<C, UCString<C>>(memory.alloc, lists)?;
+    let items = views(memory.alloc, &owners)?;
     match how {
         How::Extend => done(string.extend_ucstrs(items)),
         How::Make => collected(string, UString::from_iter_ucstrs(memory.heap, items)),
@@ -123,8 +132,9 @@ fn by_ucstrings<'a, C: ReportedUnit>(
     memory: Memory<'a>,
     string: &mut Units<'a, C>,
     how: How,
-    items: Vec<UCString<C>>,
+    lists: &str,
 ) -> Result<(), NoAnswer> {
+    let items = items::<C, UCString<C>>(memory.alloc, lists)?;
     match how {
         How::Extend => done(string.extend_ucstrings(items)),
         How::Make => collected(string, UString::from_iter_ucstrings(memory.heap, items)),
@@ -135,8 +145,9 @@ fn by_boxed<'a, C: ReportedUnit>(
     memory: Memory<'a>,
     string: &mut Units<'a, C>,
     how: How,
-    items: Vec<BoxedUStr<C>>,
+    lists: &str,
 ) -> Result<(), NoAnswer> {
+    let items = items::<C, BoxedUStr<C>>(memory.alloc, lists)?;
     match how {
         How::Extend => done(string.extend_boxed(items)),
         How::Make => collected(string, UString::from_iter_boxed(memory.heap, items)),
@@ -147,9 +158,10 @@ fn by_cows<'a, C: ReportedUnit>(
     memory: Memory<'a>,
     string: &mut Units<'a, C>,
     how: How,
-    owners: &[UString<C>],
+    lists: &str,
 ) -> Result<(), NoAnswer> {
-    let items = views(memory.alloc, owners)?;
+    let owners = items::<C, UString<C>>(memory.alloc, lists)?;
+    let items = views(memory.alloc, &owners)?;
     match how {
         How::Extend => done(string.extend_cows(items)),
         How::Make => collected(string, UString::from_iter_cows(memory.heap, items)),
@@ -164,25 +176,19 @@ pub fn by_items<'a, C: ReportedUnit>(
     kind: &str,
     lists: &str,
 ) -> Result<(), NoAnswer> {
-    let alloc = memory.alloc;
     match kind {
-        "chars" => by_chars(memory, string, how, items::<C, char>(alloc, lists)?),
-        "char_refs" => by_char_refs(memory, string, how, &items::<C, char>(alloc, lists)?),
-        "strs" => by_strs(memory, string, how, &items::<C, String>(alloc, lists)?),
-        "strings" => by_strings(memory, string, how, items::<C, String>(alloc, lists)?),
-        "utfstrs" => by_utfstrs(
-            memory,
-            string,
-            how,
-            &items::<C, UtfString<C>>(alloc, lists)?,
-        ),
-        "utfstrings" => by_utfstrings(memory, string, how, items::<C, UtfString<C>>(alloc, lists)?),
-        "ustrs" => by_ustrs(memory, string, how, &items::<C, UString<C>>(alloc, lists)?),
-        "ustrings" => by_ustrings(memory, string, how, items::<C, UString<C>>(alloc, lists)?),
-        "ucstrs" => by_ucstrs(memory, string, how, &items::<C, UCString<C>>(alloc, lists)?),
-        "ucstrings" => by_ucstrings(memory, string, how, items::<C, UCString<C>>(alloc, lists)?),
-        "boxed" => by_boxed(memory, string, how, items::<C, BoxedUStr<C>>(alloc, lists)?),
-        "cows" => by_cows(memory, string, how, &items::<C, UString<C>>(alloc, lists)?),
+        "chars" => by_chars(memory, string, how, lists),
+        "char_refs" => by_char_refs(memory, string, how, lists),
+        "strs" => by_strs(memory, string, how, lists),
+        "strings" => by_strings(memory, string, how, lists),
+        "utfstrs" => by_utfstrs(memory, string, how, lists),
+        "utfstrings" => by_utfstrings(memory, string, how, lists),
+        "ustrs" => by_ustrs(memory, string, how, lists),
+        "ustrings" => by_ustrings(memory, string, how, lists),
+        "ucstrs" => by_ucstrs(memory, string, how, lists),
+        "ucstrings" => by_ucstrings(memory, string, how, lists),
+        "boxed" => by_boxed(memory, string, how, lists),
+        "cows" => by_cows(memory, string, how, lists),
         _ => Err(NoAnswer::Unparsed),
     }
 }

@@ -69,8 +69,16 @@ fn of_c_strings<C: Width>(
 
 fn contents<C: Width>(alloc: Global, list: &[C], other: &[C]) -> Result<String, NoAnswer> {
     let left = c_string(alloc, list)?;
+    to_contents(alloc, &left, other)
+}
+
+fn to_contents<C: Width>(
+    alloc: Global,
+    left: &UCString<C>,
+    other: &[C],
+) -> Result<String, NoAnswer> {
     let right = c_string(alloc, other)?;
-    of_c_strings(alloc, &left, &right)
+    of_c_strings(alloc, left, &right)
 }
 
 // Returns the string of units, with capacity to spare.
@@ -82,8 +90,12 @@ fn spacious<C: Width>(alloc: Global, units: &[C]) -> Result<UString<C>, NoAnswer
 
 fn unit_strings<C: Width>(alloc: Global, list: &[C], other: &[C]) -> Result<String, NoAnswer> {
     let left = spacious(alloc, list)?;
+    to_units(alloc, &left, other)
+}
+
+fn to_units<C: Width>(alloc: Global, left: &UString<C>, other: &[C]) -> Result<String, NoAnswer> {
     let right = UString::from_vec(Vec::from_slice(alloc, other)?);
-    of_strings(alloc, &left, &right, hash_of(&left.as_ustr()))
+    of_strings(alloc, left, &right, hash_of(&left.as_ustr()))
 }
 
 // Returns the string of a text, with capacity to spare.
@@ -103,8 +115,16 @@ fn grown_text<C: Width>(alloc: Global, text: UtfStr<'_, C>) -> Result<UtfString<
 fn strings<C: Width>(alloc: Global, list: &[C], other: &[C]) -> Result<String, NoAnswer> {
     let (list, other) = (as_text(list)?, as_text(other)?);
     let left = spacious_text(alloc, list)?;
+    to_text(alloc, &left, other)
+}
+
+fn to_text<C: Width>(
+    alloc: Global,
+    left: &UtfString<C>,
+    other: UtfStr<'_, C>,
+) -> Result<String, NoAnswer> {
     let right = grown_text(alloc, other)?;
-    of_strings(alloc, &left, &right, hash_of(&left.as_utfstr()))
+    of_strings(alloc, left, &right, hash_of(&left.as_utfstr()))
 }
 
 fn texts<C: Width>(alloc: Global, list: &[C], other: &[C]) -> Result<String, NoAnswer> {
@@ -177,8 +197,9 @@ fn characters<C: Width>(alloc: Global, units: &[C]) -> Result<Vec<char>, NoAnswe
     Ok(chars)
 }
 
-fn eq_chars<C: Width>(alloc: Global, list: &[C], other: &[C]) -> Result<bool, NoAnswer> {
-    C::eq_chars(list, &characters(alloc, other)?)
+fn eq_chars<C: Width>(alloc: Global, list: &[C], other: &[C]) -> Result<String, NoAnswer> {
+    let chars = characters(alloc, other)?;
+    answers::decided(alloc, C::eq_chars(list, &chars)?)
 }
 
 fn of_lists<C: Width>(
@@ -195,7 +216,7 @@ fn of_lists<C: Width>(
         "string" => strings(alloc, list, other),
         "mixed" => mixed(alloc, list, other),
         "str" => with_str(alloc, list, other),
-        "chars" => answers::decided(alloc, eq_chars(alloc, list, other)?),
+        "chars" => eq_chars(alloc, list, other),
         _ => Err(NoAnswer::Unparsed),
     }
 }

@@ -172,21 +172,57 @@ fn both<T: Display + Debug>(alloc: Global, value: &T) -> Result<String, NoAnswer
     answer.finish()
 }
 
-fn of_units<C: Width>(alloc: Global, view: UStr<'_, C>, word: &str) -> Result<String, NoAnswer> {
-    match word {
-        "debug" => debug(alloc, &view),
-        "display" => both(alloc, &view.display()),
-        "skipping" => both(alloc, &view.display_skipping()),
-        "chars" => debug(alloc, &view.chars()),
-        "lossy" => debug(alloc, &view.chars_lossy()),
-        "each" => debug(alloc, &view.chars_lossy_with(Policy::Each)),
-        "run" => debug(alloc, &view.chars_lossy_with(Policy::Run)),
-        "skip" => debug(alloc, &view.chars_lossy_with(Policy::Skip)),
-        "cow" => borrowed(alloc, view),
-        "string" => string(alloc, view),
-        "box" => boxed(alloc, view),
-        "mended" => mended(alloc, view),
-        _ => of_error(alloc, view.as_slice(), word),
+// What is printed of a view of units, or of its C string.
+#[derive(Clone, Copy)]
+enum Print {
+    Debug,
+    Display,
+    Skipping,
+    Chars,
+    Lossy,
+    Under(Policy),
+    Cow,
+    Owned,
+    Box,
+    Mended,
+}
+
+static OF_UNITS: [(&str, Print); 12] = [
+    ("debug", Print::Debug),
+    ("display", Print::Display),
+    ("skipping", Print::Skipping),
+    ("chars", Print::Chars),
+    ("lossy", Print::Lossy),
+    ("each", Print::Under(Policy::Each)),
+    ("run", Print::Under(Policy::Run)),
+    ("skip", Print::Under(Policy::Skip)),
+    ("cow", Print::Cow),
+    ("string", Print::Owned),
+    ("box", Print::Box),
+    ("mended", Print::Mended),
+];
+
+static OF_CONTENTS: [(&str, Print); 6] = [
+    ("c_debug", Print::Debug),
+    ("c_display", Print::Display),
+    ("c_skipping", Print::Skipping),
+    ("c_cow", Print::Cow),
+    ("c_string", Print::Owned),
+    ("c_box", Print::Box),
+];
+
+fn of_units<C: Width>(alloc: Global, view: UStr<'_, C>, print: Print) -> Result<String, NoAnswer> {
+    match print {
+        Print::Debug => debug(alloc, &view),
+        Print::Display => both(alloc, &view.display()),
+        Print::Skipping => both(alloc, &view.display_skipping()),
+        Print::Chars => debug(alloc, &view.chars()),
+        Print::Lossy => debug(alloc, &view.chars_lossy()),
+        Print::Under(policy) => debug(alloc, &view.chars_lossy_with(policy)),
+        Print::Cow => borrowed(alloc, view),
+        Print::Owned => string(alloc, view),
+        Print::Box => boxed(alloc, view),
+        Print::Mended => mended(alloc, view),
     }
 }
 
@@ -250,15 +286,15 @@ fn escapes<C: Width>(alloc: Global, answer: &mut Answer, units: &[C]) -> Result<
 fn of_contents<C: Width>(
     alloc: Global,
     view: UCStr<'_, C>,
-    word: &str,
+    print: Print,
 ) -> Result<String, NoAnswer> {
-    match word {
-        "c_debug" => debug(alloc, &view),
-        "c_display" => both(alloc, &view.display()),
-        "c_skipping" => both(alloc, &view.display_skipping()),
-        "c_cow" => borrowed_contents(alloc, view),
-        "c_string" => debug(alloc, &c_string(alloc, view)?),
-        "c_box" => boxed_contents(alloc, view),
+    match print {
+        Print::Debug => debug(alloc, &view),
+        Print::Display => both(alloc, &view.display()),
+        Print::Skipping => both(alloc, &view.display_skipping()),
+        Print::Cow => borrowed_contents(alloc, view),
+        Print::Owned => owned_contents(alloc, view),
+        Print::Box => boxed_contents(alloc, view),
         _ => Err(NoAnswer::Unparsed),
     }
 }
@@ -266,6 +302,10 @@ fn of_contents<C: Width>(
 fn borrowed_contents<C: Width>(alloc: Global, view: UCStr<'_, C>) -> Result<String, NoAnswer> {
     let borrowed: CowUCStr<'_, C> = CowUCStr::Borrowed(view);
     debug(alloc, &borrowed)
+}
+
+fn owned_contents<C: Width>(alloc: Global, view: UCStr<'_, C>) -> Result<String, NoAnswer> {
+    debug(alloc, &c_string(alloc, view)?)
 }
 
 fn boxed_contents<C: Width>(alloc: Global, view: UCStr<'_, C>) -> Result<String, NoAnswer> {
@@ -294,7 +334,7 @@ fn of_text<C: Width>(
         "t_box" => boxed_text(alloc, text),
         "t_chars" => called_chars(alloc, text, more),
         "drain" => drain(alloc, text, more),
-        _ => of_escapes(alloc, text, word, parse::prefix_calls(more)?),
+        _ => of_escapes(alloc, text, word, more),
     }
 }
 
@@ -367,8 +407,9 @@ fn of_escapes<C: Width>(
     alloc: Global,
     text: UtfStr<'_, C>,
     word: &str,
-    calls: usize,
+    calls: &str,
 ) -> Result<String, NoAnswer> {
+    let calls = parse::prefix_calls(calls)?;
     match word {
         "escape_debug" => called(alloc, text.escape_debug(), calls),
         "escape_default" => called(alloc, text.escape_default(), calls),
@@ -380,11 +421,14 @@ fn of_escapes<C: Width>(
 /// Returns the answer: what a value prints.
 pub fn printed<C: Width>(alloc: Global, units: &[C], question: &str) -> Result<String, NoAnswer> {
     let (word, more) = parse::word(question);
-    if word.starts_with("c_") {
-        return of_contents(alloc, as_contents(units)?, word);
+    if let Ok(print) = parse::named(&OF_CONTENTS, word) {
+        return of_contents(alloc, as_contents(units)?, print);
     }
     if word.starts_with("t_") || word.starts_with("escape_") || word == "drain" {
         return of_text(alloc, as_text(units)?, word, more);
     }
-    of_units(alloc, UStr::from_slice(units), word)
+    match parse::named(&OF_UNITS, word) {
+        Ok(print) => of_units(alloc, UStr::from_slice(units), print),
+        Err(_) => of_error(alloc, units, word),
+    }
 }

@@ -218,39 +218,53 @@ fn line_bounds<C: ReportedUnit>(alloc: Global, view: UStr<'_, C>) -> Result<Stri
     answer.finish()
 }
 
+// The iterators over the characters of a view of units.
+#[derive(Clone, Copy)]
+enum Walk {
+    Chars,
+    Lossy,
+    Under(Policy),
+    Indices,
+    LossyIndices,
+}
+
+static WALKS: [(&str, Walk); 7] = [
+    ("chars", Walk::Chars),
+    ("lossy", Walk::Lossy),
+    ("each", Walk::Under(Policy::Each)),
+    ("run", Walk::Under(Policy::Run)),
+    ("skip", Walk::Under(Policy::Skip)),
+    ("indices", Walk::Indices),
+    ("lossy_indices", Walk::LossyIndices),
+];
+
 fn of_units<C: ReportedUnit>(
     alloc: Global,
     view: UStr<'_, C>,
-    word: &str,
+    walk: Walk,
     steps: &[Option<End>],
 ) -> Result<String, NoAnswer> {
-    match word {
-        "chars" => chars(alloc, view.chars(), steps),
-        "lossy" => characters(alloc, view.chars_lossy(), steps),
-        "each" => characters(alloc, view.chars_lossy_with(Policy::Each), steps),
-        "run" => characters(alloc, view.chars_lossy_with(Policy::Run), steps),
-        "skip" => characters(alloc, view.chars_lossy_with(Policy::Skip), steps),
-        "indices" => indices(alloc, view.char_indices(), steps),
-        "lossy_indices" => lossy_indices(alloc, view.char_indices_lossy(), steps),
-        _ => Err(NoAnswer::Unparsed),
+    match walk {
+        Walk::Chars => chars(alloc, view.chars(), steps),
+        Walk::Lossy => characters(alloc, view.chars_lossy(), steps),
+        Walk::Under(policy) => characters(alloc, view.chars_lossy_with(policy), steps),
+        Walk::Indices => indices(alloc, view.char_indices(), steps),
+        Walk::LossyIndices => lossy_indices(alloc, view.char_indices_lossy(), steps),
     }
 }
 
 fn of_contents<C: ReportedUnit>(
     alloc: Global,
     view: UCStr<'_, C>,
-    word: &str,
+    walk: Walk,
     steps: &[Option<End>],
 ) -> Result<String, NoAnswer> {
-    match word {
-        "c_chars" => chars(alloc, view.chars(), steps),
-        "c_lossy" => characters(alloc, view.chars_lossy(), steps),
-        "c_each" => characters(alloc, view.chars_lossy_with(Policy::Each), steps),
-        "c_run" => characters(alloc, view.chars_lossy_with(Policy::Run), steps),
-        "c_skip" => characters(alloc, view.chars_lossy_with(Policy::Skip), steps),
-        "c_indices" => indices(alloc, view.char_indices(), steps),
-        "c_lossy_indices" => lossy_indices(alloc, view.char_indices_lossy(), steps),
-        _ => Err(NoAnswer::Unparsed),
+    match walk {
+        Walk::Chars => chars(alloc, view.chars(), steps),
+        Walk::Lossy => characters(alloc, view.chars_lossy(), steps),
+        Walk::Under(policy) => characters(alloc, view.chars_lossy_with(policy), steps),
+        Walk::Indices => indices(alloc, view.char_indices(), steps),
+        Walk::LossyIndices => lossy_indices(alloc, view.char_indices_lossy(), steps),
     }
 }
 
@@ -276,13 +290,23 @@ fn of_steps<C: Width>(
     word: &str,
     steps: &[Option<End>],
 ) -> Result<String, NoAnswer> {
-    if word.starts_with("c_") {
-        return of_contents(alloc, as_contents(units)?, word, steps);
+    if let Some(word) = word.strip_prefix("c_") {
+        return of_contents(
+            alloc,
+            as_contents(units)?,
+            parse::named(&WALKS, word)?,
+            steps,
+        );
     }
     if word.starts_with("t_") || word == "utf8" || word == "other" {
         return of_text(alloc, as_text(units)?, word, steps);
     }
-    of_units(alloc, UStr::from_slice(units), word, steps)
+    of_units(
+        alloc,
+        UStr::from_slice(units),
+        parse::named(&WALKS, word)?,
+        steps,
+    )
 }
 
 /// Returns the answer: what an iterator of a view returns.

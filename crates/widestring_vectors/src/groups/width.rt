@@ -30,20 +30,30 @@ pub fn as_contents<C: ReportedUnit>(units: &[C]) -> Result<UCStr<'_, C>, NoAnswe
 
 /// A width of units.
 pub trait Width: ReportedUnit + FromHex + Ord + Hash + 'static {
-    /// Returns the answer of a group whose calls have a name for each width.
-    fn answer(
-        memory: Memory<'_>,
-        group: &str,
-        units: &[Self],
-        question: &str,
-    ) -> Result<String, NoAnswer>;
+    /// Returns the answer about the bounds of decoders.
+    fn hints(alloc: Global, units: &[Self], question: &str) -> Result<String, NoAnswer>;
 
-    /// Returns the answer of a group of decoders whose questions are words of calls.
-    fn decoded(
+    /// Returns the answer about units as bytes.
+    fn bytes(memory: Memory<'_>, units: &[Self], question: &str) -> Result<String, NoAnswer>;
+
+    /// Returns the answer about the text of units in UTF-8.
+    fn text(memory: Memory<'_>, units: &[Self], question: &str) -> Result<String, NoAnswer>;
+
+    /// Returns the answer: what a decoder returns for calls.
+    fn items(memory: Memory<'_>, units: &[Self], calls: &[End]) -> Result<String, NoAnswer>;
+
+    /// Returns the answer: what a lossy decoder returns for calls.
+    fn lossy(alloc: Global, units: &[Self], calls: &[End]) -> Result<String, NoAnswer>;
+
+    /// Returns the answer: the bounds of a lossy decoder between calls.
+    fn lossy_hints(alloc: Global, units: &[Self], calls: &[End]) -> Result<String, NoAnswer>;
+
+    /// Returns the answer: what a lossy decoder under a policy returns for calls.
+    fn under(
         memory: Memory<'_>,
-        group: &str,
         units: &[Self],
         calls: &[End],
+        policy: Policy,
     ) -> Result<String, NoAnswer>;
 
     /// Returns the answer: the units of the empty C string, with its NUL.
@@ -76,35 +86,37 @@ pub trait Width: ReportedUnit + FromHex + Ord + Hash + 'static {
 }
 
 impl Width for u16 {
-    fn answer(
-        memory: Memory<'_>,
-        group: &str,
-        units: &[u16],
-        question: &str,
-    ) -> Result<String, NoAnswer> {
-        match group {
-            "hints" => hints::utf16(memory.alloc, units, question),
-            "bytes" => bytes::of_units16(memory, units, question),
-            "to_string" => conversions::text16(memory, units, question),
-            _ => Err(NoAnswer::Unparsed),
-        }
+    fn hints(alloc: Global, units: &[u16], question: &str) -> Result<String, NoAnswer> {
+        hints::utf16(alloc, units, question)
     }
 
-    fn decoded(
+    fn bytes(memory: Memory<'_>, units: &[u16], question: &str) -> Result<String, NoAnswer> {
+        bytes::of_units16(memory, units, question)
+    }
+
+    fn text(memory: Memory<'_>, units: &[u16], question: &str) -> Result<String, NoAnswer> {
+        conversions::text16(memory, units, question)
+    }
+
+    fn items(memory: Memory<'_>, units: &[u16], calls: &[End]) -> Result<String, NoAnswer> {
+        items::utf16(memory, units, calls)
+    }
+
+    fn lossy(alloc: Global, units: &[u16], calls: &[End]) -> Result<String, NoAnswer> {
+        lossy::utf16(alloc, units, calls)
+    }
+
+    fn lossy_hints(alloc: Global, units: &[u16], calls: &[End]) -> Result<String, NoAnswer> {
+        hints::lossy_utf16(alloc, units, calls)
+    }
+
+    fn under(
         memory: Memory<'_>,
-        group: &str,
         units: &[u16],
         calls: &[End],
+        policy: Policy,
     ) -> Result<String, NoAnswer> {
-        match group {
-            "items" => items::utf16(memory, units, calls),
-            "lossy" => lossy::utf16(memory.alloc, units, calls),
-            "hints_lossy" => hints::lossy_utf16(memory.alloc, units, calls),
-            "each" => policies::utf16(memory, units, calls, Policy::Each),
-            "run" => policies::utf16(memory, units, calls, Policy::Run),
-            "skip" => policies::utf16(memory, units, calls, Policy::Skip),
-            _ => Err(NoAnswer::Unparsed),
-        }
+        policies::utf16(memory, units, calls, policy)
     }
 
     fn no_contents(alloc: Global) -> Result<String, NoAnswer> {
@@ -153,35 +165,37 @@ impl Width for u16 {
 }
 
 impl Width for u32 {
-    fn answer(
-        memory: Memory<'_>,
-        group: &str,
-        units: &[u32],
-        question: &str,
-    ) -> Result<String, NoAnswer> {
-        match group {
-            "hints" => hints::utf32(memory.alloc, units, question),
-            "bytes" => bytes::of_units32(memory, units, question),
-            "to_string" => conversions::text32(memory, units, question),
-            _ => Err(NoAnswer::Unparsed),
-        }
+    fn hints(alloc: Global, units: &[u32], question: &str) -> Result<String, NoAnswer> {
+        hints::utf32(alloc, units, question)
     }
 
-    fn decoded(
+    fn bytes(memory: Memory<'_>, units: &[u32], question: &str) -> Result<String, NoAnswer> {
+        bytes::of_units32(memory, units, question)
+    }
+
+    fn text(memory: Memory<'_>, units: &[u32], question: &str) -> Result<String, NoAnswer> {
+        conversions::text32(memory, units, question)
+    }
+
+    fn items(memory: Memory<'_>, units: &[u32], calls: &[End]) -> Result<String, NoAnswer> {
+        items::utf32(memory, units, calls)
+    }
+
+    fn lossy(alloc: Global, units: &[u32], calls: &[End]) -> Result<String, NoAnswer> {
+        lossy::utf32(alloc, units, calls)
+    }
+
+    fn lossy_hints(alloc: Global, units: &[u32], calls: &[End]) -> Result<String, NoAnswer> {
+        hints::lossy_utf32(alloc, units, calls)
+    }
+
+    fn under(
         memory: Memory<'_>,
-        group: &str,
         units: &[u32],
         calls: &[End],
+        policy: Policy,
     ) -> Result<String, NoAnswer> {
-        match group {
-            "items" => items::utf32(memory, units, calls),
-            "lossy" => lossy::utf32(memory.alloc, units, calls),
-            "hints_lossy" => hints::lossy_utf32(memory.alloc, units, calls),
-            "each" => policies::utf32(memory, units, calls, Policy::Each),
-            "run" => policies::utf32(memory, units, calls, Policy::Run),
-            "skip" => policies::utf32(memory, units, calls, Policy::Skip),
-            _ => Err(NoAnswer::Unparsed),
-        }
+        policies::utf32(memory, units, calls, policy)
     }
 
     fn no_contents(alloc: Global) -> Result<String, NoAnswer> {
