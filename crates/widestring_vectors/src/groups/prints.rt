@@ -174,7 +174,7 @@ fn both<T: Display + Debug>(alloc: Global, value: &T) -> Result<String, NoAnswer
 
 // What is printed of a view of units, or of its C string.
 #[derive(Clone, Copy)]
-enum Print {
+enum Subject {
     Debug,
     Display,
     Skipping,
@@ -187,42 +187,46 @@ enum Print {
     Mended,
 }
 
-static OF_UNITS: [(&str, Print); 12] = [
-    ("debug", Print::Debug),
-    ("display", Print::Display),
-    ("skipping", Print::Skipping),
-    ("chars", Print::Chars),
-    ("lossy", Print::Lossy),
-    ("each", Print::Under(Policy::Each)),
-    ("run", Print::Under(Policy::Run)),
-    ("skip", Print::Under(Policy::Skip)),
-    ("cow", Print::Cow),
-    ("string", Print::Owned),
-    ("box", Print::Box),
-    ("mended", Print::Mended),
+static OF_UNITS: [(&str, Subject); 12] = [
+    ("debug", Subject::Debug),
+    ("display", Subject::Display),
+    ("skipping", Subject::Skipping),
+    ("chars", Subject::Chars),
+    ("lossy", Subject::Lossy),
+    ("each", Subject::Under(Policy::Each)),
+    ("run", Subject::Under(Policy::Run)),
+    ("skip", Subject::Under(Policy::Skip)),
+    ("cow", Subject::Cow),
+    ("string", Subject::Owned),
+    ("box", Subject::Box),
+    ("mended", Subject::Mended),
 ];
 
-static OF_CONTENTS: [(&str, Print); 6] = [
-    ("c_debug", Print::Debug),
-    ("c_display", Print::Display),
-    ("c_skipping", Print::Skipping),
-    ("c_cow", Print::Cow),
-    ("c_string", Print::Owned),
-    ("c_box", Print::Box),
+static OF_CONTENTS: [(&str, Subject); 6] = [
+    ("c_debug", Subject::Debug),
+    ("c_display", Subject::Display),
+    ("c_skipping", Subject::Skipping),
+    ("c_cow", Subject::Cow),
+    ("c_string", Subject::Owned),
+    ("c_box", Subject::Box),
 ];
 
-fn of_units<C: Width>(alloc: Global, view: UStr<'_, C>, print: Print) -> Result<String, NoAnswer> {
-    match print {
-        Print::Debug => debug(alloc, &view),
-        Print::Display => both(alloc, &view.display()),
-        Print::Skipping => both(alloc, &view.display_skipping()),
-        Print::Chars => debug(alloc, &view.chars()),
-        Print::Lossy => debug(alloc, &view.chars_lossy()),
-        Print::Under(policy) => debug(alloc, &view.chars_lossy_with(policy)),
-        Print::Cow => borrowed(alloc, view),
-        Print::Owned => string(alloc, view),
-        Print::Box => boxed(alloc, view),
-        Print::Mended => mended(alloc, view),
+fn of_units<C: Width>(
+    alloc: Global,
+    view: UStr<'_, C>,
+    subject: Subject,
+) -> Result<String, NoAnswer> {
+    match subject {
+        Subject::Debug => debug(alloc, &view),
+        Subject::Display => both(alloc, &view.display()),
+        Subject::Skipping => both(alloc, &view.display_skipping()),
+        Subject::Chars => debug(alloc, &view.chars()),
+        Subject::Lossy => debug(alloc, &view.chars_lossy()),
+        Subject::Under(policy) => debug(alloc, &view.chars_lossy_with(policy)),
+        Subject::Cow => borrowed(alloc, view),
+        Subject::Owned => string(alloc, view),
+        Subject::Box => boxed(alloc, view),
+        Subject::Mended => mended(alloc, view),
     }
 }
 
@@ -286,15 +290,15 @@ fn escapes<C: Width>(alloc: Global, answer: &mut Answer, units: &[C]) -> Result<
 fn of_contents<C: Width>(
     alloc: Global,
     view: UCStr<'_, C>,
-    print: Print,
+    subject: Subject,
 ) -> Result<String, NoAnswer> {
-    match print {
-        Print::Debug => debug(alloc, &view),
-        Print::Display => both(alloc, &view.display()),
-        Print::Skipping => both(alloc, &view.display_skipping()),
-        Print::Cow => borrowed_contents(alloc, view),
-        Print::Owned => owned_contents(alloc, view),
-        Print::Box => boxed_contents(alloc, view),
+    match subject {
+        Subject::Debug => debug(alloc, &view),
+        Subject::Display => both(alloc, &view.display()),
+        Subject::Skipping => both(alloc, &view.display_skipping()),
+        Subject::Cow => borrowed_contents(alloc, view),
+        Subject::Owned => owned_contents(alloc, view),
+        Subject::Box => boxed_contents(alloc, view),
         _ => Err(NoAnswer::Unparsed),
     }
 }
@@ -421,14 +425,14 @@ fn of_escapes<C: Width>(
 /// Returns the answer: what a value prints.
 pub fn printed<C: Width>(alloc: Global, units: &[C], question: &str) -> Result<String, NoAnswer> {
     let (word, more) = parse::word(question);
-    if let Ok(print) = parse::named(&OF_CONTENTS, word) {
-        return of_contents(alloc, as_contents(units)?, print);
+    if let Ok(subject) = parse::named(&OF_CONTENTS, word) {
+        return of_contents(alloc, as_contents(units)?, subject);
     }
     if word.starts_with("t_") || word.starts_with("escape_") || word == "drain" {
         return of_text(alloc, as_text(units)?, word, more);
     }
     match parse::named(&OF_UNITS, word) {
-        Ok(print) => of_units(alloc, UStr::from_slice(units), print),
+        Ok(subject) => of_units(alloc, UStr::from_slice(units), subject),
         Err(_) => of_error(alloc, units, word),
     }
 }

@@ -220,7 +220,7 @@ fn line_bounds<C: ReportedUnit>(alloc: Global, view: UStr<'_, C>) -> Result<Stri
 
 // The iterators over the characters of a view of units.
 #[derive(Clone, Copy)]
-enum Walk {
+enum Kind {
     Chars,
     Lossy,
     Under(Policy),
@@ -228,43 +228,43 @@ enum Walk {
     LossyIndices,
 }
 
-static WALKS: [(&str, Walk); 7] = [
-    ("chars", Walk::Chars),
-    ("lossy", Walk::Lossy),
-    ("each", Walk::Under(Policy::Each)),
-    ("run", Walk::Under(Policy::Run)),
-    ("skip", Walk::Under(Policy::Skip)),
-    ("indices", Walk::Indices),
-    ("lossy_indices", Walk::LossyIndices),
+static KINDS: [(&str, Kind); 7] = [
+    ("chars", Kind::Chars),
+    ("lossy", Kind::Lossy),
+    ("each", Kind::Under(Policy::Each)),
+    ("run", Kind::Under(Policy::Run)),
+    ("skip", Kind::Under(Policy::Skip)),
+    ("indices", Kind::Indices),
+    ("lossy_indices", Kind::LossyIndices),
 ];
 
 fn of_units<C: ReportedUnit>(
     alloc: Global,
     view: UStr<'_, C>,
-    walk: Walk,
+    kind: Kind,
     steps: &[Option<End>],
 ) -> Result<String, NoAnswer> {
-    match walk {
-        Walk::Chars => chars(alloc, view.chars(), steps),
-        Walk::Lossy => characters(alloc, view.chars_lossy(), steps),
-        Walk::Under(policy) => characters(alloc, view.chars_lossy_with(policy), steps),
-        Walk::Indices => indices(alloc, view.char_indices(), steps),
-        Walk::LossyIndices => lossy_indices(alloc, view.char_indices_lossy(), steps),
+    match kind {
+        Kind::Chars => chars(alloc, view.chars(), steps),
+        Kind::Lossy => characters(alloc, view.chars_lossy(), steps),
+        Kind::Under(policy) => characters(alloc, view.chars_lossy_with(policy), steps),
+        Kind::Indices => indices(alloc, view.char_indices(), steps),
+        Kind::LossyIndices => lossy_indices(alloc, view.char_indices_lossy(), steps),
     }
 }
 
 fn of_contents<C: ReportedUnit>(
     alloc: Global,
     view: UCStr<'_, C>,
-    walk: Walk,
+    kind: Kind,
     steps: &[Option<End>],
 ) -> Result<String, NoAnswer> {
-    match walk {
-        Walk::Chars => chars(alloc, view.chars(), steps),
-        Walk::Lossy => characters(alloc, view.chars_lossy(), steps),
-        Walk::Under(policy) => characters(alloc, view.chars_lossy_with(policy), steps),
-        Walk::Indices => indices(alloc, view.char_indices(), steps),
-        Walk::LossyIndices => lossy_indices(alloc, view.char_indices_lossy(), steps),
+    match kind {
+        Kind::Chars => chars(alloc, view.chars(), steps),
+        Kind::Lossy => characters(alloc, view.chars_lossy(), steps),
+        Kind::Under(policy) => characters(alloc, view.chars_lossy_with(policy), steps),
+        Kind::Indices => indices(alloc, view.char_indices(), steps),
+        Kind::LossyIndices => lossy_indices(alloc, view.char_indices_lossy(), steps),
     }
 }
 
@@ -294,7 +294,7 @@ fn of_steps<C: Width>(
         return of_contents(
             alloc,
             as_contents(units)?,
-            parse::named(&WALKS, word)?,
+            parse::named(&KINDS, word)?,
             steps,
         );
     }
@@ -304,7 +304,7 @@ fn of_steps<C: Width>(
     of_units(
         alloc,
         UStr::from_slice(units),
-        parse::named(&WALKS, word)?,
+        parse::named(&KINDS, word)?,
         steps,
     )
 }
