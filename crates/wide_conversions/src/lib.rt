@@ -1,6 +1,6 @@
-//! Converts between UTF-16 and UTF-32, and any bytes, as UTF-8 that may be ill-formed, to units, and finds where bytes stop
-//! being UTF-8 (Unicode Standard, section 3.9, D86 and D90 to D92). Vectorized: sixteen units or bytes in one step, in SIMD
-//! lanes.
+//! Converts units between UTF-16 and UTF-32, converts bytes to units with a policy for ill-formed UTF-8, and finds the
+//! first ill-formed sequence of bytes (Unicode Standard, section 3.9, D86 and D90 to D92). Vectorized: sixteen units or
+//! bytes in one step, in SIMD lanes.
 #![tactic(auto)]
 
 mod between_forms;

@@ -1,4 +1,4 @@
-//! Edits as data, whose offsets are counted in characters. `specs/` has what they mean.
+//! Edits as data, whose offsets are counted in characters. `specs/Step` defines what they mean.
 #![tactic(auto)]
 
 mod edits;

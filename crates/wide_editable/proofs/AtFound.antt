@@ -13,7 +13,7 @@ use Rattle.wide_forms.specs.Laws.Splices.{chars-nil}
 use Rattle.std.specs.Prelude.{map}
 use Rattle.wide_offset_index.specs.Found.{IsFoundAt, IsFoundRange}
 use Rattle.wide_edit.specs.Step.{changed, answer, chars_in, step, Chars}
-use Rattle.wide_edit.specs.Edited.{IsMade}
+use Rattle.wide_editable.specs.Edited.{IsMade}
 use Rattle.wide_edit.specs.declared.edits.Edit.TheVariants.{Push, PushStr, Truncate, Insert, InsertStr, Remove, Drain, Replace, SplitOff}
 use Rattle.wide_edit.specs.declared.edits.Reply.TheVariants as reply
 use Rattle.wide_editable.proofs.Made.{in_place, in_range, made-push, made-push_str, made-truncate, made-insert, made-insert_str, made-remove, made-replace, made-split, made-drain, refused-insert, refused-insert_str, refused-remove, refused-split}

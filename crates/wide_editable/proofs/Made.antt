@@ -8,7 +8,7 @@ use Rattle.std.proofs.lemmas.Bool.{le-leb, lt-leb}
 use Rattle.std.proofs.lemmas.List.{append-nil, take_all, drop_all}
 use Rattle.std.proofs.Math.Seq.{take-append_seam, drop-append_seam}
 use Rattle.wide_edit.specs.Step.{step, is_range, Chars, first_char}
-use Rattle.wide_edit.specs.Edited.{IsMade}
+use Rattle.wide_editable.specs.Edited.{IsMade}
 use Rattle.wide_edit.specs.declared.edits.Edit.TheVariants.{Push, PushStr, Pop, Truncate, Insert, InsertStr, Remove, Drain, Replace, SplitOff}
 use Rattle.wide_edit.specs.declared.edits.Reply.TheVariants as reply
 

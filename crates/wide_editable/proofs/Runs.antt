@@ -5,7 +5,7 @@ use Rattle.std.proofs.Math.Seq.{take-append_seam, drop-append_seam}
 use Rattle.wide_edit.specs.declared.edits.Edit.{Edit}
 use Rattle.wide_edit.specs.declared.edits.Reply.{Reply}
 use Rattle.wide_edit.specs.Step.{answer_of, step, meaning}
-use Rattle.wide_edit.specs.Edited.{HasStepped, HasRun}
+use Rattle.wide_editable.specs.Edited.{HasStepped, HasRun}
 
 text_last : (l : List ℕ) (edits : List Edit) (edit : Edit) → (meaning l (edits ++ edit ∷ [])).0 ≡ (step (meaning l edits).0 edit).0
 text_last l [] edit = refl

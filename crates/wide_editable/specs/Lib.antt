@@ -1,4 +1,4 @@
-pub mod Capacity
+pub mod Edited
 pub mod Numbers
 pub mod Marked
 pub mod Replaced

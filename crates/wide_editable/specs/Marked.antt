@@ -8,7 +8,7 @@ use Rattle.wide_offset_index.specs.Marks.{mark}
 use Rattle.wide_edit.specs.Step.{step}
 use Rattle.wide_edit.specs.declared.edits.Edit.{Edit}
 use Rattle.wide_edit.specs.declared.edits.Edit.TheVariants.{Push, PushStr, Pop, Truncate, Insert, InsertStr, Remove, Retain, Drain, Replace, SplitOff, Clear}
-use Rattle.wide_editable.specs.Capacity.{CanHold}
+use Rattle.wide_editable.specs.Edited.{CanHold}
 
 -- The index of the first character that an edit can change, in a text of so many characters. The characters before it
 -- stay as they are.

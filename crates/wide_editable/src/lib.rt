@@ -1,4 +1,4 @@
-//! Texts that can be edited: well-formed strings, and UTF-16 strings with an offset index; and lists of edits of a text,
+//! Texts that can be edited: well-formed strings, and UTF-16 strings with an offset index. Lists of edits of one text,
 //! or of two in lockstep.
 #![tactic(auto)]
 

@@ -1,7 +1,7 @@
 //! Application of lists of edits to one text, or to two.
 ghost use Rattle.std.specs.Prelude.{◌≡◌, ◌<◌, ◌≤◌, length, take, IfErr, OnOk, OnErr};
 ghost use Rattle.wide_forms.specs.EncodingForm.{encode};
-ghost use Rattle.wide_edit.specs.Edited.{HasStepped, HasRun};
+ghost use Rattle.wide_editable.specs.Edited.{HasStepped, HasRun};
 
 use crate::text_edit::TextEdit;
 use std::alloc::Global;

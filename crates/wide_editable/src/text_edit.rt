@@ -2,7 +2,7 @@
 ghost use Rattle.std.specs.Prelude.{◌≡◌, ◌≤◌, ℕ, List, length, IfOk, OnOk};
 ghost use Rattle.wide_forms.specs.EncodingForm.{EncodingForm, encode};
 ghost use Rattle.wide_edit.specs.Step.{step, answer_of};
-ghost use Rattle.wide_edit.specs.Edited.{HasReplySpace};
+ghost use Rattle.wide_editable.specs.Edited.{HasReplySpace};
 
 use std::alloc::Global;
 use wide_edit::{Edit, Reply};

@@ -2,8 +2,7 @@
 ghost use Rattle.std.specs.Prelude.{◌≡◌, ◌≤◌, map, IsOk, OnOk, IfOk};
 ghost use Rattle.wide_forms.specs.Offsets.{text_of};
 ghost use Rattle.wide_edit.specs.Step.{step, chars_in};
-ghost use Rattle.wide_editable.specs.Capacity.{CanHold};
-ghost use Rattle.wide_edit.specs.Edited.{HasReplySpace};
+ghost use Rattle.wide_editable.specs.Edited.{CanHold, HasReplySpace};
 
 use crate::lookup::{find, find_second, numbers_of, recall};
 use crate::memory::prepare_at;
@@ -18,7 +17,7 @@ use wide_utfstring::UtfString;
 impl<C: FaultUnit> TextEdit for UtfString<C> {
     ghost use Rattle.wide_forms.specs.Offsets.{text_of};
     ghost use Rattle.wide_edit.specs.Step.{step};
-    ghost use Rattle.wide_editable.specs.Capacity.{CanHold};
+    ghost use Rattle.wide_editable.specs.Edited.{CanHold};
 
     ghost text = { λ s. text_of C.form C.number s.units };
 

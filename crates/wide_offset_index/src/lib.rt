@@ -1,7 +1,7 @@
 //! The offset index of a UTF-16 text: the offsets of every 64th character, searches from them, and what an edit of the
 //! text makes of them.
 //!
-//! [`Steps`] is public in the crate `widestring`; everything else serves the string that has such an index.
+//! The crate `widestring` re-exports [`Steps`] alone. The other calls are those of a string that has such an index.
 #![tactic(auto)]
 
 mod counting;

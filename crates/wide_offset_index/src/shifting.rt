@@ -33,6 +33,10 @@ pub struct Range16 {
 /// Returns the number of characters of a text whose characters in a range were replaced by others, if both are few. The
 /// text had `count` characters and `units` units before. It reads the new characters, if they have few units, and counts
 /// these.
+///
+/// # Requires
+///
+/// The range was one of the text before. The characters before it and after it are those of the text now.
 pub fn count_if_few(
     text: Utf16Str<'_>,
     range: Range16,
@@ -219,7 +223,8 @@ fn push_last(text: Utf16Str<'_>, marks: &mut Vec<usize>, total: usize, steps: &m
 ///
 /// # Requires
 ///
-/// The entries are those of the text before, and there is capacity for those of the text now.
+/// The entries are those of the text before, and there is capacity for those of the text now. The characters before the
+/// range and after it are as before; it had at most 31 characters, and the text has at most 31 more.
 pub fn shift(
     text: Utf16Str<'_>,
     marks: &mut Vec<usize>,

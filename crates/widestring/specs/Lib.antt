@@ -72,10 +72,9 @@ pub use Rattle.wide_utfstring.specs.CowText
 pub use Rattle.wide_utfstring.specs.Drain
 pub use Rattle.wide_utfstring.specs.Faults
 pub use Rattle.wide_edit.specs.Step
-pub use Rattle.wide_edit.specs.Edited
+pub use Rattle.wide_editable.specs.Edited
 pub use Rattle.wide_offset_index.specs.Counted
 pub use Rattle.wide_offset_index.specs.Marks
-pub use Rattle.wide_editable.specs.Capacity
 pub use Rattle.wide_editable.specs.Marked
 pub use Rattle.wide_bytes.specs.Bytes
 pub use Rattle.wide_bytes.specs.Devices

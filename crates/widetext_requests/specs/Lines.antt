@@ -54,14 +54,14 @@ units_line name width us = name ++ (flat_map (spaced_unit width) us ++ codes "\n
 abbrev pub string_lines : List ℕ → List ℕ → List ℕ → List ℕ
 string_lines cs narrow wide = text_line cs ++ (units_line (codes "utf16") 4 narrow ++ units_line (codes "utf32") 8 wide)
 
--- those of a text and of its own units
-abbrev pub text_lines : List ℕ → List ℕ
-text_lines cs = string_lines cs (encode Utf16 cs) (encode Utf32 cs)
-
 -- the lines of replies, and then those of the text and of the units of two strings
 abbrev pub result_lines : List step.Answer → List ℕ → List ℕ → List ℕ → List ℕ
 result_lines replies cs narrow wide = flat_map reply_line replies ++ string_lines cs narrow wide
 
+-- the lines of replies, and then those of a text and of its own units
+abbrev pub text_lines : List step.Answer → List ℕ → List ℕ
+text_lines replies cs = result_lines replies cs (encode Utf16 cs) (encode Utf32 cs)
+
 -- the lines of the replies to the edits of a text, and then those of the resulting text
 abbrev pub edit_lines : List ℕ → List Edit → List ℕ
-edit_lines cs edits = flat_map reply_line (step.meaning cs edits).1 ++ text_lines (step.meaning cs edits).0
+edit_lines cs edits = text_lines (step.meaning cs edits).1 (step.meaning cs edits).0

@@ -54,7 +54,7 @@ fn push_reply(lines: &mut String, reply: &Reply) -> Result<(), AllocError>
 ///
 /// # Errors
 ///
-/// [`AllocError`] if an allocation fails. Some of the line may have been appended.
+/// [`AllocError`] if an allocation fails. What `lines` holds then is not specified.
 pub fn push_units16(lines: &mut String, units: &[u16]) -> Result<(), AllocError>
     ensures { OnOk result (string_bytes lines.new ≡ string_bytes lines.old ++ line.units_line (codes "utf16") 4 units.now) }
 {
@@ -69,7 +69,7 @@ pub fn push_units16(lines: &mut String, units: &[u16]) -> Result<(), AllocError>
 ///
 /// # Errors
 ///
-/// [`AllocError`] if an allocation fails. Some of the line may have been appended.
+/// [`AllocError`] if an allocation fails. What `lines` holds then is not specified.
 pub fn push_units32(lines: &mut String, units: &[u32]) -> Result<(), AllocError>
     ensures { OnOk result (string_bytes lines.new ≡ string_bytes lines.old ++ line.units_line (codes "utf32") 8 units.now) }
 {
@@ -84,7 +84,7 @@ pub fn push_units32(lines: &mut String, units: &[u32]) -> Result<(), AllocError>
 ///
 /// # Errors
 ///
-/// [`AllocError`] if an allocation fails. Some of the lines may have been appended.
+/// [`AllocError`] if an allocation fails. What `lines` holds then is not specified.
 pub fn push_replies(lines: &mut String, replies: &[Reply]) -> Result<(), AllocError>
     ensures { OnOk result (string_bytes lines.new ≡ string_bytes lines.old ++ flat_map line.reply_line (map answer_of replies.now)) }
 {

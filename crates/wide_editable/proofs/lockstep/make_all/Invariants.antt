@@ -1,5 +1,5 @@
 use Rattle.std.proofs.Common.{◌≡◌, ◌≤◌, take}
-use Rattle.wide_edit.specs.Edited.{HasRun}
+use Rattle.wide_editable.specs.Edited.{HasRun}
 use Rattle.wide_editable.proofs.lockstep.make_all.Given as goal
 
 -- The loop invariant: as many edits were made as were iterated over.

@@ -3,7 +3,7 @@ use Rattle.std.specs.Prelude.{IfOk}
 use Rattle.std.proofs.lemmas.List.{map-id}
 use Rattle.wide_forms.specs.EncodingForm.{Utf16}
 use Rattle.wide_forms.specs.Items.{chars}
-use Rattle.wide_edit.specs.Edited.{HasReplySpace}
+use Rattle.wide_editable.specs.Edited.{HasReplySpace}
 use Rattle.wide_editable.proofs.marked.prepare16.Goals as goal
 
 pub returns-clause-space : goal.returns-clause-space

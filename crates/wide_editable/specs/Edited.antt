@@ -2,9 +2,15 @@
 use Rattle.std.specs.Prelude.{◌≡◌, ℕ, ◌≤◌, List, [], ◌∷◌, ◌++◌, map, length, take, drop, vec_capacity}
 use Rattle.std.specs.declared.alloc.Global.{Global}
 use Rattle.std.specs.declared.vec.Vec.{Vec}
+use Rattle.wide_forms.specs.EncodingForm.{EncodingForm, encode}
+use Rattle.wide_ustring.specs.Units.{Units}
 use Rattle.wide_edit.specs.Step.{answer_of, step, meaning, chars_in}
 use Rattle.wide_edit.specs.declared.edits.Edit.{Edit}
 use Rattle.wide_edit.specs.declared.edits.Reply.{Reply}
+
+-- The encoding of these characters fits in the string without allocating.
+abbrev pub CanHold : {C : Type 0} → EncodingForm → Units C → List ℕ → Type 0
+CanHold form s cs = length (encode form cs) ≤ s.capacity
 
 -- The vector is empty, and the characters of the edit's reply fit.
 pub record HasReplySpace (l : List ℕ) (edit : Edit) (space : Vec ℕ Global) : Type 0 where
