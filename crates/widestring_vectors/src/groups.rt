@@ -108,6 +108,19 @@ static OF_CHARS: [(&str, OfChars); 5] = [
     ("hints_encode16", OfChars::Utf16Hints),
 ];
 
+// What is asked of lists of bytes.
+#[derive(Clone, Copy)]
+enum OfBytes {
+    Files,
+    Transcode,
+    Include,
+}
+
+static OF_BYTES: [(&str, OfBytes); 2] = [
+    ("files", OfBytes::Files),
+    ("transcode", OfBytes::Transcode),
+];
+
 // The decoders of units, whose questions are words of calls.
 #[derive(Clone, Copy)]
 enum Decoder {
@@ -176,11 +189,13 @@ impl Suite for ViewSuite {
         if let Ok(group) = parse::named(&OF_CHARS, group) {
             return of_chars(memory.alloc, group, list, question);
         }
-        match group {
-            "files" | "transcode" => of_bytes(memory, group, list, question),
-            "to_string16" if question == "i" => of_bytes(memory, group, list, question),
-            _ => of_units(memory, group, list, question),
+        if let Ok(group) = parse::named(&OF_BYTES, group) {
+            return of_bytes(memory, group, list, question);
         }
+        if (group == "to_string16") & (question == "i") {
+            return of_bytes(memory, OfBytes::Include, list, question);
+        }
+        of_units(memory, group, list, question)
     }
 }
 
@@ -204,18 +219,17 @@ fn answer_of_chars(
     }
 }
 
-// Returns the answer of a group whose lists are bytes.
 fn of_bytes(
     memory: Memory<'_>,
-    group: &str,
+    group: OfBytes,
     list: &str,
     question: &str,
 ) -> Result<String, NoAnswer> {
     let bytes = parse::list::<u8>(memory.alloc, list)?;
     match group {
-        "files" => files::of_bytes(memory, &bytes, question),
-        "transcode" => devices::run(memory.alloc, &bytes, question),
-        _ => conversions::file(memory, &bytes),
+        OfBytes::Files => files::of_bytes(memory, &bytes, question),
+        OfBytes::Transcode => devices::run(memory.alloc, &bytes, question),
+        OfBytes::Include => conversions::file(memory, &bytes),
     }
 }
 

@@ -104,20 +104,40 @@ fn of_text<'a>(
     }
 }
 
+// What is made of characters.
+#[derive(Clone, Copy)]
+enum Maker {
+    Units,
+    Text,
+    Contents,
+    ContentsTruncate,
+    ContentsUnchecked,
+}
+
+static MAKERS: [(&str, Maker); 5] = [
+    ("u", Maker::Units),
+    ("t", Maker::Text),
+    ("c", Maker::Contents),
+    ("cc", Maker::ContentsTruncate),
+    ("c!", Maker::ContentsUnchecked),
+];
+
 // Makes a string of characters, and adds its units.
 fn of_chars(
     heap: &Heap,
     answer: &mut Answer,
     chars: &[char],
-    question: &str,
+    maker: Maker,
 ) -> Result<(), NoAnswer> {
-    match question {
-        "u" => ustring_calls::shown(answer, U32String::from_chars(heap, chars)),
-        "t" => text_calls::shown(answer, Utf32String::from_chars(heap, chars)),
-        "c" => copied(answer, U32CString::from_chars(heap, chars)),
-        "cc" => copied(answer, U32CString::from_chars_truncate(heap, chars)),
-        "c!" if chars.len() <= 1 => copied(answer, U32CString::from_chars_unchecked(heap, chars)),
-        _ => Err(NoAnswer::Unparsed),
+    match maker {
+        Maker::Units => ustring_calls::shown(answer, U32String::from_chars(heap, chars)),
+        Maker::Text => text_calls::shown(answer, Utf32String::from_chars(heap, chars)),
+        Maker::Contents => copied(answer, U32CString::from_chars(heap, chars)),
+        Maker::ContentsTruncate => copied(answer, U32CString::from_chars_truncate(heap, chars)),
+        Maker::ContentsUnchecked if chars.len() <= 1 => {
+            copied(answer, U32CString::from_chars_unchecked(heap, chars))
+        }
+        Maker::ContentsUnchecked => Err(NoAnswer::Unparsed),
     }
 }
 
@@ -138,9 +158,10 @@ fn answer_of_text(
 
 // Returns the answer: the string of these characters.
 fn answer_of_chars(memory: Memory<'_>, chars: &[char], question: &str) -> Result<String, NoAnswer> {
+    let maker = parse::named(&MAKERS, question)?;
     let mut answer = Answer::new(memory.alloc);
     let left = memory.heap.left();
-    let called = of_chars(memory.heap, &mut answer, chars, question);
+    let called = of_chars(memory.heap, &mut answer, chars, maker);
     answer.requests(memory.requests_since(left));
     finished(answer, called)
 }

@@ -27,6 +27,15 @@ pub enum How {
     Make,
 }
 
+/// Returns how a call takes items, and of which kind they are, by its name.
+pub fn items_called(name: &str) -> Option<(How, &str)> {
+    if let Some(kind) = name.strip_prefix("extend_") {
+        return Some((How::Extend, kind));
+    }
+    let kind = name.strip_prefix("from_iter_")?;
+    Some((How::Make, kind))
+}
+
 /// Returns the vector of units, on the counted heap, with this spare capacity.
 pub fn vec_on<'a, C: Copy>(
     heap: &'a Heap,
@@ -260,13 +269,10 @@ pub fn is_kept<C: ReportedUnit>(
     before: (&[C], usize),
     after: (&[C], usize),
 ) -> Result<bool, NoAnswer> {
-    match call.split_once(' ') {
-        Some((name, items)) if name.starts_with("extend_") => {
-            are_whole_items(alloc, before.0, after, items)
-        }
-        Some((name, items)) if name.starts_with("from_iter_") => {
-            are_whole_items(alloc, &[], after, items)
-        }
-        _ => Ok((before.0 == after.0) & (before.1 == after.1)),
+    let (name, items) = parse::word(call);
+    match items_called(name) {
+        Some((How::Extend, _)) => are_whole_items(alloc, before.0, after, items),
+        Some((How::Make, _)) => are_whole_items(alloc, &[], after, items),
+        None => Ok((before.0 == after.0) & (before.1 == after.1)),
     }
 }

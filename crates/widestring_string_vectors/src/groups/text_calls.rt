@@ -1,10 +1,10 @@
 //! Calls of strings of text that have a name in a script, with their arguments after a space. README.md of
 //! `widestring_replay` describes the calls.
 use crate::groups::outcomes::{done, replaced};
-use crate::groups::pieces::{self, How, Text};
+use crate::groups::pieces::{self, Text};
 use crate::groups::text_items::by_items;
 use crate::groups::ucstring::Made;
-use crate::groups::ustring_calls::has_capacity;
+use crate::groups::ustring_calls::{Capacity, has_capacity};
 use std::alloc::Global;
 use std::mem;
 use widestring::error::{FaultUnit, OutOfMemory, UtfError};
@@ -15,46 +15,138 @@ use widestring_replay::parse::{self, Memory, NoAnswer};
 use widestring_replay::show::{Answer, ReportedUnit};
 use widestring_testing::Heap;
 
-// Makes a call that takes a text.
-fn with_text<'a, C: ReportedUnit>(
+// The calls that take nothing.
+#[derive(Clone, Copy)]
+enum NoArgument {
+    New,
+    AsUstr,
+    CharCount,
+    ShrinkToFit,
+    TryClone,
+    View(View),
+    RoundTrip(RoundTrip),
+}
+
+// The calls of a view that make a string.
+#[derive(Clone, Copy)]
+enum View {
+    ToUtfstring,
+    ToLowercase,
+    ToUppercase,
+    IntoOwned,
+}
+
+// The calls that convert a string to a type that holds the same units, and back.
+#[derive(Clone, Copy)]
+enum RoundTrip {
+    Ustring,
+    Vec,
+    UstringUnchecked,
+    VecUnchecked,
+    Keep,
+    Boxed,
+    Ucstring,
+    UcstringUnchecked,
+}
+
+static NO_ARGUMENT: [(&str, NoArgument); 17] = [
+    ("new", NoArgument::New),
+    ("as_ustr", NoArgument::AsUstr),
+    ("char_count", NoArgument::CharCount),
+    ("shrink_to_fit", NoArgument::ShrinkToFit),
+    ("try_clone", NoArgument::TryClone),
+    ("to_utfstring", NoArgument::View(View::ToUtfstring)),
+    ("to_lowercase", NoArgument::View(View::ToLowercase)),
+    ("to_uppercase", NoArgument::View(View::ToUppercase)),
+    ("into_owned", NoArgument::View(View::IntoOwned)),
+    ("ustring", NoArgument::RoundTrip(RoundTrip::Ustring)),
+    ("vec", NoArgument::RoundTrip(RoundTrip::Vec)),
+    (
+        "ustring_unchecked",
+        NoArgument::RoundTrip(RoundTrip::UstringUnchecked),
+    ),
+    (
+        "vec_unchecked",
+        NoArgument::RoundTrip(RoundTrip::VecUnchecked),
+    ),
+    ("keep", NoArgument::RoundTrip(RoundTrip::Keep)),
+    ("boxed", NoArgument::RoundTrip(RoundTrip::Boxed)),
+    ("ucstring", NoArgument::RoundTrip(RoundTrip::Ucstring)),
+    (
+        "ucstring_unchecked",
+        NoArgument::RoundTrip(RoundTrip::UcstringUnchecked),
+    ),
+];
+
+// The calls that take something.
+#[derive(Clone, Copy)]
+enum WithArgument {
+    Capacity(Capacity),
+    Repeat,
+    WriteStr,
+    FromStr,
+    WriteChar,
+    SpliceStr,
+}
+
+static WITH_ARGUMENT: [(&str, WithArgument); 9] = [
+    ("with_capacity", WithArgument::Capacity(Capacity::New)),
+    ("reserve", WithArgument::Capacity(Capacity::Reserve)),
+    (
+        "reserve_exact",
+        WithArgument::Capacity(Capacity::ReserveExact),
+    ),
+    ("shrink_to", WithArgument::Capacity(Capacity::ShrinkTo)),
+    ("repeat", WithArgument::Repeat),
+    ("write_str", WithArgument::WriteStr),
+    ("from_str", WithArgument::FromStr),
+    ("write_char", WithArgument::WriteChar),
+    ("splice_str", WithArgument::SpliceStr),
+];
+
+fn write_str<C: ReportedUnit>(
+    alloc: Global,
+    string: &mut Text<'_, C>,
+    list: &str,
+) -> Result<(), NoAnswer> {
+    done(string.write_str(&pieces::text::<C>(alloc, list)?))
+}
+
+fn of_str<'a, C: ReportedUnit>(
     memory: Memory<'a>,
     string: &mut Text<'a, C>,
-    name: &str,
-    text: &str,
+    list: &str,
 ) -> Result<(), NoAnswer> {
-    match name {
-        "write_str" => done(string.write_str(text)),
-        _ => replaced(string, UtfString::from_str(memory.heap, text)),
-    }
+    let text = pieces::text::<C>(memory.alloc, list)?;
+    replaced(string, UtfString::from_str(memory.heap, &text))
 }
 
 // Makes a call that takes a capacity, or a number of units.
-fn with_number<'a, C: ReportedUnit>(
-    memory: Memory<'a>,
+fn with_capacity<'a, C: ReportedUnit>(
+    heap: &'a Heap,
     string: &mut Text<'a, C>,
-    name: &str,
+    call: Capacity,
     number: usize,
 ) -> Result<(), NoAnswer> {
-    match name {
-        "with_capacity" => replaced(string, UtfString::with_capacity(memory.heap, number)),
-        "reserve" => done(string.reserve(number)),
-        "reserve_exact" => done(string.reserve_exact(number)),
-        "shrink_to" => done(string.shrink_to(number)),
-        _ => Err(NoAnswer::Unparsed),
+    match call {
+        Capacity::New => replaced(string, UtfString::with_capacity(heap, number)),
+        Capacity::Reserve => done(string.reserve(number)),
+        Capacity::ReserveExact => done(string.reserve_exact(number)),
+        Capacity::ShrinkTo => done(string.shrink_to(number)),
     }
 }
 
-// Makes a call that takes a number, and adds whether the capacity is then as its contract says.
+// Makes a call that takes a capacity, and adds whether the capacity is then as its contract says.
 fn sized<'a, C: ReportedUnit>(
-    memory: Memory<'a>,
+    heap: &'a Heap,
     string: &mut Text<'a, C>,
     answer: &mut Answer,
-    name: &str,
+    call: Capacity,
     number: usize,
 ) -> Result<(), NoAnswer> {
     let (len, before) = (string.len(), string.capacity());
-    with_number(memory, string, name, number)?;
-    answer.decided(has_capacity(name, number, len, before, string.capacity()));
+    with_capacity(heap, string, call, number)?;
+    answer.decided(has_capacity(call, number, len, before, string.capacity()));
     Ok(())
 }
 
@@ -132,26 +224,26 @@ fn converted<'a, C: ReportedUnit>(
 fn turn<'a, C: ReportedUnit>(
     heap: &'a Heap,
     string: &mut Text<'a, C>,
-    name: &str,
+    call: RoundTrip,
 ) -> Result<(), NoAnswer> {
     let given = mem::replace(string, UtfString::new(heap));
-    match name {
-        "ustring" => converted(string, UtfString::from_ustring(given.into_ustring())),
-        "vec" => converted(string, UtfString::from_vec(given.into_vec())),
-        "ustring_unchecked" => {
+    match call {
+        RoundTrip::Ustring => converted(string, UtfString::from_ustring(given.into_ustring())),
+        RoundTrip::Vec => converted(string, UtfString::from_vec(given.into_vec())),
+        RoundTrip::UstringUnchecked => {
             *string = UtfString::from_ustring_unchecked(given.into_ustring());
             Ok(())
         }
-        "vec_unchecked" => {
+        RoundTrip::VecUnchecked => {
             *string = UtfString::from_vec_unchecked(given.into_vec());
             Ok(())
         }
-        "keep" => replaced(string, kept(heap, given)),
-        "boxed" => boxed(string, given),
-        "ucstring" | "ucstring_unchecked" => {
-            of_c_string(string, UCString::from_vec(given.into_vec()), name)
+        RoundTrip::Keep => replaced(string, kept(heap, given)),
+        RoundTrip::Boxed => boxed(string, given),
+        RoundTrip::Ucstring => of_c_string(string, UCString::from_vec(given.into_vec()), false),
+        RoundTrip::UcstringUnchecked => {
+            of_c_string(string, UCString::from_vec(given.into_vec()), true)
         }
-        _ => Err(NoAnswer::Unparsed),
     }
 }
 
@@ -198,31 +290,27 @@ fn unchecked<'a, C: ReportedUnit>(
 fn of_c_string<'a, C: ReportedUnit>(
     string: &mut Text<'a, C>,
     ended: Made<'a, C>,
-    name: &str,
+    is_unchecked: bool,
 ) -> Result<(), NoAnswer> {
     match ended {
-        Ok(ended) if name == "ucstring_unchecked" => unchecked(string, ended),
+        Ok(ended) if is_unchecked => unchecked(string, ended),
         Ok(ended) => converted(string, UtfString::from_ucstring(ended)),
         Err(_) => Err(NoAnswer::OutOfMemory),
     }
 }
 
-// Makes a call that takes nothing and does not change a string.
-fn about<'a, C: ReportedUnit>(
+// Makes a call of a view, and adds the string that it makes.
+fn of_view<'a, C: ReportedUnit>(
     heap: &'a Heap,
     view: UtfStr<'_, C>,
     answer: &mut Answer,
-    name: &str,
+    call: View,
 ) -> Result<(), NoAnswer> {
-    match name {
-        "to_utfstring" => shown(answer, view.to_utfstring(heap)),
-        "to_lowercase" => shown(answer, view.to_lowercase(heap)),
-        "to_uppercase" => shown(answer, view.to_uppercase(heap)),
-        "into_owned" => shown(answer, owned(heap, view)),
-        _ => {
-            answer.count(Some(view.char_count()));
-            Ok(())
-        }
+    match call {
+        View::ToUtfstring => shown(answer, view.to_utfstring(heap)),
+        View::ToLowercase => shown(answer, view.to_lowercase(heap)),
+        View::ToUppercase => shown(answer, view.to_uppercase(heap)),
+        View::IntoOwned => shown(answer, owned(heap, view)),
     }
 }
 
@@ -236,7 +324,8 @@ fn emptied<'a, C: ReportedUnit>(heap: &'a Heap, string: &mut Text<'a, C>, answer
 fn fitted<C: ReportedUnit>(string: &mut Text<'_, C>, answer: &mut Answer) -> Result<(), NoAnswer> {
     let before = string.capacity();
     done(string.shrink_to_fit())?;
-    answer.decided(has_capacity("", 0, string.len(), before, string.capacity()));
+    let after = string.capacity();
+    answer.decided(has_capacity(Capacity::ShrinkTo, 0, string.len(), before, after));
     Ok(())
 }
 
@@ -245,19 +334,42 @@ fn alone<'a, C: ReportedUnit>(
     heap: &'a Heap,
     string: &mut Text<'a, C>,
     answer: &mut Answer,
-    name: &str,
+    call: NoArgument,
 ) -> Result<(), NoAnswer> {
-    match name {
-        "new" => emptied(heap, string, answer),
-        "as_ustr" => answer.units(string.as_ustr().as_slice()),
-        "shrink_to_fit" => return fitted(string, answer),
-        "try_clone" => return shown(answer, string.try_clone()),
-        "to_utfstring" | "to_lowercase" | "to_uppercase" | "into_owned" | "char_count" => {
-            return about(heap, string.as_utfstr(), answer, name);
-        }
-        _ => return turn(heap, string, name),
+    match call {
+        NoArgument::New => emptied(heap, string, answer),
+        NoArgument::AsUstr => answer.units(string.as_ustr().as_slice()),
+        NoArgument::CharCount => answer.count(Some(string.as_utfstr().char_count())),
+        NoArgument::ShrinkToFit => return fitted(string, answer),
+        NoArgument::TryClone => return shown(answer, string.try_clone()),
+        NoArgument::View(call) => return of_view(heap, string.as_utfstr(), answer, call),
+        NoArgument::RoundTrip(call) => return turn(heap, string, call),
     }
     Ok(())
+}
+
+// Makes a call that takes something, and adds what it returns.
+fn with_arguments<'a, C: ReportedUnit>(
+    memory: Memory<'a>,
+    string: &mut Text<'a, C>,
+    answer: &mut Answer,
+    call: WithArgument,
+    more: &str,
+) -> Result<(), NoAnswer> {
+    match call {
+        WithArgument::Capacity(call) => sized(
+            memory.heap,
+            string,
+            answer,
+            call,
+            parse::value(more)?,
+        ),
+        WithArgument::Repeat => repeat(memory.heap, string, parse::value(more)?),
+        WithArgument::WriteStr => write_str(memory.alloc, string, more),
+        WithArgument::FromStr => of_str(memory, string, more),
+        WithArgument::WriteChar => done(string.write_char(parse::value(more)?)),
+        WithArgument::SpliceStr => splice(memory.alloc, string, more),
+    }
 }
 
 /// Makes a call by its name, and adds what it returns.
@@ -268,26 +380,21 @@ pub fn named<'a, C: ReportedUnit>(
     call: &str,
 ) -> Result<(), NoAnswer> {
     let Some((name, more)) = call.split_once(' ') else {
-        return alone(memory.heap, string, answer, call);
+        return alone(
+            memory.heap,
+            string,
+            answer,
+            parse::named(&NO_ARGUMENT, call)?,
+        );
     };
-    if let Some(kind) = name.strip_prefix("extend_") {
-        return by_items(memory, string, How::Extend, kind, more);
-    }
-    if let Some(kind) = name.strip_prefix("from_iter_") {
-        return by_items(memory, string, How::Make, kind, more);
-    }
-    match name {
-        "write_str" | "from_str" => {
-            with_text(
-                memory,
-                string,
-                name,
-                &pieces::text::<C>(memory.alloc, more)?,
-            )
-        }
-        "write_char" => done(string.write_char(parse::value(more)?)),
-        "splice_str" => splice(memory.alloc, string, more),
-        "repeat" => repeat(memory.heap, string, parse::value(more)?),
-        _ => sized(memory, string, answer, name, parse::value(more)?),
+    match pieces::items_called(name) {
+        Some((how, kind)) => by_items(memory, string, how, kind, more),
+        None => with_arguments(
+            memory,
+            string,
+            answer,
+            parse::named(&WITH_ARGUMENT, name)?,
+            more,
+        ),
     }
 }

@@ -2,7 +2,7 @@
 use crate::groups::outcomes::{collected, done};
 use crate::groups::pieces::{How, Text, items, views};
 use widestring::utfstring::{BoxedUtfStr, UtfString};
-use widestring_replay::parse::{Memory, NoAnswer};
+use widestring_replay::parse::{self, Memory, NoAnswer};
 use widestring_replay::show::ReportedUnit;
 
 fn by_chars<'a, C: ReportedUnit>(
@@ -112,6 +112,30 @@ fn by_cows<'a, C: ReportedUnit>(
     }
 }
 
+// The kinds of items.
+#[derive(Clone, Copy)]
+enum Kind {
+    Chars,
+    CharRefs,
+    Strs,
+    Strings,
+    Utfstrs,
+    Utfstrings,
+    Boxed,
+    Cows,
+}
+
+static KINDS: [(&str, Kind); 8] = [
+    ("chars", Kind::Chars),
+    ("char_refs", Kind::CharRefs),
+    ("strs", Kind::Strs),
+    ("strings", Kind::Strings),
+    ("utfstrs", Kind::Utfstrs),
+    ("utfstrings", Kind::Utfstrings),
+    ("boxed", Kind::Boxed),
+    ("cows", Kind::Cows),
+];
+
 /// Makes a call that takes items, of a kind.
 pub fn by_items<'a, C: ReportedUnit>(
     memory: Memory<'a>,
@@ -120,15 +144,14 @@ pub fn by_items<'a, C: ReportedUnit>(
     kind: &str,
     lists: &str,
 ) -> Result<(), NoAnswer> {
-    match kind {
-        "chars" => by_chars(memory, string, how, lists),
-        "char_refs" => by_char_refs(memory, string, how, lists),
-        "strs" => by_strs(memory, string, how, lists),
-        "strings" => by_strings(memory, string, how, lists),
-        "utfstrs" => by_utfstrs(memory, string, how, lists),
-        "utfstrings" => by_utfstrings(memory, string, how, lists),
-        "boxed" => by_boxed(memory, string, how, lists),
-        "cows" => by_cows(memory, string, how, lists),
-        _ => Err(NoAnswer::Unparsed),
+    match parse::named(&KINDS, kind)? {
+        Kind::Chars => by_chars(memory, string, how, lists),
+        Kind::CharRefs => by_char_refs(memory, string, how, lists),
+        Kind::Strs => by_strs(memory, string, how, lists),
+        Kind::Strings => by_strings(memory, string, how, lists),
+        Kind::Utfstrs => by_utfstrs(memory, string, how, lists),
+        Kind::Utfstrings => by_utfstrings(memory, string, how, lists),
+        Kind::Boxed => by_boxed(memory, string, how, lists),
+        Kind::Cows => by_cows(memory, string, how, lists),
     }
 }

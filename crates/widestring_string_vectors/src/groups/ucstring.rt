@@ -20,6 +20,42 @@ use widestring_replay::parse::{self, Memory, NoAnswer};
 use widestring_replay::show::{Answer, ReportedUnit};
 use widestring_testing::Heap;
 
+// What a constructor does about a NUL among the units.
+#[derive(Clone, Copy)]
+enum Check {
+    Whole,
+    Truncate,
+    Unchecked,
+}
+
+// The constructors.
+#[derive(Clone, Copy)]
+enum Maker {
+    Slice,
+    SliceTruncate,
+    New,
+    OfVec(Check),
+    OfView(Check),
+    OfText(Check),
+    Literal,
+}
+
+static MAKERS: [(&str, Maker); 13] = [
+    ("s", Maker::Slice),
+    ("sc", Maker::SliceTruncate),
+    ("n", Maker::New),
+    ("v", Maker::OfVec(Check::Whole)),
+    ("vc", Maker::OfVec(Check::Truncate)),
+    ("v!", Maker::OfVec(Check::Unchecked)),
+    ("u", Maker::OfView(Check::Whole)),
+    ("uc", Maker::OfView(Check::Truncate)),
+    ("u!", Maker::OfView(Check::Unchecked)),
+    ("t", Maker::OfText(Check::Whole)),
+    ("tc", Maker::OfText(Check::Truncate)),
+    ("t!", Maker::OfText(Check::Unchecked)),
+    ("l", Maker::Literal),
+];
+
 /// What a constructor makes, or its error.
 pub type Made<'a, C> = Result<UCString<C, &'a Heap>, UCStringError<C, &'a Heap>>;
 
@@ -83,12 +119,15 @@ fn taken<C: ReportedUnit>(
 }
 
 // Makes a C string of a vector.
-fn of_vec<'a, C: ReportedUnit>(call: &str, vec: Vec<C, &'a Heap>) -> Result<Made<'a, C>, NoAnswer> {
-    match call {
-        "v" => Ok(UCString::from_vec(vec)),
-        "vc" => Ok(UCString::from_vec_truncate(vec)),
-        "v!" if vec.len() <= 1 => Ok(UCString::from_vec_unchecked(vec)),
-        _ => Err(NoAnswer::Unparsed),
+fn of_vec<'a, C: ReportedUnit>(
+    check: Check,
+    vec: Vec<C, &'a Heap>,
+) -> Result<Made<'a, C>, NoAnswer> {
+    match check {
+        Check::Whole => Ok(UCString::from_vec(vec)),
+        Check::Truncate => Ok(UCString::from_vec_truncate(vec)),
+        Check::Unchecked if vec.len() <= 1 => Ok(UCString::from_vec_unchecked(vec)),
+        Check::Unchecked => Err(NoAnswer::Unparsed),
     }
 }
 
@@ -96,33 +135,39 @@ fn of_vec<'a, C: ReportedUnit>(call: &str, vec: Vec<C, &'a Heap>) -> Result<Made
 fn by_vec<C: ReportedUnit>(
     memory: Memory<'_>,
     answer: &mut Answer,
-    call: &str,
+    check: Check,
     units: &[C],
     spare: usize,
 ) -> Result<u64, NoAnswer> {
     let vec = pieces::vec_on(memory.heap, units, spare)?;
     let capacity = vec.capacity();
     let left = memory.heap.left();
-    taken(answer, of_vec(call, vec)?, units, capacity)?;
+    taken(answer, of_vec(check, vec)?, units, capacity)?;
     Ok(memory.requests_since(left))
 }
 
+// Adds a C string of nothing.
+fn of_nothing<C: ReportedUnit>(heap: &Heap, answer: &mut Answer) -> Result<(), NoAnswer> {
+    if UCString::<C, Global>::NUL_TERMINATOR != C::NUL {
+        return Err(NoAnswer::Unparsed);
+    }
+    copied::<C>(answer, UCString::new(heap))
+}
+
 // Adds a C string of a copy of units.
-fn of_units<C: ReportedUnit>(
+fn of_view<C: ReportedUnit>(
     heap: &Heap,
     answer: &mut Answer,
-    call: &str,
-    units: &[C],
+    check: Check,
+    view: UStr<'_, C>,
 ) -> Result<(), NoAnswer> {
-    let view = UStr::from_slice(units);
-    match call {
-        "n" if UCString::<C, Global>::NUL_TERMINATOR == C::NUL => {
-            copied::<C>(answer, UCString::new(heap))
+    match check {
+        Check::Whole => copied(answer, UCString::from_ustr(heap, view)),
+        Check::Truncate => copied(answer, UCString::from_ustr_truncate(heap, view)),
+        Check::Unchecked if view.len() <= 1 => {
+            copied(answer, UCString::from_ustr_unchecked(heap, view))
         }
-        "u" => copied(answer, UCString::from_ustr(heap, view)),
-        "uc" => copied(answer, UCString::from_ustr_truncate(heap, view)),
-        "u!" if view.len() <= 1 => copied(answer, UCString::from_ustr_unchecked(heap, view)),
-        _ => Err(NoAnswer::Unparsed),
+        Check::Unchecked => Err(NoAnswer::Unparsed),
     }
 }
 
@@ -130,34 +175,46 @@ fn of_units<C: ReportedUnit>(
 fn of_text<C: ReportedUnit>(
     heap: &Heap,
     answer: &mut Answer,
-    call: &str,
+    check: Check,
     text: &str,
 ) -> Result<(), NoAnswer> {
-    match call {
-        "t" => copied::<C>(answer, UCString::from_str(heap, text)),
-        "tc" => copied::<C>(answer, UCString::from_str_truncate(heap, text)),
-        "l" => copied::<C>(answer, UCString::from_str_literal(heap, text)),
-        "t!" if C::text_len(text) <= 1 => {
+    match check {
+        Check::Whole => copied::<C>(answer, UCString::from_str(heap, text)),
+        Check::Truncate => copied::<C>(answer, UCString::from_str_truncate(heap, text)),
+        Check::Unchecked if C::text_len(text) <= 1 => {
             copied::<C>(answer, UCString::from_str_unchecked(heap, text))
         }
-        _ => Err(NoAnswer::Unparsed),
+        Check::Unchecked => Err(NoAnswer::Unparsed),
     }
+}
+
+// Adds a C string of a literal.
+fn of_literal<C: ReportedUnit>(
+    heap: &Heap,
+    answer: &mut Answer,
+    text: &str,
+) -> Result<(), NoAnswer> {
+    copied::<C>(answer, UCString::from_str_literal(heap, text))
 }
 
 // Adds a view, or a C string of a copy.
 fn by_slice<C: ReportedUnit>(
     memory: Memory<'_>,
     answer: &mut Answer,
-    call: &str,
+    maker: Maker,
     units: &[C],
 ) -> Result<(), NoAnswer> {
-    match call {
-        "s" => view(answer, units),
-        "sc" => view_cut(answer, units),
-        "t" | "tc" | "l" | "t!" => {
-            return of_text::<C>(memory.heap, answer, call, &text_of(memory.alloc, units)?);
+    let (heap, alloc) = (memory.heap, memory.alloc);
+    match maker {
+        Maker::Slice => view(answer, units),
+        Maker::SliceTruncate => view_cut(answer, units),
+        Maker::New => return of_nothing::<C>(heap, answer),
+        Maker::OfView(check) => return of_view(heap, answer, check, UStr::from_slice(units)),
+        Maker::OfText(check) => {
+            return of_text::<C>(heap, answer, check, &text_of(alloc, units)?);
         }
-        _ => return of_units(memory.heap, answer, call, units),
+        Maker::Literal => return of_literal::<C>(heap, answer, &text_of(alloc, units)?),
+        Maker::OfVec(_) => return Err(NoAnswer::Unparsed),
     }
     Ok(())
 }
@@ -166,16 +223,33 @@ fn by_slice<C: ReportedUnit>(
 fn constructed<C: ReportedUnit>(
     memory: Memory<'_>,
     answer: &mut Answer,
-    call: &str,
+    maker: Maker,
     units: &[C],
     spare: usize,
 ) -> Result<u64, NoAnswer> {
-    if call.starts_with('v') {
-        return by_vec(memory, answer, call, units, spare);
+    if let Maker::OfVec(check) = maker {
+        return by_vec(memory, answer, check, units, spare);
     }
     let left = memory.heap.left();
-    by_slice(memory, answer, call, units)?;
+    by_slice(memory, answer, maker, units)?;
     Ok(memory.requests_since(left))
+}
+
+// Returns the answer: the C string that a constructor makes of units, or its error.
+fn answer_of<C: ReportedUnit>(
+    memory: Memory<'_>,
+    maker: Maker,
+    units: &[C],
+    spare: usize,
+    counts: bool,
+) -> Result<String, NoAnswer> {
+    let mut answer = Answer::new(memory.alloc);
+    match constructed(memory, &mut answer, maker, units, spare) {
+        Ok(requests) if counts => answer.requests(requests),
+        Ok(_) => {}
+        Err(error) => return Err(error),
+    }
+    answer.finish()
 }
 
 /// Returns the answer: the C string that a constructor makes, or its error.
@@ -195,11 +269,7 @@ pub fn made<C: ReportedUnit>(
         Some((call, spare)) => (call, parse::value(spare)?),
         None => (call, 0),
     };
+    let maker = parse::named(&MAKERS, call)?;
     let units = parse::list::<C>(memory.alloc, list)?;
-    let mut answer = Answer::new(memory.alloc);
-    let requests = constructed(memory, &mut answer, call, &units, spare)?;
-    if counts {
-        answer.requests(requests);
-    }
-    answer.finish()
+    answer_of(memory, maker, &units, spare, counts)
 }

@@ -11,6 +11,51 @@ use widestring_testing::Heap;
 
 type CString<'a, C> = UCString<C, &'a Heap>;
 
+// The calls.
+#[derive(Clone, Copy)]
+enum Call {
+    Boxed,
+    Keep,
+    Take(Take),
+    Copy(Copied),
+}
+
+// The calls that return the units of a C string, in what they make of it.
+#[derive(Clone, Copy)]
+enum Take {
+    IntoVec,
+    IntoVecWithNul,
+    IntoUstring,
+    IntoUstringWithNul,
+}
+
+// The calls that make a string of a C string.
+#[derive(Clone, Copy)]
+enum Copied {
+    ToUcstring,
+    TryClone,
+    Repeat,
+    IntoOwned,
+    ToUstring,
+}
+
+static CALLS: [(&str, Call); 11] = [
+    ("boxed", Call::Boxed),
+    ("keep", Call::Keep),
+    ("into_vec", Call::Take(Take::IntoVec)),
+    ("into_vec_with_nul", Call::Take(Take::IntoVecWithNul)),
+    ("into_ustring", Call::Take(Take::IntoUstring)),
+    (
+        "into_ustring_with_nul",
+        Call::Take(Take::IntoUstringWithNul),
+    ),
+    ("to_ucstring", Call::Copy(Copied::ToUcstring)),
+    ("try_clone", Call::Copy(Copied::TryClone)),
+    ("repeat", Call::Copy(Copied::Repeat)),
+    ("into_owned", Call::Copy(Copied::IntoOwned)),
+    ("to_ustring", Call::Copy(Copied::ToUstring)),
+];
+
 // Adds the units of a C string that a call made.
 fn shown<C: ReportedUnit>(
     answer: &mut Answer,
@@ -26,21 +71,20 @@ fn shown<C: ReportedUnit>(
 }
 
 // Copies a C string, and adds the copy.
-fn copied<'a, C: ReportedUnit>(
+fn copy<'a, C: ReportedUnit>(
     heap: &'a Heap,
     answer: &mut Answer,
     string: CString<'a, C>,
-    name: &str,
+    call: Copied,
     times: usize,
 ) -> Result<(), NoAnswer> {
     let view = string.as_ucstr();
-    match name {
-        "to_ucstring" => shown(answer, view.to_ucstring(heap)),
-        "try_clone" => shown(answer, string.try_clone()),
-        "repeat" => shown(answer, view.repeat(heap, times)),
-        "into_owned" => shown(answer, owned(heap, view)),
-        "to_ustring" => ustring_calls::shown(answer, view.to_ustring(heap)),
-        _ => Err(NoAnswer::Unparsed),
+    match call {
+        Copied::ToUcstring => shown(answer, view.to_ucstring(heap)),
+        Copied::TryClone => shown(answer, string.try_clone()),
+        Copied::Repeat => shown(answer, view.repeat(heap, times)),
+        Copied::IntoOwned => shown(answer, owned(heap, view)),
+        Copied::ToUstring => ustring_calls::shown(answer, view.to_ustring(heap)),
     }
 }
 
@@ -62,20 +106,13 @@ fn kept<'a, C: ReportedUnit>(
 }
 
 // Makes a call that consumes a C string, and adds what it returns.
-fn taken<'a, C: ReportedUnit>(
-    heap: &'a Heap,
-    answer: &mut Answer,
-    string: CString<'a, C>,
-    name: &str,
-) -> Result<(), NoAnswer> {
-    match name {
-        "into_vec" => answer.units(&string.into_vec()),
-        "into_vec_with_nul" => answer.units(&string.into_vec_with_nul()),
-        "into_ustring" => answer.units(&string.into_ustring().into_vec()),
-        "into_ustring_with_nul" => answer.units(&string.into_ustring_with_nul().into_vec()),
-        _ => return shown(answer, kept(heap, string)),
+fn taken<C: ReportedUnit>(answer: &mut Answer, string: CString<'_, C>, call: Take) {
+    match call {
+        Take::IntoVec => answer.units(&string.into_vec()),
+        Take::IntoVecWithNul => answer.units(&string.into_vec_with_nul()),
+        Take::IntoUstring => answer.units(string.into_ustring().as_slice()),
+        Take::IntoUstringWithNul => answer.units(string.into_ustring_with_nul().as_slice()),
     }
-    Ok(())
 }
 
 // Adds the units of a C string that was in a box. If the allocation of the box fails, the C string must be returned
@@ -107,25 +144,51 @@ fn handed_back<C: ReportedUnit>(
     outcomes::handed_back(answer, has_contents & (left == capacity))
 }
 
+// Makes a call of a C string of these contents and this capacity, and adds what it returns.
+fn make_call<'a, C: ReportedUnit>(
+    heap: &'a Heap,
+    answer: &mut Answer,
+    string: CString<'a, C>,
+    (contents, capacity): (&[C], usize),
+    (call, number): (Call, usize),
+) -> Result<(), NoAnswer> {
+    match call {
+        Call::Boxed => boxed(answer, string, contents, capacity),
+        Call::Keep => shown(answer, kept(heap, string)),
+        Call::Copy(call) => copy(heap, answer, string, call, number),
+        Call::Take(call) => {
+            taken(answer, string, call);
+            Ok(())
+        }
+    }
+}
+
 // Returns the answer: what a call of a C string of these contents and this capacity returns.
 fn answer_of<'a, C: ReportedUnit>(
     memory: Memory<'a>,
     string: CString<'a, C>,
-    (contents, capacity): (&[C], usize),
-    (name, number): (&str, usize),
+    before: (&[C], usize),
+    call: (Call, usize),
 ) -> Result<String, NoAnswer> {
-    let heap = memory.heap;
     let mut answer = Answer::new(memory.alloc);
-    let left = heap.left();
-    let called = match name {
-        "boxed" => boxed(&mut answer, string, contents, capacity),
-        "into_vec" | "into_vec_with_nul" | "into_ustring" | "into_ustring_with_nul" | "keep" => {
-            taken(heap, &mut answer, string, name)
-        }
-        _ => copied(heap, &mut answer, string, name, number),
-    };
+    let left = memory.heap.left();
+    let called = make_call(memory.heap, &mut answer, string, before, call);
     answer.requests(memory.requests_since(left));
     finished(answer, called)
+}
+
+// Returns the answer: what a call of the C string of a vector returns, whose units these are.
+fn of_vec<'a, C: ReportedUnit>(
+    memory: Memory<'a>,
+    vec: Vec<C, &'a Heap>,
+    contents: &[C],
+    call: (Call, usize),
+) -> Result<String, NoAnswer> {
+    let capacity = vec.capacity();
+    match UCString::from_vec(vec) {
+        Ok(string) => answer_of(memory, string, (contents, capacity), call),
+        Err(_) => Err(NoAnswer::Unparsed),
+    }
 }
 
 /// Returns the answer: what a call of the C string of this list returns.
@@ -138,11 +201,8 @@ pub fn called<C: ReportedUnit>(
         Some((name, number)) => (name, parse::value::<usize>(number)?),
         None => (call, 0),
     };
+    let call = parse::named(&CALLS, name)?;
     let contents = parse::list::<C>(memory.alloc, list)?;
     let vec = pieces::vec_on(memory.heap, &contents, number.saturating_add(1))?;
-    let capacity = vec.capacity();
-    match UCString::from_vec(vec) {
-        Ok(string) => answer_of(memory, string, (&contents, capacity), (name, number)),
-        Err(_) => Err(NoAnswer::Unparsed),
-    }
+    of_vec(memory, vec, &contents, (call, number))
 }

@@ -4,11 +4,14 @@
 //!
 //! A call adds to the answer what it returns, a `;`, the units that it leaves, and after a `#` the number of its
 //! requests. A string that would be too long is a `-`, with no request.
+ghost use Rattle.std.specs.Prelude.{IfOk, ◌≤◌};
+
 use crate::groups::outcomes::{done, finished, refused, replaced};
-use crate::groups::pieces::{self, How, Item, Units};
+use crate::groups::pieces::{self, Item, Units};
 use crate::groups::ustring_items::by_items;
 use std::alloc::Global;
 use std::mem;
+use std::ops::Bound;
 use widestring::error::OutOfMemory;
 use widestring::unit::range_check;
 use widestring::ustr::UStr;
@@ -17,57 +20,178 @@ use widestring_replay::parse::{self, Memory, NoAnswer};
 use widestring_replay::show::{Answer, ReportedUnit};
 use widestring_testing::Heap;
 
+// The calls that take nothing.
+#[derive(Clone, Copy)]
+enum NoArgument {
+    ShrinkToFit,
+    TryClone,
+    ToUstring,
+    IntoOwned,
+    Keep,
+    Boxed,
+    New,
+    Clear,
+    Reverse,
+    PopChar,
+}
+
+static NO_ARGUMENT: [(&str, NoArgument); 10] = [
+    ("shrink_to_fit", NoArgument::ShrinkToFit),
+    ("try_clone", NoArgument::TryClone),
+    ("to_ustring", NoArgument::ToUstring),
+    ("into_owned", NoArgument::IntoOwned),
+    ("keep", NoArgument::Keep),
+    ("boxed", NoArgument::Boxed),
+    ("new", NoArgument::New),
+    ("clear", NoArgument::Clear),
+    ("reverse", NoArgument::Reverse),
+    ("pop_char", NoArgument::PopChar),
+];
+
+/// The calls that take a capacity, or a number of units.
+#[derive(Clone, Copy)]
+pub enum Capacity {
+    /// `with_capacity`
+    New,
+    /// `reserve`
+    Reserve,
+    /// `reserve_exact`
+    ReserveExact,
+    /// `shrink_to`
+    ShrinkTo,
+}
+
+// The calls that take a number.
+#[derive(Clone, Copy)]
+enum Number {
+    Repeat,
+    Truncate,
+    SplitOff,
+    RemoveChar,
+}
+
+// The calls that take a text.
+#[derive(Clone, Copy)]
+enum OfText {
+    PushStr,
+    WriteStr,
+    FromStr,
+}
+
+// The calls that take units.
+#[derive(Clone, Copy)]
+enum OfUnits {
+    Push,
+    PushSlice,
+    RetainOther,
+}
+
+// The calls that take a range and a list.
+#[derive(Clone, Copy)]
+enum OfRange {
+    SpliceStr,
+    ReplaceRange,
+    Drain,
+}
+
+// The calls that take something.
+#[derive(Clone, Copy)]
+enum WithArgument {
+    Capacity(Capacity),
+    Number(Number),
+    Text(OfText),
+    Units(OfUnits),
+    Range(OfRange),
+    PushChar,
+    WriteChar,
+    InsertChar,
+    InsertUstr,
+}
+
+static WITH_ARGUMENT: [(&str, WithArgument); 21] = [
+    ("with_capacity", WithArgument::Capacity(Capacity::New)),
+    ("reserve", WithArgument::Capacity(Capacity::Reserve)),
+    (
+        "reserve_exact",
+        WithArgument::Capacity(Capacity::ReserveExact),
+    ),
+    ("shrink_to", WithArgument::Capacity(Capacity::ShrinkTo)),
+    ("repeat", WithArgument::Number(Number::Repeat)),
+    ("truncate", WithArgument::Number(Number::Truncate)),
+    ("split_off", WithArgument::Number(Number::SplitOff)),
+    ("remove_char", WithArgument::Number(Number::RemoveChar)),
+    ("push_str", WithArgument::Text(OfText::PushStr)),
+    ("write_str", WithArgument::Text(OfText::WriteStr)),
+    ("from_str", WithArgument::Text(OfText::FromStr)),
+    ("push", WithArgument::Units(OfUnits::Push)),
+    ("push_slice", WithArgument::Units(OfUnits::PushSlice)),
+    ("retain_other", WithArgument::Units(OfUnits::RetainOther)),
+    ("splice_str", WithArgument::Range(OfRange::SpliceStr)),
+    ("replace_range", WithArgument::Range(OfRange::ReplaceRange)),
+    ("drain", WithArgument::Range(OfRange::Drain)),
+    ("push_char", WithArgument::PushChar),
+    ("write_char", WithArgument::WriteChar),
+    ("insert_char", WithArgument::InsertChar),
+    ("insert_ustr", WithArgument::InsertUstr),
+];
+
 // Makes a call that takes a text.
 fn with_text<'a, C: ReportedUnit>(
-    memory: Memory<'a>,
+    heap: &'a Heap,
     string: &mut Units<'a, C>,
-    name: &str,
+    call: OfText,
     text: &str,
 ) -> Result<(), NoAnswer> {
-    match name {
-        "push_str" => done(string.push_str(text)),
-        "write_str" => done(string.write_str(text)),
-        _ => replaced(string, UString::from_str(memory.heap, text)),
+    match call {
+        OfText::PushStr => done(string.push_str(text)),
+        OfText::WriteStr => done(string.write_str(text)),
+        OfText::FromStr => replaced(string, UString::from_str(heap, text)),
     }
 }
 
 // Makes a call that takes a capacity, or a number of units.
-fn with_number<'a, C: ReportedUnit>(
-    memory: Memory<'a>,
+fn with_capacity<'a, C: ReportedUnit>(
+    heap: &'a Heap,
     string: &mut Units<'a, C>,
-    name: &str,
+    call: Capacity,
     number: usize,
 ) -> Result<(), NoAnswer> {
-    match name {
-        "with_capacity" => replaced(string, UString::with_capacity(memory.heap, number)),
-        "reserve" => done(string.reserve(number)),
-        "reserve_exact" => done(string.reserve_exact(number)),
-        _ => done(string.shrink_to(number)),
+    match call {
+        Capacity::New => replaced(string, UString::with_capacity(heap, number)),
+        Capacity::Reserve => done(string.reserve(number)),
+        Capacity::ReserveExact => done(string.reserve_exact(number)),
+        Capacity::ShrinkTo => done(string.shrink_to(number)),
     }
 }
 
-// Makes a call that takes a number, and adds whether the capacity is then as its contract says.
+// Makes a call that takes a capacity, and adds whether the capacity is then as its contract says.
 fn sized<'a, C: ReportedUnit>(
-    memory: Memory<'a>,
+    heap: &'a Heap,
     string: &mut Units<'a, C>,
     answer: &mut Answer,
-    name: &str,
+    call: Capacity,
     number: usize,
 ) -> Result<(), NoAnswer> {
     let (len, before) = (string.len(), string.capacity());
-    with_number(memory, string, name, number)?;
-    answer.decided(has_capacity(name, number, len, before, string.capacity()));
+    with_capacity(heap, string, call, number)?;
+    answer.decided(has_capacity(call, number, len, before, string.capacity()));
     Ok(())
 }
 
 /// Returns whether a call that takes a number may leave this capacity, for a string of this length and previous
 /// capacity.
-pub fn has_capacity(name: &str, number: usize, len: usize, before: usize, after: usize) -> bool {
-    match name {
-        "with_capacity" => after >= number,
-        "reserve" => after >= len.saturating_add(number),
-        "reserve_exact" => after == before.max(len.saturating_add(number)),
-        _ => {
+pub fn has_capacity(
+    call: Capacity,
+    number: usize,
+    len: usize,
+    before: usize,
+    after: usize,
+) -> bool {
+    match call {
+        Capacity::New => after >= number,
+        Capacity::Reserve => after >= len.saturating_add(number),
+        Capacity::ReserveExact => after == before.max(len.saturating_add(number)),
+        Capacity::ShrinkTo => {
             let is_smaller = (after < before) | (before <= len.max(number));
             is_smaller & (after >= number.min(before)) & (after <= before)
         }
@@ -77,12 +201,16 @@ pub fn has_capacity(name: &str, number: usize, len: usize, before: usize, after:
 // Makes a call that takes units.
 fn with_units<C: ReportedUnit>(
     string: &mut Units<'_, C>,
-    name: &str,
+    call: OfUnits,
     units: &[C],
 ) -> Result<(), NoAnswer> {
-    match name {
-        "push" => done(string.push(UStr::from_slice(units))),
-        _ => done(string.push_slice(units)),
+    match call {
+        OfUnits::Push => done(string.push(UStr::from_slice(units))),
+        OfUnits::PushSlice => done(string.push_slice(units)),
+        OfUnits::RetainOther => {
+            string.retain(|unit| !units.contains(&unit));
+            Ok(())
+        }
     }
 }
 
@@ -131,30 +259,36 @@ fn repeat<'a, C: ReportedUnit>(
 fn fitted<C: ReportedUnit>(string: &mut Units<'_, C>, answer: &mut Answer) -> Result<(), NoAnswer> {
     let before = string.capacity();
     done(string.shrink_to_fit())?;
-    answer.decided(has_capacity("", 0, string.len(), before, string.capacity()));
+    let after = string.capacity();
+    answer.decided(has_capacity(Capacity::ShrinkTo, 0, string.len(), before, after));
     Ok(())
 }
 
-// Makes a call that takes nothing and may allocate.
+// Makes a call that takes nothing.
 fn alone<'a, C: ReportedUnit>(
-    memory: Memory<'a>,
+    heap: &'a Heap,
     string: &mut Units<'a, C>,
     answer: &mut Answer,
-    name: &str,
+    call: NoArgument,
 ) -> Result<(), NoAnswer> {
-    let heap = memory.heap;
-    match name {
-        "shrink_to_fit" => fitted(string, answer),
-        "try_clone" => shown(answer, string.try_clone()),
-        "to_ustring" => shown(answer, string.as_ustr().to_ustring(heap)),
-        "into_owned" => shown(answer, owned(heap, string.as_ustr())),
-        "keep" => {
-            let given = mem::replace(string, UString::new(heap));
-            replaced(string, kept(heap, given))
+    match call {
+        NoArgument::ShrinkToFit => fitted(string, answer),
+        NoArgument::TryClone => shown(answer, string.try_clone()),
+        NoArgument::ToUstring => shown(answer, string.as_ustr().to_ustring(heap)),
+        NoArgument::IntoOwned => shown(answer, owned(heap, string.as_ustr())),
+        NoArgument::Keep => keep(heap, string),
+        NoArgument::Boxed => boxed(heap, string),
+        _ => {
+            without_memory(heap, string, answer, call);
+            Ok(())
         }
-        "boxed" => boxed(heap, string),
-        _ => without_memory(heap, string, answer, name),
     }
+}
+
+// Makes an owned string of the string, in its place.
+fn keep<'a, C: ReportedUnit>(heap: &'a Heap, string: &mut Units<'a, C>) -> Result<(), NoAnswer> {
+    let given = mem::replace(string, UString::new(heap));
+    replaced(string, kept(heap, given))
 }
 
 // Makes a box of a string, and a string of that, whose capacity must be its length.
@@ -186,55 +320,91 @@ fn without_memory<'a, C: ReportedUnit>(
     heap: &'a Heap,
     string: &mut Units<'a, C>,
     answer: &mut Answer,
-    name: &str,
-) -> Result<(), NoAnswer> {
-    match name {
-        "new" => {
+    call: NoArgument,
+) {
+    match call {
+        NoArgument::New => {
             *string = UString::new(heap);
             answer.count(Some(string.capacity()));
         }
-        "clear" => {
+        NoArgument::Clear => {
             string.clear();
             answer.decided(string.is_empty());
         }
-        "reverse" => string.as_mut_slice().reverse(),
-        "pop_char" => answer.number(string.pop_char()),
-        _ => return Err(NoAnswer::Unparsed),
+        NoArgument::Reverse => string.as_mut_slice().reverse(),
+        _ => answer.number(string.pop_char()),
     }
-    Ok(())
 }
 
-// Makes a call at an offset, if it is within bounds.
-fn at_offset<C: ReportedUnit>(
+// Makes a call that takes a number.
+fn with_number<'a, C: ReportedUnit>(
+    heap: &'a Heap,
+    string: &mut Units<'a, C>,
+    answer: &mut Answer,
+    call: Number,
+    number: usize,
+) -> Result<(), NoAnswer> {
+    match call {
+        Number::Repeat => repeat(heap, string, number),
+        Number::Truncate => {
+            string.truncate(number);
+            Ok(())
+        }
+        Number::SplitOff => split_off(string, answer, number),
+        Number::RemoveChar => remove_char(string, answer, number),
+    }
+}
+
+fn split_off<C: ReportedUnit>(
     string: &mut Units<'_, C>,
     answer: &mut Answer,
-    name: &str,
     at: usize,
 ) -> Result<(), NoAnswer> {
-    match name {
-        "truncate" => string.truncate(at),
-        "split_off" if at <= string.len() => return shown(answer, string.split_off(at)),
-        "remove_char" if at < string.len() => answer.number(Some(string.remove_char(at))),
-        _ => return Err(NoAnswer::Unparsed),
-    }
-    Ok(())
-}
-
-// Makes a call at an offset that takes more arguments.
-fn put_in<C: ReportedUnit>(
-    alloc: Global,
-    string: &mut Units<'_, C>,
-    name: &str,
-    more: &str,
-) -> Result<(), NoAnswer> {
-    let (at, list) = parse::parts(more)?;
-    let at = parse::value::<usize>(at)?;
     if at > string.len() {
         return Err(NoAnswer::Unparsed);
     }
-    if name == "insert_char" {
-        return done(string.insert_char(at, Item::<C>::of(alloc, list)?));
+    shown(answer, string.split_off(at))
+}
+
+fn remove_char<C: ReportedUnit>(
+    string: &mut Units<'_, C>,
+    answer: &mut Answer,
+    at: usize,
+) -> Result<(), NoAnswer> {
+    if at >= string.len() {
+        return Err(NoAnswer::Unparsed);
     }
+    answer.number(Some(string.remove_char(at)));
+    Ok(())
+}
+
+// Parses an offset within bounds, and what follows its colon.
+fn offset_in(len: usize, more: &str) -> Result<(usize, &str), NoAnswer>
+    ensures { IfOk result (λ found. found.0 ≤ len) }
+{
+    let (at, list) = parse::parts(more)?;
+    let at = parse::value::<usize>(at)?;
+    if at > len {
+        return Err(NoAnswer::Unparsed);
+    }
+    Ok((at, list))
+}
+
+fn insert_char<C: ReportedUnit>(
+    alloc: Global,
+    string: &mut Units<'_, C>,
+    more: &str,
+) -> Result<(), NoAnswer> {
+    let (at, list) = offset_in(string.len(), more)?;
+    done(string.insert_char(at, Item::<C>::of(alloc, list)?))
+}
+
+fn insert_ustr<C: ReportedUnit>(
+    alloc: Global,
+    string: &mut Units<'_, C>,
+    more: &str,
+) -> Result<(), NoAnswer> {
+    let (at, list) = offset_in(string.len(), more)?;
     done(string.insert_ustr(at, UStr::from_slice(&parse::list(alloc, list)?)))
 }
 
@@ -243,56 +413,72 @@ fn at_range<C: ReportedUnit>(
     alloc: Global,
     string: &mut Units<'_, C>,
     answer: &mut Answer,
-    name: &str,
+    call: OfRange,
     more: &str,
 ) -> Result<(), NoAnswer> {
     let (range, list) = parse::parts(more)?;
     let range = parse::range(range)?;
-    let Some(found) = range_check(range, string.len()) else {
-        return Err(NoAnswer::Unparsed);
-    };
-    match name {
-        "splice_str" => {
-            let text = pieces::text::<C>(alloc, list)?;
-            done(string.splice_str(found.start, found.end, &text))
-        }
-        "replace_range" => {
-            let units = parse::list::<C>(alloc, list)?;
-            done(string.replace_range(range, UStr::from_slice(&units)))
-        }
-        _ => {
-            answer.unit(string.drain(range).next());
-            Ok(())
-        }
+    match call {
+        OfRange::SpliceStr => splice_str(string, range, &pieces::text::<C>(alloc, list)?),
+        OfRange::ReplaceRange => replace_range(string, range, &parse::list(alloc, list)?),
+        OfRange::Drain => drain(string, answer, range),
     }
 }
 
-// Makes a call that takes text, characters or units.
-fn with_list<'a, C: ReportedUnit>(
+fn splice_str<C: ReportedUnit>(
+    string: &mut Units<'_, C>,
+    range: (Bound<usize>, Bound<usize>),
+    text: &str,
+) -> Result<(), NoAnswer> {
+    match range_check(range, string.len()) {
+        None => Err(NoAnswer::Unparsed),
+        Some(range) => done(string.splice_str(range.start, range.end, text)),
+    }
+}
+
+fn replace_range<C: ReportedUnit>(
+    string: &mut Units<'_, C>,
+    range: (Bound<usize>, Bound<usize>),
+    units: &[C],
+) -> Result<(), NoAnswer> {
+    if range_check(range, string.len()).is_none() {
+        return Err(NoAnswer::Unparsed);
+    }
+    done(string.replace_range(range, UStr::from_slice(units)))
+}
+
+fn drain<C: ReportedUnit>(
+    string: &mut Units<'_, C>,
+    answer: &mut Answer,
+    range: (Bound<usize>, Bound<usize>),
+) -> Result<(), NoAnswer> {
+    if range_check(range, string.len()).is_none() {
+        return Err(NoAnswer::Unparsed);
+    }
+    answer.unit(string.drain(range).next());
+    Ok(())
+}
+
+// Makes a call that takes something, and adds what it returns.
+fn with_arguments<'a, C: ReportedUnit>(
     memory: Memory<'a>,
     string: &mut Units<'a, C>,
-    name: &str,
-    list: &str,
+    answer: &mut Answer,
+    call: WithArgument,
+    more: &str,
 ) -> Result<(), NoAnswer> {
-    let alloc = memory.alloc;
-    match name {
-        "push_str" | "write_str" | "from_str" => {
-            with_text(memory, string, name, &pieces::text::<C>(alloc, list)?)
-        }
-        "push_char" => done(string.push_char(parse::value(list)?)),
-        "write_char" => done(string.write_char(parse::value(list)?)),
-        "push" | "push_slice" => with_units(string, name, &parse::list(alloc, list)?),
-        "retain_other" => {
-            retain_other(string, &parse::list(alloc, list)?);
-            Ok(())
-        }
-        _ => Err(NoAnswer::Unparsed),
+    let (heap, alloc) = (memory.heap, memory.alloc);
+    match call {
+        WithArgument::Capacity(call) => sized(heap, string, answer, call, parse::value(more)?),
+        WithArgument::Number(call) => with_number(heap, string, answer, call, parse::value(more)?),
+        WithArgument::Text(call) => with_text(heap, string, call, &pieces::text::<C>(alloc, more)?),
+        WithArgument::Units(call) => with_units(string, call, &parse::list(alloc, more)?),
+        WithArgument::Range(call) => at_range(alloc, string, answer, call, more),
+        WithArgument::PushChar => done(string.push_char(parse::value(more)?)),
+        WithArgument::WriteChar => done(string.write_char(parse::value(more)?)),
+        WithArgument::InsertChar => insert_char(alloc, string, more),
+        WithArgument::InsertUstr => insert_ustr(alloc, string, more),
     }
-}
-
-// Retains the units that are not given.
-fn retain_other<C: ReportedUnit>(string: &mut Units<'_, C>, gone: &[C]) {
-    string.retain(|unit| !gone.contains(&unit));
 }
 
 // Makes a call, and adds what it returns.
@@ -303,27 +489,22 @@ fn call<'a, C: ReportedUnit>(
     call: &str,
 ) -> Result<(), NoAnswer> {
     let Some((name, more)) = call.split_once(' ') else {
-        return alone(memory, string, answer, call);
+        return alone(
+            memory.heap,
+            string,
+            answer,
+            parse::named(&NO_ARGUMENT, call)?,
+        );
     };
-    if let Some(kind) = name.strip_prefix("extend_") {
-        return by_items(memory, string, How::Extend, kind, more);
-    }
-    if let Some(kind) = name.strip_prefix("from_iter_") {
-        return by_items(memory, string, How::Make, kind, more);
-    }
-    match name {
-        "with_capacity" | "reserve" | "reserve_exact" | "shrink_to" => {
-            sized(memory, string, answer, name, parse::value(more)?)
-        }
-        "repeat" => repeat(memory.heap, string, parse::value(more)?),
-        "truncate" | "split_off" | "remove_char" => {
-            at_offset(string, answer, name, parse::value(more)?)
-        }
-        "insert_ustr" | "insert_char" => put_in(memory.alloc, string, name, more),
-        "splice_str" | "replace_range" | "drain" => {
-            at_range(memory.alloc, string, answer, name, more)
-        }
-        _ => with_list(memory, string, name, more),
+    match pieces::items_called(name) {
+        Some((how, kind)) => by_items(memory, string, how, kind, more),
+        None => with_arguments(
+            memory,
+            string,
+            answer,
+            parse::named(&WITH_ARGUMENT, name)?,
+            more,
+        ),
     }
 }
 

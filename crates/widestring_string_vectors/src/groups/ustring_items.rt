@@ -4,7 +4,7 @@ use crate::groups::pieces::{How, Units, items, views};
 use widestring::ucstring::{UCString, UStringInUcstring, UStringOverUcstrs};
 use widestring::ustring::{BoxedUStr, UString};
 use widestring::utfstring::{UStringInUtfstring, UStringOverUtfstrs, UtfString};
-use widestring_replay::parse::{Memory, NoAnswer};
+use widestring_replay::parse::{self, Memory, NoAnswer};
 use widestring_replay::show::ReportedUnit;
 
 fn by_chars<'a, C: ReportedUnit>(
@@ -168,6 +168,38 @@ fn by_cows<'a, C: ReportedUnit>(
     }
 }
 
+// The kinds of items.
+#[derive(Clone, Copy)]
+enum Kind {
+    Chars,
+    CharRefs,
+    Strs,
+    Strings,
+    Utfstrs,
+    Utfstrings,
+    Ustrs,
+    Ustrings,
+    Ucstrs,
+    Ucstrings,
+    Boxed,
+    Cows,
+}
+
+static KINDS: [(&str, Kind); 12] = [
+    ("chars", Kind::Chars),
+    ("char_refs", Kind::CharRefs),
+    ("strs", Kind::Strs),
+    ("strings", Kind::Strings),
+    ("utfstrs", Kind::Utfstrs),
+    ("utfstrings", Kind::Utfstrings),
+    ("ustrs", Kind::Ustrs),
+    ("ustrings", Kind::Ustrings),
+    ("ucstrs", Kind::Ucstrs),
+    ("ucstrings", Kind::Ucstrings),
+    ("boxed", Kind::Boxed),
+    ("cows", Kind::Cows),
+];
+
 /// Makes a call that takes items, of a kind.
 pub fn by_items<'a, C: ReportedUnit>(
     memory: Memory<'a>,
@@ -176,19 +208,18 @@ pub fn by_items<'a, C: ReportedUnit>(
     kind: &str,
     lists: &str,
 ) -> Result<(), NoAnswer> {
-    match kind {
-        "chars" => by_chars(memory, string, how, lists),
-        "char_refs" => by_char_refs(memory, string, how, lists),
-        "strs" => by_strs(memory, string, how, lists),
-        "strings" => by_strings(memory, string, how, lists),
-        "utfstrs" => by_utfstrs(memory, string, how, lists),
-        "utfstrings" => by_utfstrings(memory, string, how, lists),
-        "ustrs" => by_ustrs(memory, string, how, lists),
-        "ustrings" => by_ustrings(memory, string, how, lists),
-        "ucstrs" => by_ucstrs(memory, string, how, lists),
-        "ucstrings" => by_ucstrings(memory, string, how, lists),
-        "boxed" => by_boxed(memory, string, how, lists),
-        "cows" => by_cows(memory, string, how, lists),
-        _ => Err(NoAnswer::Unparsed),
+    match parse::named(&KINDS, kind)? {
+        Kind::Chars => by_chars(memory, string, how, lists),
+        Kind::CharRefs => by_char_refs(memory, string, how, lists),
+        Kind::Strs => by_strs(memory, string, how, lists),
+        Kind::Strings => by_strings(memory, string, how, lists),
+        Kind::Utfstrs => by_utfstrs(memory, string, how, lists),
+        Kind::Utfstrings => by_utfstrings(memory, string, how, lists),
+        Kind::Ustrs => by_ustrs(memory, string, how, lists),
+        Kind::Ustrings => by_ustrings(memory, string, how, lists),
+        Kind::Ucstrs => by_ucstrs(memory, string, how, lists),
+        Kind::Ucstrings => by_ucstrings(memory, string, how, lists),
+        Kind::Boxed => by_boxed(memory, string, how, lists),
+        Kind::Cows => by_cows(memory, string, how, lists),
     }
 }

@@ -376,23 +376,44 @@ fn of_c_string<'a, C: ReportedUnit>(units: Vec<C, &'a Heap>) -> Made<'a, C> {
     }
 }
 
-// Makes the string of a list, by the letter of what it is made from.
+// What a string is made of.
+#[derive(Clone, Copy)]
+enum Source {
+    Text,
+    Chars,
+    Vec,
+    Units,
+    Contents,
+}
+
+static SOURCES: [(&str, Source); 5] = [
+    ("t", Source::Text),
+    ("f", Source::Chars),
+    ("v", Source::Vec),
+    ("u", Source::Units),
+    ("c", Source::Contents),
+];
+
+// Makes the string of a vector, or of what holds its units.
+fn of_vec<'a, C: ReportedUnit>(source: Source, units: Vec<C, &'a Heap>) -> Made<'a, C> {
+    match source {
+        Source::Contents => of_c_string(units),
+        Source::Units => Ok(UtfString::from_ustring(UString::from_vec(units))),
+        _ => Ok(UtfString::from_vec(units)),
+    }
+}
+
+// Makes the string of a list.
 fn made<'a, C: ReportedUnit>(
     memory: Memory<'a>,
-    kind: &str,
+    source: Source,
     list: &str,
     spare: usize,
 ) -> Made<'a, C> {
-    match kind {
-        "t" => of_text(memory.heap, &pieces::text::<C>(memory.alloc, list)?),
-        "f" => of_chars(memory.heap, &pieces::text::<C>(memory.alloc, list)?),
-        "v" => Ok(UtfString::from_vec(pieces::counted(memory, list, spare)?)),
-        "u" => {
-            let units = pieces::counted(memory, list, spare)?;
-            Ok(UtfString::from_ustring(UString::from_vec(units)))
-        }
-        "c" => of_c_string(pieces::counted(memory, list, spare)?),
-        _ => Err(NoAnswer::Unparsed),
+    match source {
+        Source::Text => of_text(memory.heap, &pieces::text::<C>(memory.alloc, list)?),
+        Source::Chars => of_chars(memory.heap, &pieces::text::<C>(memory.alloc, list)?),
+        _ => of_vec(source, pieces::counted(memory, list, spare)?),
     }
 }
 
@@ -410,7 +431,7 @@ pub fn script<C: ReportedUnit>(
         None => (maker, 0, false),
         Some((kind, spare)) => (kind, parse::value::<usize>(spare)?, true),
     };
-    match made::<C>(memory, kind, list, spare) {
+    match made::<C>(memory, parse::named(&SOURCES, kind)?, list, spare) {
         Ok(Ok(string)) => edited(memory, string, calls, counts),
         Ok(Err(error)) if calls.is_none() => faulty(memory.alloc, error),
         Ok(Err(_)) => Err(NoAnswer::Unparsed),

@@ -8,9 +8,29 @@ use std::alloc::Global;
 use widestring::error::OutOfMemory;
 use widestring::unit::Unit;
 use widestring::ustr::UStr;
-use widestring_replay::parse::{Memory, NoAnswer};
+use widestring_replay::parse::{self, Memory, NoAnswer};
 use widestring_replay::show::Answer;
 use widestring_testing::Heap;
+
+/// The order of the bytes of a unit, and whether a BOM precedes them.
+#[derive(Clone, Copy)]
+pub enum Order {
+    /// Little endian.
+    Little,
+    /// Big endian.
+    Big,
+    /// Little endian after a BOM.
+    LittleWithBom,
+    /// Big endian after a BOM.
+    BigWithBom,
+}
+
+static ORDERS: [(&str, Order); 4] = [
+    ("le", Order::Little),
+    ("be", Order::Big),
+    ("lem", Order::LittleWithBom),
+    ("bem", Order::BigWithBom),
+];
 
 fn granted<T>(made: Result<T, OutOfMemory>) -> Result<T, NoAnswer> {
     match made {
@@ -19,32 +39,30 @@ fn granted<T>(made: Result<T, OutOfMemory>) -> Result<T, NoAnswer> {
     }
 }
 
-/// Returns the bytes of units in a vector. A word of `to_string16` and `to_string32` means the same as one here.
+/// Returns the bytes of units in a vector.
 pub fn made<'a, C: Unit>(
     heap: &'a Heap,
     view: UStr<'_, C>,
-    question: &str,
+    order: Order,
 ) -> Result<Vec<u8, &'a Heap>, NoAnswer> {
-    match question {
-        "le" | "L" => granted(view.to_le_bytes(heap)),
-        "be" | "B" => granted(view.to_be_bytes(heap)),
-        "lem" | "LM" => granted(view.to_le_bytes_with_bom(heap)),
-        "bem" | "BM" => granted(view.to_be_bytes_with_bom(heap)),
-        _ => Err(NoAnswer::Unparsed),
+    match order {
+        Order::Little => granted(view.to_le_bytes(heap)),
+        Order::Big => granted(view.to_be_bytes(heap)),
+        Order::LittleWithBom => granted(view.to_le_bytes_with_bom(heap)),
+        Order::BigWithBom => granted(view.to_be_bytes_with_bom(heap)),
     }
 }
 
 // Puts the bytes of units into a buffer, and returns how many there are.
-fn put<C: Unit>(units: &[C], question: &str, buffer: &mut [u8; 404]) -> Result<usize, NoAnswer>
+fn put<C: Unit>(units: &[C], order: Order, buffer: &mut [u8; 404]) -> usize
     requires { unit_width C.form * (length units.now + 1) ≤ 404 }
 {
     let view = UStr::from_slice(units);
-    match question {
-        "le" => Ok(view.put_le_bytes(buffer)),
-        "be" => Ok(view.put_be_bytes(buffer)),
-        "lem" => Ok(view.put_le_bytes_with_bom(buffer)),
-        "bem" => Ok(view.put_be_bytes_with_bom(buffer)),
-        _ => Err(NoAnswer::Unparsed),
+    match order {
+        Order::Little => view.put_le_bytes(buffer),
+        Order::Big => view.put_be_bytes(buffer),
+        Order::LittleWithBom => view.put_le_bytes_with_bom(buffer),
+        Order::BigWithBom => view.put_be_bytes_with_bom(buffer),
     }
 }
 
@@ -62,9 +80,10 @@ fn shown(alloc: Global, made: &[u8], put: &[u8], beyond: &[u8]) -> Result<String
 fn of_units<C: Unit>(memory: Memory<'_>, units: &[C], question: &str) -> Result<String, NoAnswer>
     requires { unit_width C.form * (length units.now + 1) ≤ 404 }
 {
+    let order = parse::named(&ORDERS, question)?;
     let mut buffer = [0xaa; 404];
-    let count = put(units, question, &mut buffer)?;
-    let made = made(memory.heap, UStr::from_slice(units), question)?;
+    let count = put(units, order, &mut buffer);
+    let made = made(memory.heap, UStr::from_slice(units), order)?;
     let (bytes, beyond) = buffer.split_at(count.min(404));
     shown(memory.alloc, &made, bytes, beyond)
 }

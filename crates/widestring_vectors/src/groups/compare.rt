@@ -21,6 +21,30 @@ use widestring_replay::made::text_of;
 use widestring_replay::parse::{self, NoAnswer};
 use widestring_replay::show::Answer;
 
+// What is compared.
+#[derive(Clone, Copy)]
+enum Kind {
+    Units,
+    UnitStrings,
+    Contents,
+    Texts,
+    Strings,
+    Mixed,
+    Str,
+    Chars,
+}
+
+static KINDS: [(&str, Kind); 8] = [
+    ("units", Kind::Units),
+    ("unit_string", Kind::UnitStrings),
+    ("contents", Kind::Contents),
+    ("text", Kind::Texts),
+    ("string", Kind::Strings),
+    ("mixed", Kind::Mixed),
+    ("str", Kind::Str),
+    ("chars", Kind::Chars),
+];
+
 fn hash_of(value: &impl Hash) -> u64 {
     let mut hasher = DefaultHasher::new();
     value.hash(&mut hasher);
@@ -204,25 +228,25 @@ fn eq_chars<C: Width>(alloc: Global, list: &[C], other: &[C]) -> Result<String, 
 
 fn of_lists<C: Width>(
     alloc: Global,
-    word: &str,
+    kind: Kind,
     list: &[C],
     other: &[C],
 ) -> Result<String, NoAnswer> {
-    match word {
-        "units" => of_views(alloc, &UStr::from_slice(list), &UStr::from_slice(other)),
-        "unit_string" => unit_strings(alloc, list, other),
-        "contents" => contents(alloc, list, other),
-        "text" => texts(alloc, list, other),
-        "string" => strings(alloc, list, other),
-        "mixed" => mixed(alloc, list, other),
-        "str" => with_str(alloc, list, other),
-        "chars" => eq_chars(alloc, list, other),
-        _ => Err(NoAnswer::Unparsed),
+    match kind {
+        Kind::Units => of_views(alloc, &UStr::from_slice(list), &UStr::from_slice(other)),
+        Kind::UnitStrings => unit_strings(alloc, list, other),
+        Kind::Contents => contents(alloc, list, other),
+        Kind::Texts => texts(alloc, list, other),
+        Kind::Strings => strings(alloc, list, other),
+        Kind::Mixed => mixed(alloc, list, other),
+        Kind::Str => with_str(alloc, list, other),
+        Kind::Chars => eq_chars(alloc, list, other),
     }
 }
 
 /// Returns the answer to a question about two lists of units.
 pub fn compared<C: Width>(alloc: Global, list: &[C], question: &str) -> Result<String, NoAnswer> {
     let (word, more) = parse::word(question);
-    of_lists(alloc, word, list, &parse::list::<C>(alloc, more)?)
+    let kind = parse::named(&KINDS, word)?;
+    of_lists(alloc, kind, list, &parse::list::<C>(alloc, more)?)
 }

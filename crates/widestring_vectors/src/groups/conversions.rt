@@ -12,7 +12,7 @@
 //!
 //! A conversion makes one request, and none if there is nothing to store or the text is borrowed; else the answer has a
 //! `?`. Lossy text of which a policy leaves nothing may also make one.
-use crate::groups::bytes;
+use crate::groups::bytes::{self, Order};
 use crate::groups::width::as_text;
 use std::alloc::{Allocator, Global};
 use widestring::bytes::include_utf16str;
@@ -25,9 +25,32 @@ use widestring::ustr::UStr;
 use widestring::utfstring::{CowUtfStr, UtfString};
 use widestring::{Policy, U16Str, U32Str, Utf16String, Utf32String};
 use widestring_replay::made;
-use widestring_replay::parse::{Memory, NoAnswer};
+use widestring_replay::parse::{self, Memory, NoAnswer};
 use widestring_replay::show::{Answer, ReportedUnit};
 use widestring_testing::Heap;
+
+// What is asked about the text of units, and about their bytes.
+#[derive(Clone, Copy)]
+enum Query {
+    Utf8,
+    Copy,
+    ContentsUtf8,
+    ContentsCopy,
+    WellFormed,
+    Bytes(Order),
+}
+
+static QUERIES: [(&str, Query); 9] = [
+    ("s", Query::Utf8),
+    ("f", Query::Copy),
+    ("c", Query::ContentsUtf8),
+    ("g", Query::ContentsCopy),
+    ("u", Query::WellFormed),
+    ("L", Query::Bytes(Order::Little)),
+    ("B", Query::Bytes(Order::Big)),
+    ("LM", Query::Bytes(Order::LittleWithBom)),
+    ("BM", Query::Bytes(Order::BigWithBom)),
+];
 
 // Adds a `?` if the library's calls did not make this number of requests.
 fn check(memory: Memory<'_>, answer: &mut Answer, left: u64, makes_one: bool) {
@@ -250,10 +273,10 @@ pub fn file(memory: Memory<'_>, bytes: &[u8]) -> Result<String, NoAnswer> {
 fn stored<C: ReportedUnit>(
     memory: Memory<'_>,
     view: UStr<'_, C>,
-    question: &str,
+    order: Order,
 ) -> Result<String, NoAnswer> {
     let left = memory.heap.left();
-    let bytes = bytes::made(memory.heap, view, question)?;
+    let bytes = bytes::made(memory.heap, view, order)?;
     if bytes.capacity() == bytes.len() {
         bytes_of(memory, left, &bytes)
     } else {
@@ -266,17 +289,6 @@ fn text<C: ReportedUnit>(memory: Memory<'_>, units: &[C]) -> Result<String, NoAn
     let left = memory.heap.left();
     let text = as_text(units)?.to_string(memory.heap)?;
     bytes_of(memory, left, text.as_bytes())
-}
-
-fn of_either_width<C: ReportedUnit>(
-    memory: Memory<'_>,
-    units: &[C],
-    question: &str,
-) -> Result<String, NoAnswer> {
-    match question {
-        "u" => text(memory, units),
-        _ => stored(memory, UStr::from_slice(units), question),
-    }
 }
 
 // Splits the result of a conversion of 16-bit units into a value or a fault, and allocation failures.
@@ -329,12 +341,13 @@ fn contents32(memory: Memory<'_>, units: &[u32], is_copied: bool) -> Result<Stri
 pub fn text16(memory: Memory<'_>, units: &[u16], question: &str) -> Result<String, NoAnswer> {
     let (heap, left) = (memory.heap, memory.heap.left());
     let view = U16Str::from_slice(units);
-    match question {
-        "s" => reported(memory, left, found16(view.to_string(heap))),
-        "f" => copied(memory, left, found16(Utf16String::from_ustr(heap, view))),
-        "c" => contents16(memory, units, false),
-        "g" => contents16(memory, units, true),
-        _ => of_either_width(memory, units, question),
+    match parse::named(&QUERIES, question)? {
+        Query::Utf8 => reported(memory, left, found16(view.to_string(heap))),
+        Query::Copy => copied(memory, left, found16(Utf16String::from_ustr(heap, view))),
+        Query::ContentsUtf8 => contents16(memory, units, false),
+        Query::ContentsCopy => contents16(memory, units, true),
+        Query::WellFormed => text(memory, units),
+        Query::Bytes(order) => stored(memory, view, order),
     }
 }
 
@@ -342,11 +355,12 @@ pub fn text16(memory: Memory<'_>, units: &[u16], question: &str) -> Result<Strin
 pub fn text32(memory: Memory<'_>, units: &[u32], question: &str) -> Result<String, NoAnswer> {
     let (heap, left) = (memory.heap, memory.heap.left());
     let view = U32Str::from_slice(units);
-    match question {
-        "s" => reported(memory, left, found32(view.to_string(heap))),
-        "f" => copied(memory, left, found32(Utf32String::from_ustr(heap, view))),
-        "c" => contents32(memory, units, false),
-        "g" => contents32(memory, units, true),
-        _ => of_either_width(memory, units, question),
+    match parse::named(&QUERIES, question)? {
+        Query::Utf8 => reported(memory, left, found32(view.to_string(heap))),
+        Query::Copy => copied(memory, left, found32(Utf32String::from_ustr(heap, view))),
+        Query::ContentsUtf8 => contents32(memory, units, false),
+        Query::ContentsCopy => contents32(memory, units, true),
+        Query::WellFormed => text(memory, units),
+        Query::Bytes(order) => stored(memory, view, order),
     }
 }

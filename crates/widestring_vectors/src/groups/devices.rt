@@ -90,23 +90,30 @@ fn is_flagged(
     }
 }
 
-// Makes a run in a mode.
-fn moved(
-    mode: &str,
-    source: &mut SlowSource<'_>,
-    sink: &mut SlowSink,
-) -> Result<Result<(), TranscodeError>, NoAnswer>
+// The calls.
+#[derive(Clone, Copy)]
+enum Call {
+    Transcode(Mode),
+    TranscodeWith(Policy),
+}
+
+static CALLS: [(&str, Call); 5] = [
+    ("s", Call::Transcode(Mode::Strict)),
+    ("l", Call::Transcode(Mode::Lossy)),
+    ("e", Call::TranscodeWith(Policy::Each)),
+    ("r", Call::TranscodeWith(Policy::Run)),
+    ("k", Call::TranscodeWith(Policy::Skip)),
+];
+
+// Makes a run.
+fn moved(call: Call, source: &mut SlowSource<'_>, sink: &mut SlowSink) -> Result<(), TranscodeError>
     requires source_unfailed { source.old.failed ≡ false }
     requires source_open { source.old.ended ≡ false }
     requires sink_unfailed { sink.old.failed ≡ false }
 {
-    match mode {
-        "s" => Ok(transcode(source, sink, Mode::Strict)),
-        "l" => Ok(transcode(source, sink, Mode::Lossy)),
-        "e" => Ok(transcode_with(source, sink, Policy::Each)),
-        "r" => Ok(transcode_with(source, sink, Policy::Run)),
-        "k" => Ok(transcode_with(source, sink, Policy::Skip)),
-        _ => Err(NoAnswer::Unparsed),
+    match call {
+        Call::Transcode(mode) => transcode(source, sink, mode),
+        Call::TranscodeWith(policy) => transcode_with(source, sink, policy),
     }
 }
 
@@ -125,11 +132,12 @@ fn shown(
 
 /// Returns the answer: what a run writes, and how it ends.
 pub fn run(alloc: Global, bytes: &[u8], question: &str) -> Result<String, NoAnswer> {
-    let (mode, devices) = parse::parts(question)?;
+    let (call, devices) = parse::parts(question)?;
+    let call = parse::named(&CALLS, call)?;
     let (from, to) = parse::parts(devices)?;
     let mut source = source(from, bytes)?;
     let mut sink = sink(alloc, to)?;
-    let ending = moved(mode, &mut source, &mut sink)?;
+    let ending = moved(call, &mut source, &mut sink);
     if is_flagged(ending, &source, &sink) {
         shown(alloc, &sink.bytes, ending)
     } else {

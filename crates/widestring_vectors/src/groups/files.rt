@@ -12,9 +12,31 @@ use widestring::Utf16String;
 use widestring::bytes::{BoM, byte_order, include_utf16str, units_of_bytes, utf16_of_bytes};
 use widestring::error::{Utf16BytesError, Utf16Error};
 use widestring::unit::{length_as_utf16, length_as_utf32, next_code_point};
-use widestring_replay::parse::{Memory, NoAnswer};
+use widestring_replay::parse::{self, Memory, NoAnswer};
 use widestring_replay::show::Answer;
 use widestring_testing::Heap;
+
+// What is asked.
+#[derive(Clone, Copy)]
+enum Query {
+    Order,
+    Units,
+    Fields,
+    Text,
+    Code,
+    Valid,
+    Lossy,
+}
+
+static QUERIES: [(&str, Query); 7] = [
+    ("order", Query::Order),
+    ("units", Query::Units),
+    ("parts", Query::Fields),
+    ("text", Query::Text),
+    ("code", Query::Code),
+    ("valid", Query::Valid),
+    ("lossy", Query::Lossy),
+];
 
 fn letter(order: Option<BoM>) -> &'static str {
     match order {
@@ -109,14 +131,13 @@ fn lossy(memory: Memory<'_>, bytes: &[u8]) -> Result<String, NoAnswer> {
 /// Returns the answer to a question about bytes.
 pub fn of_bytes(memory: Memory<'_>, bytes: &[u8], question: &str) -> Result<String, NoAnswer> {
     let alloc = memory.alloc;
-    match question {
-        "order" => answers::word(alloc, letter(byte_order(bytes))),
-        "units" => units(alloc, bytes),
-        "parts" => parts(alloc, bytes),
-        "text" => text(memory, bytes),
-        "code" => code(alloc, bytes),
-        "valid" => valid(alloc, bytes),
-        "lossy" => lossy(memory, bytes),
-        _ => Err(NoAnswer::Unparsed),
+    match parse::named(&QUERIES, question)? {
+        Query::Order => answers::word(alloc, letter(byte_order(bytes))),
+        Query::Units => units(alloc, bytes),
+        Query::Fields => parts(alloc, bytes),
+        Query::Text => text(memory, bytes),
+        Query::Code => code(alloc, bytes),
+        Query::Valid => valid(alloc, bytes),
+        Query::Lossy => lossy(memory, bytes),
     }
 }

@@ -211,6 +211,50 @@ static OF_CONTENTS: [(&str, Subject); 6] = [
     ("c_box", Subject::Box),
 ];
 
+// How a text is escaped.
+#[derive(Clone, Copy)]
+enum Escape {
+    Debug,
+    Default,
+    Unicode,
+}
+
+// What is printed of a text.
+#[derive(Clone, Copy)]
+enum Text {
+    View,
+    Owned,
+    Box,
+    Chars,
+    Drain,
+    Escapes(Escape),
+}
+
+static OF_TEXT: [(&str, Text); 8] = [
+    ("t_debug", Text::View),
+    ("t_string", Text::Owned),
+    ("t_box", Text::Box),
+    ("t_chars", Text::Chars),
+    ("drain", Text::Drain),
+    ("escape_debug", Text::Escapes(Escape::Debug)),
+    ("escape_default", Text::Escapes(Escape::Default)),
+    ("escape_unicode", Text::Escapes(Escape::Unicode)),
+];
+
+// What is printed of errors and of characters.
+#[derive(Clone, Copy)]
+enum Reported {
+    Fault,
+    Refused,
+    Escape,
+}
+
+static REPORTED: [(&str, Reported); 3] = [
+    ("fault", Reported::Fault),
+    ("refused", Reported::Refused),
+    ("escape", Reported::Escape),
+];
+
 fn of_units<C: Width>(
     alloc: Global,
     view: UStr<'_, C>,
@@ -251,15 +295,23 @@ fn mended<C: Width>(alloc: Global, view: UStr<'_, C>) -> Result<String, NoAnswer
 }
 
 // Returns the answer: the texts of errors, or escapes.
-fn of_error<C: Width>(alloc: Global, units: &[C], word: &str) -> Result<String, NoAnswer> {
+fn of_error<C: Width>(alloc: Global, units: &[C], reported: Reported) -> Result<String, NoAnswer> {
     let mut answer = Answer::new(alloc);
-    match word {
-        "fault" => C::print_fault(alloc, &mut answer, units),
-        "refused" => refused(alloc, &mut answer, units),
-        "escape" => escapes(alloc, &mut answer, units),
-        _ => Err(NoAnswer::Unparsed),
-    }?;
+    add_error(alloc, &mut answer, units, reported)?;
     answer.finish()
+}
+
+fn add_error<C: Width>(
+    alloc: Global,
+    answer: &mut Answer,
+    units: &[C],
+    reported: Reported,
+) -> Result<(), NoAnswer> {
+    match reported {
+        Reported::Fault => C::print_fault(alloc, answer, units),
+        Reported::Refused => refused(alloc, answer, units),
+        Reported::Escape => escapes(alloc, answer, units),
+    }
 }
 
 fn refused<C: Width>(alloc: Global, answer: &mut Answer, units: &[C]) -> Result<(), NoAnswer> {
@@ -329,16 +381,16 @@ fn c_string<C: Width>(alloc: Global, view: UCStr<'_, C>) -> Result<UCString<C>, 
 fn of_text<C: Width>(
     alloc: Global,
     text: UtfStr<'_, C>,
-    word: &str,
+    subject: Text,
     more: &str,
 ) -> Result<String, NoAnswer> {
-    match word {
-        "t_debug" => both(alloc, &text),
-        "t_string" => owned_text(alloc, text),
-        "t_box" => boxed_text(alloc, text),
-        "t_chars" => called_chars(alloc, text, more),
-        "drain" => drain(alloc, text, more),
-        _ => of_escapes(alloc, text, word, more),
+    match subject {
+        Text::View => both(alloc, &text),
+        Text::Owned => owned_text(alloc, text),
+        Text::Box => boxed_text(alloc, text),
+        Text::Chars => called_chars(alloc, text, more),
+        Text::Drain => drain(alloc, text, more),
+        Text::Escapes(escape) => of_escapes(alloc, text, escape, parse::prefix_calls(more)?),
     }
 }
 
@@ -410,29 +462,27 @@ where
 fn of_escapes<C: Width>(
     alloc: Global,
     text: UtfStr<'_, C>,
-    word: &str,
-    calls: &str,
+    escape: Escape,
+    calls: usize,
 ) -> Result<String, NoAnswer> {
-    let calls = parse::prefix_calls(calls)?;
-    match word {
-        "escape_debug" => called(alloc, text.escape_debug(), calls),
-        "escape_default" => called(alloc, text.escape_default(), calls),
-        "escape_unicode" => called(alloc, text.escape_unicode(), calls),
-        _ => Err(NoAnswer::Unparsed),
+    match escape {
+        Escape::Debug => called(alloc, text.escape_debug(), calls),
+        Escape::Default => called(alloc, text.escape_default(), calls),
+        Escape::Unicode => called(alloc, text.escape_unicode(), calls),
     }
 }
 
 /// Returns the answer: what a value prints.
 pub fn printed<C: Width>(alloc: Global, units: &[C], question: &str) -> Result<String, NoAnswer> {
     let (word, more) = parse::word(question);
+    if let Ok(subject) = parse::named(&OF_UNITS, word) {
+        return of_units(alloc, UStr::from_slice(units), subject);
+    }
     if let Ok(subject) = parse::named(&OF_CONTENTS, word) {
         return of_contents(alloc, as_contents(units)?, subject);
     }
-    if word.starts_with("t_") || word.starts_with("escape_") || word == "drain" {
-        return of_text(alloc, as_text(units)?, word, more);
-    }
-    match parse::named(&OF_UNITS, word) {
-        Ok(subject) => of_units(alloc, UStr::from_slice(units), subject),
-        Err(_) => of_error(alloc, units, word),
+    match parse::named(&OF_TEXT, word) {
+        Ok(subject) => of_text(alloc, as_text(units)?, subject, more),
+        Err(_) => of_error(alloc, units, parse::named(&REPORTED, word)?),
     }
 }

@@ -15,6 +15,32 @@ use widestring::unit::{
 use widestring_replay::parse::{self, NoAnswer};
 use widestring_replay::show::Answer;
 
+// What is asked.
+#[derive(Clone, Copy)]
+enum Query {
+    Unit,
+    Pair,
+    Char,
+    Nul,
+    Line,
+    Same,
+    Order,
+    Shared,
+    Range,
+}
+
+static QUERIES: [(&str, Query); 9] = [
+    ("unit", Query::Unit),
+    ("pair", Query::Pair),
+    ("char", Query::Char),
+    ("nul", Query::Nul),
+    ("line", Query::Line),
+    ("same", Query::Same),
+    ("order", Query::Order),
+    ("shared", Query::Shared),
+    ("range", Query::Range),
+];
+
 fn of_unit<C: Width>(alloc: Global, unit: C) -> Result<String, NoAnswer> {
     let mut answer = Answer::new(alloc);
     answer.decided(unit.in_range());
@@ -58,13 +84,13 @@ fn ends_of_range(alloc: Global, range: &str, length: usize) -> Result<String, No
 fn of_both<C: Width>(
     alloc: Global,
     units: &[C],
-    word: &str,
+    query: Query,
     other: &[C],
 ) -> Result<String, NoAnswer> {
-    match word {
-        "same" => answers::decided(alloc, same_units(units, other)),
-        "shared" => answers::count(alloc, Some(common_prefix(units, other))),
-        "order" => answers::ordered(alloc, order_of_units(units, other)),
+    match query {
+        Query::Same => answers::decided(alloc, same_units(units, other)),
+        Query::Shared => answers::count(alloc, Some(common_prefix(units, other))),
+        Query::Order => answers::ordered(alloc, order_of_units(units, other)),
         _ => Err(NoAnswer::Unparsed),
     }
 }
@@ -72,22 +98,22 @@ fn of_both<C: Width>(
 fn with_other<C: Width>(
     alloc: Global,
     units: &[C],
-    word: &str,
+    query: Query,
     other: &str,
 ) -> Result<String, NoAnswer> {
-    of_both(alloc, units, word, &parse::list::<C>(alloc, other)?)
+    of_both(alloc, units, query, &parse::list::<C>(alloc, other)?)
 }
 
 /// Returns the answer to a question about units.
 pub fn asked<C: Width>(alloc: Global, units: &[C], question: &str) -> Result<String, NoAnswer> {
     let (word, more) = parse::word(question);
-    match (word, units) {
-        ("unit", [unit]) => of_unit(alloc, *unit),
-        ("pair", [first, second]) => answers::character(alloc, first.pair_scalar(*second)),
-        ("nul", _) => answers::count(alloc, first_nul(units)),
-        ("line", _) => first_line(alloc, units),
-        ("char", _) => of_char::<C>(alloc, more),
-        ("range", _) => ends_of_range(alloc, more, units.len()),
-        _ => with_other(alloc, units, word, more),
+    match (parse::named(&QUERIES, word)?, units) {
+        (Query::Unit, [unit]) => of_unit(alloc, *unit),
+        (Query::Pair, [first, second]) => answers::character(alloc, first.pair_scalar(*second)),
+        (Query::Nul, _) => answers::count(alloc, first_nul(units)),
+        (Query::Line, _) => first_line(alloc, units),
+        (Query::Char, _) => of_char::<C>(alloc, more),
+        (Query::Range, _) => ends_of_range(alloc, more, units.len()),
+        (query, _) => with_other(alloc, units, query, more),
     }
 }

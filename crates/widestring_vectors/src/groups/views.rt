@@ -50,6 +50,44 @@ macro_rules! halves {
     };
 }
 
+// The views.
+#[derive(Clone, Copy)]
+enum Kind {
+    Units,
+    Text,
+    Contents,
+}
+
+static KINDS: [(&str, Kind); 3] = [("u", Kind::Units), ("t", Kind::Text), ("c", Kind::Contents)];
+
+// The calls.
+#[derive(Clone, Copy)]
+enum Call {
+    Whole,
+    Subslice,
+    Split,
+    Made,
+    Empty,
+    Nul,
+    Count,
+    Offset,
+    Boundary,
+    At,
+}
+
+static CALLS: [(&str, Call); 10] = [
+    ("whole", Call::Whole),
+    ("part", Call::Subslice),
+    ("split", Call::Split),
+    ("made", Call::Made),
+    ("empty", Call::Empty),
+    ("nul", Call::Nul),
+    ("count", Call::Count),
+    ("offset", Call::Offset),
+    ("boundary", Call::Boundary),
+    ("at", Call::At),
+];
+
 // Returns the answer: a length, whether it is 0, and units.
 fn whole<C: Width>(
     alloc: Global,
@@ -141,15 +179,15 @@ fn text_of_contents<C: Width>(alloc: Global, view: UCStr<'_, C>) -> Result<Strin
 fn of_units<C: Width>(
     alloc: Global,
     view: UStr<'_, C>,
-    word: &str,
+    call: Call,
     more: &str,
 ) -> Result<String, NoAnswer> {
-    match word {
-        "whole" => whole(alloc, view.len(), view.is_empty(), &[view.as_slice()]),
-        "part" => part_of_units(alloc, view, more),
-        "split" => split_units(alloc, view, more),
-        "empty" => answers::count(alloc, Some(UStr::<C>::default().len())),
-        "made" => made_of_contents(alloc, view.as_slice()),
+    match call {
+        Call::Whole => whole(alloc, view.len(), view.is_empty(), &[view.as_slice()]),
+        Call::Subslice => part_of_units(alloc, view, more),
+        Call::Split => split_units(alloc, view, more),
+        Call::Empty => answers::count(alloc, Some(UStr::<C>::default().len())),
+        Call::Made => made_of_contents(alloc, view.as_slice()),
         _ => Err(NoAnswer::Unparsed),
     }
 }
@@ -180,16 +218,16 @@ fn nul<C: Width>(alloc: Global) -> Result<String, NoAnswer> {
 fn of_contents<C: Width>(
     alloc: Global,
     view: UCStr<'_, C>,
-    word: &str,
+    call: Call,
     more: &str,
 ) -> Result<String, NoAnswer> {
-    match word {
-        "whole" => whole_contents(alloc, view),
-        "part" => part_of_contents(alloc, view, more),
-        "split" => split_contents(alloc, view, more),
-        "made" => made_again(alloc, view),
-        "empty" => C::no_contents(alloc),
-        "nul" => nul::<C>(alloc),
+    match call {
+        Call::Whole => whole_contents(alloc, view),
+        Call::Subslice => part_of_contents(alloc, view, more),
+        Call::Split => split_contents(alloc, view, more),
+        Call::Made => made_again(alloc, view),
+        Call::Empty => C::no_contents(alloc),
+        Call::Nul => nul::<C>(alloc),
         _ => Err(NoAnswer::Unparsed),
     }
 }
@@ -229,24 +267,24 @@ fn at<C: Width>(alloc: Global, text: UtfStr<'_, C>, index: &str) -> Result<Strin
 fn of_text<C: Width>(
     alloc: Global,
     text: UtfStr<'_, C>,
-    word: &str,
+    call: Call,
     more: &str,
 ) -> Result<String, NoAnswer> {
-    match word {
-        "whole" => whole(
+    match call {
+        Call::Whole => whole(
             alloc,
             text.len(),
             text.is_empty(),
             &[text.as_slice(), text.as_ustr().as_slice()],
         ),
-        "part" => part_of_text(alloc, text, more),
-        "split" => split_text(alloc, text, more),
-        "made" => made_of_text(alloc, text),
-        "empty" => answers::count(alloc, Some(UtfStr::<C>::default().len())),
-        "count" => answers::count(alloc, Some(text.char_count())),
-        "offset" => offset(alloc, text, more),
-        "boundary" => boundary(alloc, text, more),
-        "at" => at(alloc, text, more),
+        Call::Subslice => part_of_text(alloc, text, more),
+        Call::Split => split_text(alloc, text, more),
+        Call::Made => made_of_text(alloc, text),
+        Call::Empty => answers::count(alloc, Some(UtfStr::<C>::default().len())),
+        Call::Count => answers::count(alloc, Some(text.char_count())),
+        Call::Offset => offset(alloc, text, more),
+        Call::Boundary => boundary(alloc, text, more),
+        Call::At => at(alloc, text, more),
         _ => Err(NoAnswer::Unparsed),
     }
 }
@@ -255,20 +293,47 @@ fn of_text<C: Width>(
 fn in_text<C: Width>(
     alloc: Global,
     units: &[C],
-    word: &str,
+    call: Call,
     more: &str,
 ) -> Result<String, NoAnswer> {
     match as_text(units) {
-        Ok(text) => of_text(alloc, text, word, more),
-        Err(_) if word == "made" => fault(alloc, UStr::from_slice(units)),
-        Err(why) => Err(why),
+        Ok(text) => of_text(alloc, text, call, more),
+        Err(_) => in_ill_formed(alloc, UStr::from_slice(units), call),
     }
 }
 
-fn fault<C: Width>(alloc: Global, view: UStr<'_, C>) -> Result<String, NoAnswer> {
-    match UtfStr::from_ustr(view) {
-        Ok(_) => Err(NoAnswer::Unparsed),
-        Err(fault) => refused(alloc, fault),
+fn in_ill_formed<C: Width>(
+    alloc: Global,
+    view: UStr<'_, C>,
+    call: Call,
+) -> Result<String, NoAnswer> {
+    match (call, UtfStr::from_ustr(view)) {
+        (Call::Made, Err(fault)) => refused(alloc, fault),
+        _ => Err(NoAnswer::Unparsed),
+    }
+}
+
+fn in_contents<C: Width>(
+    alloc: Global,
+    units: &[C],
+    call: Call,
+    more: &str,
+) -> Result<String, NoAnswer> {
+    of_contents(alloc, as_contents(units)?, call, more)
+}
+
+// Returns the answer to a question about a view of this kind.
+fn of_kind<C: Width>(
+    alloc: Global,
+    units: &[C],
+    kind: Kind,
+    call: Call,
+    more: &str,
+) -> Result<String, NoAnswer> {
+    match kind {
+        Kind::Units => of_units(alloc, UStr::from_slice(units), call, more),
+        Kind::Text => in_text(alloc, units, call, more),
+        Kind::Contents => in_contents(alloc, units, call, more),
     }
 }
 
@@ -276,10 +341,6 @@ fn fault<C: Width>(alloc: Global, view: UStr<'_, C>) -> Result<String, NoAnswer>
 pub fn view<C: Width>(alloc: Global, units: &[C], question: &str) -> Result<String, NoAnswer> {
     let (kind, rest) = parse::word(question);
     let (word, more) = parse::word(rest);
-    match kind {
-        "u" => of_units(alloc, UStr::from_slice(units), word, more),
-        "t" => in_text(alloc, units, word, more),
-        "c" => of_contents(alloc, as_contents(units)?, word, more),
-        _ => Err(NoAnswer::Unparsed),
-    }
+    let kind = parse::named(&KINDS, kind)?;
+    of_kind(alloc, units, kind, parse::named(&CALLS, word)?, more)
 }

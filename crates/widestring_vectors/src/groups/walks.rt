@@ -268,19 +268,52 @@ fn of_contents<C: ReportedUnit>(
     }
 }
 
+// The iterators of a text.
+#[derive(Clone, Copy)]
+enum OfText {
+    Chars,
+    Indices,
+    Units,
+    Utf8,
+    Other,
+}
+
+static OF_TEXT: [(&str, OfText); 5] = [
+    ("t_chars", OfText::Chars),
+    ("t_indices", OfText::Indices),
+    ("t_units", OfText::Units),
+    ("utf8", OfText::Utf8),
+    ("other", OfText::Other),
+];
+
 fn of_text<C: Width>(
     alloc: Global,
     text: UtfStr<'_, C>,
-    word: &str,
+    kind: OfText,
     steps: &[Option<End>],
 ) -> Result<String, NoAnswer> {
-    match word {
-        "t_chars" => characters(alloc, text.chars(), steps),
-        "t_indices" => text_indices(alloc, text, steps),
-        "t_units" => C::code_units(alloc, text.as_slice(), steps),
-        "utf8" => encoded(alloc, text.encode_utf8(), steps),
-        "other" => C::encode_other(alloc, text.as_slice(), steps),
-        _ => Err(NoAnswer::Unparsed),
+    match kind {
+        OfText::Chars => characters(alloc, text.chars(), steps),
+        OfText::Indices => text_indices(alloc, text, steps),
+        OfText::Units => C::code_units(alloc, text.as_slice(), steps),
+        OfText::Utf8 => encoded(alloc, text.encode_utf8(), steps),
+        OfText::Other => C::encode_other(alloc, text.as_slice(), steps),
+    }
+}
+
+// The bounds and lengths that are asked without steps.
+#[derive(Clone, Copy)]
+enum Whole {
+    Lengths,
+    Lines,
+}
+
+static WHOLE: [(&str, Whole); 2] = [("lengths", Whole::Lengths), ("lines", Whole::Lines)];
+
+fn of_whole<C: Width>(alloc: Global, units: &[C], whole: Whole) -> Result<String, NoAnswer> {
+    match whole {
+        Whole::Lengths => C::lengths(alloc, units),
+        Whole::Lines => line_bounds(alloc, UStr::from_slice(units)),
     }
 }
 
@@ -290,30 +323,30 @@ fn of_steps<C: Width>(
     word: &str,
     steps: &[Option<End>],
 ) -> Result<String, NoAnswer> {
-    if let Some(word) = word.strip_prefix("c_") {
-        return of_contents(
+    if let Ok(kind) = parse::named(&OF_TEXT, word) {
+        return of_text(alloc, as_text(units)?, kind, steps);
+    }
+    match word.strip_prefix("c_") {
+        Some(word) => of_contents(
             alloc,
             as_contents(units)?,
             parse::named(&KINDS, word)?,
             steps,
-        );
+        ),
+        None => of_units(
+            alloc,
+            UStr::from_slice(units),
+            parse::named(&KINDS, word)?,
+            steps,
+        ),
     }
-    if word.starts_with("t_") || word == "utf8" || word == "other" {
-        return of_text(alloc, as_text(units)?, word, steps);
-    }
-    of_units(
-        alloc,
-        UStr::from_slice(units),
-        parse::named(&KINDS, word)?,
-        steps,
-    )
 }
 
 /// Returns the answer: what an iterator of a view returns.
 pub fn walk<C: Width>(alloc: Global, units: &[C], question: &str) -> Result<String, NoAnswer> {
-    match parse::word(question) {
-        ("lengths", _) => C::lengths(alloc, units),
-        ("lines", _) => line_bounds(alloc, UStr::from_slice(units)),
-        (word, steps) => of_steps(alloc, units, word, &parse::steps(alloc, steps)?),
+    let (word, steps) = parse::word(question);
+    match parse::named(&WHOLE, word) {
+        Ok(whole) => of_whole(alloc, units, whole),
+        Err(_) => of_steps(alloc, units, word, &parse::steps(alloc, steps)?),
     }
 }
