@@ -1,6 +1,6 @@
 //! Searches, splits, prefixes, comparisons.
 
-use crate::input::{Call, Input, number_of};
+use crate::input::{Call, Input, named_in, number_of};
 use std::cmp::Ordering;
 use widestring::error::{FaultUnit, OutOfMemory};
 use widestring::ustr::UStr;
@@ -23,6 +23,23 @@ pub enum Searching {
     Equal,
     Compare,
 }
+
+static CALLS: [(&str, Searching); 14] = [
+    ("find", Searching::Find),
+    ("rfind", Searching::Rfind),
+    ("find_unit", Searching::FindUnit),
+    ("rfind_unit", Searching::RfindUnit),
+    ("find_char", Searching::FindChar),
+    ("rfind_char", Searching::RfindChar),
+    ("starts_with", Searching::StartsWith),
+    ("ends_with", Searching::EndsWith),
+    ("split_once", Searching::SplitOnce),
+    ("rsplit_once", Searching::RsplitOnce),
+    ("split", Searching::Split),
+    ("split_char", Searching::SplitChar),
+    ("eq", Searching::Equal),
+    ("cmp", Searching::Compare),
+];
 
 // Returns the needle's first unit, or zero.
 fn first_unit<C: FaultUnit>(needle: UStr<'_, C>) -> C {
@@ -67,24 +84,7 @@ fn parts<C: FaultUnit>(input: &Input<'_, C>, is_char: bool) -> u64 {
 
 impl Call for Searching {
     fn named(name: &str) -> Option<Searching> {
-        let call = match name {
-            "find" => Searching::Find,
-            "rfind" => Searching::Rfind,
-            "find_unit" => Searching::FindUnit,
-            "rfind_unit" => Searching::RfindUnit,
-            "find_char" => Searching::FindChar,
-            "rfind_char" => Searching::RfindChar,
-            "starts_with" => Searching::StartsWith,
-            "ends_with" => Searching::EndsWith,
-            "split_once" => Searching::SplitOnce,
-            "rsplit_once" => Searching::RsplitOnce,
-            "split" => Searching::Split,
-            "split_char" => Searching::SplitChar,
-            "eq" => Searching::Equal,
-            "cmp" => Searching::Compare,
-            _ => return None,
-        };
-        Some(call)
+        named_in(&CALLS, name)
     }
 
     fn make<C: FaultUnit + Ord>(self, input: &Input<'_, C>) -> Result<u64, OutOfMemory> {

@@ -1,7 +1,7 @@
 //! Walks over characters and lines, boundaries, validation.
 ghost use Rattle.std.specs.Iterator.{IsFinite};
 
-use crate::input::{Call, Input, number_of};
+use crate::input::{Call, Input, named_in, number_of};
 use widestring::Policy;
 use widestring::error::{FaultUnit, OutOfMemory};
 use widestring::utfstr::UtfStr;
@@ -25,6 +25,24 @@ pub enum Walking {
     FloorCharBoundary,
     Trim,
 }
+
+static CALLS: [(&str, Walking); 15] = [
+    ("chars", Walking::Chars),
+    ("chars_rev", Walking::CharsRev),
+    ("char_indices", Walking::CharIndices),
+    ("chars_lossy", Walking::CharsLossy),
+    ("chars_lossy_rev", Walking::CharsLossyRev),
+    ("chars_lossy_with", Walking::CharsLossyWith),
+    ("text_chars", Walking::TextChars),
+    ("text_chars_rev", Walking::TextCharsRev),
+    ("lines", Walking::Lines),
+    ("lines_lossy", Walking::LinesLossy),
+    ("from_slice", Walking::FromSlice),
+    ("char_count", Walking::CharCount),
+    ("unit_offset", Walking::UnitOffset),
+    ("floor_char_boundary", Walking::FloorCharBoundary),
+    ("trim", Walking::Trim),
+];
 
 // Returns the characters as one number.
 fn sum_of<I: Iterator<Item = char>>(chars: I) -> u64
@@ -81,25 +99,7 @@ fn lines_of<C: FaultUnit>(input: &Input<'_, C>, is_lossy: bool) -> u64 {
 
 impl Call for Walking {
     fn named(name: &str) -> Option<Walking> {
-        let call = match name {
-            "chars" => Walking::Chars,
-            "chars_rev" => Walking::CharsRev,
-            "char_indices" => Walking::CharIndices,
-            "chars_lossy" => Walking::CharsLossy,
-            "chars_lossy_rev" => Walking::CharsLossyRev,
-            "chars_lossy_with" => Walking::CharsLossyWith,
-            "text_chars" => Walking::TextChars,
-            "text_chars_rev" => Walking::TextCharsRev,
-            "lines" => Walking::Lines,
-            "lines_lossy" => Walking::LinesLossy,
-            "from_slice" => Walking::FromSlice,
-            "char_count" => Walking::CharCount,
-            "unit_offset" => Walking::UnitOffset,
-            "floor_char_boundary" => Walking::FloorCharBoundary,
-            "trim" => Walking::Trim,
-            _ => return None,
-        };
-        Some(call)
+        named_in(&CALLS, name)
     }
 
     fn make<C: FaultUnit + Ord>(self, input: &Input<'_, C>) -> Result<u64, OutOfMemory> {
