@@ -12,8 +12,9 @@ pub mod parse;
 mod replay;
 pub mod show;
 
-use parse::{Memory, NoAnswer};
+use parse::Memory;
 pub use replay::run;
+use show::Answer;
 
 /// The groups of cases of a program, and the calls of the library that each makes.
 pub trait Suite {
@@ -24,13 +25,8 @@ pub trait Suite {
     /// Returns the groups that have corrected answers, each with the name of the crate's fault that it is about.
     fn faults() -> &'static [(&'static str, &'static str)];
 
-    /// Returns the library's answer to a question about a list, in the form of the data.
-    fn answer(
-        memory: Memory<'_>,
-        group: &str,
-        list: &str,
-        question: &str,
-    ) -> Result<String, NoAnswer>;
+    /// Adds the library's answer to a question about a list, in the form of the data.
+    fn answer(memory: Memory<'_>, answer: &mut Answer, group: &str, list: &str, question: &str);
 }
 
 /// Makes a call of an iterator, from an end. `End` has to be in scope.

@@ -1,9 +1,9 @@
 //! Text and C strings of units.
 use crate::parse::NoAnswer;
 use std::alloc::Global;
-use widestring::error::FaultUnit;
-use widestring::ucstring::UCString;
-use widestring::ustr::UStr;
+use wide_ucstring::UCString;
+use wide_ustr::UStr;
+use wide_utferror::FaultUnit;
 
 /// Returns the text that has these units.
 pub fn text_of<C: FaultUnit>(alloc: Global, units: &[C]) -> Result<String, NoAnswer> {

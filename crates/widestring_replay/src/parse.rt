@@ -1,8 +1,8 @@
 //! Parses lists and calls of the data.
 use std::alloc::{AllocError, AllocFailed, Global};
 use std::ops::Bound;
-use widestring::error::OutOfMemory;
-use widestring::iter::End;
+use wide_error::OutOfMemory;
+use wide_iter::End;
 use widestring_testing::Heap;
 
 /// Why a question has no answer.

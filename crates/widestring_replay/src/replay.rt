@@ -1,6 +1,7 @@
 //! Runs the cases of all groups, and counts the results.
 use crate::Suite;
 use crate::parse::{Memory, NoAnswer};
+use crate::show::Answer;
 use std::alloc::{AllocError, Global};
 use std::process::ExitCode;
 use std::{fmt, fs, io};
@@ -53,6 +54,13 @@ fn is_about(faults: &[(&'static str, &'static str)], group: &str, fault: &str) -
     false
 }
 
+// Returns the library's answer to a case.
+fn answered<S: Suite>(memory: Memory<'_>, group: &str, case: &Case) -> Result<String, NoAnswer> {
+    let mut answer = Answer::new(memory.alloc);
+    S::answer(memory, &mut answer, group, case.list, case.question);
+    answer.finish()
+}
+
 // The state of a group's run.
 #[derive(Drop)]
 struct Replay {
@@ -93,7 +101,7 @@ impl Replay {
     fn case<S: Suite>(&mut self, memory: Memory<'_>, case: &Case) -> Result<(), AllocError> {
         let alloc = memory.alloc;
         memory.heap.set(u64::MAX);
-        match S::answer(memory, self.group, case.list, case.question) {
+        match answered::<S>(memory, self.group, case) {
             Ok(got) => {
                 let requests = u64::MAX - memory.heap.left();
                 if self.reports_failures::<S>(memory, case, requests) {
@@ -113,7 +121,7 @@ impl Replay {
         let heap = memory.heap;
         for granted in 0..requests {
             heap.set(granted);
-            match S::answer(memory, self.group, case.list, case.question) {
+            match answered::<S>(memory, self.group, case) {
                 Err(NoAnswer::OutOfMemory) if heap.refused_one() => {}
                 _ => return false,
             }

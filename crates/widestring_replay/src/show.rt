@@ -3,8 +3,9 @@ use crate::parse::{FromHex, NoAnswer};
 use std::alloc::{AllocError, Allocator, Global};
 use std::cmp::Ordering;
 use std::fmt::Write;
-use widestring::error::{ContainsNul, DecodeUtf16Error, DecodeUtf32Error, FaultUnit, UtfError};
-use widestring::unit::Unit;
+use wide_error::{DecodeUtf16Error, DecodeUtf32Error, OutOfMemory};
+use wide_unit::Unit;
+use wide_utferror::{ContainsNul, FaultUnit, UtfError};
 
 /// A unit that can be parsed, and read from its fault.
 pub trait ReportedUnit: FaultUnit + FromHex + PartialEq + 'static {
@@ -24,11 +25,14 @@ impl ReportedUnit for u32 {
     }
 }
 
-/// An answer that is being written. If an allocation fails in a write, there is no answer in the end.
+/// An answer that is being written. Once a write or the question has failed, there is no answer in the end.
+///
+/// What adds to an answer returns nothing: it records why there is none, by `fail`. A function that returned a `Result`
+/// of a text in place of that would take several times as long to prove.
 #[derive(Drop)]
 pub struct Answer {
     text: String,
-    is_refused: bool,
+    failure: Option<NoAnswer>,
 }
 
 impl Answer {
@@ -36,13 +40,34 @@ impl Answer {
     pub fn new(alloc: Global) -> Answer {
         Answer {
             text: String::new(alloc),
-            is_refused: false,
+            failure: None,
         }
+    }
+
+    /// Records why there is no answer. The first reason stands.
+    pub fn fail(&mut self, why: NoAnswer) {
+        if self.failure.is_none() {
+            self.failure = Some(why);
+        }
+    }
+
+    /// Returns whether there is no answer.
+    pub fn has_failed(&self) -> bool {
+        self.failure.is_some()
     }
 
     // Records whether a write failed.
     fn note(&mut self, written: Result<(), AllocError>) {
-        self.is_refused |= written.is_err();
+        if written.is_err() {
+            self.fail(NoAnswer::OutOfMemory);
+        }
+    }
+
+    /// Records the failure of a call that returns nothing else.
+    pub fn done(&mut self, called: Result<(), OutOfMemory>) {
+        if called.is_err() {
+            self.fail(NoAnswer::OutOfMemory);
+        }
     }
 
     /// Adds a word.
@@ -246,11 +271,11 @@ impl Answer {
         self.hex(requests);
     }
 
-    /// Returns the whole answer.
+    /// Returns the whole answer, or why there is none.
     pub fn finish(self) -> Result<String, NoAnswer> {
-        if self.is_refused {
-            return Err(NoAnswer::OutOfMemory);
+        match self.failure {
+            None => Ok(self.text),
+            Some(why) => Err(why),
         }
-        Ok(self.text)
     }
 }

@@ -14,9 +14,11 @@ mod ustring_calls;
 mod ustring_items;
 mod utfstring;
 
+use std::alloc::Global;
+use widestring::ustring::UString;
 use widestring_replay::Suite;
 use widestring_replay::parse::{self, Memory, NoAnswer};
-use widestring_replay::show::ReportedUnit;
+use widestring_replay::show::{Answer, ReportedUnit};
 
 /// Owned strings: of any units, of well-formed text, and C strings.
 pub struct StringSuite;
@@ -57,6 +59,15 @@ static FAULTS: [(&str, &str); 3] = [
 // The groups whose lists are units, without the width that ends their names.
 #[derive(Clone, Copy)]
 enum OfUnits {
+    String(OfString),
+    CString,
+    Text,
+    Calls,
+}
+
+// The groups about a call of the string of the list.
+#[derive(Clone, Copy)]
+enum OfString {
     Pop,
     Remove,
     Insert,
@@ -64,19 +75,16 @@ enum OfUnits {
     Drain,
     Retain,
     SplitOff,
-    CString,
-    Text,
-    Calls,
 }
 
 static OF_UNITS: [(&str, OfUnits); 10] = [
-    ("pop", OfUnits::Pop),
-    ("remove", OfUnits::Remove),
-    ("insert", OfUnits::Insert),
-    ("replace", OfUnits::Replace),
-    ("drain", OfUnits::Drain),
-    ("retain", OfUnits::Retain),
-    ("split_off", OfUnits::SplitOff),
+    ("pop", OfUnits::String(OfString::Pop)),
+    ("remove", OfUnits::String(OfString::Remove)),
+    ("insert", OfUnits::String(OfString::Insert)),
+    ("replace", OfUnits::String(OfString::Replace)),
+    ("drain", OfUnits::String(OfString::Drain)),
+    ("retain", OfUnits::String(OfString::Retain)),
+    ("split_off", OfUnits::String(OfString::SplitOff)),
     ("ucstring", OfUnits::CString),
     ("utfstring", OfUnits::Text),
     ("ustring_calls", OfUnits::Calls),
@@ -91,53 +99,70 @@ impl Suite for StringSuite {
         &FAULTS
     }
 
-    fn answer(
-        memory: Memory<'_>,
-        group: &str,
-        list: &str,
-        question: &str,
-    ) -> Result<String, NoAnswer> {
+    fn answer(memory: Memory<'_>, answer: &mut Answer, group: &str, list: &str, question: &str) {
         match group {
-            "edits" => edits::replies(memory.alloc, list, question),
-            "chars32" => chars32::made(memory, list, question),
-            _ => of_units(memory, group, list, question),
+            "edits" => edits::replies(memory.alloc, answer, list, question),
+            "chars32" => chars32::made(memory, answer, list, question),
+            _ => of_units(memory, answer, group, list, question),
         }
     }
 }
 
-// Returns the answer of a group whose lists are units, of the width that the group's name ends with.
-fn of_units(
-    memory: Memory<'_>,
-    group: &str,
-    list: &str,
-    question: &str,
-) -> Result<String, NoAnswer> {
+// Answers a question of a group whose lists are units, of the width that the group's name ends with.
+fn of_units(memory: Memory<'_>, answer: &mut Answer, group: &str, list: &str, question: &str) {
     if let Some(name) = group.strip_suffix("16") {
-        return of_width::<u16>(memory, parse::named(&OF_UNITS, name)?, list, question);
-    }
-    match group.strip_suffix("32") {
-        Some(name) => of_width::<u32>(memory, parse::named(&OF_UNITS, name)?, list, question),
-        None => Err(NoAnswer::Unparsed),
+        of_width::<u16>(memory, answer, name, list, question);
+    } else if let Some(name) = group.strip_suffix("32") {
+        of_width::<u32>(memory, answer, name, list, question);
+    } else {
+        answer.fail(NoAnswer::Unparsed);
     }
 }
 
 fn of_width<C: ReportedUnit>(
     memory: Memory<'_>,
-    group: OfUnits,
+    answer: &mut Answer,
+    name: &str,
     list: &str,
     question: &str,
-) -> Result<String, NoAnswer> {
-    let alloc = memory.alloc;
-    match group {
-        OfUnits::Pop => ustring::pop::<C>(alloc, list, question),
-        OfUnits::Remove => ustring::remove::<C>(alloc, list, question),
-        OfUnits::Insert => ustring::insert::<C>(alloc, list, question),
-        OfUnits::Replace => ustring::replace::<C>(alloc, list, question),
-        OfUnits::Drain => drain::drain::<C>(alloc, list, question),
-        OfUnits::Retain => ustring::retain::<C>(alloc, list, question),
-        OfUnits::SplitOff => ustring::split_off::<C>(alloc, list, question),
-        OfUnits::CString => ucstring::made::<C>(memory, list, question),
-        OfUnits::Text => utfstring::script::<C>(memory, list, question),
-        OfUnits::Calls => ustring_calls::script::<C>(memory, list, question),
+) {
+    match parse::named(&OF_UNITS, name) {
+        Ok(OfUnits::String(call)) => of_string::<C>(memory.alloc, answer, call, list, question),
+        Ok(OfUnits::CString) => ucstring::made::<C>(memory, answer, list, question),
+        Ok(OfUnits::Text) => utfstring::script::<C>(memory, answer, list, question),
+        Ok(OfUnits::Calls) => ustring_calls::script::<C>(memory, answer, list, question),
+        Err(error) => answer.fail(error),
+    }
+}
+
+// Answers a question about a call of the string of a list.
+fn of_string<C: ReportedUnit>(
+    alloc: Global,
+    answer: &mut Answer,
+    call: OfString,
+    list: &str,
+    question: &str,
+) {
+    match parse::list::<C>(alloc, list) {
+        Ok(units) => called(alloc, &mut UString::from_vec(units), answer, call, question),
+        Err(error) => answer.fail(error),
+    }
+}
+
+fn called<C: ReportedUnit>(
+    alloc: Global,
+    string: &mut UString<C>,
+    answer: &mut Answer,
+    call: OfString,
+    question: &str,
+) {
+    match call {
+        OfString::Pop => ustring::pop(string, answer, question),
+        OfString::Remove => ustring::remove(string, answer, question),
+        OfString::Insert => ustring::insert(alloc, string, answer, question),
+        OfString::Replace => ustring::replace(alloc, string, answer, question),
+        OfString::Drain => drain::drain(alloc, string, answer, question),
+        OfString::Retain => ustring::retain(string, answer, question),
+        OfString::SplitOff => ustring::split_off(string, answer, question),
     }
 }

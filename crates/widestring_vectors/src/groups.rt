@@ -23,8 +23,10 @@ mod width;
 
 use std::alloc::Global;
 use widestring::Policy;
+use widestring::iter::End;
 use widestring_replay::Suite;
 use widestring_replay::parse::{self, Memory, NoAnswer};
+use widestring_replay::show::Answer;
 use width::Width;
 
 /// Decoders, encoders, views with their iterators, conversions, searches and devices.
@@ -180,121 +182,135 @@ impl Suite for ViewSuite {
         &FAULTS
     }
 
-    fn answer(
-        memory: Memory<'_>,
-        group: &str,
-        list: &str,
-        question: &str,
-    ) -> Result<String, NoAnswer> {
+    fn answer(memory: Memory<'_>, answer: &mut Answer, group: &str, list: &str, question: &str) {
         if let Ok(group) = parse::named(&OF_CHARS, group) {
-            return of_chars(memory.alloc, group, list, question);
+            return of_chars(memory.alloc, answer, group, list, question);
         }
         if let Ok(group) = parse::named(&OF_BYTES, group) {
-            return of_bytes(memory, group, list, question);
+            return of_bytes(memory, answer, group, list, question);
         }
         if (group == "to_string16") & (question == "i") {
-            return of_bytes(memory, OfBytes::Include, list, question);
+            return of_bytes(memory, answer, OfBytes::Include, list, question);
         }
-        of_units(memory, group, list, question)
+        of_units(memory, answer, group, list, question);
     }
 }
 
-fn of_chars(alloc: Global, group: OfChars, list: &str, question: &str) -> Result<String, NoAnswer> {
-    let chars = parse::list::<char>(alloc, list)?;
-    answer_of_chars(alloc, group, &chars, question)
+fn of_chars(alloc: Global, answer: &mut Answer, group: OfChars, list: &str, question: &str) {
+    match parse::list::<char>(alloc, list) {
+        Ok(chars) => with_chars(alloc, answer, group, &chars, question),
+        Err(error) => answer.fail(error),
+    }
 }
 
-fn answer_of_chars(
-    alloc: Global,
-    group: OfChars,
-    chars: &[char],
-    question: &str,
-) -> Result<String, NoAnswer> {
+fn with_chars(alloc: Global, answer: &mut Answer, group: OfChars, chars: &[char], question: &str) {
     match group {
-        OfChars::Utf8 => encode::utf8(alloc, chars, question),
-        OfChars::Utf16 => encode::utf16(alloc, chars, question),
-        OfChars::Utf32 => encode::utf32(alloc, chars, question),
-        OfChars::Utf8Hints => hints::of_utf8_encoder(alloc, chars, question),
-        OfChars::Utf16Hints => hints::of_utf16_encoder(alloc, chars, question),
+        OfChars::Utf8 => encode::utf8(answer, chars, question),
+        OfChars::Utf16 => encode::utf16(answer, chars, question),
+        OfChars::Utf32 => encode::utf32(alloc, answer, chars, question),
+        OfChars::Utf8Hints => hints::of_utf8_encoder(answer, chars, question),
+        OfChars::Utf16Hints => hints::of_utf16_encoder(answer, chars, question),
     }
 }
 
-fn of_bytes(
+fn of_bytes(memory: Memory<'_>, answer: &mut Answer, group: OfBytes, list: &str, question: &str) {
+    match parse::list::<u8>(memory.alloc, list) {
+        Ok(bytes) => with_bytes(memory, answer, group, &bytes, question),
+        Err(error) => answer.fail(error),
+    }
+}
+
+fn with_bytes(
     memory: Memory<'_>,
+    answer: &mut Answer,
     group: OfBytes,
-    list: &str,
+    bytes: &[u8],
     question: &str,
-) -> Result<String, NoAnswer> {
-    let bytes = parse::list::<u8>(memory.alloc, list)?;
+) {
     match group {
-        OfBytes::Files => files::of_bytes(memory, &bytes, question),
-        OfBytes::Transcode => devices::run(memory.alloc, &bytes, question),
-        OfBytes::Include => conversions::file(memory, &bytes),
+        OfBytes::Files => files::of_bytes(memory, answer, bytes, question),
+        OfBytes::Transcode => devices::run(memory.alloc, answer, bytes, question),
+        OfBytes::Include => conversions::file(memory, answer, bytes),
     }
 }
 
-// Returns the answer of a group whose lists are units, of the width that the group's name ends with.
-fn of_units(
-    memory: Memory<'_>,
-    group: &str,
-    list: &str,
-    question: &str,
-) -> Result<String, NoAnswer> {
+// Adds the answer of a group whose lists are units, of the width that the group's name ends with.
+fn of_units(memory: Memory<'_>, answer: &mut Answer, group: &str, list: &str, question: &str) {
     if let Some(name) = group.strip_suffix("16") {
-        return of_width::<u16>(memory, parse::named(&OF_UNITS, name)?, list, question);
+        return of_width::<u16>(memory, answer, name, list, question);
     }
     match group.strip_suffix("32") {
-        Some(name) => of_width::<u32>(memory, parse::named(&OF_UNITS, name)?, list, question),
-        None => Err(NoAnswer::Unparsed),
+        Some(name) => of_width::<u32>(memory, answer, name, list, question),
+        None => answer.fail(NoAnswer::Unparsed),
     }
 }
 
 fn of_width<C: Width>(
     memory: Memory<'_>,
-    group: OfUnits,
+    answer: &mut Answer,
+    name: &str,
     list: &str,
     question: &str,
-) -> Result<String, NoAnswer> {
-    let units = parse::list::<C>(memory.alloc, list)?;
-    answer_of_units(memory, group, &units, question)
+) {
+    match (
+        parse::named(&OF_UNITS, name),
+        parse::list::<C>(memory.alloc, list),
+    ) {
+        (Ok(group), Ok(units)) => with_units(memory, answer, group, &units, question),
+        (Err(error), _) | (_, Err(error)) => answer.fail(error),
+    }
 }
 
-fn answer_of_units<C: Width>(
+fn with_units<C: Width>(
     memory: Memory<'_>,
+    answer: &mut Answer,
     group: OfUnits,
     units: &[C],
     question: &str,
-) -> Result<String, NoAnswer> {
+) {
     let alloc = memory.alloc;
     match group {
-        OfUnits::Offsets => offsets::offsets(alloc, units, question),
-        OfUnits::FromSlice => from_slice::checked(alloc, units, question),
-        OfUnits::Hints => C::hints(alloc, units, question),
-        OfUnits::Texts => texts::text(alloc, units, question),
-        OfUnits::Views => views::view(alloc, units, question),
-        OfUnits::Walks => walks::walk(alloc, units, question),
-        OfUnits::Prints => prints::printed(alloc, units, question),
-        OfUnits::Compare => compare::compared(alloc, units, question),
-        OfUnits::Units => units::asked(alloc, units, question),
-        OfUnits::Bytes => C::bytes(memory, units, question),
-        OfUnits::LossyText => conversions::lossy(memory, units, question),
-        OfUnits::ToString => C::text(memory, units, question),
-        OfUnits::Searches => searches::found(alloc, units, question),
-        OfUnits::Decoded(decoder) => decoded(memory, decoder, units, question),
+        OfUnits::Offsets => offsets::offsets(alloc, answer, units, question),
+        OfUnits::FromSlice => from_slice::checked(answer, units, question),
+        OfUnits::Hints => C::hints(alloc, answer, units, question),
+        OfUnits::Texts => texts::text(alloc, answer, units, question),
+        OfUnits::Views => views::view(answer, units, question),
+        OfUnits::Walks => walks::walk(alloc, answer, units, question),
+        OfUnits::Prints => prints::printed(alloc, answer, units, question),
+        OfUnits::Compare => compare::compared(alloc, answer, units, question),
+        OfUnits::Units => units::asked(alloc, answer, units, question),
+        OfUnits::Bytes => C::bytes(memory, answer, units, question),
+        OfUnits::LossyText => conversions::lossy(memory, answer, units, question),
+        OfUnits::ToString => C::text(memory, answer, units, question),
+        OfUnits::Searches => searches::found(alloc, answer, units, question),
+        OfUnits::Decoded(decoder) => decoded(memory, answer, decoder, units, question),
     }
 }
 
 fn decoded<C: Width>(
     memory: Memory<'_>,
+    answer: &mut Answer,
     decoder: Decoder,
     units: &[C],
     calls: &str,
-) -> Result<String, NoAnswer> {
-    let calls = parse::calls(memory.alloc, calls)?;
+) {
+    match parse::calls(memory.alloc, calls) {
+        Ok(calls) => with_calls(memory, answer, decoder, units, &calls),
+        Err(error) => answer.fail(error),
+    }
+}
+
+fn with_calls<C: Width>(
+    memory: Memory<'_>,
+    answer: &mut Answer,
+    decoder: Decoder,
+    units: &[C],
+    calls: &[End],
+) {
     match decoder {
-        Decoder::Strict => C::items(memory, units, &calls),
-        Decoder::Lossy => C::lossy(memory.alloc, units, &calls),
-        Decoder::LossyHints => C::lossy_hints(memory.alloc, units, &calls),
-        Decoder::Under(policy) => C::under(memory, units, &calls, policy),
+        Decoder::Strict => C::items(memory, answer, units, calls),
+        Decoder::Lossy => C::lossy(answer, units, calls),
+        Decoder::LossyHints => C::lossy_hints(answer, units, calls),
+        Decoder::Under(policy) => C::under(memory, answer, units, calls, policy),
     }
 }

@@ -8,7 +8,7 @@
 //! - `v` for the vector of the text's characters, made from a text with a spare capacity of three units.
 //!
 //! The answer is the units, and after a `#` the number of requests.
-use crate::groups::outcomes::{finished, handed_back};
+use crate::groups::outcomes::handed_back;
 use crate::groups::ucstring::copied;
 use crate::groups::{text_calls, ustring_calls};
 use widestring::{U32CString, U32String, Utf32String};
@@ -16,27 +16,11 @@ use widestring_replay::parse::{self, Memory, NoAnswer};
 use widestring_replay::show::Answer;
 use widestring_testing::Heap;
 
-// Returns the text of characters, with spare capacity.
-fn text<'a>(heap: &'a Heap, chars: &[char]) -> Result<Utf32String<&'a Heap>, NoAnswer> {
-    let mut text = Utf32String::with_capacity(heap, chars.len().saturating_add(3))?;
-    match text.extend_char_refs(chars) {
-        Ok(()) => Ok(text),
-        Err(_) => Err(NoAnswer::OutOfMemory),
-    }
-}
-
 // Adds the characters of a text. If the copy fails to allocate, the text must be returned unchanged.
-fn characters<'a>(
-    answer: &mut Answer,
-    text: Utf32String<&'a Heap>,
-    chars: &[char],
-) -> Result<(), NoAnswer> {
+fn characters<'a>(answer: &mut Answer, text: Utf32String<&'a Heap>, chars: &[char]) {
     let capacity = text.capacity();
     match text.into_char_vec() {
-        Ok(vec) => {
-            add_characters(answer, &vec);
-            Ok(())
-        }
+        Ok(vec) => add_characters(answer, &vec),
         Err(text) => handed_back(
             answer,
             (text.capacity() == capacity) & has_chars(text.as_slice(), chars),
@@ -59,48 +43,81 @@ fn has_chars(units: &[u32], chars: &[char]) -> bool {
     well
 }
 
-// Sets a character of a text.
-fn set(answer: &mut Answer, text: &mut Utf32String<&Heap>, more: &str) -> Result<(), NoAnswer> {
+// Parses an offset, and the character after its colon.
+fn offset_and_char(more: &str) -> Result<(usize, char), NoAnswer> {
     let (at, c) = parse::parts(more)?;
-    let at = parse::value::<usize>(at)?;
-    if at >= text.len() {
-        return Err(NoAnswer::Unparsed);
+    Ok((parse::value(at)?, parse::value(c)?))
+}
+
+// Sets a character of a text.
+fn set_at(text: &mut Utf32String<&Heap>, answer: &mut Answer, at: usize, c: char) {
+    if at < text.len() {
+        text.set_char(at, c);
+        answer.units(text.as_slice());
+    } else {
+        answer.fail(NoAnswer::Unparsed);
     }
-    text.set_char(at, parse::value(c)?);
-    answer.units(text.as_slice());
-    Ok(())
+}
+
+// Sets a character of a text, given its offset and the character.
+fn set(text: &mut Utf32String<&Heap>, answer: &mut Answer, more: &str) {
+    match offset_and_char(more) {
+        Ok((at, c)) => set_at(text, answer, at, c),
+        Err(error) => answer.fail(error),
+    }
 }
 
 // Adds the lengths that a drain of the first characters reports, and between them the character that it returns at the
 // end.
-fn lengths(
-    answer: &mut Answer,
-    text: &mut Utf32String<&Heap>,
-    count: &str,
-) -> Result<(), NoAnswer> {
-    let count = parse::value::<usize>(count)?;
-    if text.as_utfstr().get(..count).is_none() {
-        return Err(NoAnswer::Unparsed);
+fn lengths(text: &mut Utf32String<&Heap>, answer: &mut Answer, count: &str) {
+    match parse::value::<usize>(count) {
+        Ok(count) if text.as_utfstr().get(..count).is_some() => {
+            let mut drain = text.drain(..count);
+            answer.count(Some(drain.len()));
+            answer.character(drain.next_back());
+            answer.count(Some(drain.len()));
+        }
+        Ok(_) => answer.fail(NoAnswer::Unparsed),
+        Err(error) => answer.fail(error),
     }
-    let mut drain = text.drain(..count);
-    answer.count(Some(drain.len()));
-    answer.character(drain.next_back());
-    answer.count(Some(drain.len()));
-    Ok(())
 }
 
-// Makes a call of a text of these characters.
+// Makes a call of a text of these characters, and adds what it returns and the number of its requests.
 fn of_text<'a>(
-    answer: &mut Answer,
+    memory: Memory<'a>,
     mut text: Utf32String<&'a Heap>,
+    answer: &mut Answer,
     chars: &[char],
-    kind: u8,
-    more: &str,
-) -> Result<(), NoAnswer> {
+    (kind, more): (u8, &str),
+) {
+    let left = memory.heap.left();
     match kind {
-        b's' => set(answer, &mut text, more),
-        b'l' => lengths(answer, &mut text, more),
+        b's' => set(&mut text, answer, more),
+        b'l' => lengths(&mut text, answer, more),
         _ => characters(answer, text, chars),
+    }
+    answer.requests(memory.requests_since(left));
+}
+
+// Makes a call of the text that becomes these characters.
+fn of_filled<'a>(
+    memory: Memory<'a>,
+    mut text: Utf32String<&'a Heap>,
+    answer: &mut Answer,
+    chars: &[char],
+    call: (u8, &str),
+) {
+    match text.extend_char_refs(chars) {
+        Ok(()) => of_text(memory, text, answer, chars, call),
+        Err(_) => answer.fail(NoAnswer::OutOfMemory),
+    }
+}
+
+// Makes a call of the text of these characters, which has spare capacity.
+fn by_text(memory: Memory<'_>, answer: &mut Answer, chars: &[char], call: (u8, &str)) {
+    match Utf32String::with_capacity(memory.heap, chars.len().saturating_add(3)) {
+        Ok(text) => of_filled(memory, text, answer, chars, call),
+        Err(_) => answer.fail(NoAnswer::OutOfMemory),
     }
 }
 
@@ -123,12 +140,7 @@ static MAKERS: [(&str, Maker); 5] = [
 ];
 
 // Makes a string of characters, and adds its units.
-fn of_chars(
-    heap: &Heap,
-    answer: &mut Answer,
-    chars: &[char],
-    maker: Maker,
-) -> Result<(), NoAnswer> {
+fn of_chars(heap: &Heap, answer: &mut Answer, chars: &[char], maker: Maker) {
     match maker {
         Maker::Units => ustring_calls::shown(answer, U32String::from_chars(heap, chars)),
         Maker::Text => text_calls::shown(answer, Utf32String::from_chars(heap, chars)),
@@ -137,41 +149,37 @@ fn of_chars(
         Maker::ContentsUnchecked if chars.len() <= 1 => {
             copied(answer, U32CString::from_chars_unchecked(heap, chars))
         }
-        Maker::ContentsUnchecked => Err(NoAnswer::Unparsed),
+        Maker::ContentsUnchecked => answer.fail(NoAnswer::Unparsed),
     }
 }
 
-// Returns the answer: what a call of a text of these characters returns.
-fn answer_of_text(
-    memory: Memory<'_>,
-    chars: &[char],
-    kind: u8,
-    more: &str,
-) -> Result<String, NoAnswer> {
-    let text = text(memory.heap, chars)?;
-    let mut answer = Answer::new(memory.alloc);
-    let left = memory.heap.left();
-    let called = of_text(&mut answer, text, chars, kind, more);
-    answer.requests(memory.requests_since(left));
-    finished(answer, called)
+// Makes a string of characters, and adds its units and the number of requests.
+fn by_maker(memory: Memory<'_>, answer: &mut Answer, chars: &[char], question: &str) {
+    match parse::named(&MAKERS, question) {
+        Ok(maker) => {
+            let left = memory.heap.left();
+            of_chars(memory.heap, answer, chars, maker);
+            answer.requests(memory.requests_since(left));
+        }
+        Err(error) => answer.fail(error),
+    }
 }
 
-// Returns the answer: the string of these characters.
-fn answer_of_chars(memory: Memory<'_>, chars: &[char], question: &str) -> Result<String, NoAnswer> {
-    let maker = parse::named(&MAKERS, question)?;
-    let mut answer = Answer::new(memory.alloc);
-    let left = memory.heap.left();
-    let called = of_chars(memory.heap, &mut answer, chars, maker);
-    answer.requests(memory.requests_since(left));
-    finished(answer, called)
+// Answers a question about these characters.
+fn about(memory: Memory<'_>, answer: &mut Answer, chars: &[char], question: &str) {
+    match parse::kind(question) {
+        Ok((kind, more)) if matches!(kind, b's' | b'l' | b'v') => {
+            by_text(memory, answer, chars, (kind, more))
+        }
+        Ok(_) => by_maker(memory, answer, chars, question),
+        Err(error) => answer.fail(error),
+    }
 }
 
-/// Returns the answer to a question about a call by characters.
-pub fn made(memory: Memory<'_>, list: &str, question: &str) -> Result<String, NoAnswer> {
-    let (kind, more) = parse::kind(question)?;
-    let chars = parse::list::<char>(memory.alloc, list)?;
-    match kind {
-        b's' | b'l' | b'v' => answer_of_text(memory, &chars, kind, more),
-        _ => answer_of_chars(memory, &chars, question),
+/// Answers a question about a call by characters.
+pub fn made(memory: Memory<'_>, answer: &mut Answer, list: &str, question: &str) {
+    match parse::list::<char>(memory.alloc, list) {
+        Ok(chars) => about(memory, answer, &chars, question),
+        Err(error) => answer.fail(error),
     }
 }

@@ -59,25 +59,55 @@ fn parts_after_offset(kind: u8, more: &str) -> Result<(usize, usize, &str), NoAn
     }
 }
 
-fn text_of(alloc: Global, chars: &[char]) -> Result<String, AllocError> {
-    let mut text = String::new(alloc);
+// Appends characters.
+fn push_chars(text: &mut String, chars: &[char]) -> Result<(), AllocError> {
     for c in chars {
         text.push(*c)?;
     }
-    Ok(text)
+    Ok(())
+}
+
+fn text_of(alloc: Global, chars: &[char]) -> Result<String, NoAnswer> {
+    let mut text = String::new(alloc);
+    match push_chars(&mut text, chars) {
+        Ok(()) => Ok(text),
+        Err(_) => Err(NoAnswer::OutOfMemory),
+    }
+}
+
+// The letter of an edit, and its arguments: two offsets, and characters, which are not parsed.
+type Parts<'q> = (u8, usize, usize, &'q str);
+
+// Splits an edit into its letter and its arguments.
+fn split_edit(word: &str) -> Result<Parts<'_>, NoAnswer> {
+    let (kind, more) = parse::kind(word)?;
+    let (first, second, chars) = parts_of(kind, more)?;
+    Ok((kind, first, second, chars))
+}
+
+fn with_chars(
+    alloc: Global,
+    (kind, first, second, _): Parts<'_>,
+    chars: Vec<char>,
+) -> Result<Written, NoAnswer> {
+    match text_of(alloc, &chars) {
+        Ok(text) => Ok(Written {
+            kind,
+            first,
+            second,
+            text,
+            chars,
+        }),
+        Err(error) => Err(error),
+    }
 }
 
 fn parse_edit(alloc: Global, word: &str) -> Result<Written, NoAnswer> {
-    let (kind, more) = parse::kind(word)?;
-    let (first, second, chars) = parts_of(kind, more)?;
-    let chars = parse::list::<char>(alloc, chars)?;
-    Ok(Written {
-        kind,
-        first,
-        second,
-        text: text_of(alloc, &chars)?,
-        chars,
-    })
+    let parts = split_edit(word)?;
+    match parse::list::<char>(alloc, parts.3) {
+        Ok(chars) => with_chars(alloc, parts, chars),
+        Err(error) => Err(error),
+    }
 }
 
 impl Written {
@@ -133,16 +163,27 @@ fn run_after_one<T: TextEdit>(
 }
 
 // Makes all edits of a text in one call.
+fn edit_text<T: TextEdit + Drop>(
+    alloc: Global,
+    mut text: T,
+    edits: &[Edit<'_>],
+) -> Result<Edited<T>, NoAnswer> {
+    let mut replies = Vec::new(alloc);
+    match run_after_one(alloc, &mut text, edits, &mut replies) {
+        Ok(()) => Ok(Edited { text, replies }),
+        Err(error) => Err(error),
+    }
+}
+
+// Makes all edits of a text in one call, if there is one.
 fn edit_all<T: TextEdit + Drop>(
     alloc: Global,
     text: Result<T, OutOfMemory>,
     edits: &[Edit<'_>],
 ) -> Result<Edited<T>, NoAnswer> {
-    let mut text = text?;
-    let mut replies = Vec::new(alloc);
-    match run_after_one(alloc, &mut text, edits, &mut replies) {
-        Ok(()) => Ok(Edited { text, replies }),
-        Err(error) => Err(error),
+    match text {
+        Ok(text) => edit_text(alloc, text, edits),
+        Err(OutOfMemory) => Err(NoAnswer::OutOfMemory),
     }
 }
 
@@ -186,8 +227,10 @@ fn reply_together<T: TextEdit, U: TextEdit>(
 ) -> Result<bool, NoAnswer> {
     let mut ours = Vec::new(alloc);
     let mut theirs = Vec::new(alloc);
-    run_together(alloc, first, second, edits, &mut ours, &mut theirs)?;
-    Ok((ours.as_slice() == replies) & (theirs.as_slice() == replies))
+    match run_together(alloc, first, second, edits, &mut ours, &mut theirs) {
+        Ok(()) => Ok((ours.as_slice() == replies) & (theirs.as_slice() == replies)),
+        Err(error) => Err(error),
+    }
 }
 
 // Returns whether two texts make these replies to edits in calls of their own.
@@ -200,14 +243,23 @@ fn reply_one_by_one<T: TextEdit, U: TextEdit>(
 ) -> Result<bool, NoAnswer> {
     let mut ours = Vec::new(alloc);
     let mut theirs = Vec::new(alloc);
-    run_one_by_one(alloc, first, second, edits, &mut ours, &mut theirs)?;
-    Ok((ours.as_slice() == replies) & (theirs.as_slice() == replies))
+    match run_one_by_one(alloc, first, second, edits, &mut ours, &mut theirs) {
+        Ok(()) => Ok((ours.as_slice() == replies) & (theirs.as_slice() == replies)),
+        Err(error) => Err(error),
+    }
+}
+
+fn with_index(alloc: Global, text: Utf16String) -> Result<Marked16, NoAnswer> {
+    match Marked16::new(alloc, text) {
+        Ok(marked) => Ok(marked),
+        Err(_) => Err(NoAnswer::OutOfMemory),
+    }
 }
 
 fn marked(alloc: Global, text: &str) -> Result<Marked16, NoAnswer> {
-    match Marked16::new(alloc, Utf16String::from_str(alloc, text)?) {
-        Ok(marked) => Ok(marked),
-        Err(_) => Err(NoAnswer::OutOfMemory),
+    match Utf16String::from_str(alloc, text) {
+        Ok(text) => with_index(alloc, text),
+        Err(OutOfMemory) => Err(NoAnswer::OutOfMemory),
     }
 }
 
@@ -245,34 +297,73 @@ fn has_offsets(marked: &Marked16, wide: &Utf32String) -> bool {
         .is_none()
 }
 
-// Returns the answer if all strings agree.
+// Adds the replies, what they leave and the offset index, whose marks these are.
 fn agreed(
-    alloc: Global,
+    answer: &mut Answer,
     replies: &[Reply],
     marked: Marked16,
     wide: &Utf32String,
-) -> Result<String, NoAnswer> {
-    let marks = Vec::from_slice(alloc, marked.marks())?;
-    let mut answer = Answer::new(alloc);
+    marks: &[usize],
+) {
     for reply in replies {
-        show(&mut answer, reply);
+        show(answer, reply);
         answer.part();
     }
     answer.units(marked.into_utfstring().as_slice());
     answer.part();
     answer.units(wide.as_slice());
     answer.part();
-    for mark in &marks {
+    for mark in marks {
         answer.number(u32::try_from(*mark).ok());
     }
-    answer.finish()
 }
 
-// Returns the answer if two strings differ.
-fn disagreed(alloc: Global) -> Result<String, NoAnswer> {
-    let mut answer = Answer::new(alloc);
-    answer.word("?");
-    answer.finish()
+// Adds what strings leave that agree.
+fn left(
+    alloc: Global,
+    answer: &mut Answer,
+    replies: &[Reply],
+    marked: Marked16,
+    wide: &Utf32String,
+) {
+    match Vec::from_slice(alloc, marked.marks()) {
+        Ok(marks) => agreed(answer, replies, marked, wide, &marks),
+        Err(_) => answer.fail(NoAnswer::OutOfMemory),
+    }
+}
+
+// Returns whether a text has these units.
+fn is_text<C: ReportedUnit>(text: &UtfString<C>, units: &[C]) -> bool {
+    text.as_slice() == units
+}
+
+// Returns whether two strings of both widths reply and become the same when all edits are made in one call.
+fn agree_together(
+    alloc: Global,
+    first: &mut Utf16String,
+    second: &mut Utf32String,
+    edits: &[Edit<'_>],
+    narrow: &Edited<Utf16String>,
+    wide: &Edited<Utf32String>,
+) -> Result<bool, NoAnswer> {
+    let mut same = reply_together(alloc, first, second, edits, &narrow.replies)?;
+    same &= is_text(&narrow.text, first.as_slice());
+    Ok(same & is_text(&wide.text, second.as_slice()))
+}
+
+// Returns whether a string and one in UTF-32 of a text reply and become the same when all edits are made in one call.
+fn agree_with_wide(
+    alloc: Global,
+    text: &str,
+    first: &mut Utf16String,
+    edits: &[Edit<'_>],
+    narrow: &Edited<Utf16String>,
+    wide: &Edited<Utf32String>,
+) -> Result<bool, NoAnswer> {
+    match Utf32String::from_str(alloc, text) {
+        Ok(mut second) => agree_together(alloc, first, &mut second, edits, narrow, wide),
+        Err(OutOfMemory) => Err(NoAnswer::OutOfMemory),
+    }
 }
 
 // Returns whether strings of both widths reply and become the same when all edits are made in one call.
@@ -283,15 +374,10 @@ fn agree_in_one_call(
     narrow: &Edited<Utf16String>,
     wide: &Edited<Utf32String>,
 ) -> Result<bool, NoAnswer> {
-    let mut first = Utf16String::from_str(alloc, text)?;
-    let mut second = Utf32String::from_str(alloc, text)?;
-    let alike = reply_together(alloc, &mut first, &mut second, edits, &narrow.replies)?;
-    Ok(alike & is_text(&narrow.text, first.as_slice()) & is_text(&wide.text, second.as_slice()))
-}
-
-// Returns whether a text has these units.
-fn is_text<C: ReportedUnit>(text: &UtfString<C>, units: &[C]) -> bool {
-    text.as_slice() == units
+    match Utf16String::from_str(alloc, text) {
+        Ok(mut first) => agree_with_wide(alloc, text, &mut first, edits, narrow, wide),
+        Err(OutOfMemory) => Err(NoAnswer::OutOfMemory),
+    }
 }
 
 // Returns whether a string with an offset index and one in UTF-32 reply and become the same, and the index is right.
@@ -309,77 +395,174 @@ fn agree_with_marks(
     Ok(same & has_offsets(first, second))
 }
 
-// Returns the answer of a string with an offset index that is edited one by one beside one in UTF-32. It is a `?` if
-// they do not reply the same, or become another text.
+// Edits a string with an offset index one by one beside one in UTF-32, and adds what they leave. Adds a `?` if they do
+// not reply the same, or become another text.
+fn beside(
+    alloc: Global,
+    answer: &mut Answer,
+    mut first: Marked16,
+    second: &mut Utf32String,
+    edits: &[Edit<'_>],
+    narrow: &Edited<Utf16String>,
+    wide: &Edited<Utf32String>,
+) {
+    match agree_with_marks(alloc, &mut first, second, edits, narrow, wide) {
+        Ok(true) => left(alloc, answer, &narrow.replies, first, second),
+        Ok(false) => answer.word("?"),
+        Err(error) => answer.fail(error),
+    }
+}
+
+// Edits a string of a text with an offset index beside one in UTF-32, and adds what they leave.
+fn beside_wide(
+    alloc: Global,
+    answer: &mut Answer,
+    text: &str,
+    second: &mut Utf32String,
+    edits: &[Edit<'_>],
+    narrow: &Edited<Utf16String>,
+    wide: &Edited<Utf32String>,
+) {
+    match marked(alloc, text) {
+        Ok(first) => beside(alloc, answer, first, second, edits, narrow, wide),
+        Err(error) => answer.fail(error),
+    }
+}
+
+// Edits strings of a text, one of them with an offset index, and adds what they leave.
 fn with_marks(
     alloc: Global,
+    answer: &mut Answer,
     text: &str,
     edits: &[Edit<'_>],
     narrow: &Edited<Utf16String>,
     wide: &Edited<Utf32String>,
-) -> Result<String, NoAnswer> {
-    let mut first = marked(alloc, text)?;
-    let mut second = Utf32String::from_str(alloc, text)?;
-    match agree_with_marks(alloc, &mut first, &mut second, edits, narrow, wide) {
-        Ok(true) => agreed(alloc, &narrow.replies, first, &second),
-        Ok(false) => disagreed(alloc),
+) {
+    match Utf32String::from_str(alloc, text) {
+        Ok(mut second) => beside_wide(alloc, answer, text, &mut second, edits, narrow, wide),
+        Err(OutOfMemory) => answer.fail(NoAnswer::OutOfMemory),
+    }
+}
+
+// Adds what edits reply and leave if strings of both widths reply and become the same in each way, and else a `?`.
+fn compared(
+    alloc: Global,
+    answer: &mut Answer,
+    text: &str,
+    edits: &[Edit<'_>],
+    narrow: &Edited<Utf16String>,
+    wide: &Edited<Utf32String>,
+) {
+    if narrow.replies != wide.replies {
+        answer.word("?");
+        return;
+    }
+    match agree_in_one_call(alloc, text, edits, narrow, wide) {
+        Ok(true) => with_marks(alloc, answer, text, edits, narrow, wide),
+        Ok(false) => answer.word("?"),
+        Err(error) => answer.fail(error),
+    }
+}
+
+// Adds what edits of a text reply and leave, given what they make of it in UTF-16.
+fn with_narrow(
+    alloc: Global,
+    answer: &mut Answer,
+    text: &str,
+    edits: &[Edit<'_>],
+    narrow: &Edited<Utf16String>,
+) {
+    match edit_all(alloc, Utf32String::from_str(alloc, text), edits) {
+        Ok(wide) => compared(alloc, answer, text, edits, narrow, &wide),
+        Err(error) => answer.fail(error),
+    }
+}
+
+// Adds what edits of a text reply and leave.
+fn of_text(alloc: Global, answer: &mut Answer, text: &str, edits: &[Edit<'_>]) {
+    match edit_all(alloc, Utf16String::from_str(alloc, text), edits) {
+        Ok(narrow) => with_narrow(alloc, answer, text, edits, &narrow),
+        Err(error) => answer.fail(error),
+    }
+}
+
+// Parses an edit, and appends it.
+fn push_parsed(alloc: Global, words: &mut Vec<Written>, word: &str) -> Result<(), NoAnswer> {
+    match words.push(parse_edit(alloc, word)?) {
+        Ok(()) => Ok(()),
+        Err(_) => Err(NoAnswer::OutOfMemory),
+    }
+}
+
+// Parses edits, separated by `/`, and appends them.
+fn push_all_parsed(
+    alloc: Global,
+    words: &mut Vec<Written>,
+    question: &str,
+) -> Result<(), NoAnswer> {
+    if question.is_empty() {
+        return Ok(());
+    }
+    for word in question.split('/') {
+        push_parsed(alloc, words, word)?;
+    }
+    Ok(())
+}
+
+// Parses edits.
+fn parse_edits(alloc: Global, question: &str) -> Result<Vec<Written>, NoAnswer> {
+    let mut words = Vec::new(alloc);
+    match push_all_parsed(alloc, &mut words, question) {
+        Ok(()) => Ok(words),
         Err(error) => Err(error),
     }
 }
 
-// Returns the answer if strings of both widths reply and become the same in each way.
-fn compared(
-    alloc: Global,
-    text: &str,
-    edits: &[Edit<'_>],
-    narrow: &Edited<Utf16String>,
-    wide: &Edited<Utf32String>,
-) -> Result<String, NoAnswer> {
-    if narrow.replies != wide.replies {
-        return disagreed(alloc);
+// Appends the edits that are written.
+fn push_edits<'a>(edits: &mut Vec<Edit<'a>>, words: &'a [Written]) -> Result<(), NoAnswer> {
+    for word in words {
+        edits.push(word.edit()?)?;
     }
-    if !agree_in_one_call(alloc, text, edits, narrow, wide)? {
-        return disagreed(alloc);
-    }
-    with_marks(alloc, text, edits, narrow, wide)
-}
-
-// Returns the answer: what the edits make of a text.
-fn made(alloc: Global, text: &str, edits: &[Edit<'_>]) -> Result<String, NoAnswer> {
-    let narrow = edit_all(alloc, Utf16String::from_str(alloc, text), edits)?;
-    let wide = edit_all(alloc, Utf32String::from_str(alloc, text), edits)?;
-    compared(alloc, text, edits, &narrow, &wide)
-}
-
-// Parses edits, separated by `/`.
-fn parse_edits(alloc: Global, question: &str) -> Result<Vec<Written>, NoAnswer> {
-    let mut words = Vec::new(alloc);
-    if question.is_empty() {
-        return Ok(words);
-    }
-    for word in question.split('/') {
-        words.push(parse_edit(alloc, word)?)?;
-    }
-    Ok(words)
+    Ok(())
 }
 
 // Returns the edits that are written.
 fn edits_of(alloc: Global, words: &[Written]) -> Result<Vec<Edit<'_>>, NoAnswer> {
     let mut edits = Vec::new(alloc);
-    for word in words {
-        edits.push(word.edit()?)?;
+    match push_edits(&mut edits, words) {
+        Ok(()) => Ok(edits),
+        Err(error) => Err(error),
     }
-    Ok(edits)
 }
 
 // Parses the characters of a text.
 fn parse_text(alloc: Global, list: &str) -> Result<String, NoAnswer> {
-    Ok(text_of(alloc, &parse::list::<char>(alloc, list)?)?)
+    match parse::list::<char>(alloc, list) {
+        Ok(chars) => text_of(alloc, &chars),
+        Err(error) => Err(error),
+    }
 }
 
-/// Returns the answer: what edits reply, and what they leave.
-pub fn replies(alloc: Global, list: &str, question: &str) -> Result<String, NoAnswer> {
-    let words = parse_edits(alloc, question)?;
-    let edits = edits_of(alloc, &words)?;
-    made(alloc, &parse_text(alloc, list)?, &edits)
+// Adds what edits of the text of a list reply and leave.
+fn of_list(alloc: Global, answer: &mut Answer, list: &str, edits: &[Edit<'_>]) {
+    match parse_text(alloc, list) {
+        Ok(text) => of_text(alloc, answer, &text, edits),
+        Err(error) => answer.fail(error),
+    }
+}
+
+// Adds what edits reply and leave that are written.
+fn of_written(alloc: Global, answer: &mut Answer, list: &str, words: &[Written]) {
+    match edits_of(alloc, words) {
+        Ok(edits) => of_list(alloc, answer, list, &edits),
+        Err(error) => answer.fail(error),
+    }
+}
+
+/// Adds what edits reply, and what they leave.
+pub fn replies(alloc: Global, answer: &mut Answer, list: &str, question: &str) {
+    match parse_edits(alloc, question) {
+        Ok(words) => of_written(alloc, answer, list, &words),
+        Err(error) => answer.fail(error),
+    }
 }

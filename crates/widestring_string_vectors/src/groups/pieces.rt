@@ -36,6 +36,14 @@ pub fn items_called(name: &str) -> Option<(How, &str)> {
     Some((How::Make, kind))
 }
 
+// Appends units.
+fn push_units<C: Copy>(vec: &mut Vec<C, &Heap>, units: &[C]) -> Result<(), NoAnswer> {
+    match vec.extend_from_slice(units) {
+        Ok(()) => Ok(()),
+        Err(_) => Err(NoAnswer::OutOfMemory),
+    }
+}
+
 /// Returns the vector of units, on the counted heap, with this spare capacity.
 pub fn vec_on<'a, C: Copy>(
     heap: &'a Heap,
@@ -43,9 +51,9 @@ pub fn vec_on<'a, C: Copy>(
     spare: usize,
 ) -> Result<Vec<C, &'a Heap>, NoAnswer> {
     let mut copy = Vec::with_capacity(heap, units.len().saturating_add(spare))?;
-    match copy.extend_from_slice(units) {
+    match push_units(&mut copy, units) {
         Ok(()) => Ok(copy),
-        Err(_) => Err(NoAnswer::OutOfMemory),
+        Err(error) => Err(error),
     }
 }
 
@@ -55,12 +63,18 @@ pub fn counted<'a, C: Copy + FromHex + Drop>(
     list: &str,
     spare: usize,
 ) -> Result<Vec<C, &'a Heap>, NoAnswer> {
-    vec_on(memory.heap, &parse::list(memory.alloc, list)?, spare)
+    match parse::list(memory.alloc, list) {
+        Ok(units) => vec_on(memory.heap, &units, spare),
+        Err(error) => Err(error),
+    }
 }
 
 /// Returns the text of a list of units.
 pub fn text<C: FaultUnit + FromHex>(alloc: Global, list: &str) -> Result<String, NoAnswer> {
-    text_of(alloc, &parse::list::<C>(alloc, list)?)
+    match parse::list::<C>(alloc, list) {
+        Ok(units) => text_of(alloc, &units),
+        Err(error) => Err(error),
+    }
 }
 
 /// Returns the character of a text that has exactly one.
@@ -76,7 +90,14 @@ pub fn utfstring<C: FaultUnit + FromHex>(
     alloc: Global,
     list: &str,
 ) -> Result<UtfString<C>, NoAnswer> {
-    match UtfString::from_vec(parse::list(alloc, list)?) {
+    match parse::list(alloc, list) {
+        Ok(units) => well_formed(units),
+        Err(error) => Err(error),
+    }
+}
+
+fn well_formed<C: FaultUnit>(units: Vec<C>) -> Result<UtfString<C>, NoAnswer> {
+    match UtfString::from_vec(units) {
         Ok(string) => Ok(string),
         Err(_) => Err(NoAnswer::Unparsed),
     }
@@ -90,7 +111,10 @@ pub trait Item<C>: Sized {
 
 impl<C: FaultUnit + FromHex> Item<C> for char {
     fn of(alloc: Global, list: &str) -> Result<char, NoAnswer> {
-        only_char(&text::<C>(alloc, list)?)
+        match text::<C>(alloc, list) {
+            Ok(text) => only_char(&text),
+            Err(error) => Err(error),
+        }
     }
 }
 
@@ -102,22 +126,35 @@ impl<C: FaultUnit + FromHex> Item<C> for String {
 
 impl<C: FaultUnit + FromHex> Item<C> for UString<C> {
     fn of(alloc: Global, list: &str) -> Result<UString<C>, NoAnswer> {
-        Ok(UString::from_vec(parse::list(alloc, list)?))
+        match parse::list(alloc, list) {
+            Ok(units) => Ok(UString::from_vec(units)),
+            Err(error) => Err(error),
+        }
     }
 }
 
 impl<C: FaultUnit + FromHex> Item<C> for BoxedUStr<C> {
     fn of(alloc: Global, list: &str) -> Result<BoxedUStr<C>, NoAnswer> {
-        match UString::from_vec(parse::list(alloc, list)?).into_boxed_ustr() {
-            Ok(boxed) => Ok(boxed),
-            Err(_) => Err(NoAnswer::OutOfMemory),
+        match parse::list(alloc, list) {
+            Ok(units) => boxed_units(units),
+            Err(error) => Err(error),
         }
+    }
+}
+
+fn boxed_units<C: FaultUnit>(units: Vec<C>) -> Result<BoxedUStr<C>, NoAnswer> {
+    match UString::from_vec(units).into_boxed_ustr() {
+        Ok(boxed) => Ok(boxed),
+        Err(_) => Err(NoAnswer::OutOfMemory),
     }
 }
 
 impl<C: FaultUnit + FromHex> Item<C> for UCString<C> {
     fn of(alloc: Global, list: &str) -> Result<UCString<C>, NoAnswer> {
-        c_string(parse::list(alloc, list)?)
+        match parse::list(alloc, list) {
+            Ok(units) => c_string(units),
+            Err(error) => Err(error),
+        }
     }
 }
 
@@ -129,10 +166,17 @@ impl<C: FaultUnit + FromHex> Item<C> for UtfString<C> {
 
 impl<C: FaultUnit + FromHex> Item<C> for BoxedUtfStr<C> {
     fn of(alloc: Global, list: &str) -> Result<BoxedUtfStr<C>, NoAnswer> {
-        match utfstring(alloc, list)?.into_boxed_utfstr() {
-            Ok(boxed) => Ok(boxed),
-            Err(_) => Err(NoAnswer::OutOfMemory),
+        match utfstring(alloc, list) {
+            Ok(text) => boxed_text(text),
+            Err(error) => Err(error),
         }
+    }
+}
+
+fn boxed_text<C: FaultUnit>(text: UtfString<C>) -> Result<BoxedUtfStr<C>, NoAnswer> {
+    match text.into_boxed_utfstr() {
+        Ok(boxed) => Ok(boxed),
+        Err(_) => Err(NoAnswer::OutOfMemory),
     }
 }
 
@@ -144,6 +188,18 @@ fn push<T: Drop>(items: &mut Vec<T>, item: T) -> Result<(), NoAnswer> {
     }
 }
 
+// Parses an item, and appends it.
+fn push_item<C, T: Item<C> + Drop>(
+    alloc: Global,
+    items: &mut Vec<T>,
+    list: &str,
+) -> Result<(), NoAnswer> {
+    match T::of(alloc, list) {
+        Ok(item) => push(items, item),
+        Err(error) => Err(error),
+    }
+}
+
 // Parses items, and appends them.
 fn push_items<C, T: Item<C> + Drop>(
     alloc: Global,
@@ -151,7 +207,7 @@ fn push_items<C, T: Item<C> + Drop>(
     lists: &str,
 ) -> Result<(), NoAnswer> {
     for list in lists.split(',') {
-        push(items, T::of(alloc, list)?)?;
+        push_item(alloc, items, list)?;
     }
     Ok(())
 }
@@ -217,16 +273,39 @@ impl<'a, C: FaultUnit> View<'a, UtfString<C>> for CowUtfStr<'a, C> {
     }
 }
 
+// Appends the view of an owned item.
+fn push_view<'a, T, V: View<'a, T> + Drop>(
+    views: &mut Vec<V>,
+    owner: &'a T,
+    index: usize,
+) -> Result<(), NoAnswer> {
+    match V::of(owner, index) {
+        Ok(view) => push(views, view),
+        Err(OutOfMemory) => Err(NoAnswer::OutOfMemory),
+    }
+}
+
+// Appends views of owned items.
+fn push_views<'a, T, V: View<'a, T> + Drop>(
+    views: &mut Vec<V>,
+    owners: &'a [T],
+) -> Result<(), NoAnswer> {
+    for (index, owner) in owners.iter().enumerate() {
+        push_view(views, owner, index)?;
+    }
+    Ok(())
+}
+
 /// Returns views of owned items.
 pub fn views<'a, T, V: View<'a, T> + Drop>(
     alloc: Global,
     owners: &'a [T],
 ) -> Result<Vec<V>, NoAnswer> {
     let mut views = Vec::new(alloc);
-    for (index, owner) in owners.iter().enumerate() {
-        views.push(V::of(owner, index)?)?;
+    match push_views(&mut views, owners) {
+        Ok(()) => Ok(views),
+        Err(error) => Err(error),
     }
-    Ok(views)
 }
 
 // Returns the units after those of an item, if they begin with it, and the length of the item.
@@ -235,8 +314,10 @@ fn after_item<'a, C: ReportedUnit>(
     units: &'a [C],
     item: &str,
 ) -> Result<(Option<&'a [C]>, usize), NoAnswer> {
-    let item = parse::list::<C>(alloc, item)?;
-    Ok((units.strip_prefix(item.as_slice()), item.len()))
+    match parse::list::<C>(alloc, item) {
+        Ok(item) => Ok((units.strip_prefix(item.as_slice()), item.len())),
+        Err(error) => Err(error),
+    }
 }
 
 // Returns whether `before` is followed by the first of the items, each whole, and as many as the capacity allows, but

@@ -1,6 +1,6 @@
 //! Calls of strings of text that have a name in a script, with their arguments after a space. README.md of
 //! `widestring_replay` describes the calls.
-use crate::groups::outcomes::{done, replaced};
+use crate::groups::outcomes::replaced;
 use crate::groups::pieces::{self, Text};
 use crate::groups::text_items::by_items;
 use crate::groups::ucstring::Made;
@@ -107,32 +107,47 @@ static WITH_ARGUMENT: [(&str, WithArgument); 9] = [
 fn write_str<C: ReportedUnit>(
     alloc: Global,
     string: &mut Text<'_, C>,
+    answer: &mut Answer,
     list: &str,
-) -> Result<(), NoAnswer> {
-    done(string.write_str(&pieces::text::<C>(alloc, list)?))
+) {
+    match pieces::text::<C>(alloc, list) {
+        Ok(text) => answer.done(string.write_str(&text)),
+        Err(error) => answer.fail(error),
+    }
 }
 
 fn of_str<'a, C: ReportedUnit>(
     memory: Memory<'a>,
     string: &mut Text<'a, C>,
+    answer: &mut Answer,
     list: &str,
-) -> Result<(), NoAnswer> {
-    let text = pieces::text::<C>(memory.alloc, list)?;
-    replaced(string, UtfString::from_str(memory.heap, &text))
+) {
+    match pieces::text::<C>(memory.alloc, list) {
+        Ok(text) => replaced(string, answer, UtfString::from_str(memory.heap, &text)),
+        Err(error) => answer.fail(error),
+    }
+}
+
+fn write_char<C: ReportedUnit>(string: &mut Text<'_, C>, answer: &mut Answer, c: &str) {
+    match parse::value(c) {
+        Ok(c) => answer.done(string.write_char(c)),
+        Err(error) => answer.fail(error),
+    }
 }
 
 // Makes a call that takes a capacity, or a number of units.
 fn with_capacity<'a, C: ReportedUnit>(
     heap: &'a Heap,
     string: &mut Text<'a, C>,
+    answer: &mut Answer,
     call: Capacity,
     number: usize,
-) -> Result<(), NoAnswer> {
+) {
     match call {
-        Capacity::New => replaced(string, UtfString::with_capacity(heap, number)),
-        Capacity::Reserve => done(string.reserve(number)),
-        Capacity::ReserveExact => done(string.reserve_exact(number)),
-        Capacity::ShrinkTo => done(string.shrink_to(number)),
+        Capacity::New => replaced(string, answer, UtfString::with_capacity(heap, number)),
+        Capacity::Reserve => answer.done(string.reserve(number)),
+        Capacity::ReserveExact => answer.done(string.reserve_exact(number)),
+        Capacity::ShrinkTo => answer.done(string.shrink_to(number)),
     }
 }
 
@@ -142,50 +157,65 @@ fn sized<'a, C: ReportedUnit>(
     string: &mut Text<'a, C>,
     answer: &mut Answer,
     call: Capacity,
-    number: usize,
-) -> Result<(), NoAnswer> {
-    let (len, before) = (string.len(), string.capacity());
-    with_capacity(heap, string, call, number)?;
-    answer.decided(has_capacity(call, number, len, before, string.capacity()));
-    Ok(())
+    number: &str,
+) {
+    match parse::value(number) {
+        Ok(number) => {
+            let (len, before) = (string.len(), string.capacity());
+            with_capacity(heap, string, answer, call, number);
+            answer.decided(has_capacity(call, number, len, before, string.capacity()));
+        }
+        Err(error) => answer.fail(error),
+    }
 }
 
 // Repeats a text.
 fn repeat<'a, C: ReportedUnit>(
     heap: &'a Heap,
     string: &mut Text<'a, C>,
-    times: usize,
-) -> Result<(), NoAnswer> {
-    let made = string.as_utfstr().repeat(heap, times);
-    replaced(string, made)
+    answer: &mut Answer,
+    times: &str,
+) {
+    match parse::value(times) {
+        Ok(times) => {
+            let made = string.as_utfstr().repeat(heap, times);
+            replaced(string, answer, made);
+        }
+        Err(error) => answer.fail(error),
+    }
 }
 
-// Replaces a range by a text.
+// Parses two offsets, and what follows the colon after each.
+fn offsets(more: &str) -> Result<(usize, usize, &str), NoAnswer> {
+    let (from, more) = parse::parts(more)?;
+    let (to, list) = parse::parts(more)?;
+    Ok((parse::value(from)?, parse::value(to)?, list))
+}
+
+// Replaces a range by the text of a list.
 fn splice<C: ReportedUnit>(
     alloc: Global,
     string: &mut Text<'_, C>,
+    answer: &mut Answer,
     more: &str,
-) -> Result<(), NoAnswer> {
-    let (from, more) = parse::parts(more)?;
-    let (to, list) = parse::parts(more)?;
-    let (from, to) = (parse::value::<usize>(from)?, parse::value::<usize>(to)?);
-    if string.as_utfstr().get(from..to).is_none() {
-        return Err(NoAnswer::Unparsed);
+) {
+    match offsets(more) {
+        Ok((from, to, list)) if string.as_utfstr().get(from..to).is_some() => {
+            match pieces::text::<C>(alloc, list) {
+                Ok(text) => answer.done(string.splice_str(from, to, &text)),
+                Err(error) => answer.fail(error),
+            }
+        }
+        Ok(_) => answer.fail(NoAnswer::Unparsed),
+        Err(error) => answer.fail(error),
     }
-    done(string.splice_str(from, to, &pieces::text::<C>(alloc, list)?))
 }
 
 /// Adds the units of a string that a call made.
-pub fn shown<C: FaultUnit>(
-    answer: &mut Answer,
-    made: Result<Text<'_, C>, OutOfMemory>,
-) -> Result<(), NoAnswer> {
+pub fn shown<C: FaultUnit>(answer: &mut Answer, made: Result<Text<'_, C>, OutOfMemory>) {
     match made {
-        Ok(made) => {
-            answer.units(made.as_slice());
-            Ok(())
-        }
-        Err(OutOfMemory) => Err(NoAnswer::OutOfMemory),
+        Ok(made) => answer.units(made.as_slice()),
+        Err(OutOfMemory) => answer.fail(NoAnswer::OutOfMemory),
     }
 }
 
@@ -209,93 +239,95 @@ fn kept<'a, C: ReportedUnit>(
 // Replaces a string by one that was made of the same units.
 fn converted<'a, C: ReportedUnit>(
     string: &mut Text<'a, C>,
+    answer: &mut Answer,
     made: Result<Text<'a, C>, UtfError<C, &'a Heap>>,
-) -> Result<(), NoAnswer> {
+) {
     match made {
-        Ok(made) => {
-            *string = made;
-            Ok(())
-        }
-        Err(_) => Err(NoAnswer::Unparsed),
+        Ok(made) => *string = made,
+        Err(_) => answer.fail(NoAnswer::Unparsed),
     }
+}
+
+// Makes a string of any units of a text, and a text of that without a check.
+fn through_ustring<'a, C: ReportedUnit>(given: Text<'a, C>) -> Text<'a, C> {
+    UtfString::from_ustring_unchecked(given.into_ustring())
+}
+
+// Makes a vector of a text, and a text of that without a check.
+fn through_vec<'a, C: ReportedUnit>(given: Text<'a, C>) -> Text<'a, C> {
+    UtfString::from_vec_unchecked(given.into_vec())
 }
 
 // Makes a call that converts a string to a type that holds the same units, and back.
 fn turn<'a, C: ReportedUnit>(
     heap: &'a Heap,
     string: &mut Text<'a, C>,
+    answer: &mut Answer,
     call: RoundTrip,
-) -> Result<(), NoAnswer> {
+) {
     let given = mem::replace(string, UtfString::new(heap));
     match call {
-        RoundTrip::Ustring => converted(string, UtfString::from_ustring(given.into_ustring())),
-        RoundTrip::Vec => converted(string, UtfString::from_vec(given.into_vec())),
-        RoundTrip::UstringUnchecked => {
-            *string = UtfString::from_ustring_unchecked(given.into_ustring());
-            Ok(())
-        }
-        RoundTrip::VecUnchecked => {
-            *string = UtfString::from_vec_unchecked(given.into_vec());
-            Ok(())
-        }
-        RoundTrip::Keep => replaced(string, kept(heap, given)),
-        RoundTrip::Boxed => boxed(string, given),
-        RoundTrip::Ucstring => of_c_string(string, UCString::from_vec(given.into_vec()), false),
+        RoundTrip::Ustring => converted(
+            string,
+            answer,
+            UtfString::from_ustring(given.into_ustring()),
+        ),
+        RoundTrip::Vec => converted(string, answer, UtfString::from_vec(given.into_vec())),
+        RoundTrip::UstringUnchecked => *string = through_ustring(given),
+        RoundTrip::VecUnchecked => *string = through_vec(given),
+        RoundTrip::Keep => replaced(string, answer, kept(heap, given)),
+        RoundTrip::Boxed => boxed(string, answer, given),
+        RoundTrip::Ucstring => of_c_string(string, answer, UCString::from_vec(given.into_vec())),
         RoundTrip::UcstringUnchecked => {
-            of_c_string(string, UCString::from_vec(given.into_vec()), true)
+            of_contents(string, answer, UCString::from_vec(given.into_vec()))
         }
     }
 }
 
 // Makes a box of a string, and a string of that.
-fn boxed<'a, C: ReportedUnit>(
-    string: &mut Text<'a, C>,
-    given: Text<'a, C>,
-) -> Result<(), NoAnswer> {
+fn boxed<'a, C: ReportedUnit>(string: &mut Text<'a, C>, answer: &mut Answer, given: Text<'a, C>) {
     match given.into_boxed_utfstr() {
-        Ok(boxed) => {
-            *string = boxed.into_utfstring();
-            Ok(())
-        }
+        Ok(boxed) => *string = boxed.into_utfstring(),
         Err(given) => {
             *string = given;
-            Err(NoAnswer::OutOfMemory)
+            answer.fail(NoAnswer::OutOfMemory);
         }
     }
 }
 
-// Makes a string of the contents of a C string, which are checked first.
-fn of_contents<'a, C: ReportedUnit>(ended: UCString<C, &'a Heap>) -> Result<Text<'a, C>, NoAnswer> {
-    let Ok(_contents) = UtfStr::from_ucstr(ended.as_ucstr()) else {
-        return Err(NoAnswer::Unparsed);
-    };
-    Ok(UtfString::from_ucstring_unchecked(ended))
-}
-
-// Makes a string of the contents of a C string, without the check of the call that has one.
+// Makes a string of the contents of a C string, which are checked first, without the check of the call that has one.
 fn unchecked<'a, C: ReportedUnit>(
     string: &mut Text<'a, C>,
+    answer: &mut Answer,
     ended: UCString<C, &'a Heap>,
-) -> Result<(), NoAnswer> {
-    match of_contents(ended) {
-        Ok(made) => {
-            *string = made;
-            Ok(())
-        }
-        Err(error) => Err(error),
+) {
+    match UtfStr::from_ucstr(ended.as_ucstr()) {
+        Ok(_contents) => *string = UtfString::from_ucstring_unchecked(ended),
+        Err(_) => answer.fail(NoAnswer::Unparsed),
+    }
+}
+
+// Makes a string of the contents of a C string of the same units, without a check by the call.
+fn of_contents<'a, C: ReportedUnit>(
+    string: &mut Text<'a, C>,
+    answer: &mut Answer,
+    ended: Made<'a, C>,
+) {
+    match ended {
+        Ok(ended) => unchecked(string, answer, ended),
+        Err(_) => answer.fail(NoAnswer::OutOfMemory),
     }
 }
 
 // Makes a string of a C string of the same units.
 fn of_c_string<'a, C: ReportedUnit>(
     string: &mut Text<'a, C>,
+    answer: &mut Answer,
     ended: Made<'a, C>,
-    is_unchecked: bool,
-) -> Result<(), NoAnswer> {
+) {
     match ended {
-        Ok(ended) if is_unchecked => unchecked(string, ended),
-        Ok(ended) => converted(string, UtfString::from_ucstring(ended)),
-        Err(_) => Err(NoAnswer::OutOfMemory),
+        Ok(ended) => converted(string, answer, UtfString::from_ucstring(ended)),
+        Err(_) => answer.fail(NoAnswer::OutOfMemory),
     }
 }
 
@@ -305,7 +337,7 @@ fn of_view<'a, C: ReportedUnit>(
     view: UtfStr<'_, C>,
     answer: &mut Answer,
     call: View,
-) -> Result<(), NoAnswer> {
+) {
     match call {
         View::ToUtfstring => shown(answer, view.to_utfstring(heap)),
         View::ToLowercase => shown(answer, view.to_lowercase(heap)),
@@ -321,12 +353,11 @@ fn emptied<'a, C: ReportedUnit>(heap: &'a Heap, string: &mut Text<'a, C>, answer
 }
 
 // Shrinks the capacity to the length, and adds whether it is then as the call's contract says.
-fn fitted<C: ReportedUnit>(string: &mut Text<'_, C>, answer: &mut Answer) -> Result<(), NoAnswer> {
+fn fitted<C: ReportedUnit>(string: &mut Text<'_, C>, answer: &mut Answer) {
     let before = string.capacity();
-    done(string.shrink_to_fit())?;
+    answer.done(string.shrink_to_fit());
     let after = string.capacity();
     answer.decided(has_capacity(Capacity::ShrinkTo, 0, string.len(), before, after));
-    Ok(())
 }
 
 // Makes a call that takes nothing.
@@ -334,18 +365,18 @@ fn alone<'a, C: ReportedUnit>(
     heap: &'a Heap,
     string: &mut Text<'a, C>,
     answer: &mut Answer,
-    call: NoArgument,
-) -> Result<(), NoAnswer> {
-    match call {
-        NoArgument::New => emptied(heap, string, answer),
-        NoArgument::AsUstr => answer.units(string.as_ustr().as_slice()),
-        NoArgument::CharCount => answer.count(Some(string.as_utfstr().char_count())),
-        NoArgument::ShrinkToFit => return fitted(string, answer),
-        NoArgument::TryClone => return shown(answer, string.try_clone()),
-        NoArgument::View(call) => return of_view(heap, string.as_utfstr(), answer, call),
-        NoArgument::RoundTrip(call) => return turn(heap, string, call),
+    name: &str,
+) {
+    match parse::named(&NO_ARGUMENT, name) {
+        Ok(NoArgument::New) => emptied(heap, string, answer),
+        Ok(NoArgument::AsUstr) => answer.units(string.as_ustr().as_slice()),
+        Ok(NoArgument::CharCount) => answer.count(Some(string.as_utfstr().char_count())),
+        Ok(NoArgument::ShrinkToFit) => fitted(string, answer),
+        Ok(NoArgument::TryClone) => shown(answer, string.try_clone()),
+        Ok(NoArgument::View(call)) => of_view(heap, string.as_utfstr(), answer, call),
+        Ok(NoArgument::RoundTrip(call)) => turn(heap, string, answer, call),
+        Err(error) => answer.fail(error),
     }
-    Ok(())
 }
 
 // Makes a call that takes something, and adds what it returns.
@@ -353,22 +384,32 @@ fn with_arguments<'a, C: ReportedUnit>(
     memory: Memory<'a>,
     string: &mut Text<'a, C>,
     answer: &mut Answer,
-    call: WithArgument,
+    name: &str,
     more: &str,
-) -> Result<(), NoAnswer> {
-    match call {
-        WithArgument::Capacity(call) => sized(
-            memory.heap,
-            string,
-            answer,
-            call,
-            parse::value(more)?,
-        ),
-        WithArgument::Repeat => repeat(memory.heap, string, parse::value(more)?),
-        WithArgument::WriteStr => write_str(memory.alloc, string, more),
-        WithArgument::FromStr => of_str(memory, string, more),
-        WithArgument::WriteChar => done(string.write_char(parse::value(more)?)),
-        WithArgument::SpliceStr => splice(memory.alloc, string, more),
+) {
+    let (heap, alloc) = (memory.heap, memory.alloc);
+    match parse::named(&WITH_ARGUMENT, name) {
+        Ok(WithArgument::Capacity(call)) => sized(heap, string, answer, call, more),
+        Ok(WithArgument::Repeat) => repeat(heap, string, answer, more),
+        Ok(WithArgument::WriteStr) => write_str(alloc, string, answer, more),
+        Ok(WithArgument::FromStr) => of_str(memory, string, answer, more),
+        Ok(WithArgument::WriteChar) => write_char(string, answer, more),
+        Ok(WithArgument::SpliceStr) => splice(alloc, string, answer, more),
+        Err(error) => answer.fail(error),
+    }
+}
+
+// Makes a call that takes items, or something else, and adds what it returns.
+fn with_more<'a, C: ReportedUnit>(
+    memory: Memory<'a>,
+    string: &mut Text<'a, C>,
+    answer: &mut Answer,
+    name: &str,
+    more: &str,
+) {
+    match pieces::items_called(name) {
+        Some((how, kind)) => by_items(memory, string, answer, how, kind, more),
+        None => with_arguments(memory, string, answer, name, more),
     }
 }
 
@@ -378,23 +419,9 @@ pub fn named<'a, C: ReportedUnit>(
     string: &mut Text<'a, C>,
     answer: &mut Answer,
     call: &str,
-) -> Result<(), NoAnswer> {
-    let Some((name, more)) = call.split_once(' ') else {
-        return alone(
-            memory.heap,
-            string,
-            answer,
-            parse::named(&NO_ARGUMENT, call)?,
-        );
-    };
-    match pieces::items_called(name) {
-        Some((how, kind)) => by_items(memory, string, how, kind, more),
-        None => with_arguments(
-            memory,
-            string,
-            answer,
-            parse::named(&WITH_ARGUMENT, name)?,
-            more,
-        ),
+) {
+    match call.split_once(' ') {
+        None => alone(memory.heap, string, answer, call),
+        Some((name, more)) => with_more(memory, string, answer, name, more),
     }
 }

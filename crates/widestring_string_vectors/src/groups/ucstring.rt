@@ -76,191 +76,160 @@ fn view_cut<C: FaultUnit>(answer: &mut Answer, units: &[C]) {
     }
 }
 
-// Adds what a C string holds. The error is the vector that an allocation failure returns, if it returns one.
-fn show<'a, C: ReportedUnit>(
-    answer: &mut Answer,
-    made: Made<'a, C>,
-) -> Result<(), Option<Vec<C, &'a Heap>>> {
+/// Adds a C string of a copy.
+pub fn copied<C: ReportedUnit>(answer: &mut Answer, made: Made<'_, C>) {
     match made {
         Ok(string) => answer.units(string.as_ucstr().as_slice_with_nul()),
         Err(UCStringError::ContainsNul(error)) => answer.inner_nul(error),
-        Err(UCStringError::OutOfMemory(back)) => return Err(back),
-    }
-    Ok(())
-}
-
-/// Adds a C string of a copy.
-pub fn copied<C: ReportedUnit>(answer: &mut Answer, made: Made<'_, C>) -> Result<(), NoAnswer> {
-    match show(answer, made) {
-        Ok(()) => Ok(()),
-        Err(None) => Err(NoAnswer::OutOfMemory),
-        Err(Some(_back)) => {
-            answer.word("?");
-            Ok(())
-        }
+        Err(UCStringError::OutOfMemory(None)) => answer.fail(NoAnswer::OutOfMemory),
+        Err(UCStringError::OutOfMemory(Some(_back))) => answer.word("?"),
     }
 }
 
 // Adds a C string of a vector of these units and this capacity, which an allocation failure must return.
-fn taken<C: ReportedUnit>(
-    answer: &mut Answer,
-    made: Made<'_, C>,
-    units: &[C],
-    capacity: usize,
-) -> Result<(), NoAnswer> {
-    match show(answer, made) {
-        Ok(()) => Ok(()),
-        Err(Some(back)) => handed_back(
+fn taken<C: ReportedUnit>(answer: &mut Answer, made: Made<'_, C>, units: &[C], capacity: usize) {
+    match made {
+        Ok(string) => answer.units(string.as_ucstr().as_slice_with_nul()),
+        Err(UCStringError::ContainsNul(error)) => answer.inner_nul(error),
+        Err(UCStringError::OutOfMemory(None)) => handed_back(answer, false),
+        Err(UCStringError::OutOfMemory(Some(back))) => handed_back(
             answer,
             (back.as_slice() == units) & (back.capacity() == capacity),
         ),
-        Err(None) => handed_back(answer, false),
     }
 }
 
-// Makes a C string of a vector.
+// Adds a C string of a vector of these units.
 fn of_vec<'a, C: ReportedUnit>(
+    answer: &mut Answer,
     check: Check,
     vec: Vec<C, &'a Heap>,
-) -> Result<Made<'a, C>, NoAnswer> {
+    units: &[C],
+) {
+    let capacity = vec.capacity();
     match check {
-        Check::Whole => Ok(UCString::from_vec(vec)),
-        Check::Truncate => Ok(UCString::from_vec_truncate(vec)),
-        Check::Unchecked if vec.len() <= 1 => Ok(UCString::from_vec_unchecked(vec)),
-        Check::Unchecked => Err(NoAnswer::Unparsed),
+        Check::Whole => taken(answer, UCString::from_vec(vec), units, capacity),
+        Check::Truncate => taken(answer, UCString::from_vec_truncate(vec), units, capacity),
+        Check::Unchecked if vec.len() <= 1 => {
+            taken(answer, UCString::from_vec_unchecked(vec), units, capacity)
+        }
+        Check::Unchecked => answer.fail(NoAnswer::Unparsed),
     }
 }
 
-// Adds a C string of a vector, and returns the number of requests.
+// Adds a C string of a vector, and the number of requests if the question asks for that.
 fn by_vec<C: ReportedUnit>(
     memory: Memory<'_>,
     answer: &mut Answer,
     check: Check,
     units: &[C],
-    spare: usize,
-) -> Result<u64, NoAnswer> {
-    let vec = pieces::vec_on(memory.heap, units, spare)?;
-    let capacity = vec.capacity();
-    let left = memory.heap.left();
-    taken(answer, of_vec(check, vec)?, units, capacity)?;
-    Ok(memory.requests_since(left))
+    asked: Asked,
+) {
+    match pieces::vec_on(memory.heap, units, asked.spare) {
+        Ok(vec) => {
+            let left = memory.heap.left();
+            of_vec(answer, check, vec, units);
+            count(memory, answer, left, asked.counts);
+        }
+        Err(error) => answer.fail(error),
+    }
+}
+
+// Adds the number of requests since `left` ones were still to be granted, if the question asks for that.
+fn count(memory: Memory<'_>, answer: &mut Answer, left: u64, counts: bool) {
+    if counts {
+        answer.requests(memory.requests_since(left));
+    }
 }
 
 // Adds a C string of nothing.
-fn of_nothing<C: ReportedUnit>(heap: &Heap, answer: &mut Answer) -> Result<(), NoAnswer> {
-    if UCString::<C, Global>::NUL_TERMINATOR != C::NUL {
-        return Err(NoAnswer::Unparsed);
+fn of_nothing<C: ReportedUnit>(heap: &Heap, answer: &mut Answer) {
+    if UCString::<C, Global>::NUL_TERMINATOR == C::NUL {
+        copied::<C>(answer, UCString::new(heap));
+    } else {
+        answer.fail(NoAnswer::Unparsed);
     }
-    copied::<C>(answer, UCString::new(heap))
 }
 
 // Adds a C string of a copy of units.
-fn of_view<C: ReportedUnit>(
-    heap: &Heap,
-    answer: &mut Answer,
-    check: Check,
-    view: UStr<'_, C>,
-) -> Result<(), NoAnswer> {
+fn of_view<C: ReportedUnit>(heap: &Heap, answer: &mut Answer, check: Check, view: UStr<'_, C>) {
     match check {
         Check::Whole => copied(answer, UCString::from_ustr(heap, view)),
         Check::Truncate => copied(answer, UCString::from_ustr_truncate(heap, view)),
         Check::Unchecked if view.len() <= 1 => {
             copied(answer, UCString::from_ustr_unchecked(heap, view))
         }
-        Check::Unchecked => Err(NoAnswer::Unparsed),
+        Check::Unchecked => answer.fail(NoAnswer::Unparsed),
     }
 }
 
 // Adds a C string of a text.
-fn of_text<C: ReportedUnit>(
-    heap: &Heap,
-    answer: &mut Answer,
-    check: Check,
-    text: &str,
-) -> Result<(), NoAnswer> {
+fn of_text<C: ReportedUnit>(heap: &Heap, answer: &mut Answer, check: Check, text: &str) {
     match check {
         Check::Whole => copied::<C>(answer, UCString::from_str(heap, text)),
         Check::Truncate => copied::<C>(answer, UCString::from_str_truncate(heap, text)),
         Check::Unchecked if C::text_len(text) <= 1 => {
             copied::<C>(answer, UCString::from_str_unchecked(heap, text))
         }
-        Check::Unchecked => Err(NoAnswer::Unparsed),
+        Check::Unchecked => answer.fail(NoAnswer::Unparsed),
     }
 }
 
-// Adds a C string of a literal.
-fn of_literal<C: ReportedUnit>(
-    heap: &Heap,
-    answer: &mut Answer,
-    text: &str,
-) -> Result<(), NoAnswer> {
-    copied::<C>(answer, UCString::from_str_literal(heap, text))
+// Adds a C string of the text that has these units.
+fn by_text<C: ReportedUnit>(memory: Memory<'_>, answer: &mut Answer, check: Check, units: &[C]) {
+    match text_of(memory.alloc, units) {
+        Ok(text) => of_text::<C>(memory.heap, answer, check, &text),
+        Err(error) => answer.fail(error),
+    }
+}
+
+// Adds a C string of the literal that has these units.
+fn by_literal<C: ReportedUnit>(memory: Memory<'_>, answer: &mut Answer, units: &[C]) {
+    match text_of(memory.alloc, units) {
+        Ok(text) => copied::<C>(answer, UCString::from_str_literal(memory.heap, &text)),
+        Err(error) => answer.fail(error),
+    }
 }
 
 // Adds a view, or a C string of a copy.
-fn by_slice<C: ReportedUnit>(
-    memory: Memory<'_>,
-    answer: &mut Answer,
-    maker: Maker,
-    units: &[C],
-) -> Result<(), NoAnswer> {
-    let (heap, alloc) = (memory.heap, memory.alloc);
+fn by_slice<C: ReportedUnit>(memory: Memory<'_>, answer: &mut Answer, maker: Maker, units: &[C]) {
     match maker {
         Maker::Slice => view(answer, units),
         Maker::SliceTruncate => view_cut(answer, units),
-        Maker::New => return of_nothing::<C>(heap, answer),
-        Maker::OfView(check) => return of_view(heap, answer, check, UStr::from_slice(units)),
-        Maker::OfText(check) => {
-            return of_text::<C>(heap, answer, check, &text_of(alloc, units)?);
-        }
-        Maker::Literal => return of_literal::<C>(heap, answer, &text_of(alloc, units)?),
-        Maker::OfVec(_) => return Err(NoAnswer::Unparsed),
+        Maker::New => of_nothing::<C>(memory.heap, answer),
+        Maker::OfView(check) => of_view(memory.heap, answer, check, UStr::from_slice(units)),
+        Maker::OfText(check) => by_text(memory, answer, check, units),
+        Maker::Literal => by_literal(memory, answer, units),
+        Maker::OfVec(_) => answer.fail(NoAnswer::Unparsed),
     }
-    Ok(())
 }
 
-// Adds what a constructor makes, and returns the number of its requests.
+// Adds the C string that a constructor makes of units, or its error.
 fn constructed<C: ReportedUnit>(
     memory: Memory<'_>,
     answer: &mut Answer,
-    maker: Maker,
     units: &[C],
-    spare: usize,
-) -> Result<u64, NoAnswer> {
-    if let Maker::OfVec(check) = maker {
-        return by_vec(memory, answer, check, units, spare);
+    asked: Asked,
+) {
+    if let Maker::OfVec(check) = asked.maker {
+        by_vec(memory, answer, check, units, asked);
+    } else {
+        let left = memory.heap.left();
+        by_slice(memory, answer, asked.maker, units);
+        count(memory, answer, left, asked.counts);
     }
-    let left = memory.heap.left();
-    by_slice(memory, answer, maker, units)?;
-    Ok(memory.requests_since(left))
 }
 
-// Returns the answer: the C string that a constructor makes of units, or its error.
-fn answer_of<C: ReportedUnit>(
-    memory: Memory<'_>,
+// What a question asks for: a constructor, the spare capacity of a vector, and whether the requests are counted.
+#[derive(Clone, Copy)]
+struct Asked {
     maker: Maker,
-    units: &[C],
     spare: usize,
     counts: bool,
-) -> Result<String, NoAnswer> {
-    let mut answer = Answer::new(memory.alloc);
-    match constructed(memory, &mut answer, maker, units, spare) {
-        Ok(requests) if counts => answer.requests(requests),
-        Ok(_) => {}
-        Err(error) => return Err(error),
-    }
-    answer.finish()
 }
 
-/// Returns the answer: the C string that a constructor makes, or its error.
-pub fn made<C: ReportedUnit>(
-    memory: Memory<'_>,
-    list: &str,
-    question: &str,
-) -> Result<String, NoAnswer> {
-    if let Some(call) = question.strip_prefix('.') {
-        return ucstring_calls::called::<C>(memory, list, call);
-    }
+// Parses a question about a constructor.
+fn parse_question(question: &str) -> Result<Asked, NoAnswer> {
     let (call, counts) = match question.strip_suffix('#') {
         Some(call) => (call, true),
         None => (question, false),
@@ -269,7 +238,29 @@ pub fn made<C: ReportedUnit>(
         Some((call, spare)) => (call, parse::value(spare)?),
         None => (call, 0),
     };
-    let maker = parse::named(&MAKERS, call)?;
-    let units = parse::list::<C>(memory.alloc, list)?;
-    answer_of(memory, maker, &units, spare, counts)
+    Ok(Asked {
+        maker: parse::named(&MAKERS, call)?,
+        spare,
+        counts,
+    })
+}
+
+// Adds the C string that a constructor makes of a list, or its error.
+fn of_list<C: ReportedUnit>(memory: Memory<'_>, answer: &mut Answer, list: &str, asked: Asked) {
+    match parse::list::<C>(memory.alloc, list) {
+        Ok(units) => constructed(memory, answer, &units, asked),
+        Err(error) => answer.fail(error),
+    }
+}
+
+/// Adds the C string that a constructor makes, or its error, or what a call of a C string returns.
+pub fn made<C: ReportedUnit>(memory: Memory<'_>, answer: &mut Answer, list: &str, question: &str) {
+    if let Some(call) = question.strip_prefix('.') {
+        ucstring_calls::called::<C>(memory, answer, list, call);
+    } else {
+        match parse_question(question) {
+            Ok(asked) => of_list::<C>(memory, answer, list, asked),
+            Err(error) => answer.fail(error),
+        }
+    }
 }

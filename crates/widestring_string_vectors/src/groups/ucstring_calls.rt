@@ -1,6 +1,5 @@
 //! Calls of a C string, by name. `repeat` has the number of times after a space, and `boxed` the spare capacity of the
 //! C string. The answer is the units that the call returns, and after a `#` the number of its requests.
-use crate::groups::outcomes::finished;
 use crate::groups::{outcomes, pieces, ustring_calls};
 use widestring::error::OutOfMemory;
 use widestring::ucstr::UCStr;
@@ -57,16 +56,10 @@ static CALLS: [(&str, Call); 11] = [
 ];
 
 // Adds the units of a C string that a call made.
-fn shown<C: ReportedUnit>(
-    answer: &mut Answer,
-    made: Result<CString<'_, C>, OutOfMemory>,
-) -> Result<(), NoAnswer> {
+fn shown<C: ReportedUnit>(answer: &mut Answer, made: Result<CString<'_, C>, OutOfMemory>) {
     match made {
-        Ok(made) => {
-            answer.units(made.as_ucstr().as_slice_with_nul());
-            Ok(())
-        }
-        Err(OutOfMemory) => Err(NoAnswer::OutOfMemory),
+        Ok(made) => answer.units(made.as_ucstr().as_slice_with_nul()),
+        Err(OutOfMemory) => answer.fail(NoAnswer::OutOfMemory),
     }
 }
 
@@ -74,10 +67,10 @@ fn shown<C: ReportedUnit>(
 fn copy<'a, C: ReportedUnit>(
     heap: &'a Heap,
     answer: &mut Answer,
-    string: CString<'a, C>,
+    string: &CString<'a, C>,
     call: Copied,
     times: usize,
-) -> Result<(), NoAnswer> {
+) {
     let view = string.as_ucstr();
     match call {
         Copied::ToUcstring => shown(answer, view.to_ucstring(heap)),
@@ -122,26 +115,23 @@ fn boxed<'a, C: ReportedUnit>(
     string: CString<'a, C>,
     contents: &[C],
     capacity: usize,
-) -> Result<(), NoAnswer> {
+) {
     match string.into_boxed_ucstr() {
-        Ok(boxed) => {
-            answer.units(boxed.into_ucstring().as_ucstr().as_slice_with_nul());
-            Ok(())
-        }
+        Ok(boxed) => answer.units(boxed.into_ucstring().as_ucstr().as_slice_with_nul()),
         Err(string) => handed_back(answer, string, contents, capacity),
     }
 }
 
-// Returns the error of a call that returned a C string, which must have these contents and this capacity.
+// Records the failure of a call that returned a C string, which must have these contents and this capacity.
 fn handed_back<C: ReportedUnit>(
     answer: &mut Answer,
     string: CString<'_, C>,
     contents: &[C],
     capacity: usize,
-) -> Result<(), NoAnswer> {
+) {
     let has_contents = string.as_ucstr().as_slice() == contents;
     let left = string.into_vec_with_nul().capacity();
-    outcomes::handed_back(answer, has_contents & (left == capacity))
+    outcomes::handed_back(answer, has_contents & (left == capacity));
 }
 
 // Makes a call of a C string of these contents and this capacity, and adds what it returns.
@@ -151,58 +141,82 @@ fn make_call<'a, C: ReportedUnit>(
     string: CString<'a, C>,
     (contents, capacity): (&[C], usize),
     (call, number): (Call, usize),
-) -> Result<(), NoAnswer> {
+) {
     match call {
         Call::Boxed => boxed(answer, string, contents, capacity),
         Call::Keep => shown(answer, kept(heap, string)),
-        Call::Copy(call) => copy(heap, answer, string, call, number),
-        Call::Take(call) => {
-            taken(answer, string, call);
-            Ok(())
-        }
+        Call::Copy(call) => copy(heap, answer, &string, call, number),
+        Call::Take(call) => taken(answer, string, call),
     }
 }
 
-// Returns the answer: what a call of a C string of these contents and this capacity returns.
-fn answer_of<'a, C: ReportedUnit>(
+// Makes a call of a C string, and adds what it returns and the number of its requests.
+fn counted<'a, C: ReportedUnit>(
     memory: Memory<'a>,
+    answer: &mut Answer,
     string: CString<'a, C>,
     before: (&[C], usize),
     call: (Call, usize),
-) -> Result<String, NoAnswer> {
-    let mut answer = Answer::new(memory.alloc);
+) {
     let left = memory.heap.left();
-    let called = make_call(memory.heap, &mut answer, string, before, call);
+    make_call(memory.heap, answer, string, before, call);
     answer.requests(memory.requests_since(left));
-    finished(answer, called)
 }
 
-// Returns the answer: what a call of the C string of a vector returns, whose units these are.
+// Makes a call of the C string of a vector, whose units these are.
 fn of_vec<'a, C: ReportedUnit>(
     memory: Memory<'a>,
+    answer: &mut Answer,
     vec: Vec<C, &'a Heap>,
     contents: &[C],
     call: (Call, usize),
-) -> Result<String, NoAnswer> {
+) {
     let capacity = vec.capacity();
     match UCString::from_vec(vec) {
-        Ok(string) => answer_of(memory, string, (contents, capacity), call),
-        Err(_) => Err(NoAnswer::Unparsed),
+        Ok(string) => counted(memory, answer, string, (contents, capacity), call),
+        Err(_) => answer.fail(NoAnswer::Unparsed),
     }
 }
 
-/// Returns the answer: what a call of the C string of this list returns.
-pub fn called<C: ReportedUnit>(
+// Makes a call of the C string of units.
+fn of_units<C: ReportedUnit>(
     memory: Memory<'_>,
+    answer: &mut Answer,
+    contents: &[C],
+    call: (Call, usize),
+) {
+    match pieces::vec_on(memory.heap, contents, call.1.saturating_add(1)) {
+        Ok(vec) => of_vec(memory, answer, vec, contents, call),
+        Err(error) => answer.fail(error),
+    }
+}
+
+// Makes a call of the C string of a list.
+fn of_list<C: ReportedUnit>(
+    memory: Memory<'_>,
+    answer: &mut Answer,
     list: &str,
-    call: &str,
-) -> Result<String, NoAnswer> {
+    call: (Call, usize),
+) {
+    match parse::list::<C>(memory.alloc, list) {
+        Ok(contents) => of_units(memory, answer, &contents, call),
+        Err(error) => answer.fail(error),
+    }
+}
+
+// Parses a call and its number, which is 0 if it does not have one.
+fn parse_call(call: &str) -> Result<(Call, usize), NoAnswer> {
     let (name, number) = match call.split_once(' ') {
         Some((name, number)) => (name, parse::value::<usize>(number)?),
         None => (call, 0),
     };
-    let call = parse::named(&CALLS, name)?;
-    let contents = parse::list::<C>(memory.alloc, list)?;
-    let vec = pieces::vec_on(memory.heap, &contents, number.saturating_add(1))?;
-    of_vec(memory, vec, &contents, (call, number))
+    Ok((parse::named(&CALLS, name)?, number))
+}
+
+/// Adds what a call of the C string of this list returns.
+pub fn called<C: ReportedUnit>(memory: Memory<'_>, answer: &mut Answer, list: &str, call: &str) {
+    match parse_call(call) {
+        Ok(call) => of_list::<C>(memory, answer, list, call),
+        Err(error) => answer.fail(error),
+    }
 }

@@ -1,7 +1,7 @@
 //! Calls of owned strings of units of either width, and what they leave of the string. The answer is a `-` if the
 //! offset or the range is out of bounds. The fields of an answer are separated by `;`.
-use crate::groups::outcomes::{done, finished};
 use std::alloc::Global;
+use std::ops::Bound;
 use widestring::error::{FaultUnit, OutOfMemory};
 use widestring::unit::range_check;
 use widestring::ustr::UStr;
@@ -9,99 +9,92 @@ use widestring::ustring::UString;
 use widestring_replay::parse::{self, FromHex, NoAnswer};
 use widestring_replay::show::Answer;
 
-/// Returns the string of a list.
-pub fn string<C: FaultUnit + FromHex>(alloc: Global, list: &str) -> Result<UString<C>, NoAnswer> {
-    Ok(UString::from_vec(parse::list(alloc, list)?))
-}
-
-/// Returns the answer for an offset or a range that is out of bounds.
-pub fn outside(alloc: Global) -> Result<String, NoAnswer> {
-    let mut answer = Answer::new(alloc);
-    answer.number(None);
-    answer.finish()
-}
-
-// Returns the answer: the units of a string after a call.
-fn units_after<C: FaultUnit>(
-    alloc: Global,
-    string: &UString<C>,
-    called: Result<(), OutOfMemory>,
-) -> Result<String, NoAnswer> {
-    let mut answer = Answer::new(alloc);
-    answer.units(string.as_slice());
-    finished(answer, done(called))
-}
-
-/// Returns the answer: what `pop_char` returns for as many calls as there are units, and one more. A question is empty.
-pub fn pop<C: FaultUnit + FromHex>(
-    alloc: Global,
-    list: &str,
-    question: &str,
-) -> Result<String, NoAnswer> {
-    parse::no_question(question)?;
-    let mut string = string::<C>(alloc, list)?;
-    let mut answer = Answer::new(alloc);
-    for _call in 0..string.len() {
-        answer.number(string.pop_char());
+/// Adds what `pop_char` returns for as many calls as there are units, and one more. A question is empty.
+pub fn pop<C: FaultUnit>(string: &mut UString<C>, answer: &mut Answer, question: &str) {
+    match parse::no_question(question) {
+        Ok(()) => {
+            for _call in 0..string.len() {
+                answer.number(string.pop_char());
+            }
+            answer.number(string.pop_char());
+        }
+        Err(error) => answer.fail(error),
     }
-    answer.number(string.pop_char());
-    answer.finish()
 }
 
-/// Returns the answer: the character that `remove_char` removes, and the units left. A question is an offset.
-pub fn remove<C: FaultUnit + FromHex>(
-    alloc: Global,
-    list: &str,
-    question: &str,
-) -> Result<String, NoAnswer> {
-    let at = parse::value::<usize>(question)?;
-    let mut string = string::<C>(alloc, list)?;
-    if at >= string.len() {
-        return outside(alloc);
+/// Adds the character that `remove_char` removes, and the units left. A question is an offset.
+pub fn remove<C: FaultUnit>(string: &mut UString<C>, answer: &mut Answer, question: &str) {
+    match parse::value::<usize>(question) {
+        Ok(at) if at < string.len() => {
+            answer.number(Some(string.remove_char(at)));
+            answer.part();
+            answer.units(string.as_slice());
+        }
+        Ok(_) => answer.number(None),
+        Err(error) => answer.fail(error),
     }
-    let mut answer = Answer::new(alloc);
-    answer.number(Some(string.remove_char(at)));
-    answer.part();
-    answer.units(string.as_slice());
-    answer.finish()
 }
 
-/// Returns the answer: the units after an insertion. A question is a `c` for a character or an `s` for a view, an
-/// offset, a colon, and the character or the view's units.
-pub fn insert<C: FaultUnit + FromHex>(
-    alloc: Global,
-    list: &str,
-    question: &str,
-) -> Result<String, NoAnswer> {
+// Parses the letter and the offset of an insertion, and what follows their colon.
+fn insertion(question: &str) -> Result<(u8, usize, &str), NoAnswer> {
     let (before, more) = parse::parts(question)?;
     let (kind, position) = parse::kind(before)?;
-    let at = parse::value::<usize>(position)?;
-    let mut string = string::<C>(alloc, list)?;
-    if at > string.len() {
-        return outside(alloc);
-    }
-    let called = match kind {
-        b'c' => string.insert_char(at, parse::value(more)?),
-        b's' => string.insert_ustr(at, UStr::from_slice(&parse::list(alloc, more)?)),
-        _ => return Err(NoAnswer::Unparsed),
-    };
-    units_after(alloc, &string, called)
+    Ok((kind, parse::value(position)?, more))
 }
 
-/// Returns the answer: the units after a range is replaced. A question is a range, a colon, and the units of a view.
+/// Adds the units after an insertion. A question is a `c` for a character or an `s` for a view, an offset, a colon, and
+/// the character or the view's units.
+pub fn insert<C: FaultUnit + FromHex>(
+    alloc: Global,
+    string: &mut UString<C>,
+    answer: &mut Answer,
+    question: &str,
+) {
+    match insertion(question) {
+        Ok((_, at, _)) if at > string.len() => answer.number(None),
+        Ok((b'c', at, c)) => match parse::value(c) {
+            Ok(c) => {
+                answer.done(string.insert_char(at, c));
+                answer.units(string.as_slice());
+            }
+            Err(error) => answer.fail(error),
+        },
+        Ok((b's', at, list)) => match parse::list(alloc, list) {
+            Ok(units) => {
+                answer.done(string.insert_ustr(at, UStr::from_slice(&units)));
+                answer.units(string.as_slice());
+            }
+            Err(error) => answer.fail(error),
+        },
+        Ok(_) => answer.fail(NoAnswer::Unparsed),
+        Err(error) => answer.fail(error),
+    }
+}
+
+/// Parses a range, and what follows its colon.
+pub fn range_and_more(question: &str) -> Result<((Bound<usize>, Bound<usize>), &str), NoAnswer> {
+    let (range, more) = parse::parts(question)?;
+    Ok((parse::range(range)?, more))
+}
+
+/// Adds the units after a range is replaced. A question is a range, a colon, and the units of a view.
 pub fn replace<C: FaultUnit + FromHex>(
     alloc: Global,
-    list: &str,
+    string: &mut UString<C>,
+    answer: &mut Answer,
     question: &str,
-) -> Result<String, NoAnswer> {
-    let (range, more) = parse::parts(question)?;
-    let range = parse::range(range)?;
-    let mut string = string::<C>(alloc, list)?;
-    if range_check(range, string.len()).is_none() {
-        return outside(alloc);
+) {
+    match range_and_more(question) {
+        Ok((range, _)) if range_check(range, string.len()).is_none() => answer.number(None),
+        Ok((range, list)) => match parse::list(alloc, list) {
+            Ok(units) => {
+                answer.done(string.replace_range(range, UStr::from_slice(&units)));
+                answer.units(string.as_slice());
+            }
+            Err(error) => answer.fail(error),
+        },
+        Err(error) => answer.fail(error),
     }
-    let called = string.replace_range(range, UStr::from_slice(&parse::list(alloc, more)?));
-    units_after(alloc, &string, called)
 }
 
 // Retains the units whose call has the bit `1`, and adds the number of calls.
@@ -121,51 +114,43 @@ fn retain_others<C: FaultUnit>(string: &mut UString<C>, gone: u32) {
     string.retain(|unit| unit.code() != gone);
 }
 
-/// Returns the answer: what `retain` leaves. A question is a `c` and a bit for each call, or a `u` and the unit that is
-/// removed. For a `c` the number of calls comes first.
+/// Adds what `retain` leaves. A question is a `c` and a bit for each call, or a `u` and the unit that is removed. For a
+/// `c` the number of calls comes first.
 pub fn retain<C: FaultUnit + FromHex>(
-    alloc: Global,
-    list: &str,
+    string: &mut UString<C>,
+    answer: &mut Answer,
     question: &str,
-) -> Result<String, NoAnswer> {
-    let (kind, word) = parse::kind(question)?;
-    let mut string = string::<C>(alloc, list)?;
-    let mut answer = Answer::new(alloc);
-    if kind == b'c' {
-        retain_by_call(&mut string, &mut answer, word.as_bytes());
-    } else {
-        retain_others(&mut string, parse::value::<C>(word)?.code());
+) {
+    match parse::kind(question) {
+        Ok((b'c', bits)) => {
+            retain_by_call(string, answer, bits.as_bytes());
+            answer.units(string.as_slice());
+        }
+        Ok((_, word)) => match parse::value::<C>(word) {
+            Ok(unit) => {
+                retain_others(string, unit.code());
+                answer.units(string.as_slice());
+            }
+            Err(error) => answer.fail(error),
+        },
+        Err(error) => answer.fail(error),
     }
-    answer.units(string.as_slice());
-    answer.finish()
 }
 
-// Returns the answer: the units of two strings.
-fn units_of_both<C: FaultUnit>(
-    alloc: Global,
-    string: &UString<C>,
-    rest: &UString<C>,
-) -> Result<String, NoAnswer> {
-    let mut answer = Answer::new(alloc);
+/// Adds the units that `split_off` leaves, and those that it returns. A question is an offset.
+pub fn split_off<C: FaultUnit>(string: &mut UString<C>, answer: &mut Answer, question: &str) {
+    match parse::value::<usize>(question) {
+        Ok(at) if at <= string.len() => match string.split_off(at) {
+            Ok(rest) => units_of_both(answer, string, &rest),
+            Err(OutOfMemory) => answer.fail(NoAnswer::OutOfMemory),
+        },
+        Ok(_) => answer.number(None),
+        Err(error) => answer.fail(error),
+    }
+}
+
+fn units_of_both<C: FaultUnit>(answer: &mut Answer, string: &UString<C>, rest: &UString<C>) {
     answer.units(string.as_slice());
     answer.part();
     answer.units(rest.as_slice());
-    answer.finish()
-}
-
-/// Returns the answer: the units that `split_off` leaves, and those that it returns. A question is an offset.
-pub fn split_off<C: FaultUnit + FromHex>(
-    alloc: Global,
-    list: &str,
-    question: &str,
-) -> Result<String, NoAnswer> {
-    let at = parse::value::<usize>(question)?;
-    let mut string = string::<C>(alloc, list)?;
-    if at > string.len() {
-        return outside(alloc);
-    }
-    match string.split_off(at) {
-        Ok(rest) => units_of_both(alloc, &string, &rest),
-        Err(OutOfMemory) => Err(NoAnswer::OutOfMemory),
-    }
 }

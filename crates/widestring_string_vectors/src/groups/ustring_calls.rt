@@ -6,8 +6,9 @@
 //! requests. A string that would be too long is a `-`, with no request.
 ghost use Rattle.std.specs.Prelude.{IfOk, ◌≤◌};
 
-use crate::groups::outcomes::{done, finished, refused, replaced};
+use crate::groups::outcomes::{refused, replaced};
 use crate::groups::pieces::{self, Item, Units};
+use crate::groups::ustring::range_and_more;
 use crate::groups::ustring_items::by_items;
 use std::alloc::Global;
 use std::mem;
@@ -139,13 +140,28 @@ static WITH_ARGUMENT: [(&str, WithArgument); 21] = [
 fn with_text<'a, C: ReportedUnit>(
     heap: &'a Heap,
     string: &mut Units<'a, C>,
+    answer: &mut Answer,
     call: OfText,
     text: &str,
-) -> Result<(), NoAnswer> {
+) {
     match call {
-        OfText::PushStr => done(string.push_str(text)),
-        OfText::WriteStr => done(string.write_str(text)),
-        OfText::FromStr => replaced(string, UString::from_str(heap, text)),
+        OfText::PushStr => answer.done(string.push_str(text)),
+        OfText::WriteStr => answer.done(string.write_str(text)),
+        OfText::FromStr => replaced(string, answer, UString::from_str(heap, text)),
+    }
+}
+
+// Makes a call that takes the text of a list.
+fn by_text<'a, C: ReportedUnit>(
+    memory: Memory<'a>,
+    string: &mut Units<'a, C>,
+    answer: &mut Answer,
+    call: OfText,
+    list: &str,
+) {
+    match pieces::text::<C>(memory.alloc, list) {
+        Ok(text) => with_text(memory.heap, string, answer, call, &text),
+        Err(error) => answer.fail(error),
     }
 }
 
@@ -153,14 +169,15 @@ fn with_text<'a, C: ReportedUnit>(
 fn with_capacity<'a, C: ReportedUnit>(
     heap: &'a Heap,
     string: &mut Units<'a, C>,
+    answer: &mut Answer,
     call: Capacity,
     number: usize,
-) -> Result<(), NoAnswer> {
+) {
     match call {
-        Capacity::New => replaced(string, UString::with_capacity(heap, number)),
-        Capacity::Reserve => done(string.reserve(number)),
-        Capacity::ReserveExact => done(string.reserve_exact(number)),
-        Capacity::ShrinkTo => done(string.shrink_to(number)),
+        Capacity::New => replaced(string, answer, UString::with_capacity(heap, number)),
+        Capacity::Reserve => answer.done(string.reserve(number)),
+        Capacity::ReserveExact => answer.done(string.reserve_exact(number)),
+        Capacity::ShrinkTo => answer.done(string.shrink_to(number)),
     }
 }
 
@@ -170,12 +187,16 @@ fn sized<'a, C: ReportedUnit>(
     string: &mut Units<'a, C>,
     answer: &mut Answer,
     call: Capacity,
-    number: usize,
-) -> Result<(), NoAnswer> {
-    let (len, before) = (string.len(), string.capacity());
-    with_capacity(heap, string, call, number)?;
-    answer.decided(has_capacity(call, number, len, before, string.capacity()));
-    Ok(())
+    number: &str,
+) {
+    match parse::value(number) {
+        Ok(number) => {
+            let (len, before) = (string.len(), string.capacity());
+            with_capacity(heap, string, answer, call, number);
+            answer.decided(has_capacity(call, number, len, before, string.capacity()));
+        }
+        Err(error) => answer.fail(error),
+    }
 }
 
 /// Returns whether a call that takes a number may leave this capacity, for a string of this length and previous
@@ -201,30 +222,36 @@ pub fn has_capacity(
 // Makes a call that takes units.
 fn with_units<C: ReportedUnit>(
     string: &mut Units<'_, C>,
+    answer: &mut Answer,
     call: OfUnits,
     units: &[C],
-) -> Result<(), NoAnswer> {
+) {
     match call {
-        OfUnits::Push => done(string.push(UStr::from_slice(units))),
-        OfUnits::PushSlice => done(string.push_slice(units)),
-        OfUnits::RetainOther => {
-            string.retain(|unit| !units.contains(&unit));
-            Ok(())
-        }
+        OfUnits::Push => answer.done(string.push(UStr::from_slice(units))),
+        OfUnits::PushSlice => answer.done(string.push_slice(units)),
+        OfUnits::RetainOther => string.retain(|unit| !units.contains(&unit)),
+    }
+}
+
+// Makes a call that takes the units of a list.
+fn by_units<C: ReportedUnit>(
+    alloc: Global,
+    string: &mut Units<'_, C>,
+    answer: &mut Answer,
+    call: OfUnits,
+    list: &str,
+) {
+    match parse::list(alloc, list) {
+        Ok(units) => with_units(string, answer, call, &units),
+        Err(error) => answer.fail(error),
     }
 }
 
 /// Adds the units of a string that a call made.
-pub fn shown<C: ReportedUnit>(
-    answer: &mut Answer,
-    made: Result<Units<'_, C>, OutOfMemory>,
-) -> Result<(), NoAnswer> {
+pub fn shown<C: ReportedUnit>(answer: &mut Answer, made: Result<Units<'_, C>, OutOfMemory>) {
     match made {
-        Ok(made) => {
-            answer.units(made.as_vec());
-            Ok(())
-        }
-        Err(OutOfMemory) => Err(NoAnswer::OutOfMemory),
+        Ok(made) => answer.units(made.as_vec()),
+        Err(OutOfMemory) => answer.fail(NoAnswer::OutOfMemory),
     }
 }
 
@@ -249,19 +276,19 @@ fn kept<'a, C: ReportedUnit>(
 fn repeat<'a, C: ReportedUnit>(
     heap: &'a Heap,
     string: &mut Units<'a, C>,
+    answer: &mut Answer,
     times: usize,
-) -> Result<(), NoAnswer> {
+) {
     let made = string.as_ustr().repeat(heap, times);
-    replaced(string, made)
+    replaced(string, answer, made);
 }
 
 // Shrinks the capacity to the length, and adds whether it is then as the call's contract says.
-fn fitted<C: ReportedUnit>(string: &mut Units<'_, C>, answer: &mut Answer) -> Result<(), NoAnswer> {
+fn fitted<C: ReportedUnit>(string: &mut Units<'_, C>, answer: &mut Answer) {
     let before = string.capacity();
-    done(string.shrink_to_fit())?;
+    answer.done(string.shrink_to_fit());
     let after = string.capacity();
     answer.decided(has_capacity(Capacity::ShrinkTo, 0, string.len(), before, after));
-    Ok(())
 }
 
 // Makes a call that takes nothing.
@@ -269,49 +296,45 @@ fn alone<'a, C: ReportedUnit>(
     heap: &'a Heap,
     string: &mut Units<'a, C>,
     answer: &mut Answer,
-    call: NoArgument,
-) -> Result<(), NoAnswer> {
-    match call {
-        NoArgument::ShrinkToFit => fitted(string, answer),
-        NoArgument::TryClone => shown(answer, string.try_clone()),
-        NoArgument::ToUstring => shown(answer, string.as_ustr().to_ustring(heap)),
-        NoArgument::IntoOwned => shown(answer, owned(heap, string.as_ustr())),
-        NoArgument::Keep => keep(heap, string),
-        NoArgument::Boxed => boxed(heap, string),
-        _ => {
-            without_memory(heap, string, answer, call);
-            Ok(())
-        }
+    name: &str,
+) {
+    match parse::named(&NO_ARGUMENT, name) {
+        Ok(NoArgument::ShrinkToFit) => fitted(string, answer),
+        Ok(NoArgument::TryClone) => shown(answer, string.try_clone()),
+        Ok(NoArgument::ToUstring) => shown(answer, string.as_ustr().to_ustring(heap)),
+        Ok(NoArgument::IntoOwned) => shown(answer, owned(heap, string.as_ustr())),
+        Ok(NoArgument::Keep) => keep(heap, string, answer),
+        Ok(NoArgument::Boxed) => boxed(heap, string, answer),
+        Ok(call) => without_memory(heap, string, answer, call),
+        Err(error) => answer.fail(error),
     }
 }
 
 // Makes an owned string of the string, in its place.
-fn keep<'a, C: ReportedUnit>(heap: &'a Heap, string: &mut Units<'a, C>) -> Result<(), NoAnswer> {
+fn keep<'a, C: ReportedUnit>(heap: &'a Heap, string: &mut Units<'a, C>, answer: &mut Answer) {
     let given = mem::replace(string, UString::new(heap));
-    replaced(string, kept(heap, given))
+    replaced(string, answer, kept(heap, given));
 }
 
 // Makes a box of a string, and a string of that, whose capacity must be its length.
-fn boxed<'a, C: ReportedUnit>(heap: &'a Heap, string: &mut Units<'a, C>) -> Result<(), NoAnswer> {
+fn boxed<'a, C: ReportedUnit>(heap: &'a Heap, string: &mut Units<'a, C>, answer: &mut Answer) {
     match mem::replace(string, UString::new(heap)).into_boxed_ustr() {
         Ok(boxed) => {
             let len = boxed.as_ustr().len();
             *string = boxed.into_ustring();
-            is_exact(string, len)
+            check_exact(string, answer, len);
         }
         Err(given) => {
             *string = given;
-            Err(NoAnswer::OutOfMemory)
+            answer.fail(NoAnswer::OutOfMemory);
         }
     }
 }
 
-// Returns an error if a string has another length, or spare capacity.
-fn is_exact<C: ReportedUnit>(string: &Units<'_, C>, len: usize) -> Result<(), NoAnswer> {
-    if (string.len() == len) & (string.capacity() == len) {
-        Ok(())
-    } else {
-        Err(NoAnswer::Unparsed)
+// Records a failure if a string has another length, or spare capacity.
+fn check_exact<C: ReportedUnit>(string: &Units<'_, C>, answer: &mut Answer, len: usize) {
+    if (string.len() != len) | (string.capacity() != len) {
+        answer.fail(NoAnswer::Unparsed);
     }
 }
 
@@ -343,39 +366,43 @@ fn with_number<'a, C: ReportedUnit>(
     answer: &mut Answer,
     call: Number,
     number: usize,
-) -> Result<(), NoAnswer> {
+) {
     match call {
-        Number::Repeat => repeat(heap, string, number),
-        Number::Truncate => {
-            string.truncate(number);
-            Ok(())
-        }
+        Number::Repeat => repeat(heap, string, answer, number),
+        Number::Truncate => string.truncate(number),
         Number::SplitOff => split_off(string, answer, number),
         Number::RemoveChar => remove_char(string, answer, number),
     }
 }
 
-fn split_off<C: ReportedUnit>(
-    string: &mut Units<'_, C>,
+// Makes a call that takes a number, which is parsed.
+fn by_number<'a, C: ReportedUnit>(
+    heap: &'a Heap,
+    string: &mut Units<'a, C>,
     answer: &mut Answer,
-    at: usize,
-) -> Result<(), NoAnswer> {
-    if at > string.len() {
-        return Err(NoAnswer::Unparsed);
+    call: Number,
+    number: &str,
+) {
+    match parse::value(number) {
+        Ok(number) => with_number(heap, string, answer, call, number),
+        Err(error) => answer.fail(error),
     }
-    shown(answer, string.split_off(at))
 }
 
-fn remove_char<C: ReportedUnit>(
-    string: &mut Units<'_, C>,
-    answer: &mut Answer,
-    at: usize,
-) -> Result<(), NoAnswer> {
-    if at >= string.len() {
-        return Err(NoAnswer::Unparsed);
+fn split_off<C: ReportedUnit>(string: &mut Units<'_, C>, answer: &mut Answer, at: usize) {
+    if at <= string.len() {
+        shown(answer, string.split_off(at));
+    } else {
+        answer.fail(NoAnswer::Unparsed);
     }
-    answer.number(Some(string.remove_char(at)));
-    Ok(())
+}
+
+fn remove_char<C: ReportedUnit>(string: &mut Units<'_, C>, answer: &mut Answer, at: usize) {
+    if at < string.len() {
+        answer.number(Some(string.remove_char(at)));
+    } else {
+        answer.fail(NoAnswer::Unparsed);
+    }
 }
 
 // Parses an offset within bounds, and what follows its colon.
@@ -393,19 +420,31 @@ fn offset_in(len: usize, more: &str) -> Result<(usize, &str), NoAnswer>
 fn insert_char<C: ReportedUnit>(
     alloc: Global,
     string: &mut Units<'_, C>,
+    answer: &mut Answer,
     more: &str,
-) -> Result<(), NoAnswer> {
-    let (at, list) = offset_in(string.len(), more)?;
-    done(string.insert_char(at, Item::<C>::of(alloc, list)?))
+) {
+    match offset_in(string.len(), more) {
+        Ok((at, list)) => match Item::<C>::of(alloc, list) {
+            Ok(c) => answer.done(string.insert_char(at, c)),
+            Err(error) => answer.fail(error),
+        },
+        Err(error) => answer.fail(error),
+    }
 }
 
 fn insert_ustr<C: ReportedUnit>(
     alloc: Global,
     string: &mut Units<'_, C>,
+    answer: &mut Answer,
     more: &str,
-) -> Result<(), NoAnswer> {
-    let (at, list) = offset_in(string.len(), more)?;
-    done(string.insert_ustr(at, UStr::from_slice(&parse::list(alloc, list)?)))
+) {
+    match offset_in(string.len(), more) {
+        Ok((at, list)) => match parse::list(alloc, list) {
+            Ok(units) => answer.done(string.insert_ustr(at, UStr::from_slice(&units))),
+            Err(error) => answer.fail(error),
+        },
+        Err(error) => answer.fail(error),
+    }
 }
 
 // Makes a call at a range.
@@ -415,48 +454,73 @@ fn at_range<C: ReportedUnit>(
     answer: &mut Answer,
     call: OfRange,
     more: &str,
-) -> Result<(), NoAnswer> {
-    let (range, list) = parse::parts(more)?;
-    let range = parse::range(range)?;
-    match call {
-        OfRange::SpliceStr => splice_str(string, range, &pieces::text::<C>(alloc, list)?),
-        OfRange::ReplaceRange => replace_range(string, range, &parse::list(alloc, list)?),
-        OfRange::Drain => drain(string, answer, range),
+) {
+    match range_and_more(more) {
+        Ok((range, list)) => match call {
+            OfRange::SpliceStr => splice_str(alloc, string, answer, range, list),
+            OfRange::ReplaceRange => replace_range(alloc, string, answer, range, list),
+            OfRange::Drain => drain(string, answer, range),
+        },
+        Err(error) => answer.fail(error),
     }
 }
 
 fn splice_str<C: ReportedUnit>(
+    alloc: Global,
     string: &mut Units<'_, C>,
+    answer: &mut Answer,
     range: (Bound<usize>, Bound<usize>),
-    text: &str,
-) -> Result<(), NoAnswer> {
+    list: &str,
+) {
     match range_check(range, string.len()) {
-        None => Err(NoAnswer::Unparsed),
-        Some(range) => done(string.splice_str(range.start, range.end, text)),
+        Some(range) => match pieces::text::<C>(alloc, list) {
+            Ok(text) => answer.done(string.splice_str(range.start, range.end, &text)),
+            Err(error) => answer.fail(error),
+        },
+        None => answer.fail(NoAnswer::Unparsed),
     }
 }
 
 fn replace_range<C: ReportedUnit>(
+    alloc: Global,
     string: &mut Units<'_, C>,
+    answer: &mut Answer,
     range: (Bound<usize>, Bound<usize>),
-    units: &[C],
-) -> Result<(), NoAnswer> {
-    if range_check(range, string.len()).is_none() {
-        return Err(NoAnswer::Unparsed);
+    list: &str,
+) {
+    match parse::list(alloc, list) {
+        Ok(units) if range_check(range, string.len()).is_some() => {
+            answer.done(string.replace_range(range, UStr::from_slice(&units)))
+        }
+        Ok(_) => answer.fail(NoAnswer::Unparsed),
+        Err(error) => answer.fail(error),
     }
-    done(string.replace_range(range, UStr::from_slice(units)))
 }
 
 fn drain<C: ReportedUnit>(
     string: &mut Units<'_, C>,
     answer: &mut Answer,
     range: (Bound<usize>, Bound<usize>),
-) -> Result<(), NoAnswer> {
-    if range_check(range, string.len()).is_none() {
-        return Err(NoAnswer::Unparsed);
+) {
+    if range_check(range, string.len()).is_some() {
+        answer.unit(string.drain(range).next());
+    } else {
+        answer.fail(NoAnswer::Unparsed);
     }
-    answer.unit(string.drain(range).next());
-    Ok(())
+}
+
+fn push_char<C: ReportedUnit>(string: &mut Units<'_, C>, answer: &mut Answer, c: &str) {
+    match parse::value(c) {
+        Ok(c) => answer.done(string.push_char(c)),
+        Err(error) => answer.fail(error),
+    }
+}
+
+fn write_char<C: ReportedUnit>(string: &mut Units<'_, C>, answer: &mut Answer, c: &str) {
+    match parse::value(c) {
+        Ok(c) => answer.done(string.write_char(c)),
+        Err(error) => answer.fail(error),
+    }
 }
 
 // Makes a call that takes something, and adds what it returns.
@@ -464,20 +528,35 @@ fn with_arguments<'a, C: ReportedUnit>(
     memory: Memory<'a>,
     string: &mut Units<'a, C>,
     answer: &mut Answer,
-    call: WithArgument,
+    name: &str,
     more: &str,
-) -> Result<(), NoAnswer> {
+) {
     let (heap, alloc) = (memory.heap, memory.alloc);
-    match call {
-        WithArgument::Capacity(call) => sized(heap, string, answer, call, parse::value(more)?),
-        WithArgument::Number(call) => with_number(heap, string, answer, call, parse::value(more)?),
-        WithArgument::Text(call) => with_text(heap, string, call, &pieces::text::<C>(alloc, more)?),
-        WithArgument::Units(call) => with_units(string, call, &parse::list(alloc, more)?),
-        WithArgument::Range(call) => at_range(alloc, string, answer, call, more),
-        WithArgument::PushChar => done(string.push_char(parse::value(more)?)),
-        WithArgument::WriteChar => done(string.write_char(parse::value(more)?)),
-        WithArgument::InsertChar => insert_char(alloc, string, more),
-        WithArgument::InsertUstr => insert_ustr(alloc, string, more),
+    match parse::named(&WITH_ARGUMENT, name) {
+        Ok(WithArgument::Capacity(call)) => sized(heap, string, answer, call, more),
+        Ok(WithArgument::Number(call)) => by_number(heap, string, answer, call, more),
+        Ok(WithArgument::Text(call)) => by_text(memory, string, answer, call, more),
+        Ok(WithArgument::Units(call)) => by_units(alloc, string, answer, call, more),
+        Ok(WithArgument::Range(call)) => at_range(alloc, string, answer, call, more),
+        Ok(WithArgument::PushChar) => push_char(string, answer, more),
+        Ok(WithArgument::WriteChar) => write_char(string, answer, more),
+        Ok(WithArgument::InsertChar) => insert_char(alloc, string, answer, more),
+        Ok(WithArgument::InsertUstr) => insert_ustr(alloc, string, answer, more),
+        Err(error) => answer.fail(error),
+    }
+}
+
+// Makes a call that takes items, or something else, and adds what it returns.
+fn with_more<'a, C: ReportedUnit>(
+    memory: Memory<'a>,
+    string: &mut Units<'a, C>,
+    answer: &mut Answer,
+    name: &str,
+    more: &str,
+) {
+    match pieces::items_called(name) {
+        Some((how, kind)) => by_items(memory, string, answer, how, kind, more),
+        None => with_arguments(memory, string, answer, name, more),
     }
 }
 
@@ -487,44 +566,46 @@ fn call<'a, C: ReportedUnit>(
     string: &mut Units<'a, C>,
     answer: &mut Answer,
     call: &str,
-) -> Result<(), NoAnswer> {
-    let Some((name, more)) = call.split_once(' ') else {
-        return alone(
-            memory.heap,
-            string,
-            answer,
-            parse::named(&NO_ARGUMENT, call)?,
-        );
-    };
-    match pieces::items_called(name) {
-        Some((how, kind)) => by_items(memory, string, how, kind, more),
-        None => with_arguments(
-            memory,
-            string,
-            answer,
-            parse::named(&WITH_ARGUMENT, name)?,
-            more,
-        ),
+) {
+    match call.split_once(' ') {
+        None => alone(memory.heap, string, answer, call),
+        Some((name, more)) => with_more(memory, string, answer, name, more),
     }
 }
 
-// Makes a call of a script, and adds what it returns. Adds a `?` if a request failed and the string is then not as the
-// contract says.
+// Makes a call in a field of its own, and adds what it returns. Adds a `?` if a request failed and the string is then
+// not as the contract says, given its units and its capacity before.
+fn in_field<'a, C: ReportedUnit>(
+    memory: Memory<'a>,
+    string: &mut Units<'a, C>,
+    answer: &mut Answer,
+    written: &str,
+    before: (&[C], usize),
+) {
+    let mut field = Answer::new(memory.alloc);
+    call(memory, string, &mut field, written);
+    match field.finish() {
+        Ok(text) => answer.word(&text),
+        Err(NoAnswer::OutOfMemory) => {
+            let after = (string.as_slice(), string.capacity());
+            let is_kept = pieces::is_kept(memory.alloc, written, before, after);
+            refused(memory.heap, answer, is_kept);
+        }
+        Err(error) => answer.fail(error),
+    }
+}
+
+// Makes a call of a script, and adds what it returns.
 fn tried<'a, C: ReportedUnit>(
     memory: Memory<'a>,
     string: &mut Units<'a, C>,
     answer: &mut Answer,
     written: &str,
-) -> Result<(), NoAnswer> {
-    let units = Vec::from_slice(memory.alloc, string.as_slice())?;
-    let before = (units.as_slice(), string.capacity());
-    match call(memory, string, answer, written) {
-        Err(NoAnswer::OutOfMemory) => {
-            let after = (string.as_slice(), string.capacity());
-            let is_kept = pieces::is_kept(memory.alloc, written, before, after);
-            refused(memory.heap, answer, is_kept)
-        }
-        called => called,
+) {
+    let capacity = string.capacity();
+    match Vec::from_slice(memory.alloc, string.as_slice()) {
+        Ok(units) => in_field(memory, string, answer, written, (&units, capacity)),
+        Err(_) => answer.fail(NoAnswer::OutOfMemory),
     }
 }
 
@@ -534,34 +615,54 @@ fn make_calls<'a, C: ReportedUnit>(
     string: &mut Units<'a, C>,
     answer: &mut Answer,
     calls: &str,
-) -> Result<(), NoAnswer> {
+) {
     let mut is_first = true;
     for written in calls.split('/') {
+        if answer.has_failed() {
+            return;
+        }
         if !is_first {
             answer.part();
         }
         is_first = false;
         let left = memory.heap.left();
-        tried(memory, string, answer, written)?;
+        tried(memory, string, answer, written);
         answer.part();
         answer.units(string.as_slice());
         answer.requests(memory.requests_since(left));
     }
-    Ok(())
 }
 
-/// Returns the answer: what the calls of a script return, leave and request.
+// Parses the spare capacity of a script's string, and what follows the `/` after it.
+fn spare_and_calls(question: &str) -> Result<(usize, &str), NoAnswer> {
+    match question.split_once('/') {
+        Some((spare, calls)) => Ok((parse::value(spare)?, calls)),
+        None => Err(NoAnswer::Unparsed),
+    }
+}
+
+// Makes the calls of a script, of the string of a list with this spare capacity.
+fn of_list<C: ReportedUnit>(
+    memory: Memory<'_>,
+    answer: &mut Answer,
+    list: &str,
+    (spare, calls): (usize, &str),
+) {
+    match pieces::counted::<C>(memory, list, spare) {
+        Ok(units) => make_calls(memory, &mut UString::from_vec(units), answer, calls),
+        Err(error) => answer.fail(error),
+    }
+}
+
+/// Adds what the calls of a script return, leave and request.
 pub fn script<C: ReportedUnit>(
     memory: Memory<'_>,
+    answer: &mut Answer,
     list: &str,
     question: &str,
-) -> Result<String, NoAnswer> {
-    let Some((spare, calls)) = question.split_once('/') else {
-        return Err(NoAnswer::Unparsed);
-    };
-    let units = pieces::counted::<C>(memory, list, parse::value(spare)?)?;
-    let mut string = UString::from_vec(units);
-    let mut answer = Answer::new(memory.alloc);
-    let called = make_calls(memory, &mut string, &mut answer, calls);
-    finished(answer, called)
+) {
+    match spare_and_calls(question) {
+        Ok(parts) => of_list::<C>(memory, answer, list, parts),
+        Err(error) => answer.fail(error),
+    }
 }

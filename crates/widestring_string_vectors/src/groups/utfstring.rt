@@ -21,9 +21,10 @@
 //!   closure.
 //! - `p`, `l`: `pop`, `clear`.
 //! - `.`: a call by its name, of `text_calls`.
-use crate::groups::outcomes::{done, finished, refused};
+use crate::groups::outcomes::refused;
 use crate::groups::pieces::{self, Text};
 use crate::groups::text_calls::{self, shown};
+use crate::groups::ustring::range_and_more;
 use std::alloc::Global;
 use std::ops::Bound;
 use widestring::error::{FaultUnit, UtfError};
@@ -32,25 +33,53 @@ use widestring::ucstring::UCString;
 use widestring::unit::Unit;
 use widestring::ustring::UString;
 use widestring::utfstr::UtfStr;
-use widestring::utfstring::UtfString;
+use widestring::utfstring::{DrainUtf, UtfString};
 use widestring_replay::asked;
 use widestring_replay::parse::{self, FromHex, Memory, NoAnswer};
 use widestring_replay::show::{Answer, ReportedUnit};
 use widestring_testing::Heap;
 
-// Inserts a character at an offset.
-fn insert<C: FaultUnit>(
+// Appends a character.
+fn push<C: FaultUnit>(string: &mut Text<'_, C>, answer: &mut Answer, c: &str) {
+    match parse::value(c) {
+        Ok(c) => answer.done(string.push(c)),
+        Err(error) => answer.fail(error),
+    }
+}
+
+// Appends the text of a list.
+fn push_str<C: FaultUnit + FromHex>(
+    alloc: Global,
     string: &mut Text<'_, C>,
     answer: &mut Answer,
-    at: usize,
-    c: &str,
-) -> Result<(), NoAnswer> {
-    let c = parse::value(c)?;
-    if string.as_utfstr().is_char_boundary(at) {
-        return done(string.insert(at, c));
+    list: &str,
+) {
+    match pieces::text::<C>(alloc, list) {
+        Ok(text) => answer.done(string.push_str(&text)),
+        Err(error) => answer.fail(error),
     }
-    answer.number(None);
-    Ok(())
+}
+
+// Appends a text of units.
+fn push_text<C: FaultUnit + FromHex>(
+    alloc: Global,
+    string: &mut Text<'_, C>,
+    answer: &mut Answer,
+    list: &str,
+) {
+    match pieces::utfstring(alloc, list) {
+        Ok(more) => answer.done(string.push_utfstr(more.as_utfstr())),
+        Err(error) => answer.fail(error),
+    }
+}
+
+// Inserts a character at an offset.
+fn insert<C: FaultUnit>(string: &mut Text<'_, C>, answer: &mut Answer, at: usize, c: &str) {
+    match parse::value(c) {
+        Ok(c) if string.as_utfstr().is_char_boundary(at) => answer.done(string.insert(at, c)),
+        Ok(_) => answer.number(None),
+        Err(error) => answer.fail(error),
+    }
 }
 
 // Inserts a text at an offset.
@@ -59,12 +88,26 @@ fn insert_text<C: FaultUnit>(
     answer: &mut Answer,
     at: usize,
     with: UtfStr<'_, C>,
-) -> Result<(), NoAnswer> {
+) {
     if string.as_utfstr().is_char_boundary(at) {
-        return done(string.insert_utfstr(at, with));
+        answer.done(string.insert_utfstr(at, with));
+    } else {
+        answer.number(None);
     }
-    answer.number(None);
-    Ok(())
+}
+
+// Inserts a text of units at an offset.
+fn insert_units<C: FaultUnit + FromHex>(
+    alloc: Global,
+    string: &mut Text<'_, C>,
+    answer: &mut Answer,
+    at: usize,
+    list: &str,
+) {
+    match pieces::utfstring(alloc, list) {
+        Ok(with) => insert_text(string, answer, at, with.as_utfstr()),
+        Err(error) => answer.fail(error),
+    }
 }
 
 // Removes the character at an offset.
@@ -86,30 +129,16 @@ fn truncate<C: FaultUnit>(string: &mut Text<'_, C>, answer: &mut Answer, at: usi
 }
 
 // Splits the text off at an offset, as a new string.
-fn split_off<C: FaultUnit>(
-    string: &mut Text<'_, C>,
-    answer: &mut Answer,
-    at: usize,
-) -> Result<(), NoAnswer> {
+fn split_off<C: FaultUnit>(string: &mut Text<'_, C>, answer: &mut Answer, at: usize) {
     if string.as_utfstr().is_char_boundary(at) {
-        return shown(answer, string.split_off(at));
+        shown(answer, string.split_off(at));
+    } else {
+        answer.number(None);
     }
-    answer.number(None);
-    Ok(())
 }
 
-// Drains a range.
-fn drain<C: FaultUnit>(
-    string: &mut Text<'_, C>,
-    answer: &mut Answer,
-    range: (Bound<usize>, Bound<usize>),
-    calls: &[End],
-) {
-    if string.as_utfstr().get(range).is_none() {
-        answer.number(None);
-        return;
-    }
-    let mut drain = string.drain(range);
+// Adds what a drain returns, and what it still has when it is dropped.
+fn drained<C: FaultUnit>(drain: &mut DrainUtf<'_, C, &Heap>, answer: &mut Answer, calls: &[End]) {
     for end in calls {
         answer.character(asked!(drain, end));
     }
@@ -121,18 +150,60 @@ fn drain<C: FaultUnit>(
     answer.units(drain.as_utfstr().as_slice());
 }
 
+// Drains a range.
+fn drain<C: FaultUnit>(
+    string: &mut Text<'_, C>,
+    answer: &mut Answer,
+    range: (Bound<usize>, Bound<usize>),
+    calls: &[End],
+) {
+    if string.as_utfstr().get(range).is_some() {
+        drained(&mut string.drain(range), answer, calls);
+    } else {
+        answer.number(None);
+    }
+}
+
+// Drains a range, with a word of calls.
+fn drain_by<C: FaultUnit>(
+    alloc: Global,
+    string: &mut Text<'_, C>,
+    answer: &mut Answer,
+    range: (Bound<usize>, Bound<usize>),
+    word: &str,
+) {
+    match parse::calls(alloc, word) {
+        Ok(calls) => drain(string, answer, range, &calls),
+        Err(error) => answer.fail(error),
+    }
+}
+
 // Replaces a range by a text.
 fn replace<C: FaultUnit>(
     string: &mut Text<'_, C>,
     answer: &mut Answer,
     range: (Bound<usize>, Bound<usize>),
     with: UtfStr<'_, C>,
-) -> Result<(), NoAnswer> {
+) {
     if string.as_utfstr().get(range).is_some() {
-        return done(string.replace_range(range, with));
+        answer.done(string.replace_range(range, with));
+    } else {
+        answer.number(None);
     }
-    answer.number(None);
-    Ok(())
+}
+
+// Replaces a range by a text of units.
+fn replace_by<C: FaultUnit + FromHex>(
+    alloc: Global,
+    string: &mut Text<'_, C>,
+    answer: &mut Answer,
+    range: (Bound<usize>, Bound<usize>),
+    list: &str,
+) {
+    match pieces::utfstring(alloc, list) {
+        Ok(with) => replace(string, answer, range, with.as_utfstr()),
+        Err(error) => answer.fail(error),
+    }
 }
 
 // Retains the characters that have no bit of the mask.
@@ -158,15 +229,23 @@ fn retain_by_call<C: FaultUnit>(string: &mut Text<'_, C>, answer: &mut Answer, b
 
 // Extends a string by characters (`e`), or by references to them.
 fn extend<C: FaultUnit>(
+    alloc: Global,
     string: &mut Text<'_, C>,
+    answer: &mut Answer,
     kind: u8,
-    chars: Vec<char>,
-) -> Result<(), NoAnswer> {
-    if kind == b'e' {
-        done(string.extend_chars(chars))
-    } else {
-        done(string.extend_char_refs(&chars))
+    list: &str,
+) {
+    match parse::list::<char>(alloc, list) {
+        Ok(chars) if kind == b'e' => answer.done(string.extend_chars(chars)),
+        Ok(chars) => answer.done(string.extend_char_refs(&chars)),
+        Err(error) => answer.fail(error),
     }
+}
+
+// Parses an offset, and what follows its colon.
+fn offset_and_more(more: &str) -> Result<(usize, &str), NoAnswer> {
+    let (position, list) = parse::parts(more)?;
+    Ok((parse::value(position)?, list))
 }
 
 // Inserts a character (`i`) or a text at an offset, and adds the answer.
@@ -176,33 +255,24 @@ fn put_in<C: FaultUnit + FromHex>(
     answer: &mut Answer,
     kind: u8,
     more: &str,
-) -> Result<(), NoAnswer> {
-    let (position, list) = parse::parts(more)?;
-    let at = parse::value(position)?;
-    if kind == b'i' {
-        return insert(string, answer, at, list);
+) {
+    match offset_and_more(more) {
+        Ok((at, c)) if kind == b'i' => insert(string, answer, at, c),
+        Ok((at, list)) => insert_units(alloc, string, answer, at, list),
+        Err(error) => answer.fail(error),
     }
-    insert_text(
-        string,
-        answer,
-        at,
-        pieces::utfstring(alloc, list)?.as_utfstr(),
-    )
 }
 
 // Removes the character at an offset (`r`) or all text from there on, and adds the answer.
-fn cut<C: FaultUnit>(
-    string: &mut Text<'_, C>,
-    answer: &mut Answer,
-    kind: u8,
-    at: usize,
-) -> Result<(), NoAnswer> {
-    match kind {
-        b'r' => remove(string, answer, at),
-        b't' => truncate(string, answer, at),
-        _ => return split_off(string, answer, at),
+fn cut<C: FaultUnit>(string: &mut Text<'_, C>, answer: &mut Answer, kind: u8, at: &str) {
+    match parse::value(at) {
+        Ok(at) => match kind {
+            b'r' => remove(string, answer, at),
+            b't' => truncate(string, answer, at),
+            _ => split_off(string, answer, at),
+        },
+        Err(error) => answer.fail(error),
     }
-    Ok(())
 }
 
 // Makes a call at a range, and adds what it returns.
@@ -212,36 +282,26 @@ fn call_in<C: FaultUnit + FromHex>(
     answer: &mut Answer,
     kind: u8,
     more: &str,
-) -> Result<(), NoAnswer> {
-    let (range, more) = parse::parts(more)?;
-    let range = parse::range(range)?;
-    if kind == b'd' {
-        drain(string, answer, range, &parse::calls(alloc, more)?);
-        return Ok(());
+) {
+    match range_and_more(more) {
+        Ok((range, word)) if kind == b'd' => drain_by(alloc, string, answer, range, word),
+        Ok((range, list)) => replace_by(alloc, string, answer, range, list),
+        Err(error) => answer.fail(error),
     }
-    replace(
-        string,
-        answer,
-        range,
-        pieces::utfstring(alloc, more)?.as_utfstr(),
-    )
 }
 
 // Makes a call that removes text and allocates nothing, and adds what it returns.
-fn removed<C: FaultUnit>(
-    string: &mut Text<'_, C>,
-    answer: &mut Answer,
-    kind: u8,
-    more: &str,
-) -> Result<(), NoAnswer> {
+fn removed<C: FaultUnit>(string: &mut Text<'_, C>, answer: &mut Answer, kind: u8, more: &str) {
     match kind {
-        b'k' => retain(string, answer, parse::value(more)?),
+        b'k' => match parse::value(more) {
+            Ok(mask) => retain(string, answer, mask),
+            Err(error) => answer.fail(error),
+        },
         b'K' => retain_by_call(string, answer, more.as_bytes()),
         b'p' => answer.character(string.pop()),
         b'l' => string.clear(),
-        _ => return Err(NoAnswer::Unparsed),
+        _ => answer.fail(NoAnswer::Unparsed),
     }
-    Ok(())
 }
 
 // Makes a call, and adds what it returns.
@@ -250,19 +310,19 @@ fn call<'a, C: ReportedUnit>(
     string: &mut Text<'a, C>,
     answer: &mut Answer,
     call: &str,
-) -> Result<(), NoAnswer> {
+) {
     let alloc = memory.alloc;
-    let (kind, more) = parse::kind(call)?;
-    match kind {
-        b'c' => done(string.push(parse::value(more)?)),
-        b's' => done(string.push_str(&pieces::text::<C>(alloc, more)?)),
-        b'u' => done(string.push_utfstr(pieces::utfstring(alloc, more)?.as_utfstr())),
-        b'e' | b'n' => extend(string, kind, parse::list(alloc, more)?),
-        b'i' | b'j' => put_in(alloc, string, answer, kind, more),
-        b'r' | b't' | b'o' => cut(string, answer, kind, parse::value(more)?),
-        b'x' | b'd' => call_in(alloc, string, answer, kind, more),
-        b'.' => text_calls::named(memory, string, answer, more),
-        _ => removed(string, answer, kind, more),
+    match parse::kind(call) {
+        Ok((b'c', c)) => push(string, answer, c),
+        Ok((b's', list)) => push_str(alloc, string, answer, list),
+        Ok((b'u', list)) => push_text(alloc, string, answer, list),
+        Ok((kind @ (b'e' | b'n'), list)) => extend(alloc, string, answer, kind, list),
+        Ok((kind @ (b'i' | b'j'), more)) => put_in(alloc, string, answer, kind, more),
+        Ok((kind @ (b'r' | b't' | b'o'), at)) => cut(string, answer, kind, at),
+        Ok((kind @ (b'x' | b'd'), more)) => call_in(alloc, string, answer, kind, more),
+        Ok((b'.', named)) => text_calls::named(memory, string, answer, named),
+        Ok((kind, more)) => removed(string, answer, kind, more),
+        Err(error) => answer.fail(error),
     }
 }
 
@@ -280,23 +340,48 @@ fn is_kept<C: ReportedUnit>(
     }
 }
 
-// Makes a call of a script, and adds what it returns. A text that would be too long is a `-`, with no request.
+// Makes a call in a field of its own, and adds what it returns. A text that would be too long is a `-`, with no request.
+// Adds a `?` if a request failed and the string is then not as the contract says, given its units and its capacity
+// before.
+fn in_field<'a, C: ReportedUnit>(
+    memory: Memory<'a>,
+    string: &mut Text<'a, C>,
+    answer: &mut Answer,
+    written: &str,
+    before: (&[C], usize),
+) {
+    let mut field = Answer::new(memory.alloc);
+    call(memory, string, &mut field, written);
+    match field.finish() {
+        Ok(text) => answer.word(&text),
+        Err(NoAnswer::OutOfMemory) => {
+            let after = (string.as_slice(), string.capacity());
+            let is_kept = is_kept(memory.alloc, written, before, after);
+            refused(memory.heap, answer, is_kept);
+        }
+        Err(error) => answer.fail(error),
+    }
+}
+
+// Makes a call of a script, and adds what it returns.
 fn tried<'a, C: ReportedUnit>(
     memory: Memory<'a>,
     string: &mut Text<'a, C>,
     answer: &mut Answer,
     written: &str,
-) -> Result<(), NoAnswer> {
-    let units = Vec::from_slice(memory.alloc, string.as_slice())?;
-    let before = (units.as_slice(), string.capacity());
-    match call(memory, string, answer, written) {
-        Err(NoAnswer::OutOfMemory) => {
-            let after = (string.as_slice(), string.capacity());
-            let is_kept = is_kept(memory.alloc, written, before, after);
-            refused(memory.heap, answer, is_kept)
-        }
-        called => called,
+) {
+    let capacity = string.capacity();
+    match Vec::from_slice(memory.alloc, string.as_slice()) {
+        Ok(units) => in_field(memory, string, answer, written, (&units, capacity)),
+        Err(_) => answer.fail(NoAnswer::OutOfMemory),
     }
+}
+
+// The calls of a script that follow the first one, if there are any, and whether the requests of each are counted.
+#[derive(Clone, Copy)]
+struct Calls<'q> {
+    written: Option<&'q str>,
+    counts: bool,
 }
 
 // Makes the calls of a script. Adds what each returns and leaves, and how many requests it makes, if the question asks
@@ -307,72 +392,87 @@ fn make_calls<'a, C: ReportedUnit>(
     answer: &mut Answer,
     calls: &str,
     counts: bool,
-) -> Result<(), NoAnswer> {
+) {
     for written in calls.split('/') {
+        if answer.has_failed() {
+            return;
+        }
         answer.part();
         let left = memory.heap.left();
-        tried(memory, string, answer, written)?;
+        tried(memory, string, answer, written);
         answer.part();
         answer.units(string.as_slice());
         if counts {
             answer.requests(memory.requests_since(left));
         }
     }
-    Ok(())
 }
 
-// Returns the answer about a string: its units, and what comes of the calls, if there are any.
+// Adds a string's units, and what comes of the calls, if there are any.
 fn edited<'a, C: ReportedUnit>(
     memory: Memory<'a>,
-    mut string: Text<'a, C>,
-    calls: Option<&str>,
-    counts: bool,
-) -> Result<String, NoAnswer> {
-    let mut answer = Answer::new(memory.alloc);
+    string: &mut Text<'a, C>,
+    answer: &mut Answer,
+    calls: Calls<'_>,
+) {
     answer.units(string.as_slice());
-    let called = match calls {
-        None => Ok(()),
-        Some(calls) => make_calls(memory, &mut string, &mut answer, calls, counts),
-    };
-    finished(answer, called)
+    if let Some(written) = calls.written {
+        make_calls(memory, string, answer, written, calls.counts);
+    }
 }
 
-// Returns the answer: the fault of ill-formed units.
-fn faulty<'a, C: ReportedUnit>(
-    alloc: Global,
-    error: UtfError<C, &'a Heap>,
-) -> Result<String, NoAnswer> {
-    let mut answer = Answer::new(alloc);
+// Adds the fault of ill-formed units.
+fn faulty<'a, C: ReportedUnit>(answer: &mut Answer, error: UtfError<C, &'a Heap>) {
     answer.first_fault(&error);
     answer.part();
     answer.handed_back(error.into_vec());
-    answer.finish()
 }
 
-// What a call makes of a list, or its error.
-type Made<'a, C> = Result<Result<Text<'a, C>, UtfError<C, &'a Heap>>, NoAnswer>;
-
-// Makes the string of a text.
-fn of_text<'a, C: FaultUnit>(heap: &'a Heap, text: &str) -> Made<'a, C> {
-    match UtfString::from_str(heap, text) {
-        Ok(string) => Ok(Ok(string)),
-        Err(_) => Err(NoAnswer::OutOfMemory),
+// Adds what comes of a string that was checked, or its fault, after which no calls follow.
+fn checked<'a, C: ReportedUnit>(
+    memory: Memory<'a>,
+    answer: &mut Answer,
+    made: Result<Text<'a, C>, UtfError<C, &'a Heap>>,
+    calls: Calls<'_>,
+) {
+    match made {
+        Ok(mut string) => edited(memory, &mut string, answer, calls),
+        Err(error) if calls.written.is_none() => faulty(answer, error),
+        Err(_) => answer.fail(NoAnswer::Unparsed),
     }
 }
 
-// Makes the string of the characters of a text.
-fn of_chars<'a, C: FaultUnit>(heap: &'a Heap, text: &str) -> Made<'a, C> {
-    match UtfString::from_iter_chars(heap, text.chars()) {
-        Ok(string) => Ok(Ok(string)),
-        Err(_) => Err(NoAnswer::OutOfMemory),
+// Adds what comes of the string of a text.
+fn of_text<C: ReportedUnit>(memory: Memory<'_>, answer: &mut Answer, text: &str, calls: Calls<'_>) {
+    match UtfString::<C, _>::from_str(memory.heap, text) {
+        Ok(mut string) => edited(memory, &mut string, answer, calls),
+        Err(_) => answer.fail(NoAnswer::OutOfMemory),
     }
 }
 
-// Makes the string of a C string.
-fn of_c_string<'a, C: ReportedUnit>(units: Vec<C, &'a Heap>) -> Made<'a, C> {
+// Adds what comes of the string of the characters of a text.
+fn of_chars<C: ReportedUnit>(
+    memory: Memory<'_>,
+    answer: &mut Answer,
+    text: &str,
+    calls: Calls<'_>,
+) {
+    match UtfString::<C, _>::from_iter_chars(memory.heap, text.chars()) {
+        Ok(mut string) => edited(memory, &mut string, answer, calls),
+        Err(_) => answer.fail(NoAnswer::OutOfMemory),
+    }
+}
+
+// Adds what comes of the string of a C string.
+fn of_c_string<'a, C: ReportedUnit>(
+    memory: Memory<'a>,
+    answer: &mut Answer,
+    units: Vec<C, &'a Heap>,
+    calls: Calls<'_>,
+) {
     match UCString::from_vec(units) {
-        Ok(string) => Ok(UtfString::from_ucstring(string)),
-        Err(_) => Err(NoAnswer::OutOfMemory),
+        Ok(string) => checked(memory, answer, UtfString::from_ucstring(string), calls),
+        Err(_) => answer.fail(NoAnswer::OutOfMemory),
     }
 }
 
@@ -394,47 +494,88 @@ static SOURCES: [(&str, Source); 5] = [
     ("c", Source::Contents),
 ];
 
-// Makes the string of a vector, or of what holds its units.
-fn of_vec<'a, C: ReportedUnit>(source: Source, units: Vec<C, &'a Heap>) -> Made<'a, C> {
-    match source {
-        Source::Contents => of_c_string(units),
-        Source::Units => Ok(UtfString::from_ustring(UString::from_vec(units))),
-        _ => Ok(UtfString::from_vec(units)),
+// Adds what comes of the string of the text of a list.
+fn by_text<C: ReportedUnit>(memory: Memory<'_>, answer: &mut Answer, list: &str, calls: Calls<'_>) {
+    match pieces::text::<C>(memory.alloc, list) {
+        Ok(text) => of_text::<C>(memory, answer, &text, calls),
+        Err(error) => answer.fail(error),
     }
 }
 
-// Makes the string of a list.
-fn made<'a, C: ReportedUnit>(
-    memory: Memory<'a>,
-    source: Source,
-    list: &str,
-    spare: usize,
-) -> Made<'a, C> {
-    match source {
-        Source::Text => of_text(memory.heap, &pieces::text::<C>(memory.alloc, list)?),
-        Source::Chars => of_chars(memory.heap, &pieces::text::<C>(memory.alloc, list)?),
-        _ => of_vec(source, pieces::counted(memory, list, spare)?),
-    }
-}
-
-/// Returns the answer: what the calls of a script return, and the units that each leaves.
-pub fn script<C: ReportedUnit>(
+// Adds what comes of the string of the characters of a list.
+fn by_chars<C: ReportedUnit>(
     memory: Memory<'_>,
+    answer: &mut Answer,
     list: &str,
-    question: &str,
-) -> Result<String, NoAnswer> {
-    let (maker, calls) = match question.split_once('/') {
+    calls: Calls<'_>,
+) {
+    match pieces::text::<C>(memory.alloc, list) {
+        Ok(text) => of_chars::<C>(memory, answer, &text, calls),
+        Err(error) => answer.fail(error),
+    }
+}
+
+// Adds what comes of the string of a vector, or of what holds its units.
+fn of_vec<'a, C: ReportedUnit>(
+    memory: Memory<'a>,
+    answer: &mut Answer,
+    source: Source,
+    units: Vec<C, &'a Heap>,
+    calls: Calls<'_>,
+) {
+    match source {
+        Source::Contents => of_c_string(memory, answer, units, calls),
+        Source::Units => checked(
+            memory,
+            answer,
+            UtfString::from_ustring(UString::from_vec(units)),
+            calls,
+        ),
+        _ => checked(memory, answer, UtfString::from_vec(units), calls),
+    }
+}
+
+// Adds what comes of the string of a list, whose vector has this spare capacity.
+fn made<C: ReportedUnit>(
+    memory: Memory<'_>,
+    answer: &mut Answer,
+    list: &str,
+    (source, spare): (Source, usize),
+    calls: Calls<'_>,
+) {
+    match source {
+        Source::Text => by_text::<C>(memory, answer, list, calls),
+        Source::Chars => by_chars::<C>(memory, answer, list, calls),
+        _ => match pieces::counted::<C>(memory, list, spare) {
+            Ok(units) => of_vec(memory, answer, source, units, calls),
+            Err(error) => answer.fail(error),
+        },
+    }
+}
+
+// Parses a question: what the string is made of, with its spare capacity, and the calls that follow.
+fn parse_question(question: &str) -> Result<((Source, usize), Calls<'_>), NoAnswer> {
+    let (maker, written) = match question.split_once('/') {
         None => (question, None),
-        Some((maker, calls)) => (maker, Some(calls)),
+        Some((maker, written)) => (maker, Some(written)),
     };
     let (kind, spare, counts) = match maker.split_once('+') {
         None => (maker, 0, false),
         Some((kind, spare)) => (kind, parse::value::<usize>(spare)?, true),
     };
-    match made::<C>(memory, parse::named(&SOURCES, kind)?, list, spare) {
-        Ok(Ok(string)) => edited(memory, string, calls, counts),
-        Ok(Err(error)) if calls.is_none() => faulty(memory.alloc, error),
-        Ok(Err(_)) => Err(NoAnswer::Unparsed),
-        Err(error) => Err(error),
+    let source = parse::named(&SOURCES, kind)?;
+    Ok(((source, spare), Calls { written, counts }))
+}
+
+/// Adds what the calls of a script return, and the units that each leaves.
+pub fn script<C: ReportedUnit>(
+    memory: Memory<'_>,
+    answer: &mut Answer,
+    list: &str,
+    question: &str,
+) {
+    match parse_question(question) {
+        Ok((source, calls)) => made::<C>(memory, answer, list, source, calls),
+        Err(error) => answer.fail(error),
     }
 }

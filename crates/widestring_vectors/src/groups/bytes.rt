@@ -4,7 +4,6 @@
 ghost use Rattle.std.specs.Prelude.{◌*◌, ◌+◌, ◌≤◌, length};
 ghost use Rattle.widestring.specs.UnitBytes.{unit_width};
 
-use std::alloc::Global;
 use widestring::error::OutOfMemory;
 use widestring::unit::Unit;
 use widestring::ustr::UStr;
@@ -66,40 +65,51 @@ fn put<C: Unit>(units: &[C], order: Order, buffer: &mut [u8; 404]) -> usize
     }
 }
 
-// Returns the answer: the bytes in a vector, the bytes of the buffer, and whether it is unchanged after them.
-fn shown(alloc: Global, made: &[u8], put: &[u8], beyond: &[u8]) -> Result<String, NoAnswer> {
-    let mut answer = Answer::new(alloc);
+// Adds bytes, those that were put into a buffer, and whether the buffer is unchanged after them.
+fn shown(answer: &mut Answer, made: &[u8], buffer: &[u8], count: usize) {
+    let (put, beyond) = buffer.split_at(count.min(buffer.len()));
     answer.bytes(made);
     answer.part();
     answer.bytes(put);
     answer.part();
     answer.decided(beyond.iter().all(|byte| *byte == 0xaa));
-    answer.finish()
 }
 
-fn of_units<C: Unit>(memory: Memory<'_>, units: &[C], question: &str) -> Result<String, NoAnswer>
+// Adds the bytes of units in an order.
+fn in_order<C: Unit>(memory: Memory<'_>, answer: &mut Answer, units: &[C], order: Order)
     requires { unit_width C.form * (length units.now + 1) ≤ 404 }
 {
-    let order = parse::named(&ORDERS, question)?;
     let mut buffer = [0xaa; 404];
     let count = put(units, order, &mut buffer);
-    let made = made(memory.heap, UStr::from_slice(units), order)?;
-    let (bytes, beyond) = buffer.split_at(count.min(404));
-    shown(memory.alloc, &made, bytes, beyond)
+    match made(memory.heap, UStr::from_slice(units), order) {
+        Ok(made) => shown(answer, &made, &buffer, count),
+        Err(error) => answer.fail(error),
+    }
 }
 
-/// Returns the answer to a question about the bytes of 16-bit units.
-pub fn of_units16(memory: Memory<'_>, units: &[u16], question: &str) -> Result<String, NoAnswer> {
-    if units.len() > 100 {
-        return Err(NoAnswer::Unparsed);
+fn of_units<C: Unit>(memory: Memory<'_>, answer: &mut Answer, units: &[C], question: &str)
+    requires { unit_width C.form * (length units.now + 1) ≤ 404 }
+{
+    match parse::named(&ORDERS, question) {
+        Ok(order) => in_order(memory, answer, units, order),
+        Err(error) => answer.fail(error),
     }
-    of_units(memory, units, question)
 }
 
-/// Returns the answer to a question about the bytes of 32-bit units.
-pub fn of_units32(memory: Memory<'_>, units: &[u32], question: &str) -> Result<String, NoAnswer> {
-    if units.len() > 100 {
-        return Err(NoAnswer::Unparsed);
+/// Adds the bytes of 16-bit units.
+pub fn of_units16(memory: Memory<'_>, answer: &mut Answer, units: &[u16], question: &str) {
+    if units.len() <= 100 {
+        of_units(memory, answer, units, question);
+    } else {
+        answer.fail(NoAnswer::Unparsed);
     }
-    of_units(memory, units, question)
+}
+
+/// Adds the bytes of 32-bit units.
+pub fn of_units32(memory: Memory<'_>, answer: &mut Answer, units: &[u32], question: &str) {
+    if units.len() <= 100 {
+        of_units(memory, answer, units, question);
+    } else {
+        answer.fail(NoAnswer::Unparsed);
+    }
 }

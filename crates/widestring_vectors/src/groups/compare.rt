@@ -7,7 +7,6 @@
 //! - `mixed` asks whether text is equal to the other units, to the C string of them, and to their text at the other
 //!   width, each from both sides. `str` asks whether the text is equal to the text of the other units as a `str`, and
 //!   `chars` whether it has its characters.
-use crate::groups::answers;
 use crate::groups::texts::c_string;
 use crate::groups::width::{Width, as_text};
 use std::alloc::Global;
@@ -58,51 +57,31 @@ fn compare<T: Ord + Hash>(answer: &mut Answer, left: &T, right: &T) {
     answer.decided(hash_of(left) == hash_of(right));
 }
 
-// Returns the answer: how two views compare.
-fn of_views<T: Ord + Hash>(alloc: Global, left: &T, right: &T) -> Result<String, NoAnswer> {
-    let mut answer = Answer::new(alloc);
-    compare(&mut answer, left, right);
-    answer.finish()
-}
-
-// Returns the answer: how two strings compare, and whether the first has the hash of its view.
-fn of_strings<T: Ord + Hash>(
-    alloc: Global,
-    left: &T,
-    right: &T,
-    hash_of_view: u64,
-) -> Result<String, NoAnswer> {
-    let mut answer = Answer::new(alloc);
-    compare(&mut answer, left, right);
+// Adds how two strings compare, and whether the first has the hash of its view.
+fn of_strings<T: Ord + Hash>(answer: &mut Answer, left: &T, right: &T, hash_of_view: u64) {
+    compare(answer, left, right);
     answer.decided(hash_of(left) == hash_of_view);
-    answer.finish()
 }
 
-fn of_c_strings<C: Width>(
-    alloc: Global,
-    left: &UCString<C>,
-    right: &UCString<C>,
-) -> Result<String, NoAnswer> {
-    let mut answer = Answer::new(alloc);
-    compare(&mut answer, &left.as_ucstr(), &right.as_ucstr());
+fn of_c_strings<C: Width>(answer: &mut Answer, left: &UCString<C>, right: &UCString<C>) {
+    compare(answer, &left.as_ucstr(), &right.as_ucstr());
     answer.part();
-    compare(&mut answer, left, right);
+    compare(answer, left, right);
     answer.decided(hash_of(left) == hash_of(&left.as_ucstr()));
-    answer.finish()
 }
 
-fn contents<C: Width>(alloc: Global, list: &[C], other: &[C]) -> Result<String, NoAnswer> {
-    let left = c_string(alloc, list)?;
-    to_contents(alloc, &left, other)
+fn contents<C: Width>(alloc: Global, answer: &mut Answer, list: &[C], other: &[C]) {
+    match c_string(alloc, list) {
+        Ok(left) => to_contents(alloc, answer, &left, other),
+        Err(error) => answer.fail(error),
+    }
 }
 
-fn to_contents<C: Width>(
-    alloc: Global,
-    left: &UCString<C>,
-    other: &[C],
-) -> Result<String, NoAnswer> {
-    let right = c_string(alloc, other)?;
-    of_c_strings(alloc, left, &right)
+fn to_contents<C: Width>(alloc: Global, answer: &mut Answer, left: &UCString<C>, other: &[C]) {
+    match c_string(alloc, other) {
+        Ok(right) => of_c_strings(answer, left, &right),
+        Err(error) => answer.fail(error),
+    }
 }
 
 // Returns the string of units, with capacity to spare.
@@ -112,14 +91,23 @@ fn spacious<C: Width>(alloc: Global, units: &[C]) -> Result<UString<C>, NoAnswer
     Ok(string)
 }
 
-fn unit_strings<C: Width>(alloc: Global, list: &[C], other: &[C]) -> Result<String, NoAnswer> {
-    let left = spacious(alloc, list)?;
-    to_units(alloc, &left, other)
+fn unit_strings<C: Width>(alloc: Global, answer: &mut Answer, list: &[C], other: &[C]) {
+    match spacious(alloc, list) {
+        Ok(left) => to_units(alloc, answer, &left, other),
+        Err(error) => answer.fail(error),
+    }
 }
 
-fn to_units<C: Width>(alloc: Global, left: &UString<C>, other: &[C]) -> Result<String, NoAnswer> {
-    let right = UString::from_vec(Vec::from_slice(alloc, other)?);
-    of_strings(alloc, left, &right, hash_of(&left.as_ustr()))
+fn to_units<C: Width>(alloc: Global, answer: &mut Answer, left: &UString<C>, other: &[C]) {
+    match Vec::from_slice(alloc, other) {
+        Ok(right) => of_strings(
+            answer,
+            left,
+            &UString::from_vec(right),
+            hash_of(&left.as_ustr()),
+        ),
+        Err(_) => answer.fail(NoAnswer::OutOfMemory),
+    }
 }
 
 // Returns the string of a text, with capacity to spare.
@@ -136,23 +124,28 @@ fn grown_text<C: Width>(alloc: Global, text: UtfStr<'_, C>) -> Result<UtfString<
     Ok(string)
 }
 
-fn strings<C: Width>(alloc: Global, list: &[C], other: &[C]) -> Result<String, NoAnswer> {
-    let (list, other) = (as_text(list)?, as_text(other)?);
-    let left = spacious_text(alloc, list)?;
-    to_text(alloc, &left, other)
+fn strings<C: Width>(
+    alloc: Global,
+    answer: &mut Answer,
+    list: UtfStr<'_, C>,
+    other: UtfStr<'_, C>,
+) {
+    match spacious_text(alloc, list) {
+        Ok(left) => to_text(alloc, answer, &left, other),
+        Err(error) => answer.fail(error),
+    }
 }
 
 fn to_text<C: Width>(
     alloc: Global,
+    answer: &mut Answer,
     left: &UtfString<C>,
     other: UtfStr<'_, C>,
-) -> Result<String, NoAnswer> {
-    let right = grown_text(alloc, other)?;
-    of_strings(alloc, left, &right, hash_of(&left.as_utfstr()))
-}
-
-fn texts<C: Width>(alloc: Global, list: &[C], other: &[C]) -> Result<String, NoAnswer> {
-    of_views(alloc, &as_text(list)?, &as_text(other)?)
+) {
+    match grown_text(alloc, other) {
+        Ok(right) => of_strings(answer, left, &right, hash_of(&left.as_utfstr())),
+        Err(error) => answer.fail(error),
+    }
 }
 
 // Adds whether a text is equal to the contents of a C string of units, if there is one.
@@ -166,51 +159,49 @@ fn with_contents<C: Width>(answer: &mut Answer, alloc: Global, list: UtfStr<'_, 
     }
 }
 
-// Returns whether a text is equal to the text of units at the other width, asked from both sides.
-fn eq_other<C: Width>(
-    alloc: Global,
-    list: UtfStr<'_, C>,
-    other: &[C],
-) -> Result<[bool; 2], NoAnswer> {
-    let theirs = text_of(alloc, other)?;
-    C::eq_other(list.as_slice(), &theirs, alloc)
-}
-
-// Adds whether a text is equal to the text of units at the other width, if they are text.
-fn with_other_width<C: Width>(
-    answer: &mut Answer,
-    alloc: Global,
-    list: UtfStr<'_, C>,
-    other: &[C],
-) -> Result<(), NoAnswer> {
-    if as_text(other).is_err() {
-        return Ok(());
+// Adds what was asked from both sides.
+fn add_both(answer: &mut Answer, asked: Result<[bool; 2], NoAnswer>) {
+    match asked {
+        Ok(both) => {
+            answer.decided(both[0]);
+            answer.decided(both[1]);
+        }
+        Err(error) => answer.fail(error),
     }
-    let [to_other, from_other] = eq_other(alloc, list, other)?;
-    answer.decided(to_other);
-    answer.decided(from_other);
-    Ok(())
 }
 
-// Returns the answer: whether a text is equal to units, to the contents of the C string of them, and to their text at
+// Adds whether a text is equal to the text of units at the other width, asked from both sides.
+fn with_other_width<C: Width>(
+    alloc: Global,
+    answer: &mut Answer,
+    list: UtfStr<'_, C>,
+    other: &[C],
+) {
+    match text_of(alloc, other) {
+        Ok(theirs) => add_both(answer, C::eq_other(list.as_slice(), &theirs, alloc)),
+        Err(error) => answer.fail(error),
+    }
+}
+
+// Adds whether a text is equal to units, to the contents of the C string of them, and to their text at
 // the other width.
-fn mixed<C: Width>(alloc: Global, list: &[C], other: &[C]) -> Result<String, NoAnswer> {
-    let list = as_text(list)?;
+fn mixed<C: Width>(alloc: Global, answer: &mut Answer, list: UtfStr<'_, C>, other: &[C]) {
     let view = UStr::from_slice(other);
-    let mut answer = Answer::new(alloc);
     answer.decided(list.eq_ustr(view));
     answer.decided(view.eq_utfstr(list));
     answer.part();
-    with_contents(&mut answer, alloc, list, other);
+    with_contents(answer, alloc, list, other);
     answer.part();
-    with_other_width(&mut answer, alloc, list, other)?;
-    answer.finish()
+    if as_text(other).is_ok() {
+        with_other_width(alloc, answer, list, other);
+    }
 }
 
-fn with_str<C: Width>(alloc: Global, list: &[C], other: &[C]) -> Result<String, NoAnswer> {
-    let list = as_text(list)?;
-    let theirs = text_of(alloc, other)?;
-    answers::decided(alloc, list.eq_str(&theirs))
+fn with_str<C: Width>(alloc: Global, answer: &mut Answer, list: UtfStr<'_, C>, other: &[C]) {
+    match text_of(alloc, other) {
+        Ok(theirs) => answer.decided(list.eq_str(&theirs)),
+        Err(error) => answer.fail(error),
+    }
 }
 
 fn characters<C: Width>(alloc: Global, units: &[C]) -> Result<Vec<char>, NoAnswer> {
@@ -221,32 +212,54 @@ fn characters<C: Width>(alloc: Global, units: &[C]) -> Result<Vec<char>, NoAnswe
     Ok(chars)
 }
 
-fn eq_chars<C: Width>(alloc: Global, list: &[C], other: &[C]) -> Result<String, NoAnswer> {
-    let chars = characters(alloc, other)?;
-    answers::decided(alloc, C::eq_chars(list, &chars)?)
-}
-
-fn of_lists<C: Width>(
-    alloc: Global,
-    kind: Kind,
-    list: &[C],
-    other: &[C],
-) -> Result<String, NoAnswer> {
-    match kind {
-        Kind::Units => of_views(alloc, &UStr::from_slice(list), &UStr::from_slice(other)),
-        Kind::UnitStrings => unit_strings(alloc, list, other),
-        Kind::Contents => contents(alloc, list, other),
-        Kind::Texts => texts(alloc, list, other),
-        Kind::Strings => strings(alloc, list, other),
-        Kind::Mixed => mixed(alloc, list, other),
-        Kind::Str => with_str(alloc, list, other),
-        Kind::Chars => eq_chars(alloc, list, other),
+fn is_chars<C: Width>(answer: &mut Answer, list: &[C], chars: &[char]) {
+    match C::eq_chars(list, chars) {
+        Ok(holds) => answer.decided(holds),
+        Err(error) => answer.fail(error),
     }
 }
 
-/// Returns the answer to a question about two lists of units.
-pub fn compared<C: Width>(alloc: Global, list: &[C], question: &str) -> Result<String, NoAnswer> {
+fn eq_chars<C: Width>(alloc: Global, answer: &mut Answer, list: &[C], other: &[C]) {
+    match characters(alloc, other) {
+        Ok(chars) => is_chars(answer, list, &chars),
+        Err(error) => answer.fail(error),
+    }
+}
+
+fn of_texts<C: Width>(
+    alloc: Global,
+    answer: &mut Answer,
+    kind: Kind,
+    list: UtfStr<'_, C>,
+    other: &[C],
+) {
+    match (kind, as_text(other)) {
+        (Kind::Texts, Ok(other)) => compare(answer, &list, &other),
+        (Kind::Strings, Ok(other)) => strings(alloc, answer, list, other),
+        (Kind::Mixed, _) => mixed(alloc, answer, list, other),
+        (Kind::Str, _) => with_str(alloc, answer, list, other),
+        _ => answer.fail(NoAnswer::Unparsed),
+    }
+}
+
+fn of_lists<C: Width>(alloc: Global, answer: &mut Answer, kind: Kind, list: &[C], other: &[C]) {
+    match kind {
+        Kind::Units => compare(answer, &UStr::from_slice(list), &UStr::from_slice(other)),
+        Kind::UnitStrings => unit_strings(alloc, answer, list, other),
+        Kind::Contents => contents(alloc, answer, list, other),
+        Kind::Chars => eq_chars(alloc, answer, list, other),
+        _ => match as_text(list) {
+            Ok(list) => of_texts(alloc, answer, kind, list, other),
+            Err(error) => answer.fail(error),
+        },
+    }
+}
+
+/// Adds the answer to a question about two lists of units.
+pub fn compared<C: Width>(alloc: Global, answer: &mut Answer, list: &[C], question: &str) {
     let (word, more) = parse::word(question);
-    let kind = parse::named(&KINDS, word)?;
-    of_lists(alloc, kind, list, &parse::list::<C>(alloc, more)?)
+    match (parse::named(&KINDS, word), parse::list::<C>(alloc, more)) {
+        (Ok(kind), Ok(other)) => of_lists(alloc, answer, kind, list, &other),
+        (Err(error), _) | (_, Err(error)) => answer.fail(error),
+    }
 }

@@ -11,7 +11,6 @@
 //! and the unit of the fault. It is a `?` if the flags of the devices contradict it.
 ghost use Rattle.std.specs.Prelude.{◌≡◌, IfOk, false};
 
-use crate::groups::answers;
 use std::alloc::Global;
 use widestring::Policy;
 use widestring::bytes::{ByteSink, ByteSource, Mode, transcode, transcode_with};
@@ -62,7 +61,7 @@ fn sink(alloc: Global, word: &str) -> Result<SlowSink, NoAnswer>
     }
 }
 
-fn show(answer: &mut Answer, ending: Result<(), TranscodeError>) -> Result<(), NoAnswer> {
+fn show(answer: &mut Answer, ending: Result<(), TranscodeError>) {
     match ending {
         Ok(()) => answer.word("ok"),
         Err(TranscodeError::OddLength) => answer.word("odd"),
@@ -71,9 +70,8 @@ fn show(answer: &mut Answer, ending: Result<(), TranscodeError>) -> Result<(), N
         Err(TranscodeError::Utf16 { index, item, unit }) => {
             answer.reported_fault(index, item, u32::from(unit))
         }
-        Err(TranscodeError::OutOfMemory) => return Err(NoAnswer::OutOfMemory),
+        Err(TranscodeError::OutOfMemory) => answer.fail(NoAnswer::OutOfMemory),
     }
-    Ok(())
 }
 
 // Returns whether a device has failed only if its error is the result, and the source has ended if everything was read.
@@ -117,30 +115,57 @@ fn moved(call: Call, source: &mut SlowSource<'_>, sink: &mut SlowSink) -> Result
     }
 }
 
-// Returns the answer: the bytes that were written, and how a run ends.
-fn shown(
-    alloc: Global,
-    written: &[u8],
-    ending: Result<(), TranscodeError>,
-) -> Result<String, NoAnswer> {
-    let mut answer = Answer::new(alloc);
-    answer.bytes(written);
-    answer.part();
-    show(&mut answer, ending)?;
-    answer.finish()
-}
-
-/// Returns the answer: what a run writes, and how it ends.
-pub fn run(alloc: Global, bytes: &[u8], question: &str) -> Result<String, NoAnswer> {
-    let (call, devices) = parse::parts(question)?;
-    let call = parse::named(&CALLS, call)?;
-    let (from, to) = parse::parts(devices)?;
-    let mut source = source(from, bytes)?;
-    let mut sink = sink(alloc, to)?;
+// Makes a run, and adds the bytes that it wrote, and how it ended.
+fn run_into(answer: &mut Answer, call: Call, mut source: SlowSource<'_>, mut sink: SlowSink)
+    requires source_unfailed { source.failed ≡ false }
+    requires source_open { source.ended ≡ false }
+    requires sink_unfailed { sink.failed ≡ false }
+{
     let ending = moved(call, &mut source, &mut sink);
     if is_flagged(ending, &source, &sink) {
-        shown(alloc, &sink.bytes, ending)
+        answer.bytes(&sink.bytes);
+        answer.part();
+        show(answer, ending);
     } else {
-        answers::word(alloc, "?")
+        answer.word("?");
+    }
+}
+
+// Makes a run from a source into a sink of this word.
+fn run_from(alloc: Global, answer: &mut Answer, call: Call, source: SlowSource<'_>, to: &str)
+    requires failed { source.failed ≡ false }
+    requires ended { source.ended ≡ false }
+{
+    match sink(alloc, to) {
+        Ok(sink) => run_into(answer, call, source, sink),
+        Err(error) => answer.fail(error),
+    }
+}
+
+// Parses a call, and the words of its source and of its sink.
+fn parse_run(question: &str) -> Result<(Call, &str, &str), NoAnswer> {
+    let (call, devices) = parse::parts(question)?;
+    let (from, to) = parse::parts(devices)?;
+    Ok((parse::named(&CALLS, call)?, from, to))
+}
+
+// Makes the run of a call.
+fn run_call(
+    alloc: Global,
+    answer: &mut Answer,
+    bytes: &[u8],
+    (call, from, to): (Call, &str, &str),
+) {
+    match source(from, bytes) {
+        Ok(source) => run_from(alloc, answer, call, source, to),
+        Err(error) => answer.fail(error),
+    }
+}
+
+/// Adds what a run writes, and how it ends.
+pub fn run(alloc: Global, answer: &mut Answer, bytes: &[u8], question: &str) {
+    match parse_run(question) {
+        Ok(call) => run_call(alloc, answer, bytes, call),
+        Err(error) => answer.fail(error),
     }
 }

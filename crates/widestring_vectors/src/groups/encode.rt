@@ -6,36 +6,37 @@ use widestring_replay::asked;
 use widestring_replay::parse::{self, NoAnswer};
 use widestring_replay::show::Answer;
 
-/// Returns the answer: all bytes of an encoder to UTF-8.
-pub fn utf8(alloc: Global, chars: &[char], question: &str) -> Result<String, NoAnswer> {
-    parse::no_question(question)?;
-    let mut answer = Answer::new(alloc);
+/// Adds all bytes of an encoder to UTF-8.
+pub fn utf8(answer: &mut Answer, chars: &[char], question: &str) {
+    if !question.is_empty() {
+        answer.fail(NoAnswer::Unparsed);
+    }
     for byte in encode_utf8(chars.iter().copied()) {
         answer.number(Some(u32::from(byte)));
     }
-    answer.finish()
 }
 
-/// Returns the answer: all units of an encoder to UTF-16.
-pub fn utf16(alloc: Global, chars: &[char], question: &str) -> Result<String, NoAnswer> {
-    parse::no_question(question)?;
-    let mut answer = Answer::new(alloc);
+/// Adds all units of an encoder to UTF-16.
+pub fn utf16(answer: &mut Answer, chars: &[char], question: &str) {
+    if !question.is_empty() {
+        answer.fail(NoAnswer::Unparsed);
+    }
     for unit in encode_utf16(chars.iter().copied()) {
         answer.number(Some(u32::from(unit)));
     }
-    answer.finish()
 }
 
-fn of_calls(alloc: Global, chars: &[char], calls: &[End]) -> Result<String, NoAnswer> {
+fn of_calls(answer: &mut Answer, chars: &[char], calls: &[End]) {
     let mut encoder = encode_utf32(chars.iter().copied());
-    let mut answer = Answer::new(alloc);
     for end in calls {
         answer.number(asked!(encoder, end));
     }
-    answer.finish()
 }
 
-/// Returns the answer: what an encoder to UTF-32 returns for each call.
-pub fn utf32(alloc: Global, chars: &[char], word: &str) -> Result<String, NoAnswer> {
-    of_calls(alloc, chars, &parse::calls(alloc, word)?)
+/// Adds what an encoder to UTF-32 returns for each call.
+pub fn utf32(alloc: Global, answer: &mut Answer, chars: &[char], word: &str) {
+    match parse::calls(alloc, word) {
+        Ok(calls) => of_calls(answer, chars, &calls),
+        Err(error) => answer.fail(error),
+    }
 }

@@ -5,8 +5,6 @@
 //! For UTF-8, `code` is the first code point, decoded by the layout of its bytes, and the bytes after it; `valid` is
 //! the lengths of the text in UTF-16 and in UTF-32, or, after a `!`, how many bytes precede the first fault; `lossy`
 //! has the units of the lossy text in UTF-16.
-use crate::groups::answers;
-use std::alloc::Global;
 use std::str;
 use widestring::Utf16String;
 use widestring::bytes::{BoM, byte_order, include_utf16str, units_of_bytes, utf16_of_bytes};
@@ -46,98 +44,88 @@ fn letter(order: Option<BoM>) -> &'static str {
     }
 }
 
-fn units(alloc: Global, bytes: &[u8]) -> Result<String, NoAnswer> {
-    let mut answer = Answer::new(alloc);
+fn units(answer: &mut Answer, bytes: &[u8]) {
     for unit in units_of_bytes(bytes) {
         answer.unit(Some(unit));
     }
-    answer.finish()
 }
 
-fn parts(alloc: Global, bytes: &[u8]) -> Result<String, NoAnswer> {
-    let parts = utf16_of_bytes(bytes);
-    let mut answer = Answer::new(alloc);
-    answer.word(letter(Some(parts.order)));
-    answer.decided(parts.has_bom);
+fn fields(answer: &mut Answer, bytes: &[u8]) {
+    let fields = utf16_of_bytes(bytes);
+    answer.word(letter(Some(fields.order)));
+    answer.decided(fields.has_bom);
     answer.part();
-    for unit in parts.units {
+    for unit in fields.units {
         answer.unit(Some(unit));
     }
     answer.part();
-    answer.number(parts.half.map(u32::from));
-    answer.finish()
+    answer.number(fields.half.map(u32::from));
 }
 
-fn refused(alloc: Global, fault: Utf16Error<&Heap>) -> Result<String, NoAnswer> {
-    let mut answer = Answer::new(alloc);
+fn refused(answer: &mut Answer, fault: Utf16Error<&Heap>) {
     answer.first_fault(&fault);
     answer.part();
     answer.handed_back(fault.into_vec());
-    answer.finish()
 }
 
-fn text(memory: Memory<'_>, bytes: &[u8]) -> Result<String, NoAnswer> {
+fn text(memory: Memory<'_>, answer: &mut Answer, bytes: &[u8]) {
     match include_utf16str(memory.heap, bytes) {
-        Ok(string) => answers::units(memory.alloc, string.as_slice()),
-        Err(Utf16BytesError::OddLength) => answers::word(memory.alloc, "odd"),
-        Err(Utf16BytesError::OutOfMemory) => Err(NoAnswer::OutOfMemory),
-        Err(Utf16BytesError::Utf16(fault)) => refused(memory.alloc, fault),
+        Ok(string) => answer.units(string.as_slice()),
+        Err(Utf16BytesError::OddLength) => answer.word("odd"),
+        Err(Utf16BytesError::OutOfMemory) => answer.fail(NoAnswer::OutOfMemory),
+        Err(Utf16BytesError::Utf16(fault)) => refused(answer, fault),
     }
 }
 
-fn lengths(alloc: Global, text: &str) -> Result<String, NoAnswer> {
-    let mut answer = Answer::new(alloc);
-    answer.count(Some(length_as_utf16(text)));
-    answer.count(Some(length_as_utf32(text)));
-    answer.finish()
-}
-
-fn valid_up_to(alloc: Global, count: usize) -> Result<String, NoAnswer> {
-    let mut answer = Answer::new(alloc);
-    answer.word("!");
-    answer.part();
-    answer.count(Some(count));
-    answer.finish()
-}
-
-fn valid(alloc: Global, bytes: &[u8]) -> Result<String, NoAnswer> {
+fn valid(answer: &mut Answer, bytes: &[u8]) {
     match str::from_utf8(bytes) {
-        Ok(text) => lengths(alloc, text),
-        Err(fault) => valid_up_to(alloc, fault.valid_up_to()),
+        Ok(text) => {
+            answer.count(Some(length_as_utf16(text)));
+            answer.count(Some(length_as_utf32(text)));
+        }
+        Err(fault) => {
+            answer.word("!");
+            answer.part();
+            answer.count(Some(fault.valid_up_to()));
+        }
     }
 }
 
-fn code(alloc: Global, bytes: &[u8]) -> Result<String, NoAnswer> {
-    let Some((code, rest)) = next_code_point(bytes) else {
-        return answers::word(alloc, "-");
-    };
-    let mut answer = Answer::new(alloc);
-    answer.number(Some(code));
-    answer.part();
-    answer.bytes(rest);
-    answer.finish()
+fn code(answer: &mut Answer, bytes: &[u8]) {
+    match next_code_point(bytes) {
+        None => answer.word("-"),
+        Some((code, rest)) => {
+            answer.number(Some(code));
+            answer.part();
+            answer.bytes(rest);
+        }
+    }
 }
 
-fn in_utf16(memory: Memory<'_>, text: &str) -> Result<String, NoAnswer> {
-    let text = Utf16String::from_str(memory.heap, text)?;
-    answers::units(memory.alloc, text.as_slice())
+fn in_utf16(memory: Memory<'_>, answer: &mut Answer, text: &str) {
+    match Utf16String::from_str(memory.heap, text) {
+        Ok(text) => answer.units(text.as_slice()),
+        Err(_) => answer.fail(NoAnswer::OutOfMemory),
+    }
 }
 
-fn lossy(memory: Memory<'_>, bytes: &[u8]) -> Result<String, NoAnswer> {
-    let text = String::from_utf8_lossy(memory.alloc, bytes)?;
-    in_utf16(memory, &text)
+fn lossy(memory: Memory<'_>, answer: &mut Answer, bytes: &[u8]) {
+    match String::from_utf8_lossy(memory.alloc, bytes) {
+        Ok(text) => in_utf16(memory, answer, &text),
+        Err(_) => answer.fail(NoAnswer::OutOfMemory),
+    }
 }
 
-/// Returns the answer to a question about bytes.
-pub fn of_bytes(memory: Memory<'_>, bytes: &[u8], question: &str) -> Result<String, NoAnswer> {
-    let alloc = memory.alloc;
-    match parse::named(&QUERIES, question)? {
-        Query::Order => answers::word(alloc, letter(byte_order(bytes))),
-        Query::Units => units(alloc, bytes),
-        Query::Fields => parts(alloc, bytes),
-        Query::Text => text(memory, bytes),
-        Query::Code => code(alloc, bytes),
-        Query::Valid => valid(alloc, bytes),
-        Query::Lossy => lossy(memory, bytes),
+/// Adds the answer to a question about bytes.
+pub fn of_bytes(memory: Memory<'_>, answer: &mut Answer, bytes: &[u8], question: &str) {
+    match parse::named(&QUERIES, question) {
+        Ok(Query::Order) => answer.word(letter(byte_order(bytes))),
+        Ok(Query::Units) => units(answer, bytes),
+        Ok(Query::Fields) => fields(answer, bytes),
+        Ok(Query::Text) => text(memory, answer, bytes),
+        Ok(Query::Code) => code(answer, bytes),
+        Ok(Query::Valid) => valid(answer, bytes),
+        Ok(Query::Lossy) => lossy(memory, answer, bytes),
+        Err(error) => answer.fail(error),
     }
 }

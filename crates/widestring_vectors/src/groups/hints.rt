@@ -1,6 +1,6 @@
 //! The bounds that `size_hint` of an iterator returns, at first and after each call.
 ghost use Rattle.std.specs.Prelude.{◌≤◌, length};
-ghost use Rattle.std.specs.Iterator.{at_most};
+ghost use Rattle.std.specs.Iterator.{IsFinite, at_most};
 
 use std::alloc::Global;
 use widestring::iter::{
@@ -11,48 +11,47 @@ use widestring_replay::asked;
 use widestring_replay::parse::{self, NoAnswer};
 use widestring_replay::show::Answer;
 
-// Returns the answer: the bounds of an iterator, at first and after each call.
-macro_rules! bounds_of {
-    ($alloc:expr, $iterator:expr, $calls:expr) => {{
-        let mut iterator = $iterator;
-        let mut answer = Answer::new($alloc);
+// Adds the bounds of an iterator, at first and after each call.
+fn bounds<I: DoubleEndedIterator>(answer: &mut Answer, mut iterator: I, calls: &[End])
+where
+    I::Item: Drop,
+    requires front { (i : I) → I.can_next i }
+    requires back { (i : I) → I.can_next_back i }
+    requires finite { (i : I) → IsFinite (I.remaining i) }
+{
+    answer.bounds(iterator.size_hint());
+    for call in calls {
+        let _item = asked!(iterator, call);
         answer.bounds(iterator.size_hint());
-        for call in $calls {
-            let _ = asked!(iterator, call);
-            answer.bounds(iterator.size_hint());
-        }
-        answer.finish()
-    }};
+    }
 }
 
-fn of_slice(alloc: Global, units: &[u16], calls: &[End]) -> Result<String, NoAnswer> {
-    bounds_of!(alloc, decode_utf16(units.iter().copied()), calls)
+fn of_slice(answer: &mut Answer, units: &[u16], calls: &[End]) {
+    bounds(answer, decode_utf16(units.iter().copied()), calls);
 }
 
-fn of_vec(alloc: Global, units: &[u16], calls: &[End]) -> Result<String, NoAnswer> {
-    let units = Vec::from_slice(alloc, units)?;
-    bounds_of!(alloc, decode_utf16(units), calls)
+fn of_vec(alloc: Global, answer: &mut Answer, units: &[u16], calls: &[End]) {
+    match Vec::from_slice(alloc, units) {
+        Ok(units) => bounds(answer, decode_utf16(units), calls),
+        Err(_) => answer.fail(NoAnswer::OutOfMemory),
+    }
 }
 
-fn of_array<const N: usize>(
-    alloc: Global,
-    units: [u16; N],
-    calls: &[End],
-) -> Result<String, NoAnswer>
+fn of_array<const N: usize>(answer: &mut Answer, units: [u16; N], calls: &[End])
     requires { N ≤ 4 }
 {
-    bounds_of!(alloc, decode_utf16(units), calls)
+    bounds(answer, decode_utf16(units), calls);
 }
 
-// Returns the answer for an array. The data have up to four units.
-fn of_units(alloc: Global, units: &[u16], calls: &[End]) -> Result<String, NoAnswer> {
+// Adds the bounds for an array. The data have up to four units.
+fn of_units(answer: &mut Answer, units: &[u16], calls: &[End]) {
     match units {
-        [] => of_array(alloc, [], calls),
-        [a] => of_array(alloc, [*a], calls),
-        [a, b] => of_array(alloc, [*a, *b], calls),
-        [a, b, c] => of_array(alloc, [*a, *b, *c], calls),
-        [a, b, c, d] => of_array(alloc, [*a, *b, *c, *d], calls),
-        _ => Err(NoAnswer::Unparsed),
+        [] => of_array(answer, [], calls),
+        [a] => of_array(answer, [*a], calls),
+        [a, b] => of_array(answer, [*a, *b], calls),
+        [a, b, c] => of_array(answer, [*a, *b, *c], calls),
+        [a, b, c, d] => of_array(answer, [*a, *b, *c, *d], calls),
+        _ => answer.fail(NoAnswer::Unparsed),
     }
 }
 
@@ -88,73 +87,84 @@ impl DoubleEndedIterator for Vague<'_> {
     }
 }
 
-fn of_vague(alloc: Global, source: Vague, calls: &[End]) -> Result<String, NoAnswer> {
-    bounds_of!(alloc, decode_utf16(source), calls)
+fn of_vague(answer: &mut Answer, source: Vague, calls: &[End]) {
+    bounds(answer, decode_utf16(source), calls);
 }
 
-fn of_source(alloc: Global, source: u8, units: &[u16], calls: &[End]) -> Result<String, NoAnswer> {
+fn of_source(alloc: Global, answer: &mut Answer, source: u8, units: &[u16], calls: &[End]) {
     let bounded = source == b'm';
     match source {
-        b's' => of_slice(alloc, units, calls),
-        b'a' => of_units(alloc, units, calls),
-        b'v' => of_vec(alloc, units, calls),
-        b'm' | b'n' => of_vague(alloc, Vague { units, bounded }, calls),
-        _ => Err(NoAnswer::Unparsed),
+        b's' => of_slice(answer, units, calls),
+        b'a' => of_units(answer, units, calls),
+        b'v' => of_vec(alloc, answer, units, calls),
+        b'm' | b'n' => of_vague(answer, Vague { units, bounded }, calls),
+        _ => answer.fail(NoAnswer::Unparsed),
     }
 }
 
-/// Returns the answer: the bounds of a decoder of UTF-16. A question is a letter for the source, and then a word of
-/// calls: `s` for the copied units of a slice, `a` for an array, `v` for a vector, `m` for units whose source says that
-/// they are at most `usize::MAX`, and `n` for units of which it says nothing.
-pub fn utf16(alloc: Global, units: &[u16], question: &str) -> Result<String, NoAnswer> {
-    let (source, word) = parse::kind(question)?;
-    of_source(alloc, source, units, &parse::calls(alloc, word)?)
+fn of_word(alloc: Global, answer: &mut Answer, source: u8, units: &[u16], word: &str) {
+    match parse::calls(alloc, word) {
+        Ok(calls) => of_source(alloc, answer, source, units, &calls),
+        Err(error) => answer.fail(error),
+    }
 }
 
-fn of_slice32(alloc: Global, units: &[u32], calls: &[End]) -> Result<String, NoAnswer> {
-    bounds_of!(alloc, decode_utf32(units.iter().copied()), calls)
+/// Adds the bounds of a decoder of UTF-16. A question is a letter for the source, and then a word of calls: `s` for the
+/// copied units of a slice, `a` for an array, `v` for a vector, `m` for units whose source says that they are at most
+/// `usize::MAX`, and `n` for units of which it says nothing.
+pub fn utf16(alloc: Global, answer: &mut Answer, units: &[u16], question: &str) {
+    match parse::kind(question) {
+        Ok((source, word)) => of_word(alloc, answer, source, units, word),
+        Err(error) => answer.fail(error),
+    }
 }
 
-/// Returns the answer: the bounds of a decoder of UTF-32 over the copied units of a slice. A question is a word of
-/// calls.
-pub fn utf32(alloc: Global, units: &[u32], word: &str) -> Result<String, NoAnswer> {
-    of_slice32(alloc, units, &parse::calls(alloc, word)?)
+/// Adds the bounds of a decoder of UTF-32 over the copied units of a slice. A question is a word of calls.
+pub fn utf32(alloc: Global, answer: &mut Answer, units: &[u32], word: &str) {
+    match parse::calls(alloc, word) {
+        Ok(calls) => bounds(answer, decode_utf32(units.iter().copied()), &calls),
+        Err(error) => answer.fail(error),
+    }
 }
 
-/// Returns the answer: the bounds of a lossy decoder of UTF-16 over the copied units of a slice.
-pub fn lossy_utf16(alloc: Global, units: &[u16], calls: &[End]) -> Result<String, NoAnswer> {
-    bounds_of!(alloc, decode_utf16_lossy(units.iter().copied()), calls)
+/// Adds the bounds of a lossy decoder of UTF-16 over the copied units of a slice.
+pub fn lossy_utf16(answer: &mut Answer, units: &[u16], calls: &[End]) {
+    bounds(answer, decode_utf16_lossy(units.iter().copied()), calls);
 }
 
-/// Returns the answer: the bounds of a lossy decoder of UTF-32 over the copied units of a slice.
-pub fn lossy_utf32(alloc: Global, units: &[u32], calls: &[End]) -> Result<String, NoAnswer> {
-    bounds_of!(alloc, decode_utf32_lossy(units.iter().copied()), calls)
+/// Adds the bounds of a lossy decoder of UTF-32 over the copied units of a slice.
+pub fn lossy_utf32(answer: &mut Answer, units: &[u32], calls: &[End]) {
+    bounds(answer, decode_utf32_lossy(units.iter().copied()), calls);
 }
 
-// Returns the answer: the bounds of an encoder, at first and after each call from the front.
-macro_rules! prefix_bounds_of {
-    ($alloc:expr, $iterator:expr, $calls:expr) => {{
-        let mut iterator = $iterator;
-        let mut answer = Answer::new($alloc);
-        answer.bounds(iterator.size_hint());
-        for _call in 0..$calls {
-            let _ = iterator.next();
-            answer.bounds(iterator.size_hint());
-        }
-        answer.finish()
-    }};
+// Adds the bounds of an encoder, at first and after each call from the front.
+fn prefix_bounds<I: Iterator>(answer: &mut Answer, mut encoder: I, calls: usize)
+where
+    I::Item: Drop,
+    requires front { (i : I) → I.can_next i }
+    requires finite { (i : I) → IsFinite (I.remaining i) }
+{
+    answer.bounds(encoder.size_hint());
+    for _call in 0..calls {
+        let _item = encoder.next();
+        answer.bounds(encoder.size_hint());
+    }
 }
 
-/// Returns the answer: the bounds of an encoder to UTF-8 over the copied characters of a slice. A question is a word of
-/// calls, all from the front.
-pub fn of_utf8_encoder(alloc: Global, chars: &[char], word: &str) -> Result<String, NoAnswer> {
-    let calls = parse::prefix_calls(word)?;
-    prefix_bounds_of!(alloc, encode_utf8(chars.iter().copied()), calls)
+/// Adds the bounds of an encoder to UTF-8 over the copied characters of a slice. A question is a word of calls, all
+/// from the front.
+pub fn of_utf8_encoder(answer: &mut Answer, chars: &[char], word: &str) {
+    match parse::prefix_calls(word) {
+        Ok(calls) => prefix_bounds(answer, encode_utf8(chars.iter().copied()), calls),
+        Err(error) => answer.fail(error),
+    }
 }
 
-/// Returns the answer: the bounds of an encoder to UTF-16 over the copied characters of a slice. A question is a word
-/// of calls, all from the front.
-pub fn of_utf16_encoder(alloc: Global, chars: &[char], word: &str) -> Result<String, NoAnswer> {
-    let calls = parse::prefix_calls(word)?;
-    prefix_bounds_of!(alloc, encode_utf16(chars.iter().copied()), calls)
+/// Adds the bounds of an encoder to UTF-16 over the copied characters of a slice. A question is a word of calls, all
+/// from the front.
+pub fn of_utf16_encoder(answer: &mut Answer, chars: &[char], word: &str) {
+    match parse::prefix_calls(word) {
+        Ok(calls) => prefix_bounds(answer, encode_utf16(chars.iter().copied()), calls),
+        Err(error) => answer.fail(error),
+    }
 }

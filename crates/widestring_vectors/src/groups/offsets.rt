@@ -7,29 +7,18 @@ use widestring_replay::asked;
 use widestring_replay::parse::{self, NoAnswer};
 use widestring_replay::show::{Answer, ReportedUnit};
 
-// Returns the answer: items and their indices.
-fn of_items<C: ReportedUnit>(
-    alloc: Global,
-    view: UStr<'_, C>,
-    calls: &[End],
-) -> Result<String, NoAnswer> {
+// Adds items and their indices.
+fn of_items<C: ReportedUnit>(answer: &mut Answer, view: UStr<'_, C>, calls: &[End]) {
     let mut offsets = view.char_indices();
-    let mut answer = Answer::new(alloc);
     for end in calls {
         let position = asked!(offsets, end);
         answer.position::<C>(position, offsets.offset());
     }
-    answer.finish()
 }
 
-// Returns the answer: lossy items and their indices.
-fn of_characters<C: ReportedUnit>(
-    alloc: Global,
-    view: UStr<'_, C>,
-    calls: &[End],
-) -> Result<String, NoAnswer> {
+// Adds lossy items and their indices.
+fn of_characters<C: ReportedUnit>(answer: &mut Answer, view: UStr<'_, C>, calls: &[End]) {
     let mut offsets = view.char_indices_lossy();
-    let mut answer = Answer::new(alloc);
     for end in calls {
         let position = match asked!(offsets, end) {
             None => None,
@@ -37,29 +26,33 @@ fn of_characters<C: ReportedUnit>(
         };
         answer.position::<C>(position, offsets.offset());
     }
-    answer.finish()
 }
 
-fn of_calls<C: ReportedUnit>(
-    alloc: Global,
-    kind: u8,
-    view: UStr<'_, C>,
-    calls: &[End],
-) -> Result<String, NoAnswer> {
+fn of_calls<C: ReportedUnit>(answer: &mut Answer, kind: u8, view: UStr<'_, C>, calls: &[End]) {
     match kind {
-        b'c' => of_items(alloc, view, calls),
-        b'l' => of_characters(alloc, view, calls),
-        _ => Err(NoAnswer::Unparsed),
+        b'c' => of_items(answer, view, calls),
+        b'l' => of_characters(answer, view, calls),
+        _ => answer.fail(NoAnswer::Unparsed),
     }
 }
 
-/// Returns the answer to a question about the indices of the items of units of either width.
-pub fn offsets<C: ReportedUnit>(
+fn of_kind<C: ReportedUnit>(
     alloc: Global,
-    units: &[C],
-    question: &str,
-) -> Result<String, NoAnswer> {
-    let (kind, word) = parse::kind(question)?;
-    let calls = parse::calls(alloc, word)?;
-    of_calls(alloc, kind, UStr::from_slice(units), &calls)
+    answer: &mut Answer,
+    kind: u8,
+    view: UStr<'_, C>,
+    word: &str,
+) {
+    match parse::calls(alloc, word) {
+        Ok(calls) => of_calls(answer, kind, view, &calls),
+        Err(error) => answer.fail(error),
+    }
+}
+
+/// Adds the indices of the items of units of either width.
+pub fn offsets<C: ReportedUnit>(alloc: Global, answer: &mut Answer, units: &[C], question: &str) {
+    match parse::kind(question) {
+        Ok((kind, word)) => of_kind(alloc, answer, kind, UStr::from_slice(units), word),
+        Err(error) => answer.fail(error),
+    }
 }

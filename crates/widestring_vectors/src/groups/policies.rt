@@ -3,27 +3,25 @@
 //! does not, if the two differ, or if the decoder reports bounds.
 ghost use Rattle.std.specs.Iterator.{IsFinite};
 
-use std::alloc::Global;
 use widestring::iter::{End, read_lossy_ends16, read_lossy_ends32};
 use widestring::{Policy, decode_utf16_lossy_with, decode_utf32_lossy_with};
 use widestring_replay::asked;
 use widestring_replay::parse::{Memory, NoAnswer};
 use widestring_replay::show::Answer;
 
-// Returns the answer: what a decoder returns for each call, and a `?` if something is wrong.
+// Adds what a decoder returns for each call, and a `?` if something is wrong.
 fn compared<D: DoubleEndedIterator<Item = char>>(
-    alloc: Global,
+    answer: &mut Answer,
     requests_are_right: bool,
     mut decoder: D,
     calls: &[End],
     given: &[Option<char>],
-) -> Result<String, NoAnswer>
+)
 where
     requires front { (d : D) → D.can_next d }
     requires back { (d : D) → D.can_next_back d }
     requires finite { (d : D) → IsFinite (D.remaining d) }
 {
-    let mut answer = Answer::new(alloc);
     let mut is_right = requests_are_right;
     is_right &= decoder.size_hint() == (0, None);
     is_right &= given.len() == calls.len();
@@ -35,33 +33,51 @@ where
     if !is_right {
         answer.word("?");
     }
-    answer.finish()
 }
 
-/// Returns the answer: what a lossy decoder of UTF-16 returns for each call.
+// Returns whether calls made as many requests as they may since `left` requests were still to be granted.
+fn requests_are_right(memory: Memory<'_>, left: u64, calls: &[End]) -> bool {
+    memory.requests_since(left) == u64::from(!calls.is_empty())
+}
+
+/// Adds what a lossy decoder of UTF-16 returns for each call.
 pub fn utf16(
     memory: Memory<'_>,
+    answer: &mut Answer,
     units: &[u16],
     calls: &[End],
     policy: Policy,
-) -> Result<String, NoAnswer> {
+) {
     let left = memory.heap.left();
-    let given = read_lossy_ends16(memory.heap, units, policy, calls)?;
-    let is_right = memory.requests_since(left) == u64::from(!calls.is_empty());
-    let decoder = decode_utf16_lossy_with(units.iter().copied(), policy);
-    compared(memory.alloc, is_right, decoder, calls, &given)
+    match read_lossy_ends16(memory.heap, units, policy, calls) {
+        Ok(given) => compared(
+            answer,
+            requests_are_right(memory, left, calls),
+            decode_utf16_lossy_with(units.iter().copied(), policy),
+            calls,
+            &given,
+        ),
+        Err(_) => answer.fail(NoAnswer::OutOfMemory),
+    }
 }
 
-/// Returns the answer: what a lossy decoder of UTF-32 returns for each call.
+/// Adds what a lossy decoder of UTF-32 returns for each call.
 pub fn utf32(
     memory: Memory<'_>,
+    answer: &mut Answer,
     units: &[u32],
     calls: &[End],
     policy: Policy,
-) -> Result<String, NoAnswer> {
+) {
     let left = memory.heap.left();
-    let given = read_lossy_ends32(memory.heap, units, policy, calls)?;
-    let is_right = memory.requests_since(left) == u64::from(!calls.is_empty());
-    let decoder = decode_utf32_lossy_with(units.iter().copied(), policy);
-    compared(memory.alloc, is_right, decoder, calls, &given)
+    match read_lossy_ends32(memory.heap, units, policy, calls) {
+        Ok(given) => compared(
+            answer,
+            requests_are_right(memory, left, calls),
+            decode_utf32_lossy_with(units.iter().copied(), policy),
+            calls,
+            &given,
+        ),
+        Err(_) => answer.fail(NoAnswer::OutOfMemory),
+    }
 }

@@ -2,9 +2,9 @@
 //! the calls that are made before.
 //!
 //! The answer has the characters of the text, a `;` and those of the debug text. If a type only has debug text, the
-//! first field is empty. Each is also printed with a width and fills, which change nothing, and into sinks that fail at
-//! one of their writes: the printing must end there, with only the text before it. The answer is a `?` if one of these
-//! differs.
+//! first field is empty. Each is also printed with a width and fills and by `{:#?}`, which change nothing, and into
+//! sinks that fail at one of their writes: the printing must end there, with only the text before it. The answer is a
+//! `?` if one of these differs.
 //!
 //! - For units, `debug` is the view; `display` and `skipping` are the values that print its text; `chars`, `lossy`,
 //!   `each`, `run` and `skip` are its characters; `string` is the string of them, `box` the boxed string, and `cow` the
@@ -26,7 +26,7 @@ use widestring::ucstr::UCStr;
 use widestring::ucstring::{CowUCStr, UCString};
 use widestring::unit::write_escape;
 use widestring::ustr::UStr;
-use widestring::ustring::{CowUStr, UStrInUstring};
+use widestring::ustring::{CowUStr, UStrInUstring, UString};
 use widestring::utfstr::UtfStr;
 use widestring::utfstring::{UtfStrInUtfstring, UtfString};
 use widestring_replay::asked;
@@ -130,46 +130,57 @@ fn is_unpadded(value: &impl Display, whole: &str) -> bool {
     written & filled.is_full() & wide.is_full() & zeros.is_full()
 }
 
-// Returns whether a width and a fill change nothing in debug text.
+// Returns whether a width and a fill change nothing in debug text, and `{:#?}` prints it on one line too.
 fn is_debug_unpadded(value: &impl Debug, whole: &str) -> bool {
     let mut filled = Sink::new(whole, usize::MAX);
-    write!(filled, "{value:_>40?}").is_ok() && filled.is_full()
+    let mut alternate = Sink::new(whole, usize::MAX);
+    let written = write!(filled, "{value:_>40?}").is_ok() & write!(alternate, "{value:#?}").is_ok();
+    written & filled.is_full() & alternate.is_full()
 }
 
-/// Adds what a value prints.
-pub fn print(alloc: Global, answer: &mut Answer, value: &impl Display) -> Result<(), NoAnswer> {
-    let text: String = format!(in alloc; "{value}")?;
-    if is_unpadded(value, &text) && ends_at_failures(value, &text) {
-        answer.text(&text);
+// Adds the text that a value prints, or a `?` if it prints another under a width or in part.
+fn add_text(answer: &mut Answer, value: &impl Display, text: &str) {
+    if is_unpadded(value, text) && ends_at_failures(value, text) {
+        answer.text(text);
     } else {
         answer.word("?");
     }
-    Ok(())
+}
+
+/// Adds what a value prints, unless there is no answer.
+pub fn print(alloc: Global, answer: &mut Answer, value: &impl Display) {
+    if answer.has_failed() {
+        return;
+    }
+    match format!(in alloc; "{value}") {
+        Ok(text) => add_text(answer, value, &text),
+        Err(_) => answer.fail(NoAnswer::OutOfMemory),
+    }
+}
+
+// Adds the debug text that a value prints, and before it a `?` if it prints another under a width.
+fn add_debug(alloc: Global, answer: &mut Answer, value: &impl Debug, text: &str) {
+    if !is_debug_unpadded(value, text) {
+        answer.word("?");
+    }
+    print(alloc, answer, &Debugged(value));
 }
 
 // Adds a `;` and the debug text of a value.
-fn add_debug(alloc: Global, answer: &mut Answer, value: &impl Debug) -> Result<(), NoAnswer> {
+fn debug(alloc: Global, answer: &mut Answer, value: &impl Debug) {
     answer.part();
-    let plain: String = format!(in alloc; "{value:?}")?;
-    if !is_debug_unpadded(value, &plain) {
-        answer.word("?");
+    match format!(in alloc; "{value:?}") {
+        Ok(text) => add_debug(alloc, answer, value, &text),
+        Err(_) => answer.fail(NoAnswer::OutOfMemory),
     }
-    print(alloc, answer, &Debugged(value))
 }
 
-// Returns the answer: a `;` and the debug text of a value.
-fn debug(alloc: Global, value: &impl Debug) -> Result<String, NoAnswer> {
-    let mut answer = Answer::new(alloc);
-    add_debug(alloc, &mut answer, value)?;
-    answer.finish()
-}
-
-// Returns the answer: the text and the debug text of a value.
-fn both<T: Display + Debug>(alloc: Global, value: &T) -> Result<String, NoAnswer> {
-    let mut answer = Answer::new(alloc);
-    print(alloc, &mut answer, value)?;
-    add_debug(alloc, &mut answer, value)?;
-    answer.finish()
+// Adds the text and the debug text of a value.
+fn both<T: Display + Debug>(alloc: Global, answer: &mut Answer, value: &T) {
+    print(alloc, answer, value);
+    if !answer.has_failed() {
+        debug(alloc, answer, value);
+    }
 }
 
 // What is printed of a view of units, or of its C string.
@@ -255,58 +266,56 @@ static REPORTED: [(&str, Reported); 3] = [
     ("escape", Reported::Escape),
 ];
 
-fn of_units<C: Width>(
-    alloc: Global,
-    view: UStr<'_, C>,
-    subject: Subject,
-) -> Result<String, NoAnswer> {
+fn of_units<C: Width>(alloc: Global, answer: &mut Answer, view: UStr<'_, C>, subject: Subject) {
     match subject {
-        Subject::Debug => debug(alloc, &view),
-        Subject::Display => both(alloc, &view.display()),
-        Subject::Skipping => both(alloc, &view.display_skipping()),
-        Subject::Chars => debug(alloc, &view.chars()),
-        Subject::Lossy => debug(alloc, &view.chars_lossy()),
-        Subject::Under(policy) => debug(alloc, &view.chars_lossy_with(policy)),
-        Subject::Cow => borrowed(alloc, view),
-        Subject::Owned => string(alloc, view),
-        Subject::Box => boxed(alloc, view),
-        Subject::Mended => mended(alloc, view),
+        Subject::Debug => debug(alloc, answer, &view),
+        Subject::Display => both(alloc, answer, &view.display()),
+        Subject::Skipping => both(alloc, answer, &view.display_skipping()),
+        Subject::Chars => debug(alloc, answer, &view.chars()),
+        Subject::Lossy => debug(alloc, answer, &view.chars_lossy()),
+        Subject::Under(policy) => debug(alloc, answer, &view.chars_lossy_with(policy)),
+        Subject::Cow => borrowed(alloc, answer, view),
+        Subject::Owned => string(alloc, answer, view),
+        Subject::Box => to_box(alloc, answer, view),
+        Subject::Mended => mended(alloc, answer, view),
     }
 }
 
-fn borrowed<C: Width>(alloc: Global, view: UStr<'_, C>) -> Result<String, NoAnswer> {
+fn borrowed<C: Width>(alloc: Global, answer: &mut Answer, view: UStr<'_, C>) {
     let borrowed: CowUStr<'_, C> = CowUStr::Borrowed(view);
-    debug(alloc, &borrowed)
+    debug(alloc, answer, &borrowed);
 }
 
-fn string<C: Width>(alloc: Global, view: UStr<'_, C>) -> Result<String, NoAnswer> {
-    debug(alloc, &view.to_ustring(alloc)?)
-}
-
-fn boxed<C: Width>(alloc: Global, view: UStr<'_, C>) -> Result<String, NoAnswer> {
-    match view.to_ustring(alloc)?.into_boxed_ustr() {
-        Ok(boxed) => debug(alloc, &boxed),
-        Err(_) => Err(NoAnswer::OutOfMemory),
+fn string<C: Width>(alloc: Global, answer: &mut Answer, view: UStr<'_, C>) {
+    match view.to_ustring(alloc) {
+        Ok(string) => debug(alloc, answer, &string),
+        Err(_) => answer.fail(NoAnswer::OutOfMemory),
     }
 }
 
-fn mended<C: Width>(alloc: Global, view: UStr<'_, C>) -> Result<String, NoAnswer> {
-    both(alloc, &UtfString::from_ustr_lossy(alloc, view)?)
+fn to_box<C: Width>(alloc: Global, answer: &mut Answer, view: UStr<'_, C>) {
+    match view.to_ustring(alloc) {
+        Ok(string) => boxed(alloc, answer, string),
+        Err(_) => answer.fail(NoAnswer::OutOfMemory),
+    }
 }
 
-// Returns the answer: the texts of errors, or escapes.
-fn of_error<C: Width>(alloc: Global, units: &[C], reported: Reported) -> Result<String, NoAnswer> {
-    let mut answer = Answer::new(alloc);
-    add_error(alloc, &mut answer, units, reported)?;
-    answer.finish()
+fn boxed<C: Width>(alloc: Global, answer: &mut Answer, string: UString<C>) {
+    match string.into_boxed_ustr() {
+        Ok(boxed) => debug(alloc, answer, &boxed),
+        Err(_) => answer.fail(NoAnswer::OutOfMemory),
+    }
 }
 
-fn add_error<C: Width>(
-    alloc: Global,
-    answer: &mut Answer,
-    units: &[C],
-    reported: Reported,
-) -> Result<(), NoAnswer> {
+fn mended<C: Width>(alloc: Global, answer: &mut Answer, view: UStr<'_, C>) {
+    match UtfString::from_ustr_lossy(alloc, view) {
+        Ok(string) => both(alloc, answer, &string),
+        Err(_) => answer.fail(NoAnswer::OutOfMemory),
+    }
+}
+
+// Adds the texts of errors, or escapes.
+fn of_error<C: Width>(alloc: Global, answer: &mut Answer, units: &[C], reported: Reported) {
     match reported {
         Reported::Fault => C::print_fault(alloc, answer, units),
         Reported::Refused => refused(alloc, answer, units),
@@ -314,139 +323,177 @@ fn add_error<C: Width>(
     }
 }
 
-fn refused<C: Width>(alloc: Global, answer: &mut Answer, units: &[C]) -> Result<(), NoAnswer> {
+fn refused<C: Width>(alloc: Global, answer: &mut Answer, units: &[C]) {
     match UCStr::from_slice(units) {
-        Ok(_) => Err(NoAnswer::Unparsed),
+        Ok(_) => answer.fail(NoAnswer::Unparsed),
         Err(NulError::ContainsNul(fault)) => inner_nul(alloc, answer, fault),
         Err(fault) => print(alloc, answer, &fault),
     }
 }
 
-fn inner_nul<C: Width>(
-    alloc: Global,
-    answer: &mut Answer,
-    fault: ContainsNul<C>,
-) -> Result<(), NoAnswer> {
-    print(alloc, answer, &fault)?;
+fn inner_nul<C: Width>(alloc: Global, answer: &mut Answer, fault: ContainsNul<C>) {
+    print(alloc, answer, &fault);
     answer.part();
-    print(alloc, answer, &NulError::ContainsNul(fault))
+    print(alloc, answer, &NulError::ContainsNul(fault));
 }
 
-fn escapes<C: Width>(alloc: Global, answer: &mut Answer, units: &[C]) -> Result<(), NoAnswer> {
-    for c in as_text(units)?.chars() {
-        print(alloc, answer, &Escaped(c))?;
+fn add_escapes<C: Width>(alloc: Global, answer: &mut Answer, text: UtfStr<'_, C>) {
+    for c in text.chars() {
+        print(alloc, answer, &Escaped(c));
     }
-    Ok(())
 }
 
-fn of_contents<C: Width>(
-    alloc: Global,
-    view: UCStr<'_, C>,
-    subject: Subject,
-) -> Result<String, NoAnswer> {
+fn escapes<C: Width>(alloc: Global, answer: &mut Answer, units: &[C]) {
+    match as_text(units) {
+        Ok(text) => add_escapes(alloc, answer, text),
+        Err(error) => answer.fail(error),
+    }
+}
+
+fn of_contents<C: Width>(alloc: Global, answer: &mut Answer, view: UCStr<'_, C>, subject: Subject) {
     match subject {
-        Subject::Debug => debug(alloc, &view),
-        Subject::Display => both(alloc, &view.display()),
-        Subject::Skipping => both(alloc, &view.display_skipping()),
-        Subject::Cow => borrowed_contents(alloc, view),
-        Subject::Owned => owned_contents(alloc, view),
-        Subject::Box => boxed_contents(alloc, view),
-        _ => Err(NoAnswer::Unparsed),
+        Subject::Debug => debug(alloc, answer, &view),
+        Subject::Display => both(alloc, answer, &view.display()),
+        Subject::Skipping => both(alloc, answer, &view.display_skipping()),
+        Subject::Cow => borrowed_contents(alloc, answer, view),
+        Subject::Owned => owned_contents(alloc, answer, view),
+        Subject::Box => to_boxed_contents(alloc, answer, view),
+        _ => answer.fail(NoAnswer::Unparsed),
     }
 }
 
-fn borrowed_contents<C: Width>(alloc: Global, view: UCStr<'_, C>) -> Result<String, NoAnswer> {
+fn borrowed_contents<C: Width>(alloc: Global, answer: &mut Answer, view: UCStr<'_, C>) {
     let borrowed: CowUCStr<'_, C> = CowUCStr::Borrowed(view);
-    debug(alloc, &borrowed)
+    debug(alloc, answer, &borrowed);
 }
 
-fn owned_contents<C: Width>(alloc: Global, view: UCStr<'_, C>) -> Result<String, NoAnswer> {
-    debug(alloc, &c_string(alloc, view)?)
-}
-
-fn boxed_contents<C: Width>(alloc: Global, view: UCStr<'_, C>) -> Result<String, NoAnswer> {
-    match c_string(alloc, view)?.into_boxed_ucstr() {
-        Ok(boxed) => debug(alloc, &boxed),
-        Err(_) => Err(NoAnswer::OutOfMemory),
+fn owned_contents<C: Width>(alloc: Global, answer: &mut Answer, view: UCStr<'_, C>) {
+    match UCString::from_ustr(alloc, view.as_ustr()) {
+        Ok(string) => debug(alloc, answer, &string),
+        Err(_) => answer.fail(NoAnswer::OutOfMemory),
     }
 }
 
-fn c_string<C: Width>(alloc: Global, view: UCStr<'_, C>) -> Result<UCString<C>, NoAnswer> {
+fn to_boxed_contents<C: Width>(alloc: Global, answer: &mut Answer, view: UCStr<'_, C>) {
     match UCString::from_ustr(alloc, view.as_ustr()) {
-        Ok(string) => Ok(string),
-        Err(_) => Err(NoAnswer::OutOfMemory),
+        Ok(string) => boxed_contents(alloc, answer, string),
+        Err(_) => answer.fail(NoAnswer::OutOfMemory),
+    }
+}
+
+fn boxed_contents<C: Width>(alloc: Global, answer: &mut Answer, string: UCString<C>) {
+    match string.into_boxed_ucstr() {
+        Ok(boxed) => debug(alloc, answer, &boxed),
+        Err(_) => answer.fail(NoAnswer::OutOfMemory),
     }
 }
 
 fn of_text<C: Width>(
     alloc: Global,
+    answer: &mut Answer,
     text: UtfStr<'_, C>,
     subject: Text,
     more: &str,
-) -> Result<String, NoAnswer> {
+) {
     match subject {
-        Text::View => both(alloc, &text),
-        Text::Owned => owned_text(alloc, text),
-        Text::Box => boxed_text(alloc, text),
-        Text::Chars => called_chars(alloc, text, more),
-        Text::Drain => drain(alloc, text, more),
-        Text::Escapes(escape) => of_escapes(alloc, text, escape, parse::prefix_calls(more)?),
+        Text::View => both(alloc, answer, &text),
+        Text::Owned => owned_text(alloc, answer, text),
+        Text::Box => to_boxed_text(alloc, answer, text),
+        Text::Chars => called_chars(alloc, answer, text, more),
+        Text::Drain => drain(alloc, answer, text, more),
+        Text::Escapes(escape) => of_escapes(alloc, answer, text, escape, more),
     }
 }
 
-fn owned_text<C: Width>(alloc: Global, text: UtfStr<'_, C>) -> Result<String, NoAnswer> {
-    both(alloc, &text.to_utfstring(alloc)?)
-}
-
-fn boxed_text<C: Width>(alloc: Global, text: UtfStr<'_, C>) -> Result<String, NoAnswer> {
-    match text.to_utfstring(alloc)?.into_boxed_utfstr() {
-        Ok(boxed) => both(alloc, &boxed),
-        Err(_) => Err(NoAnswer::OutOfMemory),
+fn owned_text<C: Width>(alloc: Global, answer: &mut Answer, text: UtfStr<'_, C>) {
+    match text.to_utfstring(alloc) {
+        Ok(string) => both(alloc, answer, &string),
+        Err(_) => answer.fail(NoAnswer::OutOfMemory),
     }
 }
 
-fn called_chars<C: Width>(
+fn to_boxed_text<C: Width>(alloc: Global, answer: &mut Answer, text: UtfStr<'_, C>) {
+    match text.to_utfstring(alloc) {
+        Ok(string) => boxed_text(alloc, answer, string),
+        Err(_) => answer.fail(NoAnswer::OutOfMemory),
+    }
+}
+
+fn boxed_text<C: Width>(alloc: Global, answer: &mut Answer, string: UtfString<C>) {
+    match string.into_boxed_utfstr() {
+        Ok(boxed) => both(alloc, answer, &boxed),
+        Err(_) => answer.fail(NoAnswer::OutOfMemory),
+    }
+}
+
+// Adds what an iterator prints after it returned some items.
+fn after_calls<I: DoubleEndedIterator + Display + Debug>(
     alloc: Global,
-    text: UtfStr<'_, C>,
-    calls: &str,
-) -> Result<String, NoAnswer> {
-    let mut chars = text.chars();
-    for end in &parse::calls(alloc, calls)? {
-        let _c = asked!(chars, end);
+    answer: &mut Answer,
+    mut iterator: I,
+    calls: &[End],
+)
+where
+    I::Item: Drop,
+    requires front { (i : I) → I.can_next i }
+    requires back { (i : I) → I.can_next_back i }
+    requires finite { (i : I) → IsFinite (I.remaining i) }
+{
+    for end in calls {
+        let _item = asked!(iterator, end);
     }
-    both(alloc, &chars)
+    both(alloc, answer, &iterator);
 }
 
-fn drain<C: Width>(alloc: Global, text: UtfStr<'_, C>, more: &str) -> Result<String, NoAnswer> {
+fn called_chars<C: Width>(alloc: Global, answer: &mut Answer, text: UtfStr<'_, C>, calls: &str) {
+    match parse::calls(alloc, calls) {
+        Ok(calls) => after_calls(alloc, answer, text.chars(), &calls),
+        Err(error) => answer.fail(error),
+    }
+}
+
+fn drain<C: Width>(alloc: Global, answer: &mut Answer, text: UtfStr<'_, C>, more: &str) {
     let (calls, range) = parse::word(more);
-    let range = parse::range(range)?;
-    let calls = parse::calls(alloc, calls)?;
-    drained(alloc, text.to_utfstring(alloc)?, &calls, range)
+    match (parse::range(range), parse::calls(alloc, calls)) {
+        (Ok(range), Ok(calls)) => to_drain(alloc, answer, text, &calls, range),
+        (Err(error), _) | (_, Err(error)) => answer.fail(error),
+    }
 }
 
-// Returns the answer: what a drain prints after it returned some characters.
-fn drained<C: Width>(
+fn to_drain<C: Width>(
     alloc: Global,
-    mut string: UtfString<C>,
+    answer: &mut Answer,
+    text: UtfStr<'_, C>,
     calls: &[End],
     range: (Bound<usize>, Bound<usize>),
-) -> Result<String, NoAnswer> {
-    if string.as_utfstr().get(range).is_none() {
-        return Err(NoAnswer::Unparsed);
+) {
+    match text.to_utfstring(alloc) {
+        Ok(mut string) => drained(alloc, answer, &mut string, calls, range),
+        Err(_) => answer.fail(NoAnswer::OutOfMemory),
     }
-    let mut drain = string.drain(range);
-    for end in calls {
-        let _c = asked!(drain, end);
-    }
-    both(alloc, &drain)
 }
 
-// Returns the answer: what an iterator prints after it returned some items from the front.
+// Adds what a drain prints after it returned some characters.
+fn drained<C: Width>(
+    alloc: Global,
+    answer: &mut Answer,
+    string: &mut UtfString<C>,
+    calls: &[End],
+    range: (Bound<usize>, Bound<usize>),
+) {
+    if string.as_utfstr().get(range).is_none() {
+        return answer.fail(NoAnswer::Unparsed);
+    }
+    after_calls(alloc, answer, string.drain(range), calls);
+}
+
+// Adds what an iterator prints after it returned some items from the front.
 fn called<I: Iterator + Display + Debug>(
     alloc: Global,
+    answer: &mut Answer,
     mut iterator: I,
     calls: usize,
-) -> Result<String, NoAnswer>
+)
 where
     I::Item: Drop,
     requires can_next { (i : I) → I.can_next i }
@@ -455,34 +502,69 @@ where
     for _call in 0..calls {
         let _c = iterator.next();
     }
-    both(alloc, &iterator)
+    both(alloc, answer, &iterator);
 }
 
-// Returns the answer: what the escapes of a text print after they returned some characters from the front.
-fn of_escapes<C: Width>(
+// Adds what the escapes of a text print after they returned some characters from the front.
+fn called_escapes<C: Width>(
     alloc: Global,
+    answer: &mut Answer,
     text: UtfStr<'_, C>,
     escape: Escape,
     calls: usize,
-) -> Result<String, NoAnswer> {
+) {
     match escape {
-        Escape::Debug => called(alloc, text.escape_debug(), calls),
-        Escape::Default => called(alloc, text.escape_default(), calls),
-        Escape::Unicode => called(alloc, text.escape_unicode(), calls),
+        Escape::Debug => called(alloc, answer, text.escape_debug(), calls),
+        Escape::Default => called(alloc, answer, text.escape_default(), calls),
+        Escape::Unicode => called(alloc, answer, text.escape_unicode(), calls),
     }
 }
 
-/// Returns the answer: what a value prints.
-pub fn printed<C: Width>(alloc: Global, units: &[C], question: &str) -> Result<String, NoAnswer> {
+fn of_escapes<C: Width>(
+    alloc: Global,
+    answer: &mut Answer,
+    text: UtfStr<'_, C>,
+    escape: Escape,
+    calls: &str,
+) {
+    match parse::prefix_calls(calls) {
+        Ok(calls) => called_escapes(alloc, answer, text, escape, calls),
+        Err(error) => answer.fail(error),
+    }
+}
+
+fn with_contents<C: Width>(alloc: Global, answer: &mut Answer, units: &[C], subject: Subject) {
+    match as_contents(units) {
+        Ok(view) => of_contents(alloc, answer, view, subject),
+        Err(error) => answer.fail(error),
+    }
+}
+
+fn with_text<C: Width>(alloc: Global, answer: &mut Answer, units: &[C], subject: Text, more: &str) {
+    match as_text(units) {
+        Ok(text) => of_text(alloc, answer, text, subject, more),
+        Err(error) => answer.fail(error),
+    }
+}
+
+fn with_error<C: Width>(alloc: Global, answer: &mut Answer, units: &[C], word: &str) {
+    match parse::named(&REPORTED, word) {
+        Ok(reported) => of_error(alloc, answer, units, reported),
+        Err(error) => answer.fail(error),
+    }
+}
+
+/// Adds what a value prints.
+pub fn printed<C: Width>(alloc: Global, answer: &mut Answer, units: &[C], question: &str) {
     let (word, more) = parse::word(question);
     if let Ok(subject) = parse::named(&OF_UNITS, word) {
-        return of_units(alloc, UStr::from_slice(units), subject);
+        return of_units(alloc, answer, UStr::from_slice(units), subject);
     }
     if let Ok(subject) = parse::named(&OF_CONTENTS, word) {
-        return of_contents(alloc, as_contents(units)?, subject);
+        return with_contents(alloc, answer, units, subject);
     }
     match parse::named(&OF_TEXT, word) {
-        Ok(subject) => of_text(alloc, as_text(units)?, subject, more),
-        Err(_) => of_error(alloc, units, parse::named(&REPORTED, word)?),
+        Ok(subject) => with_text(alloc, answer, units, subject, more),
+        Err(_) => with_error(alloc, answer, units, word),
     }
 }

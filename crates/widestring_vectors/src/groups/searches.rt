@@ -9,7 +9,6 @@
 //! the units, those of C strings must return the same, else there is no answer. If units and needle are both well
 //! formed, there follow the first two fields for the text, the lengths of the substrings that the character splits it
 //! into, and the boundaries around the offset.
-use crate::groups::answers;
 use crate::groups::texts::c_string;
 use crate::groups::width::as_text;
 use std::alloc::Global;
@@ -33,9 +32,9 @@ fn add_counts(answer: &mut Answer, counts: &[Option<usize>]) {
     }
 }
 
-// Adds what a view returns for the searches that views of units and of text share.
-macro_rules! searched {
-    ($answer:expr, $view:expr, $part:expr, $c:expr) => {
+// Adds whether a view contains a part, begins and ends with it.
+macro_rules! decided {
+    ($answer:expr, $view:expr, $part:expr) => {
         add_decided(
             $answer,
             &[
@@ -43,7 +42,13 @@ macro_rules! searched {
                 $view.starts_with($part),
                 $view.ends_with($part),
             ],
-        );
+        )
+    };
+}
+
+// Adds where a view has a part and a character, and how many units it has without the part.
+macro_rules! located {
+    ($answer:expr, $view:expr, $part:expr, $c:expr) => {
         add_counts(
             $answer,
             &[
@@ -54,7 +59,13 @@ macro_rules! searched {
                 $view.strip_prefix($part).map(|rest| rest.len()),
                 $view.strip_suffix($part).map(|prefix| prefix.len()),
             ],
-        );
+        )
+    };
+}
+
+// Adds how many units of a view precede and follow a part, at first and at last.
+macro_rules! halved {
+    ($answer:expr, $view:expr, $part:expr) => {
         for halves in [$view.split_once($part), $view.rsplit_once($part)] {
             add_counts(
                 $answer,
@@ -64,17 +75,96 @@ macro_rules! searched {
                 },
             );
         }
-        $answer.part();
+    };
+}
+
+// Adds the lengths of the substrings that a part splits a view into.
+macro_rules! split {
+    ($answer:expr, $view:expr, $part:expr) => {
         for piece in $view.split($part) {
             $answer.count(Some(piece.len()));
         }
-        $answer.part();
     };
+}
+
+// A view of units, of a C string or of text: what it returns for the searches that all share.
+trait Haystack: Copy {
+    fn decide(self, answer: &mut Answer, part: Self);
+
+    fn locate(self, answer: &mut Answer, part: Self, c: char);
+
+    fn halve(self, answer: &mut Answer, part: Self);
+
+    fn pieces(self, answer: &mut Answer, part: Self);
+}
+
+impl<C: ReportedUnit> Haystack for UStr<'_, C> {
+    fn decide(self, answer: &mut Answer, part: Self) {
+        decided!(answer, self, part);
+    }
+
+    fn locate(self, answer: &mut Answer, part: Self, c: char) {
+        located!(answer, self, part, c);
+    }
+
+    fn halve(self, answer: &mut Answer, part: Self) {
+        halved!(answer, self, part);
+    }
+
+    fn pieces(self, answer: &mut Answer, part: Self) {
+        split!(answer, self, part);
+    }
+}
+
+impl<C: ReportedUnit> Haystack for UCStr<'_, C> {
+    fn decide(self, answer: &mut Answer, part: Self) {
+        decided!(answer, self, part);
+    }
+
+    fn locate(self, answer: &mut Answer, part: Self, c: char) {
+        located!(answer, self, part, c);
+    }
+
+    fn halve(self, answer: &mut Answer, part: Self) {
+        halved!(answer, self, part);
+    }
+
+    fn pieces(self, answer: &mut Answer, part: Self) {
+        split!(answer, self, part);
+    }
+}
+
+impl<C: ReportedUnit> Haystack for UtfStr<'_, C> {
+    fn decide(self, answer: &mut Answer, part: Self) {
+        decided!(answer, self, part);
+    }
+
+    fn locate(self, answer: &mut Answer, part: Self, c: char) {
+        located!(answer, self, part, c);
+    }
+
+    fn halve(self, answer: &mut Answer, part: Self) {
+        halved!(answer, self, part);
+    }
+
+    fn pieces(self, answer: &mut Answer, part: Self) {
+        split!(answer, self, part);
+    }
+}
+
+// Adds what a view returns for the searches that all share.
+fn searched<V: Haystack>(answer: &mut Answer, view: V, part: V, c: char) {
+    view.decide(answer, part);
+    view.locate(answer, part, c);
+    view.halve(answer, part);
+    answer.part();
+    view.pieces(answer, part);
+    answer.part();
 }
 
 // Adds what is found in units of any values.
 fn in_units<C: ReportedUnit>(answer: &mut Answer, view: UStr<'_, C>, part: UStr<'_, C>, c: char) {
-    searched!(answer, view, part, c);
+    searched(answer, view, part, c);
     if let [unit, ..] = part.as_slice() {
         add_counts(answer, &[view.find_unit(*unit), view.rfind_unit(*unit)]);
     }
@@ -87,7 +177,7 @@ fn in_contents<C: ReportedUnit>(
     part: UCStr<'_, C>,
     c: char,
 ) {
-    searched!(answer, view, part, c);
+    searched(answer, view, part, c);
     if let [unit, ..] = part.as_slice() {
         add_counts(answer, &[view.find_unit(*unit), view.rfind_unit(*unit)]);
     }
@@ -112,8 +202,23 @@ fn contents_agree<C: ReportedUnit>(
 ) -> Result<bool, NoAnswer> {
     let mut answer = Answer::new(alloc);
     in_contents(&mut answer, view, part, c);
-    let answer = answer.finish()?;
-    Ok(answer.as_str() == found && view.find_unit(C::NUL).is_none())
+    match answer.finish() {
+        Ok(answer) => Ok(answer.as_str() == found && view.find_unit(C::NUL).is_none()),
+        Err(error) => Err(error),
+    }
+}
+
+fn part_agrees<C: ReportedUnit>(
+    alloc: Global,
+    view: UCStr<'_, C>,
+    part: &[C],
+    c: char,
+    found: &str,
+) -> Result<bool, NoAnswer> {
+    match c_string(alloc, part) {
+        Ok(part) => contents_agree(alloc, view, part.as_ucstr(), c, found),
+        Err(error) => Err(error),
+    }
 }
 
 // Returns whether C strings of units and slices return what was found. There are C strings if there is no NUL.
@@ -130,25 +235,21 @@ fn all_agree<C: ReportedUnit>(
     if first_nul(units).is_some() || first_nul(part).is_some() {
         return Ok(true);
     }
-    let text = c_string(alloc, units)?;
-    let part = c_string(alloc, part)?;
-    contents_agree(alloc, text.as_ucstr(), part.as_ucstr(), c, found)
+    match c_string(alloc, units) {
+        Ok(text) => part_agrees(alloc, text.as_ucstr(), part, c, found),
+        Err(error) => Err(error),
+    }
 }
 
-// Returns the answer for units of any values.
+// Returns what is found in units of any values.
 fn found_in_units<C: ReportedUnit>(
     alloc: Global,
-    units: &[C],
-    part: &[C],
+    view: UStr<'_, C>,
+    part: UStr<'_, C>,
     c: char,
 ) -> Result<String, NoAnswer> {
     let mut answer = Answer::new(alloc);
-    in_units(
-        &mut answer,
-        UStr::from_slice(units),
-        UStr::from_slice(part),
-        c,
-    );
+    in_units(&mut answer, view, part, c);
     answer.finish()
 }
 
@@ -160,7 +261,7 @@ fn in_text<C: ReportedUnit>(
     c: char,
     position: usize,
 ) {
-    searched!(answer, text, part, c);
+    searched(answer, text, part, c);
     for piece in text.split_char(c) {
         answer.count(Some(piece.len()));
     }
@@ -169,60 +270,79 @@ fn in_text<C: ReportedUnit>(
     answer.count(Some(text.ceil_char_boundary(position)));
 }
 
-// Returns the answer for text: what was found in its units, and in the text.
-fn found_in_text<C: ReportedUnit>(
-    alloc: Global,
-    found: &str,
-    text: UtfStr<'_, C>,
-    part: UtfStr<'_, C>,
-    c: char,
-    position: usize,
-) -> Result<String, NoAnswer> {
-    let mut answer = Answer::new(alloc);
-    answer.word(found);
-    answer.part();
-    in_text(&mut answer, text, part, c, position);
-    answer.finish()
-}
-
-// Returns the answer about units, of which this was found, and about their text, if they are well formed.
-fn found_in_both<C: ReportedUnit>(
-    alloc: Global,
+// Adds what was found in units and, if they are well formed, what is found in their text.
+fn add_found<C: ReportedUnit>(
+    answer: &mut Answer,
     found: &str,
     units: &[C],
     part: &[C],
     c: char,
     position: usize,
-) -> Result<String, NoAnswer> {
-    if !all_agree(alloc, units, part, c, found)? {
-        return Err(NoAnswer::Unparsed);
-    }
+) {
+    answer.word(found);
     match (as_text(units), as_text(part)) {
-        (Ok(text), Ok(part)) => found_in_text(alloc, found, text, part, c, position),
-        _ => answers::word(alloc, found),
+        (Ok(text), Ok(part)) => {
+            answer.part();
+            in_text(answer, text, part, c, position);
+        }
+        _ => {}
+    }
+}
+
+// Adds what was found in units and is found in their text, if the calls of slices and of C strings agree.
+fn found_in_both<C: ReportedUnit>(
+    alloc: Global,
+    answer: &mut Answer,
+    found: &str,
+    units: &[C],
+    part: &[C],
+    c: char,
+    position: usize,
+) {
+    match all_agree(alloc, units, part, c, found) {
+        Ok(true) => add_found(answer, found, units, part, c, position),
+        Ok(false) => answer.fail(NoAnswer::Unparsed),
+        Err(error) => answer.fail(error),
     }
 }
 
 fn sought<C: ReportedUnit>(
     alloc: Global,
+    answer: &mut Answer,
     units: &[C],
     part: &[C],
     c: char,
     position: usize,
-) -> Result<String, NoAnswer> {
-    let found = found_in_units(alloc, units, part, c)?;
-    found_in_both(alloc, &found, units, part, c, position)
+) {
+    match found_in_units(alloc, UStr::from_slice(units), UStr::from_slice(part), c) {
+        Ok(found) => found_in_both(alloc, answer, &found, units, part, c, position),
+        Err(error) => answer.fail(error),
+    }
 }
 
-/// Returns the answer to a question about searches in units of either width.
-pub fn found<C: ReportedUnit>(
+// Parses a character and, after a colon, an offset.
+fn target(text: &str) -> Result<(char, usize), NoAnswer> {
+    let (c, position) = parse::parts(text)?;
+    Ok((parse::value(c)?, parse::value(position)?))
+}
+
+fn of_parts<C: ReportedUnit>(
     alloc: Global,
+    answer: &mut Answer,
     units: &[C],
-    question: &str,
-) -> Result<String, NoAnswer> {
-    let (part, rest) = parse::parts(question)?;
-    let (c, position) = parse::parts(rest)?;
-    let c = parse::value::<char>(c)?;
-    let position = parse::value::<usize>(position)?;
-    sought(alloc, units, &parse::list::<C>(alloc, part)?, c, position)
+    part: &str,
+    rest: &str,
+) {
+    match (target(rest), parse::list::<C>(alloc, part)) {
+        (Ok((c, position)), Ok(part)) => sought(alloc, answer, units, &part, c, position),
+        (Err(error), _) | (_, Err(error)) => answer.fail(error),
+    }
+}
+
+/// Adds the answer to a question about searches in units of either width.
+pub fn found<C: ReportedUnit>(alloc: Global, answer: &mut Answer, units: &[C], question: &str) {
+    match parse::parts(question) {
+        Ok((part, rest)) => of_parts(alloc, answer, units, part, rest),
+        Err(error) => answer.fail(error),
+    }
 }

@@ -9,6 +9,7 @@
 use crate::groups::answers;
 use crate::groups::width::Width;
 use std::alloc::Global;
+use std::ops::Range;
 use widestring::unit::{
     common_prefix, first_nul, order_of_units, range_check, same_units, split_line,
 };
@@ -41,79 +42,92 @@ static QUERIES: [(&str, Query); 9] = [
     ("range", Query::Range),
 ];
 
-fn of_unit<C: Width>(alloc: Global, unit: C) -> Result<String, NoAnswer> {
-    let mut answer = Answer::new(alloc);
+fn of_unit<C: Width>(answer: &mut Answer, unit: C) {
     answer.decided(unit.in_range());
     answer.decided(unit.is_high());
     answer.decided(unit.is_low());
     answer.character(unit.as_scalar());
-    answer.finish()
 }
 
-fn of_char<C: Width>(alloc: Global, c: &str) -> Result<String, NoAnswer> {
-    let c = parse::value::<char>(c)?;
+fn add_char<C: Width>(answer: &mut Answer, c: char) {
     let (first, second) = C::encode_char(c);
-    let mut answer = Answer::new(alloc);
     answer.count(Some(C::char_len(c)));
     answer.unit(Some(first));
     if second.is_some() {
         answer.unit(second);
     }
-    answer.finish()
 }
 
-fn first_line<C: Width>(alloc: Global, units: &[C]) -> Result<String, NoAnswer> {
-    match split_line(units) {
-        None => answers::word(alloc, "-"),
-        Some((line, rest)) => answers::fields(alloc, &[line, rest]),
+fn of_char<C: Width>(answer: &mut Answer, c: &str) {
+    match parse::value::<char>(c) {
+        Ok(c) => add_char::<C>(answer, c),
+        Err(error) => answer.fail(error),
     }
 }
 
-fn ends_of_range(alloc: Global, range: &str, length: usize) -> Result<String, NoAnswer> {
-    match range_check(parse::range(range)?, length) {
-        None => answers::word(alloc, "-"),
+fn first_line<C: Width>(answer: &mut Answer, units: &[C]) {
+    match split_line(units) {
+        None => answer.word("-"),
+        Some((line, rest)) => answers::fields(answer, &[line, rest]),
+    }
+}
+
+fn add_range(answer: &mut Answer, range: Option<Range<usize>>) {
+    match range {
+        None => answer.word("-"),
         Some(range) => {
-            let mut answer = Answer::new(alloc);
             answer.count(Some(range.start));
             answer.count(Some(range.end));
-            answer.finish()
         }
     }
 }
 
-fn of_both<C: Width>(
-    alloc: Global,
-    units: &[C],
-    query: Query,
-    other: &[C],
-) -> Result<String, NoAnswer> {
+fn ends_of_range(answer: &mut Answer, range: &str, length: usize) {
+    match parse::range(range) {
+        Ok(range) => add_range(answer, range_check(range, length)),
+        Err(error) => answer.fail(error),
+    }
+}
+
+fn of_both<C: Width>(answer: &mut Answer, units: &[C], query: Query, other: &[C]) {
     match query {
-        Query::Same => answers::decided(alloc, same_units(units, other)),
-        Query::Shared => answers::count(alloc, Some(common_prefix(units, other))),
-        Query::Order => answers::ordered(alloc, order_of_units(units, other)),
-        _ => Err(NoAnswer::Unparsed),
+        Query::Same => answer.decided(same_units(units, other)),
+        Query::Shared => answer.count(Some(common_prefix(units, other))),
+        Query::Order => answer.order(order_of_units(units, other)),
+        _ => answer.fail(NoAnswer::Unparsed),
     }
 }
 
 fn with_other<C: Width>(
     alloc: Global,
+    answer: &mut Answer,
     units: &[C],
     query: Query,
     other: &str,
-) -> Result<String, NoAnswer> {
-    of_both(alloc, units, query, &parse::list::<C>(alloc, other)?)
+) {
+    match parse::list::<C>(alloc, other) {
+        Ok(other) => of_both(answer, units, query, &other),
+        Err(error) => answer.fail(error),
+    }
 }
 
-/// Returns the answer to a question about units.
-pub fn asked<C: Width>(alloc: Global, units: &[C], question: &str) -> Result<String, NoAnswer> {
+fn of_query<C: Width>(alloc: Global, answer: &mut Answer, units: &[C], query: Query, more: &str) {
+    match (query, units) {
+        (Query::Unit, [unit]) => of_unit(answer, *unit),
+        (Query::Pair, [first, second]) => answer.character(first.pair_scalar(*second)),
+        (Query::Nul, _) => answer.count(first_nul(units)),
+        (Query::Line, _) => first_line(answer, units),
+        (Query::Char, _) => of_char::<C>(answer, more),
+        (Query::Range, _) => ends_of_range(answer, more, units.len()),
+        (query, _) => with_other(alloc, answer, units, query, more),
+    }
+}
+
+/// Adds the answer to a question about units.
+pub fn asked<C: Width>(alloc: Global, answer: &mut Answer, units: &[C], question: &str) {
     let (word, more) = parse::word(question);
-    match (parse::named(&QUERIES, word)?, units) {
-        (Query::Unit, [unit]) => of_unit(alloc, *unit),
-        (Query::Pair, [first, second]) => answers::character(alloc, first.pair_scalar(*second)),
-        (Query::Nul, _) => answers::count(alloc, first_nul(units)),
-        (Query::Line, _) => first_line(alloc, units),
-        (Query::Char, _) => of_char::<C>(alloc, more),
-        (Query::Range, _) => ends_of_range(alloc, more, units.len()),
-        (query, _) => with_other(alloc, units, query, more),
+    match parse::named(&QUERIES, word) {
+        Ok(query) => of_query(alloc, answer, units, query, more),
+        Err(error) => answer.fail(error),
     }
 }

@@ -12,7 +12,7 @@
 //!   offset whether it is a boundary, and `at` and an index a character.
 use crate::groups::answers;
 use crate::groups::width::{Width, as_contents, as_text};
-use std::alloc::Global;
+use std::ops::Bound;
 use widestring::error::UtfError;
 use widestring::ucstr::UCStr;
 use widestring::ustr::UStr;
@@ -20,32 +20,31 @@ use widestring::utfstr::UtfStr;
 use widestring_replay::parse::{self, NoAnswer};
 use widestring_replay::show::Answer;
 
-// Returns the answer: what the three calls for a subslice of a view return.
+// Adds what the three calls for a subslice of a view return.
 macro_rules! part_of {
-    ($alloc:expr, $view:expr, $range:expr) => {{
-        let range = parse::range($range)?;
-        match $view.get(range) {
-            None => answers::word($alloc, "-"),
+    ($answer:expr, $view:expr, $range:expr) => {{
+        match $view.get($range) {
+            None => $answer.word("-"),
             Some(part) => answers::fields(
-                $alloc,
+                $answer,
                 &[
                     part.as_slice(),
-                    $view.slice(range).as_slice(),
-                    $view.get_unchecked(range).as_slice(),
+                    $view.slice($range).as_slice(),
+                    $view.get_unchecked($range).as_slice(),
                 ],
             ),
         }
     }};
 }
 
-// Returns the answer: both halves of a view, if it can be split at an offset.
+// Adds both halves of a view, if it can be split at an offset.
 macro_rules! halves {
-    ($alloc:expr, $view:expr, $can_split:expr, $mid:expr) => {
+    ($answer:expr, $view:expr, $can_split:expr, $mid:expr) => {
         if $can_split {
             let (prefix, back) = $view.split_at($mid);
-            answers::fields($alloc, &[prefix.as_slice(), back.as_slice()])
+            answers::fields($answer, &[prefix.as_slice(), back.as_slice()]);
         } else {
-            answers::word($alloc, "-")
+            $answer.word("-");
         }
     };
 }
@@ -60,287 +59,222 @@ enum Kind {
 
 static KINDS: [(&str, Kind); 3] = [("u", Kind::Units), ("t", Kind::Text), ("c", Kind::Contents)];
 
-// The calls.
+// The ends of a range.
+type Ends = (Bound<usize>, Bound<usize>);
+
+// The calls, with their arguments.
 #[derive(Clone, Copy)]
 enum Call {
     Whole,
-    Subslice,
-    Split,
+    Subslice(Ends),
+    Split(usize),
     Made,
     Empty,
     Nul,
     Count,
-    Offset,
-    Boundary,
-    At,
+    Offset(usize),
+    Boundary(usize),
+    At(usize),
 }
 
+// The calls by their names, each with arguments that those of the question replace.
 static CALLS: [(&str, Call); 10] = [
     ("whole", Call::Whole),
-    ("part", Call::Subslice),
-    ("split", Call::Split),
+    ("part", Call::Subslice((Bound::Unbounded, Bound::Unbounded))),
+    ("split", Call::Split(0)),
     ("made", Call::Made),
     ("empty", Call::Empty),
     ("nul", Call::Nul),
     ("count", Call::Count),
-    ("offset", Call::Offset),
-    ("boundary", Call::Boundary),
-    ("at", Call::At),
+    ("offset", Call::Offset(0)),
+    ("boundary", Call::Boundary(0)),
+    ("at", Call::At(0)),
 ];
 
-// Returns the answer: a length, whether it is 0, and units.
-fn whole<C: Width>(
-    alloc: Global,
-    length: usize,
-    is_empty: bool,
-    fields: &[&[C]],
-) -> Result<String, NoAnswer> {
-    let mut answer = Answer::new(alloc);
+// Adds a length, whether it is 0, and units.
+fn whole<C: Width>(answer: &mut Answer, length: usize, is_empty: bool, fields: &[&[C]]) {
     answer.count(Some(length));
     answer.decided(is_empty);
-    answers::add_fields(&mut answer, fields);
-    answer.finish()
+    answers::fields(answer, fields);
 }
 
-fn part_of_units<C: Width>(
-    alloc: Global,
-    view: UStr<'_, C>,
-    range: &str,
-) -> Result<String, NoAnswer> {
-    part_of!(alloc, view, range)
+fn part_of_units<C: Width>(answer: &mut Answer, view: UStr<'_, C>, range: Ends) {
+    part_of!(answer, view, range)
 }
 
-fn part_of_contents<C: Width>(
-    alloc: Global,
-    view: UCStr<'_, C>,
-    range: &str,
-) -> Result<String, NoAnswer> {
-    part_of!(alloc, view, range)
+fn part_of_contents<C: Width>(answer: &mut Answer, view: UCStr<'_, C>, range: Ends) {
+    part_of!(answer, view, range)
 }
 
-fn part_of_text<C: Width>(
-    alloc: Global,
-    text: UtfStr<'_, C>,
-    range: &str,
-) -> Result<String, NoAnswer> {
-    part_of!(alloc, text, range)
+fn part_of_text<C: Width>(answer: &mut Answer, text: UtfStr<'_, C>, range: Ends) {
+    part_of!(answer, text, range)
 }
 
-fn split_units<C: Width>(alloc: Global, view: UStr<'_, C>, mid: &str) -> Result<String, NoAnswer> {
-    let mid = parse::value(mid)?;
-    halves!(alloc, view, mid <= view.len(), mid)
+fn split_units<C: Width>(answer: &mut Answer, view: UStr<'_, C>, mid: usize) {
+    halves!(answer, view, mid <= view.len(), mid)
 }
 
-fn split_contents<C: Width>(
-    alloc: Global,
-    view: UCStr<'_, C>,
-    mid: &str,
-) -> Result<String, NoAnswer> {
-    let mid = parse::value(mid)?;
-    halves!(alloc, view, mid <= view.len(), mid)
+fn split_contents<C: Width>(answer: &mut Answer, view: UCStr<'_, C>, mid: usize) {
+    halves!(answer, view, mid <= view.len(), mid)
 }
 
-fn split_text<C: Width>(alloc: Global, text: UtfStr<'_, C>, mid: &str) -> Result<String, NoAnswer> {
-    let mid = parse::value(mid)?;
-    halves!(alloc, text, text.is_char_boundary(mid), mid)
+fn split_text<C: Width>(answer: &mut Answer, text: UtfStr<'_, C>, mid: usize) {
+    halves!(answer, text, text.is_char_boundary(mid), mid)
 }
 
-// Returns the answer: the first fault, and the units that the error returns.
-fn refused<C: Width>(alloc: Global, fault: UtfError<C>) -> Result<String, NoAnswer> {
-    let mut answer = Answer::new(alloc);
+// Adds the first fault, and the units that the error returns.
+fn refused<C: Width>(answer: &mut Answer, fault: UtfError<C>) {
     answer.first_fault(&fault);
     answer.part();
     answer.handed_back(fault.into_vec());
-    answer.finish()
 }
 
-// Returns the answer: the text of the units before a NUL at the end, checked and not checked, and nothing for units
-// that are not a C string.
-fn made_of_contents<C: Width>(alloc: Global, units: &[C]) -> Result<String, NoAnswer> {
+// Adds the text of the units before a NUL at the end, checked and not checked, and nothing for units that are not a C
+// string.
+fn made_of_contents<C: Width>(answer: &mut Answer, units: &[C]) {
     match as_contents(units) {
-        Ok(view) => text_of_contents(alloc, view),
-        Err(_) => answers::word(alloc, ""),
+        Ok(view) => text_of_contents(answer, view),
+        Err(_) => {}
     }
 }
 
-fn text_of_contents<C: Width>(alloc: Global, view: UCStr<'_, C>) -> Result<String, NoAnswer> {
+fn text_of_contents<C: Width>(answer: &mut Answer, view: UCStr<'_, C>) {
     match UtfStr::from_ucstr(view) {
         Ok(text) => answers::fields(
-            alloc,
+            answer,
             &[
                 text.as_slice(),
                 UtfStr::from_ucstr_unchecked(view).as_slice(),
             ],
         ),
-        Err(fault) => refused(alloc, fault),
+        Err(fault) => refused(answer, fault),
     }
 }
 
-fn of_units<C: Width>(
-    alloc: Global,
-    view: UStr<'_, C>,
-    call: Call,
-    more: &str,
-) -> Result<String, NoAnswer> {
+fn of_units<C: Width>(answer: &mut Answer, view: UStr<'_, C>, call: Call) {
     match call {
-        Call::Whole => whole(alloc, view.len(), view.is_empty(), &[view.as_slice()]),
-        Call::Subslice => part_of_units(alloc, view, more),
-        Call::Split => split_units(alloc, view, more),
-        Call::Empty => answers::count(alloc, Some(UStr::<C>::default().len())),
-        Call::Made => made_of_contents(alloc, view.as_slice()),
-        _ => Err(NoAnswer::Unparsed),
+        Call::Whole => whole(answer, view.len(), view.is_empty(), &[view.as_slice()]),
+        Call::Subslice(range) => part_of_units(answer, view, range),
+        Call::Split(mid) => split_units(answer, view, mid),
+        Call::Empty => answer.count(Some(UStr::<C>::default().len())),
+        Call::Made => made_of_contents(answer, view.as_slice()),
+        _ => answer.fail(NoAnswer::Unparsed),
     }
 }
 
-fn whole_contents<C: Width>(alloc: Global, view: UCStr<'_, C>) -> Result<String, NoAnswer> {
+fn whole_contents<C: Width>(answer: &mut Answer, view: UCStr<'_, C>) {
     let fields = [
         view.as_slice(),
         view.as_ustr().as_slice(),
         view.as_slice_with_nul(),
         view.as_ustr_with_nul().as_slice(),
     ];
-    whole(alloc, view.len(), view.is_empty(), &fields)
+    whole(answer, view.len(), view.is_empty(), &fields);
 }
 
-// Returns the answer: the contents of a C string that is made of units unchecked, and those of a copy.
-fn made_again<C: Width>(alloc: Global, view: UCStr<'_, C>) -> Result<String, NoAnswer> {
+// Adds the contents of a C string that is made of units unchecked, and those of a copy.
+fn made_again<C: Width>(answer: &mut Answer, view: UCStr<'_, C>) {
     let made = UCStr::from_slice_unchecked(view.as_slice_with_nul());
-    let copy = view.clone()?;
-    answers::fields(alloc, &[made.as_slice(), copy.as_slice()])
-}
-
-fn nul<C: Width>(alloc: Global) -> Result<String, NoAnswer> {
-    let mut answer = Answer::new(alloc);
-    answer.unit(Some(UCStr::<C>::NUL_TERMINATOR));
-    answer.finish()
-}
-
-fn of_contents<C: Width>(
-    alloc: Global,
-    view: UCStr<'_, C>,
-    call: Call,
-    more: &str,
-) -> Result<String, NoAnswer> {
-    match call {
-        Call::Whole => whole_contents(alloc, view),
-        Call::Subslice => part_of_contents(alloc, view, more),
-        Call::Split => split_contents(alloc, view, more),
-        Call::Made => made_again(alloc, view),
-        Call::Empty => C::no_contents(alloc),
-        Call::Nul => nul::<C>(alloc),
-        _ => Err(NoAnswer::Unparsed),
+    match view.clone() {
+        Ok(copy) => answers::fields(answer, &[made.as_slice(), copy.as_slice()]),
+        Err(_) => answer.fail(NoAnswer::OutOfMemory),
     }
 }
 
-// Returns the answer: the text that is made of a view, checked, and then of units and of a view, not checked.
-fn made_of_text<C: Width>(alloc: Global, text: UtfStr<'_, C>) -> Result<String, NoAnswer> {
+fn of_contents<C: Width>(answer: &mut Answer, view: UCStr<'_, C>, call: Call) {
+    match call {
+        Call::Whole => whole_contents(answer, view),
+        Call::Subslice(range) => part_of_contents(answer, view, range),
+        Call::Split(mid) => split_contents(answer, view, mid),
+        Call::Made => made_again(answer, view),
+        Call::Empty => C::no_contents(answer),
+        Call::Nul => answer.unit(Some(UCStr::<C>::NUL_TERMINATOR)),
+        _ => answer.fail(NoAnswer::Unparsed),
+    }
+}
+
+// Adds the text that is made of a view, checked, and then of units and of a view, not checked.
+fn made_of_text<C: Width>(answer: &mut Answer, text: UtfStr<'_, C>) {
     match UtfStr::from_ustr(text.as_ustr()) {
         Ok(made) => answers::fields(
-            alloc,
+            answer,
             &[
                 made.as_slice(),
                 UtfStr::from_slice_unchecked(text.as_slice()).as_slice(),
                 UtfStr::from_ustr_unchecked(text.as_ustr()).as_slice(),
             ],
         ),
-        Err(_) => Err(NoAnswer::Unparsed),
+        Err(_) => answer.fail(NoAnswer::Unparsed),
     }
 }
 
-fn offset<C: Width>(alloc: Global, text: UtfStr<'_, C>, index: &str) -> Result<String, NoAnswer> {
-    answers::count(alloc, text.unit_offset(parse::value(index)?))
+fn at<C: Width>(answer: &mut Answer, text: UtfStr<'_, C>, index: usize) {
+    match C::char_at(text.as_slice(), index) {
+        Ok(c) => answer.character(Some(c)),
+        Err(error) => answer.fail(error),
+    }
 }
 
-fn boundary<C: Width>(
-    alloc: Global,
-    text: UtfStr<'_, C>,
-    position: &str,
-) -> Result<String, NoAnswer> {
-    answers::decided(alloc, text.is_char_boundary(parse::value(position)?))
+fn whole_text<C: Width>(answer: &mut Answer, text: UtfStr<'_, C>) {
+    let fields = [text.as_slice(), text.as_ustr().as_slice()];
+    whole(answer, text.len(), text.is_empty(), &fields);
 }
 
-fn at<C: Width>(alloc: Global, text: UtfStr<'_, C>, index: &str) -> Result<String, NoAnswer> {
-    let c = C::char_at(text.as_slice(), parse::value(index)?)?;
-    answers::character(alloc, Some(c))
-}
-
-fn of_text<C: Width>(
-    alloc: Global,
-    text: UtfStr<'_, C>,
-    call: Call,
-    more: &str,
-) -> Result<String, NoAnswer> {
+fn of_text<C: Width>(answer: &mut Answer, text: UtfStr<'_, C>, call: Call) {
     match call {
-        Call::Whole => whole(
-            alloc,
-            text.len(),
-            text.is_empty(),
-            &[text.as_slice(), text.as_ustr().as_slice()],
-        ),
-        Call::Subslice => part_of_text(alloc, text, more),
-        Call::Split => split_text(alloc, text, more),
-        Call::Made => made_of_text(alloc, text),
-        Call::Empty => answers::count(alloc, Some(UtfStr::<C>::default().len())),
-        Call::Count => answers::count(alloc, Some(text.char_count())),
-        Call::Offset => offset(alloc, text, more),
-        Call::Boundary => boundary(alloc, text, more),
-        Call::At => at(alloc, text, more),
-        _ => Err(NoAnswer::Unparsed),
+        Call::Whole => whole_text(answer, text),
+        Call::Subslice(range) => part_of_text(answer, text, range),
+        Call::Split(mid) => split_text(answer, text, mid),
+        Call::Made => made_of_text(answer, text),
+        Call::Empty => answer.count(Some(UtfStr::<C>::default().len())),
+        Call::Count => answer.count(Some(text.char_count())),
+        Call::Offset(index) => answer.count(text.unit_offset(index)),
+        Call::Boundary(offset) => answer.decided(text.is_char_boundary(offset)),
+        Call::At(index) => at(answer, text, index),
+        Call::Nul => answer.fail(NoAnswer::Unparsed),
     }
 }
 
-// Returns the answer to a question about the text of units. Ill-formed units only have the fault of their view.
-fn in_text<C: Width>(
-    alloc: Global,
-    units: &[C],
-    call: Call,
-    more: &str,
-) -> Result<String, NoAnswer> {
-    match as_text(units) {
-        Ok(text) => of_text(alloc, text, call, more),
-        Err(_) => in_ill_formed(alloc, UStr::from_slice(units), call),
-    }
-}
-
-fn in_ill_formed<C: Width>(
-    alloc: Global,
-    view: UStr<'_, C>,
-    call: Call,
-) -> Result<String, NoAnswer> {
+// Adds the fault of ill-formed units, if the question is what is made of them.
+fn of_ill_formed<C: Width>(answer: &mut Answer, view: UStr<'_, C>, call: Call) {
     match (call, UtfStr::from_ustr(view)) {
-        (Call::Made, Err(fault)) => refused(alloc, fault),
-        _ => Err(NoAnswer::Unparsed),
+        (Call::Made, Err(fault)) => refused(answer, fault),
+        _ => answer.fail(NoAnswer::Unparsed),
     }
 }
 
-fn in_contents<C: Width>(
-    alloc: Global,
-    units: &[C],
-    call: Call,
-    more: &str,
-) -> Result<String, NoAnswer> {
-    of_contents(alloc, as_contents(units)?, call, more)
-}
-
-// Returns the answer to a question about a view of this kind.
-fn of_kind<C: Width>(
-    alloc: Global,
-    units: &[C],
-    kind: Kind,
-    call: Call,
-    more: &str,
-) -> Result<String, NoAnswer> {
-    match kind {
-        Kind::Units => of_units(alloc, UStr::from_slice(units), call, more),
-        Kind::Text => in_text(alloc, units, call, more),
-        Kind::Contents => in_contents(alloc, units, call, more),
+// Makes a call of a view of this kind.
+fn of_kind<C: Width>(answer: &mut Answer, units: &[C], kind: Kind, call: Call) {
+    let view = UStr::from_slice(units);
+    match (kind, as_text(units), as_contents(units)) {
+        (Kind::Units, _, _) => of_units(answer, view, call),
+        (Kind::Text, Ok(text), _) => of_text(answer, text, call),
+        (Kind::Text, Err(_), _) => of_ill_formed(answer, view, call),
+        (Kind::Contents, _, Ok(contents)) => of_contents(answer, contents, call),
+        (Kind::Contents, _, Err(error)) => answer.fail(error),
     }
 }
 
-/// Returns the answer to a question about a view.
-pub fn view<C: Width>(alloc: Global, units: &[C], question: &str) -> Result<String, NoAnswer> {
+// Parses a question: a kind of view, and a call with its arguments.
+fn parse_call(question: &str) -> Result<(Kind, Call), NoAnswer> {
     let (kind, rest) = parse::word(question);
     let (word, more) = parse::word(rest);
     let kind = parse::named(&KINDS, kind)?;
-    of_kind(alloc, units, kind, parse::named(&CALLS, word)?, more)
+    let call = match parse::named(&CALLS, word)? {
+        Call::Subslice(_) => Call::Subslice(parse::range(more)?),
+        Call::Split(_) => Call::Split(parse::value(more)?),
+        Call::Offset(_) => Call::Offset(parse::value(more)?),
+        Call::Boundary(_) => Call::Boundary(parse::value(more)?),
+        Call::At(_) => Call::At(parse::value(more)?),
+        call => call,
+    };
+    Ok((kind, call))
+}
+
+/// Adds the answer to a question about a view.
+pub fn view<C: Width>(answer: &mut Answer, units: &[C], question: &str) {
+    match parse_call(question) {
+        Ok((kind, call)) => of_kind(answer, units, kind, call),
+        Err(error) => answer.fail(error),
+    }
 }

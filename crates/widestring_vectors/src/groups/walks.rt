@@ -14,129 +14,102 @@ use crate::groups::width::{Width, as_contents, as_text};
 use std::alloc::Global;
 use widestring::iter::{End, decode_utf32, decode_utf32_lossy, encode_utf32};
 use widestring::ucstr::UCStr;
-use widestring::ustr::{CharIndices, CharIndicesLossy, Chars, UStr};
-use widestring::utfstr::UtfStr;
+use widestring::ustr::{CharIndices, CharIndicesLossy, Chars, CharsLossy, CharsLossyWith, UStr};
+use widestring::utfstr::{CharIndices as TextIndices, Chars as TextChars, CodeUnits, UtfStr};
 use widestring::{Policy, U32Str, Utf16Str, Utf32Str};
 use widestring_replay::asked;
 use widestring_replay::parse::{self, NoAnswer};
 use widestring_replay::show::{Answer, ReportedUnit};
 
+// An iterator whose items are shown in an answer.
+trait Shown: DoubleEndedIterator + Clone {
+    // Adds an item that it has just returned.
+    fn show(&self, answer: &mut Answer, item: Option<Self::Item>);
+}
+
+impl<C: ReportedUnit> Shown for Chars<'_, C> {
+    fn show(&self, answer: &mut Answer, item: Option<Result<char, C::Fault>>) {
+        answer.item::<C>(item);
+    }
+}
+
+impl<C: ReportedUnit> Shown for CharsLossy<'_, C> {
+    fn show(&self, answer: &mut Answer, item: Option<char>) {
+        answer.character(item);
+    }
+}
+
+impl<C: ReportedUnit> Shown for CharsLossyWith<'_, C> {
+    fn show(&self, answer: &mut Answer, item: Option<char>) {
+        answer.character(item);
+    }
+}
+
+impl<C: ReportedUnit> Shown for CharIndices<'_, C> {
+    fn show(&self, answer: &mut Answer, item: Option<(usize, Result<char, C::Fault>)>) {
+        answer.position::<C>(item, self.offset());
+    }
+}
+
+impl<C: ReportedUnit> Shown for CharIndicesLossy<'_, C> {
+    fn show(&self, answer: &mut Answer, item: Option<(usize, char)>) {
+        answer.position::<C>(item.map(|(index, c)| (index, Ok(c))), self.offset());
+    }
+}
+
+impl<C: ReportedUnit> Shown for TextChars<'_, C> {
+    fn show(&self, answer: &mut Answer, item: Option<char>) {
+        answer.character(item);
+    }
+}
+
+impl<C: ReportedUnit> Shown for TextIndices<'_, C> {
+    fn show(&self, answer: &mut Answer, item: Option<(usize, char)>) {
+        answer.position::<C>(item.map(|(index, c)| (index, Ok(c))), self.offset());
+    }
+}
+
+impl Shown for CodeUnits<'_> {
+    fn show(&self, answer: &mut Answer, item: Option<u16>) {
+        answer.unit(item);
+    }
+}
+
 // Makes steps with an iterator, adds each item, and then the bounds.
-macro_rules! walked {
-    ($alloc:expr, $steps:expr, $iterator:ident = $start:expr, |$answer:ident, $item:ident| $show:expr) => {{
-        let mut $iterator = $start;
-        let mut $answer = Answer::new($alloc);
-        for step in $steps {
-            match step {
-                None => $iterator = $iterator.clone()?,
-                Some(end) => {
-                    let $item = asked!($iterator, end);
-                    $show;
-                }
-            }
-        }
-        $answer.part();
-        $answer.bounds($iterator.size_hint());
-        $answer.finish()
-    }};
-}
-
-fn chars<C: ReportedUnit>(
-    alloc: Global,
-    chars: Chars<'_, C>,
-    steps: &[Option<End>],
-) -> Result<String, NoAnswer> {
-    walked!(
-        alloc,
-        steps,
-        chars = chars,
-        |answer, item| answer.item::<C>(item)
-    )
-}
-
-fn characters<I: DoubleEndedIterator<Item = char> + Clone>(
-    alloc: Global,
-    chars: I,
-    steps: &[Option<End>],
-) -> Result<String, NoAnswer>
+fn walked<I: Shown>(answer: &mut Answer, mut iterator: I, steps: &[Option<End>])
 where
     requires front { (i : I) → I.can_next i }
     requires back { (i : I) → I.can_next_back i }
     requires finite { (i : I) → IsFinite (I.remaining i) }
 {
-    walked!(
-        alloc,
-        steps,
-        chars = chars,
-        |answer, item| answer.character(item)
-    )
+    for step in steps {
+        match step {
+            Some(end) => {
+                let item = asked!(iterator, end);
+                iterator.show(answer, item);
+            }
+            None => match iterator.clone() {
+                Ok(copy) => iterator = copy,
+                Err(_) => return answer.fail(NoAnswer::OutOfMemory),
+            },
+        }
+    }
+    answer.part();
+    answer.bounds(iterator.size_hint());
 }
 
-fn indices<C: ReportedUnit>(
-    alloc: Global,
-    indices: CharIndices<'_, C>,
-    steps: &[Option<End>],
-) -> Result<String, NoAnswer> {
-    walked!(
-        alloc,
-        steps,
-        indices = indices,
-        |answer, item| answer.position::<C>(item, indices.offset())
-    )
+/// Adds the units of a text.
+pub fn code_units(answer: &mut Answer, text: Utf16Str<'_>, steps: &[Option<End>]) {
+    walked(answer, text.code_units(), steps);
 }
 
-fn lossy_indices<C: ReportedUnit>(
-    alloc: Global,
-    indices: CharIndicesLossy<'_, C>,
-    steps: &[Option<End>],
-) -> Result<String, NoAnswer> {
-    walked!(
-        alloc,
-        steps,
-        indices = indices,
-        |answer, item| answer.position::<C>(item.map(|(index, c)| (index, Ok(c))), indices.offset())
-    )
-}
-
-fn text_indices<C: ReportedUnit>(
-    alloc: Global,
-    text: UtfStr<'_, C>,
-    steps: &[Option<End>],
-) -> Result<String, NoAnswer> {
-    walked!(
-        alloc,
-        steps,
-        indices = text.char_indices(),
-        |answer, item| answer.position::<C>(item.map(|(index, c)| (index, Ok(c))), indices.offset())
-    )
-}
-
-/// Returns the answer: the units of a text.
-pub fn code_units(
-    alloc: Global,
-    text: Utf16Str<'_>,
-    steps: &[Option<End>],
-) -> Result<String, NoAnswer> {
-    walked!(
-        alloc,
-        steps,
-        units = text.code_units(),
-        |answer, item| answer.unit(item)
-    )
-}
-
-// Returns the answer: what an encoder returns for calls from the front, and then its bounds. It has no copy.
-fn encoded<I: Iterator>(
-    alloc: Global,
-    mut encoder: I,
-    steps: &[Option<End>],
-) -> Result<String, NoAnswer>
+// Adds what an encoder returns for calls from the front, and then its bounds. It has no copy.
+fn encoded<I: Iterator>(answer: &mut Answer, mut encoder: I, steps: &[Option<End>])
 where
     I::Item: Into<u32>,
     requires front { (i : I) → I.can_next i }
     requires finite { (i : I) → IsFinite (I.remaining i) }
 {
-    let mut answer = Answer::new(alloc);
     for step in steps {
         match step {
             Some(End::Front) => answer.number(encoder.next().map(|number| number.into())),
@@ -145,18 +118,16 @@ where
     }
     answer.part();
     answer.bounds(encoder.size_hint());
-    answer.finish()
 }
 
-/// Returns the answer: the units of a text in UTF-16.
-pub fn utf16(alloc: Global, text: Utf32Str<'_>, steps: &[Option<End>]) -> Result<String, NoAnswer> {
-    encoded(alloc, text.encode_utf16(), steps)
+/// Adds the units of a text in UTF-16.
+pub fn utf16(answer: &mut Answer, text: Utf32Str<'_>, steps: &[Option<End>]) {
+    encoded(answer, text.encode_utf16(), steps);
 }
 
-/// Returns the answer: the units of a text in UTF-32, from both ends.
-pub fn utf32(alloc: Global, text: Utf16Str<'_>, steps: &[Option<End>]) -> Result<String, NoAnswer> {
+/// Adds the units of a text in UTF-32, from both ends.
+pub fn utf32(answer: &mut Answer, text: Utf16Str<'_>, steps: &[Option<End>]) {
     let mut encoder = text.encode_utf32();
-    let mut answer = Answer::new(alloc);
     for step in steps {
         match step {
             Some(end) => answer.number(asked!(encoder, end)),
@@ -165,7 +136,6 @@ pub fn utf32(alloc: Global, text: Utf16Str<'_>, steps: &[Option<End>]) -> Result
     }
     answer.part();
     answer.bounds(encoder.size_hint());
-    answer.finish()
 }
 
 // Adds the length of an iterator, at first and after a call from the back.
@@ -179,12 +149,12 @@ where
     answer.count(Some(iterator.len()));
 }
 
-/// Returns the answer: the lengths of the iterator over the text of 16-bit units that has one.
-pub fn lengths16(alloc: Global, units: &[u16]) -> Result<String, NoAnswer> {
-    let text: Utf16Str<'_> = as_text(units)?;
-    let mut answer = Answer::new(alloc);
-    lengths(&mut answer, text.code_units());
-    answer.finish()
+/// Adds the lengths of the iterator over the text of 16-bit units that has one.
+pub fn lengths16(answer: &mut Answer, units: &[u16]) {
+    match as_text(units) {
+        Ok(text) => lengths(answer, text.code_units()),
+        Err(error) => answer.fail(error),
+    }
 }
 
 fn lengths_of_text(answer: &mut Answer, text: Utf32Str<'_>) {
@@ -194,28 +164,31 @@ fn lengths_of_text(answer: &mut Answer, text: Utf32Str<'_>) {
     lengths(answer, encode_utf32(text.chars()));
 }
 
-/// Returns the answer: the lengths of the iterators over 32-bit units, and over their text if they are well formed.
-pub fn lengths32(alloc: Global, units: &[u32]) -> Result<String, NoAnswer> {
-    let view = U32Str::from_slice(units);
-    let mut answer = Answer::new(alloc);
-    lengths(&mut answer, view.chars());
-    lengths(&mut answer, view.chars_lossy());
-    lengths(&mut answer, view.char_indices());
-    lengths(&mut answer, view.char_indices_lossy());
-    lengths(&mut answer, decode_utf32(units.iter().copied()));
-    lengths(&mut answer, decode_utf32_lossy(units.iter().copied()));
-    if let Ok(text) = as_text(units) {
-        lengths_of_text(&mut answer, text);
-    }
-    answer.finish()
+fn lengths_of_view(answer: &mut Answer, view: U32Str<'_>) {
+    lengths(answer, view.chars());
+    lengths(answer, view.chars_lossy());
+    lengths(answer, view.char_indices());
+    lengths(answer, view.char_indices_lossy());
 }
 
-// Returns the answer: the bounds of the lines of units, alone and with their offsets.
-fn line_bounds<C: ReportedUnit>(alloc: Global, view: UStr<'_, C>) -> Result<String, NoAnswer> {
-    let mut answer = Answer::new(alloc);
+fn lengths_of_decoders(answer: &mut Answer, units: &[u32]) {
+    lengths(answer, decode_utf32(units.iter().copied()));
+    lengths(answer, decode_utf32_lossy(units.iter().copied()));
+}
+
+/// Adds the lengths of the iterators over 32-bit units, and over their text if they are well formed.
+pub fn lengths32(answer: &mut Answer, units: &[u32]) {
+    lengths_of_view(answer, U32Str::from_slice(units));
+    lengths_of_decoders(answer, units);
+    if let Ok(text) = as_text(units) {
+        lengths_of_text(answer, text);
+    }
+}
+
+// Adds the bounds of the lines of units, alone and with their offsets.
+fn line_bounds<C: ReportedUnit>(answer: &mut Answer, view: UStr<'_, C>) {
     answer.bounds(view.lines_lossy().size_hint());
     answer.bounds(view.line_indices_lossy().size_hint());
-    answer.finish()
 }
 
 // The iterators over the characters of a view of units.
@@ -239,32 +212,32 @@ static KINDS: [(&str, Kind); 7] = [
 ];
 
 fn of_units<C: ReportedUnit>(
-    alloc: Global,
+    answer: &mut Answer,
     view: UStr<'_, C>,
     kind: Kind,
     steps: &[Option<End>],
-) -> Result<String, NoAnswer> {
+) {
     match kind {
-        Kind::Chars => chars(alloc, view.chars(), steps),
-        Kind::Lossy => characters(alloc, view.chars_lossy(), steps),
-        Kind::Under(policy) => characters(alloc, view.chars_lossy_with(policy), steps),
-        Kind::Indices => indices(alloc, view.char_indices(), steps),
-        Kind::LossyIndices => lossy_indices(alloc, view.char_indices_lossy(), steps),
+        Kind::Chars => walked(answer, view.chars(), steps),
+        Kind::Lossy => walked(answer, view.chars_lossy(), steps),
+        Kind::Under(policy) => walked(answer, view.chars_lossy_with(policy), steps),
+        Kind::Indices => walked(answer, view.char_indices(), steps),
+        Kind::LossyIndices => walked(answer, view.char_indices_lossy(), steps),
     }
 }
 
 fn of_contents<C: ReportedUnit>(
-    alloc: Global,
+    answer: &mut Answer,
     view: UCStr<'_, C>,
     kind: Kind,
     steps: &[Option<End>],
-) -> Result<String, NoAnswer> {
+) {
     match kind {
-        Kind::Chars => chars(alloc, view.chars(), steps),
-        Kind::Lossy => characters(alloc, view.chars_lossy(), steps),
-        Kind::Under(policy) => characters(alloc, view.chars_lossy_with(policy), steps),
-        Kind::Indices => indices(alloc, view.char_indices(), steps),
-        Kind::LossyIndices => lossy_indices(alloc, view.char_indices_lossy(), steps),
+        Kind::Chars => walked(answer, view.chars(), steps),
+        Kind::Lossy => walked(answer, view.chars_lossy(), steps),
+        Kind::Under(policy) => walked(answer, view.chars_lossy_with(policy), steps),
+        Kind::Indices => walked(answer, view.char_indices(), steps),
+        Kind::LossyIndices => walked(answer, view.char_indices_lossy(), steps),
     }
 }
 
@@ -287,17 +260,17 @@ static OF_TEXT: [(&str, OfText); 5] = [
 ];
 
 fn of_text<C: Width>(
-    alloc: Global,
+    answer: &mut Answer,
     text: UtfStr<'_, C>,
     kind: OfText,
     steps: &[Option<End>],
-) -> Result<String, NoAnswer> {
+) {
     match kind {
-        OfText::Chars => characters(alloc, text.chars(), steps),
-        OfText::Indices => text_indices(alloc, text, steps),
-        OfText::Units => C::code_units(alloc, text.as_slice(), steps),
-        OfText::Utf8 => encoded(alloc, text.encode_utf8(), steps),
-        OfText::Other => C::encode_other(alloc, text.as_slice(), steps),
+        OfText::Chars => walked(answer, text.chars(), steps),
+        OfText::Indices => walked(answer, text.char_indices(), steps),
+        OfText::Units => C::code_units(answer, text.as_slice(), steps),
+        OfText::Utf8 => encoded(answer, text.encode_utf8(), steps),
+        OfText::Other => C::encode_other(answer, text.as_slice(), steps),
     }
 }
 
@@ -310,43 +283,56 @@ enum Whole {
 
 static WHOLE: [(&str, Whole); 2] = [("lengths", Whole::Lengths), ("lines", Whole::Lines)];
 
-fn of_whole<C: Width>(alloc: Global, units: &[C], whole: Whole) -> Result<String, NoAnswer> {
+fn of_whole<C: Width>(answer: &mut Answer, units: &[C], whole: Whole) {
     match whole {
-        Whole::Lengths => C::lengths(alloc, units),
-        Whole::Lines => line_bounds(alloc, UStr::from_slice(units)),
+        Whole::Lengths => C::lengths(answer, units),
+        Whole::Lines => line_bounds(answer, UStr::from_slice(units)),
     }
 }
 
-fn of_steps<C: Width>(
-    alloc: Global,
-    units: &[C],
-    word: &str,
-    steps: &[Option<End>],
-) -> Result<String, NoAnswer> {
+fn with_units<C: Width>(answer: &mut Answer, units: &[C], word: &str, steps: &[Option<End>]) {
+    match parse::named(&KINDS, word) {
+        Ok(kind) => of_units(answer, UStr::from_slice(units), kind, steps),
+        Err(error) => answer.fail(error),
+    }
+}
+
+fn with_contents<C: Width>(answer: &mut Answer, units: &[C], word: &str, steps: &[Option<End>]) {
+    match (as_contents(units), parse::named(&KINDS, word)) {
+        (Ok(view), Ok(kind)) => of_contents(answer, view, kind, steps),
+        (Err(error), _) | (_, Err(error)) => answer.fail(error),
+    }
+}
+
+fn with_text<C: Width>(answer: &mut Answer, units: &[C], kind: OfText, steps: &[Option<End>]) {
+    match as_text(units) {
+        Ok(text) => of_text(answer, text, kind, steps),
+        Err(error) => answer.fail(error),
+    }
+}
+
+fn of_steps<C: Width>(answer: &mut Answer, units: &[C], word: &str, steps: &[Option<End>]) {
     if let Ok(kind) = parse::named(&OF_TEXT, word) {
-        return of_text(alloc, as_text(units)?, kind, steps);
+        return with_text(answer, units, kind, steps);
     }
     match word.strip_prefix("c_") {
-        Some(word) => of_contents(
-            alloc,
-            as_contents(units)?,
-            parse::named(&KINDS, word)?,
-            steps,
-        ),
-        None => of_units(
-            alloc,
-            UStr::from_slice(units),
-            parse::named(&KINDS, word)?,
-            steps,
-        ),
+        Some(word) => with_contents(answer, units, word, steps),
+        None => with_units(answer, units, word, steps),
     }
 }
 
-/// Returns the answer: what an iterator of a view returns.
-pub fn walk<C: Width>(alloc: Global, units: &[C], question: &str) -> Result<String, NoAnswer> {
+fn with_steps<C: Width>(alloc: Global, answer: &mut Answer, units: &[C], word: &str, steps: &str) {
+    match parse::steps(alloc, steps) {
+        Ok(steps) => of_steps(answer, units, word, &steps),
+        Err(error) => answer.fail(error),
+    }
+}
+
+/// Adds what an iterator of a view returns.
+pub fn walk<C: Width>(alloc: Global, answer: &mut Answer, units: &[C], question: &str) {
     let (word, steps) = parse::word(question);
     match parse::named(&WHOLE, word) {
-        Ok(whole) => of_whole(alloc, units, whole),
-        Err(_) => of_steps(alloc, units, word, &parse::steps(alloc, steps)?),
+        Ok(whole) => of_whole(answer, units, whole),
+        Err(_) => with_steps(alloc, answer, units, word, steps),
     }
 }

@@ -2,7 +2,7 @@
 //!
 //! The functions take units and not views of them: the bound of a view is the trait `Unit`, and an impl for one width
 //! whose signatures name a view would need a manual proof.
-use crate::groups::{answers, bytes, conversions, hints, items, lossy, policies, prints, walks};
+use crate::groups::{bytes, conversions, hints, items, lossy, policies, prints, walks};
 use std::alloc::Global;
 use std::hash::Hash;
 use widestring::iter::End;
@@ -30,34 +30,35 @@ pub fn as_contents<C: ReportedUnit>(units: &[C]) -> Result<UCStr<'_, C>, NoAnswe
 
 /// A width of units.
 pub trait Width: ReportedUnit + FromHex + Ord + Hash + 'static {
-    /// Returns the answer about the bounds of decoders.
-    fn hints(alloc: Global, units: &[Self], question: &str) -> Result<String, NoAnswer>;
+    /// Adds the bounds of decoders.
+    fn hints(alloc: Global, answer: &mut Answer, units: &[Self], question: &str);
 
-    /// Returns the answer about units as bytes.
-    fn bytes(memory: Memory<'_>, units: &[Self], question: &str) -> Result<String, NoAnswer>;
+    /// Adds units as bytes.
+    fn bytes(memory: Memory<'_>, answer: &mut Answer, units: &[Self], question: &str);
 
-    /// Returns the answer about the text of units in UTF-8.
-    fn text(memory: Memory<'_>, units: &[Self], question: &str) -> Result<String, NoAnswer>;
+    /// Adds the text of units in UTF-8.
+    fn text(memory: Memory<'_>, answer: &mut Answer, units: &[Self], question: &str);
 
-    /// Returns the answer: what a decoder returns for calls.
-    fn items(memory: Memory<'_>, units: &[Self], calls: &[End]) -> Result<String, NoAnswer>;
+    /// Adds what a decoder returns for calls.
+    fn items(memory: Memory<'_>, answer: &mut Answer, units: &[Self], calls: &[End]);
 
-    /// Returns the answer: what a lossy decoder returns for calls.
-    fn lossy(alloc: Global, units: &[Self], calls: &[End]) -> Result<String, NoAnswer>;
+    /// Adds what a lossy decoder returns for calls.
+    fn lossy(answer: &mut Answer, units: &[Self], calls: &[End]);
 
-    /// Returns the answer: the bounds of a lossy decoder between calls.
-    fn lossy_hints(alloc: Global, units: &[Self], calls: &[End]) -> Result<String, NoAnswer>;
+    /// Adds the bounds of a lossy decoder between calls.
+    fn lossy_hints(answer: &mut Answer, units: &[Self], calls: &[End]);
 
-    /// Returns the answer: what a lossy decoder under a policy returns for calls.
+    /// Adds what a lossy decoder under a policy returns for calls.
     fn under(
         memory: Memory<'_>,
+        answer: &mut Answer,
         units: &[Self],
         calls: &[End],
         policy: Policy,
-    ) -> Result<String, NoAnswer>;
+    );
 
-    /// Returns the answer: the units of the empty C string, with its NUL.
-    fn no_contents(alloc: Global) -> Result<String, NoAnswer>;
+    /// Adds the units of the empty C string, with its NUL.
+    fn no_contents(answer: &mut Answer);
 
     /// Returns whether the text of units is equal to one of the other width, asked from both sides.
     fn eq_other(units: &[Self], other: &str, alloc: Global) -> Result<[bool; 2], NoAnswer>;
@@ -68,66 +69,72 @@ pub trait Width: ReportedUnit + FromHex + Ord + Hash + 'static {
     /// Returns the character with this index in the text of units, at the width that has the call.
     fn char_at(units: &[Self], index: usize) -> Result<char, NoAnswer>;
 
-    /// Returns the answer: the units of a text, at the width that has the call.
-    fn code_units(alloc: Global, units: &[Self], steps: &[Option<End>]) -> Result<String, NoAnswer>;
+    /// Adds the units of a text, at the width that has the call.
+    fn code_units(answer: &mut Answer, units: &[Self], steps: &[Option<End>]);
 
-    /// Returns the answer: the units of the encoder to the other width.
-    fn encode_other(
-        alloc: Global,
-        units: &[Self],
-        steps: &[Option<End>],
-    ) -> Result<String, NoAnswer>;
+    /// Adds the units of the encoder to the other width.
+    fn encode_other(answer: &mut Answer, units: &[Self], steps: &[Option<End>]);
 
     /// Adds the text of the error of ill-formed units, and of its cause.
-    fn print_fault(alloc: Global, answer: &mut Answer, units: &[Self]) -> Result<(), NoAnswer>;
+    fn print_fault(alloc: Global, answer: &mut Answer, units: &[Self]);
 
-    /// Returns the answer: the lengths of the iterators that have one, at first and after a call from the back.
-    fn lengths(alloc: Global, units: &[Self]) -> Result<String, NoAnswer>;
+    /// Adds the lengths of the iterators that have one, at first and after a call from the back.
+    fn lengths(answer: &mut Answer, units: &[Self]);
+}
+
+fn eq_both16(text: Utf16Str<'_>, other: Utf32Str<'_>) -> [bool; 2] {
+    [text.eq_utf32(other), other.eq_utf16(text)]
+}
+
+fn eq_both32(text: Utf32Str<'_>, other: Utf16Str<'_>) -> [bool; 2] {
+    [text.eq_utf16(other), other.eq_utf32(text)]
 }
 
 impl Width for u16 {
-    fn hints(alloc: Global, units: &[u16], question: &str) -> Result<String, NoAnswer> {
-        hints::utf16(alloc, units, question)
+    fn hints(alloc: Global, answer: &mut Answer, units: &[u16], question: &str) {
+        hints::utf16(alloc, answer, units, question);
     }
 
-    fn bytes(memory: Memory<'_>, units: &[u16], question: &str) -> Result<String, NoAnswer> {
-        bytes::of_units16(memory, units, question)
+    fn bytes(memory: Memory<'_>, answer: &mut Answer, units: &[u16], question: &str) {
+        bytes::of_units16(memory, answer, units, question);
     }
 
-    fn text(memory: Memory<'_>, units: &[u16], question: &str) -> Result<String, NoAnswer> {
-        conversions::text16(memory, units, question)
+    fn text(memory: Memory<'_>, answer: &mut Answer, units: &[u16], question: &str) {
+        conversions::text16(memory, answer, units, question);
     }
 
-    fn items(memory: Memory<'_>, units: &[u16], calls: &[End]) -> Result<String, NoAnswer> {
-        items::utf16(memory, units, calls)
+    fn items(memory: Memory<'_>, answer: &mut Answer, units: &[u16], calls: &[End]) {
+        items::utf16(memory, answer, units, calls);
     }
 
-    fn lossy(alloc: Global, units: &[u16], calls: &[End]) -> Result<String, NoAnswer> {
-        lossy::utf16(alloc, units, calls)
+    fn lossy(answer: &mut Answer, units: &[u16], calls: &[End]) {
+        lossy::utf16(answer, units, calls);
     }
 
-    fn lossy_hints(alloc: Global, units: &[u16], calls: &[End]) -> Result<String, NoAnswer> {
-        hints::lossy_utf16(alloc, units, calls)
+    fn lossy_hints(answer: &mut Answer, units: &[u16], calls: &[End]) {
+        hints::lossy_utf16(answer, units, calls);
     }
 
     fn under(
         memory: Memory<'_>,
+        answer: &mut Answer,
         units: &[u16],
         calls: &[End],
         policy: Policy,
-    ) -> Result<String, NoAnswer> {
-        policies::utf16(memory, units, calls, policy)
+    ) {
+        policies::utf16(memory, answer, units, calls, policy);
     }
 
-    fn no_contents(alloc: Global) -> Result<String, NoAnswer> {
-        answers::units(alloc, U16CStr::default().as_slice_with_nul())
+    fn no_contents(answer: &mut Answer) {
+        answer.units(U16CStr::default().as_slice_with_nul());
     }
 
     fn eq_other(units: &[u16], other: &str, alloc: Global) -> Result<[bool; 2], NoAnswer> {
-        let text: Utf16Str<'_> = as_text(units)?;
-        let other = Utf32String::from_str(alloc, other)?;
-        let view = other.as_utfstr();
-        Ok([text.eq_utf32(view), view.eq_utf16(text)])
+        match (as_text(units), Utf32String::from_str(alloc, other)) {
+            (Ok(text), Ok(other)) => Ok(eq_both16(text, other.as_utfstr())),
+            (Ok(_), Err(_)) => Err(NoAnswer::OutOfMemory),
+            (Err(error), _) => Err(error),
+        }
     }
 
     fn eq_chars(_units: &[u16], _chars: &[char]) -> Result<bool, NoAnswer> {
@@ -138,75 +145,81 @@ impl Width for u16 {
         Err(NoAnswer::Unparsed)
     }
 
-    fn code_units(alloc: Global, units: &[u16], steps: &[Option<End>]) -> Result<String, NoAnswer> {
-        walks::code_units(alloc, as_text(units)?, steps)
+    fn code_units(answer: &mut Answer, units: &[u16], steps: &[Option<End>]) {
+        match as_text(units) {
+            Ok(text) => walks::code_units(answer, text, steps),
+            Err(error) => answer.fail(error),
+        }
     }
 
-    fn encode_other(
-        alloc: Global,
-        units: &[u16],
-        steps: &[Option<End>],
-    ) -> Result<String, NoAnswer> {
-        walks::utf32(alloc, as_text(units)?, steps)
+    fn encode_other(answer: &mut Answer, units: &[u16], steps: &[Option<End>]) {
+        match as_text(units) {
+            Ok(text) => walks::utf32(answer, text, steps),
+            Err(error) => answer.fail(error),
+        }
     }
 
-    fn print_fault(alloc: Global, answer: &mut Answer, units: &[u16]) -> Result<(), NoAnswer> {
-        let Err(fault) = Utf16Str::from_slice(units) else {
-            return Err(NoAnswer::Unparsed);
-        };
-        prints::print(alloc, answer, &fault)?;
-        answer.part();
-        prints::print(alloc, answer, &fault.cause())
+    fn print_fault(alloc: Global, answer: &mut Answer, units: &[u16]) {
+        match Utf16Str::from_slice(units) {
+            Ok(_) => answer.fail(NoAnswer::Unparsed),
+            Err(fault) => {
+                prints::print(alloc, answer, &fault);
+                answer.part();
+                prints::print(alloc, answer, &fault.cause());
+            }
+        }
     }
 
-    fn lengths(alloc: Global, units: &[u16]) -> Result<String, NoAnswer> {
-        walks::lengths16(alloc, units)
+    fn lengths(answer: &mut Answer, units: &[u16]) {
+        walks::lengths16(answer, units);
     }
 }
 
 impl Width for u32 {
-    fn hints(alloc: Global, units: &[u32], question: &str) -> Result<String, NoAnswer> {
-        hints::utf32(alloc, units, question)
+    fn hints(alloc: Global, answer: &mut Answer, units: &[u32], question: &str) {
+        hints::utf32(alloc, answer, units, question);
     }
 
-    fn bytes(memory: Memory<'_>, units: &[u32], question: &str) -> Result<String, NoAnswer> {
-        bytes::of_units32(memory, units, question)
+    fn bytes(memory: Memory<'_>, answer: &mut Answer, units: &[u32], question: &str) {
+        bytes::of_units32(memory, answer, units, question);
     }
 
-    fn text(memory: Memory<'_>, units: &[u32], question: &str) -> Result<String, NoAnswer> {
-        conversions::text32(memory, units, question)
+    fn text(memory: Memory<'_>, answer: &mut Answer, units: &[u32], question: &str) {
+        conversions::text32(memory, answer, units, question);
     }
 
-    fn items(memory: Memory<'_>, units: &[u32], calls: &[End]) -> Result<String, NoAnswer> {
-        items::utf32(memory, units, calls)
+    fn items(memory: Memory<'_>, answer: &mut Answer, units: &[u32], calls: &[End]) {
+        items::utf32(memory, answer, units, calls);
     }
 
-    fn lossy(alloc: Global, units: &[u32], calls: &[End]) -> Result<String, NoAnswer> {
-        lossy::utf32(alloc, units, calls)
+    fn lossy(answer: &mut Answer, units: &[u32], calls: &[End]) {
+        lossy::utf32(answer, units, calls);
     }
 
-    fn lossy_hints(alloc: Global, units: &[u32], calls: &[End]) -> Result<String, NoAnswer> {
-        hints::lossy_utf32(alloc, units, calls)
+    fn lossy_hints(answer: &mut Answer, units: &[u32], calls: &[End]) {
+        hints::lossy_utf32(answer, units, calls);
     }
 
     fn under(
         memory: Memory<'_>,
+        answer: &mut Answer,
         units: &[u32],
         calls: &[End],
         policy: Policy,
-    ) -> Result<String, NoAnswer> {
-        policies::utf32(memory, units, calls, policy)
+    ) {
+        policies::utf32(memory, answer, units, calls, policy);
     }
 
-    fn no_contents(alloc: Global) -> Result<String, NoAnswer> {
-        answers::units(alloc, U32CStr::default().as_slice_with_nul())
+    fn no_contents(answer: &mut Answer) {
+        answer.units(U32CStr::default().as_slice_with_nul());
     }
 
     fn eq_other(units: &[u32], other: &str, alloc: Global) -> Result<[bool; 2], NoAnswer> {
-        let text: Utf32Str<'_> = as_text(units)?;
-        let other = Utf16String::from_str(alloc, other)?;
-        let view = other.as_utfstr();
-        Ok([text.eq_utf16(view), view.eq_utf32(text)])
+        match (as_text(units), Utf16String::from_str(alloc, other)) {
+            (Ok(text), Ok(other)) => Ok(eq_both32(text, other.as_utfstr())),
+            (Ok(_), Err(_)) => Err(NoAnswer::OutOfMemory),
+            (Err(error), _) => Err(error),
+        }
     }
 
     fn eq_chars(units: &[u32], chars: &[char]) -> Result<bool, NoAnswer> {
@@ -223,32 +236,29 @@ impl Width for u32 {
         }
     }
 
-    fn code_units(
-        _alloc: Global,
-        _units: &[u32],
-        _steps: &[Option<End>],
-    ) -> Result<String, NoAnswer> {
-        Err(NoAnswer::Unparsed)
+    fn code_units(answer: &mut Answer, _units: &[u32], _steps: &[Option<End>]) {
+        answer.fail(NoAnswer::Unparsed);
     }
 
-    fn encode_other(
-        alloc: Global,
-        units: &[u32],
-        steps: &[Option<End>],
-    ) -> Result<String, NoAnswer> {
-        walks::utf16(alloc, as_text(units)?, steps)
+    fn encode_other(answer: &mut Answer, units: &[u32], steps: &[Option<End>]) {
+        match as_text(units) {
+            Ok(text) => walks::utf16(answer, text, steps),
+            Err(error) => answer.fail(error),
+        }
     }
 
-    fn print_fault(alloc: Global, answer: &mut Answer, units: &[u32]) -> Result<(), NoAnswer> {
-        let Err(fault) = Utf32Str::from_slice(units) else {
-            return Err(NoAnswer::Unparsed);
-        };
-        prints::print(alloc, answer, &fault)?;
-        answer.part();
-        prints::print(alloc, answer, &fault.cause())
+    fn print_fault(alloc: Global, answer: &mut Answer, units: &[u32]) {
+        match Utf32Str::from_slice(units) {
+            Ok(_) => answer.fail(NoAnswer::Unparsed),
+            Err(fault) => {
+                prints::print(alloc, answer, &fault);
+                answer.part();
+                prints::print(alloc, answer, &fault.cause());
+            }
+        }
     }
 
-    fn lengths(alloc: Global, units: &[u32]) -> Result<String, NoAnswer> {
-        walks::lengths32(alloc, units)
+    fn lengths(answer: &mut Answer, units: &[u32]) {
+        walks::lengths32(answer, units);
     }
 }
