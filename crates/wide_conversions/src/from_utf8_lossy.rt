@@ -81,8 +81,8 @@ fn first_item(text: &[u8]) -> (Option<char>, usize)
     (Some(char_of(code)), 4)
 }
 
-// Writes the lossy text of the ASCII characters at the beginning of some bytes, or otherwise of the first item. Returns
-// how many bytes were read, how many units were written, and whether a fault was read last.
+// Writes the lossy text of up to sixteen ASCII characters at the beginning of some bytes, or else of the first item.
+// Returns how many bytes were read, how many units were written, and whether a fault was read last.
 #[inline(always)]
 fn put_prefix<C: Unit>(
     text: &[u8],

@@ -10,7 +10,7 @@ ghost use Rattle.wide_conversions.specs.Utf8Items.{HasFirstPart, utf8_items};
 
 use std::str;
 
-// How many bytes are checked in one step.
+// How many bytes of a block are checked by the three bytes before each.
 const BLOCK: usize = 64;
 
 // Returns how many rules of Table 3-7 a byte breaks after three others, of which `first` is the nearest. It checks all
@@ -32,7 +32,7 @@ fn broken_rules(third: u8, second: u8, first: u8, byte: u8) -> u8
         + u8::from(below_90 < u8::from(first == 0xf4))
 }
 
-// Returns whether all bytes of a block, and the three before it, are ASCII.
+// Returns whether 64 bytes of a block, and the three before it, are ASCII.
 #[inline(always)]
 fn is_ascii(block: &[u8]) -> bool
     requires { length block.now ≡ 67 }
@@ -85,8 +85,8 @@ fn follow(block: &[u8]) -> bool
     broken == 0
 }
 
-// Returns whether each byte of a block may follow the three bytes before it. It checks first whether all are ASCII,
-// which is faster.
+// Returns whether each byte of a block may follow the three bytes before it. It first tests whether all are ASCII, so
+// that ASCII is fast.
 #[inline(always)]
 fn is_valid(block: &[u8]) -> bool
     requires { length block.now ≡ 67 }

@@ -138,7 +138,7 @@ impl<T: Drop> From<AllocFailed<T>> for OutOfMemory {
     }
 }
 
-/// Allows `?` to convert it to an `io::Error` of the kind `OutOfMemory`, such as in `main`.
+/// Converts an allocation failure to an `io::Error` of the kind `OutOfMemory`, as `?` does in `main`.
 impl From<OutOfMemory> for io::Error {
     ghost use Rattle.std.specs.IoError.{error_kind};
     ghost use Rattle.std.specs.declared.io.ErrorKind.TheVariants.{OutOfMemory};

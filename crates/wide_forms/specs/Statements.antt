@@ -1,4 +1,4 @@
--- The laws of the definitions. Each is the contract of a function of the crate.
+-- The laws of the definitions. Each is the contract of a function of `wide_unit`.
 use Rattle.std.specs.Prelude.{◌≡◌, ◌≢◌, ℕ, ◌*◌, ◌≤◌, ◌↔◌, List, [], ◌∷◌, ◌++◌, map, length, take, drop, slice_range, Some, None, Bool, false}
 use Rattle.std.specs.Char.{IsScalar, encode_utf8}
 use Rattle.std.specs.List.{All, Contains, splice}

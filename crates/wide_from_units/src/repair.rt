@@ -8,7 +8,7 @@ ghost use Rattle.wide_forms.specs.Laws.Items.{IsCut};
 
 use wide_unit::{Unit, check};
 
-// If fewer well-formed units precede a fault, they are repaired together with the units after them.
+// Well-formed units before a fault that are fewer than this are repaired together with the units after them.
 const FEW: usize = 64;
 
 /// Returns how many units precede the first fault, or their total number if they are well formed (Unicode Standard,

@@ -19,7 +19,7 @@ trait Weighed: Copy {
     // How many bytes more than one the unit has in UTF-8.
     ghost more: { Self → ℕ };
 
-    // Returns the sum of these numbers over the units.
+    // Returns how many bytes more than one each unit has in UTF-8, summed over the units.
     fn more_bytes(units: &[Self]) -> usize
         requires { length units.now ≤ 4096 }
         ensures { result ≡ sum_by more units.now };

@@ -46,8 +46,8 @@ pub fn decode_utf16<U: IntoIterator<Item = u16>>(units: U) -> DecodeUtf16<U::Int
     }
 }
 
-/// Returns the size hint of a decoder of UTF-16, from the hint of its source and the number of units in the lookahead:
-/// at least one item for two units of the source, and at most one for each unit, if that number does not overflow.
+// Returns the size hint of a decoder of UTF-16, from the hint of its source and the number of units in the lookahead:
+// at least one item for two units of the source, and at most one for each unit, if that number does not overflow.
 fn decoded_hint(source: (usize, Option<usize>), pending: usize) -> (usize, Option<usize>)
     ensures lower { result.0 ≡ source.0 / 2 }
     ensures upper { result.1 ≡ upper_with source.1 pending }

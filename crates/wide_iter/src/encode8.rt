@@ -15,7 +15,7 @@ use crate::source::Source;
 use std::iter::{Copied, FusedIterator};
 use std::slice::Iter;
 
-/// The pending bytes of a character, after its first byte.
+// The pending bytes of a character, after its first byte.
 #[derive(Clone, Copy, Debug)]
 enum Pending {
     Zero,

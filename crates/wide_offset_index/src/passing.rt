@@ -40,7 +40,7 @@ fn len_before(text: Utf16Str<'_>, _index: usize, at: usize) -> usize
     2
 }
 
-// Returns the offset of character number `to`, given that of an earlier one.
+/// Returns the offset of character number `to`, given that of an earlier one.
 pub fn pass_on(text: Utf16Str<'_>, from: usize, start: usize, to: usize, steps: &mut Steps) -> usize
     requires forward { from ≤ to }
     requires within { to ≤ length (chars Utf16 (units_seen text)) }

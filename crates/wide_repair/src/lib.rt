@@ -1,5 +1,5 @@
-//! Counts the characters of UTF-16, and repairs units of either width: what the command `utf8` needs of a slice of units,
-//! so that it waits for no other code of `wide_unit`. The loops are in the form that the compiler vectorizes.
+//! Counts the characters of UTF-16, and repairs units of either width. `wide_unit` depends on it, and so does the
+//! command `utf8`, which needs nothing else of a slice of units. The loops are in the form that the compiler vectorizes.
 #![tactic(auto)]
 
 mod count;

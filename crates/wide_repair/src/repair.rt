@@ -1,5 +1,5 @@
 //! Replaces each unit that belongs to no character by U+FFFD (Unicode Standard, section 3.9, "U+FFFD Substitution of
-//! Maximal Subparts"), in SIMD lanes.
+//! Maximal Subparts"), in loops that the compiler vectorizes.
 ghost use Rattle.std.specs.Prelude.{◌≡◌, ◌+◌, ◌≤◌, ◌<◌, ◌∷◌, ℕ, slice_index, length, take, drop};
 ghost use Rattle.wide_forms.specs.EncodingForm.{Utf16, Utf32, encode};
 ghost use Rattle.wide_forms.specs.Items.{items};

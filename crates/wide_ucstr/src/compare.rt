@@ -12,7 +12,7 @@ use wide_ustr::UStr;
 use wide_utferror::FaultUnit;
 
 impl<C: FaultUnit> UCStr<'_, C> {
-    /// Returns whether the contents, without the NUL, are the view's units. It stops at the first that differ.
+    /// Returns whether the contents, without the NUL, are the view's units. It stops at the first units that differ.
     pub fn eq_ustr(self, other: UStr<'_, C>) -> bool
         ensures { IsTrue result ↔ (contents_seen self.entry ≡ units_seen other.entry) }
     {
@@ -40,12 +40,12 @@ pub trait UStrInUcstr<C, S> {
     // The number of a unit.
     ghost number: { C → ℕ };
 
-    /// Returns whether the units are the contents of the C string, without its NUL. It stops at the first that differ.
+    /// Returns whether the units are the contents of the C string, without its NUL. It stops at the first units that differ.
     fn eq_ucstr(self, other: S) -> bool
         ensures { IsTrue result ↔ (text self ≡ contents other) };
 
     /// Compares the units with the contents of the C string, without its NUL, lexicographically by the units' numbers.
-    /// It stops at the first that differ.
+    /// It stops at the first units that differ.
     fn cmp_ucstr(self, other: S) -> Ordering
         ensures { result ≡ slice_cmp nat_cmp (map number (text self)) (map number (contents other)) };
 }

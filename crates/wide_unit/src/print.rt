@@ -19,7 +19,7 @@ fn write_char<W: fmt::Write>(f: &mut fmt::Formatter<W>, c: char) -> fmt::Result
 /// Writes the rest of a character's escape to the formatter, and ignores the width and fill of the formatter. It stops
 /// at the first error.
 ///
-/// Every call that prints escaped units uses this function. It does not allocate. The Rust crate has no such call.
+/// It does not allocate. The Rust crate has no such call.
 ///
 /// # Requires
 ///

@@ -62,10 +62,10 @@ const BLOCK: usize = 64;
 trait Count {
     ghost use Rattle.std.specs.Prelude.{ℕ};
 
-    // How many begin at a byte.
+    // How many characters or units begin at a byte.
     ghost begun: { ℕ → ℕ };
 
-    // Returns how many begin at some bytes.
+    // Returns how many characters or units begin at some bytes.
     fn count(bytes: &[u8]) -> u8
         requires { length bytes.now ≤ 64 }
         ensures value { result ≡ sum_by begun bytes.now }
@@ -104,7 +104,7 @@ impl Count for Characters {
     }
 }
 
-// Returns how many begin at all the bytes.
+// Returns how many characters or units begin at all the bytes.
 fn count_all<T: Count>(bytes: &[u8]) -> usize
     ensures { result ≡ sum_by T.begun bytes.now }
 {

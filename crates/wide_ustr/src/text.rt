@@ -37,7 +37,7 @@ impl<C: Unit> UStr<'_, C> {
     /// character: one U+FFFD for each, one for each run of them, or nothing.
     ///
     /// If the text is well formed, it reads the units three times, vectorized. It allocates once, for as many bytes as
-    /// the text has, or not at all if there are no units.
+    /// the text has, or not at all if the text is empty.
     ///
     /// # Errors
     ///

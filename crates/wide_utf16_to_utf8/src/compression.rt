@@ -1,5 +1,5 @@
-//! Compresses SIMD lanes: moves the selected lanes of eight to the beginning, by a shuffle from a look-up table. Part
-//! of the conversion of UTF-16 (Unicode Standard, section 3.9).
+//! Compresses SIMD lanes: moves the selected lanes of eight to the beginning, by a shuffle from a look-up table. Lossy
+//! text under a policy and the units of mixed UTF-8 are stored so.
 
 ghost use Rattle.std.specs.Prelude.{◌≡◌, ◌<◌, ℕ, slice_index, take};
 ghost use Rattle.std.specs.Int.RustNames.{count_ones};

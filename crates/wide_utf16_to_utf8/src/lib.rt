@@ -1,4 +1,5 @@
-//! Converts UTF-16 to UTF-8, and repairs 16-bit units under a policy (Unicode Standard, section 3.9, D91 and D92).
+//! Converts UTF-16 to UTF-8, and removes from repaired 16-bit units each U+FFFD that a policy does not write (Unicode
+//! Standard, section 3.9, D91 and D92).
 //! Vectorized: sixteen units in one step in SIMD lanes, with look-up tables of shuffles.
 #![tactic(auto)]
 

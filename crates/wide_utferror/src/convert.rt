@@ -10,7 +10,7 @@ use wide_error::OutOfMemory;
 
 /// The error of converting UTF-16: the units are ill-formed, or an allocation failed.
 ///
-/// It prints what its cause prints.
+/// It prints what the error of the units prints, or that memory is out.
 #[derive(Drop)]
 pub enum Utf16ConvertError<A: Allocator = Global> {
     /// The units are ill-formed (Unicode Standard, D84).
@@ -86,7 +86,7 @@ impl<A: Allocator, T: Drop> From<AllocFailed<T>> for Utf16ConvertError<A> {
 
 /// The error of converting UTF-32: the units are ill-formed, or an allocation failed.
 ///
-/// It prints what its cause prints.
+/// It prints what the error of the units prints, or that memory is out.
 #[derive(Drop)]
 pub enum Utf32ConvertError<A: Allocator = Global> {
     /// The units are ill-formed (Unicode Standard, D84).
@@ -162,7 +162,7 @@ impl<A: Allocator, T: Drop> From<AllocFailed<T>> for Utf32ConvertError<A> {
 
 /// The error of converting bytes of UTF-16: their number is odd, the units are ill-formed, or an allocation failed.
 ///
-/// It prints what its cause prints.
+/// It prints what the error of the units prints, or why else there is no text.
 #[derive(Drop)]
 pub enum Utf16BytesError<A: Allocator = Global> {
     /// The number of bytes is odd: the last byte is half of a unit.

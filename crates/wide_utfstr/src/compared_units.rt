@@ -11,14 +11,14 @@ use wide_ustr::UStr;
 use wide_utferror::FaultUnit;
 
 impl<C: FaultUnit> UtfStr<'_, C> {
-    /// Returns whether both views have the same units. It stops at the first that differ.
+    /// Returns whether both views have the same units. It stops at the first units that differ.
     pub fn eq_ustr(self, other: UStr<'_, C>) -> bool
         ensures { IsTrue result ↔ (units_seen self.entry ≡ ustr_units other.entry) }
     {
         same_units(self.as_slice(), other.as_slice())
     }
 
-    /// Returns whether the units are the contents of the C string, without its NUL. It stops at the first that differ.
+    /// Returns whether the units are the contents of the C string, without its NUL. It stops at the first units that differ.
     pub fn eq_ucstr(self, other: UCStr<'_, C>) -> bool
         ensures { IsTrue result ↔ (units_seen self.entry ≡ contents_seen other.entry) }
     {
@@ -35,7 +35,7 @@ pub trait UStrInUtfstr<C, T> {
     // The units of the text.
     ghost text: { T → List C };
 
-    /// Returns whether the view has the units of the text. It stops at the first that differ.
+    /// Returns whether the view has the units of the text. It stops at the first units that differ.
     fn eq_utfstr(self, other: T) -> bool
         ensures { IsTrue result ↔ (units self ≡ text other) };
 }
@@ -59,7 +59,7 @@ pub trait UCStrInUtfstr<C, T> {
     // The units of the text.
     ghost text: { T → List C };
 
-    /// Returns whether the contents, without the NUL, are the units of the text. It stops at the first that differ.
+    /// Returns whether the contents, without the NUL, are the units of the text. It stops at the first units that differ.
     fn eq_utfstr(self, other: T) -> bool
         ensures { IsTrue result ↔ (contents self ≡ text other) };
 }

@@ -113,7 +113,7 @@ fn put_bytes_by(
     at
 }
 
-// Calls `put_bytes_by` with scratch arrays on the stack.
+// Copies the lossy text of UTF-16 in bytes, by arrays on the stack.
 fn put_bytes(order: BoM, bytes: &[u8], policy: Policy, after_fault: bool, text: &mut [u8]) -> usize
     ensures len { result ≡ length (bytes_text order policy after_fault bytes.now) }
     ensures fits { result < 2 ^ 64 - 1 }

@@ -15,10 +15,10 @@ use wide_from_units::is_after_fault;
 use wide_from_utf8::from_utf8_prefix;
 use wide_unit::Unit;
 
-// Sizes of the array, in units, that converted units are copied from: small for a short input, so that less of it is
-// cleared.
+// The size of the array, in units, that the units of a short input are copied from. Less of it has to be cleared.
 const FEW: usize = 32;
 
+// The size of the array, in units, that the units of a longer input are copied from.
 const MANY: usize = 772;
 
 // Units are decoded directly into the buffer while the rest of the text yields at least this many units.
@@ -90,7 +90,7 @@ fn put_lossy<C: Unit>(text: &[u8], policy: Policy, units: &mut [C], chunk: &mut 
     at
 }
 
-// Calls `put_lossy` for UTF-16, and for UTF-32, with an array whose size fits the input.
+// Copies lossy text in UTF-16, by an array whose size fits the input.
 fn put_lossy_16(text: &[u8], policy: Policy, units: &mut [u16]) -> usize
     ensures len { result ≡ length (encode Utf16 (lossy_by policy (utf8_items text.now))) }
     ensures fits { result < 2 ^ 64 - 1 }
@@ -104,6 +104,7 @@ fn put_lossy_16(text: &[u8], policy: Policy, units: &mut [u16]) -> usize
     }
 }
 
+// Copies lossy text in UTF-32, by an array whose size fits the input.
 fn put_lossy_32(text: &[u8], policy: Policy, units: &mut [u32]) -> usize
     ensures len { result ≡ length (lossy_by policy (utf8_items text.now)) }
     ensures fits { result < 2 ^ 64 - 1 }

@@ -6,9 +6,9 @@ ghost use Rattle.wide_forms.specs.Lossy.{lossy};
 
 use wide_unit::Unit;
 
-/// Copies UTF-16, and replaces each ill-formed unit by U+FFFD. Returns the length, which is that of the input in units.
-/// If `repaired` is at least that long, the result is at its start, and the units after the result are unchanged.
-///
+/// Copies UTF-16 (Unicode Standard, D91), and replaces each ill-formed unit by U+FFFD. Returns the length, which is that
+/// of the input in units. If `repaired` is at least that long, the result is at its start, and the units after the
+/// result are unchanged.
 #[unsafe(no_mangle)]
 pub extern "C" fn wide_utf16_repair(units: &[u16], repaired: &mut [u16]) -> usize
     ensures len { result ≡ length units.now }

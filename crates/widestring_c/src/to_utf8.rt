@@ -13,16 +13,20 @@ use wide_from_units::{is_after_fault, lossy_prefix, to_utf8_prefix, valid_len};
 use wide_unit::{Unit, check};
 use wide_utf16_to_utf8::{checked_utf16_to_utf8, writes_replacement};
 
-// Inputs of up to `FEW` and `MANY` units are converted in arrays of `SMALL` and `MIDDLE` bytes, longer ones in one of
-// `LARGE`, before the result is copied to the buffer. A small array takes less time to clear.
+// The most units that are converted in an array of `SMALL` bytes, before the result is copied to the buffer. A small
+// array takes less time to clear.
 const FEW: usize = 32;
 
+// Three bytes for each of `FEW` units, and four more.
 const SMALL: usize = 100;
 
+// The most units that are converted in an array of `MIDDLE` bytes.
 const MANY: usize = 256;
 
+// Three bytes for each of `MANY` units, and four more.
 const MIDDLE: usize = 772;
 
+// The size of the array, in bytes, for longer inputs: three bytes for each of 1032 units, and four more.
 pub(crate) const LARGE: usize = 3100;
 
 // U+FFFD REPLACEMENT CHARACTER in UTF-8.
