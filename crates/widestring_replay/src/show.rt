@@ -27,8 +27,8 @@ impl ReportedUnit for u32 {
 
 /// An answer that is being written. Once a write or the question has failed, there is no answer in the end.
 ///
-/// What adds to an answer returns nothing: it records why there is none, by `fail`. A function that returned a `Result`
-/// of a text in place of that would take several times as long to prove.
+/// What adds to an answer returns nothing, and records by `fail` why there is none. So it holds nothing when it returns
+/// early, which makes it cheap to prove.
 #[derive(Drop)]
 pub struct Answer {
     text: String,
