@@ -1,15 +1,56 @@
-"""What the page tools read from the sources: the public modules and names of the library, and the types, calls and
-clauses of a file. `docs/calling`, `docs/own` and `docs/paths` share it.
+"""What the page tools read from the sources: the public modules and items of the library, the files that have them,
+and the types, calls and clauses of a file. `docs/calling`, `docs/own`, `docs/paths` and `docs/uncalled` share it.
+
+What is public is what `crates/widestring/src` makes so, by `pub mod` and `pub use`, and what those lines name in the
+crates below. Nothing here has to name a new item, file or crate.
 """
+import functools
 import pathlib
 import re
 import sys
+import typing
 
 ROOT = pathlib.Path(__file__).resolve().parent.parent
 ITEM = re.compile(r"^pub (?:const fn|unsafe fn|fn|struct|enum|trait|type|const|static) (\w+)", re.M)
+TYPE = re.compile(r"^(?:pub(?:\(crate\))? )?(?:unsafe )?(?:struct|enum|trait|type) (\w+)", re.M)
 CALL = re.compile(r"^( *)(pub )?(const )?(unsafe )?fn (\w+)")
 # Ghost members of an impl that describe what its calls return.
 GHOST = re.compile(r"^    ghost (next_gives|next_back_gives|into_iter_gives|from_gives|output|is_clone|is_ready|text|seen|left|held) = \{ (.*) \};$")
+
+# What is editorial: the order of the modules on the pages, and for each the files that come first, since a reader meets
+# their types first. Each other module and file comes after these: files in the order of their crates in crates.txt,
+# then by name, and the laws last. A file is named by its crate only if two of the module have its name.
+ORDER = {
+    "error": "wide_error/error nul wide_utferror/error",
+    "iter": "decode16 decode32 lossy lossy_decoders",
+    "ucstr": "view text search",
+    "ucstring": "ucstring compare display cow boxed view",
+    "ustr": "view text iter lossy_with lines line_indices search split",
+    "ustring": "ustring compare display cow boxed iter",
+    "utfstr": "view text trim lines search boundaries escapes display",
+    "utfstring": "utfstring compare display cow boxed lossy convert iter",
+    "unit": "unit policy any_units range split nul first lanes line compare validation print utf8",
+    "search": "units",
+    "bytes": "order mode",
+    "edit": "edits text_edit lockstep utf marked",
+}
+
+
+class Origin(typing.NamedTuple):
+    """Where a public name comes from: its crate and file, and its name there, or no name if it is a module."""
+
+    crate: str
+    file: str
+    name: str
+
+
+class Entry(typing.NamedTuple):
+    """A heading, a type or a call of a file: `kind` is `owner`, `type` or `call`."""
+
+    kind: str
+    head: str
+    more: list
+    doc: list
 
 
 def text_of(path):
@@ -20,33 +61,130 @@ def source(crate, file="lib"):
     return ROOT / "crates" / crate / "src" / f"{file}.rt"
 
 
+def natural(name):
+    """A sort key by which numbers in names are in the order of their values."""
+    return [(0, int(field)) if field.isdigit() else (1, field) for field in re.findall(r"\d+|\D+", name)]
+
+
+@functools.lru_cache(maxsize=None)
+def crates():
+    """Returns the crates that `widestring` depends on, lowest first."""
+    lines = dict(re.findall(r"^(wide\w+)(?: staticlib)?: ?(.*)$", text_of(ROOT / "crates.txt"), re.M))
+    needed = {"widestring"}
+    for crate in reversed(lines):
+        needed |= set(lines[crate].split()) if crate in needed else set()
+    return [crate for crate in lines if crate in needed - {"widestring"}]
+
+
 def used(text):
-    """Yields the `pub use` lines of a file: the path of each, and the names that it makes public."""
+    """Yields the `pub use` lines of a file: the path of each, and the names that it makes public, by their names
+    there."""
     for path, names in re.findall(r"^pub use ((?:\w+::)*)(\{[^}]*\}|\w+(?: as \w+)?);", text, re.M):
-        yield path.strip(":"), [re.sub(r".* as ", "", name.strip()) for name in names.strip("{}").split(",") if name.strip()]
+        pairs = (name.strip().partition(" as ") for name in names.strip("{}").split(",") if name.strip())
+        yield path.strip(":"), {new or name: name for name, _, new in pairs}
 
 
-def names_of(text, crate, file):
-    """Returns the public names of a file, and those of its public modules, by their path below it."""
-    names = {"": ITEM.findall(text) + [name for path, given in used(text) if path for name in given if name != "laws"]}
-    folders = re.findall(r"^pub mod (\w+);", text, re.M)
-    for path, given in used(text):
-        if "laws" in given:
-            names["laws"] = ITEM.findall(text_of(source(path, "laws")))
-    for module in folders:
-        names[module] = ITEM.findall(text_of(source(crate, module)))
-    return names
+def origin(crate, path, name):
+    """Returns where a name comes from that a file of the crate uses by this path, or as a whole crate."""
+    if not path:
+        return Origin(name, "lib", "")
+    return exports(path)[name] if source(path).is_file() else exports(crate, path)[name]
 
 
+@functools.lru_cache(maxsize=None)
+def exports(crate, file="lib"):
+    """Returns what a file makes public: the origin of each name. Public modules are among them."""
+    text = text_of(source(crate, file))
+    found = {name: Origin(crate, file, name) for name in ITEM.findall(text)}
+    found |= {name: Origin(crate, name, "") for name in re.findall(r"^pub mod (\w+);", text, re.M)}
+    for path, names in used(text):
+        found |= {new: origin(crate, path, name) for new, name in names.items()}
+    return found
+
+
+def items_below(origins, path=""):
+    """Yields a module's path, and the origins of its items by their names, and so for each module below it."""
+    yield path, {name: it for name, it in origins.items() if it.name}
+    for name, it in sorted(origins.items()):
+        if not it.name:
+            yield from items_below(exports(it.crate, it.file), f"{path}::{name}" if path else name)
+
+
+@functools.lru_cache(maxsize=None)
 def modules():
-    """Yields the public modules of the library: the path of each below `widestring`, and its names."""
-    text = text_of(source("widestring"))
-    yield "", [name for path, given in used(text) if path for name in given]
-    found = [(name, "widestring", name) for name in re.findall(r"^pub mod (\w+);", text, re.M)]
-    found += [(name, crate, "lib") for crate, name in re.findall(r"^pub use (\w+) as (\w+);", text, re.M)]
-    for module, crate, file in sorted(found):
-        for below, names in names_of(text_of(source(crate, file)), crate, file).items():
-            yield "::".join(name for name in (module, below) if name), names
+    """Returns the public modules: the path of each below `widestring`, and the origins of its items by their names."""
+    return dict(items_below(exports("widestring")))
+
+
+@functools.lru_cache(maxsize=None)
+def public():
+    """Returns the origins of all public items. Names of one item by width, as `U16StrInUstring`, have one origin, so
+    that the pages list them once."""
+    return {it for items in modules().values() for it in items.values()}
+
+
+@functools.lru_cache(maxsize=None)
+def homes():
+    """Returns the module on whose page each crate's items are: the one that is the whole crate, or else the first one
+    that re-exports an item of it. A crate of which the root alone re-exports an item has none."""
+    tops = {name: it for name, it in exports("widestring").items() if not it.name}
+    found = {it.crate: name for name, it in tops.items() if it.crate != "widestring"}
+    for name in sorted(tops, key=lambda name: (name not in ORDER, [*ORDER, name].index(name), name)):
+        for path, items in modules().items():
+            if path.partition("::")[0] == name:
+                found = {it.crate: name for it in items.values()} | found
+    return found
+
+
+@functools.lru_cache(maxsize=None)
+def files(module):
+    """Returns the files that have public items of a module, each with its crate, in the order of the page."""
+    own = (crate for crate, home in homes().items() if home == module)
+    found = [(crate, path.stem) for crate in own for path in sources_of(crate) if entries(crate, path.stem)]
+    first = ORDER.get(module, "").split()
+    unknown = set(first) - {file for _, file in found} - {"/".join(it) for it in found}
+    if unknown:
+        sys.exit(f"docs/sources.py: {', '.join(sorted(unknown))} in ORDER: no such file has public items of {module}")
+
+    def place(it):
+        rank = next((at for at, name in enumerate(first) if name in (it[1], "/".join(it))), len(first))
+        return rank, it[1] == "laws", crates().index(it[0]), natural(it[1])
+
+    return sorted(found, key=place)
+
+
+def order_of_modules():
+    """Returns the modules in the order of the pages."""
+    found = set(homes().values())
+    return [name for name in ORDER if name in found] + sorted(found - set(ORDER))
+
+
+def sources_of(crate):
+    return [path for path in sorted((ROOT / "crates" / crate / "src").glob("*.rt")) if path.stem != "lib"]
+
+
+@functools.lru_cache(maxsize=None)
+def private_types():
+    """Returns the types and traits of the library that have no public name."""
+    declared = {name for crate in crates() for path in sources_of(crate) for name in TYPE.findall(text_of(path))}
+    return declared - {it.name for it in public()}
+
+
+@functools.lru_cache(maxsize=None)
+def entries(crate, file):
+    """Returns the public entries of a file: types, calls of no type that have a public name, and impls of public types
+    and traits with their calls."""
+    path, found, skips = source(crate, file), [], False
+    own = {it.name for it in public() if (it.crate, it.file) == (crate, file)}
+    hidden = private_types() | hidden_in(path)
+    for entry in map(Entry._make, quoted(path, own)):
+        if entry.kind == "owner":
+            skips = is_hidden(entry.head, hidden)
+        elif entry.kind == "type":
+            skips = type_of(entry.head) not in own
+        if not skips:
+            found.append(entry)
+    return found
 
 
 def declaration(lines, at):
@@ -97,9 +235,9 @@ def type_text(lines, at, derives):
     return text
 
 
-def quoted(path, exported=None):
-    """Returns the headings, types and calls of a file, in order, each with the doc comment before it. Functions of no
-    type are left out unless their names are in `exported`, if that is given."""
+def quoted(path, exported):
+    """Yields the headings, types and calls of a file, in order, each with the doc comment before it. Functions of no
+    type are left out unless their names are in `exported`."""
     lines = path.read_text(encoding="utf-8").split("\n")
     out, owner, is_public, at, doc, derives = [], None, False, 0, [], ""
     while at < len(lines):
@@ -132,7 +270,7 @@ def quoted(path, exported=None):
             out.append(("call", f"  ghost {ghost[1]}: {ghost[2]}", [], []))
         call = CALL.match(line)
         if call and (call[2] or is_public and call[1]) and not line.strip().startswith("pub(crate)"):
-            if not call[1] and exported is not None and call[5] not in exported:
+            if not call[1] and call[5] not in exported:
                 at, doc = declaration(lines, at)[2], []
                 continue
             if not call[1]:
@@ -166,12 +304,6 @@ def hidden_in(path):
 def is_hidden(header, hidden):
     trait = re.search(r"(\w+)(?:<.*>)? for ", header)
     return type_of(header) in hidden or trait is not None and trait[1] in hidden
-
-
-def aliases():
-    """Returns the public names that are other names of an item in the same crate, as those by width are."""
-    lines = (text_of(path) for path in sorted((ROOT / "crates").glob("wide_*/src/lib.rt")))
-    return {name for text in lines for name in re.findall(r"\w+ as (\w+)", text)}
 
 
 def write_or_check(path, made, command):

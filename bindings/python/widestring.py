@@ -37,6 +37,52 @@ _NONE = ctypes.c_size_t(-1).value
 _BYTES = ("B", "b", "c")
 _UNITS = {1: (), 2: ("H",), 4: ("I", "L", "u", "w")}
 _OWN_ORDER = ("@", "=", "<")
+# The types of texts and buffers, which are bytes objects, of lengths and offsets, and of units and other numbers.
+_TEXT, _SIZE, _U16, _U32 = ctypes.c_char_p, ctypes.c_size_t, ctypes.c_uint16, ctypes.c_uint32
+# What each function returns, and what it takes.
+# Made by bindings/tables:
+_SIGNATURES = {
+    "version": (_U32,),
+    "utf16_first_fault": (_SIZE, _TEXT, _SIZE),
+    "utf32_first_fault": (_SIZE, _TEXT, _SIZE),
+    "utf8_first_fault": (_SIZE, _TEXT, _SIZE),
+    "utf16_first_fault_item": (_SIZE, _TEXT, _SIZE),
+    "utf32_first_fault_item": (_SIZE, _TEXT, _SIZE),
+    "utf16_char_count": (_SIZE, _TEXT, _SIZE),
+    "utf32_char_count": (_SIZE, _TEXT, _SIZE),
+    "utf8_char_count": (_SIZE, _TEXT, _SIZE),
+    "utf16_utf8_length": (_SIZE, _TEXT, _SIZE),
+    "utf32_utf8_length": (_SIZE, _TEXT, _SIZE),
+    "utf8_utf16_length": (_SIZE, _TEXT, _SIZE),
+    "utf8_utf32_length": (_SIZE, _TEXT, _SIZE),
+    "utf16_utf32_length": (_SIZE, _TEXT, _SIZE),
+    "utf32_utf16_length": (_SIZE, _TEXT, _SIZE),
+    "utf16_first_nul": (_SIZE, _TEXT, _SIZE),
+    "utf32_first_nul": (_SIZE, _TEXT, _SIZE),
+    "utf16_find_unit": (_SIZE, _TEXT, _SIZE, _U16),
+    "utf32_find_unit": (_SIZE, _TEXT, _SIZE, _U32),
+    "utf16_find": (_SIZE, _TEXT, _SIZE, _TEXT, _SIZE),
+    "utf32_find": (_SIZE, _TEXT, _SIZE, _TEXT, _SIZE),
+    "utf16_to_utf8": (_SIZE, _TEXT, _SIZE, _TEXT, _SIZE),
+    "utf16_to_utf8_lossy_with": (_SIZE, _TEXT, _SIZE, _U32, _TEXT, _SIZE),
+    "utf16_bytes_order": (_U32, _TEXT, _SIZE),
+    "utf16_bytes_complete": (_SIZE, _TEXT, _SIZE, _U32),
+    "utf16_bytes_first_fault": (_SIZE, _TEXT, _SIZE, _U32),
+    "utf16_bytes_end_in_fault": (_U32, _TEXT, _SIZE, _U32, _U32),
+    "utf16_bytes_to_utf8": (_SIZE, _TEXT, _SIZE, _U32, _TEXT, _SIZE),
+    "utf16_bytes_to_utf8_lossy_with": (_SIZE, _TEXT, _SIZE, _U32, _U32, _U32, _TEXT, _SIZE),
+    "utf32_to_utf8": (_SIZE, _TEXT, _SIZE, _TEXT, _SIZE),
+    "utf32_to_utf8_lossy_with": (_SIZE, _TEXT, _SIZE, _U32, _TEXT, _SIZE),
+    "utf8_to_utf16": (_SIZE, _TEXT, _SIZE, _TEXT, _SIZE),
+    "utf8_to_utf32": (_SIZE, _TEXT, _SIZE, _TEXT, _SIZE),
+    "utf16_to_utf32": (_SIZE, _TEXT, _SIZE, _TEXT, _SIZE),
+    "utf32_to_utf16": (_SIZE, _TEXT, _SIZE, _TEXT, _SIZE),
+    "utf8_to_utf16_lossy_with": (_SIZE, _TEXT, _SIZE, _U32, _TEXT, _SIZE),
+    "utf8_to_utf32_lossy_with": (_SIZE, _TEXT, _SIZE, _U32, _TEXT, _SIZE),
+    "utf16_repair": (_SIZE, _TEXT, _SIZE, _TEXT, _SIZE),
+    "utf32_repair": (_SIZE, _TEXT, _SIZE, _TEXT, _SIZE),
+}
+# End of what bindings/tables makes.
 
 
 class Fault(ValueError):
@@ -91,11 +137,16 @@ def _symbol(name):
         raise _import_error(f"the library has no function {name}") from error
 
 
+def _call(name):
+    """Returns a function of the library, by its name without `wide_`."""
+    call = _symbol(f"wide_{name}")
+    call.restype, *call.argtypes = _SIGNATURES[name]
+    return call
+
+
 def version():
     """Returns the version of the library, as three numbers."""
-    call = _symbol("wide_version")
-    call.argtypes, call.restype = [], ctypes.c_uint32
-    number = call()
+    number = _call("version")()
     return number >> 16, number >> 8 & 0xFF, number & 0xFF
 
 
@@ -110,14 +161,6 @@ if version()[:2] != _VERSION:
 _new_bytes = ctypes.pythonapi.PyBytes_FromStringAndSize
 _new_bytes.argtypes = [ctypes.c_void_p, ctypes.c_ssize_t]
 _new_bytes.restype = ctypes.py_object
-
-
-def _call(name, *types, result=ctypes.c_size_t):
-    """Returns a function of the library that takes text, a length and more arguments."""
-    call = _symbol(f"wide_{name}")
-    call.argtypes = [ctypes.c_char_p, ctypes.c_size_t, *types]
-    call.restype = result
-    return call
 
 
 def _buffer(count, width):
@@ -185,8 +228,8 @@ class _Conversion:
     """A function that writes: the sizes of the units that it reads and writes, and the function that returns the
     length for well-formed text."""
 
-    def __init__(self, name, width, result_width, length_name=None, *types):
-        self.call = _call(name, *types, ctypes.c_char_p, ctypes.c_size_t)
+    def __init__(self, name, width, result_width, length_name=None):
+        self.call = _call(name)
         self.length = _call(length_name) if length_name else None
         self.width, self.result_width = width, result_width
 
@@ -237,28 +280,28 @@ _char_count16 = _call("utf16_char_count")
 _char_count32 = _call("utf32_char_count")
 _first_nul16 = _call("utf16_first_nul")
 _first_nul32 = _call("utf32_first_nul")
-_find_unit16 = _call("utf16_find_unit", ctypes.c_uint16)
-_find_unit32 = _call("utf32_find_unit", ctypes.c_uint32)
-_find16 = _call("utf16_find", ctypes.c_char_p, ctypes.c_size_t)
-_find32 = _call("utf32_find", ctypes.c_char_p, ctypes.c_size_t)
+_find_unit16 = _call("utf16_find_unit")
+_find_unit32 = _call("utf32_find_unit")
+_find16 = _call("utf16_find")
+_find32 = _call("utf32_find")
 _utf16_to_utf8 = _Conversion("utf16_to_utf8", 2, 1, "utf16_utf8_length")
 _utf32_to_utf8 = _Conversion("utf32_to_utf8", 4, 1, "utf32_utf8_length")
 _utf8_to_utf16 = _Conversion("utf8_to_utf16", 1, 2, "utf8_utf16_length")
 _utf8_to_utf32 = _Conversion("utf8_to_utf32", 1, 4, "utf8_utf32_length")
 _utf16_to_utf32 = _Conversion("utf16_to_utf32", 2, 4, "utf16_utf32_length")
 _utf32_to_utf16 = _Conversion("utf32_to_utf16", 4, 2, "utf32_utf16_length")
-_utf16_to_utf8_lossy = _Conversion("utf16_to_utf8_lossy_with", 2, 1, "utf16_utf8_length", ctypes.c_uint32)
-_utf32_to_utf8_lossy = _Conversion("utf32_to_utf8_lossy_with", 4, 1, "utf32_utf8_length", ctypes.c_uint32)
-_utf8_to_utf16_lossy = _Conversion("utf8_to_utf16_lossy_with", 1, 2, "utf8_utf16_length", ctypes.c_uint32)
-_utf8_to_utf32_lossy = _Conversion("utf8_to_utf32_lossy_with", 1, 4, "utf8_utf32_length", ctypes.c_uint32)
+_utf16_to_utf8_lossy = _Conversion("utf16_to_utf8_lossy_with", 2, 1, "utf16_utf8_length")
+_utf32_to_utf8_lossy = _Conversion("utf32_to_utf8_lossy_with", 4, 1, "utf32_utf8_length")
+_utf8_to_utf16_lossy = _Conversion("utf8_to_utf16_lossy_with", 1, 2, "utf8_utf16_length")
+_utf8_to_utf32_lossy = _Conversion("utf8_to_utf32_lossy_with", 1, 4, "utf8_utf32_length")
 _utf16_repair = _Conversion("utf16_repair", 2, 2)
 _utf32_repair = _Conversion("utf32_repair", 4, 4)
-_utf16_bytes_order = _call("utf16_bytes_order", result=ctypes.c_uint32)
-_utf16_bytes_complete = _call("utf16_bytes_complete", ctypes.c_uint32)
-_utf16_bytes_first_fault = _call("utf16_bytes_first_fault", ctypes.c_uint32)
-_utf16_bytes_end_in_fault = _call("utf16_bytes_end_in_fault", ctypes.c_uint32, ctypes.c_uint32, result=ctypes.c_uint32)
-_utf16_bytes_to_utf8 = _Conversion("utf16_bytes_to_utf8", 1, 1, None, ctypes.c_uint32)
-_utf16_bytes_to_utf8_lossy = _Conversion("utf16_bytes_to_utf8_lossy_with", 1, 1, None, ctypes.c_uint32, ctypes.c_uint32, ctypes.c_uint32)
+_utf16_bytes_order = _call("utf16_bytes_order")
+_utf16_bytes_complete = _call("utf16_bytes_complete")
+_utf16_bytes_first_fault = _call("utf16_bytes_first_fault")
+_utf16_bytes_end_in_fault = _call("utf16_bytes_end_in_fault")
+_utf16_bytes_to_utf8 = _Conversion("utf16_bytes_to_utf8", 1, 1)
+_utf16_bytes_to_utf8_lossy = _Conversion("utf16_bytes_to_utf8_lossy_with", 1, 1)
 
 
 def utf8_first_fault(text):

@@ -2,16 +2,17 @@
 //! memory that may be read, or written if the pointer is `*mut`. Memory that is written must not overlap other memory
 //! that is passed.
 
+// Made by bindings/tables:
 extern "C" {
     pub fn wide_version() -> u32;
-    pub fn wide_utf8_first_fault(text: *const u8, length: usize) -> usize;
     pub fn wide_utf16_first_fault(units: *const u16, length: usize) -> usize;
     pub fn wide_utf32_first_fault(units: *const u32, length: usize) -> usize;
+    pub fn wide_utf8_first_fault(text: *const u8, length: usize) -> usize;
     pub fn wide_utf16_first_fault_item(units: *const u16, length: usize) -> usize;
     pub fn wide_utf32_first_fault_item(units: *const u32, length: usize) -> usize;
-    pub fn wide_utf8_char_count(text: *const u8, length: usize) -> usize;
     pub fn wide_utf16_char_count(units: *const u16, length: usize) -> usize;
     pub fn wide_utf32_char_count(units: *const u32, length: usize) -> usize;
+    pub fn wide_utf8_char_count(text: *const u8, length: usize) -> usize;
     pub fn wide_utf16_utf8_length(units: *const u16, length: usize) -> usize;
     pub fn wide_utf32_utf8_length(units: *const u32, length: usize) -> usize;
     pub fn wide_utf8_utf16_length(text: *const u8, length: usize) -> usize;
@@ -40,9 +41,48 @@ extern "C" {
         text: *mut u8,
         capacity: usize,
     ) -> usize;
+    pub fn wide_utf16_to_utf8_lossy_with(
+        units: *const u16,
+        length: usize,
+        policy: u32,
+        text: *mut u8,
+        capacity: usize,
+    ) -> usize;
+    pub fn wide_utf16_bytes_order(bytes: *const u8, length: usize) -> u32;
+    pub fn wide_utf16_bytes_complete(bytes: *const u8, length: usize, order: u32) -> usize;
+    pub fn wide_utf16_bytes_first_fault(bytes: *const u8, length: usize, order: u32) -> usize;
+    pub fn wide_utf16_bytes_end_in_fault(
+        bytes: *const u8,
+        length: usize,
+        order: u32,
+        after_fault: u32,
+    ) -> u32;
+    pub fn wide_utf16_bytes_to_utf8(
+        bytes: *const u8,
+        length: usize,
+        order: u32,
+        text: *mut u8,
+        capacity: usize,
+    ) -> usize;
+    pub fn wide_utf16_bytes_to_utf8_lossy_with(
+        bytes: *const u8,
+        length: usize,
+        order: u32,
+        policy: u32,
+        after_fault: u32,
+        text: *mut u8,
+        capacity: usize,
+    ) -> usize;
     pub fn wide_utf32_to_utf8(
         units: *const u32,
         length: usize,
+        text: *mut u8,
+        capacity: usize,
+    ) -> usize;
+    pub fn wide_utf32_to_utf8_lossy_with(
+        units: *const u32,
+        length: usize,
+        policy: u32,
         text: *mut u8,
         capacity: usize,
     ) -> usize;
@@ -68,20 +108,6 @@ extern "C" {
         scalars: *const u32,
         length: usize,
         units: *mut u16,
-        capacity: usize,
-    ) -> usize;
-    pub fn wide_utf16_to_utf8_lossy_with(
-        units: *const u16,
-        length: usize,
-        policy: u32,
-        text: *mut u8,
-        capacity: usize,
-    ) -> usize;
-    pub fn wide_utf32_to_utf8_lossy_with(
-        units: *const u32,
-        length: usize,
-        policy: u32,
-        text: *mut u8,
         capacity: usize,
     ) -> usize;
     pub fn wide_utf8_to_utf16_lossy_with(
@@ -110,29 +136,5 @@ extern "C" {
         repaired: *mut u32,
         capacity: usize,
     ) -> usize;
-    pub fn wide_utf16_bytes_order(bytes: *const u8, length: usize) -> u32;
-    pub fn wide_utf16_bytes_complete(bytes: *const u8, length: usize, order: u32) -> usize;
-    pub fn wide_utf16_bytes_first_fault(bytes: *const u8, length: usize, order: u32) -> usize;
-    pub fn wide_utf16_bytes_end_in_fault(
-        bytes: *const u8,
-        length: usize,
-        order: u32,
-        after_fault: u32,
-    ) -> u32;
-    pub fn wide_utf16_bytes_to_utf8(
-        bytes: *const u8,
-        length: usize,
-        order: u32,
-        text: *mut u8,
-        capacity: usize,
-    ) -> usize;
-    pub fn wide_utf16_bytes_to_utf8_lossy_with(
-        bytes: *const u8,
-        length: usize,
-        order: u32,
-        policy: u32,
-        after_fault: u32,
-        text: *mut u8,
-        capacity: usize,
-    ) -> usize;
 }
+// End of what bindings/tables makes.
