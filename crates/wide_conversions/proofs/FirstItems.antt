@@ -20,7 +20,7 @@ begins-character bs c n scalar is =
     let whole : utf8_bytes c ++ rest ≡ bs = ap (λ xs. xs ++ rest) (sym is) ∙ take-append-drop n bs in
     utf8_items-unique bs _ _ (utf8_items-divide bs) (subst (λ xs. AreUtf8Items xs (Char c ∷ utf8_items rest)) whole (character c rest (utf8_items rest) scalar (utf8_items-divide rest)))
 
-begins-part : (bs : List ℕ) (n : ℕ) → 0 < length bs → StartsWithNoChar bs → utf8_invalid_len bs ≡ n → BeginsWith bs (Fault (get_or bs 0 0)) n
+pub begins-part : (bs : List ℕ) (n : ℕ) → 0 < length bs → StartsWithNoChar bs → utf8_invalid_len bs ≡ n → BeginsWith bs (Fault (get_or bs 0 0)) n
 begins-part bs n some none is =
     let rest = drop (utf8_invalid_len bs) bs in
     utf8_items-unique bs _ _ (utf8_items-divide bs) (part bs (utf8_items rest) some none (utf8_items-divide rest)) ∙ ap (λ k. Fault (get_or bs 0 0) ∷ utf8_items (drop k bs)) is
@@ -79,7 +79,7 @@ module _ (bs : List ℕ) (some : 0 < length bs) where
   unfolding utf8_error_len
   len-one other = grind (arith, nat_tests)
 
-  unranged-one : 0x80 ≤ get_or bs 0 0 → may_follow (get_or bs 0 0) (get_or bs 1 0) ≡ false → Ranged (length bs) (get_or bs 0 0) (get_or bs 1 0) (get_or bs 2 0) (get_or bs 3 0) → ⊥
+  pub unranged-one : 0x80 ≤ get_or bs 0 0 → may_follow (get_or bs 0 0) (get_or bs 1 0) ≡ false → Ranged (length bs) (get_or bs 0 0) (get_or bs 1 0) (get_or bs 2 0) (get_or bs 3 0) → ⊥
   unranged-one high other ranged = grind (arith, nat_tests, other, ranged.second high, ranged.in_three, ranged.fourth)
 
   pub begins-part_of_one : 0x80 ≤ get_or bs 0 0 → may_follow (get_or bs 0 0) (get_or bs 1 0) ≡ false → BeginsWith bs (Fault (get_or bs 0 0)) 1

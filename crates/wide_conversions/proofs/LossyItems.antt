@@ -1,5 +1,6 @@
 -- Lossy text of bytes, item by item.
 use Rattle.std.proofs.Common.{◌≡◌, inl, inr, ℕ, zero, suc, ◌+◌, ◌-◌, ◌<◌, ◌≤◌, List, [], ◌∷◌, ◌++◌, Bool, true, false, length, get_or, map, take, drop, refl, sym, ap, ◌∙◌, arith, append_assoc, length-append}
+use Rattle.std.specs.Prelude.{Some, None}
 use Rattle.std.specs.Char.{encode_utf8}
 use Rattle.std.specs.Str.{IsUtf8, encode_utf8_all}
 use Rattle.std.specs.Str.{chars as str_chars}
@@ -8,9 +9,9 @@ use Rattle.std.proofs.lemmas.List.{append-nil, drop-drop, length-take-le}
 use Rattle.std.proofs.lemmas.Str.{chars_from_encodes, len_utf8_bounds, length-encode}
 use Rattle.std.proofs.lemmas.List.Concat.{flat_map-append}
 use Rattle.wide_forms.specs.EncodingForm.{EncodingForm, code_units, encode}
-use Rattle.wide_forms.specs.Lossy.{ends_in_fault, lossy_after}
+use Rattle.wide_forms.specs.Lossy.{ends_in_fault, lossy_after, replacement}
 use Rattle.wide_forms.specs.Segmentation.{Char, Fault}
-use Rattle.wide_forms.specs.Laws.Policies.{ends_in_fault-append, lossy_after-append, lossy_after-chars}
+use Rattle.wide_forms.specs.Laws.Policies.{ends_in_fault-append, lossy_after-append, lossy_after-chars, lossy_after-dropped, lossy_after-none_left, lossy_after-replaced}
 use Rattle.wide_forms.specs.declared.policy.Policy.{Policy}
 use Rattle.wide_conversions.specs.Utf8Items.{BeginsWith, IsLossyPrefix, utf8_items}
 use Rattle.wide_conversions.proofs.FirstItems.{begins-ascii}
@@ -45,7 +46,7 @@ module _ (form : EncodingForm) (policy : Policy) where
   encode-append cs ds = flat_map-append (code_units form) cs ds
 
   pub lossy-none : (bs us : List ℕ) (after : Bool) → IsLossyPrefix form policy bs 0 after after us us
-  lossy-none bs us after = record { prefix = []; items = refl; units = sym (append-nil us) ∙ ap (λ cs. us ++ encode form cs) (sym (lossy_after-chars policy after [])); flag = refl }
+  lossy-none bs us after = record { prefix = []; items = refl; units = sym (append-nil us) ∙ ap (λ cs. us ++ encode form cs) (sym (lossy_after-none_left policy after)); flag = refl }
 
   pub lossy-then : (bs x y z : List ℕ) (n m : ℕ) (a b c : Bool) → IsLossyPrefix form policy bs n a b x y → IsLossyPrefix form policy (take (length bs - n) (drop n bs)) m b c y z → IsLossyPrefix form policy bs (n + m) a c x z
   lossy-then bs x y z n m a b c prefix back =
@@ -78,19 +79,19 @@ module _ (form : EncodingForm) (policy : Policy) where
     flag = refl;
   }
 
-  pub lossy-marked : (bs old new : List ℕ) (n u : ℕ) (after : Bool) → BeginsWith bs (Fault u) n → lossy_after policy after (Fault u ∷ []) ≡ 0xFFFD ∷ [] → new ≡ old ++ code_units form 0xFFFD → IsLossyPrefix form policy bs n after true old new
-  lossy-marked bs old new n u after begins mark more = record {
+  pub lossy-replaced : (bs old new : List ℕ) (n u c : ℕ) (after : Bool) → BeginsWith bs (Fault u) n → replacement policy after ≡ Some c → new ≡ old ++ code_units form c → IsLossyPrefix form policy bs n after true old new
+  lossy-replaced bs old new n u c after begins by more = record {
     prefix = Fault u ∷ [];
     items = begins;
-    units = more ∙ ap (λ us. old ++ us) (sym (append-nil (code_units form 0xFFFD)) ∙ ap (encode form) (sym mark));
+    units = more ∙ ap (λ us. old ++ us) (sym (append-nil (code_units form c)) ∙ ap (encode form) (sym (lossy_after-replaced policy after u c [] by ∙ ap (λ ds. c ∷ ds) (lossy_after-none_left policy true))));
     flag = refl;
   }
 
-  pub lossy-unmarked : (bs old new : List ℕ) (n u : ℕ) (after : Bool) → BeginsWith bs (Fault u) n → lossy_after policy after (Fault u ∷ []) ≡ [] → new ≡ old → IsLossyPrefix form policy bs n after true old new
-  lossy-unmarked bs old new n u after begins none more = record {
+  pub lossy-dropped : (bs old new : List ℕ) (n u : ℕ) (after : Bool) → BeginsWith bs (Fault u) n → replacement policy after ≡ None → new ≡ old → IsLossyPrefix form policy bs n after true old new
+  lossy-dropped bs old new n u after begins by more = record {
     prefix = Fault u ∷ [];
     items = begins;
-    units = more ∙ sym (append-nil old) ∙ ap (λ cs. old ++ encode form cs) (sym none);
+    units = more ∙ sym (append-nil old) ∙ ap (λ cs. old ++ encode form cs) (sym (lossy_after-dropped policy after u [] by ∙ lossy_after-none_left policy true));
     flag = refl;
   }
 

@@ -1,21 +1,20 @@
 -- The characters and faults of UTF-8, and of UTF-8 before a fault; and lossy text of both.
-use Rattle.std.proofs.Common.{◌≡◌, ℕ, zero, suc, ◌+◌, ◌<◌, inl, inr, List, [], ◌∷◌, ◌++◌, Bool, true, false, ◌&&◌, add-zero, length, map, take, drop, refl, sym, ap, ◌∙◌, subst, arith, append_assoc, length-drop}
-use Rattle.std.specs.Prelude.{slice_index, ◌==◌, if◌then◌else◌}
+use Rattle.std.proofs.Common.{◌≡◌, ℕ, zero, suc, ◌+◌, ◌<◌, inl, inr, List, [], ◌∷◌, ◌++◌, true, false, add-zero, length, map, take, drop, refl, sym, ap, ◌∙◌, subst, arith, append_assoc, length-drop}
+use Rattle.std.specs.Prelude.{slice_index}
 use Rattle.std.specs.Char.{encode_utf8}
 use Rattle.std.specs.Str.{IsUtf8, IsValidUpTo, StartsWithNoChar, all_scalars, chars, encode_utf8_all}
 use Rattle.std.specs.Str.{chars as str_chars}
 use Rattle.std.specs.Str.Lossy.{after_first_chunk, replacement_bytes, utf8_invalid_len, utf8_lossy, utf8_valid_len}
-use Rattle.std.proofs.Math.Dec.{eqb-suc-zero}
 use Rattle.std.proofs.lemmas.Bool.{and_parts, cases_lt}
 use Rattle.std.proofs.lemmas.List.{append-nil, drop-drop, get_or-drop, take-append-drop, take_all}
 use Rattle.std.proofs.lemmas.Str.{chars-append, chars_from_encodes, utf8_lossy-IsUtf8, utf8_lossy_step}
 use Rattle.wide_forms.specs.Segmentation.{Item, Char, Fault}
 use Rattle.wide_forms.specs.Utf8.{utf8_bytes}
-use Rattle.wide_forms.specs.Lossy.{lossy, lossy_after}
+use Rattle.wide_forms.specs.Lossy.{lossy}
 use Rattle.wide_forms.specs.Laws.Lossy.{lossy-chars}
-use Rattle.wide_forms.specs.Laws.Policies.{lossy_after-append, lossy_after-chars, runs-at_fault}
+use Rattle.wide_forms.specs.Laws.Policies.{lossy_after-append, lossy_after-chars}
 use Rattle.wide_forms.specs.Laws.Utf8.{utf8_bytes-encode_utf8}
-use Rattle.wide_forms.specs.declared.policy.Policy.TheVariants.{Each, Run, Skip}
+use Rattle.wide_forms.specs.declared.policy.Policy.TheVariants.{Each}
 use Rattle.wide_conversions.specs.Utf8Items.{AreUtf8Items, character, none, part, utf8_items, utf8_items-divide, utf8_items-unique}
 use Rattle.wide_conversions.specs.Laws.Utf8Items.{below_more, no_char-beyond, shorter-part, valid_len-prefix, valid_len-longest}
 
@@ -67,19 +66,8 @@ utf8_items-valid_len bs n m valid short is =
     utf8_items-chunk bs n m prefix (no_char-beyond bs n prefix (λ k more within text. omega (arith, valid, more, valid_len-longest bs k within text))) (omega (arith, short, length-drop n bs)) is
 
 -- Lossy text of characters and a fault after them.
-pub lossy_after-chunk_each : (after : Bool) (cs : List ℕ) (u : ℕ) (is : List Item) → lossy_after Each after (map Char cs ++ Fault u ∷ is) ≡ cs ++ 0xFFFD ∷ lossy_after Each true is
-lossy_after-chunk_each after cs u is = lossy_after-append Each after (map Char cs) (Fault u ∷ is) ∙ ap (λ ds. ds ++ 0xFFFD ∷ lossy is) (lossy_after-chars Each after cs)
-
-pub lossy_after-chunk_skip : (after : Bool) (cs : List ℕ) (u : ℕ) (is : List Item) → lossy_after Skip after (map Char cs ++ Fault u ∷ is) ≡ cs ++ lossy_after Skip true is
-lossy_after-chunk_skip after cs u is = lossy_after-append Skip after (map Char cs) (Fault u ∷ is) ∙ ap (λ ds. ds ++ lossy_after Skip true is) (lossy_after-chars Skip after cs)
-
--- If another fault precedes the fault directly, no further U+FFFD is added.
-pub lossy_after-chunk_run : (after : Bool) (cs : List ℕ) (u : ℕ) (is : List Item)
-    → lossy_after Run after (map Char cs ++ Fault u ∷ is) ≡ cs ++ (if after && length cs == 0 then [] else 0xFFFD ∷ []) ++ lossy_after Run true is
-lossy_after-chunk_run true [] u is = refl
-lossy_after-chunk_run false [] u is = runs-at_fault [] is u
-lossy_after-chunk_run true (c ∷ cs) u is = rw (eqb-suc-zero (length cs)) (ap (λ ds. c ∷ ds) (lossy_after-chunk_run false cs u is))
-lossy_after-chunk_run false (c ∷ cs) u is = ap (λ ds. c ∷ ds) (lossy_after-chunk_run false cs u is)
+after_characters : (cs : List ℕ) (u : ℕ) (is : List Item) → lossy (map Char cs ++ Fault u ∷ is) ≡ cs ++ 0xFFFD ∷ lossy is
+after_characters cs u is = lossy_after-append Each false (map Char cs) (Fault u ∷ is) ∙ ap (λ ds. ds ++ 0xFFFD ∷ lossy is) (lossy_after-chars Each false cs)
 
 -- U+FFFD, and then other bytes.
 replacement : (bs : List ℕ) → str_chars (replacement_bytes ++ bs) ≡ 0xFFFD ∷ str_chars bs
@@ -98,7 +86,7 @@ lossy-chunk bs short more =
     let rest = after_first_chunk bs in
     let faulty : ¬ (n ≡ length bs) = λ whole. omega arith in
     let items = utf8_items-valid_len bs n (utf8_invalid_len (drop n bs)) refl short refl in
-    ap lossy items ∙ lossy_after-chunk_each false (str_chars prefix) (slice_index bs n) (utf8_items rest) ∙ ap (λ cs. str_chars prefix ++ 0xFFFD ∷ cs) more
+    ap lossy items ∙ after_characters (str_chars prefix) (slice_index bs n) (utf8_items rest) ∙ ap (λ cs. str_chars prefix ++ 0xFFFD ∷ cs) more
     ∙ ap (λ cs. str_chars prefix ++ cs) (sym (replacement (utf8_lossy rest))) ∙ sym (chars-append prefix (replacement_bytes ++ utf8_lossy rest) (valid_len-prefix bs)) ∙ ap str_chars (sym (utf8_lossy_step bs faulty))
 
 shorter-chunk : (bs : List ℕ) → utf8_valid_len bs < length bs → length (after_first_chunk bs) < length bs

@@ -2,9 +2,8 @@
 -- Standard's Table 3-7.
 use Rattle.std.proofs.Common.{◌≡◌, inl, inr, ℕ, zero, suc, ◌+◌, ◌-◌, ◌*◌, ◌/◌, ◌%◌, ◌^◌, ◌<◌, ◌≤◌, List, [], ◌∷◌, ◌++◌, length, get_or, take, drop, refl, sym, ap, ◌∙◌, subst, arith, append_assoc, length-drop, Option}
 use Rattle.std.specs.Char.{encode_utf8}
-use Rattle.std.specs.Option.{unwrap_or}
 use Rattle.std.specs.Str.{IsUtf8, IsValidUpTo, encode_utf8_all}
-use Rattle.std.specs.Str.Lossy.{utf8_error_len, utf8_invalid_len}
+use Rattle.std.specs.Str.Lossy.{utf8_error_len}
 use Rattle.std.proofs.lemmas.Bool.{cases_lt}
 use Rattle.std.proofs.lemmas.List.{drop-drop, get_or-drop, get_or-take, take-append-drop, take_all, take_rest}
 use Rattle.std.proofs.Math.Seq.{take-add}
@@ -138,19 +137,6 @@ follow_as a b c d x y z w ax by cz dw ok = subst (λ p. CanFollow p y z w) ax (s
 past_three : (bs : List ℕ) (m j : ℕ) → m ≡ suc (suc (suc j)) → get_or (0 ∷ 0 ∷ 0 ∷ bs) m 0 ≡ get_or bs j 0
 past_three bs m j is = ap (λ k. get_or (0 ∷ 0 ∷ 0 ∷ bs) k 0) is
 
-pub ascii_follow : (block : List ℕ) → ((k : ℕ) → k < 67 → get_or block k 0 < 0x80) → BlockFollows block
-ascii_follow block ascii k within =
-    let third = ascii k (omega arith) in
-    let second = ascii (k + 1) (omega arith) in
-    let first = ascii (k + 2) (omega arith) in
-    let byte = ascii (k + 3) (omega arith) in
-    record {
-      begins = λ whole. inl byte;
-      trails = λ due. absurd (elim due [ inl at ↦ omega (arith, third) | inr others ↦ elim others [ inl at ↦ omega (arith, second) | inr at ↦ omega (arith, first) ] ]);
-      three = (λ is. absurd (omega (arith, first)), λ is. absurd (omega (arith, first)));
-      four = (λ is. absurd (omega (arith, first)), λ is. absurd (omega (arith, first)));
-    }
-
 -- The first block, after three zeros.
 pub first_follow : (bs xs : List ℕ) → xs ≡ take 64 bs → BlockFollows (0 ∷ 0 ∷ 0 ∷ xs) → AllFollow bs 64
 first_follow bs xs is ok k before = follow_as _ _ _ _ _ _ _ _ (byte k k (omega arith) refl) (byte (k + 1) (suc k) (omega arith) (omega arith)) (byte (k + 2) (suc (suc k)) (omega arith) (omega arith)) (byte (k + 3) (suc (suc (suc k))) (omega arith) (omega arith)) (ok k before)
@@ -258,8 +244,6 @@ text-beyond bs n prefix back = subst (λ xs. IsUtf8 xs) (take-append-drop n bs) 
 pub text-all : (bs : List ℕ) → IsUtf8 bs → IsUtf8 (take (length bs) bs)
 text-all bs text = subst (λ xs. IsUtf8 xs) (sym (take_all (length bs) bs (omega arith))) text
 
--- The length of the fault, from what std returns for the bytes after the prefix.
-pub part_len : (bs : List ℕ) (n v m r : ℕ) (e f : Option ℕ) → v ≡ m → r ≡ unwrap_or e (length bs - (n + v)) → e ≡ f → f ≡ utf8_error_len (drop m (Behind bs n)) → r ≡ utf8_invalid_len (drop (n + v) bs)
-part_len bs n v m r e f is r_is e_is f_is =
-    let read : e ≡ utf8_error_len (drop (n + v) bs) = e_is ∙ f_is ∙ ap (λ k. utf8_error_len (drop k (Behind bs n))) (sym is) ∙ ap utf8_error_len (ap (drop v) (take_rest bs n) ∙ drop-drop v n bs) in
-    r_is ∙ ap (λ o. unwrap_or o (length bs - (n + v))) read ∙ ap (unwrap_or (utf8_error_len (drop (n + v) bs))) (sym (length-drop (n + v) bs))
+-- What std returns as the length of the fault in the bytes after the prefix.
+pub error_len-beyond : (bs : List ℕ) (n v m : ℕ) (e f : Option ℕ) → v ≡ m → e ≡ f → f ≡ utf8_error_len (drop m (Behind bs n)) → e ≡ utf8_error_len (drop (n + v) bs)
+error_len-beyond bs n v m e f is e_is f_is = e_is ∙ f_is ∙ ap (λ k. utf8_error_len (drop k (Behind bs n))) (sym is) ∙ ap utf8_error_len (ap (drop v) (take_rest bs n) ∙ drop-drop v n bs)

@@ -1,3 +1,4 @@
 pub mod Following
 pub mod Laws
 pub mod Utf8Items
+pub mod ChunkEnds

@@ -8,10 +8,9 @@ ghost use Rattle.std.specs.Str.Lossy.{second_byte_max, second_byte_min};
 ghost use Rattle.wide_forms.specs.Segmentation.{Char, Fault};
 ghost use Rattle.wide_conversions.specs.Utf8Items.{BeginsWith, IsLossyPrefix};
 
-use wide_forms::Policy;
-use wide_from_utf8::{char_of, low_len, put_bytes, put_char};
-use wide_unit::Unit;
-use wide_utf16_to_utf8::writes_replacement;
+use wide_forms::{Policy, replacement};
+use wide_from_utf8::{low_len, put_bytes};
+use wide_unit::{Unit, char_of, put_char};
 
 // After this many bytes without a fault, the caller goes on with the vectorized conversion.
 const VALID: usize = 64;
@@ -87,7 +86,7 @@ fn first_item(text: &[u8]) -> (Option<char>, usize)
 fn put_prefix<C: Unit>(
     text: &[u8],
     policy: Policy,
-    after: bool,
+    after_fault: bool,
     units: &mut [C],
     at: usize,
 ) -> (usize, usize, bool)
@@ -96,7 +95,7 @@ fn put_prefix<C: Unit>(
     ensures read { result.0 ≤ length text.now }
     ensures some { 0 < result.0 }
     ensures space { at + result.1 ≤ length units.new }
-    ensures units { IsLossyPrefix C.form policy text.now result.0 after result.2 (map C.number (take at units.old)) (map C.number (take (at + result.1) units.new)) }
+    ensures units { IsLossyPrefix C.form policy text.now result.0 after_fault result.2 (map C.number (take at units.old)) (map C.number (take (at + result.1) units.new)) }
 {
     if text.len() >= 16 {
         let ascii = low_len(text, 0x80);
@@ -110,16 +109,16 @@ fn put_prefix<C: Unit>(
         let beyond = put_char(units, at, c);
         return (len, beyond - at, false);
     }
-    if !writes_replacement(policy, after) {
+    let Some(c) = replacement(policy, after_fault) else {
         return (len, 0, true);
-    }
-    let beyond = put_char(units, at, char::REPLACEMENT_CHARACTER);
+    };
+    let beyond = put_char(units, at, c);
     (len, beyond - at, true)
 }
 
 /// Decodes a prefix of any bytes as lossy text under a policy (Unicode Standard, section 3.9, "U+FFFD Substitution of
-/// Maximal Subparts"), and writes it in the encoding form of `C` (D90, D91) at the beginning of `units`. `after` says
-/// whether a fault directly precedes the bytes. Returns how many bytes were read, how many units were written, and
+/// Maximal Subparts"), and writes it in the encoding form of `C` (D90, D91) at the beginning of `units`. `after_fault`
+/// says whether a fault directly precedes the bytes. Returns how many bytes were read, how many units were written, and
 /// whether a fault was read last. It reads at least one byte if there is any. It stops after a run of bytes without a
 /// fault, which `from_utf8_prefix` decodes faster. The units after those written may be overwritten.
 ///
@@ -129,25 +128,31 @@ fn put_prefix<C: Unit>(
 pub fn from_utf8_lossy_prefix<C: Unit>(
     text: &[u8],
     policy: Policy,
-    after: bool,
+    after_fault: bool,
     units: &mut [C],
 ) -> (usize, usize, bool)
     requires { 16 ≤ length units.old }
     ensures read { result.0 ≤ length text.now }
     ensures some { 0 < length text.now → 0 < result.0 }
     ensures written { result.1 ≤ length units.new }
-    ensures units { IsLossyPrefix C.form policy text.now result.0 after result.2 [] (map C.number (take result.1 units.new)) }
+    ensures units { IsLossyPrefix C.form policy text.now result.0 after_fault result.2 [] (map C.number (take result.1 units.new)) }
 {
     let mut read = 0;
     let mut written = 0;
-    let mut is_after = after;
+    let mut after_fault = after_fault;
     let mut valid = 0;
     'items: while read < text.len() && units.len() - written >= 16 && valid < VALID {
-        let (bytes, more, is_part) = put_prefix(&text[read..], policy, is_after, units, written);
+        let (bytes, more, is_fault) = put_prefix(
+            &text[read..],
+            policy,
+            after_fault,
+            units,
+            written,
+        );
         read += bytes;
         written += more;
-        is_after = is_part;
-        valid = if is_part { 0 } else { valid + bytes };
+        after_fault = is_fault;
+        valid = if is_fault { 0 } else { valid + bytes };
     }
-    (read, written, is_after)
+    (read, written, after_fault)
 }

@@ -1,12 +1,11 @@
 //! Finds the first ill-formed sequence in UTF-8 (Unicode Standard, section 3.9, D92, D93b and Table 3-7). Vectorized by
 //! the compiler: for each byte, it checks against the three bytes before whether this byte may follow them.
 
-ghost use Rattle.std.specs.Prelude.{◌≡◌, ◌+◌, ◌-◌, ◌<◌, ◌≤◌, ℕ, IsTrue, drop, length, map, slice_index, take};
-ghost use Rattle.std.specs.Str.{IsUtf8, IsValidUpTo, chars as str_chars};
-ghost use Rattle.std.specs.Str.Lossy.{utf8_invalid_len, utf8_valid_len};
-ghost use Rattle.wide_forms.specs.Segmentation.{Char};
+ghost use Rattle.std.specs.Prelude.{◌≡◌, ◌↔◌, ◌+◌, ◌-◌, ◌<◌, ◌≤◌, ℕ, IsTrue, length, slice_index, take};
+ghost use Rattle.std.specs.Str.{IsUtf8};
+ghost use Rattle.std.specs.Str.Lossy.{utf8_valid_len};
+ghost use Rattle.wide_conversions.specs.ChunkEnds.{EndsAs};
 ghost use Rattle.wide_conversions.specs.Following.{CanFollow, IsWholeUpTo};
-ghost use Rattle.wide_conversions.specs.Utf8Items.{HasFirstPart, utf8_items};
 
 use std::str;
 
@@ -32,7 +31,7 @@ fn broken_rules(third: u8, second: u8, first: u8, byte: u8) -> u8
         + u8::from(below_90 < u8::from(first == 0xf4))
 }
 
-// Returns whether 64 bytes of a block, and the three before it, are ASCII.
+// Returns whether a block of 64 bytes and the three before it, 67 in all, are ASCII.
 #[inline(always)]
 fn is_ascii(block: &[u8]) -> bool
     requires { length block.now ≡ 67 }
@@ -59,7 +58,7 @@ fn are_ascii(bytes: &[u8]) -> bool
 }
 
 // Returns the length of a prefix that is ASCII, in bytes, a multiple of 128. It ends before the first block of 128
-// bytes that is not all ASCII or not complete. A block consists of whole vectors, with no byte left over.
+// bytes that is not all ASCII or not complete. 128 bytes are whole vectors, of whatever width, with no byte left over.
 #[inline(always)]
 fn ascii_len(text: &[u8]) -> usize
     ensures within { result ≤ length text.now }
@@ -151,26 +150,55 @@ fn checked_len(text: &[u8]) -> usize
     whole_len(text, end)
 }
 
-/// Returns the length of the longest prefix that is well-formed UTF-8 (Unicode Standard, D92), and the length of the
-/// fault after it, an ill-formed sequence that one U+FFFD replaces (D93b, as std's `Utf8Chunks`). Both are counted in
-/// bytes. If all bytes are well formed, it returns their number and 0. The check is vectorized.
-pub fn first_utf8_chunk(text: &[u8]) -> (usize, usize)
-    ensures within { result.0 + result.1 ≤ length text.now }
-    ensures len { result.0 ≡ utf8_valid_len text.now }
-    ensures prefix { IsUtf8 (take result.0 text.now) }
-    ensures all { result.1 ≡ 0 → result.0 ≡ length text.now }
-    ensures well_formed { result.1 ≡ 0 → IsUtf8 text.now }
-    ensures fault { 0 < result.1 → IsValidUpTo text.now result.0 }
-    ensures part { 0 < result.1 → result.1 ≡ utf8_invalid_len (drop result.0 text.now) }
-    ensures characters { result.1 ≡ 0 → utf8_items text.now ≡ map Char (str_chars text.now) }
-    ensures items { 0 < result.1 → HasFirstPart text.now result.0 result.1 }
+/// The longest well-formed prefix of some bytes (Unicode Standard, D92), and how the bytes end after it.
+#[derive(Clone, Copy, Debug, PartialEq, Eq)]
+pub struct Utf8Chunk {
+    /// The length of the prefix in bytes.
+    pub valid: usize,
+    /// What follows the prefix.
+    pub end: Utf8End,
+}
+
+/// What follows the longest well-formed prefix of some bytes.
+#[derive(Clone, Copy, Debug, PartialEq, Eq)]
+pub enum Utf8End {
+    /// Nothing: all bytes are well formed.
+    Complete,
+    /// A fault of this length in bytes, an ill-formed sequence that one U+FFFD replaces (Unicode Standard, D93b, as
+    /// std's `Utf8Chunks`). It remains a fault whatever follows the bytes.
+    IllFormed(usize),
+    /// A sequence of this length in bytes, up to the end of the bytes, which is the beginning of a character (Unicode
+    /// Standard, Table 3-7). It is a fault if the text ends here, and a character if the right bytes follow.
+    Incomplete(usize),
+}
+
+/// Returns the longest prefix that is well-formed UTF-8 (Unicode Standard, D92), and what follows it: nothing, a fault
+/// (D93b), or the beginning of a character that the bytes do not complete (Table 3-7). The check is vectorized.
+pub fn first_utf8_chunk(text: &[u8]) -> Utf8Chunk
+    ensures len { result.valid ≡ utf8_valid_len text.now }
+    ensures prefix { IsUtf8 (take result.valid text.now) }
+    ensures end { EndsAs text.now result.valid result.end }
 {
     let checked = checked_len(text);
     match str::from_utf8(&text[checked..]) {
-        Ok(_text) => (text.len(), 0),
+        Ok(_text) => Utf8Chunk {
+            valid: text.len(),
+            end: Utf8End::Complete,
+        },
         Err(fault) => {
             let valid = checked + fault.valid_up_to();
-            (valid, fault.error_len().unwrap_or(text.len() - valid))
+            let end = match fault.error_len() {
+                Some(len) => Utf8End::IllFormed(len),
+                None => Utf8End::Incomplete(text.len() - valid),
+            };
+            Utf8Chunk { valid, end }
         }
     }
+}
+
+/// Returns whether bytes are well-formed UTF-8 (Unicode Standard, D92). The check is vectorized.
+pub fn is_utf8(text: &[u8]) -> bool
+    ensures { IsTrue result ↔ IsUtf8 text.now }
+{
+    matches!(first_utf8_chunk(text).end, Utf8End::Complete)
 }

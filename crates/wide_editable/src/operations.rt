@@ -2,7 +2,8 @@
 //! allocated before.
 //!
 //! If a search found no offset, the index is past the end. The results of calls that could fail by allocation are not
-//! read, because the capacity was reserved before.
+//! read, because the capacity was reserved before. `recall` changes nothing: its contract gives the proofs the facts
+//! that are true of every string.
 ghost use Rattle.std.specs.Prelude.{◌≡◌, ◌≤◌, [], length, map, vec_capacity};
 ghost use Rattle.wide_forms.specs.Offsets.{text_of};
 ghost use Rattle.wide_utfstr.specs.View.{text_seen};
@@ -31,6 +32,7 @@ fn copy<C: FaultUnit>(text: UtfStr<'_, C>, mut space: Vec<char>) -> Vec<char>
     space
 }
 
+// Appends the character.
 fn push<C: FaultUnit>(s: &mut UtfString<C>, c: char) -> Reply
     requires { CanHold C.form s.old (changed (text_of C.form C.number s.old.units) (edit_of.Push c)) }
     ensures made { IsMade (text_of C.form C.number s.old.units) (edit_of.Push c) (text_of C.form C.number s.new.units) result }
@@ -41,6 +43,7 @@ fn push<C: FaultUnit>(s: &mut UtfString<C>, c: char) -> Reply
     Reply::Done
 }
 
+// Appends the text.
 fn push_str<C: FaultUnit>(s: &mut UtfString<C>, text: &str) -> Reply
     requires { CanHold C.form s.old (changed (text_of C.form C.number s.old.units) (edit_of.PushStr text)) }
     ensures made { IsMade (text_of C.form C.number s.old.units) (edit_of.PushStr text.entry) (text_of C.form C.number s.new.units) result }
@@ -51,6 +54,7 @@ fn push_str<C: FaultUnit>(s: &mut UtfString<C>, text: &str) -> Reply
     Reply::Done
 }
 
+// Removes the last character, if there is one.
 fn pop<C: FaultUnit>(s: &mut UtfString<C>) -> Reply
     ensures made { IsMade (text_of C.form C.number s.old.units) edit_of.Pop (text_of C.form C.number s.new.units) result }
     ensures capacity { s.old.capacity ≤ s.new.capacity }
@@ -61,6 +65,7 @@ fn pop<C: FaultUnit>(s: &mut UtfString<C>) -> Reply
     }
 }
 
+// Removes the characters from index `len` on. A length past the end is no error, as for std's strings: nothing changes.
 fn truncate<C: FaultUnit>(s: &mut UtfString<C>, len: usize, found: Option<usize>) -> Reply
     requires { IsFoundAt C.form (map C.number s.old.units) len found }
     ensures made { IsMade (text_of C.form C.number s.old.units) (edit_of.Truncate len) (text_of C.form C.number s.new.units) result }
@@ -76,6 +81,7 @@ fn truncate<C: FaultUnit>(s: &mut UtfString<C>, len: usize, found: Option<usize>
     }
 }
 
+// Inserts the character at an index, which may be the end.
 fn insert<C: FaultUnit>(s: &mut UtfString<C>, index: usize, found: Option<usize>, c: char) -> Reply
     requires found { IsFoundAt C.form (map C.number s.old.units) index found }
     requires ready { CanHold C.form s.old (changed (text_of C.form C.number s.old.units) (edit_of.Insert index c)) }
@@ -92,6 +98,7 @@ fn insert<C: FaultUnit>(s: &mut UtfString<C>, index: usize, found: Option<usize>
     }
 }
 
+// Inserts the text at an index, which may be the end.
 fn insert_str<C: FaultUnit>(
     s: &mut UtfString<C>,
     index: usize,
@@ -113,6 +120,7 @@ fn insert_str<C: FaultUnit>(
     }
 }
 
+// Removes the character at an index. There is none at the end.
 fn remove<C: FaultUnit>(s: &mut UtfString<C>, index: usize, found: Option<usize>) -> Reply
     requires { IsFoundAt C.form (map C.number s.old.units) index found }
     ensures made { IsMade (text_of C.form C.number s.old.units) (edit_of.Remove index) (text_of C.form C.number s.new.units) result }
@@ -130,6 +138,7 @@ fn remove<C: FaultUnit>(s: &mut UtfString<C>, index: usize, found: Option<usize>
     }
 }
 
+// Retains the characters that occur in the list.
 fn retain<C: FaultUnit>(s: &mut UtfString<C>, keep: &[char]) -> Reply
     ensures made { IsMade (text_of C.form C.number s.old.units) (edit_of.Retain keep.entry) (text_of C.form C.number s.new.units) result }
     ensures capacity { s.old.capacity ≤ s.new.capacity }
@@ -138,6 +147,7 @@ fn retain<C: FaultUnit>(s: &mut UtfString<C>, keep: &[char]) -> Reply
     Reply::Done
 }
 
+// Removes a range of characters, and returns them.
 fn drain<C: FaultUnit>(
     s: &mut UtfString<C>,
     from: usize,
@@ -163,6 +173,7 @@ fn drain<C: FaultUnit>(
     }
 }
 
+// Replaces a range of characters by the text.
 fn replace<C: FaultUnit>(
     s: &mut UtfString<C>,
     from: usize,
@@ -187,6 +198,7 @@ fn replace<C: FaultUnit>(
     }
 }
 
+// Removes the characters from an index on, which may be the end, and returns them.
 fn split_off<C: FaultUnit>(
     s: &mut UtfString<C>,
     index: usize,
@@ -209,6 +221,7 @@ fn split_off<C: FaultUnit>(
     }
 }
 
+// Removes all characters.
 fn clear<C: FaultUnit>(s: &mut UtfString<C>) -> Reply
     ensures made { IsMade (text_of C.form C.number s.old.units) edit_of.Clear (text_of C.form C.number s.new.units) result }
     ensures capacity { s.old.capacity ≤ s.new.capacity }

@@ -12,3 +12,4 @@ pub mod UnitBytes
 pub mod Searches
 pub mod Statements
 pub mod Laws
+pub mod Bits

@@ -1,5 +1,5 @@
 -- Lossy text: the Standard's D93b and, in its section 3.9, "U+FFFD Substitution of Maximal Subparts".
-use Rattle.std.specs.Prelude.{ℕ, List, [], ◌∷◌, map, Bool, true, false, if◌then◌else◌}
+use Rattle.std.specs.Prelude.{ℕ, List, [], ◌∷◌, map, Bool, true, false, if◌then◌else◌, Option, Some, None, Result, Ok, Err}
 use Rattle.wide_forms.specs.Segmentation.{Item, Char, Fault}
 use Rattle.wide_forms.specs.Items.{characters}
 use Rattle.wide_forms.specs.declared.policy.Policy.{Policy}
@@ -50,3 +50,15 @@ lossy_after Each after is = lossy is
 lossy_after Run true is = lossy_runs (past_faults is)
 lossy_after Run false is = lossy_runs is
 lossy_after Skip after is = characters is
+
+-- What a policy yields for a fault, where `after` says whether another fault directly precedes it.
+abbrev pub replacement : Policy → Bool → Option ℕ
+replacement Each after = Some 0xFFFD
+replacement Run true = None
+replacement Run false = Some 0xFFFD
+replacement Skip after = None
+
+-- The character, or U+FFFD in place of an error.
+abbrev pub or_replacement : {E : Type 0} → Result ℕ E → ℕ
+or_replacement (Ok c) = c
+or_replacement (Err e) = 0xFFFD

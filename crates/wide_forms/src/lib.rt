@@ -5,4 +5,4 @@
 
 mod policy;
 
-pub use policy::Policy;
+pub use policy::{Policy, or_replacement, replacement};

@@ -1,4 +1,7 @@
-//! What lossy text contains for code units that belong to no character.
+//! What lossy text contains for code units that belong to no character (Unicode Standard, section 3.9, "U+FFFD
+//! Substitution of Maximal Subparts").
+ghost use Rattle.std.specs.Prelude.{◌≡◌};
+ghost use Rattle.wide_forms.specs.Lossy.{or_replacement, replacement};
 
 /// What lossy text contains for faults, the units that belong to no character.
 ///
@@ -11,4 +14,30 @@ pub enum Policy {
     Run,
     /// Nothing.
     Skip,
+}
+
+/// Returns what lossy text under a policy has for a fault: U+FFFD, or nothing. If `after_fault` is true, another fault
+/// directly precedes it.
+#[inline(always)]
+pub fn replacement(policy: Policy, after_fault: bool) -> Option<char>
+    ensures { result ≡ replacement policy after_fault }
+{
+    let is_written = match policy {
+        Policy::Each => true,
+        Policy::Run => !after_fault,
+        Policy::Skip => false,
+    };
+    if is_written {
+        Some(char::REPLACEMENT_CHARACTER)
+    } else {
+        None
+    }
+}
+
+/// Returns the character of an item, or U+FFFD if the item is a fault.
+#[inline(always)]
+pub fn or_replacement<E: Drop>(item: Result<char, E>) -> char
+    ensures { result ≡ or_replacement item }
+{
+    item.unwrap_or(char::REPLACEMENT_CHARACTER)
 }

@@ -1,5 +1,6 @@
 pub mod ScalarTexts
 pub mod ScalarPrefixes
+pub mod RecodedPrefixes
 pub mod Utf8Texts
 pub mod Utf8Lengths
 pub mod LossyPrefixes

@@ -1,11 +1,11 @@
 -- Well-formed units that are split after a prefix: the characters of the prefix, and those of the rest.
-use Rattle.std.proofs.Common.{◌≡◌, ℕ, suc, ◌+◌, ◌-◌, ◌<◌, ◌≤◌, List, [], ◌∷◌, ◌++◌, length, get_or, map, take, drop, refl, sym, ap, ◌∙◌, subst, arith, append_assoc, take-append-drop}
+use Rattle.std.proofs.Common.{◌≡◌, ℕ, suc, ◌+◌, ◌-◌, ◌<◌, ◌≤◌, List, [], ◌∷◌, ◌++◌, length, get_or, take, drop, refl, sym, ap, ◌∙◌, subst, arith, append_assoc, take-append-drop}
 use Rattle.std.specs.Char.{IsScalar}
 use Rattle.std.specs.List.{All}
 use Rattle.std.proofs.lemmas.Grind.{get_or_default_zero}
-use Rattle.std.proofs.lemmas.List.{drop-drop, length-take-le, map-id}
-use Rattle.wide_forms.specs.EncodingForm.{EncodingForm, Utf16, code_units, encode}
-use Rattle.wide_forms.specs.Segmentation.{Char, Item}
+use Rattle.std.proofs.lemmas.List.{drop-drop, length-take-le}
+use Rattle.wide_forms.specs.EncodingForm.{EncodingForm, code_units, encode}
+use Rattle.wide_forms.specs.Segmentation.{Char}
 use Rattle.wide_forms.specs.Items.{IsWellFormed, characters, chars, items}
 use Rattle.wide_forms.specs.Laws.Ends.{items-prefix_char}
 use Rattle.wide_forms.specs.Laws.Forms.{Ranges, scalar_from}
@@ -51,10 +51,6 @@ module _ (form : EncodingForm) where
   pub prefix_chars-then : (make : List ℕ → List ℕ) → ((cs ds : List ℕ) → make (cs ++ ds) ≡ make cs ++ make ds) → (rest left all done more : List ℕ) → all ≡ done ++ make (chars form rest) → IsPrefixChars form rest left more → all ≡ (done ++ make more) ++ make (chars form left)
   prefix_chars-then make parts rest left all done more so_far prefix =
       so_far ∙ ap (λ cs. done ++ make cs) prefix.text ∙ ap (λ us. done ++ us) (parts more (chars form left)) ∙ sym (append_assoc done (make more) (make (chars form left)))
-
--- The first item of units that are their own numbers.
-pub item-first : (us rest : List ℕ) (item : Item) → items Utf16 (map (λ (u : ℕ). u) us) ≡ item ∷ items Utf16 (map (λ (u : ℕ). u) rest) → items Utf16 us ≡ item ∷ items Utf16 rest
-item-first us rest item e = ap (items Utf16) (sym (map-id us)) ∙ e ∙ ap (λ vs. item ∷ items Utf16 vs) (map-id rest)
 
 -- The rest of the units, by its length.
 pub left-beyond : {X : Type 0} (us rest left : List X) (n : ℕ) → length rest ≤ length us → rest ≡ drop (length us - length rest) us → left ≡ drop n rest → length left + n ≡ length rest → left ≡ drop (length us - length left) us

@@ -1,7 +1,7 @@
 -- What storing the bytes of a unit after those of the units before it does to a list.
 use Rattle.std.proofs.Common.{◌≡◌, ℕ, suc, ◌+◌, ◌*◌, ◌<◌, ◌≤◌, List, [], ◌∷◌, ◌++◌, length, get_or, take, drop, set, sym, ap, ◌∙◌, arith}
 use Rattle.std.proofs.Math.Seq.{take-suc}
-use Rattle.std.proofs.lemmas.List.{append-nil, drop-set-lt, drop-drop, take_all}
+use Rattle.std.proofs.lemmas.List.{append-nil, drop-set-lt, drop-drop}
 use Rattle.std.proofs.lemmas.List.Concat.{flat_map-append}
 use Rattle.std.specs.List.{flat_map}
 use Rattle.wide_utf16_to_utf8.proofs.Stores.{stored_two, stored_four}
@@ -42,7 +42,3 @@ module _ (f : ℕ → List ℕ) (us old xs : List ℕ) (k : ℕ) (some : k < len
       let three = set two (at + 2) d in
       let compressed = drop-set-lt (at + 4) three (at + 3) e (omega arith) ∙ drop-set-lt (at + 4) two (at + 2) d (omega arith) ∙ drop-set-lt (at + 4) one (at + 1) b (omega arith) ∙ drop-set-lt (at + 4) xs at a (omega arith) in
       next-unit f 4 us old xs (set three (at + 3) e) (a ∷ b ∷ d ∷ e ∷ []) k some before is (stored_four xs at a b d e (omega arith)) compressed
-
--- The bytes of all units.
-pub all-stored : (f : ℕ → List ℕ) (width : ℕ) (us old new : List ℕ) (n : ℕ) → n ≡ length us → AreStored f width us old new n → take (width * n) new ≡ flat_map f us
-all-stored f width us old new n all stored = stored.prefix ∙ ap (flat_map f) (take_all n us (omega arith))

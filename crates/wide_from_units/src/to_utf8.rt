@@ -26,6 +26,7 @@ fn utf16_to_utf8_prefix(units: &[u16], text: &mut [u8]) -> (usize, usize)
     ensures text { utf8 (chars Utf16 units.now) ≡ take result.1 text.new ++ utf8 (chars Utf16 (drop result.0 units.now)) }
     ensures rest { IsWellFormed Utf16 (drop result.0 units.now) }
 {
+    // The conversion may overwrite four bytes after the text.
     let fitting = (text.len() - 4) / 3;
     let count = if units.len() < fitting {
         units.len()
@@ -101,6 +102,7 @@ fn put_scalar(out: &mut [u8], at: usize, code: u32) -> usize
     at + len_of(code) as usize
 }
 
+// Stores the UTF-8 of each of sixteen scalar values as a number, low byte first.
 #[inline(always)]
 fn words_of(block: &[u32], words: &mut [u32])
     requires whole { length block.now ≡ 16 }
@@ -112,6 +114,7 @@ fn words_of(block: &[u32], words: &mut [u32])
     }
 }
 
+// Stores the length of each of sixteen scalar values in UTF-8 bytes.
 #[inline(always)]
 fn lens_of(block: &[u32], lens: &mut [u32])
     requires whole { length block.now ≡ 16 }
@@ -123,7 +126,8 @@ fn lens_of(block: &[u32], lens: &mut [u32])
     }
 }
 
-// A separate function, so that the compiler vectorizes the loops over both arrays.
+// Computes the UTF-8 of sixteen scalar values as numbers, and its lengths. It is a separate function, so that the
+// compiler vectorizes the loops over both arrays.
 #[inline(never)]
 fn lanes_of(block: &[u32], words: &mut [u32], lens: &mut [u32])
     requires whole { length block.now ≡ 16 }

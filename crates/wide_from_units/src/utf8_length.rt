@@ -28,7 +28,8 @@ trait Weighed: Copy {
 impl Weighed for u16 {
     ghost more = { more_of_16 };
 
-    // The counter has the width of a unit, so the compiler vectorizes the loop.
+    // The counter has the width of a unit, so the compiler vectorizes the loop. The surrogates, D800 to DFFF, are the
+    // units whose quotient by 0x800 is 27; each unit of a pair is half of four bytes, and so one byte more.
     #[inline(always)]
     fn more_bytes(units: &[u16]) -> usize {
         let mut more = 0u16;

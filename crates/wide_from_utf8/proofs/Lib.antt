@@ -1,4 +1,4 @@
-pub mod StoredUnits
+pub mod CodesOfThree
 pub mod FirstCharacters
 pub mod FirstBits
 pub mod PrefixUnits

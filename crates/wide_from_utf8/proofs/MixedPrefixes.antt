@@ -12,7 +12,7 @@ use Rattle.std.proofs.Math.Nat.{div-div-eq-div-mul, mod-le}
 use Rattle.wide_forms.specs.EncodingForm.{EncodingForm, code_units}
 use Rattle.wide_forms.specs.Laws.Forms.{scalar_from}
 use Rattle.wide_from_utf8.specs.Decoded.{code_of_three, code_of_two}
-use Rattle.wide_utf16_to_utf8.specs.Compressed.{compressed_lanes}
+use Rattle.wide_repair.specs.Compressed.{compressed_lanes}
 use Rattle.wide_from_utf8.specs.Mixed.{begins, code_of, codes_at, lead_bits, trailing_len}
 use Rattle.wide_from_utf8.proofs.FirstCharacters.{Trails, in_one, in_two, in_three, parts, wide}
 use Rattle.wide_from_utf8.proofs.PrefixUnits.{IsPrefixUnits, beyond-is, prefix_units-char, prefix_units-none, prefix_units-then}

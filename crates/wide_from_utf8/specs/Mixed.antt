@@ -1,7 +1,7 @@
 -- The scalar values of characters of one to three bytes, as if one began at each byte of text.
-use Rattle.std.specs.Prelude.{ℕ, zero, suc, ◌+◌, ◌*◌, ◌/◌, ◌%◌, nat_lt, Bool, true, if◌then◌else◌, List, [], ◌∷◌, slice_index}
+use Rattle.std.specs.Prelude.{ℕ, zero, suc, ◌+◌, ◌*◌, nat_lt, Bool, true, if◌then◌else◌, List, [], ◌∷◌, slice_index}
 use Rattle.wide_from_utf8.specs.Decoded.{code_of_three, code_of_two}
-use Rattle.wide_utf16_to_utf8.specs.TwoBytes.{bit_of}
+use Rattle.wide_forms.specs.Bits.{bit_of}
 
 -- The scalar value of a first byte and the two bytes after it.
 abbrev pub code_of : ℕ → ℕ → ℕ → ℕ

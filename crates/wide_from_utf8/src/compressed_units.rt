@@ -3,12 +3,11 @@
 
 ghost use Rattle.std.specs.Prelude.{◌≡◌, ◌++◌, ◌+◌, ◌<◌, ◌≤◌, ℕ, length, map, slice_index, take};
 ghost use Rattle.std.specs.Char.{IsScalar};
-ghost use Rattle.wide_utf16_to_utf8.specs.Compressed.{compressed_lanes};
+ghost use Rattle.wide_repair.specs.Compressed.{compressed_lanes};
 
-use crate::from_utf8::char_of;
 use std::simd::prelude::*;
-use wide_unit::Unit;
-use wide_utf16_to_utf8::compress;
+use wide_repair::compress;
+use wide_unit::{Unit, char_of};
 
 // Stores eight lanes, each as a character of one unit.
 #[inline(always)]

@@ -8,7 +8,7 @@ ghost use Rattle.wide_from_utf8.specs.Decoded.{IsDecoded};
 ghost use Rattle.wide_from_utf8.specs.Mixed.{codes_at, lead_bits, trailing_len};
 
 use crate::compressed_units::put_compressed;
-use crate::from_utf8::low_len;
+use crate::from_utf8_ascii::low_len;
 use std::simd::prelude::*;
 use wide_unit::Unit;
 

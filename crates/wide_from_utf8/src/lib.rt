@@ -4,6 +4,9 @@
 
 mod compressed_units;
 mod from_utf8;
+mod from_utf8_ascii;
 mod from_utf8_mixed;
+mod from_utf8_runs;
 
-pub use from_utf8::{char_of, from_utf8_prefix, low_len, put_bytes, put_char};
+pub use from_utf8::from_utf8_prefix;
+pub use from_utf8_ascii::{low_len, put_bytes};

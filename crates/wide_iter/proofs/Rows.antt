@@ -1,13 +1,13 @@
 -- Lossy decoders under a policy: the items of a fused decoder, runs of faults, and what a call yields.
 use Rattle.std.proofs.Common.{◌≡◌, ℕ, true, false, Bool, cond, List, [], ◌∷◌, ◌++◌, Option, Some, None, Result, Ok, Err, inl, inr, refl, sym, ap, ◌∙◌, append_assoc}
-use Rattle.std.specs.Prelude.{is_none, map, MatchOption}
+use Rattle.std.specs.Prelude.{is_none, is_some, map, MatchOption}
 use Rattle.std.specs.Option.{option_to_list}
 use Rattle.std.specs.Iterator.{YieldsFirstBy, YieldsLastBy}
 use Rattle.std.proofs.lemmas.List.{map-append, append-nil}
 use Rattle.wide_forms.specs.Segmentation.{Item, Char, Fault}
 use Rattle.wide_unit.specs.Unit.{item_of}
-use Rattle.wide_forms.specs.Lossy.{lossy_by, lossy_char}
-use Rattle.wide_forms.specs.Laws.Policies.{lossy_by-at_char, runs-of_run, characters-of_run}
+use Rattle.wide_forms.specs.Lossy.{lossy_by, lossy_after, ends_in_fault, replacement}
+use Rattle.wide_forms.specs.Laws.Policies.{lossy_by-at_char, lossy_after-append, lossy_after-char, lossy_after-dropped, lossy_after-none, lossy_after-none_left, lossy_after-replaced, replacement-is}
 use Rattle.wide_forms.specs.declared.policy.Policy.{Policy}
 use Rattle.wide_forms.specs.declared.policy.Policy.TheVariants.{Each, Run, Skip}
 use Rattle.wide_iter.specs.declared.source.Source.{Source}
@@ -97,26 +97,46 @@ abbrev left : Option ℕ → Policy → List Item → Option ℕ → List ℕ
 left f p is b = option_to_list f ++ lossy_by p is ++ option_to_list b
 
 by-nil : (p : Policy) → lossy_by p [] ≡ []
-by-nil Each = refl
-by-nil Run = refl
-by-nil Skip = refl
+by-nil p = sym (lossy_after-none p []) ∙ lossy_after-none_left p false
 
 by-prefix_char : (p : Policy) (is : List Item) (c : ℕ) → lossy_by p (Char c ∷ is) ≡ c ∷ lossy_by p is
-by-prefix_char Each is c = refl
-by-prefix_char Run is c = refl
-by-prefix_char Skip is c = refl
+by-prefix_char p is c = lossy_by-at_char p [] is c ∙ ap (λ l. l ++ c ∷ lossy_by p is) (by-nil p)
 
 by-back_char : (p : Policy) (is : List Item) (c : ℕ) → lossy_by p (is ++ Char c ∷ []) ≡ lossy_by p is ++ c ∷ []
 by-back_char p is c = lossy_by-at_char p is [] c ∙ ap (λ l. lossy_by p is ++ c ∷ l) (by-nil p)
 
-runs-run_end : (us : List ℕ) (u : ℕ) → lossy_by Run (map Fault us ++ Fault u ∷ []) ≡ 0xFFFD ∷ []
-runs-run_end [] u = refl
-runs-run_end (v ∷ []) u = refl
-runs-run_end (v ∷ w ∷ us) u = runs-run_end (w ∷ us) u
+-- A fault first, whatever follows it.
+by-fault : (p : Policy) (u : ℕ) (is : List Item) (r : Option ℕ) → replacement p false ≡ r → lossy_by p (Fault u ∷ is) ≡ option_to_list r ++ lossy_after p true is
+by-fault p u is None e = sym (lossy_after-none p (Fault u ∷ is)) ∙ lossy_after-dropped p false u is e
+by-fault p u is (Some c) e = sym (lossy_after-none p (Fault u ∷ is)) ∙ lossy_after-replaced p false u c is e
 
-characters-run_end : (us : List ℕ) (u : ℕ) → lossy_by Skip (map Fault us ++ Fault u ∷ []) ≡ []
-characters-run_end [] u = refl
-characters-run_end (v ∷ us) u = characters-run_end us u
+-- If a fault directly after another is replaced as well, faults before items change nothing in their text.
+after_same : (p : Policy) (c : ℕ) (r : Option ℕ) → replacement p false ≡ Some c → replacement p true ≡ r → is_some r ≡ true → (after : Bool) (is : List Item) → lossy_after p after is ≡ lossy_by p is
+after_same p c None e f some after is = absurd cc
+after_same p c (Some d) e f some false is = lossy_after-none p is
+after_same p c (Some d) e f some true [] = lossy_after-none_left p true ∙ sym (by-nil p)
+after_same p c (Some d) e f some true (Char x ∷ is) = lossy_after-char p true x is ∙ ap (λ l. x ∷ l) (lossy_after-none p is) ∙ sym (by-prefix_char p is x)
+after_same p c (Some d) e f some true (Fault u ∷ is) =
+    lossy_after-replaced p true u d is f ∙ ap (λ x. x ∷ lossy_after p true is) (replacement-is p true d f ∙ sym (replacement-is p false c e)) ∙ sym (by-fault p u is (Some c) e)
+
+-- If a fault directly after another yields nothing, a run of faults yields what its first one does.
+after_run : (p : Policy) (r : Option ℕ) → replacement p true ≡ r → is_some r ≡ false → (us : List ℕ) → lossy_after p true (map Fault us) ≡ []
+after_run p (Some d) e none us = absurd cc
+after_run p None e none [] = lossy_after-none_left p true
+after_run p None e none (u ∷ us) = lossy_after-dropped p true u (map Fault us) e ∙ after_run p None e none us
+
+by-run : (p : Policy) (u : ℕ) (us : List ℕ) (r : Option ℕ) → replacement p false ≡ r → is_some (replacement p true) ≡ false → lossy_by p (map Fault (u ∷ us)) ≡ option_to_list r
+by-run p u us r e none = by-fault p u (map Fault us) r e ∙ ap (λ l. option_to_list r ++ l) (after_run p (replacement p true) refl none us) ∙ append-nil (option_to_list r)
+
+by-run_end : (p : Policy) (us : List ℕ) (u : ℕ) (r : Option ℕ) → replacement p false ≡ r → is_some (replacement p true) ≡ false → lossy_by p (map Fault us ++ Fault u ∷ []) ≡ option_to_list r
+by-run_end p [] u r e none = by-run p u [] r e none
+by-run_end p (v ∷ us) u r e none = ap (λ is. lossy_by p (Fault v ∷ is)) (sym (map-append Fault us (u ∷ []))) ∙ by-run p v (us ++ u ∷ []) r e none
+
+-- A policy that drops the first fault of a run drops all of it.
+drops_run : (p : Policy) → replacement p false ≡ None → is_some (replacement p true) ≡ false
+drops_run Each e = absurd cc
+drops_run Run e = refl
+drops_run Skip e = refl
 
 -- A run of faults up to a character, or to the end.
 abbrev FirstRow : List Item → Option ℕ → List Item → Type 0
@@ -138,24 +158,28 @@ module _ (p : Policy) (is mid js : List Item) (b : Option ℕ) where
   pub char_first : (c : ℕ) → is ≡ Char c ∷ js → left None p is b ≡ c ∷ left None p js b
   char_first c e = ap (λ l. lossy_by p l ++ option_to_list b) e ∙ ap (λ l. l ++ option_to_list b) (by-prefix_char p js c)
 
-  pub each_first : (u : ℕ) → p ≡ Each → is ≡ Fault u ∷ js → left None p is b ≡ 0xFFFD ∷ left None p js b
-  each_first u e f = rw e (ap (λ l. lossy_by Each l ++ option_to_list b) f)
+  pub each_first : (u c : ℕ) → replacement p false ≡ Some c → is_some (replacement p true) ≡ true → is ≡ Fault u ∷ js → left None p is b ≡ c ∷ left None p js b
+  each_first u c e f g = ap (λ l. lossy_by p l ++ option_to_list b) g ∙ ap (λ l. l ++ option_to_list b) (by-fault p u js (Some c) e ∙ ap (λ l. c ∷ l) (after_same p c (replacement p true) e refl f true js))
 
-  pub run_first : (u : ℕ) (r : Option ℕ) → p ≡ Run → is ≡ Fault u ∷ mid → FirstRow mid r js → left None p is b ≡ 0xFFFD ∷ left r p js b
-  run_first u None e f (run, g) = rw e (
-      ap (λ l. lossy_by Run l ++ option_to_list b) (f ∙ ap (λ l. Fault u ∷ l) g.0) ∙ ap (λ l. l ++ option_to_list b) (runs-of_run u run)
-      ∙ ap (λ l. 0xFFFD ∷ lossy_by Run l ++ option_to_list b) (sym g.1))
-  run_first u (Some c) e f (run, g) = rw e (
-      ap (λ l. lossy_by Run l ++ option_to_list b) (f ∙ ap (λ l. Fault u ∷ l) g)
-      ∙ ap (λ l. l ++ option_to_list b) (lossy_by-at_char Run (map Fault (u ∷ run)) js c ∙ ap (λ l. l ++ c ∷ lossy_by Run js) (runs-of_run u run)))
+  -- Whatever is yielded for the run of faults.
+  beyond_run : (u c : ℕ) (r : Option ℕ) → replacement p false ≡ r → is_some (replacement p true) ≡ false → is ≡ Fault u ∷ mid → FirstRow mid (Some c) js → left None p is b ≡ option_to_list r ++ left (Some c) p js b
+  beyond_run u c r e f g (run, h) =
+      ap (λ l. lossy_by p l ++ option_to_list b) (g ∙ ap (λ l. Fault u ∷ l) h)
+      ∙ ap (λ l. l ++ option_to_list b) (lossy_by-at_char p (map Fault (u ∷ run)) js c ∙ ap (λ l. l ++ c ∷ lossy_by p js) (by-run p u run r e f))
+      ∙ append_assoc (option_to_list r) (c ∷ lossy_by p js) (option_to_list b)
 
-  pub skip_first : (u c : ℕ) → p ≡ Skip → is ≡ Fault u ∷ mid → FirstRow mid (Some c) js → left None p is b ≡ c ∷ left None p js b
-  skip_first u c e f (run, g) = rw e (
-      ap (λ l. lossy_by Skip l ++ option_to_list b) (f ∙ ap (λ l. Fault u ∷ l) g)
-      ∙ ap (λ l. l ++ option_to_list b) (lossy_by-at_char Skip (map Fault (u ∷ run)) js c ∙ ap (λ l. l ++ c ∷ lossy_by Skip js) (characters-of_run (u ∷ run))))
+  only_run : (u : ℕ) (r : Option ℕ) → replacement p false ≡ r → is_some (replacement p true) ≡ false → is ≡ Fault u ∷ mid → FirstRow mid None js → lossy_by p is ≡ option_to_list r
+  only_run u r e f g (run, h) = ap (lossy_by p) (g ∙ ap (λ l. Fault u ∷ l) h.0) ∙ by-run p u run r e f
 
-  pub skip_to_end : (u : ℕ) → p ≡ Skip → is ≡ Fault u ∷ mid → FirstRow mid None js → MatchOption b ((left None p is b ≡ []) × (left None p js None ≡ [])) (λ x. left None p is b ≡ x ∷ left None p js None)
-  skip_to_end u e f (run, g) = end_first (lossy_by p is) (lossy_by p js) (rw e (ap (lossy_by Skip) (f ∙ ap (λ l. Fault u ∷ l) g.0) ∙ characters-of_run (u ∷ run))) (ap (lossy_by p) g.1 ∙ by-nil p) b
+  pub run_first : (u c : ℕ) (r : Option ℕ) → replacement p false ≡ Some c → is_some (replacement p true) ≡ false → is ≡ Fault u ∷ mid → FirstRow mid r js → left None p is b ≡ c ∷ left r p js b
+  run_first u c None e f g h = ap (λ l. l ++ option_to_list b) (only_run u (Some c) e f g h) ∙ ap (λ l. c ∷ l ++ option_to_list b) (sym (ap (lossy_by p) h.1.1 ∙ by-nil p))
+  run_first u c (Some d) e f g h = beyond_run u d (Some c) e f g h
+
+  pub skip_first : (u c : ℕ) → replacement p false ≡ None → is ≡ Fault u ∷ mid → FirstRow mid (Some c) js → left None p is b ≡ c ∷ left None p js b
+  skip_first u c e g h = beyond_run u c None e (drops_run p e) g h
+
+  pub skip_to_end : (u : ℕ) → replacement p false ≡ None → is ≡ Fault u ∷ mid → FirstRow mid None js → MatchOption b ((left None p is b ≡ []) × (left None p js None ≡ [])) (λ x. left None p is b ≡ x ∷ left None p js None)
+  skip_to_end u e g h = end_first (lossy_by p is) (lossy_by p js) (only_run u None e (drops_run p e) g h) (ap (lossy_by p) h.1.1 ∙ by-nil p) b
 
   pub at_end : is ≡ [] → js ≡ [] → MatchOption b ((left None p is b ≡ []) × (left None p js None ≡ [])) (λ x. left None p is b ≡ x ∷ left None p js None)
   at_end e f = end_first (lossy_by p is) (lossy_by p js) (ap (lossy_by p) e ∙ by-nil p) (ap (lossy_by p) f ∙ by-nil p) b
@@ -174,24 +198,31 @@ module _ (p : Policy) (is mid js : List Item) (f : Option ℕ) where
   pub char_last : (c : ℕ) → is ≡ js ++ Char c ∷ [] → left f p is None ≡ left f p js None ++ c ∷ []
   char_last c e = placed_nil (lossy_by p is) (lossy_by p js) c (ap (lossy_by p) e ∙ by-back_char p js c)
 
-  pub each_last : (u : ℕ) → p ≡ Each → is ≡ js ++ Fault u ∷ [] → left f p is None ≡ left f p js None ++ 0xFFFD ∷ []
-  each_last u e g = rw e (placed_nil (lossy_by Each is) (lossy_by Each js) 0xFFFD (ap (lossy_by Each) g ∙ map-append lossy_char js (Fault u ∷ [])))
+  pub each_last : (u c : ℕ) → replacement p false ≡ Some c → is_some (replacement p true) ≡ true → is ≡ js ++ Fault u ∷ [] → left f p is None ≡ left f p js None ++ c ∷ []
+  each_last u c e h g = placed_nil (lossy_by p is) (lossy_by p js) c (
+      ap (lossy_by p) g ∙ sym (lossy_after-none p (js ++ Fault u ∷ [])) ∙ lossy_after-append p false js (Fault u ∷ [])
+      ∙ ap (λ l. l ++ lossy_after p (ends_in_fault false js) (Fault u ∷ [])) (lossy_after-none p js)
+      ∙ ap (λ l. lossy_by p js ++ l) (after_same p c (replacement p true) e refl h (ends_in_fault false js) (Fault u ∷ []) ∙ by-fault p u [] (Some c) e ∙ ap (λ l. c ∷ l) (lossy_after-none_left p true)))
 
-  pub run_last : (u : ℕ) (r : Option ℕ) → p ≡ Run → is ≡ mid ++ Fault u ∷ [] → LastRow mid r js → left f p is None ≡ left f p js r ++ 0xFFFD ∷ []
-  run_last u None e g (run, h) = rw e (placed_nil (lossy_by Run is) (lossy_by Run js) 0xFFFD (
-      ap (lossy_by Run) (g ∙ ap (λ l. l ++ Fault u ∷ []) h.0) ∙ runs-run_end run u ∙ ap (λ l. lossy_by Run l ++ 0xFFFD ∷ []) (sym h.1)))
-  run_last u (Some c) e g (run, h) = rw e (placed_lookahead (lossy_by Run is) (lossy_by Run js) 0xFFFD c (
-      ap (lossy_by Run) (g ∙ ap (λ l. l ++ Fault u ∷ []) h ∙ append_assoc js (Char c ∷ map Fault run) (Fault u ∷ []))
-      ∙ lossy_by-at_char Run js (map Fault run ++ Fault u ∷ []) c ∙ ap (λ l. lossy_by Run js ++ c ∷ l) (runs-run_end run u)
-      ∙ sym (append_assoc (lossy_by Run js) (c ∷ []) (0xFFFD ∷ []))))
+  -- Whatever is yielded for the run of faults.
+  before_run : (u c : ℕ) (r : Option ℕ) → replacement p false ≡ r → is_some (replacement p true) ≡ false → is ≡ mid ++ Fault u ∷ [] → LastRow mid (Some c) js → lossy_by p is ≡ (lossy_by p js ++ c ∷ []) ++ option_to_list r
+  before_run u c r e h g (run, k) =
+      ap (lossy_by p) (g ∙ ap (λ l. l ++ Fault u ∷ []) k ∙ append_assoc js (Char c ∷ map Fault run) (Fault u ∷ []))
+      ∙ lossy_by-at_char p js (map Fault run ++ Fault u ∷ []) c ∙ ap (λ l. lossy_by p js ++ c ∷ l) (by-run_end p run u r e h)
+      ∙ sym (append_assoc (lossy_by p js) (c ∷ []) (option_to_list r))
 
-  pub skip_last : (u c : ℕ) → p ≡ Skip → is ≡ mid ++ Fault u ∷ [] → LastRow mid (Some c) js → left f p is None ≡ left f p js None ++ c ∷ []
-  skip_last u c e g (run, h) = rw e (placed_nil (lossy_by Skip is) (lossy_by Skip js) c (
-      ap (lossy_by Skip) (g ∙ ap (λ l. l ++ Fault u ∷ []) h ∙ append_assoc js (Char c ∷ map Fault run) (Fault u ∷ []))
-      ∙ lossy_by-at_char Skip js (map Fault run ++ Fault u ∷ []) c ∙ ap (λ l. lossy_by Skip js ++ c ∷ l) (characters-run_end run u)))
+  only_run_end : (u : ℕ) (r : Option ℕ) → replacement p false ≡ r → is_some (replacement p true) ≡ false → is ≡ mid ++ Fault u ∷ [] → LastRow mid None js → lossy_by p is ≡ option_to_list r
+  only_run_end u r e h g (run, k) = ap (lossy_by p) (g ∙ ap (λ l. l ++ Fault u ∷ []) k.0) ∙ by-run_end p run u r e h
 
-  pub skip_to_front : (u : ℕ) → p ≡ Skip → is ≡ mid ++ Fault u ∷ [] → LastRow mid None js → MatchOption f ((left f p is None ≡ []) × (left None p js None ≡ [])) (λ x. left f p is None ≡ left None p js None ++ x ∷ [])
-  skip_to_front u e g (run, h) = end_last (lossy_by p is) (lossy_by p js) (rw e (ap (lossy_by Skip) (g ∙ ap (λ l. l ++ Fault u ∷ []) h.0) ∙ characters-run_end run u)) (ap (lossy_by p) h.1 ∙ by-nil p) f
+  pub run_last : (u c : ℕ) (r : Option ℕ) → replacement p false ≡ Some c → is_some (replacement p true) ≡ false → is ≡ mid ++ Fault u ∷ [] → LastRow mid r js → left f p is None ≡ left f p js r ++ c ∷ []
+  run_last u c None e h g k = placed_nil (lossy_by p is) (lossy_by p js) c (only_run_end u (Some c) e h g k ∙ ap (λ l. l ++ c ∷ []) (sym (ap (lossy_by p) k.1.1 ∙ by-nil p)))
+  run_last u c (Some d) e h g k = placed_lookahead (lossy_by p is) (lossy_by p js) c d (before_run u d (Some c) e h g k)
+
+  pub skip_last : (u c : ℕ) → replacement p false ≡ None → is ≡ mid ++ Fault u ∷ [] → LastRow mid (Some c) js → left f p is None ≡ left f p js None ++ c ∷ []
+  skip_last u c e g k = placed_nil (lossy_by p is) (lossy_by p js) c (before_run u c None e (drops_run p e) g k ∙ append-nil (lossy_by p js ++ c ∷ []))
+
+  pub skip_to_front : (u : ℕ) → replacement p false ≡ None → is ≡ mid ++ Fault u ∷ [] → LastRow mid None js → MatchOption f ((left f p is None ≡ []) × (left None p js None ≡ [])) (λ x. left f p is None ≡ left None p js None ++ x ∷ [])
+  skip_to_front u e g k = end_last (lossy_by p is) (lossy_by p js) (only_run_end u None e (drops_run p e) g k) (ap (lossy_by p) k.1.1 ∙ by-nil p) f
 
   pub at_front : is ≡ [] → js ≡ [] → MatchOption f ((left f p is None ≡ []) × (left None p js None ≡ [])) (λ x. left f p is None ≡ left None p js None ++ x ∷ [])
   at_front e g = end_last (lossy_by p is) (lossy_by p js) (ap (lossy_by p) e ∙ by-nil p) (ap (lossy_by p) g ∙ by-nil p) f

@@ -1,5 +1,5 @@
 -- What lossy decoders will yield: the lossy characters of the items that a strict decoder will yield.
-use Rattle.std.specs.Prelude.{ℕ, List, Result, Ok, Err}
+use Rattle.std.specs.Prelude.{ℕ, List}
 use Rattle.wide_forms.specs.Lossy.{lossy}
 use Rattle.wide_iter.specs.Decoder16.{items_left}
 use Rattle.wide_iter.specs.Decoder32.{items32_left}
@@ -7,11 +7,6 @@ use Rattle.wide_iter.specs.declared.decode16.DecodeUtf16.{DecodeUtf16}
 use Rattle.wide_iter.specs.declared.decode32.DecodeUtf32.{DecodeUtf32}
 use Rattle.wide_iter.specs.declared.lossy.DecodeUtf16Lossy.{DecodeUtf16Lossy}
 use Rattle.wide_iter.specs.declared.lossy.DecodeUtf32Lossy.{DecodeUtf32Lossy}
-
--- The character of a strict decoder's result, or U+FFFD.
-abbrev pub lossy_answer : {E : Type 0} → Result ℕ E → ℕ
-lossy_answer (Ok c) = c
-lossy_answer (Err e) = 0xFFFD
 
 module _ {I : Type 0} where
   -- The strict decoder whose items are made lossy.

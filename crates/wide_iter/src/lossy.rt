@@ -5,18 +5,19 @@ ghost use Rattle.std.specs.Iterator.{UpTo, size};
 ghost use Rattle.std.specs.Iterator.SizeHint.{IsWithinCount};
 ghost use Rattle.wide_forms.specs.EncodingForm.{Utf16, Utf32, IsCodeUnit};
 ghost use Rattle.wide_forms.specs.Items.{items};
-ghost use Rattle.wide_forms.specs.Lossy.{lossy};
+ghost use Rattle.wide_forms.specs.Lossy.{lossy, or_replacement};
 ghost use Rattle.wide_iter.specs.Over.{FirstOver, LastOver};
 ghost use Rattle.wide_iter.specs.Source.{has_ended, inner_of, source_count, unasked};
 ghost use Rattle.wide_iter.specs.Sources.{copied_rest};
 ghost use Rattle.wide_iter.specs.Decoder16.{source_of, CanDecode, decoder_count, IsNew, pending, upper_with};
 ghost use Rattle.wide_iter.specs.Decoder32.{source32_of, CanDecode32, decoder32_count};
-ghost use Rattle.wide_iter.specs.Lossy.{lossy_answer, strict16_of, strict32_of, lossy16_left, lossy32_left};
+ghost use Rattle.wide_iter.specs.Lossy.{strict16_of, strict32_of, lossy16_left, lossy32_left};
 
 use crate::decode16::{DecodeUtf16, decode_utf16};
 use crate::decode32::{DecodeUtf32, decode_utf32};
 use std::iter::{Copied, FusedIterator};
 use std::slice::Iter;
+use wide_forms::or_replacement;
 
 /// An iterator over the characters of UTF-16 units, with U+FFFD in place of each unit that belongs to no character
 /// (Unicode Standard, D93b).
@@ -61,12 +62,12 @@ pub fn decode_utf32_lossy<U: IntoIterator<Item = u32>>(units: U) -> DecodeUtf32L
     }
 }
 
-// Returns the character of a strict decoder's result, or U+FFFD if it is a fault.
-fn or_replacement<E: Drop>(answer: Option<Result<char, E>>) -> Option<char>
-    ensures { result ≡ option_map lossy_answer answer }
+// Returns what a strict decoder yielded, with U+FFFD in place of a fault.
+fn replace_fault<E: Drop>(yielded: Option<Result<char, E>>) -> Option<char>
+    ensures { result ≡ option_map or_replacement yielded }
 {
-    match answer {
-        Some(item) => Some(item.unwrap_or(char::REPLACEMENT_CHARACTER)),
+    match yielded {
+        Some(item) => Some(or_replacement(item)),
         None => None,
     }
 }
@@ -82,7 +83,7 @@ impl<I: Iterator<Item = u16>> Iterator for DecodeUtf16Lossy<I> {
 
     #[inline]
     fn next(&mut self) -> Option<char> {
-        or_replacement(self.utf16.next())
+        replace_fault(self.utf16.next())
     }
 
     fn size_hint(&self) -> (usize, Option<usize>)
@@ -101,7 +102,7 @@ impl<I: DoubleEndedIterator<Item = u16>> DoubleEndedIterator for DecodeUtf16Loss
 
     #[inline]
     fn next_back(&mut self) -> Option<char> {
-        or_replacement(self.utf16.next_back())
+        replace_fault(self.utf16.next_back())
     }
 }
 
@@ -128,7 +129,7 @@ impl<I: Iterator<Item = u32>> Iterator for DecodeUtf32Lossy<I> {
 
     #[inline]
     fn next(&mut self) -> Option<char> {
-        or_replacement(self.utf32.next())
+        replace_fault(self.utf32.next())
     }
 
     fn size_hint(&self) -> (usize, Option<usize>) {
@@ -143,7 +144,7 @@ impl<I: DoubleEndedIterator<Item = u32>> DoubleEndedIterator for DecodeUtf32Loss
 
     #[inline]
     fn next_back(&mut self) -> Option<char> {
-        or_replacement(self.utf32.next_back())
+        replace_fault(self.utf32.next_back())
     }
 }
 

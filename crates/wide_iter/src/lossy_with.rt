@@ -6,7 +6,7 @@ ghost use Rattle.wide_iter.specs.Source.{has_ended, inner_of, source_count, CanA
 ghost use Rattle.wide_iter.specs.LossyWith.{CanAskAll, TakesFirstCharacter, TakesLastCharacter, LossyFirst, LossyLast, lossy_source, policy_of, IsUnread, lossy_with_count};
 
 use crate::source::Source;
-use wide_forms::Policy;
+use wide_forms::{Policy, replacement};
 
 /// An iterator over the characters that `items` yields, with what a policy yields in place of each fault.
 ///
@@ -89,13 +89,15 @@ impl<E: Drop, D: Iterator<Item = Result<char, E>>> Iterator for LossyWith<D> {
         }
         match self.items.next() {
             Some(Ok(first)) => Some(first),
-            Some(Err(_)) => match self.policy {
-                Policy::Each => Some(char::REPLACEMENT_CHARACTER),
-                Policy::Run => {
-                    self.front = first_character(&mut self.items);
-                    Some(char::REPLACEMENT_CHARACTER)
+            Some(Err(_)) => match replacement(self.policy, false) {
+                Some(c) => {
+                    // If the rest of the run yields nothing, it is read now.
+                    if replacement(self.policy, true).is_none() {
+                        self.front = first_character(&mut self.items);
+                    }
+                    Some(c)
                 }
-                Policy::Skip => match first_character(&mut self.items) {
+                None => match first_character(&mut self.items) {
                     Some(c) => Some(c),
                     None => self.back.take(),
                 },
@@ -125,13 +127,15 @@ impl<E: Drop, D: DoubleEndedIterator<Item = Result<char, E>>> DoubleEndedIterato
         }
         match self.items.next_back() {
             Some(Ok(last)) => Some(last),
-            Some(Err(_)) => match self.policy {
-                Policy::Each => Some(char::REPLACEMENT_CHARACTER),
-                Policy::Run => {
-                    self.back = last_character(&mut self.items);
-                    Some(char::REPLACEMENT_CHARACTER)
+            Some(Err(_)) => match replacement(self.policy, false) {
+                Some(c) => {
+                    // If the rest of the run yields nothing, it is read now.
+                    if replacement(self.policy, true).is_none() {
+                        self.back = last_character(&mut self.items);
+                    }
+                    Some(c)
                 }
-                Policy::Skip => match last_character(&mut self.items) {
+                None => match last_character(&mut self.items) {
                     Some(c) => Some(c),
                     None => self.front.take(),
                 },

@@ -1,5 +1,5 @@
 //! The offset index of a UTF-16 text, with an entry for every 64th character, and the search for a character from the
-//! last entry before it.
+//! last entry before it. So at most 63 characters are read after an entry, which have at most 126 units.
 //!
 //! Each unit that is read is counted once.
 ghost use Rattle.std.specs.Prelude.{◌≡◌, ◌+◌, ◌-◌, ◌*◌, ◌/◌, ◌≤◌, length, take, drop, vec_capacity};
@@ -45,6 +45,7 @@ pub fn repair(text: Utf16Str<'_>, marks: &mut Vec<usize>, steps: &mut Steps)
     ensures grows { counted steps.old ≤ counted steps.new }
     ensures steps { counted steps.new + mark (chars Utf16 (units_seen text.entry)) (length marks.old.items) ≡ counted steps.old + length (units_seen text.entry) }
 {
+    // This call reads no unit. Its contract gives the proof that the units are well formed.
     let _units = text.len();
     let (mut at, mut rest) = seek(text, marks.as_slice(), marks.len());
     let mut gone = 0usize;
@@ -61,8 +62,8 @@ pub fn repair(text: Utf16Str<'_>, marks: &mut Vec<usize>, steps: &mut Steps)
     }
 }
 
-/// Returns the offset, in units, of the character at an index, or `None` if the index is past the end. It reads from the
-/// last entry that is not past the character, at most 63 characters, and counts their units.
+/// Returns the offset, in units, of the character at an index, or `None` if the index is past the end. It reads from
+/// the last entry that is not past the character, at most 63 characters, and counts their units.
 ///
 /// # Requires
 ///
@@ -77,6 +78,7 @@ pub fn find_from(
     ensures found { IsFoundAt Utf16 (units_seen text.entry) index result }
     ensures steps { AddsAtMost steps.old steps.new 126 }
 {
+    // This call reads no unit. Its contract gives the proof that the units are well formed.
     let _units = text.len();
     let first = (index / 64).min(marks.len());
     let (mut at, mut rest) = seek(text, marks, first);
@@ -99,6 +101,7 @@ pub fn count_from(text: Utf16Str<'_>, marks: &[usize], steps: &mut Steps) -> usi
     ensures count { result ≡ length (chars Utf16 (units_seen text.entry)) }
     ensures steps { AddsAtMost steps.old steps.new 126 }
 {
+    // This call reads no unit. Its contract gives the proof that the units are well formed.
     let _units = text.len();
     let (_at, mut rest) = seek(text, marks, marks.len());
     let mut count = 64 * marks.len();

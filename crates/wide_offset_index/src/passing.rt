@@ -19,6 +19,7 @@ fn len_after(text: Utf16Str<'_>, _index: usize, at: usize) -> usize
     requires at { at ≡ offset (chars Utf16 (units_seen text)) _index }
     ensures { offset (chars Utf16 (units_seen text.entry)) (_index + 1) ≡ at + result }
 {
+    // This call reads no unit. Its contract gives the proof that the units are well formed.
     let _units = text.len();
     if text.is_char_boundary(at + 1) {
         return 1;
@@ -33,6 +34,7 @@ fn len_before(text: Utf16Str<'_>, _index: usize, at: usize) -> usize
     requires at { at ≡ offset (chars Utf16 (units_seen text)) _index }
     ensures { offset (chars Utf16 (units_seen text.entry)) (_index - 1) + result ≡ at }
 {
+    // This call reads no unit. Its contract gives the proof that the units are well formed.
     let _units = text.len();
     if text.is_char_boundary(at - 1) {
         return 1;
@@ -48,6 +50,7 @@ pub fn pass_on(text: Utf16Str<'_>, from: usize, start: usize, to: usize, steps: 
     ensures offset { result ≡ offset (chars Utf16 (units_seen text.entry)) to }
     ensures steps { counted steps.new + start ≡ counted steps.old + result }
 {
+    // This call reads no unit. Its contract gives the proof that the units are well formed.
     let _units = text.len();
     let mut at = start;
     for number in from..to {
@@ -72,6 +75,7 @@ pub(crate) fn pass_back(
     ensures offset { result ≡ offset (chars Utf16 (units_seen text.entry)) to }
     ensures steps { counted steps.new + result ≡ counted steps.old + start }
 {
+    // This call reads no unit. Its contract gives the proof that the units are well formed.
     let _units = text.len();
     let mut at = start;
     for passed in 0..from - to {
@@ -101,6 +105,7 @@ pub(crate) fn between(
     ensures on { AddsAtMost steps.old steps.new (2 * (to - low.0)) }
     ensures back { AddsAtMost steps.old steps.new (2 * (high.0 - to)) }
 {
+    // This call reads no unit. Its contract gives the proof that the units are well formed.
     let _units = text.len();
     let passed = to - low.0;
     let left = high.0 - to;

@@ -14,7 +14,9 @@ use crate::passing::{between, pass_back, pass_on};
 use crate::ticking::tick;
 use wide_utfstr::Utf16Str;
 
-// If an edit removes or adds more characters, the entries after them are counted again.
+// If an edit removes or adds more characters, the entries after them are counted again. An entry moves by at most as
+// many characters as an edit removes or adds: by less than half of the 64 from one entry to the next, so that moving it
+// reads fewer units than counting again.
 const FEW: usize = 31;
 
 /// A range of characters, and where it is in the units.
@@ -31,8 +33,8 @@ pub struct Range16 {
 }
 
 /// Returns the number of characters of a text whose characters in a range were replaced by others, if both are few. The
-/// text had `count` characters and `units` units before. It reads the new characters, if they have few units, and counts
-/// these.
+/// text had `count` characters and `units` units before. It reads the new characters, if they have few units, and
+/// counts these.
 ///
 /// # Requires
 ///
@@ -189,6 +191,7 @@ fn move_entries(
     ensures least { range.from / 64 < length entries.old → counted steps.old + (length entries.old - range.from / 64) + mark (chars Utf16 (units_seen text.entry)) (range.from / 64 + 1) ≤ counted steps.new + range.start }
     ensures steps { counted steps.new + range.start ≤ counted steps.old + 1 + max range.start (mark (chars Utf16 (units_seen text.entry)) (length entries.old)) }
 {
+    // This call reads no unit. Its contract gives the proof that the units are well formed.
     let _units = text.len();
     for number in range.from / 64..entries.len() {
         tick(steps, 1);
@@ -217,9 +220,9 @@ fn push_last(text: Utf16Str<'_>, marks: &mut Vec<usize>, total: usize, steps: &m
     }
 }
 
-/// Makes the entries those of a text whose characters in a range were replaced by others, both few. The text had `count`
-/// characters and `units` units before, and has `total` characters now. It counts a step for each entry that it moves,
-/// and for each unit that it reads.
+/// Makes the entries those of a text whose characters in a range were replaced by others, both few. The text had
+/// `count` characters and `units` units before, and has `total` characters now. It counts a step for each entry that it
+/// moves, and for each unit that it reads.
 ///
 /// # Requires
 ///
@@ -249,6 +252,7 @@ pub fn shift(
     ensures missing { count / 64 < total / 64 → counted steps.old + (count / 64 - range.from / 64) + length (units_seen text.entry) ≤ counted steps.new + mark (chars Utf16 (units_seen text.entry)) (count / 64 + 1) }
     ensures steps { counted steps.new + range.start ≤ counted steps.old + 1 + length (units_seen text.entry) }
 {
+    // This call reads no unit. Its contract gives the proof that the units are well formed.
     let _units = text.len();
     marks.truncate(total / 64);
     move_entries(

@@ -1,2 +1,7 @@
 pub mod Counts
 mod Mendings
+pub mod CompressedLanes
+pub mod Retained
+mod LossyScalars
+mod EndFaults
+mod LossyChunks

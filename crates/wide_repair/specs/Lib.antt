@@ -1,1 +1,2 @@
 pub mod Repaired
+pub mod Compressed

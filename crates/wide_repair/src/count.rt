@@ -5,13 +5,7 @@ ghost use Rattle.wide_forms.specs.Searches.{is_low};
 ghost use Rattle.wide_forms.specs.EncodingForm.{Utf16};
 ghost use Rattle.wide_forms.specs.Items.{IsWellFormed, chars};
 
-/// Returns whether the unit is a low surrogate, DC00 to DFFF.
-#[inline]
-pub fn is_low_surrogate(unit: u16) -> bool
-    ensures { result ≡ is_low unit }
-{
-    0xdc00 <= unit && unit <= 0xdfff
-}
+use crate::surrogates::is_low_surrogate;
 
 // Returns the number of low surrogates among fewer than 65,536 units. The counter has the width of a unit, so the
 // compiler vectorizes the loop.

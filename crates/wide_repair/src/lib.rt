@@ -1,9 +1,17 @@
-//! Counts the characters of UTF-16, and repairs units of either width. `wide_unit` depends on it, and so does the
-//! command `utf8`, which needs nothing else of a slice of units. The loops are in the form that the compiler vectorizes.
+//! Counts the characters of UTF-16, repairs units of either width, and makes their lossy text under a policy (Unicode
+//! Standard, section 3.9, "U+FFFD Substitution of Maximal Subparts"). `wide_unit` depends on it, and so does the command
+//! `utf8`, which needs nothing else of a slice of units. The loops are vectorized, but for lossy UTF-32.
 #![tactic(auto)]
 
+mod compression;
 mod count;
+mod lossy;
 mod repair;
+mod retention;
+mod surrogates;
 
-pub use count::{char_count, is_low_surrogate};
+pub use compression::compress;
+pub use count::char_count;
+pub use lossy::{Progress, ends_in_fault, lossy_prefix_16, lossy_prefix_32};
 pub use repair::{repair_16, repair_32};
+pub use surrogates::{is_high_surrogate, is_low_surrogate, is_surrogate};

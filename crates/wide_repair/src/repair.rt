@@ -6,6 +6,9 @@ ghost use Rattle.wide_forms.specs.Items.{items};
 ghost use Rattle.wide_forms.specs.Lossy.{lossy};
 ghost use Rattle.wide_repair.specs.Repaired.{repaired_at, repaired_unit, repaired_scalar};
 
+use crate::surrogates::{is_high_surrogate, is_low_surrogate, is_no_scalar};
+use std::simd::prelude::*;
+
 // U+FFFD REPLACEMENT CHARACTER.
 const REPLACEMENT: u16 = 0xfffd;
 
@@ -14,9 +17,10 @@ const REPLACEMENT: u16 = 0xfffd;
 fn repaired_unit(before: u16, unit: u16, after: u16) -> u16
     ensures { result ≡ repaired_unit before unit after }
 {
-    let lone_high = unit / 0x400 == 54 && after / 0x400 != 55;
-    let lone_low = unit / 0x400 == 55 && before / 0x400 != 54;
-    if lone_high || lone_low {
+    // `&` and `|` evaluate both sides. With `&&` and `||` the compiler made a branch for each unit here.
+    let lone_high = is_high_surrogate(unit) & !is_low_surrogate(after);
+    let lone_low = is_low_surrogate(unit) & !is_high_surrogate(before);
+    if lone_high | lone_low {
         REPLACEMENT
     } else {
         unit
@@ -33,6 +37,22 @@ fn repaired_lanes(units: &[u16], repaired: &mut [u16])
     for k in 0..16 {
         repaired[k] = repaired_unit(units[k], units[k + 1], units[k + 2]);
     }
+}
+
+// Writes the sixteen repaired units from an index on, which is not the first.
+#[inline(always)]
+fn put_repaired(units: &[u16], repaired: &mut [u16], at: usize)
+    requires some { 0 < at }
+    requires more { at + 17 ≤ length units.now }
+    requires space { length repaired.old ≡ length units.now }
+    ensures before { (k : ℕ) → k < at → slice_index repaired.new k ≡ slice_index repaired.old k }
+    ensures each { (k : ℕ) → at ≤ k → k < at + 16 → slice_index repaired.new k ≡ repaired_at units.now k }
+    ensures space { length repaired.new ≡ length units.now }
+{
+    let mut lanes = [0u16; 16];
+    repaired_lanes(&units[at - 1..at + 17], &mut lanes);
+    // `copy_from_slice` would check whether the two slices overlap.
+    u16x16::from_array(lanes).copy_to_slice(&mut repaired[at..at + 16]);
 }
 
 // Returns the unit before an index, or 0 at the beginning.
@@ -72,9 +92,7 @@ fn repair_whole(units: &[u16], repaired: &mut [u16])
         done = 1;
     }
     'sixteens: while done > 0 && units.len() - done >= 17 {
-        let mut lanes = [0u16; 16];
-        repaired_lanes(&units[done - 1..done + 17], &mut lanes);
-        repaired[done..done + 16].copy_from_slice(&lanes);
+        put_repaired(units, repaired, done);
         done += 16;
     }
     'units: while done < units.len() {
@@ -100,12 +118,12 @@ pub fn repair_16(units: &[u16], repaired: &mut [u16])
     repair_whole(units, &mut repaired[..units.len()]);
 }
 
-// Returns the unit, or U+FFFD if it is no Unicode scalar value.
+/// Returns the unit, or U+FFFD if it is no Unicode scalar value.
 #[inline(always)]
-fn repaired_scalar(unit: u32) -> u32
+pub(crate) fn repaired_scalar(unit: u32) -> u32
     ensures { result ≡ repaired_scalar unit }
 {
-    if (0xd800 <= unit && unit <= 0xdfff) || 0x10_ffff < unit {
+    if is_no_scalar(unit) {
         u32::from(REPLACEMENT)
     } else {
         unit

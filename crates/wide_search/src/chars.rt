@@ -1,11 +1,14 @@
-//! Searches for a character in units.
+//! Searches for a character in units, from both ends: for its one or two units. The units of a character occur only
+//! where it is a character of the units, so no half of a surrogate pair is found (Unicode Standard, section 3.8, D75).
+
 ghost use Rattle.std.specs.Prelude.{◌+◌, ◌≤◌, length, map, IfNone, IfSome};
 ghost use Rattle.wide_forms.specs.EncodingForm.{code_units};
 ghost use Rattle.wide_search.specs.Occurrences.{IsFirstAt, IsLastAt, OccursNowhere};
 
 use crate::needle::Few;
 use crate::one::{find_one, rfind_one};
-use crate::search::{find_in, rfind_in};
+use crate::search::find_in;
+use crate::search_back::rfind_in;
 use wide_unit::Unit;
 
 /// Returns the offset in units of the first occurrence of the character, or `None` if it does not occur. The units may

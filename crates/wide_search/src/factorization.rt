@@ -1,4 +1,7 @@
-//! Where the two-way search cuts a needle (M. Crochemore and D. Perrin, "Two-way string-matching").
+//! Where the two-way search cuts a needle: a critical factorization, by its greatest suffixes in two orders of the
+//! units (M. Crochemore and D. Perrin, "Two-way string-matching"). It takes time that is linear in the needle, and
+//! constant memory.
+
 ghost use Rattle.std.specs.Prelude.{◌≡◌, ◌↔◌, ◌<◌, ◌+◌, ◌≤◌, IsTrue, length, map};
 ghost use Rattle.std.specs.Str.Critical.{IsRepeat, IsSuffixAt};
 ghost use Rattle.std.specs.Str.TwoWay.{item_from};

@@ -1,14 +1,17 @@
-//! The laws of the definitions. Each law is a function that does nothing, and its contract is the law.
+//! The laws of occurrences and of the substrings between them. Each law is a function that does nothing, and its
+//! contract is the law.
+
 ghost use Rattle.wide_search.specs.Statements.{FirstIsUnique, LastIsUnique, SubstringsExist, SubstringsAreUnique, SubstringsJoin, WholeAtNoNeedle, NeedlesAreBetweenCharacters, NeedlesAreOfCharacters, FirstIsOfCharacters, LastIsOfCharacters};
 
-/// A needle has at most one first occurrence in a list, and at most one last one.
+/// States that a needle has at most one first occurrence in a list, and at most one last one.
 pub fn one_offset<T>()
     ensures first { FirstIsUnique T }
     ensures last { LastIsUnique T }
 {}
 
-/// Splitting a list at a separator that is not empty yields exactly one list of substrings. Joining them with the
-/// separator yields the list. Splitting at an empty separator yields the list itself as the only substring.
+/// States that splitting a list at a separator that is not empty yields exactly one list of substrings, and that
+/// joining them with the separator yields the list. Splitting at an empty separator yields the list itself as the only
+/// substring.
 pub fn one_list_of_substrings()
     ensures some { SubstringsExist }
     ensures unique { SubstringsAreUnique }
@@ -16,10 +19,10 @@ pub fn one_list_of_substrings()
     ensures empty { WholeAtNoNeedle }
 {}
 
-/// A well-formed needle that is not empty occurs in any units only between two items, or at an end. Its offset and the
-/// offset after it are boundaries, since no character begins with a low surrogate, and none ends with a high one
-/// (Unicode Standard, D75 and D85). In well-formed units its characters occur at such an offset exactly if its units
-/// do, and its first occurrence in the units is its first one among the characters.
+/// States that a well-formed needle that is not empty occurs in any units only between two items, or at an end. Its
+/// offset and the offset after it are boundaries, since no character begins with a low surrogate, and none ends with a
+/// high one (Unicode Standard, D75 and D85). In well-formed units its characters occur at such an offset exactly if its
+/// units do, and its first occurrence in the units is its first one among the characters.
 pub fn needles_in_text()
     ensures between { NeedlesAreBetweenCharacters }
     ensures characters { NeedlesAreOfCharacters }

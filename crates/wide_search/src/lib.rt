@@ -2,17 +2,39 @@
 //! are counted in units. No call allocates or fails. The Rust crate has none of these calls; they have the names of the
 //! calls of `str`, if there are such.
 //!
+//! A search proceeds through these files. `units.rt` and `chars.rt` have the public calls, over any needle
+//! (`needle.rt`, compared by `comparisons.rt`) in `search.rt` from the front and in `search_back.rt` from the back, and
+//! over one unit in `one.rt`.
+//!
+//! 1. Each search begins with a plain loop, which takes the least time if the needle is found soon: from the front it
+//!    goes from one unit that is the needle's first to the next, and from the back it tries each offset.
+//! 2. After some tries that fail, from the front only if they lie close together, the search by two units follows. It
+//!    looks, in SIMD lanes (`pairs.rt`), for offsets at which both the first and the last unit of the needle stand, and
+//!    compares there (W. Mula, "SIMD-friendly algorithms for substring searching"). `costs.rt` counts what that costs.
+//!    Where both stand nearly everywhere, some offsets are tried one by one. From the front, where both stand nearly as
+//!    often as the first alone, the plain loop follows again, unless the needle is long.
+//! 3. If too many units are compared in vain, as they may be where the needle repeats itself, the two-way search
+//!    follows (`two_way.rt`), from either side (`side.rt`), over the two parts of the needle (`factorization.rt`): it
+//!    is linear in the worst case (M. Crochemore and D. Perrin, "Two-way string-matching"). Where the text no longer
+//!    repeats itself, the search before it goes on.
+//!
+//! `limits.rt` has the numbers by which one method follows another. They decide on time alone.
+//!
 //! `specs/` defines occurrences and the substrings between them. The contracts of the functions in [`laws`] are the
 //! laws of these definitions.
 #![tactic(auto)]
 
 mod chars;
+mod comparisons;
+mod costs;
 mod factorization;
 pub mod laws;
+mod limits;
 mod needle;
 mod one;
 mod pairs;
 mod search;
+mod search_back;
 mod side;
 mod two_way;
 mod units;

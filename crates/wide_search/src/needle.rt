@@ -1,90 +1,17 @@
-//! Needles of a search: some units, or those of one character.
-ghost use Rattle.std.specs.Prelude.{◌≡◌, ◌↔◌, ◌≤◌, ◌∷◌, [], ℕ, List, length, map, take, ◌<◌, IfSome, IsTrue, MatchOption};
-ghost use Rattle.wide_unit.specs.CommonPrefix.{IsCommonPrefix};
+//! Needles of a search: a slice of units, or the one or two units of a character. A needle says whether it stands at an
+//! offset, and how many of its units match there; comparisons of its units are in `comparisons.rt`, and those of many
+//! units in SIMD lanes in `wide_unit`.
+
+ghost use Rattle.std.specs.Prelude.{◌≡◌, ◌↔◌, ◌≤◌, ◌∷◌, [], ℕ, List, length, map, take, IfSome, IsTrue, MatchOption};
 ghost use Rattle.wide_forms.specs.EncodingForm.{code_units};
 ghost use Rattle.wide_search.specs.Occurrences.{OccursAt};
 ghost use Rattle.wide_search.specs.Probes.{IsProbe};
 ghost use Rattle.wide_search.specs.Sought.{units_of_few};
 
+use crate::comparisons::{
+    NEAR, are_same_after_first, are_same_from_first, near_prefix, shared_prefix,
+};
 use wide_unit::{Unit, common_prefix};
-
-// How many units are compared one by one before blocks are. Most comparisons end before.
-const NEAR: usize = 8;
-
-// Returns whether two slices of the same length have the same units. They are compared one by one, since most needles
-// have few units, and most comparisons end at once.
-#[inline(always)]
-fn are_same<C: Unit>(left: &[C], right: &[C]) -> bool
-    requires { length left.now ≡ length right.now }
-    ensures { IsTrue result ↔ (left.now ≡ right.now) }
-{
-    for offset in 0..left.len() {
-        if left[offset].code() != right[offset].code() {
-            return false;
-        }
-    }
-    true
-}
-
-// Returns the same as `are_same`. The first units are compared by a branch of their own, which processors predict better
-// where they are often the same and the next ones are not.
-#[inline(always)]
-fn are_same_from_first<C: Unit>(left: &[C], right: &[C]) -> bool
-    requires { length left.now ≡ length right.now }
-    ensures { IsTrue result ↔ (left.now ≡ right.now) }
-{
-    match (left, right) {
-        ([first, left @ ..], [other, right @ ..]) => {
-            first.code() == other.code() && are_same(left, right)
-        }
-        _ => true,
-    }
-}
-
-// Returns whether two slices of the same length, whose first units are the same, have the same units. The first ones are
-// not compared, and the last ones before the others: texts that begin with the needle's first unit mostly differ from it
-// at the last one.
-#[inline(always)]
-fn are_same_after_first<C: Unit>(left: &[C], right: &[C]) -> bool
-    requires length { length left.now ≡ length right.now }
-    requires first { take 1 left.now ≡ take 1 right.now }
-    ensures { IsTrue result ↔ (left.now ≡ right.now) }
-{
-    let mut at = left.len();
-    while at > 1 {
-        at -= 1;
-        if left[at].code() != right[at].code() {
-            return false;
-        }
-    }
-    true
-}
-
-// Returns how many units at the beginning of two slices of the same length are the same. They are compared one by one.
-#[inline(always)]
-fn shared_prefix<C: Unit>(left: &[C], right: &[C]) -> usize
-    requires { length left.now ≡ length right.now }
-    ensures { IsCommonPrefix left.now right.now result }
-{
-    let mut shared = 0;
-    while shared < left.len() && left[shared].code() == right[shared].code() {
-        shared += 1;
-    }
-    shared
-}
-
-// Returns how many units at the beginning of two slices are the same, or `NEAR` if there are at least as many.
-#[inline(always)]
-fn near_prefix<C: Unit>(left: &[C], right: &[C]) -> usize
-    ensures { result < 8 → IsCommonPrefix left.now right.now result }
-{
-    let len = left.len().min(right.len()).min(NEAR);
-    let mut shared = 0;
-    while shared < len && left[shared].code() == right[shared].code() {
-        shared += 1;
-    }
-    shared
-}
 
 // The first and the last unit of a needle, and how many units the last one is from the first.
 #[derive(Clone, Copy)]
@@ -116,8 +43,8 @@ pub(crate) trait Needle<C: Unit>: Copy {
         requires { take 1 (sought self) ≡ take 1 units.now }
         ensures { IsTrue result ↔ OccursAt (sought self) units.now 0 };
 
-    // Returns false only if other units don't begin with these. It compares the first two units, and may return true where
-    // there are fewer.
+    // Returns false only if other units don't begin with these. It compares the first two units, and may return true
+    // where there are fewer.
     fn may_begin(self, units: &[C]) -> bool
         ensures { OccursAt (sought self) units.now 0 → IsTrue result };
 

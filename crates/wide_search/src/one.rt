@@ -1,9 +1,13 @@
-//! Searches for one unit. Nothing beyond it is compared, so they take shorter loops than those for other needles.
+//! Searches for one unit. Nothing beyond it is compared, so they take shorter loops than those for other needles. From
+//! the front the unit is looked for in SIMD lanes at once, and from the back after some units that are compared one by
+//! one.
+
 ghost use Rattle.std.specs.Prelude.{◌∷◌, [], IfNone, IfSome};
 ghost use Rattle.wide_search.specs.Occurrences.{IsFirstAt, IsLastAt, OccursNowhere};
 
+use crate::limits::{SHORT_TEXT, TRIES_FROM_BACK};
 use crate::needle::Few;
-use crate::search::{NEAR_TRIES, SHORT, rfind_by_two};
+use crate::search_back::rfind_by_two;
 use wide_unit::{Unit, first_of};
 
 // Returns the offset of the first occurrence of the unit, or `None`.
@@ -15,14 +19,18 @@ pub(crate) fn find_one<C: Unit>(units: &[C], unit: C) -> Option<usize>
     first_of(units, unit.code())
 }
 
-// Returns the offset of the last occurrence of the unit, or `None`. The last few units are compared one by one, or all if
-// there are few.
+// Returns the offset of the last occurrence of the unit, or `None`. The last few units are compared one by one, or all
+// if there are few.
 pub(crate) fn rfind_one<C: Unit>(units: &[C], unit: C) -> Option<usize>
     ensures last { IfSome result (IsLastAt (unit ∷ []) units.now) }
     ensures none { IfNone result (OccursNowhere (unit ∷ []) units.now) }
 {
     let len = units.len();
-    let stop = if len < SHORT { 0 } else { len - NEAR_TRIES };
+    let stop = if len < SHORT_TEXT {
+        0
+    } else {
+        len - TRIES_FROM_BACK
+    };
     let mut at = len;
     while at > stop {
         at -= 1;

@@ -4,6 +4,7 @@
 //! this distance. Few indices pass even if one of the units is frequent. The blocks of both lists are compared in SIMD
 //! lanes: sixteen 16-bit units, or eight 32-bit units, in one step (W. Mula, "SIMD-friendly algorithms for substring
 //! searching").
+
 ghost use Rattle.std.specs.Prelude.{◌≡◌, ◌+◌, ◌<◌, ◌≤◌, ℕ, false, length, map, slice_index};
 ghost use Rattle.std.proofs.Common.{rules};
 ghost use Rattle.std.specs.Simd.Lanes.{mask_l, zip2};

@@ -1,4 +1,6 @@
-//! Units counted from the beginning of a list, or from its end.
+//! Units counted from the beginning of a list, or from its end. The two-way search is written once over either side: a
+//! search from the back is one from the front in the reversed units, for the reversed needle.
+
 ghost use Rattle.std.specs.Prelude.{◌≡◌, ◌<◌, length, map, true, false};
 ghost use Rattle.std.specs.Str.TwoWay.{item_from};
 

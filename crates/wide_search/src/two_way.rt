@@ -1,10 +1,13 @@
-//! The two-way search: linear in the lengths of the units and the needle, in constant memory (M. Crochemore and
-//! D. Perrin, "Two-way string-matching").
+//! The two-way search (M. Crochemore and D. Perrin, "Two-way string-matching"), from either side: linear in the lengths
+//! of the units and the needle, in constant memory. It reads each unit by itself, so it is used only where the needle
+//! and the text repeat themselves.
+
 ghost use Rattle.std.specs.Prelude.{◌≡◌, ◌≢◌, ◌+◌, ◌-◌, ◌<◌, ◌≤◌, ℕ, IsTrue, length};
 ghost use Rattle.wide_search.specs.NextOccurrences.{number_from, IsStop};
 ghost use Rattle.wide_search.specs.Occurrences.{OccursAt};
 
 use crate::factorization::factorize;
+use crate::limits::{NEARBY, OFFSETS_BEFORE_LOOK};
 use crate::side::{Back, Front, Side};
 use wide_unit::Unit;
 
@@ -65,13 +68,6 @@ impl Stop {
     }
 }
 
-// After so many offsets for each unit of the needle the two-way search looks whether the needle's first and last unit
-// still stand nearby.
-const PASSED_BEFORE_LOOK: usize = 16;
-
-// How many offsets are nearby.
-const NEARBY: usize = 32;
-
 // Returns whether the first and the last unit of the needle stand at one of the next offsets. It decides on time alone:
 // where they do not, the text may no longer repeat itself as the needle does, and other searches take less time.
 fn stands_nearby<C: Unit, S: Side>(units: &[C], needle: &[C], at: usize) -> bool
@@ -104,7 +100,7 @@ fn next_occurrence<C: Unit, S: Side>(units: &[C], needle: &[C], from: usize) -> 
 {
     let parts = factorize::<C, S>(needle);
     let len = needle.len();
-    let stretch = len.saturating_mul(PASSED_BEFORE_LOOK);
+    let stretch = len.saturating_mul(OFFSETS_BEFORE_LOOK);
     let mut stop = from.saturating_add(stretch);
     let mut at = from;
     let mut known = 0;

@@ -1,10 +1,13 @@
-//! Searches for units in units.
+//! Searches for units in units, from both ends: whether a needle stands at an end, where it or one unit occurs, and
+//! what comes before it and after it. An empty needle occurs at each offset.
+
 ghost use Rattle.std.specs.Prelude.{◌≡◌, ◌↔◌, ◌+◌, ◌++◌, ◌∷◌, [], ◌≤◌, ◌<◌, length, IsTrue, IsSome, IfNone, IfSome};
 ghost use Rattle.wide_search.specs.Occurrences.{IsFirstAt, IsLastAt, OccursNowhere, BeginsWith, EndsWith, IsFirstSplit, IsLastSplit};
 
 use crate::needle::Slice;
 use crate::one::{find_one, rfind_one};
-use crate::search::{find_in, rfind_in};
+use crate::search::find_in;
+use crate::search_back::rfind_in;
 use wide_unit::{Unit, same_units};
 
 /// Returns whether the units begin with those of the pattern. They do if it is empty.
@@ -54,11 +57,12 @@ pub fn strip_suffix<'a, C: Unit>(units: &'a [C], needle: &[C]) -> Option<&'a [C]
 /// Returns the offset in units of the first occurrence of the needle, or `None` if it does not occur. An empty needle
 /// occurs at the beginning.
 ///
-/// The search for the first unit of the needle is vectorized. Where it stands, the others are compared, from the last one
-/// to the first that differs. Where the first unit is frequent, the search is for offsets at which the last one stands as
-/// well. Where both stand nearly everywhere each offset is tried, and where they stand nearly as often as the first
-/// alone, that is looked for again. If too many units are compared in vain, as they may be if the needle repeats itself,
-/// the two-way search passes the next offsets. So the worst case is linear in both lengths, and no memory is allocated.
+/// The search for the first unit of the needle is vectorized. Where it stands, the others are compared, from the last
+/// one to the first that differs. Where the first unit is frequent, the search is for offsets at which the last one
+/// stands as well. Where both stand nearly everywhere each offset is tried, and where they stand nearly as often as the
+/// first alone, that is looked for again. If too many units are compared in vain, as they may be if the needle repeats
+/// itself, the two-way search passes the next offsets. So the worst case is linear in both lengths, and no memory is
+/// allocated.
 pub fn find<C: Unit>(units: &[C], needle: &[C]) -> Option<usize>
     ensures first { IfSome result (IsFirstAt needle.now units.now) }
     ensures none { IfNone result (OccursNowhere needle.now units.now) }
@@ -70,9 +74,10 @@ pub fn find<C: Unit>(units: &[C], needle: &[C]) -> Option<usize>
 /// Returns the offset in units of the last occurrence of the needle, or `None` if it does not occur. An empty needle
 /// occurs at the end.
 ///
-/// The last offsets are tried one by one. Then the search is for offsets at which both the first and the last unit of the
-/// needle stand; it is vectorized, and goes from the back. Where too many units are compared in vain it does as [`find`]
-/// does, so the worst case is linear too, and no memory is allocated.
+/// The last offsets are tried one by one. Then the search is for offsets at which both the first and the last unit of
+/// the needle stand; it is vectorized, and goes from the back. If too many units are compared in vain, as they may be
+/// if the needle repeats itself, the two-way search passes the next offsets. So the worst case is linear in both
+/// lengths, and no memory is allocated.
 pub fn rfind<C: Unit>(units: &[C], needle: &[C]) -> Option<usize>
     ensures last { IfSome result (IsLastAt needle.now units.now) }
     ensures none { IfNone result (OccursNowhere needle.now units.now) }

@@ -1,19 +1,17 @@
 -- The number of characters in units, by the length of their UTF-8.
-use Rattle.std.proofs.Common.{◌≡◌, ℕ, ◌+◌, ◌*◌, ◌/◌, ◌<◌, ◌≤◌, zero, suc, take, refl, List, [], ◌∷◌, inl, inr, length, length-append, get_or, sym, ap, ◌∙◌, subst, arith}
+use Rattle.std.proofs.Common.{◌≡◌, ℕ, ◌+◌, ◌*◌, ◌<◌, ◌≤◌, List, [], ◌∷◌, inl, inr, length, length-append, get_or, sym, ap, ◌∙◌, subst, arith}
 use Rattle.std.specs.Char.{IsScalar}
 use Rattle.std.proofs.lemmas.Bool.{cases_lt}
 use Rattle.wide_forms.specs.EncodingForm.{Utf16, code_units, encode}
-use Rattle.wide_forms.specs.Items.{chars, IsWellFormed}
+use Rattle.wide_forms.specs.Items.{chars, items, IsWellFormed}
 use Rattle.wide_forms.specs.Utf8.{utf8, utf8_bytes}
 use Rattle.wide_forms.specs.Laws.Forms.{one_unit, two_units}
 use Rattle.wide_forms.specs.Laws.Offsets.{chars-encode, IsWellFormed-encode}
 use Rattle.wide_forms.specs.Laws.Utf8.{one_byte, two_bytes, three_bytes, four_bytes}
+use Rattle.wide_forms.specs.Laws.Items.{items-encode}
 use Rattle.wide_forms.specs.Laws.LowSurrogates.{low-encode}
-use Rattle.wide_bytes.specs.Bytes.{units_in}
 use Rattle.wide_utf16_to_utf8.specs.Encoded.{EncodedUnits}
-use Rattle.wide_transcode.specs.Encoded.{Encoded}
-use Rattle.wide_bytes.specs.declared.order.BoM.{BoM}
-use Rattle.wide_bytes.proofs.UnitLists.{units_in-half}
+use Rattle.wide_transcode.specs.Lossied.{IsText}
 
 -- Each character has at least a byte for each unit, and a pair two more.
 bytes-character : (c : ℕ) → 2 * length (code_units Utf16 c) ≤ length (utf8_bytes c) + 1
@@ -34,29 +32,18 @@ bytes-characters (c ∷ cs) =
     omega (arith, bytes-character c, bytes-characters cs, length-append (code_units Utf16 c) (encode Utf16 cs), length-append (utf8_bytes c) (utf8 cs))
 
 -- A text never has more characters than units.
-pub few-characters : (cs : List ℕ) → ((k d : ℕ) → k < length cs → IsScalar (get_or cs k d)) → length cs ≤ length (encode Utf16 cs)
+few-characters : (cs : List ℕ) → ((k d : ℕ) → k < length cs → IsScalar (get_or cs k d)) → length cs ≤ length (encode Utf16 cs)
 few-characters cs scalars = omega (arith, low-encode cs scalars)
 
--- The units of a chunk, and the bytes that they come from.
-pub prefix-units : (order : BoM) (bytes us : List ℕ) (h r : ℕ) → take h us ≡ units_in order bytes → r / 2 ≤ h → take (r / 2) us ≡ units_in order (take r bytes)
-prefix-units order bytes us h r same within = shorter (r / 2) h us within ∙ ap (take (r / 2)) same ∙ units_in-half order r bytes
-  where
-    shorter : (i j : ℕ) (vs : List ℕ) → i ≤ j → take i vs ≡ take i (take j vs)
-    shorter zero j vs h = refl
-    shorter (suc i) zero vs h = absurd (omega arith)
-    shorter (suc i) (suc j) [] h = refl
-    shorter (suc i) (suc j) (v ∷ vs) h = ap (λ ws. v ∷ ws) (shorter i j vs (omega arith))
-
--- The number of characters of these units is that of the bytes.
-pub counted : (order : BoM) (bytes us : List ℕ) (h r n : ℕ) → take h us ≡ units_in order bytes → r / 2 ≤ h → n ≡ length (chars Utf16 (take (r / 2) us)) → n ≡ length (chars Utf16 (units_in order (take r bytes)))
-counted order bytes us h r n same within e = e ∙ ap (λ vs. length (chars Utf16 vs)) (prefix-units order bytes us h r same within)
-
-pub encoded-units : {order : BoM} {bytes s t : List ℕ} (us : List ℕ) → us ≡ units_in order bytes → Encoded order bytes s t → EncodedUnits us s t
-encoded-units us same e = record { cs = e.cs; scalars = e.scalars; units = same ∙ e.units; text = e.text }
-
 module _ (us text : List ℕ) (e : EncodedUnits us [] text) where
-  pub length-characters : length (chars Utf16 us) ≡ length e.cs
-  length-characters = ap (λ vs. length (chars Utf16 vs)) e.units ∙ ap length (chars-encode Utf16 e.cs e.scalars)
+  pub encoded-characters : chars Utf16 us ≡ e.cs
+  encoded-characters = ap (λ vs. chars Utf16 vs) e.units ∙ chars-encode Utf16 e.cs e.scalars
+
+  length-characters : length (chars Utf16 us) ≡ length e.cs
+  length-characters = ap length encoded-characters
+
+  pub few-encoded : length (chars Utf16 us) ≤ length us
+  few-encoded = omega (arith, length-characters, ap length e.units, few-characters e.cs e.scalars)
 
   pub well-formed : IsWellFormed Utf16 us
   well-formed = subst (IsWellFormed Utf16) (sym e.units) (IsWellFormed-encode Utf16 e.cs e.scalars)
@@ -64,3 +51,6 @@ module _ (us text : List ℕ) (e : EncodedUnits us [] text) where
   -- If there are as many bytes as units, there are as many characters.
   pub length-ascii : length text ≡ length us → length us ≡ length (chars Utf16 us)
   length-ascii same = omega (arith, length-characters, ap length e.units, ap length e.text, bytes-characters e.cs, few-characters e.cs e.scalars)
+
+  pub text-of_encoded : IsText us (length (chars Utf16 us))
+  text-of_encoded = (e.cs, ap (λ vs. items Utf16 vs) e.units ∙ items-encode Utf16 e.cs e.scalars, length-characters)

@@ -1,7 +1,7 @@
 pub mod Certain
-pub mod Encodings
 pub mod Finish
 pub mod Pending
+pub mod Zeros
 pub mod Lossied
 pub mod LossyEnds
 pub mod Boms

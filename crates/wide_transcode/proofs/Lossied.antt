@@ -1,35 +1,34 @@
 -- The lossy text of units under a policy, prefix by prefix.
-use Rattle.std.proofs.Common.{◌≡◌, ◌≢◌, ◌⊎◌, inl, inr, ℕ, zero, suc, ◌%◌, ◌≤◌, Bool, true, false, eqb, List, [], ◌∷◌, ◌++◌, length, take, drop, refl, sym, ap, ◌∙◌, subst, arith, append_assoc, length-append, length-drop, ne_eqb}
-use Rattle.std.proofs.lemmas.List.{append-nil, take_all}
+use Rattle.std.proofs.Common.{◌≡◌, ◌≢◌, ◌⊎◌, inl, inr, ℕ, ◌+◌, ◌%◌, ◌≤◌, Bool, true, false, List, [], ◌∷◌, ◌++◌, length, take, drop, refl, sym, ap, ◌∙◌, subst, arith, append_assoc, length-append, length-drop}
+use Rattle.std.proofs.lemmas.List.{append-nil, map-append, take_all}
 use Rattle.std.proofs.lemmas.List.Concat.{flat_map-append}
 use Rattle.wide_forms.specs.EncodingForm.{Utf16}
-use Rattle.wide_forms.specs.Segmentation.{Fault}
-use Rattle.wide_forms.specs.Items.{items}
-use Rattle.wide_forms.specs.Lossy.{lossy_after, ends_in_fault}
-use Rattle.wide_forms.specs.Laws.Policies.{lossy_after-append, ends_in_fault-append}
+use Rattle.wide_forms.specs.Segmentation.{Char, Fault}
+use Rattle.wide_forms.specs.Items.{items, IsWellFormed}
+use Rattle.wide_forms.specs.Lossy.{lossy_after, ends_in_fault, replacement}
+use Rattle.wide_forms.specs.Laws.Policies.{lossy_after-append, lossy_after-chars, lossy_after-none_left, lossy_after-replaced, lossy_after-dropped, ends_in_fault-append}
 use Rattle.wide_forms.specs.declared.policy.Policy.{Policy}
-use Rattle.wide_forms.specs.declared.policy.Policy.TheVariants.{Each, Run, Skip}
 use Rattle.wide_forms.specs.Utf8.{utf8, utf8_bytes}
-use Rattle.wide_forms.specs.Laws.Items.{IsCut, items-append, items-nil}
-use Rattle.wide_forms.specs.Laws.Ends.{items-prefix_low, items-prefix_high}
-use Rattle.std.specs.Prelude.{nat_eq}
+use Rattle.wide_forms.specs.Laws.Items.{IsCut, IsWellFormed-of_chars, items-append, items-nil}
+use Rattle.wide_forms.specs.Laws.Ends.{items-append_left, items-prefix_low, items-prefix_high}
+use Rattle.std.specs.Prelude.{map, nat_eq, Option, Some, None}
 use Rattle.std.specs.List.{ends_with}
 use Rattle.wide_bytes.specs.Bytes.{unit_in, units_in}
 use Rattle.wide_utf16_to_utf8.specs.Encoded.{IsUnpaired}
-use Rattle.wide_transcode.specs.Lossied.{Lossied, lossy_text, faulty, fault_text}
+use Rattle.wide_transcode.specs.Lossied.{IsText, Lossied, lossy_text, faulty}
 use Rattle.wide_bytes.specs.declared.order.BoM.{BoM}
-use Rattle.wide_bytes.proofs.Pairs.{units_in-append, length-units_in, ends_in_zero}
-use Rattle.wide_transcode.proofs.Sofar.{no-zero-units, snoc}
+use Rattle.wide_bytes.proofs.Pairs.{units_in-append, ends_in_zero}
+use Rattle.wide_transcode.proofs.Zeros.{no-units, no-zero-units, snoc}
 
-pub joined : (policy : Policy) (was : Bool) (a b : List ℕ) → IsCut Utf16 a b → lossy_text policy was (a ++ b) ≡ lossy_text policy was a ++ lossy_text policy (faulty was a) b
-joined policy was a b cut =
+pub joined : (policy : Policy) (after_fault : Bool) (a b : List ℕ) → IsCut Utf16 a b → lossy_text policy after_fault (a ++ b) ≡ lossy_text policy after_fault a ++ lossy_text policy (faulty after_fault a) b
+joined policy after_fault a b cut =
     let left = items Utf16 a in
     let right = items Utf16 b in
-    ap (λ is. utf8 (lossy_after policy was is)) (items-append Utf16 a b cut) ∙ ap (λ cs. utf8 cs) (lossy_after-append policy was left right)
-    ∙ flat_map-append utf8_bytes (lossy_after policy was left) (lossy_after policy (ends_in_fault was left) right)
+    ap (λ is. utf8 (lossy_after policy after_fault is)) (items-append Utf16 a b cut) ∙ ap (λ cs. utf8 cs) (lossy_after-append policy after_fault left right)
+    ∙ flat_map-append utf8_bytes (lossy_after policy after_fault left) (lossy_after policy (ends_in_fault after_fault left) right)
 
-joined-flag : (was : Bool) (a b : List ℕ) → IsCut Utf16 a b → faulty was (a ++ b) ≡ faulty (faulty was a) b
-joined-flag was a b cut = ap (λ is. ends_in_fault was is) (items-append Utf16 a b cut) ∙ ends_in_fault-append was (items Utf16 a) (items Utf16 b)
+joined-flag : (after_fault : Bool) (a b : List ℕ) → IsCut Utf16 a b → faulty after_fault (a ++ b) ≡ faulty (faulty after_fault a) b
+joined-flag after_fault a b cut = ap (λ is. ends_in_fault after_fault is) (items-append Utf16 a b cut) ∙ ends_in_fault-append after_fault (items Utf16 a) (items Utf16 b)
 
 -- A fault.
 alone : (u : ℕ) (tail : List ℕ) → IsUnpaired u tail → items Utf16 (u ∷ []) ≡ Fault u ∷ []
@@ -70,31 +69,20 @@ nothing-read : (order : BoM) → units_in order [] ≡ []
 unfolding units_in
 nothing-read order = refl
 
-after-nil : (policy : Policy) (was : Bool) → lossy_after policy was [] ≡ []
-after-nil Each was = refl
-after-nil Run true = refl
-after-nil Run false = refl
-after-nil Skip was = refl
+pub nothing-text : (policy : Policy) (after_fault : Bool) (us : List ℕ) → us ≡ [] → lossy_text policy after_fault us ≡ []
+nothing-text policy after_fault us e = ap (λ xs. utf8 (lossy_after policy after_fault xs)) (ap (λ xs. items Utf16 xs) e ∙ items-nil Utf16) ∙ ap (λ xs. utf8 xs) (lossy_after-none_left policy after_fault)
 
-pub nothing-text : (policy : Policy) (was : Bool) (us : List ℕ) → us ≡ [] → lossy_text policy was us ≡ []
-nothing-text policy was us e = ap (λ xs. utf8 (lossy_after policy was xs)) (ap (λ xs. items Utf16 xs) e ∙ items-nil Utf16) ∙ ap (λ xs. utf8 xs) (after-nil policy was)
+nothing-flag : (after_fault : Bool) (us : List ℕ) → us ≡ [] → faulty after_fault us ≡ after_fault
+nothing-flag after_fault us e = ap (λ xs. ends_in_fault after_fault xs) (ap (λ xs. items Utf16 xs) e ∙ items-nil Utf16)
 
-nothing-flag : (was : Bool) (us : List ℕ) → us ≡ [] → faulty was us ≡ was
-nothing-flag was us e = ap (λ xs. ends_in_fault was xs) (ap (λ xs. items Utf16 xs) e ∙ items-nil Utf16)
-
-pub lossied-none : (order : BoM) (policy : Policy) (was : Bool) (rest text : List ℕ) → Lossied order policy [] rest was text was text
-lossied-none order policy was rest text = record {
+pub lossied-none : (order : BoM) (policy : Policy) (after_fault : Bool) (rest text : List ℕ) → Lossied order policy [] rest after_fault text after_fault text
+lossied-none order policy after_fault rest text = record {
   even = refl;
-  text = sym (append-nil text) ∙ ap (λ t. text ++ t) (sym (nothing-text policy was (units_in order []) (nothing-read order)));
-  flag = sym (nothing-flag was (units_in order []) (nothing-read order));
+  text = sym (append-nil text) ∙ ap (λ t. text ++ t) (sym (nothing-text policy after_fault (units_in order []) (nothing-read order)));
+  flag = sym (nothing-flag after_fault (units_in order []) (nothing-read order));
   cut = λ more prefix back h l e f pair. absurd (omega (arith, ap length (sym (nothing-read order) ∙ e), length-append prefix (h ∷ [])));
   no_zero = λ e. ap (λ us. ends_with nat_eq us (0 ∷ [])) (nothing-read order);
 }
-
-no-units : (order : BoM) (bytes : List ℕ) → length bytes % 2 ≡ 0 → units_in order bytes ≡ [] → bytes ≡ []
-no-units order [] even e = refl
-no-units order (a ∷ []) even e = absurd (omega arith)
-no-units order (a ∷ b ∷ bytes) even e = let long = length-units_in order (a ∷ b ∷ bytes) in absurd (omega (arith, long, ap length e))
 
 -- The last element of a list is that of its end.
 ends-beyond : (a b : List ℕ) → b ≢ [] → ends_with nat_eq b (0 ∷ []) ≡ false → ends_with nat_eq (a ++ b) (0 ∷ []) ≡ false
@@ -106,8 +94,8 @@ ends-beyond a b some none = elim (snoc b) [
       )
 ]
 
-pub lossied-then : {order : BoM} {policy : Policy} {was mid is : Bool} {a b rest s t u : List ℕ} → Lossied order policy a (b ++ rest) was s mid t → Lossied order policy b rest mid t is u → Lossied order policy (a ++ b) rest was s is u
-lossied-then {order} {policy} {was} {mid} {is} {a} {b} {rest} {s} {t} {u} x y =
+pub lossied-then : {order : BoM} {policy : Policy} {after_fault after_fault' after_fault'' : Bool} {a b rest s t u : List ℕ} → Lossied order policy a (b ++ rest) after_fault s after_fault' t → Lossied order policy b rest after_fault' t after_fault'' u → Lossied order policy (a ++ b) rest after_fault s after_fault'' u
+lossied-then {order} {policy} {after_fault} {after_fault'} {after_fault''} {a} {b} {rest} {s} {t} {u} x y =
     let left = units_in order a in
     let right = units_in order b in
     let units : units_in order (a ++ b) ≡ left ++ right = units_in-append order a b x.even in
@@ -117,9 +105,9 @@ lossied-then {order} {policy} {was} {mid} {is} {a} {b} {rest} {s} {t} {u} x y =
     let between : IsCut Utf16 left right = cut-shorter left right (units_in order (rest ++ [])) (first []) in
     record {
       even = omega (arith, length-append a b, x.even, y.even);
-      text = y.text ∙ ap (λ bs. bs ++ lossy_text policy mid right) x.text ∙ append_assoc s (lossy_text policy was left) (lossy_text policy mid right)
-          ∙ ap (λ bs. s ++ bs) (ap (λ m. lossy_text policy was left ++ lossy_text policy m right) x.flag ∙ sym (joined policy was left right between) ∙ ap (λ us. lossy_text policy was us) (sym units));
-      flag = y.flag ∙ ap (λ m. faulty m right) x.flag ∙ sym (joined-flag was left right between) ∙ ap (λ us. faulty was us) (sym units);
+      text = y.text ∙ ap (λ bs. bs ++ lossy_text policy after_fault' right) x.text ∙ append_assoc s (lossy_text policy after_fault left) (lossy_text policy after_fault' right)
+          ∙ ap (λ bs. s ++ bs) (ap (λ m. lossy_text policy after_fault left ++ lossy_text policy m right) x.flag ∙ sym (joined policy after_fault left right between) ∙ ap (λ us. lossy_text policy after_fault us) (sym units));
+      flag = y.flag ∙ ap (λ m. faulty m right) x.flag ∙ sym (joined-flag after_fault left right between) ∙ ap (λ us. faulty after_fault us) (sym units);
       cut = λ more. subst (λ us. IsCut Utf16 us (units_in order (rest ++ more))) (sym units) (cut-both (units_in order a) (units_in order b) (units_in order (rest ++ more)) (first more) (y.cut more));
       no_zero = λ none. elim (empty-or (units_in order b)) [
         | inl empty ↦ (
@@ -132,16 +120,21 @@ lossied-then {order} {policy} {was} {mid} {is} {a} {b} {rest} {s} {t} {u} x y =
     }
 
 -- A fault.
-pub nonzero : (u : ℕ) → u ≢ 0 → eqb 0 u ≡ false
-nonzero zero some = absurd (some refl)
-nonzero (suc u) some = ne_eqb 0 (suc u) (λ (f : 0 ≡ suc u). omega arith)
-
 pub first-unit : (order : BoM) (a b u : ℕ) (bytes tail : List ℕ) → units_in order (a ∷ b ∷ bytes) ≡ u ∷ tail → (unit_in order a b ≡ u) × (units_in order bytes ≡ tail)
 unfolding units_in
 first-unit order a b u bytes tail e = (cc, cc)
 
-pub fault_text-text : (policy : Policy) (was : Bool) (u : ℕ) (tail : List ℕ) → IsUnpaired u tail → lossy_text policy was (u ∷ []) ≡ fault_text policy was u
-fault_text-text policy was u tail unpaired = ap (λ is. utf8 (lossy_after policy was is)) (alone u tail unpaired)
+-- The UTF-8 of what a policy yields for a fault.
+abbrev pub fault_text : Option ℕ → List ℕ
+fault_text None = []
+fault_text (Some c) = utf8 (c ∷ [])
+
+pub fault_text-text : (policy : Policy) (after_fault : Bool) (u : ℕ) (tail : List ℕ) → IsUnpaired u tail → lossy_text policy after_fault (u ∷ []) ≡ fault_text (replacement policy after_fault)
+fault_text-text policy after_fault u tail unpaired = ap (λ is. utf8 (lossy_after policy after_fault is)) (alone u tail unpaired) ∙ by_replacement (replacement policy after_fault) refl
+  where
+    by_replacement : (r : Option ℕ) → replacement policy after_fault ≡ r → utf8 (lossy_after policy after_fault (Fault u ∷ [])) ≡ fault_text r
+    by_replacement None e = ap (λ cs. utf8 cs) (lossy_after-dropped policy after_fault u [] e ∙ lossy_after-none_left policy true)
+    by_replacement (Some c) e = ap (λ cs. utf8 cs) (lossy_after-replaced policy after_fault u c [] e ∙ ap (λ cs. c ∷ cs) (lossy_after-none_left policy true))
 
 -- Units that do not end in two zero bytes.
 pub block-no_zero : (order : BoM) (bytes : List ℕ) (r : ℕ) → r ≤ length bytes → length (take r bytes) % 2 ≡ 0 → (r ≡ length bytes → ends_with nat_eq bytes (0 ∷ 0 ∷ []) ≡ false) → drop r bytes ≡ [] → ends_with nat_eq (units_in order (take r bytes)) (0 ∷ []) ≡ false
@@ -153,3 +146,23 @@ block-no_zero order bytes r within even none left =
     whole [] e n = ap (λ us. ends_with nat_eq us (0 ∷ [])) (nothing-read order)
     whole (a ∷ []) e n = absurd (omega arith)
     whole (a ∷ b ∷ bs) e n = no-zero-units order [] (a ∷ b ∷ bs) refl e (omega arith) n
+
+-- ---- text without faults
+
+pub text-well : (us : List ℕ) (n : ℕ) → IsText us n → IsWellFormed Utf16 us
+text-well us n text = IsWellFormed-of_chars Utf16 us text.0 text.1
+
+pub text-then : (a b : List ℕ) (m n : ℕ) → IsText a m → IsText b n → IsText (a ++ b) (m + n)
+text-then a b m n x y =
+    (x.0 ++ y.0, items-append_left Utf16 a b (text-well a m x) ∙ ap (λ is. is ++ items Utf16 b) x.1 ∙ ap (λ is. map Char x.0 ++ is) y.1 ∙ sym (map-append Char x.0 y.0), omega (arith, x.2, y.2, length-append x.0 y.0))
+
+-- No fault was read last.
+pub text-flag : (us : List ℕ) (n : ℕ) → IsText us n → false ≡ faulty false us
+text-flag us n text = sym (ap (λ is. ends_in_fault false is) text.1 ∙ by_chars text.0)
+  where
+    by_chars : (cs : List ℕ) → ends_in_fault false (map Char cs) ≡ false
+    by_chars [] = refl
+    by_chars (c ∷ cs) = by_chars cs
+
+pub text-lossy : (policy : Policy) (us : List ℕ) (n : ℕ) (text : IsText us n) → lossy_text policy false us ≡ utf8 text.0
+text-lossy policy us n text = ap (λ is. utf8 (lossy_after policy false is)) text.1 ∙ ap (λ cs. utf8 cs) (lossy_after-chars policy false text.0)

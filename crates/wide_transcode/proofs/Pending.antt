@@ -7,7 +7,22 @@ use Rattle.wide_transcode.specs.Encoded.{IsCertainFault, IsCutShort, StopsAt, Is
 use Rattle.wide_bytes.specs.declared.order.BoM.{BoM}
 use Rattle.wide_bytes.specs.declared.order.BoM.TheVariants.{Little, Big}
 use Rattle.wide_utf16_to_utf8.proofs.UnitEncodings.{drop-split}
-use Rattle.wide_transcode.proofs.Encodings.{certain-high}
+
+-- ---- faults, whatever follows them
+
+pub certain-low : (order : BoM) (a b u : ℕ) (bs : List ℕ) → u ≡ unit_in order a b → 0xdc00 ≤ u → u < 0xe000 → IsCertainFault order (a ∷ b ∷ bs) u
+unfolding units_in
+certain-low order a b u bs is from to = record { with = λ more. (units_in order (bs ++ more), ap (λ v. v ∷ units_in order (bs ++ more)) (sym is), inl (from, omega arith)) }
+
+pub certain-high : (order : BoM) (a b d e h l : ℕ) (bs : List ℕ) → h ≡ unit_in order a b → l ≡ unit_in order d e → 0xd800 ≤ h → h < 0xdc00 → (0xdc00 ≤ l → 0xe000 ≤ l) → IsCertainFault order (a ∷ b ∷ d ∷ e ∷ bs) h
+unfolding units_in
+certain-high order a b d e h l bs is_h is_l from to apart = record {
+  with = λ more. (
+    unit_in order d e ∷ units_in order (bs ++ more),
+    ap (λ v. v ∷ unit_in order d e ∷ units_in order (bs ++ more)) (sym is_h),
+    inr ((from, omega arith), λ m back same low. let f : m ≡ l = cc in omega arith),
+  );
+}
 
 -- A fault before some bytes is also one if more bytes follow.
 pub certain-append : {order : BoM} {bytes : List ℕ} {u : ℕ} (more : List ℕ) → IsCertainFault order bytes u → IsCertainFault order (bytes ++ more) u

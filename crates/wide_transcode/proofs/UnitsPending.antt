@@ -1,29 +1,49 @@
--- From units back to bytes: encodings, and what stops them.
-use Rattle.std.proofs.Common.{◌≡◌, ℕ, zero, suc, ◌*◌, ◌/◌, ◌≤◌, inl, inr, List, [], ◌∷◌, Option, Some, None, length, take, drop, refl, sym, ap, ◌∙◌, subst, arith, length-take-le}
+-- From units back to bytes: their text, and what stops it.
+use Rattle.std.proofs.Common.{◌≡◌, ℕ, zero, suc, ◌*◌, ◌/◌, ◌%◌, ◌≤◌, false, inl, inr, List, [], ◌∷◌, ◌++◌, Option, Some, None, length, take, drop, refl, sym, ap, ◌∙◌, subst, arith, length-take, length-take-le}
 use Rattle.wide_forms.specs.EncodingForm.{Utf16, IsLowSurrogate}
 use Rattle.wide_bytes.specs.Bytes.{unit_in, units_in}
 use Rattle.wide_bytes.specs.declared.order.BoM.{BoM}
 use Rattle.wide_bytes.proofs.UnitLists.{units_in-take, units_in-drop, units_in-half}
-use Rattle.wide_utf16_to_utf8.specs.Encoded.{EncodedUnits, BeginsWithFault, AreCutShort, StopsBefore}
-use Rattle.wide_transcode.specs.Encoded.{Encoded, IsCertainFault, IsCutShort, StopsAt}
-use Rattle.wide_transcode.proofs.Encodings.{certain-low, certain-high}
+use Rattle.wide_utf16_to_utf8.specs.Encoded.{BeginsWithFault, AreCutShort, EncodedUnits, StopsBefore}
+use Rattle.wide_transcode.specs.Encoded.{IsCertainFault, IsCutShort, StopsAt}
+use Rattle.wide_transcode.specs.Lossied.{IsText, Lossied}
+use Rattle.wide_transcode.proofs.Pending.{certain-low, certain-high}
+use Rattle.wide_transcode.proofs.Lossied.{block-no_zero, text-flag, text-well}
+use Rattle.wide_transcode.proofs.Certain.{valid-text}
+use Rattle.wide_forms.specs.Items.{chars}
+use Rattle.wide_forms.specs.Utf8.{utf8}
+use Rattle.wide_transcode.proofs.Characters.{encoded-characters, few-encoded, text-of_encoded}
+use Rattle.wide_forms.specs.Laws.Ends.{IsCut-after}
+use Rattle.wide_forms.specs.declared.policy.Policy.TheVariants.{Each}
+use Rattle.std.specs.Prelude.{nat_eq}
+use Rattle.std.specs.List.{ends_with}
 
--- ---- encodings
+-- ---- text
 
-pub encoded-bytes : (order : BoM) (bytes : List ℕ) (r n : ℕ) {s t : List ℕ} → 2 * r ≤ n → n ≤ length bytes → EncodedUnits (take r (take (n / 2) (units_in order bytes))) s t → Encoded order (take (2 * r) bytes) s t
-encoded-bytes order bytes r n {s} {t} low high e = record {
-  cs = e.cs;
-  scalars = e.scalars;
-  even = omega (arith, length-take-le (2 * r) bytes (omega arith));
-  units = units_in-take order r bytes ∙ shorter r (n / 2) (units_in order bytes) (omega arith) ∙ e.units;
-  text = e.text;
-}
-  where
-    shorter : (i j : ℕ) (us : List ℕ) → i ≤ j → take i us ≡ take i (take j us)
-    shorter zero j us h = refl
-    shorter (suc i) zero us h = absurd (omega arith)
-    shorter (suc i) (suc j) [] h = refl
-    shorter (suc i) (suc j) (u ∷ us) h = ap (λ vs. u ∷ vs) (shorter i j us (omega arith))
+pub shorter : (i j : ℕ) (us : List ℕ) → i ≤ j → take i (take j us) ≡ take i us
+shorter zero j us h = refl
+shorter (suc i) zero us h = absurd (omega arith)
+shorter (suc i) (suc j) [] h = refl
+shorter (suc i) (suc j) (u ∷ us) h = ap (λ vs. u ∷ vs) (shorter i j us (omega arith))
+
+-- Characters are lossy text in which nothing is replaced.
+pub encoded-bytes : (order : BoM) (bytes us text : List ℕ) (r n : ℕ) → us ≡ units_in order bytes → 2 * r ≤ length bytes → EncodedUnits (take r us) [] text → n ≡ length (chars Utf16 (take r us)) → (2 * r ≡ length bytes → ends_with nat_eq bytes (0 ∷ 0 ∷ []) ≡ false)
+    → Lossied order Each (take (2 * r) bytes) (drop (2 * r) bytes) false [] false text × IsText (units_in order (take (2 * r) bytes)) n × (n ≤ r)
+encoded-bytes order bytes us text r n same within e count none =
+    let vs = units_in order (take (2 * r) bytes) in
+    let prefix : take r us ≡ vs = ap (λ xs. take r xs) same ∙ sym (units_in-take order r bytes) in
+    let is_text : IsText vs n = subst (λ xs. IsText xs n) prefix (subst (λ m. IsText (take r us) m) (sym count) (text-of_encoded (take r us) text e)) in
+    let even : length (take (2 * r) bytes) % 2 ≡ 0 = omega (arith, length-take-le (2 * r) bytes within) in (
+      record {
+        even = even;
+        text = e.text ∙ ap (λ cs. utf8 cs) (sym (encoded-characters (take r us) text e)) ∙ ap (λ xs. utf8 (chars Utf16 xs)) prefix ∙ valid-text Each false vs (text-well vs n is_text);
+        flag = text-flag vs n is_text;
+        cut = λ more. IsCut-after Utf16 vs (units_in order (drop (2 * r) bytes ++ more)) (text-well vs n is_text);
+        no_zero = λ left. block-no_zero order bytes (2 * r) within even none left;
+      },
+      is_text,
+      omega (arith, few-encoded (take r us) text e, count, length-take r us),
+    )
 
 -- ---- where encoding stops
 

@@ -1,5 +1,5 @@
 -- What transcoding chunk by chunk does, after the BOM and in a known byte order.
-use Rattle.std.specs.Prelude.{◌≡◌, ℕ, ◌<◌, ◌≤◌, ◌^◌, ◌⊎◌, Bool, true, false, List, [], ◌∷◌, length, take, Option, Some, None, Result, Ok, Err, if◌then◌else◌}
+use Rattle.std.specs.Prelude.{◌≡◌, ℕ, ◌%◌, ◌<◌, ◌≤◌, ◌^◌, ◌⊎◌, Bool, true, false, List, [], ◌∷◌, length, take, Option, Some, None, Result, Ok, Err, if◌then◌else◌}
 use Rattle.std.specs.Io.KnownBytes.{IsAtEnd}
 use Rattle.wide_forms.specs.EncodingForm.{Utf16, IsHighSurrogate}
 use Rattle.wide_forms.specs.Items.{items, leading_characters, first_fault}
@@ -7,6 +7,8 @@ use Rattle.wide_forms.specs.Lossy.{lossy_by}
 use Rattle.wide_forms.specs.Utf8.{utf8}
 use Rattle.wide_forms.specs.declared.policy.Policy.{Policy}
 use Rattle.wide_bytes.specs.Bytes.{units_in, is_odd, without_last_zero}
+use Rattle.wide_bytes.specs.Put.{IsBeginningOf}
+use Rattle.wide_transcode.specs.Lossied.{lossy_text}
 use Rattle.wide_transcode.specs.Run.{ReportsFault}
 use Rattle.wide_transcode.specs.Transcoded.{Transcoded, ending_of}
 use Rattle.wide_bytes.specs.declared.order.BoM.{BoM}
@@ -52,7 +54,8 @@ Starts (Err (Utf16Fault index item unit)) bytes chunk left failed ended = ⊥
 Starts (Err OddLength) bytes chunk left failed ended = ⊥
 Starts (Err Write) bytes chunk left failed ended = ⊥
 
--- The result at the end of the input, where `rest` was not encoded, after `offset` units, which are `number` characters.
+-- The result at the end of the input, where `rest` was not encoded, after `offset` units, which are `number`
+-- characters.
 abbrev pub Finishes : {T : Type 0} → Result T TranscodeError → BoM → List ℕ → ℕ → ℕ → Type 0
 Finishes (Ok u) order rest offset number = (rest ≡ []) ⊎ ((length rest ≡ 2) × (units_in order rest ≡ 0 ∷ []))
 Finishes (Err OddLength) order rest offset number = length rest ≡ 1
@@ -60,6 +63,21 @@ Finishes (Err (Utf16Fault index item unit)) order rest offset number = (index �
 Finishes (Err OutOfMemory) order rest offset number = (2 ^ 64 ≤ offset) × (u : ℕ) × (units_in order rest ≡ u ∷ []) × IsHighSurrogate Utf16 u
 Finishes (Err Read) order rest offset number = ⊥
 Finishes (Err Write) order rest offset number = ⊥
+
+-- The result at the end of the input under a policy, where `len` bytes were left, their lossy text is `text`, and `last`
+-- was written of it.
+abbrev pub FinishesLossy : {T : Type 0} → Result T TranscodeError → List ℕ → List ℕ → ℕ → Type 0
+FinishesLossy (Ok u) last text len = (last ≡ text) × (len % 2 ≡ 0)
+FinishesLossy (Err OddLength) last text len = (last ≡ text) × (len % 2 ≡ 1)
+FinishesLossy (Err Write) last text len = IsBeginningOf last text
+FinishesLossy (Err Read) last text len = ⊥
+FinishesLossy (Err OutOfMemory) last text len = ⊥
+FinishesLossy (Err (Utf16Fault index item unit)) last text len = ⊥
+
+-- The result at the end of the input, under a policy or strictly if there is none, where `last` was written there.
+abbrev pub FinishesUnder : {T : Type 0} → Result T TranscodeError → BoM → Option Policy → Bool → List ℕ → ℕ → ℕ → List ℕ → Type 0
+FinishesUnder r order None after_fault rest offset number last = (last ≡ []) × Finishes r order rest offset number
+FinishesUnder r order (Some policy) after_fault rest offset number last = FinishesLossy r last (lossy_text policy after_fault (units_after order rest)) (length rest)
 
 -- The error for a fault after `offset` units, which are `number` characters, or `OutOfMemory` if the index does not fit
 -- into 64 bits.

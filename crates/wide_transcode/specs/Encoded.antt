@@ -1,20 +1,9 @@
--- What encoding a prefix of some bytes yields: the UTF-8 of their units, and where it stopped.
-use Rattle.std.specs.Prelude.{◌≡◌, ℕ, ◌%◌, ◌⊎◌, List, [], ◌∷◌, ◌++◌, length, Option, Some, None}
-use Rattle.std.specs.Char.{IsScalar}
-use Rattle.std.specs.List.{All}
-use Rattle.wide_forms.specs.EncodingForm.{Utf16, encode, IsHighSurrogate}
-use Rattle.wide_forms.specs.Utf8.{utf8}
+-- Where encoding a prefix of some bytes stopped.
+use Rattle.std.specs.Prelude.{◌≡◌, ℕ, ◌⊎◌, List, [], ◌∷◌, ◌++◌, Option, Some, None}
+use Rattle.wide_forms.specs.EncodingForm.{Utf16, IsHighSurrogate}
 use Rattle.wide_utf16_to_utf8.specs.Encoded.{IsUnpaired}
 use Rattle.wide_bytes.specs.Bytes.{unit_in, units_in}
 use Rattle.wide_bytes.specs.declared.order.BoM.{BoM}
-
--- The bytes are whole units that encode some characters, and `after` is `before` with the UTF-8 of these appended.
-pub record Encoded (order : BoM) (bytes before after : List ℕ) : Type 0 where
-  pub cs : List ℕ
-  pub scalars : All IsScalar cs
-  pub even : length bytes % 2 ≡ 0
-  pub units : units_in order bytes ≡ encode Utf16 cs
-  pub text : after ≡ before ++ utf8 cs
 
 -- The first unit of the bytes is an unpaired surrogate, whatever follows the bytes.
 pub record IsCertainFault (order : BoM) (bytes : List ℕ) (u : ℕ) : Type 0 where

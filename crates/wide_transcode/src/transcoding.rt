@@ -12,7 +12,7 @@ use wide_bytes::{BoM, ByteSink, ByteSource, byte_order, without_bom};
 use wide_error::TranscodeError;
 use wide_forms::Policy;
 
-// Transcodes under the policy, or strictly if there is none.
+// Transcodes under the policy, and strictly without a policy.
 fn transcode_under<S: ByteSource, K: ByteSink>(
     source: &mut S,
     sink: &mut K,

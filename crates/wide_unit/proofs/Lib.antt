@@ -14,6 +14,7 @@ pub mod Printed
 pub mod Kept
 pub mod Debugged
 mod Alone
+pub mod StoredUnits
 mod SameLanes
 mod Prefixes
 mod Masks

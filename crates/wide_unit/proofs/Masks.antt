@@ -2,14 +2,13 @@
 use Rattle.std.proofs.Common.{◌≡◌, ◌≢◌, ℕ, suc, zero, ◌+◌, ◌-◌, ◌*◌, ◌/◌, ◌%◌, ◌^◌, ◌<◌, ◌≤◌, Bool, true, false, not, cond, eqb, List, [], ◌∷◌, ◌++◌, length, get_or, map, take, drop, replicate, bit_and, refl, sym, ap, ◌∙◌, subst, arith, w16, w32, Fits}
 use Rattle.std.proofs.lemmas.List.{take_all}
 use Rattle.std.proofs.lemmas.Bool.{cases_lt}
-use Rattle.std.proofs.Common.{length-drop, length-take, get_or-take, get_or-drop, ne_eqb, ⊎_elim, zero-mul}
+use Rattle.std.proofs.Common.{length-drop, length-take, get_or-take, get_or-drop, ne_eqb, ⊎_elim}
 use Rattle.std.proofs.lemmas.List.Sums.{prefix_len_is, prefix_len-le-length, prefix_len_passes, prefix_len_stops}
 use Rattle.std.proofs.lemmas.Simd.{leading_from_mask_l, trailing_mask_l, zip2_splat, zip2_splat_left, bitmask_splat, tops_compared, mask_l-mod, map-map, Each1-from_get_or}
 use Rattle.std.proofs.lemmas.List.{length-map}
 use Rattle.std.proofs.lemmas.Nat.Bits.{and_high_mask}
 use lib.Lanes.{Each1, sel_l}
 use lib.Dec.{ltb}
-use Rattle.std.proofs.lemmas.Grind.{common_steps}
 use Rattle.std.proofs.lemmas.List.Folds.{prefix_len-append}
 use Rattle.std.proofs.lemmas.List.{take-append-drop}
 use lib.Count.{count_trailing_zeros}

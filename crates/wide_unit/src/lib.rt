@@ -3,6 +3,7 @@
 #![tactic(auto)]
 
 mod any_units;
+mod chars;
 mod compare;
 mod first;
 mod lanes;
@@ -18,6 +19,7 @@ mod utf8;
 mod validation;
 
 pub use any_units::AnyUnits;
+pub use chars::{char_of, put_char};
 pub use compare::{common_prefix, order_of_units, same_units};
 pub use first::first_of;
 pub use lanes::{first_no_scalar, first_surrogate};
@@ -28,5 +30,6 @@ pub use range::range_check;
 pub use split::{split_first, split_last};
 pub use unit::Unit;
 pub use utf8::{length_as_utf16, length_as_utf32, next_code_point};
-pub use validation::{FirstFault, check};
+pub use validation::{FirstFault, check, find_fault, valid_len};
 pub use wide_forms::Policy;
+pub use wide_repair::Progress;

@@ -1,22 +1,23 @@
 //! The code units of UTF-16 and of UTF-32.
-ghost use Rattle.std.specs.Prelude.{◌≡◌, ◌≢◌, ◌≤◌, ◌<◌, ℕ, ◌↔◌, ◌∷◌, [], List, IsTrue, MatchOption, length, map, take, drop, refl};
+ghost use Rattle.std.specs.Prelude.{◌≡◌, ◌≢◌, ◌≤◌, ◌<◌, ℕ, ◌↔◌, ◌∷◌, [], List, IsTrue, MatchOption, length, map, min, take, drop, refl};
 ghost use Rattle.std.specs.Char.{IsScalar};
 ghost use Rattle.std.specs.Str.{chars};
 ghost use Rattle.wide_forms.specs.EncodingForm.{EncodingForm, Utf16, Utf32, code_units, encode, IsFault, IsPair, IsCodeUnit, IsHighSurrogate, IsLowSurrogate};
 ghost use Rattle.wide_forms.specs.Segmentation.{Item, Char, IsSegmentation};
 ghost use Rattle.wide_forms.specs.Items.{items, characters, IsWellFormed, BeginsWithChars};
-ghost use Rattle.wide_forms.specs.Lossy.{lossy};
+ghost use Rattle.wide_forms.specs.Lossy.{ends_in_fault, lossy, lossy_after};
 ghost use Rattle.wide_unit.specs.Unit.{numbers_of};
 ghost use Rattle.wide_unit.specs.AnyUnits.{any_form, any_numbers};
 ghost use Rattle.wide_forms.specs.Searches.{IsFirstOffset, first_offset, is_unit};
 ghost use Rattle.std.proofs.Common.{rules};
 ghost use Rattle.wide_forms.specs.Laws.Forms.{code_units-no_low_first};
-ghost use Rattle.wide_forms.specs.Laws.Items.{items-code_units, segmentation-unique};
+ghost use Rattle.wide_forms.specs.Laws.Items.{IsCut, items-code_units, segmentation-unique};
 
 use crate::any_units::AnyUnits;
 use crate::lanes::{first_no_scalar, first_same_16, first_same_32, first_surrogate, leading_pairs};
 use crate::utf8::{length_as_utf16, length_as_utf32};
-use wide_repair::{char_count, repair_16, repair_32};
+use wide_forms::Policy;
+use wide_repair::{Progress, char_count, lossy_prefix_16, lossy_prefix_32, repair_16, repair_32};
 
 /// A code unit: `u16` for UTF-16, `u32` for UTF-32 (Unicode Standard, D77).
 ///
@@ -109,12 +110,36 @@ pub trait Unit: Copy {
         ensures units { map number (take (length units.now) repaired.new) ≡ encode form (lossy (items form (map number units.now))) }
         ensures beyond { drop (length units.now) repaired.new ≡ drop (length units.now) repaired.old };
 
+    /// Writes the lossy text of a prefix of units under a policy (Unicode Standard, section 3.9, "U+FFFD Substitution
+    /// of Maximal Subparts") as well-formed units at the beginning of `text`. It reads all units if `text` is as long,
+    /// and otherwise as many as `text` has, or one fewer. If `after_fault` is true, a fault precedes the units. The
+    /// units of `text` after those written may be overwritten. It is vectorized in UTF-16.
+    ///
+    /// # Requires
+    ///
+    /// `text` has at least two units, or is as long as `units`.
+    fn lossy_prefix(
+        units: &[Self],
+        policy: Policy,
+        after_fault: bool,
+        text: &mut [Self],
+    ) -> Progress
+        requires { min (length units.now) 2 ≤ length text.old }
+        ensures read { result.read ≤ length units.now }
+        ensures all { length units.now ≤ length text.old → result.read ≡ length units.now }
+        ensures some { 0 < length units.now → 0 < result.read }
+        ensures written { result.written ≤ result.read }
+        ensures space { result.written ≤ length text.new }
+        ensures cut { IsCut form (map number (take result.read units.now)) (map number (drop result.read units.now)) }
+        ensures text { map number (take result.written text.new) ≡ encode form (lossy_after policy after_fault (items form (map number (take result.read units.now)))) }
+        ensures state { result.after_fault ≡ ends_in_fault after_fault (items form (map number (take result.read units.now))) };
+
     /// Returns the units as those of their width, for code that differs by width.
     fn as_any(units: &[Self]) -> AnyUnits<'_>
         ensures form { any_form result ≡ form }
         ensures numbers { any_numbers result ≡ map number units.now };
 
-    /// Returns true for every unit. A call tells the verifier that the number is at most FFFF in UTF-16, or FFFFFFFF in
+    /// Returns true for every unit. A call gives a proof that the number is at most FFFF in UTF-16, or FFFFFFFF in
     /// UTF-32.
     fn in_range(self) -> bool
         ensures answer { IsTrue result }
@@ -244,6 +269,15 @@ impl Unit for u16 {
         repair_16(units, repaired);
     }
 
+    fn lossy_prefix(
+        units: &[u16],
+        policy: Policy,
+        after_fault: bool,
+        text: &mut [u16],
+    ) -> Progress {
+        lossy_prefix_16(units, policy, after_fault, text)
+    }
+
     #[inline]
     fn as_any(units: &[u16]) -> AnyUnits<'_> {
         AnyUnits::U16(units)
@@ -341,6 +375,15 @@ impl Unit for u32 {
 
     fn repair(units: &[u32], repaired: &mut [u32]) {
         repair_32(units, repaired);
+    }
+
+    fn lossy_prefix(
+        units: &[u32],
+        policy: Policy,
+        after_fault: bool,
+        text: &mut [u32],
+    ) -> Progress {
+        lossy_prefix_32(units, policy, after_fault, text)
     }
 
     #[inline]

@@ -1,5 +1,5 @@
 //! Checks whether units are well formed.
-ghost use Rattle.std.specs.Prelude.{◌<◌, ◌≤◌, ◌↔◌, length, map, IsNone, IfSome, IsOk, OnOk, IfErr};
+ghost use Rattle.std.specs.Prelude.{ℕ, ◌<◌, ◌≤◌, ◌↔◌, length, map, take, IsNone, IfSome, IsOk, OnOk, IfErr};
 ghost use Rattle.wide_forms.specs.Items.{IsWellFormed, IsFirstFault, BeginsWithChars};
 ghost use Rattle.wide_forms.specs.Offsets.{text_before};
 
@@ -44,9 +44,10 @@ pub struct FirstFault<C> {
     pub unit: C,
 }
 
-// Returns the index of the first fault, in units, and its unit. Units without surrogates and surrogate pairs are
-// checked in vectorized steps, and the rest item by item.
-fn find_fault<C: Unit>(units: &[C]) -> Option<(usize, C)>
+/// Returns the index of the first fault (Unicode Standard, D84), in units, and its unit, or `None` if the units are
+/// well formed (D85). Units that are no surrogates, and surrogate pairs, are checked in vectorized steps, and the rest
+/// item by item.
+pub fn find_fault<C: Unit>(units: &[C]) -> Option<(usize, C)>
     ensures some { IfSome result (λ fault. IsFirstFault C.form (map C.number units.now) fault.0 (text_before C.form C.number units.now fault.0) (C.number fault.1)) }
     ensures within { IfSome result (λ fault. fault.0 < length units.now) }
     ensures none { IsNone result ↔ IsWellFormed C.form (map C.number units.now) }
@@ -59,6 +60,19 @@ fn find_fault<C: Unit>(units: &[C]) -> Option<(usize, C)>
         rest = tail;
     }
     None
+}
+
+/// Returns how many units precede the first fault, or their total number if they are well formed (Unicode Standard,
+/// D85).
+pub fn valid_len<C: Unit>(units: &[C]) -> usize
+    ensures within { result ≤ length units.now }
+    ensures valid { IsWellFormed C.form (map C.number (take result units.now)) }
+    ensures fault { result < length units.now → (item unit : ℕ) × IsFirstFault C.form (map C.number units.now) result item unit }
+{
+    match find_fault(units) {
+        Some((index, _unit)) => index,
+        None => units.len(),
+    }
 }
 
 /// Checks whether the units are well formed (Unicode Standard, D85). It reads them once. If there is a fault, it reads

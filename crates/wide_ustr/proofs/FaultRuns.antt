@@ -1,10 +1,11 @@
 -- Runs of faults at the ends of a list of items, and the lossy text after them and before them.
 use Rattle.std.proofs.Common.{◌≡◌, ℕ, List, [], ◌∷◌, ◌++◌, inl, inr, refl, sym, ◌∙◌, ap, append_assoc}
-use Rattle.std.specs.Prelude.{map}
+use Rattle.std.specs.Prelude.{◌⊎◌, map, is_some, true, false, Option, Some, None, MatchOption}
 use Rattle.std.proofs.lemmas.List.{append-nil, map_push}
 use Rattle.wide_forms.specs.Segmentation.{Item, Char, Fault}
-use Rattle.wide_forms.specs.Lossy.{lossy_runs, lossy_by}
-use Rattle.wide_forms.specs.Laws.Policies.{lossy_by-at_char, runs-at_char, runs-of_run}
+use Rattle.wide_forms.specs.Items.{characters}
+use Rattle.wide_forms.specs.Lossy.{lossy_runs, lossy_by, lossy_after, ends_in_fault, replacement}
+use Rattle.wide_forms.specs.Laws.Policies.{characters-append, lossy_by-at_char, runs-at_char, runs-of_run, lossy_after-append, lossy_after-char, lossy_after-dropped, lossy_after-none, lossy_after-none_left, lossy_after-replaced, ends_in_fault-append}
 use Rattle.wide_forms.specs.declared.policy.Policy.{Policy}
 use Rattle.wide_forms.specs.declared.policy.Policy.TheVariants.{Each, Run, Skip}
 use Rattle.wide_ustr.specs.LossyWith.{BeginsPastFaults, EndsBeforeFaults}
@@ -52,38 +53,63 @@ runs_first is rest u begins =
           ∙ ap (λ xs. 0xFFFD ∷ lossy_runs xs) (sym some.2)
     ]
 
-run_end : (run : List ℕ) (u : ℕ) → lossy_runs (map Fault (run ++ u ∷ [])) ≡ 0xFFFD ∷ []
-run_end [] u = refl
-run_end (v ∷ run) u = runs-of_run v (run ++ u ∷ [])
-
-joined_end : (is rest : List Item) (run : List ℕ) (u : ℕ) → is ≡ rest ++ map Fault run → is ++ Fault u ∷ [] ≡ rest ++ map Fault (run ++ u ∷ [])
-joined_end is rest run u e =
-    ap (λ xs. xs ++ Fault u ∷ []) e ∙ append_assoc rest (map Fault run) (Fault u ∷ []) ∙ ap (λ xs. rest ++ xs) (sym (map_push Fault run u))
-
--- The run of faults at the end becomes one U+FFFD.
-pub runs_last : (is rest : List Item) (u : ℕ) → EndsBeforeFaults is rest → lossy_runs (is ++ Fault u ∷ []) ≡ lossy_runs rest ++ 0xFFFD ∷ []
-runs_last is rest u ends =
-    let faults = map Fault (ends.run ++ u ∷ []) in
-    ap lossy_runs (joined_end is rest ends.run u ends.joined) ∙ elim ends.before [
-      | inl none ↦ ap (λ xs. lossy_runs (xs ++ faults)) none ∙ run_end ends.run u ∙ ap (λ xs. lossy_runs xs ++ 0xFFFD ∷ []) (sym none)
-      | inr some ↦
-          (let prefix = some.1 in
-          let c = some.0 in
-          ap (λ xs. lossy_runs (xs ++ faults)) some.2 ∙ ap lossy_runs (append_assoc prefix (Char c ∷ []) faults) ∙ runs-at_char prefix faults c ∙ ap (λ xs. lossy_runs prefix ++ c ∷ xs) (run_end ends.run u)
-          ∙ sym (append_assoc (lossy_runs prefix) (c ∷ []) (0xFFFD ∷ [])) ∙ ap (λ xs. xs ++ 0xFFFD ∷ []) (sym (runs-at_char prefix [] c)) ∙ ap (λ xs. lossy_runs xs ++ 0xFFFD ∷ []) (sym some.2))
-    ]
-
--- A call under the policy that replaces a run of faults by one U+FFFD.
-pub run_next : (policy : Policy) (is tail rest : List Item) (u : ℕ) → policy ≡ Run → is ≡ Fault u ∷ tail → BeginsPastFaults tail rest → lossy_by policy is ≡ 0xFFFD ∷ lossy_by policy rest
-run_next policy is tail rest u p e begins = rw p (ap lossy_runs e ∙ runs_first tail rest u begins)
-
-pub run_next_back : (policy : Policy) (is prefix rest : List Item) (u : ℕ) → policy ≡ Run → is ≡ prefix ++ Fault u ∷ [] → EndsBeforeFaults prefix rest → lossy_by policy is ≡ lossy_by policy rest ++ 0xFFFD ∷ []
-run_next_back policy is prefix rest u p e ends = rw p (ap lossy_runs e ∙ runs_last prefix rest u ends)
-
 pub lossy_by-none : (policy : Policy) → lossy_by policy [] ≡ []
-lossy_by-none Each = refl
-lossy_by-none Run = refl
-lossy_by-none Skip = refl
+lossy_by-none policy = sym (lossy_after-none policy []) ∙ lossy_after-none_left policy false
+
+-- If a policy has nothing for a fault that directly follows another, the rest of a run of faults yields nothing.
+past_run : (policy : Policy) (again : Option ℕ) → replacement policy true ≡ again → is_some again ≡ false → (run : List ℕ) (is : List Item) → lossy_after policy true (map Fault run ++ is) ≡ lossy_after policy true is
+past_run policy (Some c) e none run is = absurd cc
+past_run policy None e none [] is = refl
+past_run policy None e none (u ∷ run) is = lossy_after-dropped policy true u (map Fault run ++ is) e ∙ past_run policy None e none run is
+
+-- After a fault and before a character, or at the end.
+after_fault : (policy : Policy) (is : List Item) → (is ≡ []) ⊎ ((c : ℕ) × (tail : List Item) × (is ≡ Char c ∷ tail)) → lossy_after policy true is ≡ lossy_by policy is
+after_fault policy is past = elim past [
+  | inl none ↦ rw none (lossy_after-none_left policy true ∙ sym (lossy_by-none policy))
+  | inr some ↦ rw some.2 (lossy_after-char policy true some.0 some.1 ∙ sym (lossy_after-char policy false some.0 some.1) ∙ lossy_after-none policy (Char some.0 ∷ some.1))
+]
+
+-- A call that reads a run of faults, and yields what the policy has for the first of them.
+pub run_next : (policy : Policy) (is tail rest : List Item) (u c : ℕ) → replacement policy false ≡ Some c → is_some (replacement policy true) ≡ false → is ≡ Fault u ∷ tail → BeginsPastFaults tail rest → lossy_by policy is ≡ c ∷ lossy_by policy rest
+run_next policy is tail rest u c e none f begins =
+    ap (lossy_by policy) f ∙ sym (lossy_after-none policy (Fault u ∷ tail)) ∙ lossy_after-replaced policy false u c tail e
+    ∙ ap (λ xs. c ∷ xs) (ap (lossy_after policy true) begins.joined ∙ past_run policy (replacement policy true) refl none begins.run rest ∙ after_fault policy rest begins.past)
+
+whole_run : (policy : Policy) (run : List ℕ) (u c : ℕ) → replacement policy false ≡ Some c → is_some (replacement policy true) ≡ false → lossy_after policy false (map Fault (u ∷ run)) ≡ c ∷ []
+whole_run policy run u c e none =
+    lossy_after-replaced policy false u c (map Fault run) e ∙ ap (λ xs. c ∷ lossy_after policy true xs) (sym (append-nil (map Fault run)))
+    ∙ ap (λ xs. c ∷ xs) (past_run policy (replacement policy true) refl none run [] ∙ lossy_after-none_left policy true)
+
+run_end : (policy : Policy) (run : List ℕ) (u c : ℕ) → replacement policy false ≡ Some c → is_some (replacement policy true) ≡ false → lossy_after policy false (map Fault run ++ Fault u ∷ []) ≡ c ∷ []
+run_end policy [] u c e none = whole_run policy [] u c e none
+run_end policy (v ∷ run) u c e none = ap (λ xs. lossy_after policy false (Fault v ∷ xs)) (sym (map_push Fault run u)) ∙ whole_run policy (run ++ u ∷ []) v c e none
+
+ends_in_char : (is : List Item) → (is ≡ []) ⊎ ((c : ℕ) × (prefix : List Item) × (is ≡ prefix ++ Char c ∷ [])) → ends_in_fault false is ≡ false
+ends_in_char is before = elim before [
+  | inl none ↦ ap (ends_in_fault false) none
+  | inr some ↦ ap (ends_in_fault false) some.2 ∙ ends_in_fault-append false some.1 (Char some.0 ∷ [])
+]
+
+pub run_next_back : (policy : Policy) (is prefix rest : List Item) (u c : ℕ) → replacement policy false ≡ Some c → is_some (replacement policy true) ≡ false → is ≡ prefix ++ Fault u ∷ [] → EndsBeforeFaults prefix rest → lossy_by policy is ≡ lossy_by policy rest ++ c ∷ []
+run_next_back policy is prefix rest u c e none f ends =
+    let faults = map Fault ends.run ++ Fault u ∷ [] in
+    ap (lossy_by policy) (f ∙ ap (λ xs. xs ++ Fault u ∷ []) ends.joined ∙ append_assoc rest (map Fault ends.run) (Fault u ∷ [])) ∙ sym (lossy_after-none policy (rest ++ faults))
+    ∙ lossy_after-append policy false rest faults ∙ ap (λ after. lossy_after policy false rest ++ lossy_after policy after faults) (ends_in_char rest ends.before)
+    ∙ ap (λ xs. lossy_after policy false rest ++ xs) (run_end policy ends.run u c e none) ∙ ap (λ xs. xs ++ c ∷ []) (lossy_after-none policy rest)
+
+-- A policy that has nothing for the first fault of a run has nothing for any fault.
+only_characters : (policy : Policy) (is : List Item) → replacement policy false ≡ None → lossy_by policy is ≡ characters is
+only_characters Each is e = absurd cc
+only_characters Run is e = absurd cc
+only_characters Skip is e = refl
+
+-- A call that skips a fault at the end, and then takes the last character, if there is one.
+pub skip_back : (policy now : Policy) (is prefix rest : List Item) (u : ℕ) (r : Option ℕ) → replacement policy false ≡ None → now ≡ policy → is ≡ prefix ++ Fault u ∷ []
+    → MatchOption r ((characters prefix ≡ []) × (characters rest ≡ [])) (λ c. characters prefix ≡ characters rest ++ c ∷ [])
+    → MatchOption r ((lossy_by policy is ≡ []) × (lossy_by now rest ≡ [])) (λ c. lossy_by policy is ≡ lossy_by now rest ++ c ∷ [])
+skip_back policy now is prefix rest u r e same f h =
+    let skipped = only_characters policy is e ∙ ap characters f ∙ characters-append prefix (Fault u ∷ []) ∙ append-nil (characters prefix) in
+    rw (same, skipped, only_characters policy rest e) h
 
 -- The last item under any policy, if it is a character.
 pub last_char : (policy : Policy) (is prefix : List Item) (c : ℕ) → is ≡ prefix ++ Char c ∷ [] → lossy_by policy is ≡ lossy_by policy prefix ++ c ∷ []

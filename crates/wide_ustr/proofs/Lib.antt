@@ -1,4 +1,3 @@
 pub mod IndexedLemmas
 pub mod FaultRuns
-mod LossyChunks
 pub mod SubstringCounts

@@ -3,24 +3,14 @@ ghost use Rattle.std.specs.Prelude.{◌≡◌, ◌+◌, ◌/◌, length, Some, I
 ghost use Rattle.std.specs.Iterator.{YieldsFirst, YieldsFirstBy, YieldsLast, YieldsLastBy, at_most, UpTo};
 ghost use Rattle.std.specs.Iterator.SizeHint.{IsWithinCount};
 ghost use Rattle.wide_unit.specs.Unit.{item_of};
-ghost use Rattle.wide_forms.specs.Lossy.{lossy_char as lossy_of};
 ghost use Rattle.wide_ustr.specs.Indexed.{indexed_item, taken_length};
 
 use crate::offsets::Offsets;
 use std::alloc::AllocError;
 use std::iter::FusedIterator;
+use wide_forms::or_replacement;
 use wide_unit::{Unit, split_first, split_last};
 use wide_utferror::FaultUnit;
-
-// Returns the character, or U+FFFD if the item is a fault.
-fn lossy_char<C: Unit>(item: Result<char, C>) -> char
-    ensures { result ≡ lossy_of (item_of C.number item) }
-{
-    match item {
-        Ok(c) => c,
-        Err(_) => char::REPLACEMENT_CHARACTER,
-    }
-}
 
 // Returns the item as a strict iterator yields it: the character, or an error for a fault.
 fn answer<C: FaultUnit>(item: Result<char, C>) -> Result<char, C::Fault>
@@ -132,7 +122,7 @@ impl<C: Unit> Iterator for CharsLossy<'_, C> {
     fn next(&mut self) -> Option<char> {
         let (item, rest) = split_first(self.rest)?;
         self.rest = rest;
-        Some(lossy_char(item))
+        Some(or_replacement(item))
     }
 
     fn size_hint(&self) -> (usize, Option<usize>)
@@ -154,7 +144,7 @@ impl<C: Unit> DoubleEndedIterator for CharsLossy<'_, C> {
     fn next_back(&mut self) -> Option<char> {
         let (rest, item) = split_last(self.rest)?;
         self.rest = rest;
-        Some(lossy_char(item))
+        Some(or_replacement(item))
     }
 }
 
@@ -321,7 +311,7 @@ impl<C: Unit> Iterator for CharIndicesLossy<'_, C> {
     #[inline]
     fn next(&mut self) -> Option<(usize, char)> {
         let (offset, item) = self.offsets.first()?;
-        Some((offset, lossy_char(item)))
+        Some((offset, or_replacement(item)))
     }
 
     fn size_hint(&self) -> (usize, Option<usize>)
@@ -342,7 +332,7 @@ impl<C: Unit> DoubleEndedIterator for CharIndicesLossy<'_, C> {
     #[inline]
     fn next_back(&mut self) -> Option<(usize, char)> {
         let (offset, item) = self.offsets.last()?;
-        Some((offset, lossy_char(item)))
+        Some((offset, or_replacement(item)))
     }
 }
 

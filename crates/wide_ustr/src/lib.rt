@@ -8,7 +8,6 @@ mod iter;
 pub mod laws;
 mod line_indices;
 mod lines;
-mod lossy_text;
 mod lossy_with;
 mod offsets;
 mod search;

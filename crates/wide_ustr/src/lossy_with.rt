@@ -6,7 +6,7 @@ ghost use Rattle.wide_forms.specs.Items.{items};
 ghost use Rattle.wide_ustr.specs.LossyWith.{BeginsPastFaults, EndsBeforeFaults};
 
 use std::iter::FusedIterator;
-use wide_forms::Policy;
+use wide_forms::{Policy, replacement};
 use wide_unit::{Unit, split_first, split_last};
 
 /// Returns the units after the longest run of faults at the beginning.
@@ -90,21 +90,18 @@ impl<C: Unit> Iterator for CharsLossyWith<'_, C> {
 
     fn next(&mut self) -> Option<char> {
         let (item, rest) = split_first(self.rest)?;
-        match (item, self.policy) {
-            (Ok(first), _) => {
-                self.rest = rest;
-                Some(first)
-            }
-            (Err(_), Policy::Each) => {
-                self.rest = rest;
-                Some(char::REPLACEMENT_CHARACTER)
-            }
-            (Err(_), Policy::Run) => {
-                self.rest = after_faults(rest);
-                Some(char::REPLACEMENT_CHARACTER)
-            }
-            (Err(_), Policy::Skip) => self.first_character(),
+        self.rest = rest;
+        if let Ok(first) = item {
+            return Some(first);
         }
+        let Some(c) = replacement(self.policy, false) else {
+            return self.first_character();
+        };
+        // If the rest of the run yields nothing, it is read now.
+        if replacement(self.policy, true).is_none() {
+            self.rest = after_faults(rest);
+        }
+        Some(c)
     }
 
     /// Returns no bounds, since the number of characters for a run of faults is unknown before the run is read.
@@ -124,21 +121,18 @@ impl<C: Unit> DoubleEndedIterator for CharsLossyWith<'_, C> {
 
     fn next_back(&mut self) -> Option<char> {
         let (rest, item) = split_last(self.rest)?;
-        match (item, self.policy) {
-            (Ok(last), _) => {
-                self.rest = rest;
-                Some(last)
-            }
-            (Err(_), Policy::Each) => {
-                self.rest = rest;
-                Some(char::REPLACEMENT_CHARACTER)
-            }
-            (Err(_), Policy::Run) => {
-                self.rest = before_faults(rest);
-                Some(char::REPLACEMENT_CHARACTER)
-            }
-            (Err(_), Policy::Skip) => self.last_character(),
+        self.rest = rest;
+        if let Ok(last) = item {
+            return Some(last);
         }
+        let Some(c) = replacement(self.policy, false) else {
+            return self.last_character();
+        };
+        // If the rest of the run yields nothing, it is read now.
+        if replacement(self.policy, true).is_none() {
+            self.rest = before_faults(rest);
+        }
+        Some(c)
     }
 }
 

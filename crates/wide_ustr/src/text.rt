@@ -7,13 +7,12 @@ ghost use Rattle.wide_forms.specs.Utf8.{utf8};
 ghost use Rattle.wide_utferror.specs.UtfError.{index_of, item_of, unit_of, vec_of};
 ghost use Rattle.wide_ustr.specs.View.{units_seen};
 
-use crate::lossy_text::lossy_string;
 use crate::view::UStr;
 use std::alloc::Allocator;
 use wide_error::OutOfMemory;
 use wide_forms::Policy;
-use wide_from_units::utf8_string;
-use wide_unit::{Unit, check};
+use wide_from_units::{lossy_utf8_string, utf8_string};
+use wide_unit::{Unit, check, find_fault};
 use wide_utferror::{Utf16ConvertError, Utf32ConvertError, UtfError};
 
 impl<C: Unit> UStr<'_, C> {
@@ -50,9 +49,9 @@ impl<C: Unit> UStr<'_, C> {
         ensures text { IfOk result (λ text. string_bytes text ≡ utf8 (lossy_by policy (items C.form (map C.number (units_seen self.entry))))) }
         ensures succeeds { units_seen self.entry ≡ [] → IsOk result }
     {
-        match check(self.units) {
-            Ok(()) => Ok(utf8_string(alloc, self.units)?),
-            Err(_fault) => Ok(lossy_string(alloc, self, policy)?),
+        match find_fault(self.units) {
+            None => Ok(utf8_string(alloc, self.units)?),
+            Some(_fault) => Ok(lossy_utf8_string(alloc, self.units, policy)?),
         }
     }
 }

@@ -161,13 +161,13 @@ half-keys-at (suc n) (u ∷ us) (suc k) long within = half-keys-at n us k (omega
 
 -- ---- the bits of the row numbers
 
-abbrev pub replaces : ℕ → List ℕ → List ℕ
-replaces n us = sel_l (below n us 0x80) (replicate n 0xffff) (sel_l (below n us 0x800) (replicate n 0xff00) (replicate n 0))
+abbrev pub masks : ℕ → List ℕ → List ℕ
+masks n us = sel_l (below n us 0x80) (replicate n 0xffff) (sel_l (below n us 0x800) (replicate n 0xff00) (replicate n 0))
 
-pub replaces-at : (n : ℕ) (us : List ℕ) (k : ℕ) → length us ≡ n → k < n → get_or (replaces n us) k 0 ≡ mask_of (get_or us k 0)
-replaces-at zero us k long within = absurd (omega arith)
-replaces-at (suc n) [] k long within = absurd (omega arith)
-replaces-at (suc n) (u ∷ us) zero long within = mask u
+pub masks-at : (n : ℕ) (us : List ℕ) (k : ℕ) → length us ≡ n → k < n → get_or (masks n us) k 0 ≡ mask_of (get_or us k 0)
+masks-at zero us k long within = absurd (omega arith)
+masks-at (suc n) [] k long within = absurd (omega arith)
+masks-at (suc n) (u ∷ us) zero long within = mask u
   where
     mask : (u : ℕ) → cond (top 15 (cond (ltb u 0x80) (2 ^ 16 - 1) 0)) 0xffff (cond (top 15 (cond (ltb u 0x800) (2 ^ 16 - 1) 0)) 0xff00 0) ≡ mask_of u
     mask u = elim (cases_lt u 0x80) [
@@ -177,4 +177,4 @@ replaces-at (suc n) (u ∷ us) zero long within = mask u
         | inr from_800 ↦ rw (le-ltb u 0x80 from, le-ltb u 0x800 from_800) refl
       ]
     ]
-replaces-at (suc n) (u ∷ us) (suc k) long within = replaces-at n us k (omega arith) (omega arith)
+masks-at (suc n) (u ∷ us) (suc k) long within = masks-at n us k (omega arith) (omega arith)

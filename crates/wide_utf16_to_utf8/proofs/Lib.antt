@@ -1,11 +1,9 @@
 pub mod EncodedPrefixes
-pub mod CompressedLanes
 pub mod LeadLanes
 pub mod PairedTexts
 pub mod Lanes
 pub mod Rows
 pub mod Shuffles
-pub mod Retained
 pub mod Stores
 pub mod Tables
 pub mod UnitEncodings

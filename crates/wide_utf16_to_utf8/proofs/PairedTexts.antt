@@ -13,7 +13,8 @@ use Rattle.wide_utf16_to_utf8.specs.Encoded.{ArePaired, EncodedUnits, high_word,
 use Rattle.wide_utf16_to_utf8.specs.PairedText.{IsPairedLead, paired_bytes, paired_key, paired_text}
 use Rattle.wide_utf16_to_utf8.specs.ThreeBytes.{packed, packed_unit}
 use Rattle.wide_utf16_to_utf8.proofs.Rows.{packed-unit}
-use Rattle.wide_utf16_to_utf8.proofs.Stores.{compressed-lead, list4, pair-word}
+use Rattle.wide_utf16_to_utf8.proofs.Stores.{list4, pair-word}
+use Rattle.wide_forms.proofs.Stored.{compressed-lead}
 use Rattle.wide_utf16_to_utf8.proofs.UnitEncodings.{units-none, units-one, units-pair, units-then}
 
 -- ---- one unit

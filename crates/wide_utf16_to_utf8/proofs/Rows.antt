@@ -2,7 +2,7 @@
 use Rattle.std.proofs.Common.{◌≡◌, ℕ, zero, suc, ◌+◌, ◌-◌, ◌*◌, ◌/◌, ◌%◌, ◌^◌, ◌<◌, ◌≤◌, T, cond, inl, inr, List, [], ◌∷◌, ◌++◌, length, get_or, map, replicate, take, drop, w8, refl, sym, ap, ◌∙◌, subst, arith, append_assoc}
 use Rattle.std.proofs.lemmas.Bool.{cases_lt, lt-ltb, le-ltb}
 use Rattle.std.proofs.lemmas.List.{append-nil, get_or-map, length-map}
-use Rattle.std.proofs.lemmas.Simd.{Each1-get_or, bitmask_splat, swz_l, get_or_narrower}
+use Rattle.std.proofs.lemmas.Simd.{Each1-get_or, bitmask_splat, swz_l}
 use borrow.Rule.Slice.PartMut.{put_mid}
 use lib.Dec.{leb}
 use lib.Lanes.{put_chunk, Each1, digits_l, mask_l, number_l, top, zip2}
@@ -10,10 +10,10 @@ use Rattle.wide_forms.specs.Utf8.{utf8_bytes}
 use Rattle.wide_forms.specs.Laws.Utf8.{one_byte, two_bytes, three_bytes}
 use Rattle.wide_utf16_to_utf8.specs.Encoded.{EncodedUnits, IsLead}
 use Rattle.wide_utf16_to_utf8.specs.ThreeBytes.{HoldsWord, Size, One, Two, Three, digit_of, compressed_bytes, compressed_bytes_of, packed, packed_unit, mask_of, row_at, row_of, size_of}
-use Rattle.wide_utf16_to_utf8.specs.declared.three_bytes.TheConstants.{ROWS, ROW_LENS}
-use Rattle.wide_utf16_to_utf8.proofs.Shuffles.{eight}
+use Rattle.wide_utf16_to_utf8.specs.declared.three_bytes_rows.TheConstants.{ROWS, ROW_LENS}
+use Rattle.wide_forms.proofs.Tables.{eight, high-byte, low-byte, same-lists}
 use Rattle.wide_utf16_to_utf8.proofs.Stores.{list2, list3}
-use Rattle.wide_utf16_to_utf8.proofs.Tables.{are-rows, each-most, is-row, row-stored, same-lists}
+use Rattle.wide_utf16_to_utf8.proofs.Tables.{are-rows, each-most, is-row, row-stored}
 use Rattle.wide_utf16_to_utf8.proofs.Tops.{double}
 use Rattle.wide_utf16_to_utf8.proofs.UnitEncodings.{units-none, units-one, units-then}
 
@@ -168,13 +168,13 @@ mask-fits u = elim (cases_lt u 0x80) [
   ]
 ]
 
-replaces-fit : (us : List ℕ) → Each1 (λ m. m < 65536) (map mask_of us)
-replaces-fit [] = tt
-replaces-fit (u ∷ us) = (mask-fits u, replaces-fit us)
+masks-fit : (us : List ℕ) → Each1 (λ m. m < 65536) (map mask_of us)
+masks-fit [] = tt
+masks-fit (u ∷ us) = (mask-fits u, masks-fit us)
 
-replaces-digits : (us : List ℕ) → mask_l (map (λ b. leb 128 b) (bytes-of (map mask_of us))) ≡ digits us
-replaces-digits [] = refl
-replaces-digits (u ∷ us) = omega (arith, mask-bits u, replaces-digits us)
+masks-digits : (us : List ℕ) → mask_l (map (λ b. leb 128 b) (bytes-of (map mask_of us))) ≡ digits us
+masks-digits [] = refl
+masks-digits (u ∷ us) = omega (arith, mask-bits u, masks-digits us)
 
 rows-of-eight : (a b c d e f g h : ℕ) → (digits (a ∷ b ∷ c ∷ d ∷ e ∷ f ∷ g ∷ h ∷ []) % 256 ≡ row_of (size_of a) (size_of b) (size_of c) (size_of d)) × (digits (a ∷ b ∷ c ∷ d ∷ e ∷ f ∷ g ∷ h ∷ []) / 256 ≡ row_of (size_of e) (size_of f) (size_of g) (size_of h))
 rows-of-eight a b c d e f g h = (
@@ -189,8 +189,8 @@ module _ (us ms : List ℕ) (long : length us ≡ 8) (long_marks : length ms ≡
       let same : ms ≡ map mask_of us = same-lists ms (map mask_of us) (long_marks ∙ sym others) (λ k within. are k (omega (arith, within, long_marks)) ∙ sym (get_or-map mask_of us k 0 0 (omega (arith, within, long_marks, long)))) in
       bitmask_splat w8 (λ a b. leb b a) (digits_l 256 16 (number_l 65536 ms)) 16 0x80 refl (omega arith)
       ∙ ap (λ xs. mask_l (map (λ b. leb 128 b) (digits_l 256 16 (number_l 65536 xs)))) same
-      ∙ ap (λ bs. mask_l (map (λ b. leb 128 b) bs)) (bytes-are 8 (map mask_of us) others (replaces-fit us))
-      ∙ replaces-digits us
+      ∙ ap (λ bs. mask_l (map (λ b. leb 128 b) bs)) (bytes-are 8 (map mask_of us) others (masks-fit us))
+      ∙ masks-digits us
 
   pub first-row : mask_l (map (top 7) (zip2 (λ a b. cond (leb b a) (2 ^ 8 - 1) 0) (digits_l 256 16 (number_l 65536 ms)) (replicate 16 0x80))) % 2 ^ 64 % 256 ≡ row_at us 0
   first-row = ap (λ n. n % 256) (bits-are ∙ ap digits (eight us long)) ∙ (rows-of-eight (get_or us 0 0) (get_or us 1 0) (get_or us 2 0) (get_or us 3 0) (get_or us 4 0) (get_or us 5 0) (get_or us 6 0) (get_or us 7 0)).0
@@ -209,17 +209,6 @@ four-shuffle P a b c d (suc (suc (suc (suc k)))) within = absurd (omega arith)
 
 -- The bytes of eight 16-bit lanes that hold the first two bytes of a unit and its third byte in turn.
 module _ (xs : List ℕ) (long : length xs ≡ 8) (each : Each1 (λ x. x < 65536) xs) where
-  pub low-byte : (j : ℕ) → j < 8 → get_or (digits_l 256 16 (number_l 65536 xs)) (2 * j) 0 ≡ get_or xs j 0 % 0x100
-  low-byte j within =
-      let none : 2 * j ≡ 2 * j + 0 = omega arith in
-      let is = ap (λ n. get_or (digits_l 256 16 (number_l 65536 xs)) n 0) none ∙ get_or_narrower 65536 2 256 16 xs j 0 refl each (omega (arith, long)) (omega arith) in
-      omega (arith, is)
-
-  pub high-byte : (j : ℕ) → j < 8 → get_or xs j 0 < 65536 → get_or (digits_l 256 16 (number_l 65536 xs)) (2 * j + 1) 0 ≡ get_or xs j 0 / 0x100
-  high-byte j within below =
-      let is = get_or_narrower 65536 2 256 16 xs j 1 refl each (omega (arith, long)) (omega arith) in
-      omega (arith, is)
-
   pub holds-word : (k : ℕ) → k < 4 → get_or xs (2 * k) 0 < 65536 → HoldsWord (digits_l 256 16 (number_l 65536 xs)) (4 * k) (get_or xs (2 * k) 0) (get_or xs (2 * k + 1) 0)
   holds-word k within below =
       let ds = digits_l 256 16 (number_l 65536 xs) in
@@ -227,9 +216,9 @@ module _ (xs : List ℕ) (long : length xs ≡ 8) (each : Each1 (λ x. x < 65536
       let at_second : 4 * k + 1 ≡ 2 * (2 * k) + 1 = omega arith in
       let at_third : 4 * k + 2 ≡ 2 * (2 * k + 1) = omega arith in
       record {
-        first = ap (λ n. get_or ds n 0) at ∙ low-byte (2 * k) (omega arith);
-        second = ap (λ n. get_or ds n 0) at_second ∙ high-byte (2 * k) (omega arith) below;
-        third = ap (λ n. get_or ds n 0) at_third ∙ low-byte (2 * k + 1) (omega arith);
+        first = ap (λ n. get_or ds n 0) at ∙ low-byte xs long each (2 * k) (omega arith);
+        second = ap (λ n. get_or ds n 0) at_second ∙ high-byte xs long each (2 * k) (omega arith) below;
+        third = ap (λ n. get_or ds n 0) at_third ∙ low-byte xs long each (2 * k + 1) (omega arith);
       }
 
 -- The lanes of two lists of eight, interleaved: those of the first four of each, and those of the last four.

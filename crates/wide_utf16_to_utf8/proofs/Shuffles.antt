@@ -10,9 +10,10 @@ use Rattle.wide_forms.specs.Utf8.{utf8_bytes}
 use Rattle.wide_forms.specs.Laws.Utf8.{one_byte, two_bytes}
 use Rattle.wide_utf16_to_utf8.specs.Encoded.{EncodedUnits, IsLead}
 use Rattle.wide_utf16_to_utf8.specs.TwoBytes.{IsPair, below_bits, compressed, compress}
-use Rattle.wide_utf16_to_utf8.specs.declared.two_bytes.TheConstants.{SHUFFLES}
+use Rattle.wide_utf16_to_utf8.specs.declared.two_bytes_rows.TheConstants.{SHUFFLES}
 use Rattle.wide_utf16_to_utf8.proofs.Stores.{list2}
-use Rattle.wide_utf16_to_utf8.proofs.Tables.{are-rows, every, every-at, is-row, is-same, row-picks, row-stored, same-is}
+use Rattle.wide_utf16_to_utf8.proofs.Tables.{are-rows, is-row, row-picks, row-stored}
+use Rattle.wide_forms.proofs.Tables.{every, every-at, is-same, same-is}
 use Rattle.wide_utf16_to_utf8.proofs.UnitEncodings.{units-none, units-one, units-then}
 
 -- ---- the table
@@ -69,18 +70,6 @@ module _ (n : ℕ) (within : n < 256) where
   pairs-stored xs pairs us at long is space = row-stored SHUFFLES shuffle-valid n within xs pairs (compressed us 0 pairs) at (16 - count_ones n) (omega arith) space (picked pairs us long is)
 
 -- ---- which units are below a bound
-
-pub eight : (xs : List ℕ) → length xs ≡ 8 → xs ≡ get_or xs 0 0 ∷ get_or xs 1 0 ∷ get_or xs 2 0 ∷ get_or xs 3 0 ∷ get_or xs 4 0 ∷ get_or xs 5 0 ∷ get_or xs 6 0 ∷ get_or xs 7 0 ∷ []
-eight [] long = absurd (omega arith)
-eight (a ∷ []) long = absurd (omega arith)
-eight (a ∷ b ∷ []) long = absurd (omega arith)
-eight (a ∷ b ∷ c ∷ []) long = absurd (omega arith)
-eight (a ∷ b ∷ c ∷ d ∷ []) long = absurd (omega arith)
-eight (a ∷ b ∷ c ∷ d ∷ e ∷ []) long = absurd (omega arith)
-eight (a ∷ b ∷ c ∷ d ∷ e ∷ f ∷ []) long = absurd (omega arith)
-eight (a ∷ b ∷ c ∷ d ∷ e ∷ f ∷ g ∷ []) long = absurd (omega arith)
-eight (a ∷ b ∷ c ∷ d ∷ e ∷ f ∷ g ∷ h ∷ []) long = refl
-eight (a ∷ b ∷ c ∷ d ∷ e ∷ f ∷ g ∷ h ∷ i ∷ xs) long = absurd (omega arith)
 
 pub bit-small : (b : Bool) → cond {A = ℕ} b 1 0 ≤ 1
 bit-small true = omega arith

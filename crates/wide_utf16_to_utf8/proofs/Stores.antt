@@ -1,8 +1,8 @@
 -- What writing bytes at an offset of a list does to its prefix.
-use Rattle.std.proofs.Common.{◌≡◌, ℕ, zero, suc, inl, inr, length-take-le, ◌+◌, ◌-◌, ◌*◌, ◌/◌, ◌%◌, ◌^◌, ◌<◌, ◌≤◌, List, [], ◌∷◌, ◌++◌, length, take, set, refl, sym, ap, ◌∙◌, arith, length-set, append_assoc}
-use Rattle.std.proofs.Math.Seq.{take-append-add}
+use Rattle.std.proofs.Common.{◌≡◌, ℕ, inl, inr, ◌+◌, ◌-◌, ◌*◌, ◌/◌, ◌%◌, ◌^◌, ◌<◌, ◌≤◌, List, [], ◌∷◌, ◌++◌, length, take, set, sym, ap, ◌∙◌, arith, length-set, append_assoc}
 use Rattle.std.proofs.lemmas.Bool.{cases_lt}
 use Rattle.std.proofs.lemmas.Grind.{common_steps}
+use Rattle.wide_forms.proofs.Stored.{compressed-lead}
 use Rattle.wide_forms.specs.Utf8.{utf8_bytes, trailing_byte}
 use Rattle.wide_utf16_to_utf8.specs.Encoded.{IsWordOf, high_word, low_word}
 use Rattle.wide_forms.specs.Laws.Utf8.{one_byte, two_bytes, three_bytes, four_bytes}
@@ -55,18 +55,6 @@ pub pair-word : (h l word : ℕ) → 0xd800 ≤ h → h < 0xdc00 → 0xdc00 ≤ 
 pair-word h l word from_h to_h from_l to_l is = list4 _ _ _ _ _ _ _ _ (omega arith) (omega arith) (omega arith) (omega arith) ∙ pair_bytes h l from_h to_h from_l to_l
 
 -- ---- four bytes at once, of which the first are used
-
-take-take_le : (m n : ℕ) (xs : List ℕ) → m ≤ n → take m (take n xs) ≡ take m xs
-take-take_le zero n xs low = refl
-take-take_le (suc m) zero xs low = absurd (omega arith)
-take-take_le (suc m) (suc n) [] low = refl
-take-take_le (suc m) (suc n) (x ∷ xs) low = ap (λ ys. x ∷ ys) (take-take_le m n xs (omega arith))
-
-pub compressed-lead : (xs zs ds : List ℕ) (at n len : ℕ) → at ≤ length xs → len ≤ n → take (at + n) zs ≡ take at xs ++ ds → take (at + len) zs ≡ take at xs ++ take len ds
-compressed-lead xs zs ds at n len space short e =
-    let first : length (take at xs) ≡ at = length-take-le at xs space in
-    let shorter : take (at + len) (take (at + n) zs) ≡ take (at + len) zs = take-take_le (at + len) (at + n) zs (omega arith) in
-    sym shorter ∙ ap (λ ys. take (at + len) ys) e ∙ ap (λ m. take (m + len) (take at xs ++ ds)) (sym first) ∙ take-append-add (take at xs) ds len
 
 pub list2 : (a b a' b' : ℕ) → a ≡ a' → b ≡ b' → a ∷ b ∷ [] ≡ a' ∷ b' ∷ []
 list2 a b a' b' p q = cc

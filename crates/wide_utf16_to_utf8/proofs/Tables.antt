@@ -1,62 +1,12 @@
 -- Tables of shuffles of sixteen bytes, and which bytes a row selects.
-use Rattle.std.proofs.Common.{◌≡◌, ℕ, zero, suc, ◌+◌, ◌-◌, ◌*◌, ◌/◌, ◌<◌, ◌≤◌, ◌&&◌, Bool, true, false, T, inl, inr, ltb, ltb→lt, List, [], ◌∷◌, ◌++◌, length, get_or, map, take, drop, w8, refl, sym, ap, ◌∙◌, subst, arith, length-take}
-use Rattle.std.specs.Int.RustNames.{count_ones}
-use Rattle.std.proofs.Math.Facts.{eqb_yes}
-use Rattle.std.proofs.lemmas.Bool.{cases_lt}
+use Rattle.std.proofs.Common.{◌≡◌, ℕ, zero, suc, ◌+◌, ◌-◌, ◌*◌, ◌/◌, ◌<◌, ◌≤◌, ◌&&◌, Bool, true, T, ltb, ltb→lt, List, [], ◌∷◌, ◌++◌, length, get_or, map, take, drop, w8, refl, sym, ap, ◌∙◌, arith, length-take}
 use Rattle.std.proofs.lemmas.List.{get_or-map, length-map}
 use Rattle.std.proofs.lemmas.Simd.{Each1-get_or, get_or-swz_l_below, swz_l, length-swz_l, SwzOk, SwzOk-from_below}
 use borrow.Rule.Slice.PartMut.{put_mid}
-use lib.Dec.{eqb, leb, leb→le}
 use lib.Ieee.Fits.{and_l, and_r}
 use lib.Lanes.{put_chunk, Each1, all_below}
-use Rattle.wide_forms.proofs.Stored.{stored-block}
-use Rattle.wide_utf16_to_utf8.proofs.Stores.{compressed-lead}
-
--- ---- lists of numbers
-
-pub same-lists : (xs ys : List ℕ) → length xs ≡ length ys → ((k : ℕ) → k < length xs → get_or xs k 0 ≡ get_or ys k 0) → xs ≡ ys
-same-lists [] [] long same = refl
-same-lists [] (y ∷ ys) long same = absurd (omega arith)
-same-lists (x ∷ xs) [] long same = absurd (omega arith)
-same-lists (x ∷ xs) (y ∷ ys) long same =
-    let first : x ≡ y = same 0 (omega arith) in
-    ap (λ z. z ∷ xs) first ∙ ap (λ zs. y ∷ zs) (same-lists xs ys (omega arith) (λ k within. same (suc k) (omega arith)))
-
-abbrev pub is-same : List ℕ → List ℕ → Bool
-is-same [] [] = true
-is-same [] (y ∷ ys) = false
-is-same (x ∷ xs) [] = false
-is-same (x ∷ xs) (y ∷ ys) = eqb x y && is-same xs ys
-
-pub same-is : (xs ys : List ℕ) → T (is-same xs ys) → xs ≡ ys
-same-is [] [] h = refl
-same-is [] (y ∷ ys) h = absurd h
-same-is (x ∷ xs) [] h = absurd h
-same-is (x ∷ xs) (y ∷ ys) h = ap (λ z. z ∷ xs) (eqb_yes (and_l (eqb x y) (is-same xs ys) h)) ∙ ap (λ zs. y ∷ zs) (same-is xs ys (and_r (eqb x y) (is-same xs ys) h))
-
--- ---- what holds for each number below another
-
-unfoldable pub every : (ℕ → Bool) → ℕ → Bool
-every holds zero = true
-every holds (suc n) = holds n && every holds n
-
-pub every-at : (holds : ℕ → Bool) (n k : ℕ) → k < n → T (every holds n) → T (holds k)
-unfolding every
-every-at holds zero k within h = absurd (omega arith)
-every-at holds (suc n) k within h = elim (cases_lt k n) [
-  | inl below ↦ every-at holds n k below (and_r (holds n) _ h)
-  | inr from ↦ (let last : n ≡ k = omega arith in subst (λ j. T (holds j)) last (and_l (holds n) _ h))
-]
-
-abbrev is-few : ℕ → Bool
-is-few n = leb (count_ones n) 8
-
-all-few : T (every is-few 256)
-unfolding every count_ones
-all-few = tt
-
-pub ones-few : (n : ℕ) → n < 256 → count_ones n ≤ 8
-ones-few n within = leb→le (count_ones n) 8 (every-at is-few 256 n within all-few)
+use Rattle.wide_forms.proofs.Stored.{compressed-lead, stored-block}
+use Rattle.wide_forms.proofs.Tables.{same-lists}
 
 -- ---- rows of a table
 

@@ -1,4 +1,5 @@
 -- The UTF-8 of units below 0x800, from two bytes for each.
+use Rattle.wide_forms.specs.Bits.{bit_of}
 use Rattle.std.specs.Prelude.{◌≡◌, ℕ, ◌+◌, ◌*◌, ◌/◌, ◌%◌, ◌<◌, ◌≤◌, nat_lt, Bool, if◌then◌else◌, List, [], ◌∷◌, ◌++◌, slice_index}
 
 -- The first of a unit's two bytes, and the second if the unit is not ASCII.
@@ -9,9 +10,6 @@ compress ascii k pairs = if ascii then slice_index pairs k ∷ [] else slice_ind
 abbrev pub compressed : List ℕ → ℕ → List ℕ → List ℕ
 compressed [] k pairs = []
 compressed (u ∷ units) k pairs = compress (nat_lt u 0x80) k pairs ++ compressed units (k + 2) pairs
-
-abbrev pub bit_of : Bool → ℕ
-bit_of ascii = if ascii then 1 else 0
 
 -- One bit for each unit, from the lowest on: set if the unit is below the bound.
 abbrev pub below_bits : ℕ → List ℕ → ℕ

@@ -136,11 +136,7 @@ pub(crate) fn encode_plain(units: &[u16], out: &mut [u8], at: usize) -> Step
                 };
             }
             if units.len() - read == 1 {
-                return Step {
-                    read,
-                    written,
-                    fault: None,
-                };
+                break;
             }
             let low = units[read + 1];
             if low < 0xdc00 || 0xe000 <= low {

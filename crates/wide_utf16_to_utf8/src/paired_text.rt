@@ -7,6 +7,7 @@ ghost use Rattle.wide_utf16_to_utf8.specs.Encoded.{ArePaired, EncodedUnits};
 ghost use Rattle.wide_utf16_to_utf8.specs.PairedText.{IsPairedLead, paired_key, paired_text};
 
 use crate::lead_bytes::{last_lanes, lead_lanes};
+use crate::surrogates::{HIGH_TOP, LOW_TOP, SURROGATE_TOP};
 use crate::three_bytes::put_packed;
 use std::simd::prelude::*;
 
@@ -24,8 +25,8 @@ fn paired_leads_of(befores: u16x8, units: u16x8) -> u16x8
     let middle = units / u16x8::splat(0x40) % u16x8::splat(0x10);
     let last = units % u16x8::splat(0x40) * u16x8::splat(0x100);
     let low = u16x8::splat(0x8080) + third + middle + last;
-    let is_low = (units / u16x8::splat(0x400)).simd_eq(u16x8::splat(55));
-    let is_half = (units / u16x8::splat(0x800)).simd_eq(u16x8::splat(27));
+    let is_low = (units / u16x8::splat(0x400)).simd_eq(u16x8::splat(LOW_TOP));
+    let is_half = (units / u16x8::splat(0x800)).simd_eq(u16x8::splat(SURROGATE_TOP));
     is_half.select(is_low.select(low, high), lead_lanes(units))
 }
 
@@ -35,7 +36,7 @@ fn paired_leads_of(befores: u16x8, units: u16x8) -> u16x8
 fn paired_keys_of(units: u16x8) -> u16x8
     ensures { (k : ℕ) → k < 8 → slice_index result k ≡ paired_key (slice_index units k) }
 {
-    let is_half = (units / u16x8::splat(0x800)).simd_eq(u16x8::splat(27));
+    let is_half = (units / u16x8::splat(0x800)).simd_eq(u16x8::splat(SURROGATE_TOP));
     is_half.select(u16x8::splat(0x80), units)
 }
 
@@ -81,6 +82,6 @@ pub(crate) fn put_paired_text(window: &[u16], out: &mut [u8], at: usize) -> (usi
     let half = put_eight_paired(&window[..9], out, at);
     let end = put_eight_paired(&window[8..17], out, half);
     // A high surrogate at the end is not counted: its pair is encoded together with the next unit.
-    let cut = usize::from(window[16] / 0x400 == 54);
+    let cut = usize::from(window[16] / 0x400 == HIGH_TOP);
     (16 - cut, end - 2 * cut)
 }

@@ -10,6 +10,7 @@ ghost use Rattle.wide_utf16_to_utf8.specs.Encoded.{ArePaired, EncodedUnits, Stop
 
 use crate::one_unit::{Step, encode_plain, put_pair};
 use crate::paired_text::put_paired_text;
+use crate::surrogates::{HIGH_TOP, LOW_TOP, SURROGATE_TOP};
 use crate::three_bytes::put_three_bytes;
 use crate::two_bytes::put_two_bytes;
 use std::simd::prelude::*;
@@ -47,19 +48,15 @@ pub fn put_ascii(block: &[u16], out: &mut [u8], at: usize)
     u8x16::from_slice(&bytes).copy_to_slice(&mut out[at..at + 16]);
 }
 
-/// Returns whether a block of units contains a surrogate.
-///
-/// # Requires
-///
-/// The block has sixteen units.
+// Returns whether a block of sixteen units contains a surrogate.
 #[inline(always)]
-pub fn has_surrogate(block: &[u16]) -> bool
+fn has_surrogate(block: &[u16]) -> bool
     requires { length block.now ≡ 16 }
     ensures { result ≡ false → (k : ℕ) → k < 16 → 0xd800 ≤ slice_index block.now k → 0xe000 ≤ slice_index block.now k }
 {
     let mut found = false;
     for k in 0..16 {
-        found |= block[k] / 0x800 == 27;
+        found |= block[k] / 0x800 == SURROGATE_TOP;
     }
     found
 }
@@ -83,18 +80,18 @@ fn is_paired(units: &[u16]) -> bool
     ensures first { IsTrue result → 0xdc00 ≤ slice_index units.now 0 → 0xe000 ≤ slice_index units.now 0 }
     ensures pairs { IsTrue result → (k : ℕ) → k < 16 → ArePaired (slice_index units.now k) (slice_index units.now (k + 1)) }
 {
-    let highs = bits_of_tops(units, 54);
-    let lows = bits_of_tops(&units[1..], 55);
-    units[0] / 0x400 != 55 && highs == lows
+    let highs = bits_of_tops(units, HIGH_TOP);
+    let lows = bits_of_tops(&units[1..], LOW_TOP);
+    units[0] / 0x400 != LOW_TOP && highs == lows
 }
 
 // Returns whether the units at even indices of a block are high surrogates, and those at odd indices are not.
 #[inline(always)]
 fn are_pairs(block: &[u16]) -> bool
     requires { length block.now ≡ 16 }
-    ensures { IsTrue result → (k : ℕ) → k < 8 → slice_index block.now (2 * k) / 0x400 ≡ 54 }
+    ensures { IsTrue result → (k : ℕ) → k < 8 → slice_index block.now (2 * k) / 0x400 ≡ 0xd800 / 0x400 }
 {
-    bits_of_tops(block, 54) == 0x5555
+    bits_of_tops(block, HIGH_TOP) == 0x5555
 }
 
 // Writes eight surrogate pairs as UTF-8, four bytes each, and returns the offset after them, in bytes.
@@ -102,8 +99,8 @@ fn are_pairs(block: &[u16]) -> bool
 fn put_pairs(block: &[u16], out: &mut [u8], at: usize) -> usize
     requires whole { length block.now ≡ 16 }
     requires space { at + 32 ≤ length out.old }
-    requires high { (k : ℕ) → k < 8 → slice_index block.now (2 * k) / 0x400 ≡ 54 }
-    requires low { (k : ℕ) → k < 8 → slice_index block.now (2 * k + 1) / 0x400 ≡ 55 }
+    requires high { (k : ℕ) → k < 8 → slice_index block.now (2 * k) / 0x400 ≡ 0xd800 / 0x400 }
+    requires low { (k : ℕ) → k < 8 → slice_index block.now (2 * k + 1) / 0x400 ≡ 0xdc00 / 0x400 }
     ensures text { EncodedUnits block.now (take at out.old) (take result out.new) }
     ensures high { result ≡ at + 32 }
 {

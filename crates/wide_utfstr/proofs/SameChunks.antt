@@ -10,11 +10,11 @@ use Rattle.std.specs.List.{All}
 use Rattle.std.specs.Cmp.Lexicographic.{pointwise}
 use Rattle.std.specs.Str.{IsUtf8}
 use Rattle.std.specs.Str.{chars as str_chars}
-use Rattle.wide_forms.specs.EncodingForm.{Utf16, Utf32}
+use Rattle.wide_forms.specs.EncodingForm.{Utf16, Utf32, encode}
 use Rattle.wide_forms.specs.Items.{IsWellFormed, characters, chars}
 use Rattle.wide_forms.specs.Utf8.{utf8}
 use Rattle.wide_forms.specs.Laws.Items.{items-nil}
-use Rattle.wide_forms.specs.Laws.Utf32.{chars32-well_formed}
+use Rattle.wide_forms.specs.Laws.Utf32.{chars32-well_formed, encode32}
 use Rattle.wide_forms.specs.Laws.Utf8.{utf8-encode_utf8_all}
 use Rattle.wide_from_units.proofs.Utf8Texts.{all_scalars-of_All}
 
@@ -32,6 +32,12 @@ same_scalars us vs narrow wide is_narrow is_wide well =
     let scalars : chars Utf32 wide ≡ wide = chars32-well_formed wide (subst (λ ws. IsWellFormed Utf32 ws) (map-id wide) well) in
     let right : chars Utf32 (map (λ (u : ℕ). u) vs) ≡ wide = ap (chars Utf32) (map-id vs ∙ sym is_wide) ∙ scalars in
     (λ e. sym left ∙ e ∙ right, λ e. left ∙ e ∙ sym right)
+
+-- The scalar values of a prefix of UTF-16, as units of UTF-32.
+pub scalars_chunk : (us rest cs : List ℕ) → encode Utf32 (chars Utf16 (map (λ (u : ℕ). u) us)) ≡ map (λ (u : ℕ). u) cs ++ encode Utf32 (chars Utf16 (map (λ (u : ℕ). u) rest)) → chars Utf16 us ≡ cs ++ chars Utf16 rest
+scalars_chunk us rest cs units =
+    let left = map (λ (u : ℕ). u) rest in
+    ap (chars Utf16) (sym (map-id us)) ∙ sym (encode32 (chars Utf16 (map (λ (u : ℕ). u) us))) ∙ units ∙ ap (λ ds. ds ++ encode Utf32 (chars Utf16 left)) (map-id cs) ∙ ap (λ ds. cs ++ ds) (encode32 (chars Utf16 left) ∙ ap (chars Utf16) (map-id rest))
 
 -- An empty list of units has no characters.
 pub no_chars : (us : List ℕ) → length us ≡ 0 → chars Utf16 us ≡ []

@@ -4,7 +4,7 @@ ghost use Rattle.std.specs.Str.{chars as str_chars};
 ghost use Rattle.wide_utfstr.specs.View.{text_seen};
 
 use crate::view::{Utf16Str, Utf32Str, UtfStr};
-use wide_from_units::{to_utf8_prefix, utf16_to_scalars_prefix};
+use wide_from_units::{between_forms_prefix, to_utf8_prefix};
 use wide_unit::Unit;
 
 // The most bytes, or scalar values, that are compared in one step.
@@ -18,7 +18,7 @@ fn same_text(narrow: Utf16Str<'_>, wide: Utf32Str<'_>) -> bool
     let mut units = narrow.as_slice();
     let mut scalars = wide.as_slice();
     'chunks: while !units.is_empty() {
-        let (read, written) = utf16_to_scalars_prefix(units, &mut chunk);
+        let (read, written) = between_forms_prefix(units, &mut chunk);
         let Some(rest) = scalars.strip_prefix(&chunk[..written]) else {
             return false;
         };

@@ -2,4 +2,3 @@ pub mod Drain
 pub mod Faults
 pub mod Case
 pub mod CowText
-pub mod Runs

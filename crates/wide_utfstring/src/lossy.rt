@@ -1,21 +1,20 @@
-//! Well-formed text made from any units, with U+FFFD for each fault.
-ghost use Rattle.std.specs.Prelude.{◌≡◌, ◌≢◌, ◌≤◌, ◌<◌, ◌++◌, [], length, map, take, IsOk, IfOk, OnOk, vec_capacity, vec_len};
+//! Well-formed text made from any units, with what a policy writes for faults (Unicode Standard, section 3.9, "U+FFFD
+//! Substitution of Maximal Subparts").
+ghost use Rattle.std.specs.Prelude.{◌≡◌, ◌≤◌, [], length, map, take, IsOk, IfOk, OnOk, vec_capacity, vec_len};
 ghost use Rattle.wide_forms.specs.EncodingForm.{encode};
-ghost use Rattle.wide_forms.specs.Items.{items, IsWellFormed, IsFirstFault};
-ghost use Rattle.wide_forms.specs.Lossy.{lossy, lossy_by};
-ghost use Rattle.wide_forms.specs.declared.policy.Policy.TheVariants.{Each};
+ghost use Rattle.wide_forms.specs.Items.{items, IsWellFormed};
+ghost use Rattle.wide_forms.specs.Lossy.{lossy_by};
 ghost use Rattle.wide_ustr.specs.View.{units_seen as ustr_units};
 ghost use Rattle.wide_ucstr.specs.View.{contents_seen};
 ghost use Rattle.wide_utfstring.specs.CowText.{IsLossyOf, IsLossyBy};
-ghost use Rattle.wide_utfstring.specs.Runs.{for_run};
 
 use crate::{CowUtfStr, UtfString};
 use std::alloc::Allocator;
 use wide_error::OutOfMemory;
 use wide_forms::Policy;
 use wide_ucstr::UCStr;
-use wide_unit::{FirstFault, check};
-use wide_ustr::{UStr, after_faults};
+use wide_unit::find_fault;
+use wide_ustr::UStr;
 use wide_ustring::UString;
 use wide_utferror::FaultUnit;
 use wide_utfstr::UtfStr;
@@ -55,28 +54,12 @@ impl<C: FaultUnit, A: Allocator> UtfString<C, A> {
         ensures text { IfOk result (IsLossyBy policy C.form C.number units.now) }
         ensures succeeds { IsWellFormed C.form (map C.number units.now) → IsOk result }
     {
-        match check(units) {
-            Ok(()) => Ok(CowUtfStr::Borrowed(UtfStr::from_slice_unchecked(units))),
-            Err(fault) => Ok(CowUtfStr::Owned(UtfString::lossy_copy(alloc, units, fault, policy)?)),
-        }
-    }
-
-    // Returns a copy of units whose first fault is given, with the faults replaced as the policy says. The copy has at
-    // most as many units as there are, so the capacity that is allocated first suffices.
-    fn lossy_copy(
-        alloc: A,
-        units: &[C],
-        fault: FirstFault<C>,
-        policy: Policy,
-    ) -> Result<Self, OutOfMemory>
-        requires fault { IsFirstFault C.form (map C.number units.now) fault.index fault.item (C.number fault.unit) }
-        requires within { fault.index < length units.now }
-        ensures made { IfOk result (λ s. map C.number s.units ≡ encode C.form (lossy_by policy (items C.form (map C.number units.now)))) }
-        ensures capacity { IfOk result (λ s. length units.now ≤ s.capacity) }
-    {
-        match policy {
-            Policy::Each => UtfString::repaired_copy(alloc, units, fault.index),
-            Policy::Run | Policy::Skip => { UtfString::copy_by_runs(alloc, units, fault, policy) }
+        match find_fault(units) {
+            None => Ok(CowUtfStr::Borrowed(UtfStr::from_slice_unchecked(units))),
+            Some((index, _unit)) => {
+                let string = UtfString::lossy_copy(alloc, units, index, policy)?;
+                Ok(CowUtfStr::Owned(string))
+            }
         }
     }
 
@@ -95,60 +78,22 @@ impl<C: FaultUnit, A: Allocator> UtfString<C, A> {
         Ok(())
     }
 
-    // Returns a copy of units that are well formed before `index`, with each fault replaced by U+FFFD.
-    fn repaired_copy(alloc: A, units: &[C], index: usize) -> Result<Self, OutOfMemory>
+    // Returns the lossy text of units of which the first `index` are well formed. It is never longer than the units, so
+    // the capacity that is allocated first suffices.
+    fn lossy_copy(alloc: A, units: &[C], index: usize, policy: Policy) -> Result<Self, OutOfMemory>
         requires within { index ≤ length units.now }
         requires prefix { IsWellFormed C.form (map C.number (take index units.now)) }
-        ensures made { IfOk result (λ s. map C.number s.units ≡ encode C.form (lossy (items C.form (map C.number units.now)))) }
+        ensures made { IfOk result (λ s. map C.number s.units ≡ encode C.form (lossy_by policy (items C.form (map C.number units.now)))) }
         ensures capacity { IfOk result (λ s. length units.now ≤ s.capacity) }
     {
         let (prefix, rest) = units.split_at(index);
         let mut text = Vec::new(alloc);
         UtfString::fill(&mut text, prefix, units.len())?;
-        C::repair(rest, &mut text[index..]);
+        let progress = C::lossy_prefix(rest, policy, false, &mut text[index..]);
+        text.truncate(index + progress.written);
         Ok(UtfString {
             string: UString::from_vec(text),
         })
-    }
-
-    // Appends units that are well formed, and what replaces the run of faults after them.
-    fn push_before_run(&mut self, prefix: &[C], policy: Policy) -> Result<(), OutOfMemory>
-        requires { IsWellFormed C.form (map C.number prefix.now) }
-        ensures units { OnOk result (map C.number self.new.units ≡ map C.number (self.old.units ++ prefix.now) ++ encode C.form (for_run policy)) }
-        ensures capacity { self.old.capacity ≤ self.new.capacity }
-    {
-        self.push_utfstr(UtfStr::from_slice_unchecked(prefix))?;
-        match policy {
-            Policy::Run => self.push(char::REPLACEMENT_CHARACTER),
-            _ => Ok(()),
-        }
-    }
-
-    // Returns a copy of units whose first fault is given, with each longest run of faults replaced as the policy says.
-    // It copies the text between the runs as a whole.
-    fn copy_by_runs(
-        alloc: A,
-        units: &[C],
-        fault: FirstFault<C>,
-        policy: Policy,
-    ) -> Result<Self, OutOfMemory>
-        requires runs { policy ≢ Each }
-        requires fault { IsFirstFault C.form (map C.number units.now) fault.index fault.item (C.number fault.unit) }
-        requires within { fault.index < length units.now }
-        ensures made { IfOk result (λ s. map C.number s.units ≡ encode C.form (lossy_by policy (items C.form (map C.number units.now)))) }
-        ensures capacity { IfOk result (λ s. length units.now ≤ s.capacity) }
-    {
-        let mut text = UtfString::with_capacity(alloc, units.len())?;
-        let mut rest = units;
-        let mut found = Err(fault);
-        while let Err(fault) = found {
-            let (prefix, faults) = rest.split_at(fault.index);
-            text.push_before_run(prefix, policy)?;
-            rest = after_faults(faults);
-            found = check(rest);
-        }
-        text.push_utfstr(UtfStr::from_slice_unchecked(rest))?;
-        Ok(text)
     }
 
     /// Makes well-formed text of the units of a view. Each unit that belongs to no character is replaced by one U+FFFD

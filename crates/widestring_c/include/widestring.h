@@ -1,8 +1,8 @@
 /*
  * Conversions, checks and searches of UTF-16, UTF-32 and UTF-8 for C programs. The caller supplies all buffers.
  *
- * Each function is proved to do what its comment says, for all units and bytes, well formed or ill-formed, if the
- * caller keeps these rules. The functions do not check the rules:
+ * Each function is proved to do what its comment says, but for how long it takes, for all units and bytes, well formed
+ * or ill-formed, if the caller keeps these rules. The functions do not check the rules:
  *
  *  - A pointer and the length or capacity after it describe memory that may be read, or written if the pointer is not
  *    to `const`. If the length or capacity is 0, the pointer may be NULL.
@@ -41,14 +41,16 @@ extern "C" {
 uint32_t wide_version(void);
 
 /*
- * What a conversion, a count or a length returns if the text is ill-formed, or if a policy or an order is not one of
- * those below. No text has this length.
+ * What a conversion, a count or a length returns if the text is ill-formed, and what a function that returns a size_t
+ * and takes a policy or an order returns if that is not one of those below, unless its comment says otherwise. No text
+ * has this length.
  */
 #define WIDE_FAULT SIZE_MAX
 
 /*
- * What a search returns if it finds nothing, and what wide_utf16_first_fault_item and wide_utf32_first_fault_item
- * return if the text is well formed. No text has this length.
+ * What wide_utf16_find and wide_utf32_find return if the needle does not occur, and what wide_utf16_first_fault_item
+ * and wide_utf32_first_fault_item return if the text is well formed. The other searches return the length then. It is
+ * the same number as WIDE_FAULT; no function returns both.
  */
 #define WIDE_NOT_FOUND SIZE_MAX
 
@@ -127,9 +129,8 @@ size_t wide_utf32_find_unit(const uint32_t *units, size_t length, uint32_t unit)
 
 /*
  * Returns the offset of the first occurrence of the needle, or WIDE_NOT_FOUND if it does not occur. An empty needle
- * occurs at offset 0. SIMD code finds where the first unit of the needle stands and, if that unit is frequent, where the
- * last one stands as well; units are compared there. The time grows at most linearly with both lengths, even if the
- * needle repeats itself and the text does so too.
+ * occurs at offset 0. The time grows at most linearly with both lengths, even if the needle repeats itself and the text
+ * does so too.
  */
 size_t wide_utf16_find(const uint16_t *units, size_t length, const uint16_t *needle, size_t needle_length);
 size_t wide_utf32_find(const uint32_t *units, size_t length, const uint32_t *needle, size_t needle_length);
@@ -167,15 +168,17 @@ size_t wide_utf16_to_utf8_lossy_with(const uint16_t *units, size_t length, uint3
  *     needed = wide_utf16_bytes_to_utf8_lossy_with(buffer, complete, order, policy, after_fault, text, capacity);
  *     after_fault = wide_utf16_bytes_end_in_fault(buffer, complete, order, after_fault);
  *     memmove(buffer, buffer + complete, length - complete);
+ *     length = length - complete;
  *
- * If `needed` is greater than the capacity, repeat the second line with a larger buffer before the third line: it takes
- * the old `after_fault`. At the end of the stream convert all bytes that are left, at most three. The results, one
- * after another, are the text of the whole stream. If an odd number of bytes is left, the stream ends in half a unit.
+ * If `needed` is greater than the capacity and is not WIDE_FAULT, which an invalid order or policy gives, repeat the
+ * second line with a larger buffer before the third line: it takes the old `after_fault`. At the end of the stream
+ * convert all bytes that are left, at most three. The results, one after another, are the text of the whole stream. If
+ * an odd number of bytes is left, the stream ends in half a unit.
  *
- * A chunk had ill-formed units if wide_utf16_bytes_first_fault of its `complete` bytes is less than complete / 2. The
- * same call finds ill-formed units in the bytes left at the end. `after_fault` reports only the last unit. A reader
- * that rejects ill-formed units calls wide_utf16_bytes_to_utf8 instead of the lossy function, stops at WIDE_FAULT, and
- * needs no `after_fault`.
+ * To know whether a chunk has ill-formed units, call wide_utf16_bytes_first_fault on its `complete` bytes before they
+ * are moved: it has some if the result is less than complete / 2. The same call finds ill-formed units in the bytes
+ * left at the end. `after_fault` reports only the last unit. A reader that rejects ill-formed units calls
+ * wide_utf16_bytes_to_utf8 instead of the lossy function, stops at WIDE_FAULT, and needs no `after_fault`.
  */
 
 /* Returns the order of the BOM at the start (Unicode Standard, section 23.8), or WIDE_NO_BOM if there is none. */

@@ -1,16 +1,15 @@
 -- Lossy text of bytes: a well-formed prefix and the items after it at a time; and the lossy text of no bytes and no
 -- units.
-use Rattle.std.proofs.Common.{◌≡◌, ℕ, ◌≤◌, List, [], ◌∷◌, ◌++◌, Bool, true, false, length, take, drop, refl, sym, ap, ◌∙◌, subst, arith}
-use Rattle.std.specs.Str.{IsUtf8, IsValidUpTo, chars}
-use Rattle.std.proofs.lemmas.List.{take_all}
+use Rattle.std.proofs.Common.{◌≡◌, ℕ, ◌≤◌, List, [], ◌∷◌, ◌++◌, Bool, true, false, IsTrue, ◌↔◌, length, take, drop, refl, ap, ◌∙◌, arith}
+use Rattle.std.specs.Str.{IsUtf8, chars}
 use Rattle.std.proofs.lemmas.List.Concat.{flat_map-append}
 use Rattle.wide_forms.specs.EncodingForm.{EncodingForm, code_units, encode}
 use Rattle.wide_forms.specs.Items.{items}
 use Rattle.wide_forms.specs.Lossy.{lossy_after}
 use Rattle.wide_forms.specs.Utf8.{utf8, utf8_bytes}
 use Rattle.wide_forms.specs.Laws.Items.{items-nil}
+use Rattle.wide_forms.specs.Laws.Policies.{lossy_after-none_left}
 use Rattle.wide_forms.specs.declared.policy.Policy.{Policy}
-use Rattle.wide_forms.specs.declared.policy.Policy.TheVariants.{Each, Run, Skip}
 use Rattle.wide_conversions.specs.Utf8Items.{IsLossyPrefix, none, utf8_items, utf8_items-divide, utf8_items-unique}
 use Rattle.wide_conversions.proofs.LossyItems.{lossy-after_text, lossy-rest}
 
@@ -23,20 +22,14 @@ lossy_prefix form policy bs us n m after between next within text same other ite
     let rest = lossy_after policy between (utf8_items (drop n bs)) in
     ap (encode form) (lossy-after_text policy bs n after between within text same other) ∙ flat_map-append (code_units form) cs rest ∙ ap (λ vs. encode form cs ++ vs) (lossy-rest form policy (drop n bs) [] us m between next items)
 
--- no bytes have no lossy text
-pub no_text : (policy : Policy) (after : Bool) → lossy_after policy after [] ≡ []
-no_text Each after = refl
-no_text Run true = refl
-no_text Run false = refl
-no_text Skip after = refl
-
+-- no bytes and no units have no lossy text
 pub lossy_end : (form : EncodingForm) (policy : Policy) (after : Bool) (bs : List ℕ) → length bs ≡ 0 → encode form (lossy_after policy after (utf8_items bs)) ≡ []
-lossy_end form policy after [] empty = ap (λ is. encode form (lossy_after policy after is)) (utf8_items-unique [] _ _ (utf8_items-divide []) none) ∙ ap (encode form) (no_text policy after)
+lossy_end form policy after [] empty = ap (λ is. encode form (lossy_after policy after is)) (utf8_items-unique [] _ _ (utf8_items-divide []) none) ∙ ap (encode form) (lossy_after-none_left policy after)
 lossy_end form policy after (b ∷ bs) empty = absurd (omega arith)
 
 -- no units have no lossy text
 pub lossy_units_end : (form : EncodingForm) (policy : Policy) (after : Bool) (us : List ℕ) → length us ≡ 0 → utf8 (lossy_after policy after (items form us)) ≡ []
-lossy_units_end form policy after [] empty = ap (λ is. utf8 (lossy_after policy after is)) (items-nil form) ∙ ap utf8 (no_text policy after)
+lossy_units_end form policy after [] empty = ap (λ is. utf8 (lossy_after policy after is)) (items-nil form) ∙ ap utf8 (lossy_after-none_left policy after)
 lossy_units_end form policy after (u ∷ us) empty = absurd (omega arith)
 
 -- the UTF-8 of three texts
@@ -47,6 +40,6 @@ pub replacement : utf8 (0xFFFD ∷ []) ≡ 0xEF ∷ 0xBF ∷ 0xBD ∷ []
 unfolding utf8_bytes
 replacement = refl
 
--- bytes with an ill-formed sequence are not UTF-8
-pub not_text : (bs : List ℕ) (n : ℕ) → IsValidUpTo bs n → IsUtf8 bs → ⊥
-not_text bs n valid text = valid.longest (length bs) valid.short (subst (λ xs. IsUtf8 xs) (sym (take_all (length bs) bs (omega arith))) text)
+-- bytes that are not UTF-8, by the result of a test
+pub faulty : (bs : List ℕ) (result : Bool) → IsTrue result ↔ IsUtf8 bs → result ≡ false → IsUtf8 bs → ⊥
+faulty bs result test other text = (let yes : result ≡ true = test.1 text in absurd cc)

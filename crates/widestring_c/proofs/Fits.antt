@@ -1,5 +1,5 @@
 -- A slice has fewer than 2 ^ 63 bytes, so no text is as long as `usize::MAX`, which is returned for a fault.
-use Rattle.std.proofs.Common.{◌≡◌, ℕ, ◌+◌, ◌*◌, ◌-◌, ◌^◌, ◌≤◌, ◌<◌, inl, inr, List, [], ◌∷◌, length, length-append, map, min, Bool, true, false, ap, ◌∙◌, arith}
+use Rattle.std.proofs.Common.{◌≡◌, ℕ, ◌+◌, ◌*◌, ◌-◌, ◌^◌, ◌≤◌, ◌<◌, inl, inr, List, [], ◌∷◌, length, length-append, map, min, Bool, true, false, Option, Some, None, refl, sym, ap, ◌∙◌, arith}
 use Rattle.std.specs.Str.{IsUtf8, chars as str_chars}
 use Rattle.std.proofs.lemmas.List.{length-map}
 use Rattle.std.proofs.lemmas.Bool.{cases_lt}
@@ -7,14 +7,14 @@ use Rattle.std.proofs.lemmas.Bool.Decides.{nat_tests}
 use Rattle.std.proofs.lemmas.Str.{encodes-chars}
 use Rattle.wide_forms.specs.EncodingForm.{EncodingForm, Utf16, Utf32, code_units, encode}
 use Rattle.wide_forms.specs.Segmentation.{Item, Char, Fault}
-use Rattle.wide_forms.specs.Items.{IsWellFormed, characters, chars, items}
-use Rattle.wide_forms.specs.Lossy.{lossy, lossy_after, lossy_by, lossy_runs, past_faults}
+use Rattle.wide_forms.specs.Items.{IsWellFormed, chars, items}
+use Rattle.wide_forms.specs.Lossy.{lossy, lossy_after, lossy_by, replacement}
 use Rattle.wide_forms.specs.Utf8.{utf8, utf8_bytes}
 use Rattle.wide_forms.specs.declared.policy.Policy.{Policy}
-use Rattle.wide_forms.specs.declared.policy.Policy.TheVariants.{Each, Run, Skip}
 use Rattle.wide_forms.specs.Laws.Forms.{one_unit, two_units}
 use Rattle.wide_forms.specs.Laws.Lossy.{length-lossy}
 use Rattle.wide_forms.specs.Laws.Offsets.{encode-chars}
+use Rattle.wide_forms.specs.Laws.Policies.{lossy_after-char, lossy_after-dropped, lossy_after-none, lossy_after-none_left, lossy_after-replaced, replacement-is}
 use Rattle.wide_forms.specs.Laws.Utf8.{utf8-encode_utf8_all}
 use Rattle.wide_conversions.specs.Laws.Utf8Items.{shorter-part}
 use Rattle.wide_conversions.specs.Utf8Items.{AreUtf8Items, none, character, part, utf8_items, utf8_items-divide}
@@ -49,33 +49,21 @@ one_replacement Utf32 = omega arith
 
 module _ (form : EncodingForm) where
   -- no policy writes more than a replacement character for each fault
-  runs-short : (is : List Item) → length (encode form (lossy_runs is)) ≤ length (encode form (lossy is))
-  runs-short [] = omega arith
-  runs-short (Char c ∷ is) = omega (arith, runs-short is, length-append (code_units form c) (encode form (lossy_runs is)), length-append (code_units form c) (encode form (lossy is)))
-  runs-short (Fault u ∷ []) = omega arith
-  runs-short (Fault u ∷ Char c ∷ is) = omega (arith, runs-short (Char c ∷ is), length-append (code_units form 0xFFFD) (encode form (lossy_runs (Char c ∷ is))), length-append (code_units form 0xFFFD) (encode form (lossy (Char c ∷ is))))
-  runs-short (Fault u ∷ Fault v ∷ is) = omega (arith, runs-short (Fault v ∷ is), length-append (code_units form 0xFFFD) (encode form (lossy (Fault v ∷ is))))
-
-  past-short : (is : List Item) → length (encode form (lossy_runs (past_faults is))) ≤ length (encode form (lossy is))
-  past-short [] = omega arith
-  past-short (Char c ∷ is) = runs-short (Char c ∷ is)
-  past-short (Fault u ∷ is) = omega (arith, past-short is, length-append (code_units form 0xFFFD) (encode form (lossy is)))
-
-  characters-short : (is : List Item) → length (encode form (characters is)) ≤ length (encode form (lossy is))
-  characters-short [] = omega arith
-  characters-short (Char c ∷ is) = omega (arith, characters-short is, length-append (code_units form c) (encode form (characters is)), length-append (code_units form c) (encode form (lossy is)))
-  characters-short (Fault u ∷ is) = omega (arith, characters-short is, length-append (code_units form 0xFFFD) (encode form (lossy is)))
+  fault-short : (policy : Policy) (after : Bool) (u : ℕ) (is : List Item) → length (encode form (lossy_after policy true is)) ≤ length (encode form (lossy is)) → (r : Option ℕ) → replacement policy after ≡ r
+      → length (encode form (lossy_after policy after (Fault u ∷ is))) ≤ length (encode form (lossy (Fault u ∷ is)))
+  fault-short policy after u is rest None e = rw (lossy_after-dropped policy after u is e) (omega (arith, rest, length-append (code_units form 0xFFFD) (encode form (lossy is))))
+  fault-short policy after u is rest (Some c) e =
+      rw (lossy_after-replaced policy after u c is e, replacement-is policy after c e)
+      (omega (arith, rest, length-append (code_units form 0xFFFD) (encode form (lossy_after policy true is)), length-append (code_units form 0xFFFD) (encode form (lossy is))))
 
   after-short : (policy : Policy) (after : Bool) (is : List Item) → length (encode form (lossy_after policy after is)) ≤ length (encode form (lossy is))
-  after-short Each after is = omega arith
-  after-short Run true is = past-short is
-  after-short Run false is = runs-short is
-  after-short Skip after is = characters-short is
+  after-short policy after [] = rw (lossy_after-none_left policy after) (omega arith)
+  after-short policy after (Char c ∷ is) =
+      rw (lossy_after-char policy after c is) (omega (arith, after-short policy false is, length-append (code_units form c) (encode form (lossy_after policy false is)), length-append (code_units form c) (encode form (lossy is))))
+  after-short policy after (Fault u ∷ is) = fault-short policy after u is (after-short policy true is) (replacement policy after) refl
 
   by-short : (policy : Policy) (is : List Item) → length (encode form (lossy_by policy is)) ≤ length (encode form (lossy is))
-  by-short Each is = omega arith
-  by-short Run is = runs-short is
-  by-short Skip is = characters-short is
+  by-short policy is = rw (sym (lossy_after-none policy is)) (after-short policy false is)
 
   -- the UTF-8 of units has at most four bytes for each unit
   pub bytes-well_formed : (us : List ℕ) → IsWellFormed form us → length (utf8 (chars form us)) ≤ 4 * length us

@@ -8,7 +8,7 @@ use Rattle.wide_forms.specs.Items.{IsFirstFault, IsWellFormed, characters, chars
 use Rattle.wide_forms.specs.Lossy.{ends_in_fault, lossy_after}
 use Rattle.wide_forms.specs.Utf8.{utf8, utf8_bytes}
 use Rattle.wide_forms.specs.Laws.Items.{IsCut, IsWellFormed-of_chars, chars-of_well_formed, encode-of_items, items-append, items-nil, length-items16}
-use Rattle.wide_forms.specs.Laws.Policies.{characters-append, ends_in_fault-append, lossy_after-append}
+use Rattle.wide_forms.specs.Laws.Policies.{characters-append, ends_in_fault-append, lossy_after-append, lossy_after-none_left}
 use Rattle.wide_forms.specs.declared.policy.Policy.{Policy}
 use Rattle.wide_unit.proofs.Faults.{IsFirstFault-of, first_fault-split}
 use Rattle.wide_bytes.specs.Bytes.{units_in}
@@ -16,7 +16,6 @@ use Rattle.wide_transcode.specs.Lossied.{faulty, lossy_text}
 use Rattle.wide_bytes.specs.declared.order.BoM.{BoM}
 use Rattle.wide_bytes.proofs.Pairs.{length-units_in, units_in-append, units_in-short}
 use Rattle.widestring_c.specs.Bytes.{IsWellFormedIn, text_in}
-use Rattle.widestring_c.proofs.Chunks.{no_text}
 
 -- half a unit has no units, so no pair is split before it
 pub cut-before_half : (order : BoM) (us bytes : List ℕ) → length bytes < 2 → IsCut Utf16 us (units_in order bytes)
@@ -56,7 +55,7 @@ module _ (policy : Policy) (after : Bool) where
 
   pub no_text-left : (order : BoM) (bytes : List ℕ) → length bytes < 2 → lossy_text policy after (units_in order bytes) ≡ []
   no_text-left order bytes short =
-      ap (λ us. lossy_text policy after us) (units_in-short order bytes short) ∙ ap (λ is. utf8 (lossy_after policy after is)) (items-nil Utf16) ∙ ap utf8 (no_text policy after)
+      ap (λ us. lossy_text policy after us) (units_in-short order bytes short) ∙ ap (λ is. utf8 (lossy_after policy after is)) (items-nil Utf16) ∙ ap utf8 (lossy_after-none_left policy after)
 
 -- ---- whether the last unit is ill-formed
 

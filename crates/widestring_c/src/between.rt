@@ -4,13 +4,14 @@ ghost use Rattle.wide_forms.specs.EncodingForm.{Utf16, Utf32, encode};
 ghost use Rattle.wide_forms.specs.Items.{IsWellFormed, chars};
 
 use crate::caller_buffer::put_items;
-use wide_conversions::between_forms_prefix;
-use wide_unit::{Unit, check};
+use wide_from_units::between_forms_prefix;
+use wide_unit::{Unit, find_fault};
 
-// Sizes of the array, in units, that converted units are copied from: small for a short input, so that less of it is
+// The size of the array, in units, that the converted units of a short input are copied from. Less of it has to be
 // cleared.
 const FEW: usize = 32;
 
+// The size of the array, in units, that the converted units of a longer input are copied from.
 const MANY: usize = 772;
 
 // Converts well-formed units to units of another width, chunk by chunk, at the start of the buffer. Returns how many
@@ -47,9 +48,9 @@ fn put_valid<C: Unit, D: Unit>(units: &[C], space: &mut [D], chunk: &mut [D]) ->
     ensures unchanged { IfNone result (space.new ≡ space.old) }
     ensures beyond { IfSome result (λ len. drop len space.new ≡ drop len space.old) }
 {
-    match check(units) {
-        Ok(()) => Some(put_recoded(units, space, chunk)),
-        Err(_fault) => None,
+    match find_fault(units) {
+        None => Some(put_recoded(units, space, chunk)),
+        Some(_fault) => None,
     }
 }
 

@@ -10,13 +10,13 @@ ghost use Rattle.widestring_c.specs.Bytes.{IsWellFormedBy, IsWellFormedIn, bytes
 ghost use Rattle.widestring_c.specs.Policies.{policy_of};
 
 use crate::policies::policy_of;
-use crate::to_utf8::{LARGE, put_lossy_after};
+use crate::to_utf8::{LARGE, MANY, put_lossy_after};
 use wide_bytes::{BoM, byte_order, fill_units, unit_in};
 use wide_forms::Policy;
-use wide_from_units::valid_len;
-use wide_transcode::ends_in_fault;
+use wide_repair::ends_in_fault;
+use wide_unit::valid_len;
 
-// How many units are read at a time.
+// How many units are read at a time: 2,048 bytes of them, which stay in the nearest cache until they are converted.
 const CHUNK: usize = 1024;
 
 // Returns the byte order with this number, or `None` if there is none.
@@ -38,7 +38,8 @@ fn is_set(flag: u32) -> bool
 }
 
 // Returns how many of the first `prefix` bytes may be converted before the bytes after them are known: all, except a
-// last high surrogate, which may begin a pair.
+// last high surrogate, which may begin a pair. The high surrogates, D800 to DBFF, are the units whose quotient by 0x400
+// is 54.
 fn uncut_len(order: BoM, bytes: &[u8], prefix: usize) -> usize
     requires within { prefix ≤ length bytes.now }
     requires even { prefix % 2 ≡ 0 }
@@ -83,7 +84,8 @@ fn chunk_len(order: BoM, bytes: &[u8]) -> usize
 }
 
 // Converts the units in bytes to UTF-8, chunk by chunk, at the start of `text`, and replaces ill-formed units by the
-// policy. `after_fault` says whether the unit before the bytes is ill-formed. `units` and `chunk` are scratch arrays.
+// policy. `after_fault` says whether the unit before the bytes is ill-formed. `units`, `spare` and `chunk` are scratch
+// arrays.
 fn put_bytes_by(
     order: BoM,
     bytes: &[u8],
@@ -91,9 +93,11 @@ fn put_bytes_by(
     after_fault: bool,
     text: &mut [u8],
     units: &mut [u16],
+    spare: &mut [u16],
     chunk: &mut [u8],
 ) -> usize
     requires units { 1024 ≤ length units.old }
+    requires spare { 2 ≤ length spare.old }
     requires chunk { 64 ≤ length chunk.old }
     ensures len { result ≡ min (length (bytes_text order policy after_fault bytes.now)) (2 ^ 64 - 1) }
     ensures text { result ≤ length text.old → take result text.new ≡ bytes_text order policy after_fault bytes.now }
@@ -106,30 +110,30 @@ fn put_bytes_by(
         let (prefix, beyond) = rest.split_at(chunk_len(order, rest));
         fill_units(order, prefix, units);
         let read = &units[..prefix.len() / 2];
-        at = put_lossy_after(read, policy, after, text, at, chunk);
+        at = put_lossy_after(read, policy, after, text, at, spare, chunk);
         after = ends_in_fault(read, after);
         rest = beyond;
     }
     at
 }
 
-// Copies the lossy text of UTF-16 in bytes, by arrays on the stack.
+// Converts UTF-16 in bytes to UTF-8 at the start of `text`, and replaces ill-formed units by the policy, through arrays
+// on the stack.
 fn put_bytes(order: BoM, bytes: &[u8], policy: Policy, after_fault: bool, text: &mut [u8]) -> usize
     ensures len { result ≡ length (bytes_text order policy after_fault bytes.now) }
     ensures fits { result < 2 ^ 64 - 1 }
     ensures text { result ≤ length text.old → take result text.new ≡ bytes_text order policy after_fault bytes.now }
     ensures beyond { drop result text.new ≡ drop result text.old }
 {
-    let mut units = [0; CHUNK];
-    let mut chunk = [0; LARGE];
     put_bytes_by(
         order,
         bytes,
         policy,
         after_fault,
         text,
-        &mut units,
-        &mut chunk,
+        &mut [0; CHUNK],
+        &mut [0; MANY],
+        &mut [0; LARGE],
     )
 }
 
@@ -184,6 +188,7 @@ fn ends_bytes(order: BoM, bytes: &[u8], after_fault: bool) -> bool
     if bytes.len() < 2 {
         return after_fault;
     }
+    // The last whole unit, and the one before it if that is a high surrogate.
     let (_, last) = bytes.split_at(uncut_len(order, bytes, bytes.len() / 2 * 2 - 2));
     let mut units = [0; 2];
     fill_units(order, last, &mut units);

@@ -9,7 +9,7 @@ ghost use Rattle.widestring_c.specs.Policies.{policy_of};
 
 use crate::caller_buffer::put_items;
 use crate::policies::policy_of;
-use wide_conversions::{first_utf8_chunk, from_utf8_lossy_prefix};
+use wide_conversions::{first_utf8_chunk, from_utf8_lossy_prefix, is_utf8};
 use wide_forms::Policy;
 use wide_from_units::is_after_fault;
 use wide_from_utf8::from_utf8_prefix;
@@ -61,7 +61,7 @@ fn text_len(text: &[u8]) -> usize
     if text.len() <= FEW {
         return 0;
     }
-    first_utf8_chunk(text).0
+    first_utf8_chunk(text).valid
 }
 
 // Converts any bytes at the start of the buffer, and replaces maximal subparts of ill-formed sequences by the policy.
@@ -76,21 +76,21 @@ fn put_lossy<C: Unit>(text: &[u8], policy: Policy, units: &mut [C], chunk: &mut 
 {
     let mut at = 0;
     let mut rest = text;
-    let mut after = false;
+    let mut after_fault = false;
     'prefixes: while !rest.is_empty() {
         let len = text_len(rest);
         let (prefix, beyond) = rest.split_at(len);
         at = put_text(prefix, units, at, chunk);
-        let before = is_after_fault(after, len);
-        let (read, written, is_after) = from_utf8_lossy_prefix(beyond, policy, before, chunk);
+        after_fault = is_after_fault(after_fault, len);
+        let (read, written, is_fault) = from_utf8_lossy_prefix(beyond, policy, after_fault, chunk);
         at = put_items(units, at, &chunk[..written]);
-        after = is_after;
+        after_fault = is_fault;
         (_, rest) = beyond.split_at(read);
     }
     at
 }
 
-// Copies lossy text in UTF-16, by an array whose size fits the input.
+// Converts any bytes to lossy UTF-16 at the start of the buffer, through an array whose size fits the input.
 fn put_lossy_16(text: &[u8], policy: Policy, units: &mut [u16]) -> usize
     ensures len { result ≡ length (encode Utf16 (lossy_by policy (utf8_items text.now))) }
     ensures fits { result < 2 ^ 64 - 1 }
@@ -104,7 +104,7 @@ fn put_lossy_16(text: &[u8], policy: Policy, units: &mut [u16]) -> usize
     }
 }
 
-// Copies lossy text in UTF-32, by an array whose size fits the input.
+// Converts any bytes to lossy UTF-32 at the start of the buffer, through an array whose size fits the input.
 fn put_lossy_32(text: &[u8], policy: Policy, units: &mut [u32]) -> usize
     ensures len { result ≡ length (lossy_by policy (utf8_items text.now)) }
     ensures fits { result < 2 ^ 64 - 1 }
@@ -126,7 +126,7 @@ pub extern "C" fn wide_utf8_first_fault(text: &[u8]) -> usize
     ensures fault { result < length text.now → IsValidUpTo text.now result }
     ensures within { result ≤ length text.now }
 {
-    first_utf8_chunk(text).0
+    first_utf8_chunk(text).valid
 }
 
 /// Converts well-formed UTF-8 to UTF-16. Returns how many units the result has. If `units` is at least that long, the
@@ -141,8 +141,7 @@ pub extern "C" fn wide_utf8_to_utf16(text: &[u8], units: &mut [u16]) -> usize
     ensures unchanged { (IsUtf8 text.now → ⊥) → units.new ≡ units.old }
     ensures beyond { drop result units.new ≡ drop result units.old }
 {
-    let (_, broken) = first_utf8_chunk(text);
-    if broken > 0 {
+    if !is_utf8(text) {
         usize::MAX
     } else if text.len() <= FEW {
         put_text(text, units, 0, &mut [0; FEW])
@@ -163,8 +162,7 @@ pub extern "C" fn wide_utf8_to_utf32(text: &[u8], units: &mut [u32]) -> usize
     ensures unchanged { (IsUtf8 text.now → ⊥) → units.new ≡ units.old }
     ensures beyond { drop result units.new ≡ drop result units.old }
 {
-    let (_, broken) = first_utf8_chunk(text);
-    if broken > 0 {
+    if !is_utf8(text) {
         usize::MAX
     } else if text.len() <= FEW {
         put_text(text, units, 0, &mut [0; FEW])

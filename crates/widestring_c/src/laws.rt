@@ -9,9 +9,9 @@ ghost use Rattle.widestring_c.specs.Bytes.{IsWellFormedIn, bytes_faulty, bytes_t
 use wide_bytes::BoM;
 use wide_forms::Policy;
 
-/// The lossy text of a stream is that of a prefix followed by that of the rest. The prefix ends between two units and
-/// does not split a surrogate pair. The rest is converted with the flag that says whether the last unit of the prefix
-/// is ill-formed. The flag after the rest is the flag after the whole stream.
+/// States that the lossy text of a stream is that of a prefix followed by that of the rest. The prefix ends between two
+/// units and does not split a surrogate pair. The rest is converted with the flag that says whether the last unit of
+/// the prefix is ill-formed. The flag after the rest is the flag after the whole stream.
 pub fn text_of_a_stream(order: BoM, policy: Policy, after_fault: bool, prefix: &[u8], back: &[u8])
     requires whole { length prefix.now % 2 ≡ 0 }
     requires cut { IsCut Utf16 (units_in order prefix.now) (units_in order back.now) }
@@ -19,9 +19,10 @@ pub fn text_of_a_stream(order: BoM, policy: Policy, after_fault: bool, prefix: &
     ensures last { bytes_faulty order after_fault (prefix.now ++ back.now) ≡ bytes_faulty order (bytes_faulty order after_fault prefix.now) back.now }
 {}
 
-/// A stream is well formed if and only if a prefix and the rest are both well formed. The prefix ends between two units
-/// and does not split a surrogate pair. The text of the stream is then the text of the prefix followed by that of the
-/// rest. So a strict reader may convert a stream chunk by chunk (Unicode Standard, D91, D96 and D97).
+/// States that a stream is well formed if and only if a prefix and the rest are both well formed. The prefix ends
+/// between two units and does not split a surrogate pair. The text of the stream is then the text of the prefix
+/// followed by that of the rest. So a strict reader may convert a stream chunk by chunk (Unicode Standard, D91, D96 and
+/// D97).
 pub fn strict_text_of_a_stream(order: BoM, prefix: &[u8], back: &[u8])
     requires whole { length prefix.now % 2 ≡ 0 }
     requires cut { IsCut Utf16 (units_in order prefix.now) (units_in order back.now) }

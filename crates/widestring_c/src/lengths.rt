@@ -7,9 +7,9 @@ ghost use Rattle.wide_forms.specs.Items.{IsWellFormed, chars};
 ghost use Rattle.wide_forms.specs.Utf8.{utf8};
 
 use std::str;
-use wide_conversions::first_utf8_chunk;
+use wide_conversions::is_utf8;
 use wide_from_units::utf8_len;
-use wide_unit::{Unit, check, length_as_utf16, length_as_utf32};
+use wide_unit::{Unit, find_fault, length_as_utf16, length_as_utf32};
 
 /// Returns the length in bytes of well-formed UTF-16 (Unicode Standard, D91) in UTF-8 (D92), or `usize::MAX` if the
 /// units are ill-formed. It is vectorized.
@@ -19,9 +19,9 @@ pub extern "C" fn wide_utf16_utf8_length(units: &[u16]) -> usize
     ensures fault { (IsWellFormed Utf16 units.now → ⊥) → result ≡ 2 ^ 64 - 1 }
     ensures no_fault { IsWellFormed Utf16 units.now → result < 2 ^ 64 - 1 }
 {
-    match check(units) {
-        Ok(()) => utf8_len(units),
-        Err(_fault) => usize::MAX,
+    match find_fault(units) {
+        None => utf8_len(units),
+        Some(_fault) => usize::MAX,
     }
 }
 
@@ -33,9 +33,9 @@ pub extern "C" fn wide_utf32_utf8_length(units: &[u32]) -> usize
     ensures fault { (IsWellFormed Utf32 units.now → ⊥) → result ≡ 2 ^ 64 - 1 }
     ensures no_fault { IsWellFormed Utf32 units.now → result < 2 ^ 64 - 1 }
 {
-    match check(units) {
-        Ok(()) => utf8_len(units),
-        Err(_fault) => usize::MAX,
+    match find_fault(units) {
+        None => utf8_len(units),
+        Some(_fault) => usize::MAX,
     }
 }
 
@@ -47,8 +47,7 @@ pub extern "C" fn wide_utf8_utf16_length(text: &[u8]) -> usize
     ensures fault { (IsUtf8 text.now → ⊥) → result ≡ 2 ^ 64 - 1 }
     ensures no_fault { IsUtf8 text.now → result < 2 ^ 64 - 1 }
 {
-    let (_, broken) = first_utf8_chunk(text);
-    if broken > 0 {
+    if !is_utf8(text) {
         return usize::MAX;
     }
     // The bytes were checked above.
@@ -63,8 +62,7 @@ pub extern "C" fn wide_utf8_char_count(text: &[u8]) -> usize
     ensures fault { (IsUtf8 text.now → ⊥) → result ≡ 2 ^ 64 - 1 }
     ensures no_fault { IsUtf8 text.now → result < 2 ^ 64 - 1 }
 {
-    let (_, broken) = first_utf8_chunk(text);
-    if broken > 0 {
+    if !is_utf8(text) {
         return usize::MAX;
     }
     // The bytes were checked above.
@@ -90,9 +88,9 @@ pub extern "C" fn wide_utf16_char_count(units: &[u16]) -> usize
     ensures fault { (IsWellFormed Utf16 units.now → ⊥) → result ≡ 2 ^ 64 - 1 }
     ensures no_fault { IsWellFormed Utf16 units.now → result < 2 ^ 64 - 1 }
 {
-    match check(units) {
-        Ok(()) => u16::char_count(units),
-        Err(_fault) => usize::MAX,
+    match find_fault(units) {
+        None => u16::char_count(units),
+        Some(_fault) => usize::MAX,
     }
 }
 
@@ -104,9 +102,9 @@ pub extern "C" fn wide_utf32_char_count(units: &[u32]) -> usize
     ensures fault { (IsWellFormed Utf32 units.now → ⊥) → result ≡ 2 ^ 64 - 1 }
     ensures no_fault { IsWellFormed Utf32 units.now → result < 2 ^ 64 - 1 }
 {
-    match check(units) {
-        Ok(()) => u32::char_count(units),
-        Err(_fault) => usize::MAX,
+    match find_fault(units) {
+        None => u32::char_count(units),
+        Some(_fault) => usize::MAX,
     }
 }
 
@@ -140,8 +138,8 @@ pub extern "C" fn wide_utf32_utf16_length(units: &[u32]) -> usize
     ensures fault { (IsWellFormed Utf32 units.now → ⊥) → result ≡ 2 ^ 64 - 1 }
     ensures no_fault { IsWellFormed Utf32 units.now → result < 2 ^ 64 - 1 }
 {
-    match check(units) {
-        Ok(()) => units.len() + count_pairs(units),
-        Err(_fault) => usize::MAX,
+    match find_fault(units) {
+        None => units.len() + count_pairs(units),
+        Some(_fault) => usize::MAX,
     }
 }

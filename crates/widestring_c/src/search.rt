@@ -6,7 +6,7 @@ ghost use Rattle.wide_unit.specs.Nul.{HasNoNul, IsFirstNul};
 ghost use Rattle.wide_search.specs.Occurrences.{IsFirstAt, OccursNowhere};
 
 use wide_search::{find, find_unit};
-use wide_unit::{check, first_nul};
+use wide_unit::{check, find_fault, first_nul};
 
 /// Returns the offset of the first fault of UTF-16 (Unicode Standard, D91), or the length if the units are well formed.
 #[unsafe(no_mangle)]
@@ -15,9 +15,9 @@ pub extern "C" fn wide_utf16_first_fault(units: &[u16]) -> usize
     ensures fault { result < length units.now → (item unit : ℕ) × IsFirstFault Utf16 units.now result item unit }
     ensures within { result ≤ length units.now }
 {
-    match check(units) {
-        Ok(()) => units.len(),
-        Err(fault) => fault.index,
+    match find_fault(units) {
+        None => units.len(),
+        Some((index, _unit)) => index,
     }
 }
 
@@ -28,9 +28,9 @@ pub extern "C" fn wide_utf32_first_fault(units: &[u32]) -> usize
     ensures fault { result < length units.now → (item unit : ℕ) × IsFirstFault Utf32 units.now result item unit }
     ensures within { result ≤ length units.now }
 {
-    match check(units) {
-        Ok(()) => units.len(),
-        Err(fault) => fault.index,
+    match find_fault(units) {
+        None => units.len(),
+        Some((index, _unit)) => index,
     }
 }
 

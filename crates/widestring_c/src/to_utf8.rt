@@ -9,9 +9,9 @@ ghost use Rattle.widestring_c.specs.Policies.{policy_of};
 use crate::caller_buffer::put_items;
 use crate::policies::policy_of;
 use wide_forms::Policy;
-use wide_from_units::{is_after_fault, lossy_prefix, to_utf8_prefix, valid_len};
-use wide_unit::{Unit, check};
-use wide_utf16_to_utf8::{checked_utf16_to_utf8, writes_replacement};
+use wide_from_units::{lossy_prefix, to_utf8_prefix};
+use wide_unit::{Unit, find_fault};
+use wide_utf16_to_utf8::checked_utf16_to_utf8;
 
 // The most units that are converted in an array of `SMALL` bytes, before the result is copied to the buffer. A small
 // array takes less time to clear.
@@ -21,16 +21,13 @@ const FEW: usize = 32;
 const SMALL: usize = 100;
 
 // The most units that are converted in an array of `MIDDLE` bytes.
-const MANY: usize = 256;
+pub(crate) const MANY: usize = 256;
 
 // Three bytes for each of `MANY` units, and four more.
 const MIDDLE: usize = 772;
 
 // The size of the array, in bytes, for longer inputs: three bytes for each of 1032 units, and four more.
 pub(crate) const LARGE: usize = 3100;
-
-// U+FFFD REPLACEMENT CHARACTER in UTF-8.
-const REPLACEMENT: [u8; 3] = [0xef, 0xbf, 0xbd];
 
 // Converts well-formed units to UTF-8 at the offset `at` of the buffer, chunk by chunk, and returns the offset after
 // the result, as `put_items` does.
@@ -53,8 +50,8 @@ fn put_chunks<C: Unit>(units: &[C], text: &mut [u8], at: usize, chunk: &mut [u8]
 }
 
 // Checks units, converts them to UTF-8 at the start of the buffer if they are well formed, and returns the length of
-// the result in bytes. Returns `None` if they are ill-formed. The requirement holds for all slices, and the length fits
-// into a `usize` then.
+// the result in bytes. Returns `None` if they are ill-formed. The requirement holds for all slices, which have fewer
+// than 2^63 bytes, so a length of four bytes for each unit fits into a `usize`.
 fn put_checked<C: Unit>(units: &[C], text: &mut [u8]) -> Option<usize>
     requires { 4 * length units.now < 2 ^ 64 - 1 }
     ensures valid { IfSome result (λ len. IsWellFormed C.form (map C.number units.now)) }
@@ -65,19 +62,20 @@ fn put_checked<C: Unit>(units: &[C], text: &mut [u8]) -> Option<usize>
     ensures unchanged { IfNone result (text.new ≡ text.old) }
     ensures beyond { IfSome result (λ len. drop len text.new ≡ drop len text.old) }
 {
-    match check(units) {
-        Ok(()) => {
+    match find_fault(units) {
+        None => {
             if units.len() <= FEW {
                 Some(put_chunks(units, text, 0, &mut [0; SMALL]))
             } else {
                 Some(put_chunks(units, text, 0, &mut [0; LARGE]))
             }
         }
-        Err(_fault) => None,
+        Some(_fault) => None,
     }
 }
 
-// Checks and converts a short run of UTF-16 in one pass. The array must hold the result.
+// Checks a few units of UTF-16 and converts them to UTF-8 at the start of the buffer in one pass, through the array
+// `chunk`. Returns the length of the result in bytes, or `None` if the units are ill-formed.
 fn put_whole(units: &[u16], text: &mut [u8], chunk: &mut [u8]) -> Option<usize>
     requires { 3 * length units.now + 4 ≤ length chunk.old }
     ensures valid { IfSome result (λ len. IsWellFormed Utf16 units.now) }
@@ -94,8 +92,9 @@ fn put_whole(units: &[u16], text: &mut [u8], chunk: &mut [u8]) -> Option<usize>
     }
 }
 
-// Checks and converts UTF-16. A short input is checked and converted in one pass, in an array whose size fits. A longer
-// one is checked first.
+// Checks UTF-16, and converts it to UTF-8 at the start of the buffer. Returns the length of the result in bytes, or
+// `None` if the units are ill-formed. A short input is checked and converted in one pass, in an array whose size fits.
+// A longer one is checked first.
 fn put_valid(units: &[u16], text: &mut [u8]) -> Option<usize>
     ensures valid { IfSome result (λ len. IsWellFormed Utf16 units.now) }
     ensures fault { IfNone result (IsWellFormed Utf16 units.now → ⊥) }
@@ -114,62 +113,19 @@ fn put_valid(units: &[u16], text: &mut [u8]) -> Option<usize>
     put_checked(units, text)
 }
 
-// Converts any UTF-16 to UTF-8 at the start of the buffer, with U+FFFD for each ill-formed unit. `spare` and `chunk`
-// are scratch arrays.
-fn put_prefixes(units: &[u16], text: &mut [u8], spare: &mut [u16], chunk: &mut [u8]) -> usize
-    requires spare { 2 ≤ length spare.old }
-    requires chunk { 64 ≤ length chunk.old }
-    ensures len { result ≡ min (length (utf8 (lossy (items Utf16 units.now)))) (2 ^ 64 - 1) }
-    ensures text { result ≤ length text.old → take result text.new ≡ utf8 (lossy (items Utf16 units.now)) }
-    ensures beyond { drop result text.new ≡ drop result text.old }
-{
-    let mut at = 0;
-    let mut rest = units;
-    'prefixes: while !rest.is_empty() {
-        let (prefix, beyond) = lossy_prefix(rest, spare);
-        at = put_chunks(prefix, text, at, chunk);
-        rest = beyond;
-    }
-    at
-}
-
-// Converts at most 32 units of any UTF-16, with U+FFFD for each ill-formed unit. It repairs all units at once.
-fn put_repaired(units: &[u16], text: &mut [u8]) -> usize
-    requires { length units.now ≤ 32 }
-    ensures len { result ≡ min (length (utf8 (lossy (items Utf16 units.now)))) (2 ^ 64 - 1) }
-    ensures text { result ≤ length text.old → take result text.new ≡ utf8 (lossy (items Utf16 units.now)) }
-    ensures beyond { drop result text.new ≡ drop result text.old }
-{
-    let mut repaired = [0; FEW];
-    u16::repair(units, &mut repaired);
-    put_chunks(&repaired[..units.len()], text, 0, &mut [0; SMALL])
-}
-
-// Converts any UTF-16 to UTF-8, with U+FFFD for each ill-formed unit, with arrays whose sizes fit the input.
-fn put_lossy(units: &[u16], text: &mut [u8]) -> usize
-    ensures len { result ≡ length (utf8 (lossy (items Utf16 units.now))) }
-    ensures fits { result < 2 ^ 64 - 1 }
-    ensures text { result ≤ length text.old → take result text.new ≡ utf8 (lossy (items Utf16 units.now)) }
-    ensures beyond { drop result text.new ≡ drop result text.old }
-{
-    if units.len() <= FEW {
-        put_repaired(units, text)
-    } else {
-        put_prefixes(units, text, &mut [0; MANY], &mut [0; LARGE])
-    }
-}
-
 // Converts any units to UTF-8 at the offset `at` of the buffer, replaces faults by the policy, and returns the offset
-// after the result, as `put_items` does. Well-formed units between faults are converted together. `after_fault` says
-// whether the unit before these is ill-formed.
+// after the result, as `put_items` does. `after_fault` says whether the unit before these is ill-formed. `spare` and
+// `chunk` are scratch arrays.
 pub(crate) fn put_lossy_after<C: Unit>(
     units: &[C],
     policy: Policy,
     after_fault: bool,
     text: &mut [u8],
     at: usize,
+    spare: &mut [C],
     chunk: &mut [u8],
 ) -> usize
+    requires spare { 2 ≤ length spare.old }
     requires chunk { 64 ≤ length chunk.old }
     ensures offset { result ≡ min (at + length (utf8 (lossy_after policy after_fault (items C.form (map C.number units.now))))) (2 ^ 64 - 1) }
     ensures text { result ≤ length text.old → take result text.new ≡ take at text.old ++ utf8 (lossy_after policy after_fault (items C.form (map C.number units.now))) }
@@ -178,32 +134,59 @@ pub(crate) fn put_lossy_after<C: Unit>(
 {
     let mut at = at;
     let mut rest = units;
-    let mut after = after_fault;
-    'faults: while !rest.is_empty() {
-        let len = valid_len(rest);
-        let (prefix, beyond) = rest.split_at(len);
-        at = put_chunks(prefix, text, at, chunk);
-        if beyond.is_empty() {
-            return at;
-        }
-        if writes_replacement(policy, is_after_fault(after, len)) {
-            at = put_items(text, at, &REPLACEMENT);
-        }
-        after = true;
-        (_, rest) = beyond.split_at(1);
+    let mut is_after = after_fault;
+    'prefixes: while !rest.is_empty() {
+        let prefix = lossy_prefix(rest, policy, is_after, spare);
+        at = put_chunks(prefix.text, text, at, chunk);
+        is_after = prefix.after_fault;
+        rest = prefix.rest;
     }
     at
 }
 
-// Converts any units to UTF-8 at the start of the buffer, and replaces faults by the policy.
-fn put_lossy_by<C: Unit>(units: &[C], policy: Policy, text: &mut [u8]) -> usize
-    requires { 4 * length units.now < 2 ^ 64 - 1 }
+// Converts any units to UTF-8 at the start of the buffer, and replaces faults by the policy. `spare` and `chunk` are
+// scratch arrays.
+fn put_lossy_by<C: Unit>(
+    units: &[C],
+    policy: Policy,
+    text: &mut [u8],
+    spare: &mut [C],
+    chunk: &mut [u8],
+) -> usize
+    requires units { 4 * length units.now < 2 ^ 64 - 1 }
+    requires spare { 2 ≤ length spare.old }
+    requires chunk { 64 ≤ length chunk.old }
     ensures len { result ≡ length (utf8 (lossy_by policy (items C.form (map C.number units.now)))) }
     ensures fits { result < 2 ^ 64 - 1 }
     ensures text { result ≤ length text.old → take result text.new ≡ utf8 (lossy_by policy (items C.form (map C.number units.now))) }
     ensures beyond { drop result text.new ≡ drop result text.old }
 {
-    put_lossy_after(units, policy, false, text, 0, &mut [0; LARGE])
+    put_lossy_after(units, policy, false, text, 0, spare, chunk)
+}
+
+// Converts any UTF-16 to UTF-8 at the start of the buffer, and replaces faults by the policy, with arrays whose sizes
+// fit the input.
+fn put_lossy_16(units: &[u16], policy: Policy, text: &mut [u8]) -> usize
+    ensures len { result ≡ length (utf8 (lossy_by policy (items Utf16 units.now))) }
+    ensures fits { result < 2 ^ 64 - 1 }
+    ensures text { result ≤ length text.old → take result text.new ≡ utf8 (lossy_by policy (items Utf16 units.now)) }
+    ensures beyond { drop result text.new ≡ drop result text.old }
+{
+    if units.len() <= FEW {
+        put_lossy_by(units, policy, text, &mut [0; FEW], &mut [0; SMALL])
+    } else {
+        put_lossy_by(units, policy, text, &mut [0; MANY], &mut [0; LARGE])
+    }
+}
+
+// Converts any UTF-32 to UTF-8 at the start of the buffer, and replaces faults by the policy.
+fn put_lossy_32(units: &[u32], policy: Policy, text: &mut [u8]) -> usize
+    ensures len { result ≡ length (utf8 (lossy_by policy (items Utf32 units.now))) }
+    ensures fits { result < 2 ^ 64 - 1 }
+    ensures text { result ≤ length text.old → take result text.new ≡ utf8 (lossy_by policy (items Utf32 units.now)) }
+    ensures beyond { drop result text.new ≡ drop result text.old }
+{
+    put_lossy_by(units, policy, text, &mut [0; MANY], &mut [0; LARGE])
 }
 
 /// Converts well-formed UTF-16 (Unicode Standard, D91) to UTF-8 (D92). Returns the length of the result in bytes. If
@@ -232,7 +215,7 @@ pub extern "C" fn wide_utf16_to_utf8_lossy(units: &[u16], text: &mut [u8]) -> us
 {
     match put_valid(units, text) {
         Some(len) => len,
-        None => put_lossy(units, text),
+        None => put_lossy_16(units, Policy::Each, text),
     }
 }
 
@@ -256,7 +239,7 @@ pub extern "C" fn wide_utf16_to_utf8_lossy_with(
 {
     match policy_of(policy) {
         Some(Policy::Each) => wide_utf16_to_utf8_lossy(units, text),
-        Some(policy) => put_lossy_by(units, policy, text),
+        Some(policy) => put_lossy_16(units, policy, text),
         None => usize::MAX,
     }
 }
@@ -286,7 +269,7 @@ pub extern "C" fn wide_utf32_to_utf8_lossy(units: &[u32], text: &mut [u8]) -> us
     ensures text { result ≤ length text.old → take result text.new ≡ utf8 (lossy (items Utf32 units.now)) }
     ensures beyond { drop result text.new ≡ drop result text.old }
 {
-    put_lossy_by(units, Policy::Each, text)
+    put_lossy_32(units, Policy::Each, text)
 }
 
 /// Converts any UTF-32 to UTF-8, and replaces units that are not scalar values by the policy: 0 writes U+FFFD for each,
@@ -308,7 +291,7 @@ pub extern "C" fn wide_utf32_to_utf8_lossy_with(
     ensures beyond { drop result text.new ≡ drop result text.old }
 {
     match policy_of(policy) {
-        Some(policy) => put_lossy_by(units, policy, text),
+        Some(policy) => put_lossy_32(units, policy, text),
         None => usize::MAX,
     }
 }

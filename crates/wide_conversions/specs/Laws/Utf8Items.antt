@@ -55,7 +55,7 @@ pub shorter-char : (c : ℕ) (rest : List ℕ) → length rest < length (utf8_by
 shorter-char c rest = omega (arith, length-append (utf8_bytes c) rest, ap length (utf8_bytes-encode_utf8 c), length-encode c, (len_utf8_bounds c).0)
 
 -- A fault has at least one byte.
-part-some : (bs : List ℕ) → 0 < length bs → 0 < utf8_invalid_len bs
+pub part-some : (bs : List ℕ) → 0 < length bs → 0 < utf8_invalid_len bs
 unfolding utf8_error_len
 part-some bs some = grind (arith, nat_tests)
 

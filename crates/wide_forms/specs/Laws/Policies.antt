@@ -1,6 +1,6 @@
 -- Lossy text under a policy: of concatenated lists, at both ends, and of well-formed text.
-use Rattle.std.proofs.Common.{◌≡◌, ℕ, ◌≤◌, suc, zero, length, length-append, List, [], ◌∷◌, ◌++◌, refl, sym, ◌∙◌, ap, arith}
-use Rattle.std.specs.Prelude.{map, Bool, true, false}
+use Rattle.std.proofs.Common.{◌≡◌, ℕ, ◌<◌, ◌≤◌, suc, zero, length, length-append, List, [], ◌∷◌, ◌++◌, refl, sym, ◌∙◌, ap, arith}
+use Rattle.std.specs.Prelude.{map, Bool, true, false, Some, None}
 use Rattle.std.specs.Char.{IsScalar}
 use Rattle.std.specs.List.{All}
 use Rattle.std.proofs.lemmas.List.{map-append}
@@ -8,7 +8,7 @@ use Rattle.std.proofs.lemmas.List.Concat.{flat_map-append}
 use Rattle.wide_forms.specs.EncodingForm.{EncodingForm, Utf16, Utf32, code_units, encode}
 use Rattle.wide_forms.specs.Segmentation.{Item, Char, Fault, units_of}
 use Rattle.wide_forms.specs.Items.{items, IsWellFormed, characters, chars}
-use Rattle.wide_forms.specs.Lossy.{lossy, lossy_char, lossy_runs, lossy_by, past_faults, ends_in_fault, lossy_after}
+use Rattle.wide_forms.specs.Lossy.{lossy, lossy_char, lossy_runs, lossy_by, past_faults, ends_in_fault, lossy_after, replacement}
 use Rattle.wide_forms.specs.Laws.Chains.{Chain}
 use Rattle.wide_forms.specs.Laws.Items.{items-chain, chars-of_well_formed, encode-of_items, items-encode, units_of-items}
 use Rattle.wide_forms.specs.Laws.Ends.{items-append_left}
@@ -75,6 +75,38 @@ ends_in_fault-append after [] b = refl
 ends_in_fault-append after (Char c ∷ a) b = ends_in_fault-append false a b
 ends_in_fault-append after (Fault u ∷ a) b = ends_in_fault-append true a b
 
+-- What a policy writes for a fault is U+FFFD.
+pub replacement-is : (policy : Policy) (after : Bool) (c : ℕ) → replacement policy after ≡ Some c → c ≡ 0xFFFD
+replacement-is Each after c e = cc
+replacement-is Run true c e = absurd cc
+replacement-is Run false c e = cc
+replacement-is Skip after c e = absurd cc
+
+-- Item by item: a character is unchanged, and what the policy yields replaces a fault.
+pub lossy_after-none_left : (policy : Policy) (after : Bool) → lossy_after policy after [] ≡ []
+lossy_after-none_left Each after = refl
+lossy_after-none_left Run true = refl
+lossy_after-none_left Run false = refl
+lossy_after-none_left Skip after = refl
+
+pub lossy_after-char : (policy : Policy) (after : Bool) (c : ℕ) (is : List Item) → lossy_after policy after (Char c ∷ is) ≡ c ∷ lossy_after policy false is
+lossy_after-char Each after c is = refl
+lossy_after-char Run true c is = refl
+lossy_after-char Run false c is = refl
+lossy_after-char Skip after c is = refl
+
+pub lossy_after-replaced : (policy : Policy) (after : Bool) (u c : ℕ) (is : List Item) → replacement policy after ≡ Some c → lossy_after policy after (Fault u ∷ is) ≡ c ∷ lossy_after policy true is
+lossy_after-replaced Each after u c is e = (let same : 0xFFFD ≡ c = cc in ap (λ d. d ∷ lossy is) same)
+lossy_after-replaced Run true u c is e = absurd cc
+lossy_after-replaced Run false u c is e = (let same : 0xFFFD ≡ c = cc in runs-from_fault is u ∙ ap (λ d. d ∷ lossy_runs (past_faults is)) same)
+lossy_after-replaced Skip after u c is e = absurd cc
+
+pub lossy_after-dropped : (policy : Policy) (after : Bool) (u : ℕ) (is : List Item) → replacement policy after ≡ None → lossy_after policy after (Fault u ∷ is) ≡ lossy_after policy true is
+lossy_after-dropped Each after u is e = absurd cc
+lossy_after-dropped Run true u is e = refl
+lossy_after-dropped Run false u is e = absurd cc
+lossy_after-dropped Skip after u is e = refl
+
 -- A run of faults only.
 pub runs-of_run : (u : ℕ) (us : List ℕ) → lossy_runs (map Fault (u ∷ us)) ≡ 0xFFFD ∷ []
 runs-of_run u [] = refl
@@ -113,6 +145,17 @@ scalars-lossy_by Each form us = scalars-lossy form us
 scalars-lossy_by Run form us = runs-scalars form (items form us) (items-chain form us)
 scalars-lossy_by Skip form us = characters-scalars form (items form us) (items-chain form us)
 
+past_faults-chain : (form : EncodingForm) (is : List Item) → Chain form is → Chain form (past_faults is)
+past_faults-chain form [] chain = chain
+past_faults-chain form (Char c ∷ is) chain = chain
+past_faults-chain form (Fault u ∷ is) chain = past_faults-chain form is chain.2
+
+pub scalars-lossy_after : (policy : Policy) (after : Bool) (form : EncodingForm) (us : List ℕ) → All IsScalar (lossy_after policy after (items form us))
+scalars-lossy_after Each after form us = scalars-lossy form us
+scalars-lossy_after Run true form us = runs-scalars form (past_faults (items form us)) (past_faults-chain form (items form us) (items-chain form us))
+scalars-lossy_after Run false form us = runs-scalars form (items form us) (items-chain form us)
+scalars-lossy_after Skip after form us = characters-scalars form (items form us) (items-chain form us)
+
 -- Lossy text of well-formed units is their characters, and encodes to the units.
 pub lossy_by-well_formed : (policy : Policy) (form : EncodingForm) (us : List ℕ) → IsWellFormed form us → lossy_by policy (items form us) ≡ chars form us
 lossy_by-well_formed policy form us well = ap (lossy_by policy) (chars-of_well_formed form us well) ∙ lossy_by-chars policy (chars form us)
@@ -129,6 +172,12 @@ beyond-chars policy [] is = refl
 beyond-chars Each (c ∷ cs) is = ap (λ l. c ∷ l) (beyond-chars Each cs is)
 beyond-chars Run (c ∷ cs) is = ap (λ l. c ∷ l) (beyond-chars Run cs is)
 beyond-chars Skip (c ∷ cs) is = ap (λ l. c ∷ l) (beyond-chars Skip cs is)
+
+-- Whether a fault is last, after characters.
+pub ends_in_fault-chars : (after : Bool) (cs : List ℕ) → 0 < length cs → ends_in_fault after (map Char cs) ≡ false
+ends_in_fault-chars after [] some = absurd (omega arith)
+ends_in_fault-chars after (c ∷ []) some = refl
+ends_in_fault-chars after (c ∷ d ∷ cs) some = ends_in_fault-chars false (d ∷ cs) (omega arith)
 
 pub lossy_after-chars : (policy : Policy) (after : Bool) (cs : List ℕ) → lossy_after policy after (map Char cs) ≡ cs
 lossy_after-chars Each after cs = lossy_by-chars Each cs

@@ -3,12 +3,12 @@ use Rattle.wide_conversions.proofs.LossyItems.{lossy-none, lossy-then}
 use Rattle.wide_conversions.proofs.from_utf8_lossy.from_utf8_lossy_prefix.Goals as goal
 
 pub items-init : goal.items-init
-items-init g c = record { within = omega arith; valid = omega arith; begun = λ some. absurd (omega arith); space = omega arith; long = refl; prefix = lossy-none g.C.Unit.form c.args.policy c.args.text.now [] c.args.after }
+items-init g c = record { within = omega arith; valid = omega arith; begun = λ some. absurd (omega arith); space = omega arith; long = refl; prefix = lossy-none g.C.Unit.form c.args.policy c.args.text.now [] c.args.after_fault }
 
-pub items-preserved-then-is_part : goal.items-preserved-then-is_part
-items-preserved-then-is_part g c =
+pub items-preserved-then-is_fault : goal.items-preserved-then-is_fault
+items-preserved-then-is_fault g c =
     let more = c.put_prefix-bytes in
-    let prefix = lossy-then g.C.Unit.form c.args.policy c.args.text.now [] (map g.C.Unit.number (take c.items.written c.items.units)) _ c.items.read more.result.0 c.args.after c.items.is_after more.result.2 c.items.invariant.prefix more.ensures.units in
+    let prefix = lossy-then g.C.Unit.form c.args.policy c.args.text.now [] (map g.C.Unit.number (take c.items.written c.items.units)) _ c.items.read more.result.0 c.args.after_fault c.items.after_fault more.result.2 c.items.invariant.prefix more.ensures.units in
     record {
       within = omega (arith, more.ensures.read);
       valid = omega arith;
@@ -21,7 +21,7 @@ items-preserved-then-is_part g c =
 pub items-preserved : goal.items-preserved
 items-preserved g c =
     let more = c.put_prefix-bytes in
-    let prefix = lossy-then g.C.Unit.form c.args.policy c.args.text.now [] (map g.C.Unit.number (take c.items.written c.items.units)) _ c.items.read more.result.0 c.args.after c.items.is_after more.result.2 c.items.invariant.prefix more.ensures.units in
+    let prefix = lossy-then g.C.Unit.form c.args.policy c.args.text.now [] (map g.C.Unit.number (take c.items.written c.items.units)) _ c.items.read more.result.0 c.args.after_fault c.items.after_fault more.result.2 c.items.invariant.prefix more.ensures.units in
     record {
       within = omega (arith, more.ensures.read);
       valid = omega (arith, c.items.invariant.valid);

@@ -9,7 +9,7 @@ invariant-items g l = record {
   begun : 0 < l.written → 0 < l.read;
   space : l.written ≤ length l.units;
   long : length l.units ≡ length l.initial.units;
-  prefix : IsLossyPrefix g.C.Unit.form l.policy l.text l.read l.after l.is_after [] (map g.C.Unit.number (take l.written l.units));
+  prefix : IsLossyPrefix g.C.Unit.form l.policy l.text l.read l.fn.after_fault l.after_fault [] (map g.C.Unit.number (take l.written l.units));
 }
 
 abbrev pub decreases-items : goal.decreases-items

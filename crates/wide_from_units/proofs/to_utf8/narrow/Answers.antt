@@ -1,6 +1,6 @@
 use Rattle.std.proofs.Common.{arith, length-set, ℕ}
 use Rattle.wide_utf16_to_utf8.proofs.Shuffles.{same-more}
-use Rattle.wide_utf16_to_utf8.proofs.Tables.{same-lists}
+use Rattle.wide_forms.proofs.Tables.{same-lists}
 use Rattle.wide_from_units.proofs.to_utf8.narrow.Goals as goal
 
 pub loop-k-preserved : goal.loop-k-preserved

@@ -1,9 +1,9 @@
 use Rattle.std.proofs.Common.{◌∙◌, ◌+◌, ◌++◌, ap, arith, map, subst, sym, take, w16}
 use Rattle.std.specs.Char.{IsScalar}
 use Rattle.std.proofs.lemmas.Simd.{below_from_Fits}
-use Rattle.wide_utf16_to_utf8.proofs.CompressedLanes.{compressed-count}
-use Rattle.wide_utf16_to_utf8.proofs.Tables.{ones-few}
-use Rattle.wide_from_utf8.proofs.StoredUnits.{stored-prefix}
+use Rattle.wide_repair.proofs.CompressedLanes.{compressed-count}
+use Rattle.wide_forms.proofs.Tables.{ones-few}
+use Rattle.wide_unit.proofs.StoredUnits.{stored-prefix}
 use Rattle.wide_from_utf8.proofs.compressed_units.put_compressed.Goals as goal
 
 pub put_lanes-requires-clause-scalars : goal.put_lanes-requires-clause-scalars

@@ -1,5 +1,5 @@
 use Rattle.std.proofs.Common.{◌≡◌, ◌∙◌, get_or, arith}
-use Rattle.wide_from_utf8.proofs.StoredUnits.{stored-more, unit-number}
+use Rattle.wide_unit.proofs.StoredUnits.{stored-more, unit-number}
 use Rattle.wide_from_utf8.proofs.compressed_units.put_lanes.Goals as goal
 
 pub loop-k-preserved : goal.loop-k-preserved

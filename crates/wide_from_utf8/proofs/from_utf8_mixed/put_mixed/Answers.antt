@@ -1,6 +1,6 @@
 use Rattle.std.proofs.Common.{◌≡◌, ◌+◌, ◌-◌, ◌%◌, ◌/◌, ◌*◌, ◌^◌, ◌∙◌, ◌++◌, ℕ, ap, append_assoc, arith, get_or, length, length-append, map, subst, sym, take}
 use Rattle.std.specs.Char.{IsScalar}
-use Rattle.wide_utf16_to_utf8.specs.Compressed.{compressed_lanes}
+use Rattle.wide_repair.specs.Compressed.{compressed_lanes}
 use Rattle.wide_from_utf8.specs.Mixed.{codes_at, trailing_len}
 use Rattle.wide_from_utf8.proofs.PrefixUnits.{IsPrefixUnits, beyond-is, joined}
 use Rattle.wide_from_utf8.proofs.MixedPrefixes.{begun, codes-scalar, prefix_units-begun, compressed-both, leads-low, length-begun}

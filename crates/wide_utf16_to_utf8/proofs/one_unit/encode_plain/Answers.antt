@@ -31,5 +31,5 @@ units-preserved c = record {
   encoded = more-pair c.args.units.now c.units.read _ _ c.units.invariant.encoded (omega arith) refl refl (omega arith) (omega arith) (omega arith) (omega arith) c.put_pair-written.ensures.text;
 }
 
-pub returns-clause-stop : goal.returns-clause-stop
-returns-clause-stop c = stops-at_end c.args.units.now c.units.read (omega arith)
+pub returns-after-units-clause-stop : goal.returns-after-units-clause-stop
+returns-after-units-clause-stop c = stops-at_end c.args.units.now c.units.read (omega arith)

@@ -1,5 +1,5 @@
 use Rattle.std.proofs.Common.{arith, rules}
-use Rattle.wide_utf16_to_utf8.specs.declared.three_bytes.TheConstants.{ROWS}
+use Rattle.wide_utf16_to_utf8.specs.declared.three_bytes_rows.TheConstants.{ROWS}
 use Rattle.wide_utf16_to_utf8.proofs.Tables.{row-shuffle}
 use Rattle.wide_utf16_to_utf8.proofs.Rows.{row-len, rows-valid, words-stored}
 use Rattle.wide_utf16_to_utf8.proofs.three_bytes.put_row.Goals as goal

@@ -1,7 +1,7 @@
 use Rattle.std.proofs.Common.{◌≡◌, ◌∙◌, ◌++◌, ap, length, take, arith, length-set, ℕ}
 use Rattle.std.proofs.lemmas.List.{take_all}
 use Rattle.wide_utf16_to_utf8.proofs.Shuffles.{same-more}
-use Rattle.wide_utf16_to_utf8.proofs.Tables.{same-lists}
+use Rattle.wide_forms.proofs.Tables.{same-lists}
 use Rattle.wide_forms.proofs.Stored.{stored-block}
 use Rattle.wide_utf16_to_utf8.proofs.to_utf8.put_ascii.Goals as goal
 

@@ -2,7 +2,7 @@ use Rattle.std.proofs.Common.{◌≡◌, ◌∙◌, ◌++◌, ap, length, take, 
 use Rattle.std.proofs.lemmas.List.{take_all}
 use Rattle.wide_utf16_to_utf8.proofs.Shuffles.{same-more}
 use Rattle.wide_forms.proofs.Stored.{stored-block}
-use Rattle.wide_utf16_to_utf8.proofs.Tables.{same-lists}
+use Rattle.wide_forms.proofs.Tables.{same-lists}
 use Rattle.wide_utf16_to_utf8.proofs.to_utf8.put_eight_ascii.Goals as goal
 
 pub loop-k-preserved : goal.loop-k-preserved

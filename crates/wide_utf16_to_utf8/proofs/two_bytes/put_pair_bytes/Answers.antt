@@ -1,4 +1,4 @@
-use Rattle.wide_utf16_to_utf8.specs.declared.two_bytes.TheConstants.{SHUFFLES}
+use Rattle.wide_utf16_to_utf8.specs.declared.two_bytes_rows.TheConstants.{SHUFFLES}
 use Rattle.wide_utf16_to_utf8.proofs.Shuffles.{pairs-stored, shuffle-valid}
 use Rattle.wide_utf16_to_utf8.proofs.Tables.{row-shuffle}
 use Rattle.wide_utf16_to_utf8.proofs.two_bytes.put_pair_bytes.Goals as goal

@@ -2,7 +2,7 @@ use Rattle.std.proofs.Common.{◌≡◌, ◌++◌, ap, sym, ◌∙◌, length, t
 use Rattle.std.proofs.lemmas.List.{map-id}
 use Rattle.wide_forms.specs.EncodingForm.{Utf16}
 use Rattle.wide_forms.specs.Items.{IsWellFormed, chars}
-use Rattle.wide_utfstr.proofs.SameChunks.{same_scalars, same_after, no_chars, no_longer_same, same_at_end}
+use Rattle.wide_utfstr.proofs.SameChunks.{same_scalars, same_after, scalars_chunk, no_chars, no_longer_same, same_at_end}
 use Rattle.wide_utfstr.proofs.compared.same_text.Goals as goal
 
 pub chunks-init : goal.chunks-init
@@ -11,19 +11,26 @@ chunks-init c = record {
   same = same_scalars _ _ c.as_slice-units.result.now c.as_slice-scalars.result.now c.as_slice-units.ensures.units c.as_slice-scalars.ensures.units c.as_slice-scalars.ensures.well_formed;
 }
 
+pub between_forms_prefix-read-requires-clause-well_formed : goal.between_forms_prefix-read-requires-clause-well_formed
+between_forms_prefix-read-requires-clause-well_formed c = subst (λ us. IsWellFormed Utf16 us) (sym (map-id c.chunks.units.now)) c.chunks.invariant.well_formed
+
 pub returns-in_default : goal.returns-in_default
 returns-in_default c =
-    no_longer_same (chars Utf16 c.chunks.units.now) c.chunks.scalars.now c.chunks.invariant.same (take c.utf16_to_scalars_prefix-read.result.1 c.utf16_to_scalars_prefix-read.new.scalars)
-    (chars Utf16 (drop c.utf16_to_scalars_prefix-read.result.0 c.chunks.units.now)) c.utf16_to_scalars_prefix-read.ensures.text c.in_default.ensures.cases
+    let more = c.between_forms_prefix-read in
+    let chunk = take more.result.1 more.new.out in
+    let left = drop more.result.0 c.chunks.units.now in
+    no_longer_same (chars Utf16 c.chunks.units.now) c.chunks.scalars.now c.chunks.invariant.same chunk (chars Utf16 left) (scalars_chunk c.chunks.units.now left chunk more.ensures.units) c.in_default.ensures.cases
 
 pub chunks-preserved : goal.chunks-preserved
 chunks-preserved c =
-    let chunk = take c.utf16_to_scalars_prefix-read.result.1 c.utf16_to_scalars_prefix-read.new.scalars in
+    let more = c.between_forms_prefix-read in
+    let chunk = take more.result.1 more.new.out in
     let left = c.split_at.ensures.back in
+    let text = scalars_chunk c.chunks.units.now (drop more.result.0 c.chunks.units.now) chunk more.ensures.units in
     record {
-      well_formed = rw left c.utf16_to_scalars_prefix-read.ensures.rest;
+      well_formed = rw left (subst (λ us. IsWellFormed Utf16 us) (map-id (drop more.result.0 c.chunks.units.now)) more.ensures.rest);
       same = same_after (chars Utf16 c.chunks.units.now) c.chunks.scalars.now c.chunks.invariant.same chunk (chars Utf16 c.split_at.result.1.now) c.in-Some.rest.now
-          (c.utf16_to_scalars_prefix-read.ensures.text ∙ ap (λ us. chunk ++ chars Utf16 us) (sym left)) c.in-Some.ensures.cases.0 c.in-Some.ensures.cases.1;
+          (text ∙ ap (λ us. chunk ++ chars Utf16 us) (sym left)) c.in-Some.ensures.cases.0 c.in-Some.ensures.cases.1;
     }
 
 pub returns : goal.returns

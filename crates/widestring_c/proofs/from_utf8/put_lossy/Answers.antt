@@ -24,9 +24,9 @@ prefixes-preserved g c =
     let tail = c.split_at-in-prefixes.result.1.now in
     let more = c.put_items-at in
     let left = encode form (lossy_after policy read.result.2 (utf8_items tail)) in
-    let items = subst (λ xs. IsLossyPrefix form policy xs read.result.0 c.is_after_fault-before.result read.result.2 [] (map number chunk)) c.split_at.ensures.back read.ensures.units in
-    let parts : encode form (lossy_after policy c.prefixes.after (utf8_items bs)) ≡ encode form (chars prefix) ++ (map number chunk ++ left) =
-    lossy_prefix form policy bs (map number chunk) c.text_len-len.result read.result.0 c.prefixes.after c.is_after_fault-before.result read.result.2 c.text_len-len.ensures.within c.text_len-len.ensures.text c.is_after_fault-before.ensures.same c.is_after_fault-before.ensures.other items
+    let items = subst (λ xs. IsLossyPrefix form policy xs read.result.0 c.is_after_fault-after_fault.result read.result.2 [] (map number chunk)) c.split_at.ensures.back read.ensures.units in
+    let parts : encode form (lossy_after policy c.prefixes.after_fault (utf8_items bs)) ≡ encode form (chars prefix) ++ (map number chunk ++ left) =
+    lossy_prefix form policy bs (map number chunk) c.text_len-len.result read.result.0 c.prefixes.after_fault c.is_after_fault-after_fault.result read.result.2 c.text_len-len.ensures.within c.text_len-len.ensures.text c.is_after_fault-after_fault.ensures.same c.is_after_fault-after_fault.ensures.other items
     ∙ ap (λ xs. encode form (chars xs) ++ (map number chunk ++ encode form (lossy_after policy read.result.2 (utf8_items (drop read.result.0 (drop c.text_len-len.result bs)))))) (sym c.split_at.ensures.front)
     ∙ ap (λ xs. encode form (chars prefix) ++ (map number chunk ++ encode form (lossy_after policy read.result.2 (utf8_items xs)))) (ap (drop read.result.0) (sym c.split_at.ensures.back) ∙ sym c.split_at-in-prefixes.ensures.back)
     in
@@ -45,7 +45,7 @@ returns-clause-len g c =
     let first = map number c.args.units.now in
     let all = encode g.C.Unit.form (lossy_by c.args.policy (utf8_items c.args.text.now)) in
     let none : length c.prefixes.rest.now ≡ 0 = is_none (length c.prefixes.rest.now) c.is_empty.result c.is_empty.ensures c.prefixes-test.false in
-    let counted = counted_all first 0 all (map number c.prefixes.units) c.prefixes.at (subst (λ us. Puts first 0 all c.prefixes.at (map number c.prefixes.units) us) (lossy_end g.C.Unit.form c.args.policy c.prefixes.after c.prefixes.rest.now none) c.prefixes.invariant.so_far) in
+    let counted = counted_all first 0 all (map number c.prefixes.units) c.prefixes.at (subst (λ us. Puts first 0 all c.prefixes.at (map number c.prefixes.units) us) (lossy_end g.C.Unit.form c.args.policy c.prefixes.after_fault c.prefixes.rest.now none) c.prefixes.invariant.so_far) in
     omega (arith, counted, units-lossy_by g.C.Unit.form c.args.policy c.args.text.now)
 
 pub returns-clause-fits : goal.returns-clause-fits
@@ -54,7 +54,7 @@ returns-clause-fits g c =
     let first = map number c.args.units.now in
     let all = encode g.C.Unit.form (lossy_by c.args.policy (utf8_items c.args.text.now)) in
     let none : length c.prefixes.rest.now ≡ 0 = is_none (length c.prefixes.rest.now) c.is_empty.result c.is_empty.ensures c.prefixes-test.false in
-    let counted = counted_all first 0 all (map number c.prefixes.units) c.prefixes.at (subst (λ us. Puts first 0 all c.prefixes.at (map number c.prefixes.units) us) (lossy_end g.C.Unit.form c.args.policy c.prefixes.after c.prefixes.rest.now none) c.prefixes.invariant.so_far) in
+    let counted = counted_all first 0 all (map number c.prefixes.units) c.prefixes.at (subst (λ us. Puts first 0 all c.prefixes.at (map number c.prefixes.units) us) (lossy_end g.C.Unit.form c.args.policy c.prefixes.after_fault c.prefixes.rest.now none) c.prefixes.invariant.so_far) in
     omega (arith, counted, units-lossy_by g.C.Unit.form c.args.policy c.args.text.now)
 
 pub returns-clause-units : goal.returns-clause-units
@@ -63,4 +63,4 @@ returns-clause-units g c = λ fits.
     let first = map number c.args.units.now in
     let all = encode g.C.Unit.form (lossy_by c.args.policy (utf8_items c.args.text.now)) in
     let none : length c.prefixes.rest.now ≡ 0 = is_none (length c.prefixes.rest.now) c.is_empty.result c.is_empty.ensures c.prefixes-test.false in
-    written_all_of number c.args.units.now 0 all c.prefixes.units c.prefixes.at (subst (λ us. Puts first 0 all c.prefixes.at (map number c.prefixes.units) us) (lossy_end g.C.Unit.form c.args.policy c.prefixes.after c.prefixes.rest.now none) c.prefixes.invariant.so_far) (omega (arith, fits, c.prefixes.invariant.space))
+    written_all_of number c.args.units.now 0 all c.prefixes.units c.prefixes.at (subst (λ us. Puts first 0 all c.prefixes.at (map number c.prefixes.units) us) (lossy_end g.C.Unit.form c.args.policy c.prefixes.after_fault c.prefixes.rest.now none) c.prefixes.invariant.so_far) (omega (arith, fits, c.prefixes.invariant.space))

@@ -7,7 +7,7 @@ use Rattle.widestring_c.proofs.from_utf8.put_lossy.Given as goal
 
 abbrev pub invariant-prefixes : goal.invariant-prefixes
 invariant-prefixes g l = record {
-  so_far : Puts (map g.C.Unit.number l.fn.units) 0 (encode g.C.Unit.form (lossy_by l.policy (utf8_items l.text))) l.at (map g.C.Unit.number l.units) (encode g.C.Unit.form (lossy_after l.policy l.after (utf8_items l.rest)));
+  so_far : Puts (map g.C.Unit.number l.fn.units) 0 (encode g.C.Unit.form (lossy_by l.policy (utf8_items l.text))) l.at (map g.C.Unit.number l.units) (encode g.C.Unit.form (lossy_after l.policy l.after_fault (utf8_items l.rest)));
   space : length l.units ≡ length l.fn.units;
   beyond : drop l.at l.units ≡ drop l.at l.fn.units;
 }

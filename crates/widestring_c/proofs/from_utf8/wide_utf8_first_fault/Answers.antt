@@ -1,19 +1,23 @@
-use Rattle.std.proofs.Common.{inl, inr, arith}
-use Rattle.std.proofs.lemmas.Bool.{cases_lt}
-use Rattle.widestring_c.proofs.Chunks.{not_text}
+use Rattle.std.proofs.Common.{◌≡◌, ◌<◌, ◌↔◌, ℕ, List, length, arith}
+use Rattle.std.specs.Str.{IsUtf8, IsValidUpTo}
+use Rattle.std.proofs.str.Faults.{not_text}
+use Rattle.wide_conversions.specs.ChunkEnds.{EndsAs}
+use Rattle.wide_conversions.specs.declared.utf8_validation.Utf8End.{Utf8End}
+use Rattle.wide_conversions.specs.declared.utf8_validation.Utf8End.TheVariants.{Complete, IllFormed, Incomplete}
 use Rattle.widestring_c.proofs.from_utf8.wide_utf8_first_fault.Goals as goal
 
+whole-if : (bs : List ℕ) (n : ℕ) (end : Utf8End) → EndsAs bs n end → (n ≡ length bs) ↔ IsUtf8 bs
+whole-if bs n Complete ends = (λ all. ends.1.0, λ text. ends.0)
+whole-if bs n (IllFormed len) ends = (λ all. absurd (omega (arith, all, ends.0.valid.short)), λ text. absurd (not_text bs n ends.0.valid text))
+whole-if bs n (Incomplete len) ends = (λ all. absurd (omega (arith, all, ends.0.valid.short)), λ text. absurd (not_text bs n ends.0.valid text))
+
+valid-to : (bs : List ℕ) (n : ℕ) (end : Utf8End) → EndsAs bs n end → n < length bs → IsValidUpTo bs n
+valid-to bs n Complete ends short = absurd (omega (arith, short, ends.0))
+valid-to bs n (IllFormed len) ends short = ends.0.valid
+valid-to bs n (Incomplete len) ends short = ends.0.valid
+
 pub returns-clause-well_formed : goal.returns-clause-well_formed
-returns-clause-well_formed c =
-    let bs = c.args.text.now in
-    let offset = c.first_utf8_chunk.result.0 in
-    let broken = c.first_utf8_chunk.result.1 in
-    let e = c.first_utf8_chunk.ensures in (
-      λ all. elim (cases_lt 0 broken) [ inl some ↦ absurd (omega (arith, all, (e.fault some).short)) | inr none ↦ e.well_formed (omega arith) ],
-      λ text. elim (cases_lt 0 broken) [ inl some ↦ absurd (not_text bs offset (e.fault some) text) | inr none ↦ e.all (omega arith) ],
-    )
+returns-clause-well_formed c = whole-if c.args.text.now _ _ c.first_utf8_chunk.ensures.end
 
 pub returns-clause-fault : goal.returns-clause-fault
-returns-clause-fault c = λ short.
-    let e = c.first_utf8_chunk.ensures in
-    elim (cases_lt 0 c.first_utf8_chunk.result.1) [ inl some ↦ e.fault some | inr none ↦ absurd (omega (arith, short, e.all (omega arith))) ]
+returns-clause-fault c = valid-to c.args.text.now _ _ c.first_utf8_chunk.ensures.end

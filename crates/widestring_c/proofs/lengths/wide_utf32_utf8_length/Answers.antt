@@ -6,8 +6,8 @@ use Rattle.wide_forms.specs.Utf8.{utf8}
 use Rattle.widestring_c.proofs.Fits.{bytes-well_formed}
 use Rattle.widestring_c.proofs.lengths.wide_utf32_utf8_length.Goals as goal
 
-pub returns-in-Ok-clause-len : goal.returns-in-Ok-clause-len
-returns-in-Ok-clause-len c well = omega (arith, c.utf8_len.ensures, ap (λ us. length (utf8 (chars Utf32 us))) (map-id c.args.units.now), bytes-well_formed Utf32 c.args.units.now well)
+pub returns-in-None-clause-len : goal.returns-in-None-clause-len
+returns-in-None-clause-len c well = omega (arith, c.utf8_len.ensures, ap (λ us. length (utf8 (chars Utf32 us))) (map-id c.args.units.now), bytes-well_formed Utf32 c.args.units.now well)
 
-pub returns-in-Ok-clause-no_fault : goal.returns-in-Ok-clause-no_fault
-returns-in-Ok-clause-no_fault c well = omega (arith, c.utf8_len.ensures, ap (λ us. length (utf8 (chars Utf32 us))) (map-id c.args.units.now), bytes-well_formed Utf32 c.args.units.now well)
+pub returns-in-None-clause-no_fault : goal.returns-in-None-clause-no_fault
+returns-in-None-clause-no_fault c well = omega (arith, c.utf8_len.ensures, ap (λ us. length (utf8 (chars Utf32 us))) (map-id c.args.units.now), bytes-well_formed Utf32 c.args.units.now well)

@@ -1,10 +1,12 @@
-use Rattle.std.proofs.Common.{subst}
+use Rattle.std.proofs.Common.{ℕ, subst}
 use Rattle.std.proofs.lemmas.List.{map-id}
 use Rattle.wide_forms.specs.EncodingForm.{Utf32}
 use Rattle.wide_forms.specs.Items.{IsFirstFault}
+use Rattle.wide_forms.specs.Offsets.{text_before}
 use Rattle.widestring_c.proofs.search.wide_utf32_first_fault.Goals as goal
 
-pub returns-in-Err-clause-fault : goal.returns-in-Err-clause-fault
-returns-in-Err-clause-fault c = λ below.
-    let fault = c.in-Err.fault in
-    (fault.item, fault.unit, subst (λ us. IsFirstFault Utf32 us fault.index fault.item fault.unit) (map-id c.args.units.now) c.in-Err.ensures.err)
+pub returns-in-Some-clause-fault : goal.returns-in-Some-clause-fault
+returns-in-Some-clause-fault c = λ below.
+    let fault = c.in-Some in
+    let item = text_before Utf32 (λ (u : ℕ). u) c.args.units.now fault.index in
+    (item, fault._unit, subst (λ us. IsFirstFault Utf32 us fault.index item fault._unit) (map-id c.args.units.now) fault.ensures.some)

@@ -1,0 +1,5 @@
+-- Bits as numbers.
+use Rattle.std.specs.Prelude.{ℕ, Bool, if◌then◌else◌}
+
+abbrev pub bit_of : Bool → ℕ
+bit_of b = if b then 1 else 0

@@ -1,0 +1,5 @@
+use Rattle.std.proofs.Common.{◌≡◌, ◌++◌, ◌+◌, map, take}
+use Rattle.wide_from_utf8.proofs.from_utf8_ascii.put_each.Given as goal
+
+abbrev pub invariant-loop-k : goal.invariant-loop-k
+invariant-loop-k g l = map g.C.Unit.number (take (l.at + l.k) l.units) ≡ map g.C.Unit.number (take l.at l.fn.units) ++ take l.k l.bytes

@@ -1,0 +1,203 @@
+//! Writes the lossy text of units of either width under a policy, as well-formed units, prefix by prefix (Unicode
+//! Standard, section 3.9, "U+FFFD Substitution of Maximal Subparts"). All lossy text of units is made here. UTF-16 is
+//! vectorized: it is repaired, with U+FFFD for each fault. If the policy writes fewer, this is done in chunks, and of
+//! each chunk the other U+FFFD are left out.
+ghost use Rattle.std.specs.Prelude.{◌≡◌, ◌<◌, ◌≤◌, length, min, take, drop, if◌then◌else◌};
+ghost use Rattle.wide_forms.specs.EncodingForm.{Utf16, Utf32, encode};
+ghost use Rattle.wide_forms.specs.Items.{items};
+ghost use Rattle.wide_forms.specs.Lossy.{ends_in_fault, lossy, lossy_after};
+ghost use Rattle.wide_forms.specs.Laws.Items.{IsCut};
+ghost use Rattle.wide_forms.specs.declared.policy.Policy.TheVariants.{Run, Skip};
+
+use crate::repair::{repair_16, repaired_scalar};
+use crate::retention::{put_one, retain_after};
+use crate::surrogates::{is_high_surrogate, is_low_surrogate, is_surrogate};
+use wide_forms::{Policy, replacement};
+
+// The most units of UTF-16 that are repaired in an array of as many, if replacement characters are left out. A small
+// array takes less time to clear.
+const FEW: usize = 256;
+
+// How many of more units are repaired at once: enough for the two ends of a chunk, which are not vectorized, to take
+// little of the time.
+const MANY: usize = 1024;
+
+/// How far writing lossy text came.
+#[derive(Clone, Copy, Debug)]
+pub struct Progress {
+    /// How many units were read.
+    pub read: usize,
+    /// How many units were written.
+    pub written: usize,
+    /// Whether a fault directly precedes what was not read.
+    pub after_fault: bool,
+}
+
+// Returns how many units at the beginning can be repaired separately: all if there are at most `most`, and otherwise
+// `most`, or one fewer if that would split a surrogate pair.
+fn uncut_len(units: &[u16], most: usize) -> usize
+    requires { min (length units.now) 2 ≤ most }
+    ensures within { result ≤ length units.now }
+    ensures few { result ≤ most }
+    ensures all { length units.now ≤ most → result ≡ length units.now }
+    ensures some { 0 < length units.now → 0 < result }
+    ensures cut { IsCut Utf16 (take result units.now) (drop result units.now) }
+{
+    if units.len() <= most {
+        units.len()
+    } else if is_high_surrogate(units[most - 1]) && is_low_surrogate(units[most]) {
+        most - 1
+    } else {
+        most
+    }
+}
+
+/// Returns whether a fault was read last: whether the units of UTF-16 end in a fault, or `after_fault` if there are
+/// none. A surrogate at the end is one, unless it is the second of a pair.
+pub fn ends_in_fault(units: &[u16], after_fault: bool) -> bool
+    ensures { result ≡ ends_in_fault after_fault (items Utf16 units.now) }
+{
+    let len = units.len();
+    if len == 0 {
+        return after_fault;
+    }
+    if len >= 2 && is_high_surrogate(units[len - 2]) && is_low_surrogate(units[len - 1]) {
+        return false;
+    }
+    is_surrogate(units[len - 1])
+}
+
+// Writes what is retained of a repaired chunk of UTF-16, and returns how many units that is. It is the chunk itself if
+// that has no fault. `replaces` says whether one replacement character is written for each run of faults, or none.
+fn put_chunk(
+    chunk: &[u16],
+    repaired: &[u16],
+    replaces: bool,
+    after_fault: bool,
+    text: &mut [u16],
+) -> usize
+    requires repaired { repaired.now ≡ encode Utf16 (lossy (items Utf16 chunk.now)) }
+    requires long { length repaired.now ≡ length chunk.now }
+    requires space { length chunk.now ≤ length text.old }
+    ensures text { take result text.new ≡ encode Utf16 (lossy_after (if replaces then Run else Skip) after_fault (items Utf16 chunk.now)) }
+    ensures within { result ≤ length chunk.now }
+{
+    if repaired == chunk {
+        text[..chunk.len()].copy_from_slice(chunk);
+        return chunk.len();
+    }
+    retain_after(replaces, after_fault, chunk, repaired, text)
+}
+
+// Writes the lossy text of all units of UTF-16, and returns how many units it has: chunk by chunk, each of which is
+// repaired in `repaired` first. `replaces` says whether one replacement character is written for each run of faults, or
+// none.
+fn put_retained_chunks(
+    units: &[u16],
+    replaces: bool,
+    after_fault: bool,
+    repaired: &mut [u16],
+    text: &mut [u16],
+) -> usize
+    requires spare { 2 ≤ length repaired.old }
+    requires space { length units.now ≤ length text.old }
+    ensures text { take result text.new ≡ encode Utf16 (lossy_after (if replaces then Run else Skip) after_fault (items Utf16 units.now)) }
+    ensures within { result ≤ length units.now }
+{
+    let mut rest = units;
+    let mut is_after = after_fault;
+    let mut at = 0;
+    'chunks: while !rest.is_empty() {
+        let (chunk, beyond) = rest.split_at(uncut_len(rest, repaired.len()));
+        repair_16(chunk, repaired);
+        let fixed = &repaired[..chunk.len()];
+        at += put_chunk(chunk, fixed, replaces, is_after, &mut text[at..]);
+        is_after = ends_in_fault(chunk, is_after);
+        rest = beyond;
+    }
+    at
+}
+
+// Writes the lossy text of all units of UTF-16 under a policy, and returns how many units it has.
+fn put_lossy(units: &[u16], policy: Policy, after_fault: bool, text: &mut [u16]) -> usize
+    requires { length units.now ≤ length text.old }
+    ensures text { take result text.new ≡ encode Utf16 (lossy_after policy after_fault (items Utf16 units.now)) }
+    ensures within { result ≤ length units.now }
+{
+    if policy == Policy::Each {
+        repair_16(units, text);
+        return units.len();
+    }
+    let replaces = replacement(policy, false).is_some();
+    if units.len() <= FEW {
+        put_retained_chunks(units, replaces, after_fault, &mut [0; FEW], text)
+    } else {
+        put_retained_chunks(units, replaces, after_fault, &mut [0; MANY], text)
+    }
+}
+
+/// Writes the lossy text of a prefix of 16-bit units under a policy (Unicode Standard, section 3.9, "U+FFFD
+/// Substitution of Maximal Subparts") as well-formed UTF-16 at the beginning of `text`. It reads all units if `text` is
+/// as long, and otherwise as many as `text` has, or one fewer. If `after_fault` is true, a fault precedes the units.
+/// The units of `text` after those written may be overwritten.
+///
+/// # Requires
+///
+/// `text` has at least two units, or is as long as `units`.
+pub fn lossy_prefix_16(
+    units: &[u16],
+    policy: Policy,
+    after_fault: bool,
+    text: &mut [u16],
+) -> Progress
+    requires { min (length units.now) 2 ≤ length text.old }
+    ensures read { result.read ≤ length units.now }
+    ensures all { length units.now ≤ length text.old → result.read ≡ length units.now }
+    ensures some { 0 < length units.now → 0 < result.read }
+    ensures written { result.written ≤ result.read }
+    ensures space { result.written ≤ length text.new }
+    ensures cut { IsCut Utf16 (take result.read units.now) (drop result.read units.now) }
+    ensures text { take result.written text.new ≡ encode Utf16 (lossy_after policy after_fault (items Utf16 (take result.read units.now))) }
+    ensures state { result.after_fault ≡ ends_in_fault after_fault (items Utf16 (take result.read units.now)) }
+{
+    let read = uncut_len(units, text.len());
+    let prefix = &units[..read];
+    Progress {
+        read,
+        written: put_lossy(prefix, policy, after_fault, text),
+        after_fault: ends_in_fault(prefix, after_fault),
+    }
+}
+
+/// Writes the lossy text of a prefix of 32-bit units under a policy (Unicode Standard, section 3.9, "U+FFFD
+/// Substitution of Maximal Subparts") as well-formed UTF-32 at the beginning of `text`. It reads as many units as
+/// `text` has, if there are as many. If `after_fault` is true, a fault precedes the units. The units of `text` after
+/// those written may be overwritten.
+pub fn lossy_prefix_32(
+    units: &[u32],
+    policy: Policy,
+    after_fault: bool,
+    text: &mut [u32],
+) -> Progress
+    ensures read { result.read ≡ min (length units.now) (length text.old) }
+    ensures written { result.written ≤ result.read }
+    ensures text { take result.written text.new ≡ encode Utf32 (lossy_after policy after_fault (items Utf32 (take result.read units.now))) }
+    ensures state { result.after_fault ≡ ends_in_fault after_fault (items Utf32 (take result.read units.now)) }
+{
+    let read = units.len().min(text.len());
+    let mut is_after = after_fault;
+    let mut at = 0;
+    let prefix = &units[..read];
+    for k in 0..prefix.len() {
+        let repaired = repaired_scalar(prefix[k]);
+        let is_fault = repaired != prefix[k];
+        let is_written = replacement(policy, is_after).is_some();
+        at = put_one(!is_fault | is_written, repaired, text, at);
+        is_after = is_fault;
+    }
+    Progress {
+        read,
+        written: at,
+        after_fault: is_after,
+    }
+}

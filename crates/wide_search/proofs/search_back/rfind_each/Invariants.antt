@@ -1,0 +1,10 @@
+use Rattle.std.proofs.Common.{ℕ, ◌≤◌}
+use Rattle.wide_search.specs.Occurrences.{OccursAt}
+use Rattle.wide_search.proofs.search_back.rfind_each.Given as goal
+
+-- The needle occurs at none of the offsets from `at` on.
+abbrev pub invariant-loop-at : goal.invariant-loop-at
+invariant-loop-at g l = (l.at ≤ l.end) × ((later : ℕ) → l.at ≤ later → ¬ (OccursAt (g.P.Needle.sought l.needle) l.units later))
+
+abbrev pub decreases-loop-at : goal.decreases-loop-at
+decreases-loop-at g l = l.at

@@ -1,0 +1,177 @@
+//! Searches for a needle from the back: in the plain way, offset by offset, and after some tries by two units, the
+//! needle's first and last, in SIMD lanes (W. Mula, "SIMD-friendly algorithms for substring searching"). The calls
+//! mirror those of `search.rt`.
+
+ghost use Rattle.std.specs.Prelude.{◌+◌, ◌-◌, ◌<◌, ◌≤◌, ℕ, List, IfNone, IfSome, IsTrue, length};
+ghost use Rattle.wide_search.specs.Occurrences.{IsLastAt, OccursAt, OccursNowhere};
+ghost use Rattle.wide_search.specs.Probes.{IsProbe};
+
+use crate::costs::{Costs, Turn};
+use crate::limits::{COUNTED_LEN, MATCHED_PER_NEEDLE_UNIT, SHORT_TEXT, TRIES_FROM_BACK};
+use crate::needle::{Needle, Probe};
+use crate::pairs::last_pair;
+use crate::two_way::{Stop, rfind_before};
+use wide_unit::Unit;
+
+// Returns an offset such that no needle with these two units occurs from there on, and before `end`. It is the one
+// after the last at which both stand, or 0.
+fn skip_back<C: Unit>(units: &[C], end: usize, probe: Probe<C>) -> usize
+    requires { end + probe.distance ≤ length units.now }
+    ensures within { result ≤ end }
+    ensures beyond { (needle : List C) → IsProbe needle probe → (k : ℕ) → result ≤ k → k < end → ¬ (OccursAt needle units.now k) }
+{
+    let (_, rest) = units.split_at(probe.distance);
+    let (back, _) = rest.split_at(end);
+    let (front, _) = units.split_at(end);
+    last_pair(front, back, probe.first, probe.last)
+}
+
+// Searches back from an offset from which on the needle does not occur, offset by offset. It makes `tries` tries, or
+// fewer at the beginning or where too many units match; at the last try before these, `matched` units matched. Returns
+// where it stopped, which is the offset after the needle's if it was found, and how many units matched in vain. For a
+// short needle that is an estimate: as many at each try as at the one before these.
+#[inline(never)]
+fn rfind_each<C: Unit, P: Needle<C>>(
+    units: &[C],
+    needle: P,
+    end: usize,
+    tries: usize,
+    matched: usize,
+) -> (Stop, usize)
+    requires within { end + length (P.sought needle) ≤ length units.now + 1 }
+    requires beyond { (k : ℕ) → end ≤ k → ¬ (OccursAt (P.sought needle) units.now k) }
+    ensures within { result.0.at ≤ end }
+    ensures here { IsTrue result.0.is_found → OccursAt (P.sought needle) units.now (result.0.at - 1) × (0 < result.0.at) }
+    ensures beyond { (k : ℕ) → result.0.at ≤ k → ¬ (OccursAt (P.sought needle) units.now k) }
+{
+    let last = end.saturating_sub(tries);
+    let is_counted = needle.len() >= COUNTED_LEN;
+    let mut at = end;
+    let mut all_matched = if is_counted {
+        0
+    } else {
+        tries.wrapping_mul(matched)
+    };
+    let most = if is_counted {
+        needle.len().saturating_mul(MATCHED_PER_NEEDLE_UNIT)
+    } else {
+        usize::MAX
+    };
+    while at > last && all_matched <= most {
+        let (_, here) = units.split_at(at - 1);
+        if is_counted {
+            // Fewer than two units that match are not counted.
+            if needle.may_begin(here) {
+                let matched = needle.shared(here);
+                if matched == needle.len() {
+                    return (Stop::found(at), all_matched);
+                }
+                // A sum that wraps would change the time alone.
+                all_matched = all_matched.wrapping_add(matched);
+            }
+        } else if needle.begins(here) {
+            return (Stop::found(at), all_matched);
+        }
+        at -= 1;
+    }
+    (Stop::unfound(at), all_matched)
+}
+
+// Searches back from an offset from which on the needle does not occur. Returns the offset of its last occurrence, or
+// `None`. Units are compared where both the first and the last unit stand, or at each offset if they stand nearly
+// everywhere. If too many were compared in vain, the two-way search takes over for a while.
+#[inline(never)]
+pub(crate) fn rfind_by_two<C: Unit, P: Needle<C>>(
+    units: &[C],
+    needle: P,
+    end: usize,
+) -> Option<usize>
+    requires within { end + length (P.sought needle) ≤ length units.now + 1 }
+    requires beyond { (k : ℕ) → end ≤ k → ¬ (OccursAt (P.sought needle) units.now k) }
+    ensures last { IfSome result (IsLastAt (P.sought needle) units.now) }
+    ensures none { IfNone result (OccursNowhere (P.sought needle) units.now) }
+{
+    let Some(probe) = needle.probe() else {
+        return Some(units.len());
+    };
+    let (mut at, mut since, mut costs) = (end, end, Costs::new(0));
+    while at > 0 {
+        let found = skip_back(units, at, probe);
+        if found == 0 {
+            return None;
+        }
+        let (_, here) = units.split_at(found - 1);
+        let matched = needle.matching(here);
+        if matched > probe.distance {
+            return Some(found - 1);
+        }
+        costs = costs.after_try(at - found, matched);
+        at = found - 1;
+        match costs.turn(since - at, probe.distance, 0) {
+            Turn::Pairs | Turn::Back => {}
+            Turn::Each => {
+                let (stop, matched) = rfind_each(units, needle, at, costs.tries, matched);
+                if stop.is_found {
+                    return Some(stop.at - 1);
+                }
+                (at, costs) = (stop.at, costs.after_tries(at - stop.at, matched));
+            }
+            Turn::TwoWay => {
+                if let Some(sought) = needle.as_slice() {
+                    let stop = rfind_before(units, sought, at);
+                    if stop.is_found {
+                        return Some(stop.at - 1);
+                    }
+                    (at, since, costs) = (stop.at, stop.at, Costs::new(0));
+                }
+            }
+        }
+    }
+    None
+}
+
+// Searches back from an offset from which on the needle does not occur. Returns the offset of its last occurrence, or
+// `None`. The last few offsets are tried one by one, or all if there are few. It is a function of its own, so that
+// `rfind_in` can end with one call, and so saves no register where the needle is found at the first try.
+#[inline(never)]
+fn rfind_left<C: Unit, P: Needle<C>>(units: &[C], needle: P, last: usize) -> Option<usize>
+    requires within { last + length (P.sought needle) ≤ length units.now }
+    requires beyond { (k : ℕ) → last ≤ k → ¬ (OccursAt (P.sought needle) units.now k) }
+    ensures last { IfSome result (IsLastAt (P.sought needle) units.now) }
+    ensures none { IfNone result (OccursNowhere (P.sought needle) units.now) }
+{
+    let stop = if last < SHORT_TEXT {
+        0
+    } else {
+        last - TRIES_FROM_BACK
+    };
+    let mut at = last;
+    while at > stop {
+        at -= 1;
+        let (_, rest) = units.split_at(at);
+        if needle.begins(rest) {
+            return Some(at);
+        }
+    }
+    if at == 0 {
+        return None;
+    }
+    rfind_by_two(units, needle, at)
+}
+
+// Returns the offset of the last occurrence of the needle, or `None`. The last offset is tried first, so that a needle
+// at the end is found without a call of `rfind_left`.
+pub(crate) fn rfind_in<C: Unit, P: Needle<C>>(units: &[C], needle: P) -> Option<usize>
+    ensures last { IfSome result (IsLastAt (P.sought needle) units.now) }
+    ensures none { IfNone result (OccursNowhere (P.sought needle) units.now) }
+{
+    if units.len() < needle.len() {
+        return None;
+    }
+    let last = units.len() - needle.len();
+    let (_, rest) = units.split_at(last);
+    if needle.begins(rest) {
+        return Some(last);
+    }
+    rfind_left(units, needle, last)
+}
