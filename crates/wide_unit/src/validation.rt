@@ -47,6 +47,7 @@ pub struct FirstFault<C> {
 /// Returns the index of the first fault (Unicode Standard, D84), in units, and its unit, or `None` if the units are
 /// well formed (D85). Units that are no surrogates, and surrogate pairs, are checked in vectorized steps, and the rest
 /// item by item.
+#[inline(always)]
 pub fn find_fault<C: Unit>(units: &[C]) -> Option<(usize, C)>
     ensures some { IfSome result (λ fault. IsFirstFault C.form (map C.number units.now) fault.0 (text_before C.form C.number units.now fault.0) (C.number fault.1)) }
     ensures within { IfSome result (λ fault. fault.0 < length units.now) }
