@@ -16,7 +16,7 @@ use wide_forms::Policy;
 use wide_repair::ends_in_fault;
 use wide_unit::valid_len;
 
-// How many units are read at a time: 2,048 bytes of them, which stay in the nearest cache until they are converted.
+// How many units are read at a time.
 const CHUNK: usize = 1024;
 
 // Returns the byte order with this number, or `None` if there is none.
