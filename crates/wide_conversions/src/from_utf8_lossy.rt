@@ -8,7 +8,7 @@ ghost use Rattle.std.specs.Str.Lossy.{second_byte_max, second_byte_min};
 ghost use Rattle.wide_forms.specs.Segmentation.{Char, Fault};
 ghost use Rattle.wide_conversions.specs.Utf8Items.{BeginsWith, IsLossyPrefix};
 
-use wide_forms::{Policy, replacement};
+use wide_forms::{LossyProgress, Policy, replacement};
 use wide_from_utf8::{low_len, put_bytes};
 use wide_unit::{Unit, char_of, put_char};
 
@@ -89,31 +89,47 @@ fn put_prefix<C: Unit>(
     after_fault: bool,
     units: &mut [C],
     at: usize,
-) -> (usize, usize, bool)
+) -> LossyProgress
     requires some { 0 < length text.now }
     requires space { at + 16 ≤ length units.old }
-    ensures read { result.0 ≤ length text.now }
-    ensures some { 0 < result.0 }
-    ensures space { at + result.1 ≤ length units.new }
-    ensures units { IsLossyPrefix C.form policy text.now result.0 after_fault result.2 (map C.number (take at units.old)) (map C.number (take (at + result.1) units.new)) }
+    ensures read { result.read ≤ length text.now }
+    ensures some { 0 < result.read }
+    ensures space { at + result.written ≤ length units.new }
+    ensures units { IsLossyPrefix C.form policy text.now result.read after_fault result.after_fault (map C.number (take at units.old)) (map C.number (take (at + result.written) units.new)) }
 {
     if text.len() >= 16 {
         let ascii = low_len(text, 0x80);
         if ascii > 0 {
             put_bytes(text, units, at);
-            return (ascii, ascii, false);
+            return LossyProgress {
+                read: ascii,
+                written: ascii,
+                after_fault: false,
+            };
         }
     }
     let (item, len) = first_item(text);
     if let Some(c) = item {
         let beyond = put_char(units, at, c);
-        return (len, beyond - at, false);
+        return LossyProgress {
+            read: len,
+            written: beyond - at,
+            after_fault: false,
+        };
     }
     let Some(c) = replacement(policy, after_fault) else {
-        return (len, 0, true);
+        return LossyProgress {
+            read: len,
+            written: 0,
+            after_fault: true,
+        };
     };
     let beyond = put_char(units, at, c);
-    (len, beyond - at, true)
+    LossyProgress {
+        read: len,
+        written: beyond - at,
+        after_fault: true,
+    }
 }
 
 /// Decodes a prefix of any bytes as lossy text under a policy (Unicode Standard, section 3.9, "U+FFFD Substitution of
@@ -130,29 +146,27 @@ pub fn from_utf8_lossy_prefix<C: Unit>(
     policy: Policy,
     after_fault: bool,
     units: &mut [C],
-) -> (usize, usize, bool)
+) -> LossyProgress
     requires { 16 ≤ length units.old }
-    ensures read { result.0 ≤ length text.now }
-    ensures some { 0 < length text.now → 0 < result.0 }
-    ensures written { result.1 ≤ length units.new }
-    ensures units { IsLossyPrefix C.form policy text.now result.0 after_fault result.2 [] (map C.number (take result.1 units.new)) }
+    ensures read { result.read ≤ length text.now }
+    ensures some { 0 < length text.now → 0 < result.read }
+    ensures written { result.written ≤ length units.new }
+    ensures units { IsLossyPrefix C.form policy text.now result.read after_fault result.after_fault [] (map C.number (take result.written units.new)) }
 {
     let mut read = 0;
     let mut written = 0;
     let mut after_fault = after_fault;
     let mut valid = 0;
     'items: while read < text.len() && units.len() - written >= 16 && valid < VALID {
-        let (bytes, more, is_fault) = put_prefix(
-            &text[read..],
-            policy,
-            after_fault,
-            units,
-            written,
-        );
-        read += bytes;
-        written += more;
-        after_fault = is_fault;
-        valid = if is_fault { 0 } else { valid + bytes };
+        let step = put_prefix(&text[read..], policy, after_fault, units, written);
+        read += step.read;
+        written += step.written;
+        after_fault = step.after_fault;
+        valid = if after_fault { 0 } else { valid + step.read };
     }
-    (read, written, after_fault)
+    LossyProgress {
+        read,
+        written,
+        after_fault,
+    }
 }

@@ -4,5 +4,12 @@
 #![tactic(auto)]
 
 mod policy;
+mod progress;
+mod surrogates;
 
 pub use policy::{Policy, or_replacement, replacement};
+pub use progress::{LossyProgress, Progress, StrictProgress};
+pub use surrogates::{
+    HIGH_TOP, LOW_TOP, SURROGATE_TOP, is_high_surrogate, is_low_surrogate, is_no_scalar,
+    is_surrogate,
+};

@@ -6,7 +6,7 @@ ghost use Rattle.std.specs.Prelude.{◌≡◌, ◌++◌, ◌+◌, ◌*◌, ◌<�
 ghost use Rattle.wide_forms.specs.EncodingForm.{encode};
 ghost use Rattle.wide_forms.specs.Items.{IsWellFormed, chars};
 
-use wide_forms::or_replacement;
+use wide_forms::{Progress, SURROGATE_TOP, or_replacement};
 use wide_unit::{Unit, char_of, put_char, split_first};
 
 // Returns whether each of sixteen units is a character below 0x1_0000.
@@ -19,8 +19,7 @@ fn are_plain<C: Unit>(block: &[C]) -> bool
     let mut plain = true;
     for k in 0..16 {
         let code = block[k].code();
-        // The surrogates, D800 to DFFF, are the numbers whose quotient by 0x800 is 27.
-        plain &= code / 0x800 != 27;
+        plain &= code / 0x800 != u32::from(SURROGATE_TOP);
         plain &= code < 0x1_0000;
     }
     plain
@@ -46,15 +45,15 @@ fn put_plain<C: Unit, D: Unit>(block: &[C], out: &mut [D], at: usize)
 
 // Converts the first characters of the units one by one and writes them after the first `at` units of `out`, up to
 // sixteen units. Returns how many units were read, and the index after those written.
-fn put_ones<C: Unit, D: Unit>(units: &[C], out: &mut [D], at: usize) -> (usize, usize)
+fn put_ones<C: Unit, D: Unit>(units: &[C], out: &mut [D], at: usize) -> Progress
     requires well_formed { IsWellFormed C.form (map C.number units.now) }
     requires space { at + 16 ≤ length out.old }
-    ensures read { result.0 ≤ length units.now }
-    ensures some { 0 < length units.now → 0 < result.0 }
-    ensures few { result.1 ≤ at + 2 * result.0 }
-    ensures written { result.1 ≤ length out.new }
-    ensures units { map D.number (take at out.old) ++ encode D.form (chars C.form (map C.number units.now)) ≡ map D.number (take result.1 out.new) ++ encode D.form (chars C.form (map C.number (drop result.0 units.now))) }
-    ensures rest { IsWellFormed C.form (map C.number (drop result.0 units.now)) }
+    ensures read { result.read ≤ length units.now }
+    ensures some { 0 < length units.now → 0 < result.read }
+    ensures few { result.written ≤ at + 2 * result.read }
+    ensures written { result.written ≤ length out.new }
+    ensures units { map D.number (take at out.old) ++ encode D.form (chars C.form (map C.number units.now)) ≡ map D.number (take result.written out.new) ++ encode D.form (chars C.form (map C.number (drop result.read units.now))) }
+    ensures rest { IsWellFormed C.form (map C.number (drop result.read units.now)) }
 {
     let mut rest = units;
     let mut written = at;
@@ -68,7 +67,10 @@ fn put_ones<C: Unit, D: Unit>(units: &[C], out: &mut [D], at: usize) -> (usize, 
         written = put_char(out, written, c);
         rest = others;
     }
-    (units.len() - rest.len(), written)
+    Progress {
+        read: units.len() - rest.len(),
+        written,
+    }
 }
 
 /// Converts a prefix of well-formed units of one encoding form to another (Unicode Standard, D90, D91), at the
@@ -78,14 +80,14 @@ fn put_ones<C: Unit, D: Unit>(units: &[C], out: &mut [D], at: usize) -> (usize, 
 /// # Requires
 ///
 /// The units are well formed. `out` has at least 16 units.
-pub fn between_forms_prefix<C: Unit, D: Unit>(units: &[C], out: &mut [D]) -> (usize, usize)
+pub fn between_forms_prefix<C: Unit, D: Unit>(units: &[C], out: &mut [D]) -> Progress
     requires well_formed { IsWellFormed C.form (map C.number units.now) }
     requires space { 16 ≤ length out.old }
-    ensures read { result.0 ≤ length units.now }
-    ensures some { 0 < length units.now → 0 < result.0 }
-    ensures written { result.1 ≤ length out.new }
-    ensures units { encode D.form (chars C.form (map C.number units.now)) ≡ map D.number (take result.1 out.new) ++ encode D.form (chars C.form (map C.number (drop result.0 units.now))) }
-    ensures rest { IsWellFormed C.form (map C.number (drop result.0 units.now)) }
+    ensures read { result.read ≤ length units.now }
+    ensures some { 0 < length units.now → 0 < result.read }
+    ensures written { result.written ≤ length out.new }
+    ensures units { encode D.form (chars C.form (map C.number units.now)) ≡ map D.number (take result.written out.new) ++ encode D.form (chars C.form (map C.number (drop result.read units.now))) }
+    ensures rest { IsWellFormed C.form (map C.number (drop result.read units.now)) }
 {
     let mut read = 0;
     let mut written = 0;
@@ -95,10 +97,10 @@ pub fn between_forms_prefix<C: Unit, D: Unit>(units: &[C], out: &mut [D]) -> (us
             read += 16;
             written += 16;
         } else {
-            let (passed, beyond) = put_ones(&units[read..], out, written);
-            read += passed;
-            written = beyond;
+            let step = put_ones(&units[read..], out, written);
+            read += step.read;
+            written = step.written;
         }
     }
-    (read, written)
+    Progress { read, written }
 }

@@ -2,6 +2,7 @@
 //! D90 to D92, and section 3.10). Vectorized: sixteen units in one step, in SIMD lanes.
 #![tactic(auto)]
 
+pub mod array_sizes;
 mod between_forms;
 mod lossy;
 mod strings;

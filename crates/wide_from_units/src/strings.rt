@@ -8,28 +8,13 @@ ghost use Rattle.wide_forms.specs.Lossy.{lossy_by};
 ghost use Rattle.wide_forms.specs.Utf8.{utf8};
 ghost use Rattle.wide_utf16_to_utf8.specs.Encoded.{AppendsPrefix};
 
+use crate::array_sizes::{FEW, LARGE, MANY, MIDDLE, SMALL};
 use crate::lossy::lossy_prefix;
 use crate::to_utf8::to_utf8_prefix;
 use crate::utf8_length::utf8_len;
 use std::alloc::{AllocError, Allocator};
-use wide_forms::Policy;
+use wide_forms::{Policy, Progress};
 use wide_unit::{AnyUnits, Unit};
-
-// The most units whose text is made in an array of `SMALL` bytes. A small array takes less time to clear.
-const FEW: usize = 32;
-
-// Three bytes for each of `FEW` units, and four more that the conversion may overwrite.
-const SMALL: usize = 100;
-
-// The most units whose text is made in an array of `MIDDLE` bytes.
-const MANY: usize = 256;
-
-// Three bytes for each of `MANY` units, and four more that the conversion may overwrite.
-const MIDDLE: usize = 772;
-
-// The size of the array for a chunk of more units, in bytes: three for each of 1032, and four more that the conversion
-// may overwrite.
-const LARGE: usize = 3100;
 
 // Appends the text, chunk by chunk.
 fn push_chunks<C: Unit, A: Allocator>(
@@ -46,7 +31,7 @@ fn push_chunks<C: Unit, A: Allocator>(
 {
     let mut rest = units;
     'chunks: while !rest.is_empty() {
-        let (read, written) = to_utf8_prefix(rest, chunk);
+        let Progress { read, written } = to_utf8_prefix(rest, chunk);
         text.extend_from_slice(&chunk[..written])?;
         rest = &rest[read..];
     }

@@ -10,6 +10,7 @@ ghost use Rattle.wide_forms.specs.Items.{IsWellFormed, chars};
 ghost use Rattle.wide_forms.specs.Utf8.{utf8, utf8_bytes};
 ghost use Rattle.wide_from_units.specs.Scalars.{IsScalarLen, IsScalarWord};
 
+use wide_forms::Progress;
 use wide_unit::{AnyUnits, Unit};
 use wide_utf16_to_utf8::{
     put_ascii, put_three_bytes, put_two_bytes, put_u32_le, utf16_to_utf8_until_fault,
@@ -17,14 +18,14 @@ use wide_utf16_to_utf8::{
 
 // Encodes a prefix of 16-bit units: as many as certainly fit into `text`, at three bytes for each. Returns how many
 // units were read and how many bytes were written.
-fn utf16_to_utf8_prefix(units: &[u16], text: &mut [u8]) -> (usize, usize)
+fn utf16_to_utf8_prefix(units: &[u16], text: &mut [u8]) -> Progress
     requires well_formed { IsWellFormed Utf16 units.now }
     requires space { 64 ≤ length text.old }
-    ensures read { result.0 ≤ length units.now }
-    ensures some { 0 < length units.now → 0 < result.0 }
-    ensures written { result.1 ≤ length text.new }
-    ensures text { utf8 (chars Utf16 units.now) ≡ take result.1 text.new ++ utf8 (chars Utf16 (drop result.0 units.now)) }
-    ensures rest { IsWellFormed Utf16 (drop result.0 units.now) }
+    ensures read { result.read ≤ length units.now }
+    ensures some { 0 < length units.now → 0 < result.read }
+    ensures written { result.written ≤ length text.new }
+    ensures text { utf8 (chars Utf16 units.now) ≡ take result.written text.new ++ utf8 (chars Utf16 (drop result.read units.now)) }
+    ensures rest { IsWellFormed Utf16 (drop result.read units.now) }
 {
     // The conversion may overwrite four bytes after the text.
     let fitting = (text.len() - 4) / 3;
@@ -34,7 +35,10 @@ fn utf16_to_utf8_prefix(units: &[u16], text: &mut [u8]) -> (usize, usize)
         fitting
     };
     let step = utf16_to_utf8_until_fault(&units[..count], text, 0);
-    (step.read, step.written)
+    Progress {
+        read: step.read,
+        written: step.written,
+    }
 }
 
 // Returns the bitwise or of sixteen units. No unit is greater than it.
@@ -208,14 +212,14 @@ fn put_block(block: &[u32], out: &mut [u8], at: usize) -> usize
 
 // Encodes a prefix of 32-bit units: sixteen in one step, and one by one if fewer than sixteen units or fewer than 64
 // bytes of space are left. Returns how many units were read and how many bytes were written.
-fn utf32_to_utf8_prefix(units: &[u32], text: &mut [u8]) -> (usize, usize)
+fn utf32_to_utf8_prefix(units: &[u32], text: &mut [u8]) -> Progress
     requires well_formed { IsWellFormed Utf32 units.now }
     requires space { 64 ≤ length text.old }
-    ensures read { result.0 ≤ length units.now }
-    ensures some { 0 < length units.now → 0 < result.0 }
-    ensures written { result.1 ≤ length text.new }
-    ensures text { utf8 (chars Utf32 units.now) ≡ take result.1 text.new ++ utf8 (chars Utf32 (drop result.0 units.now)) }
-    ensures rest { IsWellFormed Utf32 (drop result.0 units.now) }
+    ensures read { result.read ≤ length units.now }
+    ensures some { 0 < length units.now → 0 < result.read }
+    ensures written { result.written ≤ length text.new }
+    ensures text { utf8 (chars Utf32 units.now) ≡ take result.written text.new ++ utf8 (chars Utf32 (drop result.read units.now)) }
+    ensures rest { IsWellFormed Utf32 (drop result.read units.now) }
 {
     let mut read = 0;
     let mut written = 0;
@@ -227,7 +231,7 @@ fn utf32_to_utf8_prefix(units: &[u32], text: &mut [u8]) -> (usize, usize)
         written = put_scalar(text, written, units[read]);
         read += 1;
     }
-    (read, written)
+    Progress { read, written }
 }
 
 /// Encodes a prefix of well-formed units as UTF-8 (Unicode Standard, D92) at the beginning of `text`, and returns how
@@ -237,14 +241,14 @@ fn utf32_to_utf8_prefix(units: &[u32], text: &mut [u8]) -> (usize, usize)
 /// # Requires
 ///
 /// The units are well formed. `text` has at least 64 bytes.
-pub fn to_utf8_prefix<C: Unit>(units: &[C], text: &mut [u8]) -> (usize, usize)
+pub fn to_utf8_prefix<C: Unit>(units: &[C], text: &mut [u8]) -> Progress
     requires well_formed { IsWellFormed C.form (map C.number units.now) }
     requires space { 64 ≤ length text.old }
-    ensures read { result.0 ≤ length units.now }
-    ensures some { 0 < length units.now → 0 < result.0 }
-    ensures written { result.1 ≤ length text.new }
-    ensures text { utf8 (chars C.form (map C.number units.now)) ≡ take result.1 text.new ++ utf8 (chars C.form (map C.number (drop result.0 units.now))) }
-    ensures rest { IsWellFormed C.form (map C.number (drop result.0 units.now)) }
+    ensures read { result.read ≤ length units.now }
+    ensures some { 0 < length units.now → 0 < result.read }
+    ensures written { result.written ≤ length text.new }
+    ensures text { utf8 (chars C.form (map C.number units.now)) ≡ take result.written text.new ++ utf8 (chars C.form (map C.number (drop result.read units.now))) }
+    ensures rest { IsWellFormed C.form (map C.number (drop result.read units.now)) }
 {
     match C::as_any(units) {
         AnyUnits::U16(units) => utf16_to_utf8_prefix(units, text),

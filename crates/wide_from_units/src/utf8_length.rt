@@ -7,6 +7,7 @@ ghost use Rattle.wide_forms.specs.Items.{IsWellFormed, chars};
 ghost use Rattle.wide_forms.specs.Utf8.{utf8};
 ghost use Rattle.wide_from_units.specs.Lengths.{more_of_16, more_of_32};
 
+use wide_forms::SURROGATE_TOP;
 use wide_unit::{AnyUnits, Unit};
 
 // How many units are counted before the count is added to the length, so that a counter of 16 bits cannot overflow.
@@ -28,13 +29,14 @@ trait Weighed: Copy {
 impl Weighed for u16 {
     ghost more = { more_of_16 };
 
-    // The counter has the width of a unit, so the compiler vectorizes the loop. The surrogates, D800 to DFFF, are the
-    // units whose quotient by 0x800 is 27; each unit of a pair is half of four bytes, and so one byte more.
+    // The counter has the width of a unit, so the compiler vectorizes the loop. Each surrogate of a pair is half of
+    // four bytes, and so one byte more.
     #[inline(always)]
     fn more_bytes(units: &[u16]) -> usize {
         let mut more = 0u16;
         for unit in units {
-            more += u16::from(0x80 <= *unit) + u16::from(0x800 <= *unit && *unit / 0x800 != 27);
+            more += u16::from(0x80 <= *unit)
+                + u16::from(0x800 <= *unit && *unit / 0x800 != SURROGATE_TOP);
         }
         usize::from(more)
     }

@@ -15,6 +15,7 @@ use crate::from_utf8_ascii::{
 };
 use crate::from_utf8_mixed::put_mixed;
 use crate::from_utf8_runs::{are_fours, are_threes, put_fours, put_threes};
+use wide_forms::Progress;
 use wide_unit::{Unit, char_of, put_char};
 
 // Returns the first character of text, by its leading byte (Unicode Standard, Table 3-6), and its length in bytes.
@@ -44,49 +45,61 @@ fn first_char(text: &[u8]) -> (char, usize)
 
 // Writes the units of the first character of text, and returns its length in bytes and in units.
 #[inline(always)]
-fn put_first<C: Unit>(text: &[u8], units: &mut [C], at: usize) -> (usize, usize)
+fn put_first<C: Unit>(text: &[u8], units: &mut [C], at: usize) -> Progress
     requires text { IsUtf8 text.now }
     requires some { 0 < length text.now }
     requires space { at + 2 ≤ length units.old }
-    ensures read { result.0 ≤ length text.now }
-    ensures some { 0 < result.0 }
-    ensures few { result.1 ≤ 2 * result.0 }
-    ensures space { at + result.1 ≤ length units.new }
-    ensures units { IsDecoded C.form text.now result.0 (map C.number (take at units.old)) (map C.number (take (at + result.1) units.new)) }
+    ensures read { result.read ≤ length text.now }
+    ensures some { 0 < result.read }
+    ensures few { result.written ≤ 2 * result.read }
+    ensures space { at + result.written ≤ length units.new }
+    ensures units { IsDecoded C.form text.now result.read (map C.number (take at units.old)) (map C.number (take (at + result.written) units.new)) }
 {
     let (c, len) = first_char(text);
     let beyond = put_char(units, at, c);
-    (len, beyond - at)
+    Progress {
+        read: len,
+        written: beyond - at,
+    }
 }
 
 // Writes the units of some characters at the beginning of text. Returns how many bytes were read and how many units
 // were written.
 #[inline(always)]
-fn put_block<C: Unit>(text: &[u8], units: &mut [C], at: usize) -> (usize, usize)
+fn put_block<C: Unit>(text: &[u8], units: &mut [C], at: usize) -> Progress
     requires text { IsUtf8 text.now }
     requires whole { 18 ≤ length text.now }
     requires space { at + 16 ≤ length units.old }
-    ensures read { result.0 ≤ length text.now }
-    ensures some { 0 < result.0 }
-    ensures few { result.1 ≤ 2 * result.0 }
-    ensures space { at + result.1 ≤ length units.new }
-    ensures units { IsDecoded C.form text.now result.0 (map C.number (take at units.old)) (map C.number (take (at + result.1) units.new)) }
+    ensures read { result.read ≤ length text.now }
+    ensures some { 0 < result.read }
+    ensures few { result.written ≤ 2 * result.read }
+    ensures space { at + result.written ≤ length units.new }
+    ensures units { IsDecoded C.form text.now result.read (map C.number (take at units.old)) (map C.number (take (at + result.written) units.new)) }
 {
     if low_len(text, 0x80) == 16 {
         put_bytes(text, units, at);
         let more = 16 + put_ascii_blocks(&text[16..], units, at + 16);
-        return (more, more);
+        return Progress {
+            read: more,
+            written: more,
+        };
     }
     if text[0] >= 0xf0 {
         if are_fours(text) {
-            return (16, put_fours(text, units, at) - at);
+            return Progress {
+                read: 16,
+                written: put_fours(text, units, at) - at,
+            };
         }
         return put_first(text, units, at);
     }
     if text.len() >= 31 && are_threes(text) && are_threes(&text[15..]) {
         put_threes(text, units, at);
         put_threes(&text[15..], units, at + 5);
-        return (30, 10);
+        return Progress {
+            read: 30,
+            written: 10,
+        };
     }
     put_mixed(text, units, at)
 }
@@ -99,21 +112,21 @@ fn put_block<C: Unit>(text: &[u8], units: &mut [C], at: usize) -> (usize, usize)
 /// # Requires
 ///
 /// The text is well-formed UTF-8.
-pub fn from_utf8_prefix<C: Unit>(text: &[u8], units: &mut [C]) -> (usize, usize)
+pub fn from_utf8_prefix<C: Unit>(text: &[u8], units: &mut [C]) -> Progress
     requires text { IsUtf8 text.now }
-    ensures read { result.0 ≤ length text.now }
-    ensures some { 0 < length text.now → 2 ≤ length units.old → 0 < result.0 }
-    ensures whole { length (encode C.form (str_chars text.now)) ≤ length units.old → result.0 ≡ length text.now }
-    ensures written { result.1 ≤ length units.new }
-    ensures units { encode C.form (str_chars text.now) ≡ map C.number (take result.1 units.new) ++ encode C.form (str_chars (drop result.0 text.now)) }
-    ensures rest { IsUtf8 (drop result.0 text.now) }
+    ensures read { result.read ≤ length text.now }
+    ensures some { 0 < length text.now → 2 ≤ length units.old → 0 < result.read }
+    ensures whole { length (encode C.form (str_chars text.now)) ≤ length units.old → result.read ≡ length text.now }
+    ensures written { result.written ≤ length units.new }
+    ensures units { encode C.form (str_chars text.now) ≡ map C.number (take result.written units.new) ++ encode C.form (str_chars (drop result.read text.now)) }
+    ensures rest { IsUtf8 (drop result.read text.now) }
 {
     let mut read = 0;
     let mut written = 0;
     'sixteens: while text.len() - read >= 18 && units.len() - written >= 16 {
-        let (bytes, more) = put_block(&text[read..], units, written);
-        read += bytes;
-        written += more;
+        let step = put_block(&text[read..], units, written);
+        read += step.read;
+        written += step.written;
     }
     // Here fewer than eighteen bytes are left, or there is space for fewer than sixteen units. In the latter case the
     // rest of the text may be long.
@@ -128,10 +141,10 @@ pub fn from_utf8_prefix<C: Unit>(text: &[u8], units: &mut [C]) -> (usize, usize)
     'ones: while read < text.len() {
         let (c, len) = first_char(&text[read..]);
         if units.len() - written < C::char_len(c) {
-            return (read, written);
+            return Progress { read, written };
         }
         written = put_char(units, written, c);
         read += len;
     }
-    (read, written)
+    Progress { read, written }
 }

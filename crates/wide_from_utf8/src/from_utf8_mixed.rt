@@ -10,6 +10,7 @@ ghost use Rattle.wide_from_utf8.specs.Mixed.{codes_at, lead_bits, trailing_len};
 use crate::compressed_units::put_compressed;
 use crate::from_utf8_ascii::low_len;
 use std::simd::prelude::*;
+use wide_forms::Progress;
 use wide_unit::Unit;
 
 // Returns the scalar values at the first eight bytes, as if a character of one to three bytes began at each.
@@ -63,20 +64,23 @@ fn rest_len(text: &[u8]) -> usize
 /// The text is well-formed UTF-8 of at least 18 bytes. Its first character has at most three bytes. `units` has at
 /// least 16 units from `at` on.
 #[inline(always)]
-pub(crate) fn put_mixed<C: Unit>(text: &[u8], units: &mut [C], at: usize) -> (usize, usize)
+pub(crate) fn put_mixed<C: Unit>(text: &[u8], units: &mut [C], at: usize) -> Progress
     requires text { IsUtf8 text.now }
     requires whole { 18 ≤ length text.now }
     requires first { slice_index text.now 0 < 0xf0 }
     requires space { at + 16 ≤ length units.old }
-    ensures read { result.0 ≤ length text.now }
-    ensures some { 0 < result.0 }
-    ensures few { result.1 ≤ 2 * result.0 }
-    ensures space { at + result.1 ≤ length units.new }
-    ensures units { IsDecoded C.form text.now result.0 (map C.number (take at units.old)) (map C.number (take (at + result.1) units.new)) }
+    ensures read { result.read ≤ length text.now }
+    ensures some { 0 < result.read }
+    ensures few { result.written ≤ 2 * result.read }
+    ensures space { at + result.written ≤ length units.new }
+    ensures units { IsDecoded C.form text.now result.read (map C.number (take at units.old)) (map C.number (take (at + result.written) units.new)) }
 {
     let end = low_len(text, 0xf0);
     let leads = leads_of(text) % (1 << end);
     let half = put_compressed(codes_of(text), leads % 256, units, at);
     let beyond = put_compressed(codes_of(&text[8..]), leads / 256, units, half);
-    (end + rest_len(&text[end..]), beyond - at)
+    Progress {
+        read: end + rest_len(&text[end..]),
+        written: beyond - at,
+    }
 }

@@ -5,7 +5,7 @@ ghost use Rattle.wide_forms.specs.Searches.{is_low};
 ghost use Rattle.wide_forms.specs.EncodingForm.{Utf16};
 ghost use Rattle.wide_forms.specs.Items.{IsWellFormed, chars};
 
-use crate::surrogates::is_low_surrogate;
+use wide_forms::is_low_surrogate;
 
 // Returns the number of low surrogates among fewer than 65,536 units. The counter has the width of a unit, so the
 // compiler vectorizes the loop.

@@ -8,10 +8,8 @@ mod count;
 mod lossy;
 mod repair;
 mod retention;
-mod surrogates;
 
 pub use compression::compress;
 pub use count::char_count;
-pub use lossy::{Progress, ends_in_fault, lossy_prefix_16, lossy_prefix_32};
+pub use lossy::{ends_in_fault, lossy_prefix_16, lossy_prefix_32};
 pub use repair::{repair_16, repair_32};
-pub use surrogates::{is_high_surrogate, is_low_surrogate, is_surrogate};

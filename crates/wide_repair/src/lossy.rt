@@ -11,8 +11,9 @@ ghost use Rattle.wide_forms.specs.declared.policy.Policy.TheVariants.{Run, Skip}
 
 use crate::repair::{repair_16, repaired_scalar};
 use crate::retention::{put_one, retain_after};
-use crate::surrogates::{is_high_surrogate, is_low_surrogate, is_surrogate};
-use wide_forms::{Policy, replacement};
+use wide_forms::{
+    LossyProgress, Policy, is_high_surrogate, is_low_surrogate, is_surrogate, replacement,
+};
 
 // The most units of UTF-16 that are repaired in an array of as many, if replacement characters are left out. A small
 // array takes less time to clear.
@@ -21,17 +22,6 @@ const FEW: usize = 256;
 // How many of more units are repaired at once: enough for the two ends of a chunk, which are not vectorized, to take
 // little of the time.
 const MANY: usize = 1024;
-
-/// How far writing lossy text came.
-#[derive(Clone, Copy, Debug)]
-pub struct Progress {
-    /// How many units were read.
-    pub read: usize,
-    /// How many units were written.
-    pub written: usize,
-    /// Whether a fault directly precedes what was not read.
-    pub after_fault: bool,
-}
 
 // Returns how many units at the beginning can be repaired separately: all if there are at most `most`, and otherwise
 // `most`, or one fewer if that would split a surrogate pair.
@@ -149,7 +139,7 @@ pub fn lossy_prefix_16(
     policy: Policy,
     after_fault: bool,
     text: &mut [u16],
-) -> Progress
+) -> LossyProgress
     requires { min (length units.now) 2 ≤ length text.old }
     ensures read { result.read ≤ length units.now }
     ensures all { length units.now ≤ length text.old → result.read ≡ length units.now }
@@ -162,7 +152,7 @@ pub fn lossy_prefix_16(
 {
     let read = uncut_len(units, text.len());
     let prefix = &units[..read];
-    Progress {
+    LossyProgress {
         read,
         written: put_lossy(prefix, policy, after_fault, text),
         after_fault: ends_in_fault(prefix, after_fault),
@@ -178,7 +168,7 @@ pub fn lossy_prefix_32(
     policy: Policy,
     after_fault: bool,
     text: &mut [u32],
-) -> Progress
+) -> LossyProgress
     ensures read { result.read ≡ min (length units.now) (length text.old) }
     ensures written { result.written ≤ result.read }
     ensures text { take result.written text.new ≡ encode Utf32 (lossy_after policy after_fault (items Utf32 (take result.read units.now))) }
@@ -195,7 +185,7 @@ pub fn lossy_prefix_32(
         at = put_one(!is_fault | is_written, repaired, text, at);
         is_after = is_fault;
     }
-    Progress {
+    LossyProgress {
         read,
         written: at,
         after_fault: is_after,

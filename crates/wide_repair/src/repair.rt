@@ -6,8 +6,8 @@ ghost use Rattle.wide_forms.specs.Items.{items};
 ghost use Rattle.wide_forms.specs.Lossy.{lossy};
 ghost use Rattle.wide_repair.specs.Repaired.{repaired_at, repaired_unit, repaired_scalar};
 
-use crate::surrogates::{is_high_surrogate, is_low_surrogate, is_no_scalar};
 use std::simd::prelude::*;
+use wide_forms::{is_high_surrogate, is_low_surrogate, is_no_scalar};
 
 // U+FFFD REPLACEMENT CHARACTER.
 const REPLACEMENT: u16 = 0xfffd;

@@ -20,7 +20,7 @@ use Rattle.wide_forms.specs.Laws.Policies.{lossy_after-char, lossy_after-chars, 
 use Rattle.wide_forms.specs.declared.policy.Policy.{Policy}
 use Rattle.wide_bytes.specs.Bytes.{unit_in, units_in}
 use Rattle.wide_transcode.specs.Encoded.{IsPending}
-use Rattle.wide_transcode.specs.Lossied.{Lossied, faulty, lossy_text}
+use Rattle.wide_transcode.specs.Lossied.{Lossied, units_end_in_fault, lossy_text}
 use Rattle.wide_bytes.specs.declared.order.BoM.{BoM}
 use Rattle.wide_transcode.proofs.Pending.{ZeroAfter, zero-unit}
 use Rattle.wide_transcode.proofs.Lossied.{first-unit, last-of, only, block-no_zero}
@@ -159,7 +159,7 @@ lossy-written policy after_fault us prefix text None n e none some is =
 lossy-written policy after_fault us prefix text (Some len) n e none some is =
     ap (λ m. take m text) is ∙ some ∙ ap (λ xs. utf8 (chars Utf16 xs)) e ∙ ap (λ xs. utf8 xs) (chars-encode Utf16 (lossy_after policy after_fault (items Utf16 us)) (scalars-after policy after_fault (items Utf16 us) (items-chain Utf16 us)))
 
-pub lossied-certain : {order : BoM} {policy : Policy} (after_fault after_fault' : Bool) (bytes us text : List ℕ) (k : ℕ) → us ≡ units_in order bytes → 2 * k ≤ length bytes → after_fault' ≡ faulty after_fault (take k us) → text ≡ lossy_text policy after_fault (take k us)
+pub lossied-certain : {order : BoM} {policy : Policy} (after_fault after_fault' : Bool) (bytes us text : List ℕ) (k : ℕ) → us ≡ units_in order bytes → 2 * k ≤ length bytes → after_fault' ≡ units_end_in_fault after_fault (take k us) → text ≡ lossy_text policy after_fault (take k us)
     → ((more : List ℕ) → IsCut Utf16 (units_in order (take (2 * k) bytes)) (units_in order (drop (2 * k) bytes ++ more))) → (drop (2 * k) bytes ≡ [] → ends_with nat_eq (units_in order (take (2 * k) bytes)) (0 ∷ []) ≡ false)
     → Lossied order policy (take (2 * k) bytes) (drop (2 * k) bytes) after_fault [] after_fault' text
 lossied-certain {order} {policy} after_fault after_fault' bytes us text k same within flagged written uncut none =
@@ -167,7 +167,7 @@ lossied-certain {order} {policy} after_fault after_fault' bytes us text k same w
     record {
       even = omega (arith, length-take-le (2 * k) bytes within);
       text = written ∙ ap (λ xs. lossy_text policy after_fault xs) prefix;
-      flag = flagged ∙ ap (λ xs. faulty after_fault xs) prefix;
+      flag = flagged ∙ ap (λ xs. units_end_in_fault after_fault xs) prefix;
       cut = uncut;
       no_zero = none;
     }

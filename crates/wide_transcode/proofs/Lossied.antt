@@ -15,19 +15,19 @@ use Rattle.std.specs.Prelude.{map, nat_eq, Option, Some, None}
 use Rattle.std.specs.List.{ends_with}
 use Rattle.wide_bytes.specs.Bytes.{unit_in, units_in}
 use Rattle.wide_utf16_to_utf8.specs.Encoded.{IsUnpaired}
-use Rattle.wide_transcode.specs.Lossied.{IsText, Lossied, lossy_text, faulty}
+use Rattle.wide_transcode.specs.Lossied.{IsText, Lossied, lossy_text, units_end_in_fault}
 use Rattle.wide_bytes.specs.declared.order.BoM.{BoM}
 use Rattle.wide_bytes.proofs.Pairs.{units_in-append, ends_in_zero}
 use Rattle.wide_transcode.proofs.Zeros.{no-units, no-zero-units, snoc}
 
-pub joined : (policy : Policy) (after_fault : Bool) (a b : List ℕ) → IsCut Utf16 a b → lossy_text policy after_fault (a ++ b) ≡ lossy_text policy after_fault a ++ lossy_text policy (faulty after_fault a) b
+pub joined : (policy : Policy) (after_fault : Bool) (a b : List ℕ) → IsCut Utf16 a b → lossy_text policy after_fault (a ++ b) ≡ lossy_text policy after_fault a ++ lossy_text policy (units_end_in_fault after_fault a) b
 joined policy after_fault a b cut =
     let left = items Utf16 a in
     let right = items Utf16 b in
     ap (λ is. utf8 (lossy_after policy after_fault is)) (items-append Utf16 a b cut) ∙ ap (λ cs. utf8 cs) (lossy_after-append policy after_fault left right)
     ∙ flat_map-append utf8_bytes (lossy_after policy after_fault left) (lossy_after policy (ends_in_fault after_fault left) right)
 
-joined-flag : (after_fault : Bool) (a b : List ℕ) → IsCut Utf16 a b → faulty after_fault (a ++ b) ≡ faulty (faulty after_fault a) b
+joined-flag : (after_fault : Bool) (a b : List ℕ) → IsCut Utf16 a b → units_end_in_fault after_fault (a ++ b) ≡ units_end_in_fault (units_end_in_fault after_fault a) b
 joined-flag after_fault a b cut = ap (λ is. ends_in_fault after_fault is) (items-append Utf16 a b cut) ∙ ends_in_fault-append after_fault (items Utf16 a) (items Utf16 b)
 
 -- A fault.
@@ -72,7 +72,7 @@ nothing-read order = refl
 pub nothing-text : (policy : Policy) (after_fault : Bool) (us : List ℕ) → us ≡ [] → lossy_text policy after_fault us ≡ []
 nothing-text policy after_fault us e = ap (λ xs. utf8 (lossy_after policy after_fault xs)) (ap (λ xs. items Utf16 xs) e ∙ items-nil Utf16) ∙ ap (λ xs. utf8 xs) (lossy_after-none_left policy after_fault)
 
-nothing-flag : (after_fault : Bool) (us : List ℕ) → us ≡ [] → faulty after_fault us ≡ after_fault
+nothing-flag : (after_fault : Bool) (us : List ℕ) → us ≡ [] → units_end_in_fault after_fault us ≡ after_fault
 nothing-flag after_fault us e = ap (λ xs. ends_in_fault after_fault xs) (ap (λ xs. items Utf16 xs) e ∙ items-nil Utf16)
 
 pub lossied-none : (order : BoM) (policy : Policy) (after_fault : Bool) (rest text : List ℕ) → Lossied order policy [] rest after_fault text after_fault text
@@ -107,7 +107,7 @@ lossied-then {order} {policy} {after_fault} {after_fault'} {after_fault''} {a} {
       even = omega (arith, length-append a b, x.even, y.even);
       text = y.text ∙ ap (λ bs. bs ++ lossy_text policy after_fault' right) x.text ∙ append_assoc s (lossy_text policy after_fault left) (lossy_text policy after_fault' right)
           ∙ ap (λ bs. s ++ bs) (ap (λ m. lossy_text policy after_fault left ++ lossy_text policy m right) x.flag ∙ sym (joined policy after_fault left right between) ∙ ap (λ us. lossy_text policy after_fault us) (sym units));
-      flag = y.flag ∙ ap (λ m. faulty m right) x.flag ∙ sym (joined-flag after_fault left right between) ∙ ap (λ us. faulty after_fault us) (sym units);
+      flag = y.flag ∙ ap (λ m. units_end_in_fault m right) x.flag ∙ sym (joined-flag after_fault left right between) ∙ ap (λ us. units_end_in_fault after_fault us) (sym units);
       cut = λ more. subst (λ us. IsCut Utf16 us (units_in order (rest ++ more))) (sym units) (cut-both (units_in order a) (units_in order b) (units_in order (rest ++ more)) (first more) (y.cut more));
       no_zero = λ none. elim (empty-or (units_in order b)) [
         | inl empty ↦ (
@@ -157,7 +157,7 @@ text-then a b m n x y =
     (x.0 ++ y.0, items-append_left Utf16 a b (text-well a m x) ∙ ap (λ is. is ++ items Utf16 b) x.1 ∙ ap (λ is. map Char x.0 ++ is) y.1 ∙ sym (map-append Char x.0 y.0), omega (arith, x.2, y.2, length-append x.0 y.0))
 
 -- No fault was read last.
-pub text-flag : (us : List ℕ) (n : ℕ) → IsText us n → false ≡ faulty false us
+pub text-flag : (us : List ℕ) (n : ℕ) → IsText us n → false ≡ units_end_in_fault false us
 text-flag us n text = sym (ap (λ is. ends_in_fault false is) text.1 ∙ by_chars text.0)
   where
     by_chars : (cs : List ℕ) → ends_in_fault false (map Char cs) ≡ false

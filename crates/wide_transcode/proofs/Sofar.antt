@@ -16,7 +16,7 @@ use Rattle.wide_forms.specs.declared.policy.Policy.{Policy}
 use Rattle.wide_forms.specs.declared.policy.Policy.TheVariants.{Each}
 use Rattle.wide_bytes.specs.Bytes.{units_in, is_odd}
 use Rattle.wide_utf16_to_utf8.specs.Encoded.{IsUnpaired}
-use Rattle.wide_transcode.specs.Lossied.{IsText, Lossied, faulty, lossy_text}
+use Rattle.wide_transcode.specs.Lossied.{IsText, Lossied, units_end_in_fault, lossy_text}
 use Rattle.wide_transcode.specs.Transcoded.{Transcoded, Ending, Unpaired, ending_of}
 use Rattle.wide_bytes.specs.Put.{IsBeginningOf}
 use Rattle.wide_transcode.specs.Chunks.{units_after, transcoded_after}
@@ -87,7 +87,7 @@ module _ {order : BoM} {policy : Option Policy} {all rest : List ℕ} {after_fau
       let others = units_after order rest in
       let text : written ≡ lossy_text lossy false first = s.lossied.text ∙ ap (λ p. lossy_text p false first) e in
       ap (λ cs. utf8 cs) (sym (lossy_after-none lossy (items Utf16 (units_after order all)))) ∙ ap (λ us. lossy_text lossy false us) units-all ∙ joined lossy false first others cut-all
-      ∙ ap (λ bs. bs ++ lossy_text lossy (faulty false first) others) (sym text) ∙ ap (λ t. written ++ lossy_text lossy t others) (sym s.lossied.flag)
+      ∙ ap (λ bs. bs ++ lossy_text lossy (units_end_in_fault false first) others) (sym text) ∙ ap (λ t. written ++ lossy_text lossy t others) (sym s.lossied.flag)
 
   pub many : offset ≤ length (units_after order all)
   many = omega (arith, ap length units-all, length-append (units_in order s.passed) (units_after order rest), length-units_in order s.passed, s.counted)

@@ -16,8 +16,8 @@ abbrev pub lossy_text : Policy → Bool → List ℕ → List ℕ
 lossy_text policy after_fault us = utf8 (lossy_after policy after_fault (items Utf16 us))
 
 -- Whether a fault was read last: by the units, or by `after_fault` if there are none.
-abbrev pub faulty : Bool → List ℕ → Bool
-faulty after_fault us = ends_in_fault after_fault (items Utf16 us)
+abbrev pub units_end_in_fault : Bool → List ℕ → Bool
+units_end_in_fault after_fault us = ends_in_fault after_fault (items Utf16 us)
 
 -- The units have no fault, and are the text of so many characters.
 abbrev pub IsText : List ℕ → ℕ → Type 0
@@ -29,6 +29,6 @@ IsText us count = (cs : List ℕ) × (items Utf16 us ≡ map Char cs) × (count 
 pub record Lossied (order : BoM) (policy : Policy) (passed rest : List ℕ) (after_fault : Bool) (before : List ℕ) (after_fault' : Bool) (after : List ℕ) : Type 0 where
   pub even : length passed % 2 ≡ 0
   pub text : after ≡ before ++ lossy_text policy after_fault (units_in order passed)
-  pub flag : after_fault' ≡ faulty after_fault (units_in order passed)
+  pub flag : after_fault' ≡ units_end_in_fault after_fault (units_in order passed)
   pub cut : (more : List ℕ) → IsCut Utf16 (units_in order passed) (units_in order (rest ++ more))
   pub no_zero : rest ≡ [] → ends_with nat_eq (units_in order passed) (0 ∷ []) ≡ false

@@ -8,13 +8,13 @@ ghost use Rattle.wide_forms.specs.EncodingForm.{Utf16};
 ghost use Rattle.wide_forms.specs.Laws.Items.{IsCut};
 ghost use Rattle.wide_bytes.specs.Bytes.{units_in};
 ghost use Rattle.wide_transcode.specs.Encoded.{IsPending};
-ghost use Rattle.wide_transcode.specs.Lossied.{Lossied, faulty, lossy_text};
+ghost use Rattle.wide_transcode.specs.Lossied.{Lossied, units_end_in_fault, lossy_text};
 ghost use Rattle.wide_transcode.specs.Chunks.{units_after};
 
 use crate::chunk_encoding::{ChunkStep, len_before_zero};
 use wide_bytes::{BoM, unit_in};
-use wide_forms::{Policy, replacement};
-use wide_repair::{ends_in_fault, is_high_surrogate, lossy_prefix_16};
+use wide_forms::{Policy, is_high_surrogate, replacement};
+use wide_repair::{ends_in_fault, lossy_prefix_16};
 use wide_utf16_to_utf8::{checked_utf16_to_utf8, put_unit};
 
 // Returns how many units of a chunk can be encoded whatever follows the chunk. It omits one zero unit at the end, which

@@ -8,7 +8,7 @@ ghost use Rattle.wide_forms.specs.EncodingForm.{Utf16};
 ghost use Rattle.wide_forms.specs.Items.{BeginsWithChars};
 
 use std::simd::prelude::*;
-use wide_repair::is_low_surrogate;
+use wide_forms::{is_low_surrogate, is_no_scalar, is_surrogate};
 
 // A test of units: of one unit, and of a block of `N` units in one step.
 trait Test<C: Copy, const N: usize>: Copy {
@@ -114,7 +114,7 @@ impl Test<u16, 16> for Surrogate {
 
     #[inline(always)]
     fn accepts(self, unit: u16) -> bool {
-        0xd800 <= unit && unit <= 0xdfff
+        is_surrogate(unit)
     }
 
     #[inline(always)]
@@ -133,7 +133,7 @@ impl Test<u32, 8> for NoScalar {
 
     #[inline(always)]
     fn accepts(self, unit: u32) -> bool {
-        (0xd800 <= unit && unit <= 0xdfff) || 0x10_ffff < unit
+        is_no_scalar(unit)
     }
 
     // Surrogates are replaced by the greatest number, so that one comparison finds both kinds.

@@ -31,5 +31,4 @@ pub use split::{split_first, split_last};
 pub use unit::Unit;
 pub use utf8::{length_as_utf16, length_as_utf32, next_code_point};
 pub use validation::{FirstFault, check, find_fault, valid_len};
-pub use wide_forms::Policy;
-pub use wide_repair::Progress;
+pub use wide_forms::{LossyProgress, Policy};

@@ -16,8 +16,8 @@ ghost use Rattle.wide_forms.specs.Laws.Items.{IsCut, items-code_units, segmentat
 use crate::any_units::AnyUnits;
 use crate::lanes::{first_no_scalar, first_same_16, first_same_32, first_surrogate, leading_pairs};
 use crate::utf8::{length_as_utf16, length_as_utf32};
-use wide_forms::Policy;
-use wide_repair::{Progress, char_count, lossy_prefix_16, lossy_prefix_32, repair_16, repair_32};
+use wide_forms::{LossyProgress, Policy};
+use wide_repair::{char_count, lossy_prefix_16, lossy_prefix_32, repair_16, repair_32};
 
 /// A code unit: `u16` for UTF-16, `u32` for UTF-32 (Unicode Standard, D77).
 ///
@@ -123,7 +123,7 @@ pub trait Unit: Copy {
         policy: Policy,
         after_fault: bool,
         text: &mut [Self],
-    ) -> Progress
+    ) -> LossyProgress
         requires { min (length units.now) 2 ≤ length text.old }
         ensures read { result.read ≤ length units.now }
         ensures all { length units.now ≤ length text.old → result.read ≡ length units.now }
@@ -274,7 +274,7 @@ impl Unit for u16 {
         policy: Policy,
         after_fault: bool,
         text: &mut [u16],
-    ) -> Progress {
+    ) -> LossyProgress {
         lossy_prefix_16(units, policy, after_fault, text)
     }
 
@@ -382,7 +382,7 @@ impl Unit for u32 {
         policy: Policy,
         after_fault: bool,
         text: &mut [u32],
-    ) -> Progress {
+    ) -> LossyProgress {
         lossy_prefix_32(units, policy, after_fault, text)
     }
 

@@ -5,17 +5,7 @@ ghost use Rattle.std.specs.Prelude.{◌≡◌, ◌+◌, ◌*◌, ◌-◌, ◌/�
 ghost use Rattle.wide_forms.specs.Utf8.{utf8_bytes};
 ghost use Rattle.wide_utf16_to_utf8.specs.Encoded.{EncodedUnits, StopsBefore, high_word, low_word};
 
-/// How far a conversion came: how much it read, where the output ends, and the fault at which it stopped. Each function
-/// says whether it counts what it read in units or in bytes.
-#[derive(Clone, Copy, Debug)]
-pub struct Step {
-    /// How much was read, in units or in bytes.
-    pub read: usize,
-    /// The offset after the text that was written, in bytes.
-    pub written: usize,
-    /// The fault at which it stopped, or `None` if it stopped at no fault.
-    pub fault: Option<u16>,
-}
+use wide_forms::StrictProgress;
 
 /// Writes a unit that is a character as UTF-8 at the offset `at`, and returns the offset in bytes after it.
 ///
@@ -113,7 +103,7 @@ pub(crate) fn put_pair(out: &mut [u8], at: usize, high: u16, low: u16) -> usize
 /// # Requires
 ///
 /// `out` has at least `at + 3 * units.len() + 4` bytes.
-pub(crate) fn encode_plain(units: &[u16], out: &mut [u8], at: usize) -> Step
+pub(crate) fn encode_plain(units: &[u16], out: &mut [u8], at: usize) -> StrictProgress
     requires { at + 3 * length units.now + 4 ≤ length out.old }
     ensures read { result.read ≤ length units.now }
     ensures written { result.written ≤ at + 3 * result.read }
@@ -129,7 +119,7 @@ pub(crate) fn encode_plain(units: &[u16], out: &mut [u8], at: usize) -> Step
             read += 1;
         } else {
             if 0xdc00 <= unit {
-                return Step {
+                return StrictProgress {
                     read,
                     written,
                     fault: Some(unit),
@@ -140,7 +130,7 @@ pub(crate) fn encode_plain(units: &[u16], out: &mut [u8], at: usize) -> Step
             }
             let low = units[read + 1];
             if low < 0xdc00 || 0xe000 <= low {
-                return Step {
+                return StrictProgress {
                     read,
                     written,
                     fault: Some(unit),
@@ -150,7 +140,7 @@ pub(crate) fn encode_plain(units: &[u16], out: &mut [u8], at: usize) -> Step
             read += 2;
         }
     }
-    Step {
+    StrictProgress {
         read,
         written,
         fault: None,

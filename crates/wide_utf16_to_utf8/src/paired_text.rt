@@ -7,9 +7,9 @@ ghost use Rattle.wide_utf16_to_utf8.specs.Encoded.{ArePaired, EncodedUnits};
 ghost use Rattle.wide_utf16_to_utf8.specs.PairedText.{IsPairedLead, paired_key, paired_text};
 
 use crate::lead_bytes::{last_lanes, lead_lanes};
-use crate::surrogates::{HIGH_TOP, LOW_TOP, SURROGATE_TOP};
 use crate::three_bytes::put_packed;
 use std::simd::prelude::*;
+use wide_forms::{HIGH_TOP, LOW_TOP, Progress, SURROGATE_TOP};
 
 // Returns the first two UTF-8 bytes of each of eight units, low byte first, given the unit before each. A high
 // surrogate yields the first two bytes of its pair, and a low surrogate the last two.
@@ -69,19 +69,22 @@ fn put_eight_paired(window: &[u16], out: &mut [u8], at: usize) -> usize
 /// The window has seventeen units. The surrogates from the second unit on are paired, except that the last unit may be
 /// a high surrogate. `out` has at least 52 bytes from `at` on.
 #[inline(never)]
-pub(crate) fn put_paired_text(window: &[u16], out: &mut [u8], at: usize) -> (usize, usize)
+pub(crate) fn put_paired_text(window: &[u16], out: &mut [u8], at: usize) -> Progress
     requires whole { length window.now ≡ 17 }
     requires space { at + 52 ≤ length out.old }
     requires first { 0xdc00 ≤ slice_index window.now 1 → 0xe000 ≤ slice_index window.now 1 }
     requires pairs { (k : ℕ) → k < 15 → ArePaired (slice_index window.now (k + 1)) (slice_index window.now (k + 2)) }
-    ensures some { 15 ≤ result.0 }
-    ensures all { result.0 ≤ 16 }
-    ensures text { EncodedUnits (take result.0 (drop 1 window.now)) (take at out.old) (take result.1 out.new) }
-    ensures high { result.1 ≤ at + 3 * result.0 }
+    ensures some { 15 ≤ result.read }
+    ensures all { result.read ≤ 16 }
+    ensures text { EncodedUnits (take result.read (drop 1 window.now)) (take at out.old) (take result.written out.new) }
+    ensures high { result.written ≤ at + 3 * result.read }
 {
     let half = put_eight_paired(&window[..9], out, at);
     let end = put_eight_paired(&window[8..17], out, half);
     // A high surrogate at the end is not counted: its pair is encoded together with the next unit.
     let cut = usize::from(window[16] / 0x400 == HIGH_TOP);
-    (16 - cut, end - 2 * cut)
+    Progress {
+        read: 16 - cut,
+        written: end - 2 * cut,
+    }
 }

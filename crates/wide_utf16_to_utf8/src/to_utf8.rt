@@ -8,12 +8,12 @@ ghost use Rattle.wide_forms.specs.Items.{IsWellFormed, chars};
 ghost use Rattle.wide_forms.specs.Utf8.{utf8};
 ghost use Rattle.wide_utf16_to_utf8.specs.Encoded.{ArePaired, EncodedUnits, StopsBefore, top_bits};
 
-use crate::one_unit::{Step, encode_plain, put_pair};
+use crate::one_unit::{encode_plain, put_pair};
 use crate::paired_text::put_paired_text;
-use crate::surrogates::{HIGH_TOP, LOW_TOP, SURROGATE_TOP};
 use crate::three_bytes::put_three_bytes;
 use crate::two_bytes::put_two_bytes;
 use std::simd::prelude::*;
+use wide_forms::{HIGH_TOP, LOW_TOP, Progress, SURROGATE_TOP, StrictProgress};
 
 // Returns the bitwise or of sixteen units. No unit is greater than it.
 #[inline(always)]
@@ -114,15 +114,15 @@ fn put_pairs(block: &[u16], out: &mut [u8], at: usize) -> usize
 // read too. Returns how many units were encoded, and the offset in bytes after the text. Up to fourteen bytes after the
 // text may be overwritten.
 #[inline(always)]
-fn put_paired(units: &[u16], from: usize, out: &mut [u8], at: usize) -> (usize, usize)
+fn put_paired(units: &[u16], from: usize, out: &mut [u8], at: usize) -> Progress
     requires whole { from + 17 ≤ length units.now }
     requires space { at + 52 ≤ length out.old }
     requires first { 0xdc00 ≤ slice_index units.now from → 0xe000 ≤ slice_index units.now from }
     requires pairs { (k : ℕ) → k < 16 → ArePaired (slice_index units.now (from + k)) (slice_index units.now (from + k + 1)) }
-    ensures some { 15 ≤ result.0 }
-    ensures all { result.0 ≤ 16 }
-    ensures text { EncodedUnits (take result.0 (drop from units.now)) (take at out.old) (take result.1 out.new) }
-    ensures high { result.1 ≤ at + 3 * result.0 }
+    ensures some { 15 ≤ result.read }
+    ensures all { result.read ≤ 16 }
+    ensures text { EncodedUnits (take result.read (drop from units.now)) (take at out.old) (take result.written out.new) }
+    ensures high { result.written ≤ at + 3 * result.read }
 {
     if from > 0 {
         return put_paired_text(&units[from - 1..from + 16], out, at);
@@ -135,7 +135,7 @@ fn put_paired(units: &[u16], from: usize, out: &mut [u8], at: usize) -> (usize, 
 // Encodes at most seventeen of the units from `from` on, and stops before a fault. It is called if the first sixteen
 // contain a surrogate.
 #[inline(always)]
-fn encode_surrogates(units: &[u16], from: usize, out: &mut [u8], at: usize) -> Step
+fn encode_surrogates(units: &[u16], from: usize, out: &mut [u8], at: usize) -> StrictProgress
     requires long { from + 17 ≤ length units.now }
     requires space { at + 55 ≤ length out.old }
     ensures read { result.read ≤ 17 }
@@ -149,14 +149,14 @@ fn encode_surrogates(units: &[u16], from: usize, out: &mut [u8], at: usize) -> S
         return encode_plain(block, out, at);
     }
     if are_pairs(&block[..16]) {
-        return Step {
+        return StrictProgress {
             read: 16,
             written: put_pairs(&block[..16], out, at),
             fault: None,
         };
     }
-    let (read, written) = put_paired(units, from, out, at);
-    Step {
+    let Progress { read, written } = put_paired(units, from, out, at);
+    StrictProgress {
         read,
         written,
         fault: None,
@@ -193,7 +193,7 @@ fn put_eight_ascii(units: &[u16], out: &mut [u8], at: usize)
 
 // Encodes the units as `encode_plain` does, but eight ASCII characters at the beginning in one step.
 #[inline(always)]
-fn encode_rest(units: &[u16], out: &mut [u8], at: usize) -> Step
+fn encode_rest(units: &[u16], out: &mut [u8], at: usize) -> StrictProgress
     requires { at + 3 * length units.now + 4 ≤ length out.old }
     ensures read { result.read ≤ length units.now }
     ensures written { result.written ≤ at + 3 * result.read }
@@ -206,7 +206,7 @@ fn encode_rest(units: &[u16], out: &mut [u8], at: usize) -> Step
         read += 8;
     }
     let step = encode_plain(&units[read..], out, at + read);
-    Step {
+    StrictProgress {
         read: read + step.read,
         written: step.written,
         fault: step.fault,
@@ -220,7 +220,7 @@ fn encode_rest(units: &[u16], out: &mut [u8], at: usize) -> Step
 /// # Requires
 ///
 /// `out` has at least `at + 3 * units.len() + 4` bytes.
-pub fn utf16_to_utf8_until_fault(units: &[u16], out: &mut [u8], at: usize) -> Step
+pub fn utf16_to_utf8_until_fault(units: &[u16], out: &mut [u8], at: usize) -> StrictProgress
     requires { at + 3 * length units.now + 4 ≤ length out.old }
     ensures read { result.read ≤ length units.now }
     ensures written { result.written ≤ at + 3 * result.read }
@@ -247,7 +247,7 @@ pub fn utf16_to_utf8_until_fault(units: &[u16], out: &mut [u8], at: usize) -> St
             read += step.read;
             written = step.written;
             if step.fault.is_some() {
-                return Step {
+                return StrictProgress {
                     read,
                     written,
                     fault: step.fault,
@@ -256,7 +256,7 @@ pub fn utf16_to_utf8_until_fault(units: &[u16], out: &mut [u8], at: usize) -> St
         }
     }
     let step = encode_rest(&units[read..], out, written);
-    Step {
+    StrictProgress {
         read: read + step.read,
         written: step.written,
         fault: step.fault,

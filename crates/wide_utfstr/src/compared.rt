@@ -4,6 +4,7 @@ ghost use Rattle.std.specs.Str.{chars as str_chars};
 ghost use Rattle.wide_utfstr.specs.View.{text_seen};
 
 use crate::view::{Utf16Str, Utf32Str, UtfStr};
+use wide_forms::Progress;
 use wide_from_units::{between_forms_prefix, to_utf8_prefix};
 use wide_unit::Unit;
 
@@ -18,7 +19,7 @@ fn same_text(narrow: Utf16Str<'_>, wide: Utf32Str<'_>) -> bool
     let mut units = narrow.as_slice();
     let mut scalars = wide.as_slice();
     'chunks: while !units.is_empty() {
-        let (read, written) = between_forms_prefix(units, &mut chunk);
+        let Progress { read, written } = between_forms_prefix(units, &mut chunk);
         let Some(rest) = scalars.strip_prefix(&chunk[..written]) else {
             return false;
         };
@@ -38,7 +39,7 @@ impl<C: Unit> UtfStr<'_, C> {
         let mut ours = self.as_slice();
         let mut theirs = text.as_bytes();
         'chunks: while !ours.is_empty() {
-            let (read, written) = to_utf8_prefix(ours, &mut chunk);
+            let Progress { read, written } = to_utf8_prefix(ours, &mut chunk);
             let Some(rest) = theirs.strip_prefix(&chunk[..written]) else {
                 return false;
             };

@@ -1,13 +1,14 @@
 -- Offsets in bytes that do not split a surrogate pair.
-use Rattle.std.proofs.Common.{◌≡◌, ◌≢◌, ℕ, zero, suc, ◌+◌, ◌-◌, ◌*◌, ◌/◌, ◌%◌, ◌<◌, ◌≤◌, List, [], ◌∷◌, ◌++◌, length, get_or, take, drop, refl, sym, ap, ◌∙◌, subst, arith, length-append, length-drop, length-take-le}
+use Rattle.std.proofs.Common.{◌≡◌, ℕ, true, false, zero, suc, ◌+◌, ◌-◌, ◌*◌, ◌/◌, ◌%◌, ◌<◌, ◌≤◌, List, [], ◌∷◌, ◌++◌, length, get_or, take, drop, refl, sym, ap, ◌∙◌, subst, arith, length-append, length-drop, length-take-le}
 use Rattle.std.proofs.lemmas.List.{get_or-append-add, get_or-drop, get_or-take}
 use Rattle.wide_forms.specs.EncodingForm.{Utf16, IsHighSurrogate}
+use Rattle.wide_forms.specs.Searches.{is_high}
 use Rattle.wide_forms.specs.Laws.Forms.{IsPair-parts}
 use Rattle.wide_forms.specs.Laws.Items.{IsCut}
 use Rattle.wide_bytes.specs.Bytes.{unit_in, units_in}
 use Rattle.wide_transcode.specs.Encoded.{IsCutShort}
 use Rattle.wide_bytes.specs.declared.order.BoM.{BoM}
-use Rattle.wide_transcode.proofs.Certain.{high-cut}
+use Rattle.wide_transcode.proofs.Certain.{high-cut, top-of_high}
 use Rattle.wide_bytes.proofs.Pairs.{length-units_in}
 use Rattle.wide_bytes.proofs.UnitLists.{units_in-take}
 
@@ -27,24 +28,27 @@ unit-of order n bytes even long =
     let twice : 2 * (n / 2) ≡ n = omega (arith, even) in
     subst (λ m. get_or (units_in order bytes) (n / 2) 0 ≡ unit_in order (get_or bytes m 0) (get_or bytes (m + 1) 0)) twice (unit-at order (n / 2) bytes (omega (arith, twice, long)))
 
-pub is-high : (u : ℕ) → u / 0x400 ≡ 54 → IsHighSurrogate Utf16 u
-is-high u e = (omega arith, omega arith)
+pub high-of : (u : ℕ) → is_high u ≡ true → IsHighSurrogate Utf16 u
+high-of u e = (grind (arith, e), grind (arith, e))
 
 -- no pair is split before a high surrogate, whatever follows
-pub cut-before_high : (order : BoM) (bytes : List ℕ) (n u : ℕ) → n % 2 ≡ 0 → n + 2 ≤ length bytes → u ≡ unit_in order (get_or bytes n 0) (get_or bytes (n + 1) 0) → u / 0x400 ≡ 54
+pub cut-before_high : (order : BoM) (bytes : List ℕ) (n u : ℕ) → n % 2 ≡ 0 → n + 2 ≤ length bytes → u ≡ unit_in order (get_or bytes n 0) (get_or bytes (n + 1) 0) → is_high u ≡ true
     → (more : List ℕ) → IsCut Utf16 (units_in order (take n bytes)) (units_in order (drop n bytes ++ more))
 cut-before_high order bytes n u even long is high more =
     let twice : 2 * (n / 2) ≡ n = omega (arith, even) in
-    let first : get_or (units_in order bytes) (n / 2) 0 / 0x400 ≡ 54 = ap (λ v. v / 0x400) (unit-of order n bytes even long ∙ sym is) ∙ high in
+    let first : get_or (units_in order bytes) (n / 2) 0 / 0x400 ≡ 54 = ap (λ v. v / 0x400) (unit-of order n bytes even long ∙ sym is) ∙ top-of_high u high in
     subst (λ m. IsCut Utf16 (units_in order (take m bytes)) (units_in order (drop m bytes ++ more))) twice (high-cut order bytes (units_in order bytes) (n / 2) refl (omega (arith, twice, long)) first more)
 
+no_high : (u : ℕ) → is_high u ≡ false → 0xD800 ≤ u → u ≤ 0xDBFF → ⊥
+no_high u e from to = grind (arith, e, from, to)
+
 -- no pair is split after a unit that is not a high surrogate
-beyond-plain : (us vs : List ℕ) (q : ℕ) → length us ≡ suc q → get_or us q 0 / 0x400 ≢ 54 → IsCut Utf16 us vs
+beyond-plain : (us vs : List ℕ) (q : ℕ) → length us ≡ suc q → is_high (get_or us q 0) ≡ false → IsCut Utf16 us vs
 beyond-plain us vs q long plain prefix back h l ends begins pair =
     let at : length prefix ≡ q = omega (arith, long, ap length ends, length-append prefix (h ∷ [])) in
     let last : get_or us q 0 ≡ h = ap (λ xs. get_or xs q 0) ends ∙ ap (λ m. get_or (prefix ++ h ∷ []) m 0) (sym at ∙ omega arith) ∙ get_or-append-add prefix (h ∷ []) 0 0 in
     let is : IsHighSurrogate Utf16 h = (IsPair-parts Utf16 h l pair).0 in
-    plain (omega (arith, last, is.0, is.1))
+    no_high (get_or us q 0) plain (omega (arith, last, is.0)) (omega (arith, last, is.1))
 
 no-units : (vs : List ℕ) → IsCut Utf16 [] vs
 no-units vs [] back h l ends begins pair = absurd cc
@@ -54,7 +58,7 @@ pub cut-at_prefix : (order : BoM) (bytes vs : List ℕ) → IsCut Utf16 (units_i
 unfolding units_in
 cut-at_prefix order bytes vs = no-units vs
 
-pub cut-after_plain : (order : BoM) (bytes : List ℕ) (n u : ℕ) → n % 2 ≡ 0 → 2 ≤ n → n ≤ length bytes → u ≡ unit_in order (get_or bytes (n - 2) 0) (get_or bytes (n - 1) 0) → u / 0x400 ≢ 54
+pub cut-after_plain : (order : BoM) (bytes : List ℕ) (n u : ℕ) → n % 2 ≡ 0 → 2 ≤ n → n ≤ length bytes → u ≡ unit_in order (get_or bytes (n - 2) 0) (get_or bytes (n - 1) 0) → is_high u ≡ false
     → (vs : List ℕ) → IsCut Utf16 (units_in order (take n bytes)) vs
 cut-after_plain order bytes n u even some within is plain vs =
     let q = n / 2 - 1 in
@@ -68,7 +72,7 @@ cut-after_plain order bytes n u even some within is plain vs =
     ap (λ xs. get_or xs q 0) taken ∙ get_or-take (n / 2) (units_in order bytes) q 0 (omega (arith, some, even)) ∙ ap (λ m. get_or (units_in order bytes) m 0) (sym at) ∙ unit-of order (n - 2) bytes (omega (arith, even, some)) (omega (arith, some, within))
     ∙ ap (λ m. unit_in order (get_or bytes (n - 2) 0) (get_or bytes m 0)) next ∙ sym is
     in
-    beyond-plain prefix vs q long (λ e. plain (ap (λ v. v / 0x400) (sym last) ∙ e))
+    beyond-plain prefix vs q long (ap is_high last ∙ plain)
 
 -- ---- what is left after such an offset
 

@@ -12,7 +12,7 @@ use Rattle.wide_forms.specs.Laws.Policies.{characters-append, ends_in_fault-appe
 use Rattle.wide_forms.specs.declared.policy.Policy.{Policy}
 use Rattle.wide_unit.proofs.Faults.{IsFirstFault-of, first_fault-split}
 use Rattle.wide_bytes.specs.Bytes.{units_in}
-use Rattle.wide_transcode.specs.Lossied.{faulty, lossy_text}
+use Rattle.wide_transcode.specs.Lossied.{units_end_in_fault, lossy_text}
 use Rattle.wide_bytes.specs.declared.order.BoM.{BoM}
 use Rattle.wide_bytes.proofs.Pairs.{length-units_in, units_in-append, units_in-short}
 use Rattle.widestring_c.specs.Bytes.{IsWellFormedIn, text_in}
@@ -41,7 +41,7 @@ items-parted order bytes n even within cut =
 
 module _ (policy : Policy) (after : Bool) where
   pub text-joined : (order : BoM) (prefix back : List ℕ) → length prefix % 2 ≡ 0 → IsCut Utf16 (units_in order prefix) (units_in order back)
-      → lossy_text policy after (units_in order (prefix ++ back)) ≡ lossy_text policy after (units_in order prefix) ++ lossy_text policy (faulty after (units_in order prefix)) (units_in order back)
+      → lossy_text policy after (units_in order (prefix ++ back)) ≡ lossy_text policy after (units_in order prefix) ++ lossy_text policy (units_end_in_fault after (units_in order prefix)) (units_in order back)
   text-joined order prefix back even cut =
       let a = items Utf16 (units_in order prefix) in
       let b = items Utf16 (units_in order back) in
@@ -49,7 +49,7 @@ module _ (policy : Policy) (after : Bool) where
       ∙ flat_map-append utf8_bytes (lossy_after policy after a) (lossy_after policy (ends_in_fault after a) b)
 
   pub text-parted : (order : BoM) (bytes : List ℕ) (n : ℕ) → n % 2 ≡ 0 → n ≤ length bytes → IsCut Utf16 (units_in order (take n bytes)) (units_in order (drop n bytes))
-      → lossy_text policy after (units_in order bytes) ≡ lossy_text policy after (units_in order (take n bytes)) ++ lossy_text policy (faulty after (units_in order (take n bytes))) (units_in order (drop n bytes))
+      → lossy_text policy after (units_in order bytes) ≡ lossy_text policy after (units_in order (take n bytes)) ++ lossy_text policy (units_end_in_fault after (units_in order (take n bytes))) (units_in order (drop n bytes))
   text-parted order bytes n even within cut =
       ap (λ bs. lossy_text policy after (units_in order bs)) (sym (take-append-drop n bytes)) ∙ text-joined order (take n bytes) (drop n bytes) (even-prefix bytes n even within) cut
 
@@ -60,7 +60,7 @@ module _ (policy : Policy) (after : Bool) where
 -- ---- whether the last unit is ill-formed
 
 pub last-joined : (after : Bool) (order : BoM) (prefix back : List ℕ) → length prefix % 2 ≡ 0 → IsCut Utf16 (units_in order prefix) (units_in order back)
-    → faulty after (units_in order (prefix ++ back)) ≡ faulty (faulty after (units_in order prefix)) (units_in order back)
+    → units_end_in_fault after (units_in order (prefix ++ back)) ≡ units_end_in_fault (units_end_in_fault after (units_in order prefix)) (units_in order back)
 last-joined after order prefix back even cut =
     ap (λ is. ends_in_fault after is) (items-joined order prefix back even cut) ∙ ends_in_fault-append after (items Utf16 (units_in order prefix)) (items Utf16 (units_in order back))
 
@@ -70,15 +70,15 @@ ends-any a b (Char c ∷ is) some = refl
 ends-any a b (Fault u ∷ is) some = refl
 
 pub ends-beyond : (after : Bool) (order : BoM) (bytes : List ℕ) (n : ℕ) → n % 2 ≡ 0 → n + 2 ≤ length bytes → IsCut Utf16 (units_in order (take n bytes)) (units_in order (drop n bytes))
-    → faulty after (units_in order bytes) ≡ faulty after (units_in order (drop n bytes))
+    → units_end_in_fault after (units_in order bytes) ≡ units_end_in_fault after (units_in order (drop n bytes))
 ends-beyond after order bytes n even within cut =
     let a = items Utf16 (units_in order (take n bytes)) in
     let b = items Utf16 (units_in order (drop n bytes)) in
     let some : 1 ≤ length b = omega (arith, within, length-items16 (units_in order (drop n bytes)), length-units_in order (drop n bytes), length-drop n bytes) in
     ap (λ is. ends_in_fault after is) (items-parted order bytes n even (omega (arith, within)) cut) ∙ ends_in_fault-append after a b ∙ ends-any (ends_in_fault after a) after b some
 
-pub none-last : (after : Bool) (order : BoM) (bytes : List ℕ) → length bytes < 2 → after ≡ faulty after (units_in order bytes)
-none-last after order bytes short = sym (ap (λ us. faulty after us) (units_in-short order bytes short) ∙ ap (λ is. ends_in_fault after is) (items-nil Utf16))
+pub none-last : (after : Bool) (order : BoM) (bytes : List ℕ) → length bytes < 2 → after ≡ units_end_in_fault after (units_in order bytes)
+none-last after order bytes short = sym (ap (λ us. units_end_in_fault after us) (units_in-short order bytes short) ∙ ap (λ is. ends_in_fault after is) (items-nil Utf16))
 
 -- ---- the first fault
 

@@ -5,7 +5,7 @@ use Rattle.wide_forms.specs.Items.{IsWellFormed, chars}
 use Rattle.wide_forms.specs.Utf8.{utf8}
 use Rattle.wide_forms.specs.declared.policy.Policy.{Policy}
 use Rattle.wide_bytes.specs.Bytes.{units_in}
-use Rattle.wide_transcode.specs.Lossied.{faulty, lossy_text}
+use Rattle.wide_transcode.specs.Lossied.{units_end_in_fault, lossy_text}
 use Rattle.wide_bytes.specs.declared.order.BoM.{BoM}
 use Rattle.wide_bytes.specs.declared.order.BoM.TheVariants.{Little, Big}
 use Rattle.widestring_c.specs.Policies.{policy_of}
@@ -40,8 +40,8 @@ number_of_flag false = 0
 abbrev pub bytes_text : BoM → Policy → Bool → List ℕ → List ℕ
 bytes_text order policy after bytes = lossy_text policy after (units_in order bytes)
 
-abbrev pub bytes_faulty : BoM → Bool → List ℕ → Bool
-bytes_faulty order after bytes = faulty after (units_in order bytes)
+abbrev pub bytes_end_in_fault : BoM → Bool → List ℕ → Bool
+bytes_end_in_fault order after bytes = units_end_in_fault after (units_in order bytes)
 
 -- bytes in an order are well-formed UTF-16: whole units, and all of them well formed (the Standard's D91, D96 and D97)
 abbrev pub IsWellFormedIn : BoM → List ℕ → Type 0

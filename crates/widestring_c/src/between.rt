@@ -2,8 +2,10 @@
 ghost use Rattle.std.specs.Prelude.{◌≡◌, ◌*◌, ◌<◌, ◌≤◌, ◌-◌, ◌^◌, IfNone, IfSome, length, map, min, take, drop};
 ghost use Rattle.wide_forms.specs.EncodingForm.{Utf16, Utf32, encode};
 ghost use Rattle.wide_forms.specs.Items.{IsWellFormed, chars};
+ghost use Rattle.widestring_c.specs.Buffers.{WroteUnitsIf};
 
 use crate::caller_buffer::put_items;
+use wide_forms::Progress;
 use wide_from_units::between_forms_prefix;
 use wide_unit::{Unit, find_fault};
 
@@ -11,8 +13,8 @@ use wide_unit::{Unit, find_fault};
 // cleared.
 const FEW: usize = 32;
 
-// The size of the array, in units, that the converted units of a longer input are copied from.
-const MANY: usize = 772;
+// The size of the array, in units, that the converted units of a longer input are copied from: 48 steps of sixteen.
+const MANY: usize = 48 * 16;
 
 // Converts well-formed units to units of another width, chunk by chunk, at the start of the buffer. Returns how many
 // units the result has, or `usize::MAX` if it has more.
@@ -27,7 +29,7 @@ fn put_recoded<C: Unit, D: Unit>(units: &[C], space: &mut [D], chunk: &mut [D]) 
     let mut at = 0;
     let mut rest = units;
     'chunks: while !rest.is_empty() {
-        let (read, written) = between_forms_prefix(rest, chunk);
+        let Progress { read, written } = between_forms_prefix(rest, chunk);
         at = put_items(space, at, &chunk[..written]);
         (_, rest) = rest.split_at(read);
     }
@@ -40,13 +42,7 @@ fn put_valid<C: Unit, D: Unit>(units: &[C], space: &mut [D], chunk: &mut [D]) ->
     requires units { 4 * length units.now < 2 ^ 64 - 1 }
     requires space { length space.old < 2 ^ 64 - 1 }
     requires chunk { 16 ≤ length chunk.old }
-    ensures valid { IfSome result (λ len. IsWellFormed C.form (map C.number units.now)) }
-    ensures fault { IfNone result (IsWellFormed C.form (map C.number units.now) → ⊥) }
-    ensures len { IfSome result (λ len. len ≡ length (encode D.form (chars C.form (map C.number units.now)))) }
-    ensures fits { IfSome result (λ len. len < 2 ^ 64 - 1) }
-    ensures units { IfSome result (λ len. len ≤ length space.old → map D.number (take len space.new) ≡ encode D.form (chars C.form (map C.number units.now))) }
-    ensures unchanged { IfNone result (space.new ≡ space.old) }
-    ensures beyond { IfSome result (λ len. drop len space.new ≡ drop len space.old) }
+    ensures { WroteUnitsIf (IsWellFormed C.form (map C.number units.now)) D.number (encode D.form (chars C.form (map C.number units.now))) space.old result space.new }
 {
     match find_fault(units) {
         None => Some(put_recoded(units, space, chunk)),

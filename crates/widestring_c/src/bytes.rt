@@ -6,18 +6,18 @@ ghost use Rattle.wide_forms.specs.Utf8.{utf8};
 ghost use Rattle.wide_forms.specs.Laws.Items.{IsCut};
 ghost use Rattle.wide_bytes.specs.Bytes.{bom_of, unit_in, units_in};
 ghost use Rattle.wide_transcode.specs.Encoded.{IsCutShort};
-ghost use Rattle.widestring_c.specs.Bytes.{IsWellFormedBy, IsWellFormedIn, bytes_faulty, bytes_text, is_set, number_of_flag, number_of_mark, order_and_policy, order_named, text_in};
+ghost use Rattle.widestring_c.specs.Buffers.{Wrote, WroteIf};
+ghost use Rattle.widestring_c.specs.Bytes.{IsWellFormedBy, IsWellFormedIn, bytes_end_in_fault, bytes_text, is_set, number_of_flag, number_of_mark, order_and_policy, order_named, text_in};
 ghost use Rattle.widestring_c.specs.Policies.{policy_of};
 
+use crate::byte_chunks::{CHUNK, chunk_len, complete_len, uncut_len};
 use crate::policies::policy_of;
-use crate::to_utf8::{LARGE, MANY, put_lossy_after};
+use crate::to_utf8::put_lossy_after;
 use wide_bytes::{BoM, byte_order, fill_units, unit_in};
 use wide_forms::Policy;
+use wide_from_units::array_sizes::{LARGE, MANY};
 use wide_repair::ends_in_fault;
 use wide_unit::valid_len;
-
-// How many units are read at a time.
-const CHUNK: usize = 1024;
 
 // Returns the byte order with this number, or `None` if there is none.
 fn order_named(number: u32) -> Option<BoM>
@@ -35,52 +35,6 @@ fn is_set(flag: u32) -> bool
     ensures { result ≡ is_set flag }
 {
     flag != 0
-}
-
-// Returns how many of the first `prefix` bytes may be converted before the bytes after them are known: all, except a
-// last high surrogate, which may begin a pair. The high surrogates, D800 to DBFF, are the units whose quotient by 0x400
-// is 54.
-fn uncut_len(order: BoM, bytes: &[u8], prefix: usize) -> usize
-    requires within { prefix ≤ length bytes.now }
-    requires even { prefix % 2 ≡ 0 }
-    ensures within { result ≤ prefix }
-    ensures even { result % 2 ≡ 0 }
-    ensures one_unit { result < prefix → result + 2 ≡ prefix }
-    ensures high { result < prefix → IsHighSurrogate Utf16 (unit_in order (slice_index bytes.now result) (slice_index bytes.now (result + 1))) }
-    ensures cut { (more : List ℕ) → IsCut Utf16 (units_in order (take result bytes.now)) (units_in order (drop result bytes.now ++ more)) }
-{
-    if prefix >= 2 && unit_in(order, bytes[prefix - 2], bytes[prefix - 1]) / 0x400 == 54 {
-        prefix - 2
-    } else {
-        prefix
-    }
-}
-
-// Returns how many bytes at the start are whole units whose meaning no later bytes can change.
-fn certain_len(order: BoM, bytes: &[u8]) -> usize
-    ensures within { result ≤ length bytes.now }
-    ensures even { result % 2 ≡ 0 }
-    ensures rest { IsCutShort order (drop result bytes.now) }
-    ensures cut { (more : List ℕ) → IsCut Utf16 (units_in order (take result bytes.now)) (units_in order (drop result bytes.now ++ more)) }
-{
-    uncut_len(order, bytes, bytes.len() / 2 * 2)
-}
-
-// Returns how many bytes to read next: all whole units if they fit into `CHUNK` units, or else as many as fit without
-// splitting a surrogate pair.
-fn chunk_len(order: BoM, bytes: &[u8]) -> usize
-    requires { 2 ≤ length bytes.now }
-    ensures some { 2 ≤ result }
-    ensures within { result ≤ length bytes.now }
-    ensures few { result ≤ 2048 }
-    ensures even { result % 2 ≡ 0 }
-    ensures cut { IsCut Utf16 (units_in order (take result bytes.now)) (units_in order (drop result bytes.now)) }
-{
-    if bytes.len() <= 2 * CHUNK {
-        bytes.len() / 2 * 2
-    } else {
-        uncut_len(order, bytes, 2 * CHUNK)
-    }
 }
 
 // Converts the units in bytes to UTF-8, chunk by chunk, at the start of `text`, and replaces ill-formed units by the
@@ -120,10 +74,7 @@ fn put_bytes_by(
 // Converts UTF-16 in bytes to UTF-8 at the start of `text`, and replaces ill-formed units by the policy, through arrays
 // on the stack.
 fn put_bytes(order: BoM, bytes: &[u8], policy: Policy, after_fault: bool, text: &mut [u8]) -> usize
-    ensures len { result ≡ length (bytes_text order policy after_fault bytes.now) }
-    ensures fits { result < 2 ^ 64 - 1 }
-    ensures text { result ≤ length text.old → take result text.new ≡ bytes_text order policy after_fault bytes.now }
-    ensures beyond { drop result text.new ≡ drop result text.old }
+    ensures { Wrote (bytes_text order policy after_fault bytes.now) text.old result text.new }
 {
     put_bytes_by(
         order,
@@ -164,13 +115,7 @@ fn valid_units(order: BoM, bytes: &[u8], units: &mut [u16]) -> usize
 // Converts bytes of well-formed UTF-16 to UTF-8 at the start of `text`, and returns the length of the result in bytes.
 // Returns `None` if half a unit is left or the units are ill-formed.
 fn put_valid_bytes(order: BoM, bytes: &[u8], text: &mut [u8]) -> Option<usize>
-    ensures valid { IfSome result (λ len. IsWellFormedIn order bytes.now) }
-    ensures fault { IfNone result (IsWellFormedIn order bytes.now → ⊥) }
-    ensures len { IfSome result (λ len. len ≡ length (text_in order bytes.now)) }
-    ensures text { IfSome result (λ len. len ≤ length text.old → take len text.new ≡ text_in order bytes.now) }
-    ensures fits { IfSome result (λ len. len < 2 ^ 64 - 1) }
-    ensures unchanged { IfNone result (text.new ≡ text.old) }
-    ensures beyond { IfSome result (λ len. drop len text.new ≡ drop len text.old) }
+    ensures { WroteIf (IsWellFormedIn order bytes.now) (text_in order bytes.now) text.old result text.new }
 {
     if bytes.len() % 2 == 0 && valid_units(order, bytes, &mut [0; CHUNK]) == bytes.len() / 2 {
         // In well-formed units there is nothing for a policy to replace.
@@ -183,7 +128,7 @@ fn put_valid_bytes(order: BoM, bytes: &[u8], text: &mut [u8]) -> Option<usize>
 // Returns whether the last whole unit is ill-formed, or `after_fault` if there are no whole units. It reads only the
 // last one or two units.
 fn ends_bytes(order: BoM, bytes: &[u8], after_fault: bool) -> bool
-    ensures { result ≡ bytes_faulty order after_fault bytes.now }
+    ensures { result ≡ bytes_end_in_fault order after_fault bytes.now }
 {
     if bytes.len() < 2 {
         return after_fault;
@@ -220,7 +165,7 @@ pub extern "C" fn wide_utf16_bytes_complete(bytes: &[u8], order: u32) -> usize
     ensures other { IfNone (order_named order) (result ≡ 0) }
 {
     match order_named(order) {
-        Some(order) => certain_len(order, bytes),
+        Some(order) => complete_len(order, bytes),
         None => 0,
     }
 }
@@ -259,7 +204,7 @@ pub extern "C" fn wide_utf16_bytes_to_utf8_lossy_with(
 /// another number if it is ill-formed. If the order is neither 0 nor 1, it returns 0.
 #[unsafe(no_mangle)]
 pub extern "C" fn wide_utf16_bytes_end_in_fault(bytes: &[u8], order: u32, after_fault: u32) -> u32
-    ensures last { IfSome (order_named order) (λ o. result ≡ number_of_flag (bytes_faulty o (is_set after_fault) bytes.now)) }
+    ensures last { IfSome (order_named order) (λ o. result ≡ number_of_flag (bytes_end_in_fault o (is_set after_fault) bytes.now)) }
     ensures other { IfNone (order_named order) (result ≡ 0) }
 {
     match order_named(order) {

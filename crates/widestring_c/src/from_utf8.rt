@@ -5,12 +5,13 @@ ghost use Rattle.std.specs.Str.Lossy.{utf8_lossy};
 ghost use Rattle.wide_forms.specs.EncodingForm.{Utf16, encode};
 ghost use Rattle.wide_forms.specs.Lossy.{lossy_by};
 ghost use Rattle.wide_conversions.specs.Utf8Items.{utf8_items};
+ghost use Rattle.widestring_c.specs.Buffers.{Wrote, WroteUnits};
 ghost use Rattle.widestring_c.specs.Policies.{policy_of};
 
 use crate::caller_buffer::put_items;
 use crate::policies::policy_of;
 use wide_conversions::{first_utf8_chunk, from_utf8_lossy_prefix, is_utf8};
-use wide_forms::Policy;
+use wide_forms::{Policy, Progress};
 use wide_from_units::is_after_fault;
 use wide_from_utf8::from_utf8_prefix;
 use wide_unit::Unit;
@@ -18,8 +19,8 @@ use wide_unit::Unit;
 // The size of the array, in units, that the units of a short input are copied from. Less of it has to be cleared.
 const FEW: usize = 32;
 
-// The size of the array, in units, that the units of a longer input are copied from.
-const MANY: usize = 772;
+// The size of the array, in units, that the units of a longer input are copied from: 48 steps of at most sixteen.
+const MANY: usize = 48 * 16;
 
 // Units are decoded directly into the buffer while the rest of the text yields at least this many units.
 const WINDOW: usize = 256;
@@ -40,12 +41,12 @@ fn put_text<C: Unit>(text: &[u8], units: &mut [C], at: usize, chunk: &mut [C]) -
     let mut rest = text;
     'windows: while rest.len() / 4 >= WINDOW && units.len().saturating_sub(at) >= WINDOW {
         let len = (rest.len() / 4).min(units.len() - at);
-        let (read, written) = from_utf8_prefix(rest, &mut units[at..at + len]);
+        let Progress { read, written } = from_utf8_prefix(rest, &mut units[at..at + len]);
         at += written;
         (_, rest) = rest.split_at(read);
     }
     'chunks: while !rest.is_empty() {
-        let (read, written) = from_utf8_prefix(rest, chunk);
+        let Progress { read, written } = from_utf8_prefix(rest, chunk);
         at = put_items(units, at, &chunk[..written]);
         (_, rest) = rest.split_at(read);
     }
@@ -69,10 +70,7 @@ fn text_len(text: &[u8]) -> usize
 fn put_lossy<C: Unit>(text: &[u8], policy: Policy, units: &mut [C], chunk: &mut [C]) -> usize
     requires space { length units.old < 2 ^ 64 - 1 }
     requires chunk { 16 ≤ length chunk.old }
-    ensures len { result ≡ length (encode C.form (lossy_by policy (utf8_items text.now))) }
-    ensures fits { result < 2 ^ 64 - 1 }
-    ensures units { result ≤ length units.old → map C.number (take result units.new) ≡ encode C.form (lossy_by policy (utf8_items text.now)) }
-    ensures beyond { drop result units.new ≡ drop result units.old }
+    ensures { WroteUnits C.number (encode C.form (lossy_by policy (utf8_items text.now))) units.old result units.new }
 {
     let mut at = 0;
     let mut rest = text;
@@ -82,20 +80,17 @@ fn put_lossy<C: Unit>(text: &[u8], policy: Policy, units: &mut [C], chunk: &mut 
         let (prefix, beyond) = rest.split_at(len);
         at = put_text(prefix, units, at, chunk);
         after_fault = is_after_fault(after_fault, len);
-        let (read, written, is_fault) = from_utf8_lossy_prefix(beyond, policy, after_fault, chunk);
-        at = put_items(units, at, &chunk[..written]);
-        after_fault = is_fault;
-        (_, rest) = beyond.split_at(read);
+        let step = from_utf8_lossy_prefix(beyond, policy, after_fault, chunk);
+        at = put_items(units, at, &chunk[..step.written]);
+        after_fault = step.after_fault;
+        (_, rest) = beyond.split_at(step.read);
     }
     at
 }
 
 // Converts any bytes to lossy UTF-16 at the start of the buffer, through an array whose size fits the input.
 fn put_lossy_16(text: &[u8], policy: Policy, units: &mut [u16]) -> usize
-    ensures len { result ≡ length (encode Utf16 (lossy_by policy (utf8_items text.now))) }
-    ensures fits { result < 2 ^ 64 - 1 }
-    ensures units { result ≤ length units.old → take result units.new ≡ encode Utf16 (lossy_by policy (utf8_items text.now)) }
-    ensures beyond { drop result units.new ≡ drop result units.old }
+    ensures { Wrote (encode Utf16 (lossy_by policy (utf8_items text.now))) units.old result units.new }
 {
     if text.len() <= FEW {
         put_lossy(text, policy, units, &mut [0; FEW])
@@ -106,10 +101,7 @@ fn put_lossy_16(text: &[u8], policy: Policy, units: &mut [u16]) -> usize
 
 // Converts any bytes to lossy UTF-32 at the start of the buffer, through an array whose size fits the input.
 fn put_lossy_32(text: &[u8], policy: Policy, units: &mut [u32]) -> usize
-    ensures len { result ≡ length (lossy_by policy (utf8_items text.now)) }
-    ensures fits { result < 2 ^ 64 - 1 }
-    ensures units { result ≤ length units.old → take result units.new ≡ lossy_by policy (utf8_items text.now) }
-    ensures beyond { drop result units.new ≡ drop result units.old }
+    ensures { Wrote (lossy_by policy (utf8_items text.now)) units.old result units.new }
 {
     if text.len() <= FEW {
         put_lossy(text, policy, units, &mut [0; FEW])

@@ -4,7 +4,7 @@ ghost use Rattle.std.specs.Prelude.{◌≡◌, ◌↔◌, ◌%◌, ◌++◌, len
 ghost use Rattle.wide_forms.specs.EncodingForm.{Utf16};
 ghost use Rattle.wide_forms.specs.Laws.Items.{IsCut};
 ghost use Rattle.wide_bytes.specs.Bytes.{units_in};
-ghost use Rattle.widestring_c.specs.Bytes.{IsWellFormedIn, bytes_faulty, bytes_text, text_in};
+ghost use Rattle.widestring_c.specs.Bytes.{IsWellFormedIn, bytes_end_in_fault, bytes_text, text_in};
 
 use wide_bytes::BoM;
 use wide_forms::Policy;
@@ -15,8 +15,8 @@ use wide_forms::Policy;
 pub fn text_of_a_stream(order: BoM, policy: Policy, after_fault: bool, prefix: &[u8], back: &[u8])
     requires whole { length prefix.now % 2 ≡ 0 }
     requires cut { IsCut Utf16 (units_in order prefix.now) (units_in order back.now) }
-    ensures text { bytes_text order policy after_fault (prefix.now ++ back.now) ≡ bytes_text order policy after_fault prefix.now ++ bytes_text order policy (bytes_faulty order after_fault prefix.now) back.now }
-    ensures last { bytes_faulty order after_fault (prefix.now ++ back.now) ≡ bytes_faulty order (bytes_faulty order after_fault prefix.now) back.now }
+    ensures text { bytes_text order policy after_fault (prefix.now ++ back.now) ≡ bytes_text order policy after_fault prefix.now ++ bytes_text order policy (bytes_end_in_fault order after_fault prefix.now) back.now }
+    ensures last { bytes_end_in_fault order after_fault (prefix.now ++ back.now) ≡ bytes_end_in_fault order (bytes_end_in_fault order after_fault prefix.now) back.now }
 {}
 
 /// States that a stream is well formed if and only if a prefix and the rest are both well formed. The prefix ends

@@ -8,6 +8,7 @@
 mod between;
 #[cfg(test)]
 mod buffer_cases;
+mod byte_chunks;
 mod bytes;
 #[cfg(test)]
 mod bytes_cases;

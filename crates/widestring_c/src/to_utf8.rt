@@ -4,30 +4,16 @@ ghost use Rattle.wide_forms.specs.EncodingForm.{Utf16, Utf32};
 ghost use Rattle.wide_forms.specs.Items.{IsWellFormed, chars, items};
 ghost use Rattle.wide_forms.specs.Lossy.{lossy, lossy_after, lossy_by};
 ghost use Rattle.wide_forms.specs.Utf8.{utf8};
+ghost use Rattle.widestring_c.specs.Buffers.{Wrote, WroteIf};
 ghost use Rattle.widestring_c.specs.Policies.{policy_of};
 
 use crate::caller_buffer::put_items;
 use crate::policies::policy_of;
-use wide_forms::Policy;
+use wide_forms::{Policy, Progress};
+use wide_from_units::array_sizes::{FEW, LARGE, MANY, MIDDLE, SMALL};
 use wide_from_units::{lossy_prefix, to_utf8_prefix};
 use wide_unit::{Unit, find_fault};
 use wide_utf16_to_utf8::checked_utf16_to_utf8;
-
-// The most units that are converted in an array of `SMALL` bytes, before the result is copied to the buffer. A small
-// array takes less time to clear.
-const FEW: usize = 32;
-
-// Three bytes for each of `FEW` units, and four more.
-const SMALL: usize = 100;
-
-// The most units that are converted in an array of `MIDDLE` bytes.
-pub(crate) const MANY: usize = 256;
-
-// Three bytes for each of `MANY` units, and four more.
-const MIDDLE: usize = 772;
-
-// The size of the array, in bytes, for longer inputs: three bytes for each of 1032 units, and four more.
-pub(crate) const LARGE: usize = 3100;
 
 // Converts well-formed units to UTF-8 at the offset `at` of the buffer, chunk by chunk, and returns the offset after
 // the result, as `put_items` does.
@@ -42,7 +28,7 @@ fn put_chunks<C: Unit>(units: &[C], text: &mut [u8], at: usize, chunk: &mut [u8]
     let mut at = at;
     let mut rest = units;
     'chunks: while !rest.is_empty() {
-        let (read, written) = to_utf8_prefix(rest, chunk);
+        let Progress { read, written } = to_utf8_prefix(rest, chunk);
         at = put_items(text, at, &chunk[..written]);
         (_, rest) = rest.split_at(read);
     }
@@ -54,13 +40,7 @@ fn put_chunks<C: Unit>(units: &[C], text: &mut [u8], at: usize, chunk: &mut [u8]
 // than 2^63 bytes, so a length of four bytes for each unit fits into a `usize`.
 fn put_checked<C: Unit>(units: &[C], text: &mut [u8]) -> Option<usize>
     requires { 4 * length units.now < 2 ^ 64 - 1 }
-    ensures valid { IfSome result (λ len. IsWellFormed C.form (map C.number units.now)) }
-    ensures fault { IfNone result (IsWellFormed C.form (map C.number units.now) → ⊥) }
-    ensures len { IfSome result (λ len. len ≡ length (utf8 (chars C.form (map C.number units.now)))) }
-    ensures fits { IfSome result (λ len. len < 2 ^ 64 - 1) }
-    ensures text { IfSome result (λ len. len ≤ length text.old → take len text.new ≡ utf8 (chars C.form (map C.number units.now))) }
-    ensures unchanged { IfNone result (text.new ≡ text.old) }
-    ensures beyond { IfSome result (λ len. drop len text.new ≡ drop len text.old) }
+    ensures { WroteIf (IsWellFormed C.form (map C.number units.now)) (utf8 (chars C.form (map C.number units.now))) text.old result text.new }
 {
     match find_fault(units) {
         None => {
@@ -78,13 +58,7 @@ fn put_checked<C: Unit>(units: &[C], text: &mut [u8]) -> Option<usize>
 // `chunk`. Returns the length of the result in bytes, or `None` if the units are ill-formed.
 fn put_whole(units: &[u16], text: &mut [u8], chunk: &mut [u8]) -> Option<usize>
     requires { 3 * length units.now + 4 ≤ length chunk.old }
-    ensures valid { IfSome result (λ len. IsWellFormed Utf16 units.now) }
-    ensures fault { IfNone result (IsWellFormed Utf16 units.now → ⊥) }
-    ensures len { IfSome result (λ len. len ≡ length (utf8 (chars Utf16 units.now))) }
-    ensures fits { IfSome result (λ len. len < 2 ^ 64 - 1) }
-    ensures text { IfSome result (λ len. len ≤ length text.old → take len text.new ≡ utf8 (chars Utf16 units.now)) }
-    ensures unchanged { IfNone result (text.new ≡ text.old) }
-    ensures beyond { IfSome result (λ len. drop len text.new ≡ drop len text.old) }
+    ensures { WroteIf (IsWellFormed Utf16 units.now) (utf8 (chars Utf16 units.now)) text.old result text.new }
 {
     match checked_utf16_to_utf8(units, chunk) {
         Some(len) => Some(put_items(text, 0, &chunk[..len])),
@@ -96,13 +70,7 @@ fn put_whole(units: &[u16], text: &mut [u8], chunk: &mut [u8]) -> Option<usize>
 // `None` if the units are ill-formed. A short input is checked and converted in one pass, in an array whose size fits.
 // A longer one is checked first.
 fn put_valid(units: &[u16], text: &mut [u8]) -> Option<usize>
-    ensures valid { IfSome result (λ len. IsWellFormed Utf16 units.now) }
-    ensures fault { IfNone result (IsWellFormed Utf16 units.now → ⊥) }
-    ensures len { IfSome result (λ len. len ≡ length (utf8 (chars Utf16 units.now))) }
-    ensures fits { IfSome result (λ len. len < 2 ^ 64 - 1) }
-    ensures text { IfSome result (λ len. len ≤ length text.old → take len text.new ≡ utf8 (chars Utf16 units.now)) }
-    ensures unchanged { IfNone result (text.new ≡ text.old) }
-    ensures beyond { IfSome result (λ len. drop len text.new ≡ drop len text.old) }
+    ensures { WroteIf (IsWellFormed Utf16 units.now) (utf8 (chars Utf16 units.now)) text.old result text.new }
 {
     if units.len() <= FEW {
         return put_whole(units, text, &mut [0; SMALL]);
@@ -156,10 +124,7 @@ fn put_lossy_by<C: Unit>(
     requires units { 4 * length units.now < 2 ^ 64 - 1 }
     requires spare { 2 ≤ length spare.old }
     requires chunk { 64 ≤ length chunk.old }
-    ensures len { result ≡ length (utf8 (lossy_by policy (items C.form (map C.number units.now)))) }
-    ensures fits { result < 2 ^ 64 - 1 }
-    ensures text { result ≤ length text.old → take result text.new ≡ utf8 (lossy_by policy (items C.form (map C.number units.now))) }
-    ensures beyond { drop result text.new ≡ drop result text.old }
+    ensures { Wrote (utf8 (lossy_by policy (items C.form (map C.number units.now)))) text.old result text.new }
 {
     put_lossy_after(units, policy, false, text, 0, spare, chunk)
 }
@@ -167,10 +132,7 @@ fn put_lossy_by<C: Unit>(
 // Converts any UTF-16 to UTF-8 at the start of the buffer, and replaces faults by the policy, with arrays whose sizes
 // fit the input.
 fn put_lossy_16(units: &[u16], policy: Policy, text: &mut [u8]) -> usize
-    ensures len { result ≡ length (utf8 (lossy_by policy (items Utf16 units.now))) }
-    ensures fits { result < 2 ^ 64 - 1 }
-    ensures text { result ≤ length text.old → take result text.new ≡ utf8 (lossy_by policy (items Utf16 units.now)) }
-    ensures beyond { drop result text.new ≡ drop result text.old }
+    ensures { Wrote (utf8 (lossy_by policy (items Utf16 units.now))) text.old result text.new }
 {
     if units.len() <= FEW {
         put_lossy_by(units, policy, text, &mut [0; FEW], &mut [0; SMALL])
@@ -181,10 +143,7 @@ fn put_lossy_16(units: &[u16], policy: Policy, text: &mut [u8]) -> usize
 
 // Converts any UTF-32 to UTF-8 at the start of the buffer, and replaces faults by the policy.
 fn put_lossy_32(units: &[u32], policy: Policy, text: &mut [u8]) -> usize
-    ensures len { result ≡ length (utf8 (lossy_by policy (items Utf32 units.now))) }
-    ensures fits { result < 2 ^ 64 - 1 }
-    ensures text { result ≤ length text.old → take result text.new ≡ utf8 (lossy_by policy (items Utf32 units.now)) }
-    ensures beyond { drop result text.new ≡ drop result text.old }
+    ensures { Wrote (utf8 (lossy_by policy (items Utf32 units.now))) text.old result text.new }
 {
     put_lossy_by(units, policy, text, &mut [0; MANY], &mut [0; LARGE])
 }

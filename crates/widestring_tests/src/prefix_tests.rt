@@ -2,6 +2,7 @@
 //! leaves open: as many characters as fit. The expected numbers are those of a loop over the characters.
 use crate::all_hold::case_holds;
 use std::alloc::{AllocError, Global};
+use wide_forms::Progress;
 use wide_from_utf8::from_utf8_prefix;
 use wide_unit::Unit;
 
@@ -49,7 +50,7 @@ fn repeat(text: &mut String, pattern: &str, len: usize) -> Result<(), AllocError
 }
 
 // Returns how many bytes the characters have that fit, and how many units.
-fn fitting<C: Unit>(text: &str, space: usize) -> (usize, usize) {
+fn fitting<C: Unit>(text: &str, space: usize) -> Progress {
     let (mut read, mut written) = (0usize, 0usize);
     for c in text.chars() {
         let end = written.saturating_add(C::char_len(c));
@@ -59,7 +60,7 @@ fn fitting<C: Unit>(text: &str, space: usize) -> (usize, usize) {
         read = read.saturating_add(c.len_utf8());
         written = end;
     }
-    (read, written)
+    Progress { read, written }
 }
 
 // Returns whether the conversion ends where the loop does.

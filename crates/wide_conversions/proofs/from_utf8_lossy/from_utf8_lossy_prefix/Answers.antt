@@ -5,10 +5,10 @@ use Rattle.wide_conversions.proofs.from_utf8_lossy.from_utf8_lossy_prefix.Goals 
 pub items-init : goal.items-init
 items-init g c = record { within = omega arith; valid = omega arith; begun = λ some. absurd (omega arith); space = omega arith; long = refl; prefix = lossy-none g.C.Unit.form c.args.policy c.args.text.now [] c.args.after_fault }
 
-pub items-preserved-then-is_fault : goal.items-preserved-then-is_fault
-items-preserved-then-is_fault g c =
-    let more = c.put_prefix-bytes in
-    let prefix = lossy-then g.C.Unit.form c.args.policy c.args.text.now [] (map g.C.Unit.number (take c.items.written c.items.units)) _ c.items.read more.result.0 c.args.after_fault c.items.after_fault more.result.2 c.items.invariant.prefix more.ensures.units in
+pub items-preserved-then-after_fault : goal.items-preserved-then-after_fault
+items-preserved-then-after_fault g c =
+    let more = c.put_prefix-step in
+    let prefix = lossy-then g.C.Unit.form c.args.policy c.args.text.now [] (map g.C.Unit.number (take c.items.written c.items.units)) _ c.items.read more.result.read c.args.after_fault c.items.after_fault more.result.after_fault c.items.invariant.prefix more.ensures.units in
     record {
       within = omega (arith, more.ensures.read);
       valid = omega arith;
@@ -20,8 +20,8 @@ items-preserved-then-is_fault g c =
 
 pub items-preserved : goal.items-preserved
 items-preserved g c =
-    let more = c.put_prefix-bytes in
-    let prefix = lossy-then g.C.Unit.form c.args.policy c.args.text.now [] (map g.C.Unit.number (take c.items.written c.items.units)) _ c.items.read more.result.0 c.args.after_fault c.items.after_fault more.result.2 c.items.invariant.prefix more.ensures.units in
+    let more = c.put_prefix-step in
+    let prefix = lossy-then g.C.Unit.form c.args.policy c.args.text.now [] (map g.C.Unit.number (take c.items.written c.items.units)) _ c.items.read more.result.read c.args.after_fault c.items.after_fault more.result.after_fault c.items.invariant.prefix more.ensures.units in
     record {
       within = omega (arith, more.ensures.read);
       valid = omega (arith, c.items.invariant.valid);

@@ -25,14 +25,14 @@ prefixes-preserved-then-are_plain g c =
       rest = prefix.well_formed;
     }
 
-pub put_ones-passed-requires-clause-well_formed : goal.put_ones-passed-requires-clause-well_formed
-put_ones-passed-requires-clause-well_formed g c = well_formed-beyond g.C.Unit.number g.C.Unit.form g.D.Unit.form c.args.units.now c.prefixes.read c.prefixes.invariant.rest
+pub put_ones-step-requires-clause-well_formed : goal.put_ones-step-requires-clause-well_formed
+put_ones-step-requires-clause-well_formed g c = well_formed-beyond g.C.Unit.number g.C.Unit.form g.D.Unit.form c.args.units.now c.prefixes.read c.prefixes.invariant.rest
 
 pub prefixes-preserved : goal.prefixes-preserved
 prefixes-preserved g c =
     let number = g.C.Unit.number in
-    let ones = c.put_ones-passed in
-    let prefix = recoded-beyond number g.C.Unit.form g.D.Unit.form _ _ _ c.args.units.now c.prefixes.read ones.result.0 c.prefixes.invariant.units (record { units = ones.ensures.units; well_formed = ones.ensures.rest }) in
+    let ones = c.put_ones-step in
+    let prefix = recoded-beyond number g.C.Unit.form g.D.Unit.form _ _ _ c.args.units.now c.prefixes.read ones.result.read c.prefixes.invariant.units (record { units = ones.ensures.units; well_formed = ones.ensures.rest }) in
     record {
       within = omega (arith, ones.ensures.read);
       few = omega (arith, ones.ensures.few, c.prefixes.invariant.few);

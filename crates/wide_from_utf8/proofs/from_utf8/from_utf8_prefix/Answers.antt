@@ -6,17 +6,17 @@ use Rattle.wide_from_utf8.proofs.from_utf8.from_utf8_prefix.Goals as goal
 pub sixteens-init : goal.sixteens-init
 sixteens-init g c = record { within = omega arith; few = omega arith; space = omega arith; prefix = decoded-none g.C.Unit.form c.args.text.now [] c.requires.text }
 
-pub put_block-bytes-requires-clause-text : goal.put_block-bytes-requires-clause-text
-put_block-bytes-requires-clause-text g c = decoded-beyond g.C.Unit.form c.args.text.now [] _ c.sixteens.read c.sixteens.invariant.prefix
+pub put_block-step-requires-clause-text : goal.put_block-step-requires-clause-text
+put_block-step-requires-clause-text g c = decoded-beyond g.C.Unit.form c.args.text.now [] _ c.sixteens.read c.sixteens.invariant.prefix
 
 pub sixteens-preserved : goal.sixteens-preserved
 sixteens-preserved g c =
-    let block = c.put_block-bytes in
+    let block = c.put_block-step in
     record {
       within = omega (arith, block.ensures.read);
       few = omega (arith, block.ensures.few, c.sixteens.invariant.few);
       space = omega (arith, block.ensures.space, block.auto.units);
-      prefix = decoded-then g.C.Unit.form c.args.text.now [] _ _ c.sixteens.read block.result.0 c.sixteens.invariant.prefix block.ensures.units;
+      prefix = decoded-then g.C.Unit.form c.args.text.now [] _ _ c.sixteens.read block.result.read c.sixteens.invariant.prefix block.ensures.units;
     }
 
 pub eights-preserved : goal.eights-preserved

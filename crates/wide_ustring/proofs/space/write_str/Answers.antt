@@ -13,4 +13,4 @@ returns g c =
     let same : bytes ≡ c.args.text.now = c.as_bytes.ensures.value in
     let long : length written ≡ length (encode form (chars bytes)) = c.from_utf8_prefix.auto.units ∙ c.requires ∙ ap (λ bs. length (encode form (chars bs))) (sym same) in
     let all = e.whole (omega (arith, long, c.from_utf8_prefix.auto.units)) in
-    all_written form g.C.Unit.number bytes written c.from_utf8_prefix.result.0 c.from_utf8_prefix.result.1 long all e.written e.units ∙ ap (λ bs. encode form (chars bs)) same
+    all_written form g.C.Unit.number bytes written c.from_utf8_prefix.result.read c.from_utf8_prefix.result.written long all e.written e.units ∙ ap (λ bs. encode form (chars bs)) same

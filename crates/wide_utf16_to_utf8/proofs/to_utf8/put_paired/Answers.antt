@@ -6,7 +6,7 @@ pub put_paired_text-requires-clause-pairs : goal.put_paired_text-requires-clause
 put_paired_text-requires-clause-pairs c = window-pairs c.args.units.now c.args.from _ c.if-from-gt0.true (omega arith) c.requires.pairs
 
 pub returns-then-from-gt0-clause-text : goal.returns-then-from-gt0-clause-text
-returns-then-from-gt0-clause-text c = window-beyond c.args.units.now c.args.from _ c.put_paired_text.result.0 c.if-from-gt0.true (omega arith) c.put_paired_text.ensures.all c.put_paired_text.ensures.text
+returns-then-from-gt0-clause-text c = window-beyond c.args.units.now c.args.from _ c.put_paired_text.result.read c.if-from-gt0.true (omega arith) c.put_paired_text.ensures.all c.put_paired_text.ensures.text
 
 pub put_paired_text-requires-2-clause-pairs : goal.put_paired_text-requires-2-clause-pairs
 put_paired_text-requires-2-clause-pairs c =
@@ -16,4 +16,4 @@ put_paired_text-requires-2-clause-pairs c =
 pub returns-clause-text : goal.returns-clause-text
 returns-clause-text c =
     let copied = c.copy_from_slice.new.self in
-    first-beyond c.args.units.now (copied ++ []) c.args.from c.put_paired_text-2.result.0 (omega arith) (append-nil copied ∙ c.copy_from_slice.ensures.after) c.put_paired_text-2.ensures.all c.put_paired_text-2.ensures.text
+    first-beyond c.args.units.now (copied ++ []) c.args.from c.put_paired_text-2.result.read (omega arith) (append-nil copied ∙ c.copy_from_slice.ensures.after) c.put_paired_text-2.ensures.all c.put_paired_text-2.ensures.text

@@ -17,18 +17,18 @@ between_forms_prefix-read-requires-clause-well_formed c = subst (λ us. IsWellFo
 pub returns-in_default : goal.returns-in_default
 returns-in_default c =
     let more = c.between_forms_prefix-read in
-    let chunk = take more.result.1 more.new.out in
-    let left = drop more.result.0 c.chunks.units.now in
+    let chunk = take more.result.written more.new.out in
+    let left = drop more.result.read c.chunks.units.now in
     no_longer_same (chars Utf16 c.chunks.units.now) c.chunks.scalars.now c.chunks.invariant.same chunk (chars Utf16 left) (scalars_chunk c.chunks.units.now left chunk more.ensures.units) c.in_default.ensures.cases
 
 pub chunks-preserved : goal.chunks-preserved
 chunks-preserved c =
     let more = c.between_forms_prefix-read in
-    let chunk = take more.result.1 more.new.out in
+    let chunk = take more.result.written more.new.out in
     let left = c.split_at.ensures.back in
-    let text = scalars_chunk c.chunks.units.now (drop more.result.0 c.chunks.units.now) chunk more.ensures.units in
+    let text = scalars_chunk c.chunks.units.now (drop more.result.read c.chunks.units.now) chunk more.ensures.units in
     record {
-      well_formed = rw left (subst (λ us. IsWellFormed Utf16 us) (map-id (drop more.result.0 c.chunks.units.now)) more.ensures.rest);
+      well_formed = rw left (subst (λ us. IsWellFormed Utf16 us) (map-id (drop more.result.read c.chunks.units.now)) more.ensures.rest);
       same = same_after (chars Utf16 c.chunks.units.now) c.chunks.scalars.now c.chunks.invariant.same chunk (chars Utf16 c.split_at.result.1.now) c.in-Some.rest.now
           (text ∙ ap (λ us. chunk ++ chars Utf16 us) (sym left)) c.in-Some.ensures.cases.0 c.in-Some.ensures.cases.1;
     }

@@ -2,7 +2,7 @@ use Rattle.std.proofs.Common.{◌+◌, ◌≤◌, [], ap, sym, ◌∙◌, arith,
 use Rattle.wide_forms.specs.EncodingForm.{Utf16}
 use Rattle.wide_forms.specs.Laws.Items.{IsCut}
 use Rattle.wide_bytes.specs.Bytes.{units_in}
-use Rattle.wide_transcode.specs.Lossied.{faulty}
+use Rattle.wide_transcode.specs.Lossied.{units_end_in_fault}
 use Rattle.widestring_c.proofs.Pieces.{cut-before_none, ends-beyond, none-last}
 use Rattle.widestring_c.proofs.bytes.ends_bytes.Goals as goal
 
@@ -17,4 +17,4 @@ returns c =
     let e = c.uncut_len.ensures in
     let cut : IsCut Utf16 (units_in o (take n bytes)) (units_in o (drop n bytes)) = cut-before_none o (units_in o (take n bytes)) (drop n bytes) (e.cut []) in
     let within : n + 2 ≤ length bytes = omega (arith, e.within, c.if-bytes-lt2.false) in
-    c.ends_in_fault.ensures ∙ ap (λ us. faulty c.args.after_fault us) (c.fill_units.ensures ∙ ap (λ bs. units_in o bs) c.split_at.ensures.back) ∙ sym (ends-beyond c.args.after_fault o bytes n e.even within cut)
+    c.ends_in_fault.ensures ∙ ap (λ us. units_end_in_fault c.args.after_fault us) (c.fill_units.ensures ∙ ap (λ bs. units_in o bs) c.split_at.ensures.back) ∙ sym (ends-beyond c.args.after_fault o bytes n e.even within cut)

@@ -1,7 +1,7 @@
 use Rattle.std.proofs.Common.{◌≡◌, ◌++◌, ◌/◌, ◌<◌, ℕ, List, [], ap, sym, ◌∙◌, subst, arith, length, map, take, drop}
 use Rattle.std.proofs.lemmas.List.{map-id}
 use Rattle.wide_bytes.specs.Bytes.{units_in}
-use Rattle.wide_transcode.specs.Lossied.{faulty, lossy_text}
+use Rattle.wide_transcode.specs.Lossied.{units_end_in_fault, lossy_text}
 use Rattle.widestring_c.proofs.Buffers.{Writing, after_more, counted_prefix, one_more, written_all}
 use Rattle.widestring_c.proofs.Pieces.{no_text-left, text-parted}
 use Rattle.widestring_c.proofs.bytes.put_bytes_by.Goals as goal
@@ -23,11 +23,11 @@ chunks-preserved c =
     let chunk = lossy_text policy after (map (λ (u : ℕ). u) read) in
     let text : lossy_text policy after prefix ≡ chunk = ap (λ us. lossy_text policy after us) (sym (map-id read ∙ is)) in
     let left = lossy_text policy c.ends_in_fault-after.result back in
-    let beyond : lossy_text policy (faulty after prefix) (units_in o (drop n rest)) ≡ left =
-    ap (λ f. lossy_text policy f (units_in o (drop n rest))) (sym (c.ends_in_fault-after.ensures ∙ ap (λ us. faulty after us) is)) ∙ ap (λ bs. lossy_text policy c.ends_in_fault-after.result (units_in o bs)) (sym c.split_at.ensures.back)
+    let beyond : lossy_text policy (units_end_in_fault after prefix) (units_in o (drop n rest)) ≡ left =
+    ap (λ f. lossy_text policy f (units_in o (drop n rest))) (sym (c.ends_in_fault-after.ensures ∙ ap (λ us. units_end_in_fault after us) is)) ∙ ap (λ bs. lossy_text policy c.ends_in_fault-after.result (units_in o bs)) (sym c.split_at.ensures.back)
     in
     let parts : lossy_text policy after (units_in o rest) ≡ chunk ++ left =
-    text-parted policy after o rest n e.even e.within e.cut ∙ ap (λ bs. bs ++ lossy_text policy (faulty after prefix) (units_in o (drop n rest))) text ∙ ap (λ bs. chunk ++ bs) beyond
+    text-parted policy after o rest n e.even e.within e.cut ∙ ap (λ bs. bs ++ lossy_text policy (units_end_in_fault after prefix) (units_in o (drop n rest))) text ∙ ap (λ bs. chunk ++ bs) beyond
     in
     let before : Writing all c.chunks.at c.chunks.text (chunk ++ left) = subst (λ bs. Writing all c.chunks.at c.chunks.text bs) parts c.chunks.invariant.so_far in
     record {

@@ -19,16 +19,16 @@ prefixes-preserved g c =
     let prefix = c.split_at.result.0.now in
     let beyond = c.split_at.result.1.now in
     let put = c.put_text-at in
-    let read = c.from_utf8_lossy_prefix-read in
-    let chunk = take read.result.1 read.new.units in
+    let step = c.from_utf8_lossy_prefix-step in
+    let chunk = take step.result.written step.new.units in
     let tail = c.split_at-in-prefixes.result.1.now in
     let more = c.put_items-at in
-    let left = encode form (lossy_after policy read.result.2 (utf8_items tail)) in
-    let items = subst (λ xs. IsLossyPrefix form policy xs read.result.0 c.is_after_fault-after_fault.result read.result.2 [] (map number chunk)) c.split_at.ensures.back read.ensures.units in
+    let left = encode form (lossy_after policy step.result.after_fault (utf8_items tail)) in
+    let items = subst (λ xs. IsLossyPrefix form policy xs step.result.read c.is_after_fault-after_fault.result step.result.after_fault [] (map number chunk)) c.split_at.ensures.back step.ensures.units in
     let parts : encode form (lossy_after policy c.prefixes.after_fault (utf8_items bs)) ≡ encode form (chars prefix) ++ (map number chunk ++ left) =
-    lossy_prefix form policy bs (map number chunk) c.text_len-len.result read.result.0 c.prefixes.after_fault c.is_after_fault-after_fault.result read.result.2 c.text_len-len.ensures.within c.text_len-len.ensures.text c.is_after_fault-after_fault.ensures.same c.is_after_fault-after_fault.ensures.other items
-    ∙ ap (λ xs. encode form (chars xs) ++ (map number chunk ++ encode form (lossy_after policy read.result.2 (utf8_items (drop read.result.0 (drop c.text_len-len.result bs)))))) (sym c.split_at.ensures.front)
-    ∙ ap (λ xs. encode form (chars prefix) ++ (map number chunk ++ encode form (lossy_after policy read.result.2 (utf8_items xs)))) (ap (drop read.result.0) (sym c.split_at.ensures.back) ∙ sym c.split_at-in-prefixes.ensures.back)
+    lossy_prefix form policy bs (map number chunk) c.text_len-len.result step.result.read c.prefixes.after_fault c.is_after_fault-after_fault.result step.result.after_fault c.text_len-len.ensures.within c.text_len-len.ensures.text c.is_after_fault-after_fault.ensures.same c.is_after_fault-after_fault.ensures.other items
+    ∙ ap (λ xs. encode form (chars xs) ++ (map number chunk ++ encode form (lossy_after policy step.result.after_fault (utf8_items (drop step.result.read (drop c.text_len-len.result bs)))))) (sym c.split_at.ensures.front)
+    ∙ ap (λ xs. encode form (chars prefix) ++ (map number chunk ++ encode form (lossy_after policy step.result.after_fault (utf8_items xs)))) (ap (drop step.result.read) (sym c.split_at.ensures.back) ∙ sym c.split_at-in-prefixes.ensures.back)
     in
     let before : Puts first 0 all c.prefixes.at (map number c.prefixes.units) (encode form (chars prefix) ++ (map number chunk ++ left)) = subst (λ us. Puts first 0 all c.prefixes.at (map number c.prefixes.units) us) parts c.prefixes.invariant.so_far in
     let text : Puts first 0 all put.result (map number put.new.units) (map number chunk ++ left) = one_more_by number first 0 all c.prefixes.units put.new.units (encode form (chars prefix)) (map number chunk ++ left) c.prefixes.at put.result before put.ensures.offset put.ensures.units put.ensures.space in
@@ -39,28 +39,18 @@ prefixes-preserved g c =
           (after_more c.args.units.now c.prefixes.units put.new.units _ c.prefixes.at put.result before.most put.ensures.offset c.prefixes.invariant.beyond put.ensures.beyond) more.ensures.beyond;
     }
 
-pub returns-clause-len : goal.returns-clause-len
-returns-clause-len g c =
+pub returns : goal.returns
+returns g c =
     let number = g.C.Unit.number in
     let first = map number c.args.units.now in
     let all = encode g.C.Unit.form (lossy_by c.args.policy (utf8_items c.args.text.now)) in
     let none : length c.prefixes.rest.now ≡ 0 = is_none (length c.prefixes.rest.now) c.is_empty.result c.is_empty.ensures c.prefixes-test.false in
-    let counted = counted_all first 0 all (map number c.prefixes.units) c.prefixes.at (subst (λ us. Puts first 0 all c.prefixes.at (map number c.prefixes.units) us) (lossy_end g.C.Unit.form c.args.policy c.prefixes.after_fault c.prefixes.rest.now none) c.prefixes.invariant.so_far) in
-    omega (arith, counted, units-lossy_by g.C.Unit.form c.args.policy c.args.text.now)
-
-pub returns-clause-fits : goal.returns-clause-fits
-returns-clause-fits g c =
-    let number = g.C.Unit.number in
-    let first = map number c.args.units.now in
-    let all = encode g.C.Unit.form (lossy_by c.args.policy (utf8_items c.args.text.now)) in
-    let none : length c.prefixes.rest.now ≡ 0 = is_none (length c.prefixes.rest.now) c.is_empty.result c.is_empty.ensures c.prefixes-test.false in
-    let counted = counted_all first 0 all (map number c.prefixes.units) c.prefixes.at (subst (λ us. Puts first 0 all c.prefixes.at (map number c.prefixes.units) us) (lossy_end g.C.Unit.form c.args.policy c.prefixes.after_fault c.prefixes.rest.now none) c.prefixes.invariant.so_far) in
-    omega (arith, counted, units-lossy_by g.C.Unit.form c.args.policy c.args.text.now)
-
-pub returns-clause-units : goal.returns-clause-units
-returns-clause-units g c = λ fits.
-    let number = g.C.Unit.number in
-    let first = map number c.args.units.now in
-    let all = encode g.C.Unit.form (lossy_by c.args.policy (utf8_items c.args.text.now)) in
-    let none : length c.prefixes.rest.now ≡ 0 = is_none (length c.prefixes.rest.now) c.is_empty.result c.is_empty.ensures c.prefixes-test.false in
-    written_all_of number c.args.units.now 0 all c.prefixes.units c.prefixes.at (subst (λ us. Puts first 0 all c.prefixes.at (map number c.prefixes.units) us) (lossy_end g.C.Unit.form c.args.policy c.prefixes.after_fault c.prefixes.rest.now none) c.prefixes.invariant.so_far) (omega (arith, fits, c.prefixes.invariant.space))
+    let put : Puts first 0 all c.prefixes.at (map number c.prefixes.units) [] = subst (λ us. Puts first 0 all c.prefixes.at (map number c.prefixes.units) us) (lossy_end g.C.Unit.form c.args.policy c.prefixes.after_fault c.prefixes.rest.now none) c.prefixes.invariant.so_far in
+    let counted = counted_all first 0 all (map number c.prefixes.units) c.prefixes.at put in
+    let most = units-lossy_by g.C.Unit.form c.args.policy c.args.text.now in
+    record {
+      len = omega (arith, counted, most);
+      fits = omega (arith, counted, most);
+      units = λ fits. written_all_of number c.args.units.now 0 all c.prefixes.units c.prefixes.at put (omega (arith, fits, c.prefixes.invariant.space));
+      beyond = c.prefixes.invariant.beyond;
+    }

@@ -29,10 +29,10 @@ windows-preserved g c =
     let e = c.from_utf8_prefix-read.ensures in
     let len = c.windows.at + c.min-len.result - c.windows.at in
     let out = c.from_utf8_prefix-read.new.units in
-    let prefix = map number (take c.from_utf8_prefix-read.result.1 out) in
+    let prefix = map number (take c.from_utf8_prefix-read.result.written out) in
     let left = c.split_at.result.1.now in
     let end = min (c.args.at + length all) (2 ^ 64 - 1) in
-    let back : drop c.from_utf8_prefix-read.result.0 c.windows.rest.now ≡ left = sym c.split_at.ensures.back in
+    let back : drop c.from_utf8_prefix-read.result.read c.windows.rest.now ≡ left = sym c.split_at.ensures.back in
     let parts : encode form (chars c.windows.rest.now) ≡ prefix ++ encode form (chars left) = e.units ∙ ap (λ bs. prefix ++ encode form (chars bs)) back in
     let before : Puts first c.args.at all c.windows.at (map number c.windows.units) (prefix ++ encode form (chars left)) = subst (λ us. Puts first c.args.at all c.windows.at (map number c.windows.units) us) parts c.windows.invariant.so_far in
     let within : c.windows.at + len ≤ length c.windows.units = omega (arith, c.saturating_sub.ensures, c.if-saturating_sub-ge-WINDOW.true, c.min-len.ensures) in
@@ -40,7 +40,7 @@ windows-preserved g c =
     let later : c.windows.at + len ≤ end = omega (arith, within, c.requires.space, c.windows.invariant.space, c.min-len.ensures, c.windows.invariant.so_far.counted, few_bytes form c.windows.rest.now c.windows.invariant.text) in
     record {
       text = subst (λ bs. IsUtf8 bs) back e.rest;
-      so_far = one_window number first c.args.at all c.windows.units out (encode form (chars left)) c.windows.at len c.from_utf8_prefix-read.result.1 before within (omega (arith, c.requires.space, c.windows.invariant.space)) long (omega (arith, e.written, long));
+      so_far = one_window number first c.args.at all c.windows.units out (encode form (chars left)) c.windows.at len c.from_utf8_prefix-read.result.written before within (omega (arith, c.requires.space, c.windows.invariant.space)) long (omega (arith, e.written, long));
       space = length-window c.windows.units out c.windows.at len within long ∙ c.windows.invariant.space;
       beyond = drop-put_mid c.windows.at len c.windows.units out end later (omega (arith, within)) long ∙ c.windows.invariant.beyond;
     }
@@ -56,9 +56,9 @@ chunks-preserved g c =
     let all = encode form (chars c.args.text.now) in
     let e = c.from_utf8_prefix-read-in-chunks.ensures in
     let put = c.put_items-at.ensures in
-    let chunk = take c.from_utf8_prefix-read-in-chunks.result.1 c.from_utf8_prefix-read-in-chunks.new.units in
+    let chunk = take c.from_utf8_prefix-read-in-chunks.result.written c.from_utf8_prefix-read-in-chunks.new.units in
     let left = c.split_at-in-chunks.result.1.now in
-    let back : drop c.from_utf8_prefix-read-in-chunks.result.0 c.chunks.rest.now ≡ left = sym c.split_at-in-chunks.ensures.back in
+    let back : drop c.from_utf8_prefix-read-in-chunks.result.read c.chunks.rest.now ≡ left = sym c.split_at-in-chunks.ensures.back in
     let parts : encode form (chars c.chunks.rest.now) ≡ map number chunk ++ encode form (chars left) = e.units ∙ ap (λ bs. map number chunk ++ encode form (chars bs)) back in
     let before : Puts first c.args.at all c.chunks.at (map number c.chunks.units) (map number chunk ++ encode form (chars left)) = subst (λ us. Puts first c.args.at all c.chunks.at (map number c.chunks.units) us) parts c.chunks.invariant.so_far in
     record {

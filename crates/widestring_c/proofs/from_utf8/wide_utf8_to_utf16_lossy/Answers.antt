@@ -7,4 +7,4 @@ pub returns-clause-len : goal.returns-clause-len
 returns-clause-len c = omega (arith, c.put_lossy_16.ensures.len, ap (λ cs. length (encode Utf16 cs)) (lossy-utf8 c.args.text.now))
 
 pub returns-clause-units : goal.returns-clause-units
-returns-clause-units c = λ fits. c.put_lossy_16.ensures.units fits ∙ ap (encode Utf16) (lossy-utf8 c.args.text.now)
+returns-clause-units c = λ fits. c.put_lossy_16.ensures.text fits ∙ ap (encode Utf16) (lossy-utf8 c.args.text.now)

@@ -6,4 +6,4 @@ pub returns-clause-len : goal.returns-clause-len
 returns-clause-len c = omega (arith, c.put_lossy_32.ensures.len, ap length (lossy-utf8 c.args.text.now))
 
 pub returns-clause-units : goal.returns-clause-units
-returns-clause-units c = λ fits. c.put_lossy_32.ensures.units fits ∙ lossy-utf8 c.args.text.now
+returns-clause-units c = λ fits. c.put_lossy_32.ensures.text fits ∙ lossy-utf8 c.args.text.now

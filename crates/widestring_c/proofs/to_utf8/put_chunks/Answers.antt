@@ -24,11 +24,11 @@ chunks-preserved g c =
     let put = c.put_items-at.ensures in
     record {
       well_formed = subst (λ us. IsWellFormed g.C.Unit.form (map g.C.Unit.number us)) (sym c.split_at.ensures.back) e.rest;
-      so_far = next_part c.args.text.now c.args.at (utf8 (chars g.C.Unit.form (map g.C.Unit.number c.args.units.now))) c.chunks.text c.put_items-at.new.space (take c.to_utf8_prefix-read.result.1 c.to_utf8_prefix-read.new.text)
+      so_far = next_part c.args.text.now c.args.at (utf8 (chars g.C.Unit.form (map g.C.Unit.number c.args.units.now))) c.chunks.text c.put_items-at.new.space (take c.to_utf8_prefix-read.result.written c.to_utf8_prefix-read.new.text)
           (utf8 (chars g.C.Unit.form (map g.C.Unit.number c.split_at.result.1.now))) c.chunks.at c.put_items-at.result (utf8 (chars g.C.Unit.form (map g.C.Unit.number c.chunks.rest.now)))
-          (text_left g.C.Unit.form g.C.Unit.number c.chunks.rest.now c.split_at.result.1.now c.to_utf8_prefix-read.result.0 (take c.to_utf8_prefix-read.result.1 c.to_utf8_prefix-read.new.text) c.split_at.ensures.back e.text) c.chunks.invariant.so_far put.offset put.items put.space;
+          (text_left g.C.Unit.form g.C.Unit.number c.chunks.rest.now c.split_at.result.1.now c.to_utf8_prefix-read.result.read (take c.to_utf8_prefix-read.result.written c.to_utf8_prefix-read.new.text) c.split_at.ensures.back e.text) c.chunks.invariant.so_far put.offset put.items put.space;
       space = put.space ∙ c.chunks.invariant.space;
-      beyond = after_more c.args.text.now c.chunks.text c.put_items-at.new.space (length (take c.to_utf8_prefix-read.result.1 c.to_utf8_prefix-read.new.text)) c.chunks.at c.put_items-at.result c.chunks.invariant.so_far.most put.offset c.chunks.invariant.beyond put.beyond;
+      beyond = after_more c.args.text.now c.chunks.text c.put_items-at.new.space (length (take c.to_utf8_prefix-read.result.written c.to_utf8_prefix-read.new.text)) c.chunks.at c.put_items-at.result c.chunks.invariant.so_far.most put.offset c.chunks.invariant.beyond put.beyond;
     }
 
 pub returns-clause-offset : goal.returns-clause-offset

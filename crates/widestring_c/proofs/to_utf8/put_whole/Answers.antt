@@ -1,10 +1,18 @@
-use Rattle.std.proofs.Common.{ap, arith, length}
+use Rattle.std.proofs.Common.{◌∙◌, ap, arith, length}
 use Rattle.wide_forms.specs.EncodingForm.{Utf16}
 use Rattle.widestring_c.proofs.Fits.{bytes-well_formed}
 use Rattle.widestring_c.proofs.to_utf8.put_whole.Goals as goal
 
-pub returns-in-Some-clause-len : goal.returns-in-Some-clause-len
-returns-in-Some-clause-len c = omega (arith, c.put_items.ensures.offset, ap length c.in-Some.ensures.text, bytes-well_formed Utf16 c.args.units.now c.in-Some.ensures.valid)
-
-pub returns-in-Some-clause-fits : goal.returns-in-Some-clause-fits
-returns-in-Some-clause-fits c = omega (arith, c.put_items.ensures.offset, ap length c.in-Some.ensures.text, bytes-well_formed Utf16 c.args.units.now c.in-Some.ensures.valid)
+pub returns-in-Some : goal.returns-in-Some
+returns-in-Some c =
+    let valid = c.in-Some.ensures.valid in
+    let e = c.put_items.ensures in
+    let fits = bytes-well_formed Utf16 c.args.units.now valid in (
+      valid,
+      record {
+        len = omega (arith, e.offset, ap length c.in-Some.ensures.text, fits);
+        fits = omega (arith, e.offset, ap length c.in-Some.ensures.text, fits);
+        text = λ within. e.items within ∙ c.in-Some.ensures.text;
+        beyond = e.beyond;
+      },
+    )

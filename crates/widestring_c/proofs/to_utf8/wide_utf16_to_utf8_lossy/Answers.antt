@@ -9,11 +9,11 @@ use Rattle.widestring_c.proofs.to_utf8.wide_utf16_to_utf8_lossy.Goals as goal
 pub returns-in-Some-clause-len : goal.returns-in-Some-clause-len
 returns-in-Some-clause-len c =
     let us = c.args.units.now in
-    let same : chars Utf16 us ≡ lossy (items Utf16 us) = sym (lossy-well_formed Utf16 us c.in-Some.ensures.valid) in
-    omega (arith, c.in-Some.ensures.len, ap (λ cs. length (utf8 cs)) same)
+    let same : chars Utf16 us ≡ lossy (items Utf16 us) = sym (lossy-well_formed Utf16 us c.in-Some.ensures.0) in
+    omega (arith, c.in-Some.ensures.1.len, ap (λ cs. length (utf8 cs)) same)
 
 pub returns-in-Some-clause-text : goal.returns-in-Some-clause-text
 returns-in-Some-clause-text c = λ fits.
     let us = c.args.units.now in
-    let same : chars Utf16 us ≡ lossy (items Utf16 us) = sym (lossy-well_formed Utf16 us c.in-Some.ensures.valid) in
-    c.in-Some.ensures.text fits ∙ ap utf8 same
+    let same : chars Utf16 us ≡ lossy (items Utf16 us) = sym (lossy-well_formed Utf16 us c.in-Some.ensures.0) in
+    c.in-Some.ensures.1.text fits ∙ ap utf8 same

@@ -23,8 +23,8 @@ pub returns-in_default : goal.returns-in_default
 returns-in_default g c =
     let form = g.C.Unit.form in
     let number = g.C.Unit.number in
-    no_longer_same (utf8 (chars form (map number c.chunks.ours.now))) c.chunks.theirs.now c.chunks.invariant.same (take c.to_utf8_prefix-read.result.1 c.to_utf8_prefix-read.new.text)
-    (utf8 (chars form (map number (drop c.to_utf8_prefix-read.result.0 c.chunks.ours.now)))) c.to_utf8_prefix-read.ensures.text c.in_default.ensures.cases
+    no_longer_same (utf8 (chars form (map number c.chunks.ours.now))) c.chunks.theirs.now c.chunks.invariant.same (take c.to_utf8_prefix-read.result.written c.to_utf8_prefix-read.new.text)
+    (utf8 (chars form (map number (drop c.to_utf8_prefix-read.result.read c.chunks.ours.now)))) c.to_utf8_prefix-read.ensures.text c.in_default.ensures.cases
 
 pub chunks-preserved : goal.chunks-preserved
 chunks-preserved g c =
@@ -33,8 +33,8 @@ chunks-preserved g c =
     let left = c.split_at.ensures.back in
     record {
       well_formed = rw left c.to_utf8_prefix-read.ensures.rest;
-      same = same_after (utf8 (chars form (map number c.chunks.ours.now))) c.chunks.theirs.now c.chunks.invariant.same (take c.to_utf8_prefix-read.result.1 c.to_utf8_prefix-read.new.text)
-          (utf8 (chars form (map number c.split_at.result.1.now))) c.in-Some.rest.now (c.to_utf8_prefix-read.ensures.text ∙ ap (λ us. take c.to_utf8_prefix-read.result.1 c.to_utf8_prefix-read.new.text ++ utf8 (chars form (map number us))) (sym left))
+      same = same_after (utf8 (chars form (map number c.chunks.ours.now))) c.chunks.theirs.now c.chunks.invariant.same (take c.to_utf8_prefix-read.result.written c.to_utf8_prefix-read.new.text)
+          (utf8 (chars form (map number c.split_at.result.1.now))) c.in-Some.rest.now (c.to_utf8_prefix-read.ensures.text ∙ ap (λ us. take c.to_utf8_prefix-read.result.written c.to_utf8_prefix-read.new.text ++ utf8 (chars form (map number us))) (sym left))
           c.in-Some.ensures.cases.0 c.in-Some.ensures.cases.1;
     }
 

@@ -4,14 +4,14 @@
 ghost use Rattle.std.specs.Prelude.{◌≡◌};
 ghost use Rattle.wide_forms.specs.Searches.{is_high, is_low, is_no_scalar, is_surrogate};
 
-// The upper six bits of a high surrogate, D800 to DBFF.
-const HIGH_TOP: u16 = 0xd800 / 0x400;
+/// The upper six bits of a high surrogate, D800 to DBFF.
+pub const HIGH_TOP: u16 = 0xd800 / 0x400;
 
-// The upper six bits of a low surrogate, DC00 to DFFF.
-const LOW_TOP: u16 = 0xdc00 / 0x400;
+/// The upper six bits of a low surrogate, DC00 to DFFF.
+pub const LOW_TOP: u16 = 0xdc00 / 0x400;
 
-// The upper five bits of a surrogate of either kind, D800 to DFFF.
-const SURROGATE_TOP: u16 = 0xd800 / 0x800;
+/// The upper five bits of a surrogate of either kind, D800 to DFFF.
+pub const SURROGATE_TOP: u16 = 0xd800 / 0x800;
 
 /// Returns whether the unit is a high surrogate, D800 to DBFF.
 #[inline(always)]
@@ -39,7 +39,7 @@ pub fn is_surrogate(unit: u16) -> bool
 
 /// Returns whether the unit is no Unicode scalar value: whether it is a surrogate, or greater than 10FFFF.
 #[inline(always)]
-pub(crate) fn is_no_scalar(unit: u32) -> bool
+pub fn is_no_scalar(unit: u32) -> bool
     ensures { result ≡ is_no_scalar unit }
 {
     (0xd800 <= unit && unit <= 0xdfff) || 0x10_ffff < unit

@@ -1,6 +1,6 @@
 use Rattle.std.proofs.Common.{arith}
 use Rattle.widestring_c.proofs.Cuts.{cut-short_after}
-use Rattle.widestring_c.proofs.bytes.certain_len.Goals as goal
+use Rattle.widestring_c.proofs.byte_chunks.complete_len.Goals as goal
 
 pub returns-clause-rest : goal.returns-clause-rest
 returns-clause-rest c =
