@@ -10,8 +10,8 @@ use Rattle.wide_edit.specs.declared.edits.Edit.{Edit}
 use Rattle.wide_edit.specs.declared.edits.Edit.TheVariants.{Push, PushStr, Pop, Truncate, Insert, InsertStr, Remove, Retain, Drain, Replace, SplitOff, Clear}
 use Rattle.wide_editable.specs.Edited.{CanHold}
 
--- The index of the first character that an edit can change, in a text of so many characters. The characters before it
--- stay as they are.
+-- The index of the first character that an edit can change, in a text of `count` characters. The characters before it are
+-- unchanged.
 abbrev pub edit_offset : ℕ → Edit → ℕ
 edit_offset count (Push c) = count
 edit_offset count (PushStr t) = count
@@ -26,11 +26,11 @@ edit_offset count (Replace a b t) = min a count
 edit_offset count (SplitOff i) = min i count
 edit_offset count Clear = 0
 
--- How many index entries of these characters are not past the edit's first character.
+-- How many index entries of the characters `cs` are not past the first character that the edit can change.
 abbrev pub marks_kept : List ℕ → Edit → ℕ
 marks_kept cs edit = edit_offset (length cs) edit / 64
 
--- The number of units after the last of those entries, before the edit and after it.
+-- The number of units after the last entry that the edit leaves unchanged, in the old and in the new text together.
 abbrev pub units_after : List ℕ → List ℕ → Edit → ℕ
 units_after old new edit =
     (length (encode Utf16 old) - mark old (marks_kept old edit)) + (length (encode Utf16 new) - mark new (marks_kept old edit))
@@ -61,15 +61,15 @@ marked_code =
     code_by (Units ℕ × ℕ) (coded× (units_code coded_ℕ) coded_ℕ) (λ m. (m.string, m.marks_space))
     (λ p. record { string = p.0; marks_space = p.1 }) (λ _. refl)
 
--- Its units.
+-- The units of the string.
 abbrev pub marked_units : Marked → List ℕ
 marked_units m = m.string.units
 
--- How many units fit without allocating.
+-- How many units of the string fit without allocating.
 abbrev pub marked_capacity : Marked → ℕ
 marked_capacity m = m.string.capacity
 
--- Its characters.
+-- The characters of the string.
 abbrev pub marked_text : Marked → List ℕ
 marked_text m = chars Utf16 m.string.units
 

@@ -1,9 +1,9 @@
--- The offsets that an edit states, in characters.
+-- The indices of characters that an edit states.
 use Rattle.std.specs.Prelude.{ℕ}
 use Rattle.wide_edit.specs.declared.edits.Edit.{Edit}
 use Rattle.wide_edit.specs.declared.edits.Edit.TheVariants.{Push, PushStr, Pop, Truncate, Insert, InsertStr, Remove, Retain, Drain, Replace, SplitOff, Clear}
 
--- The first number of an edit, or 0 if it has none.
+-- The first index of an edit, or 0 if it has none.
 abbrev pub first_number : Edit → ℕ
 first_number (Push c) = 0
 first_number (PushStr t) = 0
@@ -18,7 +18,7 @@ first_number (Replace a b t) = a
 first_number (SplitOff i) = i
 first_number Clear = 0
 
--- The second number of an edit, or 0 if it has none.
+-- The second index of an edit, or 0 if it has only one or none.
 abbrev pub second_number : Edit → ℕ
 second_number (Push c) = 0
 second_number (PushStr t) = 0

@@ -2,19 +2,21 @@
 -- first.
 use Rattle.std.specs.Prelude.{ℕ, ◌+◌, ◌*◌, ◌%◌, ◌^◌, nat_lt, nat_le, ◌&&◌, if◌then◌else◌, List, [], ◌∷◌, Option, Some, None}
 
--- The bits, and the lowest six bits of one more byte.
+-- Some bits, with the lowest six bits of a byte after them.
 abbrev pub with_byte : ℕ → ℕ → ℕ
 with_byte bits byte = bits * 2 ^ 6 + byte % 2 ^ 6
 
--- The bits of a first byte and of the one, two or three bytes after it, and the bytes that follow.
+-- Some bits, with those of the next byte after them, and the bytes that follow it.
 abbrev pub with_one : ℕ → List ℕ → Option (ℕ × List ℕ)
 with_one bits (b ∷ rest) = Some (with_byte bits b, rest)
 with_one bits [] = None
 
+-- Some bits, with those of the next two bytes after them, and the bytes that follow these.
 abbrev pub with_two : ℕ → List ℕ → Option (ℕ × List ℕ)
 with_two bits (b ∷ c ∷ rest) = Some (with_byte (with_byte bits b) c, rest)
 with_two bits bytes = None
 
+-- Some bits, with those of the next three bytes after them, and the bytes that follow these.
 abbrev pub with_three : ℕ → List ℕ → Option (ℕ × List ℕ)
 with_three bits (b ∷ c ∷ d ∷ rest) = Some (with_byte (with_byte (with_byte bits b) c) d, rest)
 with_three bits bytes = None

@@ -22,11 +22,12 @@ abbrev pub IsCodeUnit : EncodingForm → ℕ → Type 0
 IsCodeUnit Utf16 u = u < 2 ^ 16
 IsCodeUnit Utf32 u = u < 2 ^ 32
 
--- The surrogate code units (the Standard's D72 and D74). UTF-32 has none.
+-- The high-surrogate code units (the Standard's D72). UTF-32 has none.
 abbrev pub IsHighSurrogate : EncodingForm → ℕ → Type 0
 IsHighSurrogate Utf16 u = (0xD800 ≤ u) × (u ≤ 0xDBFF)
 IsHighSurrogate Utf32 u = ⊥
 
+-- The low-surrogate code units (the Standard's D74). UTF-32 has none.
 abbrev pub IsLowSurrogate : EncodingForm → ℕ → Type 0
 IsLowSurrogate Utf16 u = (0xDC00 ≤ u) × (u ≤ 0xDFFF)
 IsLowSurrogate Utf32 u = ⊥

@@ -25,6 +25,7 @@ characters [] = []
 characters (Char c ∷ is) = c ∷ characters is
 characters (Fault u ∷ is) = characters is
 
+-- The characters of the units, without the faults.
 abbrev pub chars : EncodingForm → List ℕ → List ℕ
 chars form units = characters (items form units)
 

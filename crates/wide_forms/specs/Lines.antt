@@ -22,25 +22,27 @@ without_return (Char c ∷ []) = if c == carriage_return then [] else Char c ∷
 without_return (Fault u ∷ []) = Fault u ∷ []
 without_return (i ∷ j ∷ is) = i ∷ without_return (j ∷ is)
 
--- The last fragment is no line if it is empty. Each other fragment loses a carriage return at its end.
+-- The lines of the substrings between line feeds. Each one but the last ended in a line feed, and loses a carriage
+-- return before it. The last one is a line only if it is not empty.
 abbrev pub lines_of_substrings : List (List Item) → List (List Item)
 lines_of_substrings [] = []
 lines_of_substrings ([] ∷ []) = []
 lines_of_substrings ((i ∷ is) ∷ []) = (i ∷ is) ∷ []
 lines_of_substrings (p ∷ q ∷ ps) = without_return p ∷ lines_of_substrings (q ∷ ps)
 
--- The items are split at each line feed, which belongs to no fragment.
+-- The lines of the items, which are split at each line feed. No line contains its line feed.
 abbrev pub lines_of : List Item → List (List Item)
 lines_of is = lines_of_substrings (slice_split is_line_feed is)
 
--- The lines, each with the offset, in units, at which it begins: the first at `offset`, and each next one a unit after
--- the units of the fragment before.
+-- The lines of the substrings, each with the offset, in units, at which it begins. The first begins at `offset`, and each
+-- next one after the units of the one before and its line feed.
 abbrev pub placed_substrings : EncodingForm → ℕ → List (List Item) → List (ℕ × List Item)
 placed_substrings form offset [] = []
 placed_substrings form offset ([] ∷ []) = []
 placed_substrings form offset ((i ∷ is) ∷ []) = (offset, i ∷ is) ∷ []
 placed_substrings form offset (p ∷ q ∷ ps) = (offset, without_return p) ∷ placed_substrings form (offset + (length (units_of form p) + 1)) (q ∷ ps)
 
+-- The lines of the items, each with the offset, in units, at which it begins.
 abbrev pub placed_lines : EncodingForm → ℕ → List Item → List (ℕ × List Item)
 placed_lines form offset is = placed_substrings form offset (slice_split is_line_feed is)
 

@@ -26,10 +26,9 @@ pub record IsTextRange (form : EncodingForm) (units : List ℕ) (from to : ℕ) 
   pub start : IsBoundary form units from
   pub end : IsBoundary form units to
 
--- The following definitions look at the unit at an offset only. In well-formed units they agree with boundaries, and
--- arithmetic decides them at the ends, and everywhere in UTF-32.
-
--- The offset is the beginning or the end, or the unit at it is no low surrogate.
+-- The offset is the beginning or the end, or the unit at it is no low surrogate. It depends on that unit alone. In
+-- well-formed units it is `IsBoundary`. At both ends, and at any offset in UTF-32, it follows from the offset and the
+-- length.
 abbrev pub IsCharBoundary : EncodingForm → List ℕ → ℕ → Type 0
 IsCharBoundary form units offset = (offset ≤ length units) × (0 < offset → offset < length units → ¬ (IsLowSurrogate form (slice_index units offset)))
 
@@ -52,10 +51,11 @@ module _ {C : Type 0} (form : EncodingForm) (number : C → ℕ) where
   abbrev pub text_spliced : List C → ℕ → ℕ → List ℕ → List ℕ
   text_spliced us from to put = splice (text_of us) (text_before us from) (text_before us to) put
 
-  -- The bounds of a range are in order, within the units, and at boundaries.
+  -- The bounds of a range are in order, within the units, and at offsets for which `IsBoundary` holds.
   abbrev pub IsTextPart : List C → Bound ℕ → Bound ℕ → Type 0
   IsTextPart us start end = IsTextRange form (map number us) (start_index start) (end_index end (length us))
 
+  -- The bounds of a range are in order, within the units, and at offsets for which `IsCharBoundary` holds.
   abbrev pub IsCharPart : List C → Bound ℕ → Bound ℕ → Type 0
   IsCharPart us start end = IsCharRange form (map number us) (start_index start) (end_index end (length us))
 

@@ -2,21 +2,23 @@
 use Rattle.std.specs.Prelude.{◌≤◌, ◌<◌, length, slice_index, ℕ, Bool, not, ◌&&◌, ◌||◌, nat_le, nat_lt, nat_eq, List}
 use Rattle.std.specs.List.{prefix_len}
 
--- A surrogate, D800 to DFFF (section 3.8).
+-- Whether a unit is a surrogate, D800 to DFFF (section 3.8).
 abbrev pub is_surrogate : ℕ → Bool
 is_surrogate u = nat_le 0xd800 u && nat_le u 0xdfff
 
+-- Whether a unit is a high surrogate, D800 to DBFF.
 abbrev pub is_high : ℕ → Bool
 is_high u = nat_le 0xd800 u && nat_le u 0xdbff
 
+-- Whether a unit is a low surrogate, DC00 to DFFF.
 abbrev pub is_low : ℕ → Bool
 is_low u = nat_le 0xdc00 u && nat_le u 0xdfff
 
--- No Unicode scalar value.
+-- Whether a unit is not a Unicode scalar value.
 abbrev pub is_no_scalar : ℕ → Bool
 is_no_scalar u = is_surrogate u || nat_lt 0x10_ffff u
 
--- The unit of this number.
+-- Whether a unit is equal to `number`.
 abbrev pub is_unit : ℕ → ℕ → Bool
 is_unit number u = nat_eq u number
 

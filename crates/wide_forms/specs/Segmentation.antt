@@ -22,6 +22,8 @@ abbrev pub IsItem : EncodingForm → Item → Type 0
 IsItem form (Char c) = IsScalar c
 IsItem form (Fault u) = IsFault form u
 
+-- The items are a segmentation of the units: joined they are the units, each item is a character or a fault, and no two
+-- adjacent faults are a pair.
 pub record IsSegmentation (form : EncodingForm) (items : List Item) (units : List ℕ) : Type 0 where
   pub joined : units_of form items ≡ units
   -- A character is a scalar value, and a fault encodes no scalar value by itself.
@@ -29,21 +31,22 @@ pub record IsSegmentation (form : EncodingForm) (items : List Item) (units : Lis
   -- No fault directly precedes another one with which it is a pair.
   pub unpaired : (prefix back : List Item) (h l : ℕ) → items ≡ prefix ++ Fault h ∷ Fault l ∷ back → ¬ (IsPair form h l)
 
--- The two forms as the Standard defines them. On lists of code units, `IsSegmentation` is equivalent to these. UTF-16:
--- each fault is a surrogate, and no high one directly precedes a low one.
+-- A segmentation in UTF-16 as the Standard defines the form: each fault is a surrogate, and no high one directly precedes
+-- a low one. For code units it is equivalent to `IsSegmentation Utf16`.
 pub record IsSegmentation16 (items : List Item) (units : List ℕ) : Type 0 where
   pub joined : units_of Utf16 items ≡ units
   pub characters : (c : ℕ) → Contains items (Char c) → IsScalar c
   pub faults : (u : ℕ) → Contains items (Fault u) → (0xD800 ≤ u) × (u ≤ 0xDFFF)
   pub unpaired : (prefix back : List Item) (h l : ℕ) → items ≡ prefix ++ Fault h ∷ Fault l ∷ back → IsHighSurrogate Utf16 h → ¬ (IsLowSurrogate Utf16 l)
 
--- UTF-32: each fault is no scalar value.
+-- A segmentation in UTF-32 as the Standard defines the form: each fault is no scalar value. It is equivalent to
+-- `IsSegmentation Utf32`.
 pub record IsSegmentation32 (items : List Item) (units : List ℕ) : Type 0 where
   pub joined : units_of Utf32 items ≡ units
   pub characters : (c : ℕ) → Contains items (Char c) → IsScalar c
   pub faults : (u : ℕ) → Contains items (Fault u) → ¬ (IsScalar u)
 
--- A segmentation without its clause on adjacent faults. It would not determine the items: a law shows two for one pair.
+-- A segmentation, but adjacent faults may be a pair. It does not determine the items: a law shows two for one pair.
 pub record IsLooseSegmentation (form : EncodingForm) (items : List Item) (units : List ℕ) : Type 0 where
   pub joined : units_of form items ≡ units
   pub proper : All (IsItem form) items

@@ -24,10 +24,11 @@ SegmentationExists = (form : EncodingForm) (units : List ℕ) → IsSegmentation
 abbrev pub SegmentationIsUnique : Type 0
 SegmentationIsUnique = (form : EncodingForm) (units : List ℕ) (other : List Item) → IsSegmentation form other units → other ≡ items form units
 
--- For code units, a segmentation is what the Standard says of the form.
+-- For code units of UTF-16, `IsSegmentation` is the definition of the Standard.
 abbrev pub SegmentationIsLiteral16 : Type 0
 SegmentationIsLiteral16 = (is : List Item) (units : List ℕ) → All (IsCodeUnit Utf16) units → IsSegmentation Utf16 is units ↔ IsSegmentation16 is units
 
+-- For any numbers, `IsSegmentation` in UTF-32 is the definition of the Standard.
 abbrev pub SegmentationIsLiteral32 : Type 0
 SegmentationIsLiteral32 = (is : List Item) (units : List ℕ) → IsSegmentation Utf32 is units ↔ IsSegmentation32 is units
 
@@ -36,10 +37,11 @@ abbrev pub LooseSegmentationsDiffer : Type 0
 LooseSegmentationsDiffer =
     (one other : List Item) × IsLooseSegmentation Utf16 one (0xD83D ∷ 0xDE00 ∷ []) × IsLooseSegmentation Utf16 other (0xD83D ∷ 0xDE00 ∷ []) × (one ≢ other)
 
--- The items of concatenated lists are the concatenated items, if the first or the second is well formed.
+-- After well-formed units, the items of concatenated lists are the concatenated items.
 abbrev pub ItemsJoinAfter : Type 0
 ItemsJoinAfter = (form : EncodingForm) (a b : List ℕ) → IsWellFormed form a → items form (a ++ b) ≡ items form a ++ items form b
 
+-- Before well-formed units, the items of concatenated lists are the concatenated items.
 abbrev pub ItemsJoinBefore : Type 0
 ItemsJoinBefore = (form : EncodingForm) (a b : List ℕ) → IsWellFormed form b → items form (a ++ b) ≡ items form a ++ items form b
 
@@ -47,9 +49,11 @@ ItemsJoinBefore = (form : EncodingForm) (a b : List ℕ) → IsWellFormed form b
 abbrev pub Units32AreItems : Type 0
 Units32AreItems = (u : ℕ) (us : List ℕ) → (IsScalar u → items Utf32 (u ∷ us) ≡ Char u ∷ items Utf32 us) × (¬ (IsScalar u) → items Utf32 (u ∷ us) ≡ Fault u ∷ items Utf32 us)
 
+-- In UTF-32, the items of concatenated lists are the concatenated items.
 abbrev pub Items32Join : Type 0
 Items32Join = (a b : List ℕ) → items Utf32 (a ++ b) ≡ items Utf32 a ++ items Utf32 b
 
+-- In UTF-32, there are as many items as units.
 abbrev pub Items32Count : Type 0
 Items32Count = (us : List ℕ) → length (items Utf32 us) ≡ length us
 
@@ -57,17 +61,19 @@ Items32Count = (us : List ℕ) → length (items Utf32 us) ≡ length us
 abbrev pub Items16Count : Type 0
 Items16Count = (us : List ℕ) → length us ≤ 2 * length (items Utf16 us)
 
--- Lossy text consists of scalar values, and its encoding is the units themselves if these are well formed.
+-- Lossy text consists of scalar values.
 abbrev pub LossyIsScalars : Type 0
 LossyIsScalars = (form : EncodingForm) (us : List ℕ) → All IsScalar (lossy (items form us))
 
+-- The encoding of the lossy text of well-formed units is these units.
 abbrev pub LossyKeepsWellFormed : Type 0
 LossyKeepsWellFormed = (form : EncodingForm) (us : List ℕ) → IsWellFormed form us → encode form (lossy (items form us)) ≡ us
 
--- The encoding of lossy text is well formed, and is its own lossy text.
+-- The encoding of lossy text is well formed.
 abbrev pub LossyIsWellFormed : Type 0
 LossyIsWellFormed = (form : EncodingForm) (us : List ℕ) → IsWellFormed form (encode form (lossy (items form us)))
 
+-- The encoding of lossy text is the encoding of its own lossy text.
 abbrev pub LossyOnceIsEnough : Type 0
 LossyOnceIsEnough = (form : EncodingForm) (us : List ℕ) → encode form (lossy (items form (encode form (lossy (items form us))))) ≡ encode form (lossy (items form us))
 
@@ -80,10 +86,11 @@ abbrev pub LossyKeepsPrefix : Type 0
 LossyKeepsPrefix = (form : EncodingForm) (us : List ℕ) (index item u : ℕ) → IsFirstFault form us index item u
     → IsWellFormed form (take index us) × (encode form (lossy (items form us)) ≡ take index us ++ encode form (lossy (items form (drop index us))))
 
--- The encoding of characters is well formed, and decodes to them.
+-- The encoding of scalar values is well formed.
 abbrev pub EncodingIsWellFormed : Type 0
 EncodingIsWellFormed = (form : EncodingForm) (cs : List ℕ) → All IsScalar cs → IsWellFormed form (encode form cs)
 
+-- The encoding of scalar values decodes to them.
 abbrev pub EncodingDecodes : Type 0
 EncodingDecodes = (form : EncodingForm) (cs : List ℕ) → All IsScalar cs → items form (encode form cs) ≡ map Char cs
 
@@ -109,11 +116,11 @@ FirstFaultsAreCounted = (form : EncodingForm) (us : List ℕ) (index item u : �
 abbrev pub WellFormedOrFaulty : Type 0
 WellFormedOrFaulty = (form : EncodingForm) (us : List ℕ) → IsWellFormed form us ↔ (first_fault form (items form us) ≡ None)
 
--- In well-formed units each character begins at one offset, after the units of those before it, and each boundary is
--- such an offset.
+-- In well-formed units, each character begins at one offset: the length in units of those before it.
 abbrev pub OffsetsAreLengths : Type 0
 OffsetsAreLengths = (form : EncodingForm) (us : List ℕ) (index offset : ℕ) → IsWellFormed form us → IsOffsetOf form us index offset ↔ (offset ≡ length (encode form (take index (chars form us))))
 
+-- In well-formed units, each boundary is the offset of the character whose index is the number of characters before it.
 abbrev pub BoundariesAreOffsets : Type 0
 BoundariesAreOffsets = (form : EncodingForm) (us : List ℕ) (offset : ℕ) → IsWellFormed form us → IsBoundary form us offset → IsOffsetOf form us (chars_before form us offset) offset
 
@@ -121,22 +128,23 @@ BoundariesAreOffsets = (form : EncodingForm) (us : List ℕ) (offset : ℕ) → 
 abbrev pub CutsAreWellFormed : Type 0
 CutsAreWellFormed = (form : EncodingForm) (us : List ℕ) (offset : ℕ) → IsWellFormed form us → IsBoundary form us offset → IsWellFormed form (take offset us) × IsWellFormed form (drop offset us)
 
--- The slice between two boundaries, and the units with other well-formed ones in its place, are well formed. Their
--- characters are the slice of the characters, and the characters with those others in its place.
+-- The slice of well-formed units between two boundaries is well formed, and its characters are those between them.
 abbrev pub PartsAreWellFormed : Type 0
 PartsAreWellFormed = (form : EncodingForm) (us : List ℕ) (from to : ℕ) → IsWellFormed form us → IsBoundary form us from → IsBoundary form us to → from ≤ to
     → IsWellFormed form (slice_range us from to) × (chars form (slice_range us from to) ≡ slice_range (chars form us) (chars_before form us from) (chars_before form us to))
 
+-- Well-formed units that replace those between two boundaries leave the units well formed, and their characters replace
+-- those between the two.
 abbrev pub SplicesAreWellFormed : Type 0
 SplicesAreWellFormed = (form : EncodingForm) (us new : List ℕ) (from to : ℕ) → IsWellFormed form us → IsWellFormed form new → IsBoundary form us from → IsBoundary form us to
     → IsWellFormed form (splice us from to new) × (chars form (splice us from to new) ≡ splice (chars form us) (chars_before form us from) (chars_before form us to) (chars form new))
 
--- The units of the first characters, and of the others, are split where the first ones end. Those offsets grow with the
--- characters.
+-- The encoding of characters is split where that of the first ones ends.
 abbrev pub EncodingsAreCut : Type 0
 EncodingsAreCut = (form : EncodingForm) (cs : List ℕ) (i : ℕ)
     → (encode form (take i cs) ≡ take (length (encode form (take i cs))) (encode form cs)) × (encode form (drop i cs) ≡ drop (length (encode form (take i cs))) (encode form cs))
 
+-- The encoding of more of the first characters is at least as long.
 abbrev pub OffsetsGrow : Type 0
 OffsetsGrow = (form : EncodingForm) (cs : List ℕ) (i j : ℕ) → i ≤ j → length (encode form (take i cs)) ≤ length (encode form (take j cs))
 
@@ -163,6 +171,7 @@ Utf8IsStds = (c : ℕ) → utf8_bytes c ≡ encode_utf8 c
 abbrev pub CodePointOfText : Type 0
 CodePointOfText = (c : ℕ) (cs : List ℕ) → IsScalar c → code_point_at (utf8 (c ∷ cs)) ≡ Some (c, utf8 cs)
 
+-- Empty text has no code point.
 abbrev pub CodePointOfNone : Type 0
 CodePointOfNone = code_point_at (utf8 []) ≡ None
 
@@ -170,10 +179,11 @@ CodePointOfNone = code_point_at (utf8 []) ≡ None
 abbrev pub OrderAgreesWithEquality : Type 0
 OrderAgreesWithEquality = (us vs : List ℕ) → (slice_cmp nat_cmp us vs ≡ Equal) ↔ (us ≡ vs)
 
--- No units have no lines, and units without a line feed are one line.
+-- No units have no lines.
 abbrev pub NoUnitsNoLines : Type 0
 NoUnitsNoLines = (form : EncodingForm) → lines_of (items form []) ≡ []
 
+-- Units without a line feed are one line, if there are any.
 abbrev pub UnendedIsOneLine : Type 0
 UnendedIsOneLine = (form : EncodingForm) (us : List ℕ) → us ≢ [] → All (λ u. u ≢ line_feed) us → lines_of (items form us) ≡ items form us ∷ []
 
@@ -191,35 +201,40 @@ EachIsLossy = (is : List Item) → lossy_by Each is ≡ lossy is
 abbrev pub CharactersPartLossy : Type 0
 CharactersPartLossy = (policy : Policy) (a b : List Item) (c : ℕ) → lossy_by policy (a ++ Char c ∷ b) ≡ lossy_by policy a ++ c ∷ lossy_by policy b
 
--- A run of faults is one U+FFFD, or nothing. The faults that directly follow a fault yield none.
+-- Under `Run`, faults alone yield one U+FFFD.
 abbrev pub RunsGiveOne : Type 0
 RunsGiveOne = (u : ℕ) (us : List ℕ) → lossy_by Run (map Fault (u ∷ us)) ≡ 0xFFFD ∷ []
 
+-- Under `Skip`, faults alone yield nothing.
 abbrev pub RunsGiveNone : Type 0
 RunsGiveNone = (us : List ℕ) → lossy_by Skip (map Fault us) ≡ []
 
+-- Under `Run`, the faults that directly follow a fault yield nothing.
 abbrev pub RunsGoOn : Type 0
 RunsGoOn = (a b : List Item) (u : ℕ) → lossy_by Run (a ++ Fault u ∷ b) ≡ lossy_by Run (a ++ Fault u ∷ []) ++ lossy_by Run (past_faults b)
 
--- The lossy text of concatenated lists is that of the first and that of the second after it, which depends only on
--- whether a fault ends the first.
+-- Lossy text after no fault is lossy text.
 abbrev pub LossyAfterNone : Type 0
 LossyAfterNone = (policy : Policy) (is : List Item) → lossy_after policy false is ≡ lossy_by policy is
 
+-- The lossy text of concatenated lists is that of the first, and that of the second after it, which depends only on
+-- whether the first ends in a fault.
 abbrev pub LossyGoesOn : Type 0
 LossyGoesOn = (policy : Policy) (after : Bool) (a b : List Item) → lossy_after policy after (a ++ b) ≡ lossy_after policy after a ++ lossy_after policy (ends_in_fault after a) b
 
--- It consists of scalar values, that of well-formed units encodes to them, and lossy text of lossy text is the same.
+-- Lossy text under a policy consists of scalar values.
 abbrev pub PoliciesGiveScalars : Type 0
 PoliciesGiveScalars = (policy : Policy) (form : EncodingForm) (us : List ℕ) → All IsScalar (lossy_by policy (items form us))
 
+-- The encoding of the lossy text of well-formed units under a policy is these units.
 abbrev pub PoliciesKeepWellFormed : Type 0
 PoliciesKeepWellFormed = (policy : Policy) (form : EncodingForm) (us : List ℕ) → IsWellFormed form us → encode form (lossy_by policy (items form us)) ≡ us
 
+-- Lossy text of encoded lossy text, under the same policy, is the same.
 abbrev pub PoliciesTwice : Type 0
 PoliciesTwice =
     (policy : Policy) (form : EncodingForm) (us : List ℕ) → lossy_by policy (items form (encode form (lossy_by policy (items form us)))) ≡ lossy_by policy (items form us)
 
--- It is never longer in units than the original.
+-- The encoding of lossy text under a policy has at most as many units as the original.
 abbrev pub PoliciesNeverLengthen : Type 0
 PoliciesNeverLengthen = (policy : Policy) (form : EncodingForm) (us : List ℕ) → length (encode form (lossy_by policy (items form us))) ≤ length us

@@ -13,10 +13,11 @@ use Rattle.wide_forms.specs.Utf8.{utf8}
 abbrev pub display_text : EncodingForm → List ℕ → List ℕ
 display_text form us = utf8 (lossy (items form us))
 
--- Whether a character is not U+FFFD: those are retained by lossy text without any U+FFFD.
+-- Whether a character is not U+FFFD. `display_skipping` prints only these.
 abbrev pub is_kept : ℕ → Bool
 is_kept c = not (c == 0xFFFD)
 
+-- The UTF-8 of the lossy text without any U+FFFD.
 abbrev pub skipping_text : EncodingForm → List ℕ → List ℕ
 skipping_text form us = utf8 (filter is_kept (lossy (items form us)))
 

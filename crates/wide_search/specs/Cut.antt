@@ -4,8 +4,8 @@ use Rattle.std.proofs.Common.{arith, refl}
 use Rattle.wide_search.specs.Substrings.{AreSubstrings}
 use Rattle.wide_search.specs.Laws.Occurrences.{substrings-exist}
 
--- It is opaque: all that is known about it is `substrings-are`, and that there is no other. For an empty separator it is
--- the whole list.
+-- The substrings into which the second list is split at the first one. The definition is opaque: `substrings-are` and
+-- `substrings-whole` state all that is known about it. At an empty needle the whole list is the only substring.
 pub substrings : List ℕ → List ℕ → List (List ℕ)
 substrings [] whole = whole ∷ []
 substrings (p ∷ needle) whole = (substrings-exist p needle whole).0

@@ -4,7 +4,7 @@ use Rattle.std.specs.Str.TwoWay.{item_from, OccursIn}
 use Rattle.wide_search.specs.declared.two_way.Stop.{Stop}
 
 module _ {C : Type 0} (back : Bool) (number : C → ℕ) where
-  -- The number of the unit at an index counted from the side.
+  -- The number of the unit at an index, counted from the end of the list if `back` is true.
   abbrev pub number_from : List C → ℕ → ℕ
   number_from units = item_from back (length units) (map number units)
 

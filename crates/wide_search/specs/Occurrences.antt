@@ -7,35 +7,38 @@ module _ {A : Type 0} where
     pub within : at + length needle ≤ length whole
     pub same : take (length needle) (drop at whole) ≡ needle
 
-  -- The needle occurs at some index, or at none.
+  -- The needle occurs at some index.
   abbrev pub OccursIn : List A → List A → Type 0
   OccursIn needle whole = (at : ℕ) × OccursAt needle whole at
 
+  -- The needle occurs at no index.
   abbrev pub OccursNowhere : List A → List A → Type 0
   OccursNowhere needle whole = (at : ℕ) → ¬ (OccursAt needle whole at)
 
-  -- It occurs at the index, and at none before it.
+  -- The needle occurs at the index, and at none before it.
   pub record IsFirstAt (needle whole : List A) (at : ℕ) : Type 0 where
     pub here : OccursAt needle whole at
     pub before : (earlier : ℕ) → earlier < at → ¬ (OccursAt needle whole earlier)
 
-  -- It occurs at the index, and at none after it.
+  -- The needle occurs at the index, and at none after it.
   pub record IsLastAt (needle whole : List A) (at : ℕ) : Type 0 where
     pub here : OccursAt needle whole at
     pub beyond : (later : ℕ) → at < later → ¬ (OccursAt needle whole later)
 
-  -- The list begins with the pattern, or ends with it.
+  -- The list begins with the needle.
   abbrev pub BeginsWith : List A → List A → Type 0
   BeginsWith needle whole = (rest : List A) × (whole ≡ needle ++ rest)
 
+  -- The list ends with the needle.
   abbrev pub EndsWith : List A → List A → Type 0
   EndsWith needle whole = (prefix : List A) × (whole ≡ prefix ++ needle)
 
-  -- What precedes and follows the separator at its first occurrence, or at its last one.
+  -- The list is `prefix`, the needle and `rest`, and the needle first occurs after `prefix`.
   pub record IsFirstSplit (needle whole prefix rest : List A) : Type 0 where
     pub joined : whole ≡ prefix ++ (needle ++ rest)
     pub first : IsFirstAt needle whole (length prefix)
 
+  -- The list is `prefix`, the needle and `rest`, and the needle last occurs after `prefix`.
   pub record IsLastSplit (needle whole prefix rest : List A) : Type 0 where
     pub joined : whole ≡ prefix ++ (needle ++ rest)
     pub last : IsLastAt needle whole (length prefix)

@@ -3,7 +3,7 @@ use Rattle.std.specs.Prelude.{◌≡◌, ◌+◌, ◌&&◌, [], ◌∷◌, ℕ, 
 use Rattle.wide_forms.specs.Searches.{is_unit}
 use Rattle.wide_search.specs.declared.needle.Probe.{Probe}
 
--- The first unit of the needle, its last one, and how far the last one is from the first.
+-- The probe has the needle's first unit, its last one, and how many units the last one is from the first.
 pub record IsProbe {C : Type 0} (needle : List C) (probe : Probe C) : Type 0 where
   pub first : take 1 needle ≡ probe.first ∷ []
   pub last : drop probe.distance needle ≡ probe.last ∷ []

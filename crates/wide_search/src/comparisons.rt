@@ -7,7 +7,7 @@ ghost use Rattle.wide_unit.specs.CommonPrefix.{IsCommonPrefix};
 use wide_unit::Unit;
 
 // How many units of a needle are compared one by one before blocks of them are. Most comparisons end before that.
-pub(crate) const NEAR: usize = 8;
+pub(crate) const COMPARED_BEFORE_BLOCKS: usize = 8;
 
 // Returns whether two slices of the same length have the same units. They are compared one by one, since most needles
 // have few units, and most comparisons end at once.
@@ -71,12 +71,13 @@ pub(crate) fn shared_prefix<C: Unit>(left: &[C], right: &[C]) -> usize
     shared
 }
 
-// Returns how many units at the beginning of two slices are the same, or `NEAR` if there are at least as many.
+// Returns how many units at the beginning of two slices are the same, or `COMPARED_BEFORE_BLOCKS` if there are at least as
+// many.
 #[inline(always)]
 pub(crate) fn near_prefix<C: Unit>(left: &[C], right: &[C]) -> usize
     ensures { result < 8 → IsCommonPrefix left.now right.now result }
 {
-    let len = left.len().min(right.len()).min(NEAR);
+    let len = left.len().min(right.len()).min(COMPARED_BEFORE_BLOCKS);
     let mut shared = 0;
     while shared < len && left[shared].code() == right[shared].code() {
         shared += 1;

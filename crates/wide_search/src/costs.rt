@@ -1,11 +1,11 @@
-//! What a search by two units of a needle has cost, and which method follows from that: its tries are paid from a
-//! credit, and units that are compared in vain are counted. So a search by two units (W. Mula, "SIMD-friendly
-//! algorithms for substring searching") hands over where another method takes less time. It decides on time alone.
+//! What a search by two units of a needle has cost (W. Mula, "SIMD-friendly algorithms for substring searching"), and
+//! which method follows from that. A try that fails is paid from a credit, and units that are compared in vain are
+//! counted. This affects only how long a search takes, never what it finds.
 
 use crate::limits::{
-    APART, COMPARED_PER_OFFSET, COMPARED_PER_TRY, DENSE_GAP, DENSE_TRIES_ON_CREDIT, GAPS_PER_TRY,
-    LEAST_COUNTED, LEAST_EACH, LONGEST_BACK, MOST_EACH, OFFSETS_PER_DENSE_TRY,
-    OFFSETS_PER_FACTORED, TRIES_ON_CREDIT,
+    COMPARED_PER_OFFSET, COMPARED_PER_TRY, DENSE_GAP, DENSE_TRIES_ON_CREDIT,
+    FIRST_TRIES_ONE_BY_ONE, GAPS_PER_TRY, LEAST_COUNTED, LEAST_LONG_DISTANCE, LEAST_SPARSE_GAP,
+    MOST_TRIES_ONE_BY_ONE, OFFSETS_PER_DENSE_TRY, OFFSETS_PER_FACTORED, TRIES_ON_CREDIT,
 };
 
 // What follows a try that failed in a search by two units.
@@ -17,26 +17,28 @@ pub(crate) enum Turn {
     Each,
     // The two-way search takes over. A needle of one or two units never comes to that: it is never compared in vain.
     TwoWay,
-    // The first unit is looked for alone again. That never follows with a gap of 0, and so never from the back.
-    Back,
+    // The plain loop, which looks for the first unit alone, follows. That needs a gap greater than 0, which a search
+    // from the back does not know, so it follows from the front only.
+    Plain,
 }
 
-// What a search by two units has spent on tries that failed. It decides on time alone.
+// What a search by two units has spent on tries that failed.
 #[derive(Clone, Copy)]
 pub(crate) struct Costs {
     // How many units were compared in vain.
     wasted: usize,
-    // What is left of the credit for tries that follow each other closely, what it may be at most, and what a try takes
-    // from it. Each offset that is passed over restores one.
+    // What is left of the credit for tries. Each offset that is passed over restores one.
     credit: usize,
+    // The greatest value of the credit.
     most: usize,
+    // What a try takes from the credit.
     price: usize,
     // How many offsets are tried one by one when the credit is spent.
     pub(crate) tries: usize,
 }
 
 impl Costs {
-    // Returns the costs before the first try, where the needle's first unit stands once in `gap` units. From the back
+    // Returns the costs before the first try, where the needle's first unit occurs once in `gap` units. From the back
     // that is not known, and the gap is 0.
     pub(crate) fn new(gap: usize) -> Self {
         let (price, count) = if gap < DENSE_GAP {
@@ -50,7 +52,7 @@ impl Costs {
             credit: most,
             most,
             price,
-            tries: LEAST_EACH,
+            tries: FIRST_TRIES_ONE_BY_ONE,
         }
     }
 
@@ -68,16 +70,17 @@ impl Costs {
             credit: restored.saturating_sub(self.price),
             most: self.most,
             price: self.price,
-            tries: if passed < APART {
+            tries: if passed < LEAST_SPARSE_GAP {
                 self.tries
             } else {
-                LEAST_EACH
+                FIRST_TRIES_ONE_BY_ONE
             },
         }
     }
 
     // Returns the costs after `tried` offsets were tried one by one, at which `matched` units matched. The credit then
-    // pays for one more try. If the next pair is near, twice as many offsets are tried.
+    // pays for one more try. The next time, twice as many offsets are tried, unless `after_try` resets their number
+    // because the next pair is far.
     pub(crate) fn after_tries(self, tried: usize, matched: usize) -> Self {
         let wasted = if matched / LEAST_COUNTED < tried {
             0
@@ -89,17 +92,17 @@ impl Costs {
             credit: self.price,
             most: self.most,
             price: self.price,
-            tries: self.tries.saturating_mul(2).min(MOST_EACH),
+            tries: self.tries.saturating_mul(2).min(MOST_TRIES_ONE_BY_ONE),
         }
     }
 
     // Returns what follows a try that failed, when `passed` offsets were passed over since the search began or the
-    // two-way search ended. The last unit of the needle is at `distance` from the first, which stands once in `gap`
+    // two-way search ended. The last unit of the needle is at `distance` from the first, which occurs once in `gap`
     // units.
     //
     // The two-way search takes over if so many units were compared in vain that it would have passed over the same
     // offsets in less time, its factorization of the needle included. If the credit is spent, tries at the first unit
-    // take less time, unless the needle is long, or tries at each offset where that unit stands nearly everywhere or
+    // take less time, unless the needle is long, or tries at each offset where that unit occurs nearly everywhere or
     // the needle repeats itself.
     pub(crate) fn turn(self, passed: usize, distance: usize, gap: usize) -> Turn {
         let saved = (self.wasted / COMPARED_PER_OFFSET).saturating_sub(passed);
@@ -111,8 +114,8 @@ impl Costs {
         }
         if gap < DENSE_GAP || saved > 0 {
             Turn::Each
-        } else if distance < LONGEST_BACK {
-            Turn::Back
+        } else if distance < LEAST_LONG_DISTANCE {
+            Turn::Plain
         } else {
             Turn::Pairs
         }

@@ -1,24 +1,24 @@
-//! Searches in units of UTF-16 and UTF-32, well formed or not, for units, a unit or a character. Offsets and lengths
-//! are counted in units. No call allocates or fails. The Rust crate has none of these calls; they have the names of the
-//! calls of `str`, if there are such.
+//! Searches in units of UTF-16 and UTF-32, well formed or not, for a slice of units, for one unit and for a character.
+//! Offsets and lengths are counted in units. No call allocates or fails. The Rust crate has none of these calls. A call
+//! that `str` has too has its name there.
 //!
 //! A search proceeds through these files. `units.rt` and `chars.rt` have the public calls, over any needle
 //! (`needle.rt`, compared by `comparisons.rt`) in `search.rt` from the front and in `search_back.rt` from the back, and
 //! over one unit in `one.rt`.
 //!
-//! 1. Each search begins with a plain loop, which takes the least time if the needle is found soon: from the front it
-//!    goes from one unit that is the needle's first to the next, and from the back it tries each offset.
-//! 2. After some tries that fail, from the front only if they lie close together, the search by two units follows. It
-//!    looks, in SIMD lanes (`pairs.rt`), for offsets at which both the first and the last unit of the needle stand, and
-//!    compares there (W. Mula, "SIMD-friendly algorithms for substring searching"). `costs.rt` counts what that costs.
-//!    Where both stand nearly everywhere, some offsets are tried one by one. From the front, where both stand nearly as
-//!    often as the first alone, the plain loop follows again, unless the needle is long.
+//! 1. Each search begins with a plain loop, which takes the least time if the needle is found soon. From the front it
+//!    tries each offset at which the needle's first unit occurs, and from the back each offset.
+//! 2. After some tries that fail, the search by two units follows; from the front only if the tries are close
+//!    together. It looks, in SIMD lanes (`pairs.rt`), for offsets at which the needle's first and last unit both match,
+//!    and compares there (W. Mula, "SIMD-friendly algorithms for substring searching"). `costs.rt` counts what that
+//!    costs. Where both match nearly everywhere, it tries some offsets one by one. From the front, where both match
+//!    nearly as often as the first alone, the plain loop follows again, unless the needle is long.
 //! 3. If too many units are compared in vain, as they may be where the needle repeats itself, the two-way search
 //!    follows (`two_way.rt`), from either side (`side.rt`), over the two parts of the needle (`factorization.rt`): it
 //!    is linear in the worst case (M. Crochemore and D. Perrin, "Two-way string-matching"). Where the text no longer
-//!    repeats itself, the search before it goes on.
+//!    repeats itself, the plain loop follows from the front, and the search by two units from the back.
 //!
-//! `limits.rt` has the numbers by which one method follows another. They decide on time alone.
+//! `limits.rt` has the numbers by which one method follows another. They affect only how long a search takes.
 //!
 //! `specs/` defines occurrences and the substrings between them. The contracts of the functions in [`laws`] are the
 //! laws of these definitions.

@@ -1,12 +1,12 @@
 //! The limits by which a search passes from one method to another: the plain loop, the search by two units (W. Mula,
 //! "SIMD-friendly algorithms for substring searching") and the two-way search (M. Crochemore and D. Perrin, "Two-way
-//! string-matching"). They decide on time alone, and never on what is found.
+//! string-matching"). They affect only how long a search takes, never what it finds.
 //!
 //! Each comment begins with what is counted. A try compares the needle at one offset. The first and the last unit are
-//! those of the needle, and a pair is an offset at which both stand. The gap is how many units the offsets at which the
-//! first unit stands are apart, on average. Each value is a trade-off between measured inputs, which `docs/PERF.md`
-//! lists: needles that are found at once and needles that are not there, units that are rare and units that stand
-//! nearly everywhere, lines of equal length, and texts that repeat themselves as the needle does.
+//! those of the needle, and a pair is an offset at which both match. The gap is the average distance from one
+//! occurrence of the first unit to the next. Each value is a trade-off between measured inputs, which `docs/PERF.md`
+//! lists: needles that are found at once and needles that are not there, units that are rare and units that
+//! occur nearly everywhere, lines of equal length, and texts that repeat themselves as the needle does.
 
 // ---- the plain loop, from either end
 
@@ -39,9 +39,9 @@ pub(crate) const NEEDLE_UNITS_PER_GAP_UNIT: usize = 4;
 
 // ---- from the front: how long the search by two units goes on
 
-// Offsets. A search by two units ends after this many, since the first unit may have become rare by then; for a long
-// needle it ends later. It ends sooner if there is no pair among the next this many, or among as many as the last unit
-// is from the first if these are more.
+// Offsets. A search by two units ends after this many, or later for a long needle, since the first unit may have become
+// rare by then. It ends sooner if a stretch of this many offsets has no pair; if the first and the last unit are further
+// apart than that, the stretch is as long as their distance.
 pub(crate) const OFFSETS_BY_PAIRS: usize = 4096;
 
 // Offsets for each unit that the last unit is from the first. A search by two units for a long needle ends after this
@@ -52,7 +52,7 @@ pub(crate) const OFFSETS_PER_DISTANCE: usize = 16;
 // Units that the last unit is from the first. At this distance and more, a search by two units that saves no time goes
 // on all the same, since each try of the plain loop may compare the whole needle. With a greater limit, a needle that
 // is chosen to be slow takes longer; with a smaller one, a long line among lines of its length does.
-pub(crate) const LONGEST_BACK: usize = 512;
+pub(crate) const LEAST_LONG_DISTANCE: usize = 512;
 
 // Tries at the first unit. When a search by two units saves no time, this many fail before the next one begins, or
 // fewer for a long needle. Where it went on all the same, a whole line among lines of its length took 2.7 times the
@@ -66,7 +66,7 @@ pub(crate) const NEEDLE_UNITS_PER_SHARE: usize = 64;
 
 // ---- the credit of a search by two units: what tries that fail take, and offsets that are passed over restore
 
-// Units of the text. If the gap is less than this, the first unit stands nearly everywhere: it takes less time to try
+// Units of the text. If the gap is less than this, the first unit occurs nearly everywhere: it takes less time to try
 // each offset than to look for that unit.
 pub(crate) const DENSE_GAP: usize = 4;
 
@@ -78,32 +78,32 @@ pub(crate) const GAPS_PER_TRY: usize = 2;
 // twice as many fail before tries at the first unit are taken to need less time.
 pub(crate) const TRIES_ON_CREDIT: usize = 4;
 
-// Offsets. Where the first unit stands nearly everywhere, a try at a pair that fails takes this many from the credit.
+// Offsets. Where the first unit occurs nearly everywhere, a try at a pair that fails takes this many from the credit.
 // For a needle of fewer than 16 units it takes about as long as this many offsets that are tried one by one.
 pub(crate) const OFFSETS_PER_DENSE_TRY: usize = 8;
 
-// Tries at pairs. Where the first unit stands nearly everywhere, the credit is enough for this many: so few, if they
-// follow each other closely, show that pairs stand nearly everywhere too.
+// Tries at pairs. Where the first unit occurs nearly everywhere, the credit is enough for this many: so few, if they
+// follow each other closely, show that pairs occur nearly everywhere too.
 pub(crate) const DENSE_TRIES_ON_CREDIT: usize = 2;
 
-// ---- offsets that are tried one by one, where pairs stand nearly everywhere
+// ---- offsets that are tried one by one, where pairs occur nearly everywhere
 
-// Tries. The first time that pairs stand nearly everywhere, this many offsets are tried one by one, and each next time
+// Tries. The first time that pairs occur nearly everywhere, this many offsets are tried one by one, and each next time
 // twice as many. Pairs may soon be apart again, so the first number is small.
-pub(crate) const LEAST_EACH: usize = 8;
+pub(crate) const FIRST_TRIES_ONE_BY_ONE: usize = 8;
 
 // Tries. At most this many offsets are tried one by one before pairs are looked for again. The search for a pair then
 // takes little of the time.
-pub(crate) const MOST_EACH: usize = 2048;
+pub(crate) const MOST_TRIES_ONE_BY_ONE: usize = 2048;
 
-// Offsets. If this many are passed over before a pair, a whole block of 16-bit SIMD lanes, pairs no longer stand nearly
+// Offsets. If this many are passed over before a pair, a whole block of 16-bit SIMD lanes, pairs no longer occur nearly
 // everywhere.
-pub(crate) const APART: usize = 16;
+pub(crate) const LEAST_SPARSE_GAP: usize = 16;
 
 // Units of the needle. Where offsets are tried one by one, the units that match are counted for a needle of this many
 // units and more. The count takes time, and a shorter needle has little to lose: each try is taken to match as many as
 // the last one before.
-pub(crate) const COUNTED_LEN: usize = 16;
+pub(crate) const LEAST_COUNTED_LEN: usize = 16;
 
 // Units for each unit of the needle. When this many have matched in vain, no more offsets are tried one by one, so that
 // the time for a long needle remains linear.
@@ -134,4 +134,4 @@ pub(crate) const OFFSETS_BEFORE_LOOK: usize = 16;
 
 // Offsets. The two-way search ends if none of the next this many is a pair: the text may no longer repeat itself as the
 // needle does, and other searches take less time.
-pub(crate) const NEARBY: usize = 32;
+pub(crate) const OFFSETS_LOOKED_AHEAD: usize = 32;

@@ -1,6 +1,5 @@
-//! Needles of a search: a slice of units, or the one or two units of a character. A needle says whether it stands at an
-//! offset, and how many of its units match there; comparisons of its units are in `comparisons.rt`, and those of many
-//! units in SIMD lanes in `wide_unit`.
+//! Needles of a search: a slice of units, or the one or two units of a character. A needle reports whether units begin
+//! with it, and how many of its units match. `comparisons.rt` compares units one by one, and `wide_unit` in SIMD lanes.
 
 ghost use Rattle.std.specs.Prelude.{◌≡◌, ◌↔◌, ◌≤◌, ◌∷◌, [], ℕ, List, length, map, take, IfSome, IsTrue, MatchOption};
 ghost use Rattle.wide_forms.specs.EncodingForm.{code_units};
@@ -9,7 +8,7 @@ ghost use Rattle.wide_search.specs.Probes.{IsProbe};
 ghost use Rattle.wide_search.specs.Sought.{units_of_few};
 
 use crate::comparisons::{
-    NEAR, are_same_after_first, are_same_from_first, near_prefix, shared_prefix,
+    COMPARED_BEFORE_BLOCKS, are_same_after_first, are_same_from_first, near_prefix, shared_prefix,
 };
 use wide_unit::{Unit, common_prefix};
 
@@ -34,23 +33,24 @@ pub(crate) trait Needle<C: Unit>: Copy {
     fn len(self) -> usize
         ensures { result ≡ length (sought self) };
 
-    // Returns whether other units begin with these.
-    fn begins(self, units: &[C]) -> bool
+    // Returns whether the units begin with the needle.
+    fn is_prefix_of(self, units: &[C]) -> bool
         ensures { IsTrue result ↔ OccursAt (sought self) units.now 0 };
 
-    // Returns whether other units begin with these, where the first one is known to be the same. It is not compared.
-    fn begins_at_first(self, units: &[C]) -> bool
+    // Returns whether the units begin with the needle, given that their first unit is its first one, which is not
+    // compared again.
+    fn is_prefix_after_first(self, units: &[C]) -> bool
         requires { take 1 (sought self) ≡ take 1 units.now }
         ensures { IsTrue result ↔ OccursAt (sought self) units.now 0 };
 
-    // Returns false only if other units don't begin with these. It compares the first two units, and may return true
-    // where there are fewer.
-    fn may_begin(self, units: &[C]) -> bool
+    // Returns false only if the units do not begin with the needle. It compares two units, and may return true if either
+    // list has fewer.
+    fn may_be_prefix_of(self, units: &[C]) -> bool
         ensures { OccursAt (sought self) units.now 0 → IsTrue result };
 
-    // Returns how many units at the beginning are those of the needle, and compares them one by one. If there are fewer
-    // units than those of the needle, it may return a smaller number.
-    fn shared(self, units: &[C]) -> usize
+    // Returns how many units at the beginning are those of the needle, compared one by one. If there are fewer units than
+    // the needle has, it may return a smaller number.
+    fn matched_one_by_one(self, units: &[C]) -> usize
         ensures within { result ≤ length (sought self) }
         ensures whole { OccursAt (sought self) units.now 0 ↔ (result ≡ length (sought self)) };
 
@@ -58,12 +58,13 @@ pub(crate) trait Needle<C: Unit>: Copy {
     fn probe(self) -> Option<Probe<C>>
         ensures { MatchOption result (sought self ≡ []) (IsProbe (sought self)) };
 
-    // Returns how many units at the beginning are those of the needle, up to the first that is not.
-    fn matching(self, units: &[C]) -> usize
+    // Returns how many units at the beginning are those of the needle, up to the first that differs. A long prefix is
+    // compared in SIMD lanes.
+    fn matched_in_blocks(self, units: &[C]) -> usize
         ensures within { result ≤ length (sought self) }
         ensures whole { OccursAt (sought self) units.now 0 ↔ (result ≡ length (sought self)) };
 
-    // Returns the units if they are a slice.
+    // Returns the units if the needle is a slice, and `None` if it is one or two units.
     fn as_slice(&self) -> Option<&[C]>
         ensures { IfSome result (λ units. units.now ≡ sought self.now) };
 }
@@ -85,7 +86,7 @@ impl<C: Unit> Needle<C> for Slice<'_, C> {
         self.units.len()
     }
 
-    fn begins(self, units: &[C]) -> bool {
+    fn is_prefix_of(self, units: &[C]) -> bool {
         if units.len() < self.units.len() {
             return false;
         }
@@ -93,7 +94,7 @@ impl<C: Unit> Needle<C> for Slice<'_, C> {
         are_same_from_first(prefix, self.units)
     }
 
-    fn begins_at_first(self, units: &[C]) -> bool {
+    fn is_prefix_after_first(self, units: &[C]) -> bool {
         if units.len() < self.units.len() {
             return false;
         }
@@ -102,7 +103,7 @@ impl<C: Unit> Needle<C> for Slice<'_, C> {
     }
 
     #[inline(always)]
-    fn may_begin(self, units: &[C]) -> bool {
+    fn may_be_prefix_of(self, units: &[C]) -> bool {
         match (self.units, units) {
             ([first, second, ..], [other, next, ..]) => {
                 first.code() == other.code() && second.code() == next.code()
@@ -111,7 +112,7 @@ impl<C: Unit> Needle<C> for Slice<'_, C> {
         }
     }
 
-    fn shared(self, units: &[C]) -> usize {
+    fn matched_one_by_one(self, units: &[C]) -> usize {
         if units.len() < self.units.len() {
             return 0;
         }
@@ -128,9 +129,9 @@ impl<C: Unit> Needle<C> for Slice<'_, C> {
         })
     }
 
-    fn matching(self, units: &[C]) -> usize {
+    fn matched_in_blocks(self, units: &[C]) -> usize {
         let near = near_prefix(self.units, units);
-        if near < NEAR {
+        if near < COMPARED_BEFORE_BLOCKS {
             return near;
         }
         common_prefix(self.units, units)
@@ -182,7 +183,7 @@ impl<C: Unit> Needle<C> for Few<C> {
         }
     }
 
-    fn begins(self, units: &[C]) -> bool {
+    fn is_prefix_of(self, units: &[C]) -> bool {
         match (self.second, units) {
             (None, [first, ..]) => first.code() == self.first.code(),
             (Some(low), [first, second, ..]) => {
@@ -192,16 +193,16 @@ impl<C: Unit> Needle<C> for Few<C> {
         }
     }
 
-    fn begins_at_first(self, units: &[C]) -> bool {
-        self.begins(units)
+    fn is_prefix_after_first(self, units: &[C]) -> bool {
+        self.is_prefix_of(units)
     }
 
-    fn may_begin(self, units: &[C]) -> bool {
-        self.begins(units)
+    fn may_be_prefix_of(self, units: &[C]) -> bool {
+        self.is_prefix_of(units)
     }
 
-    fn shared(self, units: &[C]) -> usize {
-        self.matching(units)
+    fn matched_one_by_one(self, units: &[C]) -> usize {
+        self.matched_in_blocks(units)
     }
 
     fn probe(self) -> Option<Probe<C>> {
@@ -216,7 +217,7 @@ impl<C: Unit> Needle<C> for Few<C> {
         })
     }
 
-    fn matching(self, units: &[C]) -> usize {
+    fn matched_in_blocks(self, units: &[C]) -> usize {
         let [first, rest @ ..] = units else {
             return 0;
         };

@@ -1,4 +1,4 @@
-//! Searches for one unit. Nothing beyond it is compared, so they take shorter loops than those for other needles. From
+//! Searches for one unit. Nothing beyond it is compared, so their loops are shorter than those for other needles. From
 //! the front the unit is looked for in SIMD lanes at once, and from the back after some units that are compared one by
 //! one.
 
@@ -41,6 +41,6 @@ pub(crate) fn rfind_one<C: Unit>(units: &[C], unit: C) -> Option<usize>
     if at == 0 {
         return None;
     }
-    // The two units are the same one, at distance 0.
+    // One unit is a needle whose first and last unit are the same, at distance 0.
     rfind_by_two(units, Few::one(unit), at)
 }

@@ -1,4 +1,4 @@
-//! Searches for an index at which two units stand at once: one in a list, and one at the same index of another list.
+//! Searches for an index at which one list has a given unit and another list has another given unit.
 //!
 //! If the second list is the first one from a distance on, that is where a needle may occur that has these two units at
 //! this distance. Few indices pass even if one of the units is frequent. The blocks of both lists are compared in SIMD
@@ -89,8 +89,8 @@ impl Lane for u32 {
     }
 }
 
-// Returns how many indices of the block at `at` come before the first at which both units stand: the whole block if
-// there is none.
+// Returns how many indices of the block at `at` come before the first at which both units match: the whole block if there
+// is none.
 #[inline(always)]
 fn before_pair<L: Lane>(front: &[L], back: &[L], at: usize, first: L, last: L) -> usize
     requires front { at + L.COUNT ≤ length front.now }
@@ -107,7 +107,7 @@ fn before_pair<L: Lane>(front: &[L], back: &[L], at: usize, first: L, last: L) -
     }
 }
 
-// Returns how many indices of the block at `at` there are up to and including the last at which both units stand, or 0.
+// Returns how many indices of the block at `at` there are up to and including the last at which both units match, or 0.
 #[inline(always)]
 fn through_pair<L: Lane>(front: &[L], back: &[L], at: usize, first: L, last: L) -> usize
     requires front { at + L.COUNT ≤ length front.now }
@@ -120,7 +120,7 @@ fn through_pair<L: Lane>(front: &[L], back: &[L], at: usize, first: L, last: L) 
     64 - bits.leading_zeros() as usize
 }
 
-// Returns the first index at which both units stand, or the length. The last block overlaps the one before it, so that
+// Returns the first index at which both units match, or the length. The last block overlaps the one before it, so that
 // no index is left over if there is a whole block.
 #[inline(always)]
 fn first_in<L: Lane>(front: &[L], back: &[L], first: L, last: L) -> usize
@@ -147,7 +147,7 @@ fn first_in<L: Lane>(front: &[L], back: &[L], first: L, last: L) -> usize
     at
 }
 
-// Returns the index after the last one at which both units stand, or 0. The last block overlaps the one before it.
+// Returns the index after the last one at which both units match, or 0. The last block overlaps the one before it.
 #[inline(always)]
 fn last_in<L: Lane>(front: &[L], back: &[L], first: L, last: L) -> usize
     requires { length front.now ≡ length back.now }
@@ -173,8 +173,9 @@ fn last_in<L: Lane>(front: &[L], back: &[L], first: L, last: L) -> usize
     end
 }
 
-// Returns the first index at which `first` stands in the one list and `last` in the other, or the length. It reads both
-// lists up to there, and to the end of the block.
+// Returns the first index at which `first` is in the one list and `last` in the other, or the length. It reads both lists
+// up to there, and to the end of the block. If the lists or the units had different widths, which does not happen, it
+// would return 0, which excludes no index.
 #[inline(always)]
 pub(crate) fn first_pair<C: Unit>(front: &[C], back: &[C], first: C, last: C) -> usize
     requires { length front.now ≡ length back.now }
@@ -195,7 +196,8 @@ pub(crate) fn first_pair<C: Unit>(front: &[C], back: &[C], first: C, last: C) ->
     }
 }
 
-// Returns the index after the last one at which `first` stands in the one list and `last` in the other, or 0.
+// Returns the index after the last one at which `first` is in the one list and `last` in the other, or 0. If the lists or
+// the units had different widths, which does not happen, it would return the length, which excludes no index.
 pub(crate) fn last_pair<C: Unit>(front: &[C], back: &[C], first: C, last: C) -> usize
     requires { length front.now ≡ length back.now }
     ensures within { result ≤ length back.now }

@@ -1,6 +1,6 @@
-//! Searches for a needle from the front: in the plain way, from one unit that is the needle's first to the next, and
-//! where that unit is frequent by two units, the needle's first and last, in SIMD lanes (W. Mula, "SIMD-friendly
-//! algorithms for substring searching").
+//! Searches for a needle from the front. A plain loop tries each offset at which the needle's first unit occurs. Where
+//! that unit is frequent, the search is for offsets at which the needle's first and last unit both match, in SIMD lanes
+//! (W. Mula, "SIMD-friendly algorithms for substring searching").
 
 ghost use Rattle.std.specs.Prelude.{◌≡◌, ◌+◌, ◌-◌, ◌∷◌, ◌<◌, ◌≤◌, ℕ, List, IfNone, IfSome, IsTrue, length};
 ghost use Rattle.wide_search.specs.Occurrences.{IsFirstAt, OccursAt, OccursNowhere};
@@ -8,17 +8,17 @@ ghost use Rattle.wide_search.specs.Probes.{IsProbe};
 
 use crate::costs::{Costs, Turn};
 use crate::limits::{
-    COUNTED_LEN, FREQUENT_GAP, MATCHED_PER_NEEDLE_UNIT, NEEDLE_UNITS_PER_GAP_UNIT,
+    FREQUENT_GAP, LEAST_COUNTED_LEN, MATCHED_PER_NEEDLE_UNIT, NEEDLE_UNITS_PER_GAP_UNIT,
     NEEDLE_UNITS_PER_SHARE, OFFSETS_BY_PAIRS, OFFSETS_PER_DISTANCE, SHORT_TEXT, TRIES_BEFORE_PAIRS,
     TRIES_BETWEEN_PAIRS, TRIES_IN_PLACE_OF_PAIRS,
 };
 use crate::needle::{Needle, Probe};
 use crate::pairs::first_pair;
-use crate::two_way::{Stop, find_from};
+use crate::two_way::{Stop, find_two_way};
 use wide_unit::{Unit, first_of};
 
-// Returns an offset of at most `count` before which no needle with these two units occurs. It is the first at which
-// both stand, or `count`.
+// Returns an offset of at most `count` before which no needle with these two units occurs. It is the first at which both
+// match, or `count`.
 #[inline(always)]
 fn skip<C: Unit>(units: &[C], count: usize, probe: Probe<C>) -> usize
     requires { count + probe.distance ≤ length units.now }
@@ -51,7 +51,7 @@ fn find_each<C: Unit, P: Needle<C>>(
     ensures before { (k : ℕ) → k < result.0.at → ¬ (OccursAt (P.sought needle) units.now k) }
 {
     let end = from.saturating_add(tries).min(units.len());
-    let is_counted = needle.len() >= COUNTED_LEN;
+    let is_counted = needle.len() >= LEAST_COUNTED_LEN;
     let mut at = from;
     let mut all_matched = if is_counted {
         0
@@ -67,15 +67,15 @@ fn find_each<C: Unit, P: Needle<C>>(
         let (_, here) = units.split_at(at);
         if is_counted {
             // Fewer than two units that match are not counted.
-            if needle.may_begin(here) {
-                let matched = needle.shared(here);
+            if needle.may_be_prefix_of(here) {
+                let matched = needle.matched_one_by_one(here);
                 if matched == needle.len() {
                     return (Stop::found(at), all_matched);
                 }
                 // A sum that wraps would change the time alone.
                 all_matched = all_matched.wrapping_add(matched);
             }
-        } else if needle.begins(here) {
+        } else if needle.is_prefix_of(here) {
             return (Stop::found(at), all_matched);
         }
         at += 1;
@@ -103,10 +103,10 @@ fn tries_in_place(len: usize) -> usize
     tries.max(TRIES_BETWEEN_PAIRS)
 }
 
-// Searches on from an offset before which the needle does not occur, where its first unit is frequent: it stands once
-// in `gap` units. Returns where it stopped, and how many tries at the first unit should follow. Units are compared
-// where both the first and the last unit stand, or at each offset if they stand nearly everywhere. Where both stand
-// nearly as often as the first alone, it stops. If too many were compared in vain, the two-way search takes over.
+// Searches on from an offset before which the needle does not occur, where its first unit is frequent: it occurs once in
+// `gap` units. Returns where it stopped, and how many tries at the first unit should follow. Units are compared where
+// both the first and the last unit match, or at each offset if they match nearly everywhere. Where both match nearly as
+// often as the first alone, it stops. If too many units were compared in vain, the two-way search takes over.
 #[inline(never)]
 fn find_by_two<C: Unit, P: Needle<C>>(
     units: &[C],
@@ -123,6 +123,7 @@ fn find_by_two<C: Unit, P: Needle<C>>(
     ensures some { 0 < result.1 }
 {
     let Some(probe) = needle.probe() else {
+        // An empty needle occurs at each offset.
         return (Stop::found(from), TRIES_BETWEEN_PAIRS);
     };
     let end = end_by_two(units, from, probe.distance);
@@ -136,7 +137,7 @@ fn find_by_two<C: Unit, P: Needle<C>>(
             return (Stop::unfound(at + count), TRIES_BETWEEN_PAIRS);
         }
         let (_, here) = rest.split_at(step);
-        let matched = needle.matching(here);
+        let matched = needle.matched_in_blocks(here);
         if matched > probe.distance {
             return (Stop::found(at + step), TRIES_BETWEEN_PAIRS);
         }
@@ -153,18 +154,18 @@ fn find_by_two<C: Unit, P: Needle<C>>(
             }
             Turn::TwoWay => {
                 if let Some(sought) = needle.as_slice() {
-                    return (find_from(units, sought, at), TRIES_BETWEEN_PAIRS);
+                    return (find_two_way(units, sought, at), TRIES_BETWEEN_PAIRS);
                 }
             }
-            Turn::Back => return (Stop::unfound(at), tries_in_place(needle.len())),
+            Turn::Plain => return (Stop::unfound(at), tries_in_place(needle.len())),
         }
     }
     (Stop::unfound(at), TRIES_BETWEEN_PAIRS)
 }
 
-// Searches on from an offset before which the needle does not occur, and makes one try, where its first unit stands.
-// Returns where it found the needle, or the offset after the try, or the length if the first unit stands nowhere any
-// more.
+// Searches on from an offset before which the needle does not occur, and makes one try, where its first unit occurs
+// next. Returns where it found the needle, or the offset after the try, or the length if the first unit does not occur
+// any more.
 #[inline(always)]
 fn find_next<C: Unit, P: Needle<C>>(units: &[C], needle: P, first: C, from: usize) -> Stop
     requires first { (rest : List C) × (P.sought needle ≡ first ∷ rest) }
@@ -181,14 +182,14 @@ fn find_next<C: Unit, P: Needle<C>>(units: &[C], needle: P, first: C, from: usiz
         return Stop::unfound(units.len());
     };
     let (_, here) = rest.split_at(step);
-    if needle.begins_at_first(here) {
+    if needle.is_prefix_after_first(here) {
         return Stop::found(from + step);
     }
     Stop::unfound(from + step + 1)
 }
 
 // Searches on from an offset before which the needle does not occur, and makes at most `most` tries where its first
-// unit stands. Returns where it found the needle, or where it stopped. If that is the length, the needle does not
+// unit occurs. Returns where it found the needle, or where it stopped. If that is the length, the needle does not
 // occur.
 fn find_by_first<C: Unit, P: Needle<C>>(
     units: &[C],
@@ -258,7 +259,7 @@ fn find_after<C: Unit, P: Needle<C>>(units: &[C], needle: P, first: C, from: usi
 // the needle's first occurrence, or `None`. It is a function of its own, so that `find_in` can end with one call, and
 // so saves no register where the needle is found at the first try.
 #[inline(never)]
-fn find_left<C: Unit, P: Needle<C>>(units: &[C], needle: P, first: C, from: usize) -> Option<usize>
+fn find_rest<C: Unit, P: Needle<C>>(units: &[C], needle: P, first: C, from: usize) -> Option<usize>
     requires first { (rest : List C) × (P.sought needle ≡ first ∷ rest) }
     requires within { from ≤ length units.now }
     requires before { (k : ℕ) → k < from → ¬ (OccursAt (P.sought needle) units.now k) }
@@ -278,11 +279,12 @@ pub(crate) fn find_in<C: Unit, P: Needle<C>>(units: &[C], needle: P) -> Option<u
     ensures none { IfNone result (OccursNowhere (P.sought needle) units.now) }
 {
     let Some(first) = needle.first() else {
+        // An empty needle occurs at each offset.
         return Some(0);
     };
     let stop = find_next(units, needle, first, 0);
     if stop.is_found {
         return Some(stop.at);
     }
-    find_left(units, needle, first, stop.at)
+    find_rest(units, needle, first, stop.at)
 }

@@ -1,20 +1,20 @@
-//! Searches for a needle from the back: in the plain way, offset by offset, and after some tries by two units, the
-//! needle's first and last, in SIMD lanes (W. Mula, "SIMD-friendly algorithms for substring searching"). The calls
-//! mirror those of `search.rt`.
+//! Searches for a needle from the back. A plain loop tries each offset. After some tries the search is for offsets at
+//! which the needle's first and last unit both match, in SIMD lanes (W. Mula, "SIMD-friendly algorithms for substring
+//! searching").
 
 ghost use Rattle.std.specs.Prelude.{◌+◌, ◌-◌, ◌<◌, ◌≤◌, ℕ, List, IfNone, IfSome, IsTrue, length};
 ghost use Rattle.wide_search.specs.Occurrences.{IsLastAt, OccursAt, OccursNowhere};
 ghost use Rattle.wide_search.specs.Probes.{IsProbe};
 
 use crate::costs::{Costs, Turn};
-use crate::limits::{COUNTED_LEN, MATCHED_PER_NEEDLE_UNIT, SHORT_TEXT, TRIES_FROM_BACK};
+use crate::limits::{LEAST_COUNTED_LEN, MATCHED_PER_NEEDLE_UNIT, SHORT_TEXT, TRIES_FROM_BACK};
 use crate::needle::{Needle, Probe};
 use crate::pairs::last_pair;
-use crate::two_way::{Stop, rfind_before};
+use crate::two_way::{Stop, rfind_two_way};
 use wide_unit::Unit;
 
 // Returns an offset such that no needle with these two units occurs from there on, and before `end`. It is the one
-// after the last at which both stand, or 0.
+// after the last at which both match, or 0.
 fn skip_back<C: Unit>(units: &[C], end: usize, probe: Probe<C>) -> usize
     requires { end + probe.distance ≤ length units.now }
     ensures within { result ≤ end }
@@ -45,7 +45,7 @@ fn rfind_each<C: Unit, P: Needle<C>>(
     ensures beyond { (k : ℕ) → result.0.at ≤ k → ¬ (OccursAt (P.sought needle) units.now k) }
 {
     let last = end.saturating_sub(tries);
-    let is_counted = needle.len() >= COUNTED_LEN;
+    let is_counted = needle.len() >= LEAST_COUNTED_LEN;
     let mut at = end;
     let mut all_matched = if is_counted {
         0
@@ -61,15 +61,15 @@ fn rfind_each<C: Unit, P: Needle<C>>(
         let (_, here) = units.split_at(at - 1);
         if is_counted {
             // Fewer than two units that match are not counted.
-            if needle.may_begin(here) {
-                let matched = needle.shared(here);
+            if needle.may_be_prefix_of(here) {
+                let matched = needle.matched_one_by_one(here);
                 if matched == needle.len() {
                     return (Stop::found(at), all_matched);
                 }
                 // A sum that wraps would change the time alone.
                 all_matched = all_matched.wrapping_add(matched);
             }
-        } else if needle.begins(here) {
+        } else if needle.is_prefix_of(here) {
             return (Stop::found(at), all_matched);
         }
         at -= 1;
@@ -78,8 +78,8 @@ fn rfind_each<C: Unit, P: Needle<C>>(
 }
 
 // Searches back from an offset from which on the needle does not occur. Returns the offset of its last occurrence, or
-// `None`. Units are compared where both the first and the last unit stand, or at each offset if they stand nearly
-// everywhere. If too many were compared in vain, the two-way search takes over for a while.
+// `None`. Units are compared where both the first and the last unit match, or at each offset if they match nearly
+// everywhere. If too many units were compared in vain, the two-way search takes over for a while.
 #[inline(never)]
 pub(crate) fn rfind_by_two<C: Unit, P: Needle<C>>(
     units: &[C],
@@ -101,7 +101,7 @@ pub(crate) fn rfind_by_two<C: Unit, P: Needle<C>>(
             return None;
         }
         let (_, here) = units.split_at(found - 1);
-        let matched = needle.matching(here);
+        let matched = needle.matched_in_blocks(here);
         if matched > probe.distance {
             return Some(found - 1);
         }
@@ -118,7 +118,7 @@ pub(crate) fn rfind_by_two<C: Unit, P: Needle<C>>(
             }
             Turn::TwoWay => {
                 if let Some(sought) = needle.as_slice() {
-                    let stop = rfind_before(units, sought, at);
+                    let stop = rfind_two_way(units, sought, at);
                     if stop.is_found {
                         return Some(stop.at - 1);
                     }
@@ -134,7 +134,7 @@ pub(crate) fn rfind_by_two<C: Unit, P: Needle<C>>(
 // `None`. The last few offsets are tried one by one, or all if there are few. It is a function of its own, so that
 // `rfind_in` can end with one call, and so saves no register where the needle is found at the first try.
 #[inline(never)]
-fn rfind_left<C: Unit, P: Needle<C>>(units: &[C], needle: P, last: usize) -> Option<usize>
+fn rfind_rest<C: Unit, P: Needle<C>>(units: &[C], needle: P, last: usize) -> Option<usize>
     requires within { last + length (P.sought needle) ≤ length units.now }
     requires beyond { (k : ℕ) → last ≤ k → ¬ (OccursAt (P.sought needle) units.now k) }
     ensures last { IfSome result (IsLastAt (P.sought needle) units.now) }
@@ -149,7 +149,7 @@ fn rfind_left<C: Unit, P: Needle<C>>(units: &[C], needle: P, last: usize) -> Opt
     while at > stop {
         at -= 1;
         let (_, rest) = units.split_at(at);
-        if needle.begins(rest) {
+        if needle.is_prefix_of(rest) {
             return Some(at);
         }
     }
@@ -160,7 +160,7 @@ fn rfind_left<C: Unit, P: Needle<C>>(units: &[C], needle: P, last: usize) -> Opt
 }
 
 // Returns the offset of the last occurrence of the needle, or `None`. The last offset is tried first, so that a needle
-// at the end is found without a call of `rfind_left`.
+// at the end is found without a call of `rfind_rest`.
 pub(crate) fn rfind_in<C: Unit, P: Needle<C>>(units: &[C], needle: P) -> Option<usize>
     ensures last { IfSome result (IsLastAt (P.sought needle) units.now) }
     ensures none { IfNone result (OccursNowhere (P.sought needle) units.now) }
@@ -170,8 +170,8 @@ pub(crate) fn rfind_in<C: Unit, P: Needle<C>>(units: &[C], needle: P) -> Option<
     }
     let last = units.len() - needle.len();
     let (_, rest) = units.split_at(last);
-    if needle.begins(rest) {
+    if needle.is_prefix_of(rest) {
         return Some(last);
     }
-    rfind_left(units, needle, last)
+    rfind_rest(units, needle, last)
 }

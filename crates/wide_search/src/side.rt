@@ -10,7 +10,7 @@ use wide_unit::Unit;
 pub(crate) trait Side: Copy {
     ghost use Rattle.std.specs.Prelude.{Bool};
 
-    // Whether it is the end.
+    // Whether units are counted from the end of the list.
     ghost BACK: { Bool };
 
     // Returns the number of the unit at an index counted from this side.

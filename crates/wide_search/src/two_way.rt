@@ -7,12 +7,12 @@ ghost use Rattle.wide_search.specs.NextOccurrences.{number_from, IsStop};
 ghost use Rattle.wide_search.specs.Occurrences.{OccursAt};
 
 use crate::factorization::factorize;
-use crate::limits::{NEARBY, OFFSETS_BEFORE_LOOK};
+use crate::limits::{OFFSETS_BEFORE_LOOK, OFFSETS_LOOKED_AHEAD};
 use crate::side::{Back, Front, Side};
 use wide_unit::Unit;
 
-// Returns the first index of the needle, from `from` to before `end`, whose unit is not the one that stands there if
-// the needle is at `at`. Returns `end` if there is none.
+// Returns the first index of the needle, from `from` to before `end`, whose unit differs from that of the text if the
+// needle is at `at`. Returns `end` if there is none.
 #[inline(always)]
 fn first_difference<C: Unit, S: Side>(
     units: &[C],
@@ -36,17 +36,18 @@ fn first_difference<C: Unit, S: Side>(
     index
 }
 
-// Where a search stopped.
+// Where a search stopped. From the front the needle does not occur before `at`; if it was found, it occurs at `at`. From
+// the back it does not occur from `at` on; if it was found, it occurs at `at - 1`.
 #[derive(Clone, Copy)]
 pub(crate) struct Stop {
     // The offset.
     pub(crate) at: usize,
-    // Whether the needle was found there.
+    // Whether the needle was found.
     pub(crate) is_found: bool,
 }
 
 impl Stop {
-    // The needle was found at this offset.
+    // Creates the stop of a search that found the needle.
     #[inline(always)]
     pub(crate) fn found(at: usize) -> Self
         ensures at { result.at ≡ at }
@@ -55,7 +56,7 @@ impl Stop {
         Stop { at, is_found: true }
     }
 
-    // The search stopped at this offset, before which the needle was not found.
+    // Creates the stop of a search that has not found the needle.
     #[inline(always)]
     pub(crate) fn unfound(at: usize) -> Self
         ensures at { result.at ≡ at }
@@ -68,14 +69,15 @@ impl Stop {
     }
 }
 
-// Returns whether the first and the last unit of the needle stand at one of the next offsets. It decides on time alone:
-// where they do not, the text may no longer repeat itself as the needle does, and other searches take less time.
-fn stands_nearby<C: Unit, S: Side>(units: &[C], needle: &[C], at: usize) -> bool
+// Returns whether the first and the last unit of the needle both match at one of the next offsets. This affects only how
+// long the search takes: where they do not, the text may no longer repeat itself as the needle does, and other searches
+// take less time.
+fn is_pair_nearby<C: Unit, S: Side>(units: &[C], needle: &[C], at: usize) -> bool
     requires some { 0 < length needle.now }
     requires fits { at + length needle.now ≤ length units.now }
 {
     let distance = needle.len() - 1;
-    let end = (units.len() - distance).min(at.saturating_add(NEARBY));
+    let end = (units.len() - distance).min(at.saturating_add(OFFSETS_LOOKED_AHEAD));
     for offset in at..end {
         if S::unit(units, offset) == S::unit(needle, 0)
             && S::unit(units, offset + distance) == S::unit(needle, distance)
@@ -106,7 +108,7 @@ fn next_occurrence<C: Unit, S: Side>(units: &[C], needle: &[C], from: usize) -> 
     let mut known = 0;
     while len <= units.len() - at {
         if at >= stop {
-            if !stands_nearby::<C, S>(units, needle, at) {
+            if !is_pair_nearby::<C, S>(units, needle, at) {
                 break;
             }
             stop = at.saturating_add(stretch);
@@ -137,7 +139,7 @@ fn next_occurrence<C: Unit, S: Side>(units: &[C], needle: &[C], from: usize) -> 
 }
 
 // Searches on from an offset before which the needle does not occur. Returns where it stopped.
-pub(crate) fn find_from<C: Unit>(units: &[C], needle: &[C], from: usize) -> Stop
+pub(crate) fn find_two_way<C: Unit>(units: &[C], needle: &[C], from: usize) -> Stop
     requires some { 0 < length needle.now }
     requires within { from ≤ length units.now }
     requires before { (k : ℕ) → k < from → ¬ (OccursAt needle.now units.now k) }
@@ -151,7 +153,7 @@ pub(crate) fn find_from<C: Unit>(units: &[C], needle: &[C], from: usize) -> Stop
 
 // Searches back from an offset from which on the needle does not occur. Returns where it stopped: at the offset after
 // the needle's, if it was found.
-pub(crate) fn rfind_before<C: Unit>(units: &[C], needle: &[C], end: usize) -> Stop
+pub(crate) fn rfind_two_way<C: Unit>(units: &[C], needle: &[C], end: usize) -> Stop
     requires some { 0 < length needle.now }
     requires within { end + length needle.now ≤ length units.now + 1 }
     requires beyond { (k : ℕ) → end ≤ k → ¬ (OccursAt needle.now units.now k) }

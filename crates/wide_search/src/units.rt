@@ -1,5 +1,5 @@
-//! Searches for units in units, from both ends: whether a needle stands at an end, where it or one unit occurs, and
-//! what comes before it and after it. An empty needle occurs at each offset.
+//! Searches for units in units, from both ends: whether the units begin or end with a needle, where it or one unit
+//! occurs, and what comes before it and after it. An empty needle occurs at each offset.
 
 ghost use Rattle.std.specs.Prelude.{◌≡◌, ◌↔◌, ◌+◌, ◌++◌, ◌∷◌, [], ◌≤◌, ◌<◌, length, IsTrue, IsSome, IfNone, IfSome};
 ghost use Rattle.wide_search.specs.Occurrences.{IsFirstAt, IsLastAt, OccursNowhere, BeginsWith, EndsWith, IsFirstSplit, IsLastSplit};
@@ -10,7 +10,7 @@ use crate::search::find_in;
 use crate::search_back::rfind_in;
 use wide_unit::{Unit, same_units};
 
-/// Returns whether the units begin with those of the pattern. They do if it is empty.
+/// Returns whether the units begin with those of the needle. They do if it is empty.
 pub fn starts_with<C: Unit>(units: &[C], needle: &[C]) -> bool
     ensures { IsTrue result ↔ BeginsWith needle.now units.now }
 {
@@ -21,7 +21,7 @@ pub fn starts_with<C: Unit>(units: &[C], needle: &[C]) -> bool
     same_units(prefix, needle)
 }
 
-/// Returns whether the units end with those of the pattern. They do if it is empty.
+/// Returns whether the units end with those of the needle. They do if it is empty.
 pub fn ends_with<C: Unit>(units: &[C], needle: &[C]) -> bool
     ensures { IsTrue result ↔ EndsWith needle.now units.now }
 {
@@ -32,7 +32,7 @@ pub fn ends_with<C: Unit>(units: &[C], needle: &[C]) -> bool
     same_units(end, needle)
 }
 
-/// Returns the units after the pattern if they begin with it, and otherwise `None`.
+/// Returns the units after the needle if they begin with it, and otherwise `None`.
 pub fn strip_prefix<'a, C: Unit>(units: &'a [C], needle: &[C]) -> Option<&'a [C]>
     ensures some { IsSome result ↔ BeginsWith needle.now units.now }
     ensures rest { IfSome result (λ rest. units.now ≡ needle.now ++ rest.now) }
@@ -43,7 +43,7 @@ pub fn strip_prefix<'a, C: Unit>(units: &'a [C], needle: &[C]) -> Option<&'a [C]
     None
 }
 
-/// Returns the units before the pattern if they end with it, and otherwise `None`.
+/// Returns the units before the needle if they end with it, and otherwise `None`.
 pub fn strip_suffix<'a, C: Unit>(units: &'a [C], needle: &[C]) -> Option<&'a [C]>
     ensures some { IsSome result ↔ EndsWith needle.now units.now }
     ensures prefix { IfSome result (λ prefix. units.now ≡ prefix.now ++ needle.now) }
@@ -57,12 +57,11 @@ pub fn strip_suffix<'a, C: Unit>(units: &'a [C], needle: &[C]) -> Option<&'a [C]
 /// Returns the offset in units of the first occurrence of the needle, or `None` if it does not occur. An empty needle
 /// occurs at the beginning.
 ///
-/// The search for the first unit of the needle is vectorized. Where it stands, the others are compared, from the last
-/// one to the first that differs. Where the first unit is frequent, the search is for offsets at which the last one
-/// stands as well. Where both stand nearly everywhere each offset is tried, and where they stand nearly as often as the
-/// first alone, that is looked for again. If too many units are compared in vain, as they may be if the needle repeats
-/// itself, the two-way search passes the next offsets. So the worst case is linear in both lengths, and no memory is
-/// allocated.
+/// It looks for the needle's first unit, vectorized, and compares the needle wherever that unit occurs. Where the first
+/// unit is frequent, it looks for offsets at which the needle's first and last unit both match. Where both match nearly
+/// everywhere, it compares at each offset. If it compares too many units in vain, as it may if the needle repeats
+/// itself, it changes to the two-way search. So the time is linear in both lengths in the worst case. It does not
+/// allocate.
 pub fn find<C: Unit>(units: &[C], needle: &[C]) -> Option<usize>
     ensures first { IfSome result (IsFirstAt needle.now units.now) }
     ensures none { IfNone result (OccursNowhere needle.now units.now) }
@@ -74,10 +73,10 @@ pub fn find<C: Unit>(units: &[C], needle: &[C]) -> Option<usize>
 /// Returns the offset in units of the last occurrence of the needle, or `None` if it does not occur. An empty needle
 /// occurs at the end.
 ///
-/// The last offsets are tried one by one. Then the search is for offsets at which both the first and the last unit of
-/// the needle stand; it is vectorized, and goes from the back. If too many units are compared in vain, as they may be
-/// if the needle repeats itself, the two-way search passes the next offsets. So the worst case is linear in both
-/// lengths, and no memory is allocated.
+/// It compares the needle at the last offsets one by one. Then it looks backwards, vectorized, for offsets at which the
+/// needle's first and last unit both match. If it compares too many units in vain, as it may if the needle repeats
+/// itself, it changes to the two-way search. So the time is linear in both lengths in the worst case. It does not
+/// allocate.
 pub fn rfind<C: Unit>(units: &[C], needle: &[C]) -> Option<usize>
     ensures last { IfSome result (IsLastAt needle.now units.now) }
     ensures none { IfNone result (OccursNowhere needle.now units.now) }
@@ -106,7 +105,7 @@ pub fn rfind_unit<C: Unit>(units: &[C], unit: C) -> Option<usize>
     rfind_one(units, unit)
 }
 
-/// Splits the units at the first occurrence of the separator, and returns the units before it and those after it.
+/// Splits the units at the first occurrence of the needle, and returns the units before it and those after it.
 /// Returns `None` if it does not occur.
 pub fn split_once<'a, C: Unit>(units: &'a [C], needle: &[C]) -> Option<(&'a [C], &'a [C])>
     ensures first { IfSome result (λ r. IsFirstSplit needle.now units.now r.0.now r.1.now) }
@@ -120,7 +119,7 @@ pub fn split_once<'a, C: Unit>(units: &'a [C], needle: &[C]) -> Option<(&'a [C],
     Some((prefix, rest))
 }
 
-/// Splits the units at the last occurrence of the separator, and returns the units before it and those after it.
+/// Splits the units at the last occurrence of the needle, and returns the units before it and those after it.
 /// Returns `None` if it does not occur.
 pub fn rsplit_once<'a, C: Unit>(units: &'a [C], needle: &[C]) -> Option<(&'a [C], &'a [C])>
     ensures last { IfSome result (λ r. IsLastSplit needle.now units.now r.0.now r.1.now) }

@@ -9,12 +9,13 @@ abbrev pub item_code : Item → ℕ
 item_code (Char c) = c
 item_code (Fault u) = u
 
--- The first item of the units, or the last one, was removed, and `code` is its number.
+-- The first item of the units was removed, and `code` is its number.
 pub record TakesFirst (form : EncodingForm) (old new : List ℕ) (code : ℕ) : Type 0 where
   pub item : Item
   pub was : items form old ≡ item ∷ items form new
   pub is_code : code ≡ item_code item
 
+-- The last item of the units was removed, and `code` is its number.
 pub record TakesLast (form : EncodingForm) (old new : List ℕ) (code : ℕ) : Type 0 where
   pub item : Item
   pub was : items form old ≡ items form new ++ item ∷ []

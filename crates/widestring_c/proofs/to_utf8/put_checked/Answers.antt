@@ -1,4 +1,4 @@
-use Rattle.std.proofs.Common.{◌≡◌, refl, drop, length, map, take}
+use Rattle.std.proofs.Common.{refl, length, map}
 use Rattle.wide_forms.specs.Items.{chars}
 use Rattle.wide_forms.specs.Utf8.{utf8}
 use Rattle.widestring_c.proofs.Fits.{bytes-well_formed, exact_end}

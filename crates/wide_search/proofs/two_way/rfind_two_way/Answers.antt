@@ -1,7 +1,7 @@
 use Rattle.std.proofs.Common.{◌≡◌, ◌-◌, length, arith, subst}
 use Rattle.wide_search.specs.Occurrences.{OccursAt}
 use Rattle.wide_search.proofs.Sides.{occurs-back, none-from_stop}
-use Rattle.wide_search.proofs.two_way.rfind_before.Goals as goal
+use Rattle.wide_search.proofs.two_way.rfind_two_way.Goals as goal
 
 pub returns-clause-here : goal.returns-clause-here
 returns-clause-here g c = λ found.

@@ -1,6 +1,6 @@
 use Rattle.std.proofs.Common.{◌≡◌}
 use Rattle.wide_search.proofs.Prefixes.{occurs-if_two}
-use Rattle.wide_search.proofs.needle.FewNeedle.matching.Goals as goal
+use Rattle.wide_search.proofs.needle.FewNeedle.matched_in_blocks.Goals as goal
 
 pub returns-in-Some-len1-up-clause-whole : goal.returns-in-Some-len1-up-clause-whole
 returns-in-Some-len1-up-clause-whole g c =

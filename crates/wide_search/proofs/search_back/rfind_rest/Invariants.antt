@@ -1,6 +1,6 @@
 use Rattle.std.proofs.Common.{ℕ, ◌≤◌, length}
 use Rattle.wide_search.specs.Occurrences.{OccursAt}
-use Rattle.wide_search.proofs.search_back.rfind_left.Given as goal
+use Rattle.wide_search.proofs.search_back.rfind_rest.Given as goal
 
 -- The needle occurs at none of the offsets from `at` on.
 abbrev pub invariant-loop-at : goal.invariant-loop-at

@@ -1,5 +1,5 @@
 use Rattle.wide_search.proofs.Sides.{occurs-front, none-to_stop}
-use Rattle.wide_search.proofs.two_way.find_from.Goals as goal
+use Rattle.wide_search.proofs.two_way.find_two_way.Goals as goal
 
 pub returns-clause-here : goal.returns-clause-here
 returns-clause-here g c = λ found. occurs-front g.C.Unit.number g.met.C.Unit.same c.args.needle.now c.args.units.now c.next_occurrence.result.at (c.next_occurrence.ensures.here found)
