@@ -603,7 +603,7 @@ inline std::wstring to_wstring_lossy(Utf8Units text, Lossy policy = Lossy::each)
  * it converts by way of UTF-8.
  */
 inline std::wstring to_wstring_lossy(Utf16Units units, Lossy policy = Lossy::each) {
-    if (policy <= Lossy::skip)
+    if (policy == Lossy::each || policy == Lossy::run || policy == Lossy::skip)
         if (auto wide = to_wstring(units))
             return *std::move(wide);
     return to_wstring(to_utf8_lossy(units, policy)).value();

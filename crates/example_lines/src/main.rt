@@ -7,20 +7,20 @@ use widestring::bytes::utf16_of_bytes;
 use widestring::{U16Str, U16String};
 
 fn main(rt: HostRuntime) -> io::Result<ExitCode> {
-    let mut words = env::args(&rt)?.skip(1);
-    let (Some(path), Some(word)) = (words.next(), words.next()) else {
+    let mut args = env::args(&rt)?.skip(1);
+    let (Some(path), Some(word)) = (args.next(), args.next()) else {
         eprintln!(rt; "usage: lines FILE WORD")?;
         return Ok(ExitCode::from(2));
     };
     let bytes = fs::read(&rt, path)?;
-    let parts = utf16_of_bytes(&bytes);
-    if parts.half.is_some() {
+    let file = utf16_of_bytes(&bytes);
+    if file.half.is_some() {
         eprintln!(rt; "half of a unit is left at the end")?;
     }
-    let units: Vec<u16> = parts.units.collect(rt.alloc())?;
-    let part = U16String::from_str(rt.alloc(), &word)?;
+    let units: Vec<u16> = file.units.collect(rt.alloc())?;
+    let needle = U16String::from_str(rt.alloc(), &word)?;
     for (number, line) in U16Str::from_slice(&units).lines_lossy().enumerate() {
-        if line.contains(part.as_ustr()) {
+        if line.contains(needle.as_ustr()) {
             println!(rt; "{}: {}", number + 1, line.display())?;
         }
     }

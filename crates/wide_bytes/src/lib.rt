@@ -1,5 +1,5 @@
-//! UTF-16 in bytes (Unicode Standard, section 3.10, D96 to D98): byte order and BOM, the code units of bytes, and devices
-//! that give and take bytes. Byte swapping is vectorized.
+//! UTF-16 in bytes (Unicode Standard, section 3.10, D96 to D98): byte order and BOM, the code units of bytes, and
+//! devices that give and take bytes. Byte swapping is vectorized.
 #![tactic(auto)]
 
 mod bom;

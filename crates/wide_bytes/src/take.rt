@@ -1,4 +1,4 @@
-//! Takes bytes from a source after others, whatever their encoding.
+//! Takes bytes from a source into a buffer, after those that it already has.
 
 ghost use Rattle.std.specs.Prelude.{◌≡◌, ◌<◌, ◌≤◌, ◌+◌, ◌-◌, ◌||◌, false, length, take, drop, IfOk, OnErr};
 ghost use Rattle.std.specs.Io.KnownBytes.{Consumes, IsAtEnd, Keeps};
@@ -15,7 +15,7 @@ use std::io;
 ///
 /// # Errors
 ///
-/// The error of [`ByteSource::take`]. If the bytes of the source are known, none is taken.
+/// The error of [`ByteSource::take`]. Then no byte of a source whose contract describes its bytes is lost.
 pub fn take_after<S: ByteSource>(
     source: &mut S,
     bytes: &mut [u8],

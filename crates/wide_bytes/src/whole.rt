@@ -45,11 +45,11 @@ pub fn utf16_of_bytes(bytes: &[u8]) -> Utf16OfBytes<'_>
 {
     let bom = byte_order(bytes);
     let order = bom.unwrap_or(BoM::Little);
-    let pairs = without_bom(bytes);
+    let content = without_bom(bytes);
     Utf16OfBytes {
         order,
         has_bom: bom.is_some(),
-        units: units_in(order, pairs),
-        half: half_of(pairs),
+        units: units_in(order, content),
+        half: half_of(content),
     }
 }

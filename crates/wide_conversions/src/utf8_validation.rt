@@ -1,5 +1,5 @@
-//! Finds the first ill-formed sequence in UTF-8 (Unicode Standard, section 3.9, D92, D93b and Table 3-7). Vectorized by
-//! the compiler: for each byte, it checks against the three bytes before whether this byte may follow them.
+//! Finds the first ill-formed sequence in UTF-8 (Unicode Standard, section 3.9, D92, D93b and Table 3-7). Each byte is
+//! checked against the three bytes before it, in loops that the compiler vectorizes.
 
 ghost use Rattle.std.specs.Prelude.{◌≡◌, ◌↔◌, ◌+◌, ◌-◌, ◌<◌, ◌≤◌, ℕ, IsTrue, length, slice_index, take};
 ghost use Rattle.std.specs.Str.{IsUtf8};
@@ -9,11 +9,13 @@ ghost use Rattle.wide_conversions.specs.Following.{CanFollow, IsWholeUpTo};
 
 use std::str;
 
-// How many bytes of a block are checked by the three bytes before each.
+// How many bytes are checked in one step. A block has three more, the bytes before them: 67.
 const BLOCK: usize = 64;
 
-// Returns how many rules of Table 3-7 a byte breaks after three others, of which `first` is the nearest. It checks all
-// rules without branches, so that the compiler can vectorize a loop of calls.
+// Returns how many rules of Table 3-7 a byte breaks after `third`, `second` and `first`, of which `first` directly
+// precedes it. The rules, in order: it is a trailing byte exactly if one is due; it is not C0 or C1; it is at most F4;
+// it is not below A0 after E0, nor from A0 on after ED, nor below 90 after F0, nor from 90 on after F4. All are checked
+// without branches, so that the compiler can vectorize a loop of calls.
 #[inline(always)]
 fn broken_rules(third: u8, second: u8, first: u8, byte: u8) -> u8
     ensures { result ≡ 0 → CanFollow third second first byte }
@@ -71,9 +73,9 @@ fn ascii_len(text: &[u8]) -> usize
     len
 }
 
-// Returns whether each byte of a block may follow the three bytes before it.
+// Returns whether each of the last 64 bytes of a block may follow the three bytes before it, by the rules alone.
 #[inline(always)]
-fn follow(block: &[u8]) -> bool
+fn can_follow_by_rules(block: &[u8]) -> bool
     requires { length block.now ≡ 67 }
     ensures { IsTrue result → (k : ℕ) → k < 64 → CanFollow (slice_index block.now k) (slice_index block.now (k + 1)) (slice_index block.now (k + 2)) (slice_index block.now (k + 3)) }
 {
@@ -84,14 +86,14 @@ fn follow(block: &[u8]) -> bool
     broken == 0
 }
 
-// Returns whether each byte of a block may follow the three bytes before it. It first tests whether all are ASCII, so
-// that ASCII is fast.
+// Returns whether each of the last 64 bytes of a block may follow the three bytes before it. The block need not be well
+// formed: it may begin or end within a character. ASCII is tested first, because that is faster.
 #[inline(always)]
-fn is_valid(block: &[u8]) -> bool
+fn can_follow(block: &[u8]) -> bool
     requires { length block.now ≡ 67 }
     ensures { IsTrue result → (k : ℕ) → k < 64 → CanFollow (slice_index block.now k) (slice_index block.now (k + 1)) (slice_index block.now (k + 2)) (slice_index block.now (k + 3)) }
 {
-    is_ascii(block) || follow(block)
+    is_ascii(block) || can_follow_by_rules(block)
 }
 
 // Returns the length of a run of bytes, each of which may follow the three bytes before it: a block, and if that is
@@ -105,7 +107,11 @@ fn followed_len(text: &[u8]) -> usize
     if is_ascii(&text[..BLOCK + 3]) {
         return BLOCK + ascii_len(&text[BLOCK + 3..]);
     }
-    if follow(&text[..BLOCK + 3]) { BLOCK } else { 0 }
+    if can_follow_by_rules(&text[..BLOCK + 3]) {
+        BLOCK
+    } else {
+        0
+    }
 }
 
 // Returns the offset of the last character before `end` if that character is incomplete at `end`, and otherwise `end`.
@@ -126,7 +132,8 @@ fn whole_len(text: &[u8], end: usize) -> usize
     }
 }
 
-// Returns the length of a well-formed prefix, in bytes.
+// Returns the length in bytes of a well-formed prefix: all characters that are complete in the blocks before the first
+// block that breaks a rule. It is 0 for fewer than 64 bytes. The caller checks the rest.
 fn checked_len(text: &[u8]) -> usize
     ensures within { result ≤ length text.now }
     ensures text { IsUtf8 (take result text.now) }
@@ -134,9 +141,10 @@ fn checked_len(text: &[u8]) -> usize
     if text.len() < BLOCK {
         return 0;
     }
+    // Three NULs precede the first block, so that it is checked as the beginning of a text.
     let mut first = [0; BLOCK + 3];
     first[3..].copy_from_slice(&text[..BLOCK]);
-    if !is_valid(&first) {
+    if !can_follow(&first) {
         return 0;
     }
     let mut end = BLOCK;
@@ -180,6 +188,7 @@ pub fn first_utf8_chunk(text: &[u8]) -> Utf8Chunk
     ensures end { EndsAs text.now result.valid result.end }
 {
     let checked = checked_len(text);
+    // Std checks the rest: the block with the fault, or fewer than 64 bytes at the end.
     match str::from_utf8(&text[checked..]) {
         Ok(_text) => Utf8Chunk {
             valid: text.len(),

@@ -1,4 +1,4 @@
 pub mod Edited
-pub mod Numbers
+pub mod Indices
 pub mod Marked
 pub mod Replaced

@@ -10,8 +10,8 @@ use Rattle.wide_edit.specs.declared.edits.Edit.{Edit}
 use Rattle.wide_edit.specs.declared.edits.Edit.TheVariants.{Push, PushStr, Pop, Truncate, Insert, InsertStr, Remove, Retain, Drain, Replace, SplitOff, Clear}
 use Rattle.wide_editable.specs.Edited.{CanHold}
 
--- The index of the first character that an edit can change, in a text of `count` characters. The characters before it are
--- unchanged.
+-- The index of the first character that an edit can change, in a text of `count` characters. The characters before it
+-- are unchanged.
 abbrev pub edit_offset : ℕ → Edit → ℕ
 edit_offset count (Push c) = count
 edit_offset count (PushStr t) = count

@@ -42,7 +42,7 @@ fn make_all<T: TextEdit>(
     for edit in edits {
         match make(alloc, text, *edit, replies) {
             Ok(()) => {}
-            Err(_refused) => return Err(Stopped { done }),
+            Err(_error) => return Err(Stopped { done }),
         }
         done += 1;
     }
@@ -121,7 +121,7 @@ fn make_all_both<T: TextEdit, U: TextEdit>(
     for edit in edits {
         match make_both(alloc, first, second, *edit, first_replies, second_replies) {
             Ok(()) => {}
-            Err(_refused) => return Err(Stopped { done }),
+            Err(_error) => return Err(Stopped { done }),
         }
         done += 1;
     }

@@ -5,7 +5,7 @@ ghost use Rattle.wide_forms.specs.Items.{IsWellFormed};
 ghost use Rattle.wide_forms.specs.Offsets.{text_of};
 ghost use Rattle.wide_ustring.specs.Units.{ustring_len};
 ghost use Rattle.wide_edit.specs.Step.{is_range};
-ghost use Rattle.wide_editable.specs.Numbers.{first_number, second_number};
+ghost use Rattle.wide_editable.specs.Indices.{first_number, second_number};
 ghost use Rattle.wide_offset_index.specs.Found.{IsFoundAt, IsFoundRange};
 
 use std::ops::Range;
@@ -14,7 +14,7 @@ use wide_utferror::FaultUnit;
 use wide_utfstring::UtfString;
 
 // Returns the two numbers of an edit, and 0 for one that it does not have: a search for character 0 reads nothing.
-pub(crate) fn numbers_of(edit: Edit<'_>) -> (usize, usize)
+pub(crate) fn indices_of(edit: Edit<'_>) -> (usize, usize)
     ensures first { result.0 ≡ first_number edit.entry }
     ensures second { result.1 ≡ second_number edit.entry }
 {
@@ -45,8 +45,8 @@ pub(crate) fn recall<C: FaultUnit>(s: &UtfString<C>)
     let _capacity = s.capacity();
 }
 
-// Returns the offset, in units, of the character at an index, or `None` if the index is past the end. In UTF-16 it reads
-// the units before it once.
+// Returns the offset, in units, of the character at an index, or `None` if the index is past the end. In UTF-16 it
+// reads the units before it once.
 pub(crate) fn find<C: FaultUnit>(s: &UtfString<C>, index: usize) -> Option<usize>
     ensures { IsFoundAt C.form (map C.number s.now.units) index result }
 {

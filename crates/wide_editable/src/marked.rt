@@ -6,14 +6,14 @@ ghost use Rattle.wide_forms.specs.Offsets.{IsOffsetOf, IsCharBoundary};
 ghost use Rattle.wide_utfstr.specs.View.{units_seen};
 ghost use Rattle.wide_edit.specs.Step.{step, answer_of};
 ghost use Rattle.wide_editable.specs.Edited.{CanHold, IsMade, HasReplySpace};
-ghost use Rattle.wide_editable.specs.Numbers.{first_number, second_number};
+ghost use Rattle.wide_editable.specs.Indices.{first_number, second_number};
 ghost use Rattle.wide_offset_index.specs.Found.{IsFoundAt};
 ghost use Rattle.wide_offset_index.specs.Counted.{counted, AddsAtMost};
 ghost use Rattle.wide_offset_index.specs.Marks.{mark, marks_of, IsEdited, AreMoved};
 ghost use Rattle.wide_editable.specs.Marked.{edit_offset, units_after, units_split_off, marked_capacity, marked_units, marked_text, IsMarkedReady};
 ghost use Rattle.wide_offset_index.specs.Passed.{units_put, IsShort, IsFew, marks_left};
 
-use crate::lookup::{numbers_of, recall};
+use crate::lookup::{indices_of, recall};
 use crate::memory::prepare_at;
 use crate::operations::apply_at;
 use crate::ranges::replaced_range;
@@ -32,8 +32,8 @@ use wide_utfstring::Utf16String;
 /// and so on, and of the end if the number of characters is a positive multiple of 64.
 ///
 /// A character is found by its index from the last entry that is not past it, so that fewer than 64 characters are
-/// read. An edit keeps the entries that are not past its first character. If it replaces few characters by few, it moves
-/// the later ones, else it counts them again from the last of these.
+/// read. An edit keeps the entries that are not past its first character. If it replaces few characters by few, it
+/// moves the later ones, else it counts them again from the last of these.
 #[derive(Drop)]
 pub struct Marked16 {
     string: Utf16String,
@@ -193,7 +193,7 @@ fn apply_to(
     ensures marks_capacity { vec_capacity marks.new ≡ vec_capacity marks.old }
     ensures steps { AddsAtMost steps.old steps.new (512 + units_after (chars Utf16 string.old.units) (chars Utf16 string.new.units) edit.entry) }
 {
-    let (first, second) = numbers_of(edit);
+    let (first, second) = indices_of(edit);
     let start = find_from(string.as_utfstr(), marks.as_slice(), first, steps);
     let end = find_from(string.as_utfstr(), marks.as_slice(), second, steps);
     let count = count_from(string.as_utfstr(), marks.as_slice(), steps);
@@ -231,7 +231,7 @@ impl Marked16 {
                 repair(string.as_utfstr(), &mut marks, &mut Steps::new());
                 Ok(Marked16 { string, marks })
             }
-            Err(_refused) => Err(string),
+            Err(_error) => Err(string),
         }
     }
 
@@ -294,7 +294,7 @@ impl Marked16 {
         ensures marks_capacity { self.old.marks_space ≤ self.new.marks_space }
         ensures steps { AddsAtMost steps.old steps.new (252 + units_split_off (marked_text self.old) edit.entry) }
     {
-        let (first, second) = numbers_of(edit);
+        let (first, second) = indices_of(edit);
         let start = find_from(self.string.as_utfstr(), self.marks.as_slice(), first, steps);
         let end = find_from(
             self.string.as_utfstr(),

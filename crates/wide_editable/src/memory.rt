@@ -5,7 +5,7 @@ ghost use Rattle.wide_forms.specs.Offsets.{text_of};
 ghost use Rattle.wide_ustring.specs.Units.{ustring_len};
 ghost use Rattle.wide_edit.specs.Step.{changed, answer, step, chars_in};
 ghost use Rattle.wide_editable.specs.Edited.{CanHold, HasReplySpace};
-ghost use Rattle.wide_editable.specs.Numbers.{first_number, second_number};
+ghost use Rattle.wide_editable.specs.Indices.{first_number, second_number};
 ghost use Rattle.wide_offset_index.specs.Found.{IsFoundAt};
 
 use crate::lookup::{range_at, recall};

@@ -9,7 +9,7 @@ ghost use Rattle.wide_forms.specs.Offsets.{text_of};
 ghost use Rattle.wide_utfstr.specs.View.{text_seen};
 ghost use Rattle.wide_edit.specs.Step.{changed};
 ghost use Rattle.wide_editable.specs.Edited.{CanHold, IsMade, HasReplySpace};
-ghost use Rattle.wide_editable.specs.Numbers.{first_number, second_number};
+ghost use Rattle.wide_editable.specs.Indices.{first_number, second_number};
 ghost use Rattle.wide_offset_index.specs.Found.{IsFoundAt};
 ghost use Rattle.wide_edit.specs.declared.edits.Edit.TheVariants as edit_of;
 

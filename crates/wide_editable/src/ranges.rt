@@ -6,7 +6,7 @@ ghost use Rattle.wide_edit.specs.Step.{step, is_range};
 ghost use Rattle.wide_offset_index.specs.Counted.{counted, AddsAtMost};
 ghost use Rattle.wide_offset_index.specs.Found.{IsFoundAt, IsFoundRange};
 ghost use Rattle.wide_editable.specs.Marked.{edit_offset};
-ghost use Rattle.wide_editable.specs.Numbers.{first_number, second_number};
+ghost use Rattle.wide_editable.specs.Indices.{first_number, second_number};
 ghost use Rattle.wide_editable.specs.Replaced.{Replaces, units_at, units_removed};
 
 use crate::lookup::{range_at, recall};

@@ -4,7 +4,7 @@ ghost use Rattle.wide_forms.specs.Offsets.{text_of};
 ghost use Rattle.wide_edit.specs.Step.{step, chars_in};
 ghost use Rattle.wide_editable.specs.Edited.{CanHold, HasReplySpace};
 
-use crate::lookup::{find, find_second, numbers_of, recall};
+use crate::lookup::{find, find_second, indices_of, recall};
 use crate::memory::prepare_at;
 use crate::operations::apply_at;
 use crate::text_edit::TextEdit;
@@ -46,14 +46,14 @@ impl<C: FaultUnit> TextEdit for UtfString<C> {
         ensures capacity { self.old.capacity ≤ self.new.capacity }
         ensures succeeds { CanHold C.form self.old (step (text_of C.form C.number self.old.units) edit.entry).0 → chars_in (step (text_of C.form C.number self.old.units) edit.entry).1 ≡ 0 → IsOk result }
     {
-        let (first, second) = numbers_of(edit);
+        let (first, second) = indices_of(edit);
         let start = find(self, first);
         let end = find_second(self, first, start, second);
         prepare_at(self, alloc, edit, start, end)
     }
 
     fn apply(&mut self, edit: Edit<'_>, space: Vec<char>) -> Reply {
-        let (first, second) = numbers_of(edit);
+        let (first, second) = indices_of(edit);
         let start = find(self, first);
         let end = find_second(self, first, start, second);
         apply_at(self, edit, start, end, space)

@@ -125,7 +125,7 @@ impl Error for OutOfMemory {}
 impl From<AllocError> for OutOfMemory {
     ghost from_gives = { λ _ e. e ≡ record {} };
 
-    fn from(_refused: AllocError) -> OutOfMemory {
+    fn from(_error: AllocError) -> OutOfMemory {
         OutOfMemory
     }
 }
@@ -133,7 +133,7 @@ impl From<AllocError> for OutOfMemory {
 impl<T: Drop> From<AllocFailed<T>> for OutOfMemory {
     ghost from_gives = { λ _ e. e ≡ record {} };
 
-    fn from(_refused: AllocFailed<T>) -> OutOfMemory {
+    fn from(_error: AllocFailed<T>) -> OutOfMemory {
         OutOfMemory
     }
 }
@@ -145,7 +145,7 @@ impl From<OutOfMemory> for io::Error {
 
     ghost from_gives = { λ _ e. error_kind e ≡ OutOfMemory };
 
-    fn from(_refused: OutOfMemory) -> io::Error {
+    fn from(_error: OutOfMemory) -> io::Error {
         io::Error::from(io::ErrorKind::OutOfMemory)
     }
 }
@@ -201,7 +201,7 @@ impl From<OutOfMemory> for TranscodeError {
 
     ghost from_gives = { λ _ e. e ≡ OutOfMemory };
 
-    fn from(_refused: OutOfMemory) -> TranscodeError {
+    fn from(_error: OutOfMemory) -> TranscodeError {
         TranscodeError::OutOfMemory
     }
 }
@@ -211,7 +211,7 @@ impl From<AllocError> for TranscodeError {
 
     ghost from_gives = { λ _ e. e ≡ OutOfMemory };
 
-    fn from(_refused: AllocError) -> TranscodeError {
+    fn from(_error: AllocError) -> TranscodeError {
         TranscodeError::OutOfMemory
     }
 }
@@ -221,7 +221,7 @@ impl<T: Drop> From<AllocFailed<T>> for TranscodeError {
 
     ghost from_gives = { λ _ e. e ≡ OutOfMemory };
 
-    fn from(_refused: AllocFailed<T>) -> TranscodeError {
+    fn from(_error: AllocFailed<T>) -> TranscodeError {
         TranscodeError::OutOfMemory
     }
 }

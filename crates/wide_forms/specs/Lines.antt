@@ -34,8 +34,8 @@ lines_of_substrings (p ∷ q ∷ ps) = without_return p ∷ lines_of_substrings 
 abbrev pub lines_of : List Item → List (List Item)
 lines_of is = lines_of_substrings (slice_split is_line_feed is)
 
--- The lines of the substrings, each with the offset, in units, at which it begins. The first begins at `offset`, and each
--- next one after the units of the one before and its line feed.
+-- The lines of the substrings, each with the offset, in units, at which it begins. The first begins at `offset`, and
+-- each next one after the units of the one before and its line feed.
 abbrev pub placed_substrings : EncodingForm → ℕ → List (List Item) → List (ℕ × List Item)
 placed_substrings form offset [] = []
 placed_substrings form offset ([] ∷ []) = []

@@ -31,8 +31,8 @@ pub record IsSegmentation (form : EncodingForm) (items : List Item) (units : Lis
   -- No fault directly precedes another one with which it is a pair.
   pub unpaired : (prefix back : List Item) (h l : ℕ) → items ≡ prefix ++ Fault h ∷ Fault l ∷ back → ¬ (IsPair form h l)
 
--- A segmentation in UTF-16 as the Standard defines the form: each fault is a surrogate, and no high one directly precedes
--- a low one. For code units it is equivalent to `IsSegmentation Utf16`.
+-- A segmentation in UTF-16 as the Standard defines the form: each fault is a surrogate, and no high one directly
+-- precedes a low one. For code units it is equivalent to `IsSegmentation Utf16`.
 pub record IsSegmentation16 (items : List Item) (units : List ℕ) : Type 0 where
   pub joined : units_of Utf16 items ≡ units
   pub characters : (c : ℕ) → Contains items (Char c) → IsScalar c

@@ -1,6 +1,6 @@
 //! The sizes of the arrays on the stack in which UTF-8 is made before it is copied to where it belongs: three bytes for
-//! each unit, and four more that the conversion may overwrite. An array is filled with zeros first, so a small one takes
-//! less time for few units.
+//! each unit, and four more that the conversion may overwrite. An array is filled with zeros first, so a small one
+//! takes less time for few units.
 
 /// The most units whose text is made in an array of `SMALL` bytes.
 pub const FEW: usize = 32;

@@ -1,5 +1,5 @@
-//! Converts units of UTF-16 or UTF-32 to UTF-8, to units of the other width and to bytes (Unicode Standard, section 3.9,
-//! D90 to D92, and section 3.10). Vectorized: sixteen units in one step, in SIMD lanes.
+//! Converts units of UTF-16 or UTF-32 to UTF-8, to units of the other width and to bytes (Unicode Standard, section
+//! 3.9, D90 to D92, and section 3.10). Vectorized: sixteen units in one step, in SIMD lanes.
 #![tactic(auto)]
 
 pub mod array_sizes;

@@ -1,6 +1,6 @@
 //! Converts prefixes of well-formed UTF-16 or UTF-32 to UTF-8 (Unicode Standard, section 3.9, D90 to D92). Vectorized:
-//! sixteen units in one step. UTF-32 below 0x1_0000 is encoded as UTF-16, with its look-up tables of shuffles. Other
-//! UTF-32 computes the bytes and the length of each scalar value in a SIMD lane.
+//! sixteen units in one step. UTF-32 below 0x1_0000 is encoded as UTF-16, by look-up tables of shuffles. For other
+//! UTF-32, SIMD lanes compute the bytes and the length of each scalar value.
 
 ghost use Rattle.std.specs.Prelude.{◌≡◌, ◌++◌, ◌+◌, ◌*◌, ◌<◌, ◌≤◌, ℕ, drop, length, map, slice_index, take};
 ghost use Rattle.std.specs.Char.{IsScalar};

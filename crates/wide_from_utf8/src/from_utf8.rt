@@ -1,7 +1,7 @@
-//! Converts a prefix of UTF-8 to UTF-16 or UTF-32 (Unicode Standard, section 3.9, D90 to D92, Table 3-6). Sixteen bytes
-//! in one step, by the method for what they begin with: a run of ASCII, a run of characters of four bytes, a run of
-//! characters of three bytes, or a mixture of characters of one to three bytes. The last few bytes are converted one
-//! character in one step.
+//! Converts a prefix of UTF-8 to UTF-16 or UTF-32 (Unicode Standard, section 3.9, D90 to D92, Table 3-6). Each step
+//! reads sixteen bytes or more, and the bytes at its start select a method: for ASCII, for a run of characters of four
+//! or of three bytes, or for a mixture of characters of one to three bytes. A character of four bytes outside a run,
+//! and the last few bytes, are converted one character at a time.
 
 ghost use Rattle.std.specs.Prelude.{◌≡◌, ◌++◌, ◌+◌, ◌*◌, ◌<◌, ◌≤◌, length, map, take, drop};
 ghost use Rattle.std.specs.Char.{IsScalar};
@@ -93,6 +93,7 @@ fn put_block<C: Unit>(text: &[u8], units: &mut [C], at: usize) -> Progress
         }
         return put_first(text, units, at);
     }
+    // Two runs of fifteen bytes. Each check reads one byte more.
     if text.len() >= 31 && are_threes(text) && are_threes(&text[15..]) {
         put_threes(text, units, at);
         put_threes(&text[15..], units, at + 5);
@@ -123,6 +124,7 @@ pub fn from_utf8_prefix<C: Unit>(text: &[u8], units: &mut [C]) -> Progress
 {
     let mut read = 0;
     let mut written = 0;
+    // A step looks at two bytes after the sixteen: the rest of a character that begins in them.
     'sixteens: while text.len() - read >= 18 && units.len() - written >= 16 {
         let step = put_block(&text[read..], units, written);
         read += step.read;

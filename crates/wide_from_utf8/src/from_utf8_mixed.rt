@@ -75,10 +75,12 @@ pub(crate) fn put_mixed<C: Unit>(text: &[u8], units: &mut [C], at: usize) -> Pro
     ensures space { at + result.written ≤ length units.new }
     ensures units { IsDecoded C.form text.now result.read (map C.number (take at units.old)) (map C.number (take (at + result.written) units.new)) }
 {
+    // Only characters before the first one of four bytes are converted. If there is none, the last one may end after
+    // the sixteen bytes.
     let end = low_len(text, 0xf0);
     let leads = leads_of(text) % (1 << end);
-    let half = put_compressed(codes_of(text), leads % 256, units, at);
-    let beyond = put_compressed(codes_of(&text[8..]), leads / 256, units, half);
+    let middle = put_compressed(codes_of(text), leads % 256, units, at);
+    let beyond = put_compressed(codes_of(&text[8..]), leads / 256, units, middle);
     Progress {
         read: end + rest_len(&text[end..]),
         written: beyond - at,

@@ -8,10 +8,10 @@ ghost use Rattle.wide_iter.specs.LossyWith.{CanAskAll, TakesFirstCharacter, Take
 use crate::source::Source;
 use wide_forms::{Policy, replacement};
 
-/// An iterator over the characters that `items` yields, with what a policy yields in place of each fault.
+/// An iterator over the characters that a decoder yields, with what a policy yields in place of each fault.
 ///
-/// It iterates from both ends if the decoder does. It is fused, and does not call a decoder again after its end. It
-/// does not allocate.
+/// It iterates from both ends if the decoder does. It is fused, does not call the decoder again after its end, and does
+/// not allocate.
 #[derive(Debug, Drop)]
 pub(crate) struct LossyWith<D> {
     items: Source<D>,
@@ -91,7 +91,8 @@ impl<E: Drop, D: Iterator<Item = Result<char, E>>> Iterator for LossyWith<D> {
             Some(Ok(first)) => Some(first),
             Some(Err(_)) => match replacement(self.policy, false) {
                 Some(c) => {
-                    // If the rest of the run yields nothing, it is read now.
+                    // The rest of the run yields nothing. It is read now, since a later call could not tell it from a
+                    // new run.
                     if replacement(self.policy, true).is_none() {
                         self.front = first_character(&mut self.items);
                     }
@@ -99,6 +100,7 @@ impl<E: Drop, D: Iterator<Item = Result<char, E>>> Iterator for LossyWith<D> {
                 }
                 None => match first_character(&mut self.items) {
                     Some(c) => Some(c),
+                    // The decoder has ended: only the character that was read ahead at the other end is left.
                     None => self.back.take(),
                 },
             },
@@ -129,7 +131,8 @@ impl<E: Drop, D: DoubleEndedIterator<Item = Result<char, E>>> DoubleEndedIterato
             Some(Ok(last)) => Some(last),
             Some(Err(_)) => match replacement(self.policy, false) {
                 Some(c) => {
-                    // If the rest of the run yields nothing, it is read now.
+                    // The rest of the run yields nothing. It is read now, since a later call could not tell it from a
+                    // new run.
                     if replacement(self.policy, true).is_none() {
                         self.back = last_character(&mut self.items);
                     }
@@ -137,6 +140,7 @@ impl<E: Drop, D: DoubleEndedIterator<Item = Result<char, E>>> DoubleEndedIterato
                 }
                 None => match last_character(&mut self.items) {
                     Some(c) => Some(c),
+                    // The decoder has ended: only the character that was read ahead at the other end is left.
                     None => self.front.take(),
                 },
             },

@@ -24,9 +24,9 @@ use Rattle.wide_forms.proofs.Stored.{stored-block}
 
 -- The repaired units that are retained.
 abbrev pub retained : Bool → ℕ → ℕ → List ℕ → List ℕ → List ℕ
-retained replaces u m [] ms = []
-retained replaces u m (v ∷ us) [] = []
-retained replaces u m (v ∷ us) (w ∷ ms) = cond (is_retained replaces u m v w) (w ∷ retained replaces v w us ms) (retained replaces v w us ms)
+retained is_run u m [] ms = []
+retained is_run u m (v ∷ us) [] = []
+retained is_run u m (v ∷ us) (w ∷ ms) = cond (is_retained is_run u m v w) (w ∷ retained is_run v w us ms) (retained is_run v w us ms)
 
 -- ---- bits
 
@@ -34,37 +34,37 @@ bit-set : (b : Bool) → not (eqb (bit_of b) 0) ≡ b
 bit-set true = refl
 bit-set false = refl
 
-bits-lanes : (n : ℕ) (replaces : Bool) (lanes us ms : List ℕ) → length lanes ≡ n → length us ≡ suc n → length ms ≡ suc n
-    → ((k : ℕ) → k < n → get_or lanes k 0 ≡ bit_of (is_retained replaces (get_or us k 0) (get_or ms k 0) (get_or us (k + 1) 0) (get_or ms (k + 1) 0)))
-    → mask_l (map (λ x. not (eqb x 0)) lanes) ≡ retained_bits n replaces (get_or us 0 0) (get_or ms 0 0) (drop 1 us) (drop 1 ms)
-bits-lanes zero replaces [] us ms long as_long as_many each = refl
-bits-lanes zero replaces (x ∷ lanes) us ms long as_long as_many each = absurd (omega arith)
-bits-lanes (suc n) replaces [] us ms long as_long as_many each = absurd (omega arith)
-bits-lanes (suc n) replaces (x ∷ lanes) [] ms long as_long as_many each = absurd (omega arith)
-bits-lanes (suc n) replaces (x ∷ lanes) (u ∷ []) ms long as_long as_many each = absurd (omega arith)
-bits-lanes (suc n) replaces (x ∷ lanes) (u ∷ v ∷ us) [] long as_long as_many each = absurd (omega arith)
-bits-lanes (suc n) replaces (x ∷ lanes) (u ∷ v ∷ us) (m ∷ []) long as_long as_many each = absurd (omega arith)
-bits-lanes (suc n) replaces (x ∷ lanes) (u ∷ v ∷ us) (m ∷ w ∷ ms) long as_long as_many each =
-    let bit = is_retained replaces u m v w in
+bits-lanes : (n : ℕ) (is_run : Bool) (lanes us ms : List ℕ) → length lanes ≡ n → length us ≡ suc n → length ms ≡ suc n
+    → ((k : ℕ) → k < n → get_or lanes k 0 ≡ bit_of (is_retained is_run (get_or us k 0) (get_or ms k 0) (get_or us (k + 1) 0) (get_or ms (k + 1) 0)))
+    → mask_l (map (λ x. not (eqb x 0)) lanes) ≡ retained_bits n is_run (get_or us 0 0) (get_or ms 0 0) (drop 1 us) (drop 1 ms)
+bits-lanes zero is_run [] us ms long as_long as_many each = refl
+bits-lanes zero is_run (x ∷ lanes) us ms long as_long as_many each = absurd (omega arith)
+bits-lanes (suc n) is_run [] us ms long as_long as_many each = absurd (omega arith)
+bits-lanes (suc n) is_run (x ∷ lanes) [] ms long as_long as_many each = absurd (omega arith)
+bits-lanes (suc n) is_run (x ∷ lanes) (u ∷ []) ms long as_long as_many each = absurd (omega arith)
+bits-lanes (suc n) is_run (x ∷ lanes) (u ∷ v ∷ us) [] long as_long as_many each = absurd (omega arith)
+bits-lanes (suc n) is_run (x ∷ lanes) (u ∷ v ∷ us) (m ∷ []) long as_long as_many each = absurd (omega arith)
+bits-lanes (suc n) is_run (x ∷ lanes) (u ∷ v ∷ us) (m ∷ w ∷ ms) long as_long as_many each =
+    let bit = is_retained is_run u m v w in
     let first : not (eqb x 0) ≡ bit = ap (λ y. not (eqb y 0)) (each 0 (omega arith)) ∙ bit-set bit in
-    let rest = bits-lanes n replaces lanes (v ∷ us) (w ∷ ms) (omega arith) (omega arith) (omega arith) (λ k within. (let next : suc k + 1 ≡ suc (k + 1) = omega arith in subst (λ i. get_or lanes k 0 ≡ bit_of (is_retained replaces (get_or (v ∷ us) k 0) (get_or (w ∷ ms) k 0) (get_or (u ∷ v ∷ us) i 0) (get_or (m ∷ w ∷ ms) i 0))) next (each (suc k) (omega arith)))) in
+    let rest = bits-lanes n is_run lanes (v ∷ us) (w ∷ ms) (omega arith) (omega arith) (omega arith) (λ k within. (let next : suc k + 1 ≡ suc (k + 1) = omega arith in subst (λ i. get_or lanes k 0 ≡ bit_of (is_retained is_run (get_or (v ∷ us) k 0) (get_or (w ∷ ms) k 0) (get_or (u ∷ v ∷ us) i 0) (get_or (m ∷ w ∷ ms) i 0))) next (each (suc k) (omega arith)))) in
     ap (λ b. cond {A = ℕ} b 1 0 + 2 * mask_l (map (λ y. not (eqb y 0)) lanes)) first ∙ ap (λ n. bit_of bit + 2 * n) rest
 
-pub bits-are : (replaces : Bool) (lanes us ms : List ℕ) → length lanes ≡ 8 → length us ≡ 9 → length ms ≡ 9
-    → ((k : ℕ) → k < 8 → get_or lanes k 0 ≡ bit_of (is_retained replaces (get_or us k 0) (get_or ms k 0) (get_or us (k + 1) 0) (get_or ms (k + 1) 0)))
-    → mask_l (map (top 15) (zip2 (λ a b. cond (not (eqb a b)) (2 ^ 16 - 1) 0) lanes (replicate 8 0))) % 2 ^ 64 ≡ retained_bits 8 replaces (get_or us 0 0) (get_or ms 0 0) (drop 1 us) (drop 1 ms)
-bits-are replaces lanes us ms long as_long as_many each =
-    bitmask_splat w16 (λ a b. not (eqb a b)) lanes 8 0 long (omega arith) ∙ bits-lanes 8 replaces lanes us ms long as_long as_many each
+pub bits-are : (is_run : Bool) (lanes us ms : List ℕ) → length lanes ≡ 8 → length us ≡ 9 → length ms ≡ 9
+    → ((k : ℕ) → k < 8 → get_or lanes k 0 ≡ bit_of (is_retained is_run (get_or us k 0) (get_or ms k 0) (get_or us (k + 1) 0) (get_or ms (k + 1) 0)))
+    → mask_l (map (top 15) (zip2 (λ a b. cond (not (eqb a b)) (2 ^ 16 - 1) 0) lanes (replicate 8 0))) % 2 ^ 64 ≡ retained_bits 8 is_run (get_or us 0 0) (get_or ms 0 0) (drop 1 us) (drop 1 ms)
+bits-are is_run lanes us ms long as_long as_many each =
+    bitmask_splat w16 (λ a b. not (eqb a b)) lanes 8 0 long (omega arith) ∙ bits-lanes 8 is_run lanes us ms long as_long as_many each
 
 one-bit : (b : Bool) → bit_of b ≤ 1
 one-bit true = omega arith
 one-bit false = omega arith
 
-pub bits-few : (n : ℕ) (replaces : Bool) (u m : ℕ) (us ms : List ℕ) → retained_bits n replaces u m us ms < 2 ^ n
-bits-few zero replaces u m us ms = omega arith
-bits-few (suc n) replaces u m [] ms = (let some = bits-few n replaces u m [] ms in omega (arith, some))
-bits-few (suc n) replaces u m (v ∷ us) [] = (let some = bits-few n replaces u m us [] in omega (arith, some))
-bits-few (suc n) replaces u m (v ∷ us) (w ∷ ms) = omega (arith, bits-few n replaces v w us ms, one-bit (is_retained replaces u m v w))
+pub bits-few : (n : ℕ) (is_run : Bool) (u m : ℕ) (us ms : List ℕ) → retained_bits n is_run u m us ms < 2 ^ n
+bits-few zero is_run u m us ms = omega arith
+bits-few (suc n) is_run u m [] ms = (let some = bits-few n is_run u m [] ms in omega (arith, some))
+bits-few (suc n) is_run u m (v ∷ us) [] = (let some = bits-few n is_run u m us [] in omega (arith, some))
+bits-few (suc n) is_run u m (v ∷ us) (w ∷ ms) = omega (arith, bits-few n is_run v w us ms, one-bit (is_retained is_run u m v w))
 
 -- ---- the units that the bits select
 
@@ -78,15 +78,15 @@ first-compressed false bits x xs =
     let half : (0 + 2 * bits) / 2 ≡ bits = omega arith in
     rw (even, half) refl
 
-retained-bits : (n : ℕ) (replaces : Bool) (u m : ℕ) (us ms : List ℕ) → length us ≡ n → length ms ≡ n → compressed_lanes (retained_bits n replaces u m us ms) ms ≡ retained replaces u m us ms
-retained-bits zero replaces u m [] [] long as_long = refl
-retained-bits zero replaces u m [] (w ∷ ms) long as_long = absurd (omega arith)
-retained-bits zero replaces u m (v ∷ us) ms long as_long = absurd (omega arith)
-retained-bits (suc n) replaces u m [] ms long as_long = absurd (omega arith)
-retained-bits (suc n) replaces u m (v ∷ us) [] long as_long = absurd (omega arith)
-retained-bits (suc n) replaces u m (v ∷ us) (w ∷ ms) long as_long =
-    let bit = is_retained replaces u m v w in
-    first-compressed bit (retained_bits n replaces v w us ms) w ms ∙ ap (λ xs. cond bit (w ∷ xs) xs) (retained-bits n replaces v w us ms (omega arith) (omega arith))
+retained-bits : (n : ℕ) (is_run : Bool) (u m : ℕ) (us ms : List ℕ) → length us ≡ n → length ms ≡ n → compressed_lanes (retained_bits n is_run u m us ms) ms ≡ retained is_run u m us ms
+retained-bits zero is_run u m [] [] long as_long = refl
+retained-bits zero is_run u m [] (w ∷ ms) long as_long = absurd (omega arith)
+retained-bits zero is_run u m (v ∷ us) ms long as_long = absurd (omega arith)
+retained-bits (suc n) is_run u m [] ms long as_long = absurd (omega arith)
+retained-bits (suc n) is_run u m (v ∷ us) [] long as_long = absurd (omega arith)
+retained-bits (suc n) is_run u m (v ∷ us) (w ∷ ms) long as_long =
+    let bit = is_retained is_run u m v w in
+    first-compressed bit (retained_bits n is_run v w us ms) w ms ∙ ap (λ xs. cond bit (w ∷ xs) xs) (retained-bits n is_run v w us ms (omega arith) (omega arith))
 
 -- ---- one chunk after another
 
@@ -94,31 +94,31 @@ add-first : (b : Bool) (x : ℕ) (a c : List ℕ) → cond b (x ∷ (a ++ c)) (a
 add-first true x a c = refl
 add-first false x a c = refl
 
-retained-parts : (n : ℕ) (replaces : Bool) (us ms : List ℕ) → n < length us → n < length ms
-    → retained replaces (get_or us 0 0) (get_or ms 0 0) (drop 1 us) (drop 1 ms) ≡ retained replaces (get_or us 0 0) (get_or ms 0 0) (take n (drop 1 us)) (take n (drop 1 ms)) ++ retained replaces (get_or us n 0) (get_or ms n 0) (drop (suc n) us) (drop (suc n) ms)
-retained-parts n replaces [] ms within as_within = absurd (omega arith)
-retained-parts n replaces (u ∷ us) [] within as_within = absurd (omega arith)
-retained-parts zero replaces (u ∷ us) (m ∷ ms) within as_within = refl
-retained-parts (suc n) replaces (u ∷ []) (m ∷ ms) within as_within = absurd (omega arith)
-retained-parts (suc n) replaces (u ∷ v ∷ us) (m ∷ []) within as_within = absurd (omega arith)
-retained-parts (suc n) replaces (u ∷ v ∷ us) (m ∷ w ∷ ms) within as_within =
-    let bit = is_retained replaces u m v w in
-    let lead = retained replaces v w (take n us) (take n ms) in
-    let back = retained replaces (get_or (v ∷ us) n 0) (get_or (w ∷ ms) n 0) (drop (suc n) (v ∷ us)) (drop (suc n) (w ∷ ms)) in
-    ap (λ xs. cond bit (w ∷ xs) xs) (retained-parts n replaces (v ∷ us) (w ∷ ms) (omega arith) (omega arith)) ∙ add-first bit w lead back
+retained-parts : (n : ℕ) (is_run : Bool) (us ms : List ℕ) → n < length us → n < length ms
+    → retained is_run (get_or us 0 0) (get_or ms 0 0) (drop 1 us) (drop 1 ms) ≡ retained is_run (get_or us 0 0) (get_or ms 0 0) (take n (drop 1 us)) (take n (drop 1 ms)) ++ retained is_run (get_or us n 0) (get_or ms n 0) (drop (suc n) us) (drop (suc n) ms)
+retained-parts n is_run [] ms within as_within = absurd (omega arith)
+retained-parts n is_run (u ∷ us) [] within as_within = absurd (omega arith)
+retained-parts zero is_run (u ∷ us) (m ∷ ms) within as_within = refl
+retained-parts (suc n) is_run (u ∷ []) (m ∷ ms) within as_within = absurd (omega arith)
+retained-parts (suc n) is_run (u ∷ v ∷ us) (m ∷ []) within as_within = absurd (omega arith)
+retained-parts (suc n) is_run (u ∷ v ∷ us) (m ∷ w ∷ ms) within as_within =
+    let bit = is_retained is_run u m v w in
+    let lead = retained is_run v w (take n us) (take n ms) in
+    let back = retained is_run (get_or (v ∷ us) n 0) (get_or (w ∷ ms) n 0) (drop (suc n) (v ∷ us)) (drop (suc n) (w ∷ ms)) in
+    ap (λ xs. cond bit (w ∷ xs) xs) (retained-parts n is_run (v ∷ us) (w ∷ ms) (omega arith) (omega arith)) ∙ add-first bit w lead back
 
 -- ---- item by item
 
 -- What is retained depends on the unit before only by whether it was replaced.
-same-before : (replaces : Bool) (u m v w : ℕ) (us ms : List ℕ) → nat_eq u m ≡ nat_eq v w → retained replaces u m us ms ≡ retained replaces v w us ms
-same-before replaces u m v w [] ms e = refl
-same-before replaces u m v w (x ∷ us) [] e = refl
-same-before replaces u m v w (x ∷ us) (y ∷ ms) e =
-    let rest = retained replaces x y us ms in
-    ap (λ same. cond (cond (nat_eq x y) true (cond replaces same false)) (y ∷ rest) rest) e
+same-before : (is_run : Bool) (u m v w : ℕ) (us ms : List ℕ) → nat_eq u m ≡ nat_eq v w → retained is_run u m us ms ≡ retained is_run v w us ms
+same-before is_run u m v w [] ms e = refl
+same-before is_run u m v w (x ∷ us) [] e = refl
+same-before is_run u m v w (x ∷ us) (y ∷ ms) e =
+    let rest = retained is_run x y us ms in
+    ap (λ same. cond (cond (nat_eq x y) true (cond is_run same false)) (y ∷ rest) rest) e
 
 abbrev pub beyond : Bool → Bool → List ℕ → List ℕ → List ℕ
-beyond replaces after us ms = retained replaces 0 (bit_of after) us ms
+beyond is_run after us ms = retained is_run 0 (bit_of after) us ms
 
 own : (x : ℕ) → nat_eq x x ≡ true
 own x = elim (eqb_tells x x) [
@@ -127,20 +127,20 @@ own x = elim (eqb_tells x x) [
 ]
 
 -- Units that were not replaced are retained.
-valid-is_retained : (replaces : Bool) (u m x : ℕ) (a us ms : List ℕ) → retained replaces u m ((x ∷ a) ++ us) ((x ∷ a) ++ ms) ≡ (x ∷ a) ++ beyond replaces false us ms
-valid-is_retained replaces u m x [] us ms =
-    let rest = retained replaces x x us ms in
-    ap (λ same. cond (cond same true (cond replaces (nat_eq u m) false)) (x ∷ rest) rest) (own x) ∙ ap (λ xs. x ∷ xs) (same-before replaces x x 0 0 us ms (own x))
-valid-is_retained replaces u m x (y ∷ a) us ms =
-    let rest = retained replaces x x ((y ∷ a) ++ us) ((y ∷ a) ++ ms) in
-    ap (λ same. cond (cond same true (cond replaces (nat_eq u m) false)) (x ∷ rest) rest) (own x) ∙ ap (λ xs. x ∷ xs) (valid-is_retained replaces x x y a us ms)
+valid-is_retained : (is_run : Bool) (u m x : ℕ) (a us ms : List ℕ) → retained is_run u m ((x ∷ a) ++ us) ((x ∷ a) ++ ms) ≡ (x ∷ a) ++ beyond is_run false us ms
+valid-is_retained is_run u m x [] us ms =
+    let rest = retained is_run x x us ms in
+    ap (λ same. cond (cond same true (cond is_run (nat_eq u m) false)) (x ∷ rest) rest) (own x) ∙ ap (λ xs. x ∷ xs) (same-before is_run x x 0 0 us ms (own x))
+valid-is_retained is_run u m x (y ∷ a) us ms =
+    let rest = retained is_run x x ((y ∷ a) ++ us) ((y ∷ a) ++ ms) in
+    ap (λ same. cond (cond same true (cond is_run (nat_eq u m) false)) (x ∷ rest) rest) (own x) ∙ ap (λ xs. x ∷ xs) (valid-is_retained is_run x x y a us ms)
 
-some-retain : (replaces : Bool) (u m : ℕ) (a us ms : List ℕ) → 0 < length a → retained replaces u m (a ++ us) (a ++ ms) ≡ a ++ beyond replaces false us ms
-some-retain replaces u m [] us ms some = absurd (omega arith)
-some-retain replaces u m (x ∷ a) us ms some = valid-is_retained replaces u m x a us ms
+some-retain : (is_run : Bool) (u m : ℕ) (a us ms : List ℕ) → 0 < length a → retained is_run u m (a ++ us) (a ++ ms) ≡ a ++ beyond is_run false us ms
+some-retain is_run u m [] us ms some = absurd (omega arith)
+some-retain is_run u m (x ∷ a) us ms some = valid-is_retained is_run u m x a us ms
 
 abbrev policy_for : Bool → Policy
-policy_for replaces = cond replaces Run Skip
+policy_for is_run = cond is_run Run Skip
 
 no-mask : (v : ℕ) → IsFault Utf16 v → nat_eq v 0xFFFD ≡ false
 no-mask v fault = elim (eqb_tells v 0xFFFD) [
@@ -149,42 +149,42 @@ no-mask v fault = elim (eqb_tells v 0xFFFD) [
 ]
 
 -- The replacement character of a fault is retained by whether a fault precedes it.
-mask-is_retained : (replaces after : Bool) (v : ℕ) (us ms : List ℕ) → nat_eq v 0xFFFD ≡ false → beyond replaces after (v ∷ us) (0xFFFD ∷ ms) ≡ cond (cond replaces (not after) false) (0xFFFD ∷ beyond replaces true us ms) (beyond replaces true us ms)
-mask-is_retained replaces after v us ms other =
-    let rest = retained replaces v 0xFFFD us ms in
-    ap (λ same. cond (cond same true (cond replaces (nat_eq 0 (bit_of after)) false)) (0xFFFD ∷ rest) rest) other
-    ∙ ap (λ same. cond (cond replaces same false) (0xFFFD ∷ rest) rest) (zero-bit after)
-    ∙ ap (λ xs. cond (cond replaces (not after) false) (0xFFFD ∷ xs) xs) (same-before replaces v 0xFFFD 0 1 us ms other)
+mask-is_retained : (is_run after : Bool) (v : ℕ) (us ms : List ℕ) → nat_eq v 0xFFFD ≡ false → beyond is_run after (v ∷ us) (0xFFFD ∷ ms) ≡ cond (cond is_run (not after) false) (0xFFFD ∷ beyond is_run true us ms) (beyond is_run true us ms)
+mask-is_retained is_run after v us ms other =
+    let rest = retained is_run v 0xFFFD us ms in
+    ap (λ same. cond (cond same true (cond is_run (nat_eq 0 (bit_of after)) false)) (0xFFFD ∷ rest) rest) other
+    ∙ ap (λ same. cond (cond is_run same false) (0xFFFD ∷ rest) rest) (zero-bit after)
+    ∙ ap (λ xs. cond (cond is_run (not after) false) (0xFFFD ∷ xs) xs) (same-before is_run v 0xFFFD 0 1 us ms other)
   where
     zero-bit : (b : Bool) → nat_eq 0 (bit_of b) ≡ not b
     zero-bit true = refl
     zero-bit false = refl
 
-text-after_fault : (replaces after : Bool) (v : ℕ) (is : List Item) → cond (cond replaces (not after) false) (0xFFFD ∷ encode Utf16 (lossy_after (policy_for replaces) true is)) (encode Utf16 (lossy_after (policy_for replaces) true is)) ≡ encode Utf16 (lossy_after (policy_for replaces) after (Fault v ∷ is))
+text-after_fault : (is_run after : Bool) (v : ℕ) (is : List Item) → cond (cond is_run (not after) false) (0xFFFD ∷ encode Utf16 (lossy_after (policy_for is_run) true is)) (encode Utf16 (lossy_after (policy_for is_run) true is)) ≡ encode Utf16 (lossy_after (policy_for is_run) after (Fault v ∷ is))
 text-after_fault true true v is = refl
 text-after_fault true false v is = ap (encode Utf16) (sym (lossy_after-append Run false (Fault v ∷ []) is))
 text-after_fault false after v is = refl
 
-text-after_char : (replaces after : Bool) (c : ℕ) (is : List Item) → code_units Utf16 c ++ encode Utf16 (lossy_after (policy_for replaces) false is) ≡ encode Utf16 (lossy_after (policy_for replaces) after (Char c ∷ is))
+text-after_char : (is_run after : Bool) (c : ℕ) (is : List Item) → code_units Utf16 c ++ encode Utf16 (lossy_after (policy_for is_run) false is) ≡ encode Utf16 (lossy_after (policy_for is_run) after (Char c ∷ is))
 text-after_char true true c is = refl
 text-after_char true false c is = refl
 text-after_char false after c is = refl
 
-no-items : (replaces after : Bool) → [] ≡ encode Utf16 (lossy_after (policy_for replaces) after [])
+no-items : (is_run after : Bool) → [] ≡ encode Utf16 (lossy_after (policy_for is_run) after [])
 no-items true true = refl
 no-items true false = refl
 no-items false after = refl
 
-retained-items : (replaces after : Bool) (is : List Item) → Chain Utf16 is → beyond replaces after (units_of Utf16 is) (encode Utf16 (lossy is)) ≡ encode Utf16 (lossy_after (policy_for replaces) after is)
-retained-items replaces after [] chain = no-items replaces after
-retained-items replaces after (Char c ∷ is) chain =
-    some-retain replaces 0 (bit_of after) (code_units Utf16 c) (units_of Utf16 is) (encode Utf16 (lossy is)) (omega (arith, some_units Utf16 c)) ∙ ap (λ us. code_units Utf16 c ++ us) (retained-items replaces false is chain.2) ∙ text-after_char replaces after c is
-retained-items replaces after (Fault v ∷ is) chain =
-    mask-is_retained replaces after v (units_of Utf16 is) (encode Utf16 (lossy is)) (no-mask v chain.0) ∙ ap (λ us. cond (cond replaces (not after) false) (0xFFFD ∷ us) us) (retained-items replaces true is chain.2) ∙ text-after_fault replaces after v is
+retained-items : (is_run after : Bool) (is : List Item) → Chain Utf16 is → beyond is_run after (units_of Utf16 is) (encode Utf16 (lossy is)) ≡ encode Utf16 (lossy_after (policy_for is_run) after is)
+retained-items is_run after [] chain = no-items is_run after
+retained-items is_run after (Char c ∷ is) chain =
+    some-retain is_run 0 (bit_of after) (code_units Utf16 c) (units_of Utf16 is) (encode Utf16 (lossy is)) (omega (arith, some_units Utf16 c)) ∙ ap (λ us. code_units Utf16 c ++ us) (retained-items is_run false is chain.2) ∙ text-after_char is_run after c is
+retained-items is_run after (Fault v ∷ is) chain =
+    mask-is_retained is_run after v (units_of Utf16 is) (encode Utf16 (lossy is)) (no-mask v chain.0) ∙ ap (λ us. cond (cond is_run (not after) false) (0xFFFD ∷ us) us) (retained-items is_run true is chain.2) ∙ text-after_fault is_run after v is
 
-retained-text : (replaces after : Bool) (us ms : List ℕ) → ms ≡ encode Utf16 (lossy (items Utf16 us)) → beyond replaces after us ms ≡ encode Utf16 (lossy_after (policy_for replaces) after (items Utf16 us))
-retained-text replaces after us ms repaired =
-    ap (λ xs. beyond replaces after us xs) repaired ∙ ap (λ xs. beyond replaces after xs (encode Utf16 (lossy (items Utf16 us)))) (sym (units_of-items Utf16 us)) ∙ retained-items replaces after (items Utf16 us) (items-chain Utf16 us)
+retained-text : (is_run after : Bool) (us ms : List ℕ) → ms ≡ encode Utf16 (lossy (items Utf16 us)) → beyond is_run after us ms ≡ encode Utf16 (lossy_after (policy_for is_run) after (items Utf16 us))
+retained-text is_run after us ms repaired =
+    ap (λ xs. beyond is_run after us xs) repaired ∙ ap (λ xs. beyond is_run after xs (encode Utf16 (lossy (items Utf16 us)))) (sym (units_of-items Utf16 us)) ∙ retained-items is_run after (items Utf16 us) (items-chain Utf16 us)
 
 -- ---- eight lanes of which the first are used
 
@@ -194,9 +194,9 @@ lanes-stored xs ys at len long space few =
 
 -- ---- one more step
 
-eight-parts : (replaces : Bool) (v w : ℕ) (vs ws : List ℕ) → 8 ≤ length vs → length ws ≡ length vs
-    → retained replaces v w vs ws ≡ retained replaces v w (take 8 vs) (take 8 ws) ++ retained replaces (get_or vs 7 0) (get_or ws 7 0) (drop 8 vs) (drop 8 ws)
-eight-parts replaces v w vs ws long as_long = retained-parts 8 replaces (v ∷ vs) (w ∷ ws) (omega arith) (omega arith)
+eight-parts : (is_run : Bool) (v w : ℕ) (vs ws : List ℕ) → 8 ≤ length vs → length ws ≡ length vs
+    → retained is_run v w vs ws ≡ retained is_run v w (take 8 vs) (take 8 ws) ++ retained is_run (get_or vs 7 0) (get_or ws 7 0) (drop 8 vs) (drop 8 ws)
+eight-parts is_run v w vs ws long as_long = retained-parts 8 is_run (v ∷ vs) (w ∷ ws) (omega arith) (omega arith)
 
 module _ (us : List ℕ) (done : ℕ) where
   next-at : get_or (drop done us) 7 0 ≡ get_or us (done + 8 - 1) 0
@@ -212,21 +212,21 @@ module _ (us : List ℕ) (done : ℕ) where
         let all : done - 1 + 1 ≡ done = omega arith in
         ap (λ n. drop 1 (take n (drop (done - 1) us))) nine ∙ drop-take 1 8 (drop (done - 1) us) ∙ ap (take 8) (drop-drop 1 (done - 1) us ∙ ap (λ n. drop n us) all)
 
-pub retained-eights : (replaces : Bool) (p q done : ℕ) (us ms lead more : List ℕ) → 0 < done → done + 8 ≤ length us → length ms ≡ length us
-    → retained replaces p q us ms ≡ lead ++ retained replaces (get_or us (done - 1) 0) (get_or ms (done - 1) 0) (drop done us) (drop done ms)
-    → more ≡ lead ++ compressed_lanes (retained_bits 8 replaces (get_or (take (done + 8 - (done - 1)) (drop (done - 1) us)) 0 0) (get_or (take (done + 8 - (done - 1)) (drop (done - 1) ms)) 0 0) (drop 1 (take (done + 8 - (done - 1)) (drop (done - 1) us))) (drop 1 (take (done + 8 - (done - 1)) (drop (done - 1) ms)))) (drop 1 (take (done + 8 - (done - 1)) (drop (done - 1) ms)))
-    → retained replaces p q us ms ≡ more ++ retained replaces (get_or us (done + 8 - 1) 0) (get_or ms (done + 8 - 1) 0) (drop (done + 8) us) (drop (done + 8) ms)
-retained-eights replaces p q done us ms lead more some within long so_far put =
+pub retained-eights : (is_run : Bool) (p q done : ℕ) (us ms lead more : List ℕ) → 0 < done → done + 8 ≤ length us → length ms ≡ length us
+    → retained is_run p q us ms ≡ lead ++ retained is_run (get_or us (done - 1) 0) (get_or ms (done - 1) 0) (drop done us) (drop done ms)
+    → more ≡ lead ++ compressed_lanes (retained_bits 8 is_run (get_or (take (done + 8 - (done - 1)) (drop (done - 1) us)) 0 0) (get_or (take (done + 8 - (done - 1)) (drop (done - 1) ms)) 0 0) (drop 1 (take (done + 8 - (done - 1)) (drop (done - 1) us))) (drop 1 (take (done + 8 - (done - 1)) (drop (done - 1) ms)))) (drop 1 (take (done + 8 - (done - 1)) (drop (done - 1) ms)))
+    → retained is_run p q us ms ≡ more ++ retained is_run (get_or us (done + 8 - 1) 0) (get_or ms (done + 8 - 1) 0) (drop (done + 8) us) (drop (done + 8) ms)
+retained-eights is_run p q done us ms lead more some within long so_far put =
     let as_within : done + 8 ≤ length ms = omega arith in
     let v : ℕ = get_or us (done - 1) 0 in
     let w : ℕ = get_or ms (done - 1) 0 in
-    let here = retained replaces v w (take 8 (drop done us)) (take 8 (drop done ms)) in
-    let rest = retained replaces (get_or us (done + 8 - 1) 0) (get_or ms (done + 8 - 1) 0) (drop (done + 8) us) (drop (done + 8) ms) in
-    let lanes : more ≡ lead ++ compressed_lanes (retained_bits 8 replaces v w (take 8 (drop done us)) (take 8 (drop done ms))) (take 8 (drop done ms)) = rw (part-first us done some within, part-first ms done some as_within, part-rest us done some within, part-rest ms done some as_within) at put in
-    let retain = retained-bits 8 replaces v w (take 8 (drop done us)) (take 8 (drop done ms)) (omega (arith, length-take 8 (drop done us), length-drop done us)) (omega (arith, length-take 8 (drop done ms), length-drop done ms)) in
+    let here = retained is_run v w (take 8 (drop done us)) (take 8 (drop done ms)) in
+    let rest = retained is_run (get_or us (done + 8 - 1) 0) (get_or ms (done + 8 - 1) 0) (drop (done + 8) us) (drop (done + 8) ms) in
+    let lanes : more ≡ lead ++ compressed_lanes (retained_bits 8 is_run v w (take 8 (drop done us)) (take 8 (drop done ms))) (take 8 (drop done ms)) = rw (part-first us done some within, part-first ms done some as_within, part-rest us done some within, part-rest ms done some as_within) at put in
+    let retain = retained-bits 8 is_run v w (take 8 (drop done us)) (take 8 (drop done ms)) (omega (arith, length-take 8 (drop done us), length-drop done us)) (omega (arith, length-take 8 (drop done ms), length-drop done ms)) in
     let written : more ≡ lead ++ here = lanes ∙ ap (λ xs. lead ++ xs) retain in
-    let parts = eight-parts replaces v w (drop done us) (drop done ms) (omega (arith, length-drop done us)) (omega (arith, length-drop done us, length-drop done ms)) in
-    let both : retained replaces v w (drop done us) (drop done ms) ≡ here ++ rest = rw (next-at us done, next-at ms done, drop-drop 8 done us, drop-drop 8 done ms) at parts in
+    let parts = eight-parts is_run v w (drop done us) (drop done ms) (omega (arith, length-drop done us)) (omega (arith, length-drop done us, length-drop done ms)) in
+    let both : retained is_run v w (drop done us) (drop done ms) ≡ here ++ rest = rw (next-at us done, next-at ms done, drop-drop 8 done us, drop-drop 8 done ms) at parts in
     so_far ∙ ap (λ xs. lead ++ xs) both ∙ sym (append_assoc lead here rest) ∙ ap (λ xs. xs ++ rest) (sym written)
 
 -- ---- all units
@@ -235,11 +235,11 @@ none-left : (xs : List ℕ) → length xs ≡ 0 → xs ≡ []
 none-left [] none = refl
 none-left (x ∷ xs) none = absurd (omega arith)
 
-pub stayed-all : (replaces after : Bool) (us ms out : List ℕ) (u m done : ℕ) → ms ≡ encode Utf16 (lossy (items Utf16 us)) → length us ≤ done → beyond replaces after us ms ≡ out ++ retained replaces u m (drop done us) (drop done ms)
-    → out ≡ encode Utf16 (lossy_after (cond replaces Run Skip) after (items Utf16 us))
-stayed-all replaces after us ms out u m done repaired all so_far =
+pub stayed-all : (is_run after : Bool) (us ms out : List ℕ) (u m done : ℕ) → ms ≡ encode Utf16 (lossy (items Utf16 us)) → length us ≤ done → beyond is_run after us ms ≡ out ++ retained is_run u m (drop done us) (drop done ms)
+    → out ≡ encode Utf16 (lossy_after (cond is_run Run Skip) after (items Utf16 us))
+stayed-all is_run after us ms out u m done repaired all so_far =
     let gone = none-left (drop done us) (omega (arith, all, length-drop done us)) in
-    sym (so_far ∙ ap (λ xs. out ++ retained replaces u m xs (drop done ms)) gone ∙ append-nil out) ∙ retained-text replaces after us ms repaired
+    sym (so_far ∙ ap (λ xs. out ++ retained is_run u m xs (drop done ms)) gone ∙ append-nil out) ∙ retained-text is_run after us ms repaired
 
-pub stayed-none : (replaces after : Bool) (us ms : List ℕ) → ms ≡ encode Utf16 (lossy (items Utf16 us)) → length us ≡ 0 → [] ≡ encode Utf16 (lossy_after (cond replaces Run Skip) after (items Utf16 us))
-stayed-none replaces after us ms repaired none = stayed-all replaces after us ms [] 0 0 0 repaired (omega arith) (ap (λ xs. beyond replaces after xs ms) (none-left us none) ∙ sym (ap (λ xs. retained replaces 0 0 xs ms) (none-left us none)))
+pub stayed-none : (is_run after : Bool) (us ms : List ℕ) → ms ≡ encode Utf16 (lossy (items Utf16 us)) → length us ≡ 0 → [] ≡ encode Utf16 (lossy_after (cond is_run Run Skip) after (items Utf16 us))
+stayed-none is_run after us ms repaired none = stayed-all is_run after us ms [] 0 0 0 repaired (omega arith) (ap (λ xs. beyond is_run after xs ms) (none-left us none) ∙ sym (ap (λ xs. retained is_run 0 0 xs ms) (none-left us none)))

@@ -1,7 +1,7 @@
-//! Writes the lossy text of units of either width under a policy, as well-formed units, prefix by prefix (Unicode
-//! Standard, section 3.9, "U+FFFD Substitution of Maximal Subparts"). All lossy text of units is made here. UTF-16 is
-//! vectorized: it is repaired, with U+FFFD for each fault. If the policy writes fewer, this is done in chunks, and of
-//! each chunk the other U+FFFD are left out.
+//! Writes the lossy text of a slice of units under a policy, as well-formed units, prefix by prefix (Unicode Standard,
+//! section 3.9, "U+FFFD Substitution of Maximal Subparts"). UTF-16 is vectorized: all units are repaired, with U+FFFD
+//! for each fault. Under `Policy::Run` and `Policy::Skip` they are repaired chunk by chunk into an array, and the
+//! U+FFFD that the policy does not write are left out when the chunk is copied.
 ghost use Rattle.std.specs.Prelude.{◌≡◌, ◌<◌, ◌≤◌, length, min, take, drop, if◌then◌else◌};
 ghost use Rattle.wide_forms.specs.EncodingForm.{Utf16, Utf32, encode};
 ghost use Rattle.wide_forms.specs.Items.{items};
@@ -15,13 +15,12 @@ use wide_forms::{
     LossyProgress, Policy, is_high_surrogate, is_low_surrogate, is_surrogate, replacement,
 };
 
-// The most units of UTF-16 that are repaired in an array of as many, if replacement characters are left out. A small
-// array takes less time to clear.
-const FEW: usize = 256;
+// The most units that are repaired in the small array, and its size. A small array takes less time to clear.
+const SMALL_CHUNK: usize = 256;
 
-// How many of more units are repaired at once: enough for the two ends of a chunk, which are not vectorized, to take
-// little of the time.
-const MANY: usize = 1024;
+// The size of the array in which more units are repaired, chunk by chunk. The units at both ends of a chunk are not
+// repaired in vectors. In a chunk of this size they take little of the time.
+const LARGE_CHUNK: usize = 1024;
 
 // Returns how many units at the beginning can be repaired separately: all if there are at most `most`, and otherwise
 // `most`, or one fewer if that would split a surrogate pair.
@@ -42,8 +41,8 @@ fn uncut_len(units: &[u16], most: usize) -> usize
     }
 }
 
-/// Returns whether a fault was read last: whether the units of UTF-16 end in a fault, or `after_fault` if there are
-/// none. A surrogate at the end is one, unless it is the second of a pair.
+/// Returns whether the last unit of UTF-16 is a fault: a surrogate that does not end a pair. If there are no units,
+/// returns `after_fault`, which says whether a fault precedes them.
 pub fn ends_in_fault(units: &[u16], after_fault: bool) -> bool
     ensures { result ≡ ends_in_fault after_fault (items Utf16 units.now) }
 {
@@ -57,41 +56,40 @@ pub fn ends_in_fault(units: &[u16], after_fault: bool) -> bool
     is_surrogate(units[len - 1])
 }
 
-// Writes what is retained of a repaired chunk of UTF-16, and returns how many units that is. It is the chunk itself if
-// that has no fault. `replaces` says whether one replacement character is written for each run of faults, or none.
+// Writes the retained units of a repaired chunk of UTF-16, and returns their number. A chunk without faults is copied.
+// The policy is `Run` if `is_run` is true, and otherwise `Skip`.
 fn put_chunk(
     chunk: &[u16],
     repaired: &[u16],
-    replaces: bool,
+    is_run: bool,
     after_fault: bool,
     text: &mut [u16],
 ) -> usize
     requires repaired { repaired.now ≡ encode Utf16 (lossy (items Utf16 chunk.now)) }
     requires long { length repaired.now ≡ length chunk.now }
     requires space { length chunk.now ≤ length text.old }
-    ensures text { take result text.new ≡ encode Utf16 (lossy_after (if replaces then Run else Skip) after_fault (items Utf16 chunk.now)) }
+    ensures text { take result text.new ≡ encode Utf16 (lossy_after (if is_run then Run else Skip) after_fault (items Utf16 chunk.now)) }
     ensures within { result ≤ length chunk.now }
 {
     if repaired == chunk {
         text[..chunk.len()].copy_from_slice(chunk);
         return chunk.len();
     }
-    retain_after(replaces, after_fault, chunk, repaired, text)
+    retain_after(is_run, after_fault, chunk, repaired, text)
 }
 
-// Writes the lossy text of all units of UTF-16, and returns how many units it has: chunk by chunk, each of which is
-// repaired in `repaired` first. `replaces` says whether one replacement character is written for each run of faults, or
-// none.
+// Writes the lossy text of all units of UTF-16, and returns how many units it has. Each chunk is repaired in the array
+// `repaired` first. The policy is `Run` if `is_run` is true, and otherwise `Skip`.
 fn put_retained_chunks(
     units: &[u16],
-    replaces: bool,
+    is_run: bool,
     after_fault: bool,
     repaired: &mut [u16],
     text: &mut [u16],
 ) -> usize
     requires spare { 2 ≤ length repaired.old }
     requires space { length units.now ≤ length text.old }
-    ensures text { take result text.new ≡ encode Utf16 (lossy_after (if replaces then Run else Skip) after_fault (items Utf16 units.now)) }
+    ensures text { take result text.new ≡ encode Utf16 (lossy_after (if is_run then Run else Skip) after_fault (items Utf16 units.now)) }
     ensures within { result ≤ length units.now }
 {
     let mut rest = units;
@@ -101,7 +99,7 @@ fn put_retained_chunks(
         let (chunk, beyond) = rest.split_at(uncut_len(rest, repaired.len()));
         repair_16(chunk, repaired);
         let fixed = &repaired[..chunk.len()];
-        at += put_chunk(chunk, fixed, replaces, is_after, &mut text[at..]);
+        at += put_chunk(chunk, fixed, is_run, is_after, &mut text[at..]);
         is_after = ends_in_fault(chunk, is_after);
         rest = beyond;
     }
@@ -118,22 +116,24 @@ fn put_lossy(units: &[u16], policy: Policy, after_fault: bool, text: &mut [u16])
         repair_16(units, text);
         return units.len();
     }
-    let replaces = replacement(policy, false).is_some();
-    if units.len() <= FEW {
-        put_retained_chunks(units, replaces, after_fault, &mut [0; FEW], text)
+    // The policy is now Run or Skip. They differ only in what they write for the first fault of a run.
+    let is_run = replacement(policy, false).is_some();
+    if units.len() <= SMALL_CHUNK {
+        put_retained_chunks(units, is_run, after_fault, &mut [0; SMALL_CHUNK], text)
     } else {
-        put_retained_chunks(units, replaces, after_fault, &mut [0; MANY], text)
+        put_retained_chunks(units, is_run, after_fault, &mut [0; LARGE_CHUNK], text)
     }
 }
 
 /// Writes the lossy text of a prefix of 16-bit units under a policy (Unicode Standard, section 3.9, "U+FFFD
 /// Substitution of Maximal Subparts") as well-formed UTF-16 at the beginning of `text`. It reads all units if `text` is
-/// as long, and otherwise as many as `text` has, or one fewer. If `after_fault` is true, a fault precedes the units.
-/// The units of `text` after those written may be overwritten.
+/// at least as long. Otherwise it reads as many units as `text` has, or one fewer where that would split a surrogate
+/// pair. If `after_fault` is true, a fault precedes the units. The units of `text` after those written may be
+/// overwritten.
 ///
 /// # Requires
 ///
-/// `text` has at least two units, or is as long as `units`.
+/// `text` has at least two units, or is at least as long as `units`.
 pub fn lossy_prefix_16(
     units: &[u16],
     policy: Policy,
@@ -160,8 +160,8 @@ pub fn lossy_prefix_16(
 }
 
 /// Writes the lossy text of a prefix of 32-bit units under a policy (Unicode Standard, section 3.9, "U+FFFD
-/// Substitution of Maximal Subparts") as well-formed UTF-32 at the beginning of `text`. It reads as many units as
-/// `text` has, if there are as many. If `after_fault` is true, a fault precedes the units. The units of `text` after
+/// Substitution of Maximal Subparts") as well-formed UTF-32 at the beginning of `text`. It reads all units, or as many
+/// as `text` has if there are more. If `after_fault` is true, a fault precedes the units. The units of `text` after
 /// those written may be overwritten.
 pub fn lossy_prefix_32(
     units: &[u32],

@@ -1,6 +1,7 @@
 //! Leaves out of repaired UTF-16 each U+FFFD that a policy does not write (Unicode Standard, section 3.9, "U+FFFD
-//! Substitution of Maximal Subparts"). Vectorized: eight units in one step, of which those that are retained are
-//! compressed by a look-up table of shuffles.
+//! Substitution of Maximal Subparts"). Vectorized: a step takes a window of nine units, decides for each of the last
+//! eight by the unit before it, and compresses those that are retained by a look-up table of shuffles. The policy is
+//! `Run` where `is_run` is true, and otherwise `Skip`.
 
 ghost use Rattle.std.specs.Prelude.{◌≡◌, ◌++◌, ◌∷◌, [], ◌+◌, ◌<◌, ◌≤◌, ℕ, length, slice_index, take, drop, if◌then◌else◌};
 ghost use Rattle.wide_forms.specs.EncodingForm.{Utf16, encode};
@@ -16,51 +17,45 @@ use std::simd::prelude::*;
 // Returns whether a repaired unit is retained: if the unit was not replaced, or if the policy retains replacement
 // characters and the unit before was not replaced.
 #[inline(always)]
-fn is_retained(replaces: bool, before: u16, repaired_before: u16, unit: u16, repaired: u16) -> bool
-    ensures { result ≡ is_retained replaces before repaired_before unit repaired }
+fn is_retained(is_run: bool, before: u16, repaired_before: u16, unit: u16, repaired: u16) -> bool
+    ensures { result ≡ is_retained is_run before repaired_before unit repaired }
 {
-    unit == repaired || (replaces && before == repaired_before)
+    unit == repaired || (is_run && before == repaired_before)
 }
 
-// Sets lane k of eight to 1 if repaired unit k + 1 of nine is retained, and otherwise to 0.
+// Sets lane k to 1 if unit k + 1 of a window is retained, and otherwise to 0.
 #[inline(always)]
-fn retained_lanes(replaces: bool, units: &[u16], repaired: &[u16], lanes: &mut [u16])
+fn retained_lanes(is_run: bool, units: &[u16], repaired: &[u16], lanes: &mut [u16])
     requires units { length units.now ≡ 9 }
     requires repaired { length repaired.now ≡ 9 }
     requires space { length lanes.old ≡ 8 }
-    ensures { (k : ℕ) → k < 8 → slice_index lanes.new k ≡ bit_of (is_retained replaces (slice_index units.now k) (slice_index repaired.now k) (slice_index units.now (k + 1)) (slice_index repaired.now (k + 1))) }
+    ensures { (k : ℕ) → k < 8 → slice_index lanes.new k ≡ bit_of (is_retained is_run (slice_index units.now k) (slice_index repaired.now k) (slice_index units.now (k + 1)) (slice_index repaired.now (k + 1))) }
 {
     for k in 0..8 {
-        let is_retained = is_retained(
-            replaces,
-            units[k],
-            repaired[k],
-            units[k + 1],
-            repaired[k + 1],
-        );
+        let is_retained = is_retained(is_run, units[k], repaired[k], units[k + 1], repaired[k + 1]);
         lanes[k] = u16::from(is_retained);
     }
 }
 
-// Returns a bit mask of the last eight of nine repaired units: bit k is set if unit k + 1 is retained.
+// Returns a bit mask of the last eight units of a window: bit k is set if unit k + 1 is retained.
 #[inline(always)]
-fn retained_bits(replaces: bool, units: &[u16], repaired: &[u16]) -> usize
+fn retained_bits(is_run: bool, units: &[u16], repaired: &[u16]) -> usize
     requires units { length units.now ≡ 9 }
     requires repaired { length repaired.now ≡ 9 }
-    ensures bits { result ≡ retained_bits 8 replaces (slice_index units.now 0) (slice_index repaired.now 0) (drop 1 units.now) (drop 1 repaired.now) }
+    ensures bits { result ≡ retained_bits 8 is_run (slice_index units.now 0) (slice_index repaired.now 0) (drop 1 units.now) (drop 1 repaired.now) }
     ensures below { result < 256 }
 {
     let mut lanes = [0u16; 8];
-    retained_lanes(replaces, units, repaired, &mut lanes);
-    let is_retained = u16x8::from_array(lanes).simd_ne(u16x8::splat(0));
-    is_retained.to_bitmask() as usize
+    retained_lanes(is_run, units, repaired, &mut lanes);
+    let mask = u16x8::from_array(lanes).simd_ne(u16x8::splat(0));
+    mask.to_bitmask() as usize
 }
 
-// Writes those of the last eight of nine repaired units that are retained, and returns the index after them. The eight
-// units from `at` on are overwritten.
+// Writes those of the last eight units of a window that are retained, and returns the index after them. The eight units
+// from `at` on are overwritten.
 #[inline(always)]
 fn put_retained(
-    replaces: bool,
+    is_run: bool,
     units: &[u16],
     repaired: &[u16],
     compressed: &mut [u16],
@@ -69,10 +64,10 @@ fn put_retained(
     requires units { length units.now ≡ 9 }
     requires repaired { length repaired.now ≡ 9 }
     requires space { at + 8 ≤ length compressed.old }
-    ensures units { take result compressed.new ≡ take at compressed.old ++ compressed_lanes (retained_bits 8 replaces (slice_index units.now 0) (slice_index repaired.now 0) (drop 1 units.now) (drop 1 repaired.now)) (drop 1 repaired.now) }
+    ensures units { take result compressed.new ≡ take at compressed.old ++ compressed_lanes (retained_bits 8 is_run (slice_index units.now 0) (slice_index repaired.now 0) (drop 1 units.now) (drop 1 repaired.now)) (drop 1 repaired.now) }
     ensures high { result ≤ at + 8 }
 {
-    let bits = retained_bits(replaces, units, repaired);
+    let bits = retained_bits(is_run, units, repaired);
     let lanes = compress(u16x8::from_slice(&repaired[1..]), bits);
     lanes.copy_to_slice(&mut compressed[at..at + 8]);
     at + bits.count_ones() as usize
@@ -102,14 +97,14 @@ pub(crate) fn put_one<T: Copy>(
     }
 }
 
-/// Writes the repaired units that are retained, and returns how many there are: one replacement character for each run
-/// of faults if `replaces` is true, and otherwise none. If `after_fault` is true, a fault precedes the units.
+/// Writes the repaired units that are retained, and returns how many there are. If `after_fault` is true, a fault
+/// precedes the units.
 ///
 /// # Requires
 ///
 /// `repaired` are the units with U+FFFD for each fault. `compressed` is at least as long.
 pub(crate) fn retain_after(
-    replaces: bool,
+    is_run: bool,
     after_fault: bool,
     units: &[u16],
     repaired: &[u16],
@@ -118,20 +113,21 @@ pub(crate) fn retain_after(
     requires repaired { repaired.now ≡ encode Utf16 (lossy (items Utf16 units.now)) }
     requires long { length repaired.now ≡ length units.now }
     requires space { length units.now ≤ length compressed.old }
-    ensures units { take result compressed.new ≡ encode Utf16 (lossy_after (if replaces then Run else Skip) after_fault (items Utf16 units.now)) }
+    ensures units { take result compressed.new ≡ encode Utf16 (lossy_after (if is_run then Run else Skip) after_fault (items Utf16 units.now)) }
     ensures within { result ≤ length units.now }
 {
     if units.is_empty() {
         return 0;
     }
-    let first = is_retained(replaces, 0, u16::from(after_fault), units[0], repaired[0]);
+    // No unit precedes the first one. In its place is 0, repaired to 1 if a fault precedes the units, and else to 0.
+    let first = is_retained(is_run, 0, u16::from(after_fault), units[0], repaired[0]);
     let mut at = put_one(first, repaired[0], compressed, 0);
     let mut done = 1;
     'eights: while units.len() - done >= 8 {
-        let beyond = &units[done - 1..done + 8];
+        let window = &units[done - 1..done + 8];
         at = put_retained(
-            replaces,
-            beyond,
+            is_run,
+            window,
             &repaired[done - 1..done + 8],
             compressed,
             at,
@@ -141,7 +137,7 @@ pub(crate) fn retain_after(
     'ones: while done < units.len() {
         let before = done - 1;
         let is_retained = is_retained(
-            replaces,
+            is_run,
             units[before],
             repaired[before],
             units[done],

@@ -71,8 +71,8 @@ pub(crate) fn shared_prefix<C: Unit>(left: &[C], right: &[C]) -> usize
     shared
 }
 
-// Returns how many units at the beginning of two slices are the same, or `COMPARED_BEFORE_BLOCKS` if there are at least as
-// many.
+// Returns how many units at the beginning of two slices are the same, or `COMPARED_BEFORE_BLOCKS` if there are at least
+// as many.
 #[inline(always)]
 pub(crate) fn near_prefix<C: Unit>(left: &[C], right: &[C]) -> usize
     ensures { result < 8 → IsCommonPrefix left.now right.now result }

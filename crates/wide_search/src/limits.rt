@@ -40,8 +40,8 @@ pub(crate) const NEEDLE_UNITS_PER_GAP_UNIT: usize = 4;
 // ---- from the front: how long the search by two units goes on
 
 // Offsets. A search by two units ends after this many, or later for a long needle, since the first unit may have become
-// rare by then. It ends sooner if a stretch of this many offsets has no pair; if the first and the last unit are further
-// apart than that, the stretch is as long as their distance.
+// rare by then. It ends sooner if a stretch of this many offsets has no pair; if the first and the last unit are
+// further apart than that, the stretch is as long as their distance.
 pub(crate) const OFFSETS_BY_PAIRS: usize = 4096;
 
 // Offsets for each unit that the last unit is from the first. A search by two units for a long needle ends after this

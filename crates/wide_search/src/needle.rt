@@ -43,13 +43,13 @@ pub(crate) trait Needle<C: Unit>: Copy {
         requires { take 1 (sought self) ≡ take 1 units.now }
         ensures { IsTrue result ↔ OccursAt (sought self) units.now 0 };
 
-    // Returns false only if the units do not begin with the needle. It compares two units, and may return true if either
-    // list has fewer.
+    // Returns false only if the units do not begin with the needle. It compares two units, and may return true if
+    // either list has fewer.
     fn may_be_prefix_of(self, units: &[C]) -> bool
         ensures { OccursAt (sought self) units.now 0 → IsTrue result };
 
-    // Returns how many units at the beginning are those of the needle, compared one by one. If there are fewer units than
-    // the needle has, it may return a smaller number.
+    // Returns how many units at the beginning are those of the needle, compared one by one. If there are fewer units
+    // than the needle has, it may return a smaller number.
     fn matched_one_by_one(self, units: &[C]) -> usize
         ensures within { result ≤ length (sought self) }
         ensures whole { OccursAt (sought self) units.now 0 ↔ (result ≡ length (sought self)) };

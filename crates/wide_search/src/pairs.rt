@@ -89,8 +89,8 @@ impl Lane for u32 {
     }
 }
 
-// Returns how many indices of the block at `at` come before the first at which both units match: the whole block if there
-// is none.
+// Returns how many indices of the block at `at` come before the first at which both units match: the whole block if
+// there is none.
 #[inline(always)]
 fn before_pair<L: Lane>(front: &[L], back: &[L], at: usize, first: L, last: L) -> usize
     requires front { at + L.COUNT ≤ length front.now }
@@ -173,9 +173,9 @@ fn last_in<L: Lane>(front: &[L], back: &[L], first: L, last: L) -> usize
     end
 }
 
-// Returns the first index at which `first` is in the one list and `last` in the other, or the length. It reads both lists
-// up to there, and to the end of the block. If the lists or the units had different widths, which does not happen, it
-// would return 0, which excludes no index.
+// Returns the first index at which `first` is in the one list and `last` in the other, or the length. It reads both
+// lists up to there, and to the end of the block. If the lists or the units had different widths, which does not
+// happen, it would return 0, which excludes no index.
 #[inline(always)]
 pub(crate) fn first_pair<C: Unit>(front: &[C], back: &[C], first: C, last: C) -> usize
     requires { length front.now ≡ length back.now }
@@ -196,8 +196,8 @@ pub(crate) fn first_pair<C: Unit>(front: &[C], back: &[C], first: C, last: C) ->
     }
 }
 
-// Returns the index after the last one at which `first` is in the one list and `last` in the other, or 0. If the lists or
-// the units had different widths, which does not happen, it would return the length, which excludes no index.
+// Returns the index after the last one at which `first` is in the one list and `last` in the other, or 0. If the lists
+// or the units had different widths, which does not happen, it would return the length, which excludes no index.
 pub(crate) fn last_pair<C: Unit>(front: &[C], back: &[C], first: C, last: C) -> usize
     requires { length front.now ≡ length back.now }
     ensures within { result ≤ length back.now }

@@ -17,8 +17,8 @@ use crate::pairs::first_pair;
 use crate::two_way::{Stop, find_two_way};
 use wide_unit::{Unit, first_of};
 
-// Returns an offset of at most `count` before which no needle with these two units occurs. It is the first at which both
-// match, or `count`.
+// Returns an offset of at most `count` before which no needle with these two units occurs. It is the first at which
+// both match, or `count`.
 #[inline(always)]
 fn skip<C: Unit>(units: &[C], count: usize, probe: Probe<C>) -> usize
     requires { count + probe.distance ≤ length units.now }
@@ -103,10 +103,10 @@ fn tries_in_place(len: usize) -> usize
     tries.max(TRIES_BETWEEN_PAIRS)
 }
 
-// Searches on from an offset before which the needle does not occur, where its first unit is frequent: it occurs once in
-// `gap` units. Returns where it stopped, and how many tries at the first unit should follow. Units are compared where
-// both the first and the last unit match, or at each offset if they match nearly everywhere. Where both match nearly as
-// often as the first alone, it stops. If too many units were compared in vain, the two-way search takes over.
+// Searches on from an offset before which the needle does not occur, where its first unit is frequent: it occurs once
+// in `gap` units. Returns where it stopped, and how many tries at the first unit should follow. Units are compared
+// where both the first and the last unit match, or at each offset if they match nearly everywhere. Where both match
+// nearly as often as the first alone, it stops. If too many units were compared in vain, the two-way search takes over.
 #[inline(never)]
 fn find_by_two<C: Unit, P: Needle<C>>(
     units: &[C],

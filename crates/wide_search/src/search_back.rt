@@ -108,7 +108,7 @@ pub(crate) fn rfind_by_two<C: Unit, P: Needle<C>>(
         costs = costs.after_try(at - found, matched);
         at = found - 1;
         match costs.turn(since - at, probe.distance, 0) {
-            Turn::Pairs | Turn::Back => {}
+            Turn::Pairs | Turn::Plain => {}
             Turn::Each => {
                 let (stop, matched) = rfind_each(units, needle, at, costs.tries, matched);
                 if stop.is_found {

@@ -36,8 +36,8 @@ fn first_difference<C: Unit, S: Side>(
     index
 }
 
-// Where a search stopped. From the front the needle does not occur before `at`; if it was found, it occurs at `at`. From
-// the back it does not occur from `at` on; if it was found, it occurs at `at - 1`.
+// Where a search stopped. From the front the needle does not occur before `at`; if it was found, it occurs at `at`.
+// From the back it does not occur from `at` on; if it was found, it occurs at `at - 1`.
 #[derive(Clone, Copy)]
 pub(crate) struct Stop {
     // The offset.
@@ -69,9 +69,9 @@ impl Stop {
     }
 }
 
-// Returns whether the first and the last unit of the needle both match at one of the next offsets. This affects only how
-// long the search takes: where they do not, the text may no longer repeat itself as the needle does, and other searches
-// take less time.
+// Returns whether the first and the last unit of the needle both match at one of the next offsets. This affects only
+// how long the search takes: where they do not, the text may no longer repeat itself as the needle does, and other
+// searches take less time.
 fn is_pair_nearby<C: Unit, S: Side>(units: &[C], needle: &[C], at: usize) -> bool
     requires some { 0 < length needle.now }
     requires fits { at + length needle.now ≤ length units.now }

@@ -6,6 +6,7 @@ use Rattle.wide_forms.specs.Items.{items, leading_characters, first_fault}
 use Rattle.wide_forms.specs.Lossy.{lossy_by}
 use Rattle.wide_forms.specs.Utf8.{utf8}
 use Rattle.wide_forms.specs.Laws.Items.{items-nil}
+use Rattle.wide_forms.specs.Laws.Policies.{lossy_after-none, lossy_after-none_left}
 use Rattle.wide_bytes.specs.Bytes.{bom_of, order_of, without_bom, without_last_zero, units_in, units_of_bytes, whole_units, is_odd}
 use Rattle.wide_transcode.specs.Transcoded.{Transcoded, Clean, HalfUnit, transcoded_under, ending_of}
 use Rattle.wide_transcode.specs.Run.{Ends, IsAllButReplacement, MayBePaired, ReportsAtOnce, ReportsFault}
@@ -13,7 +14,6 @@ use Rattle.wide_transcode.specs.Chunks.{units_after, transcoded_after, ReportsAf
 use Rattle.wide_bytes.specs.declared.order.BoM.{BoM}
 use Rattle.wide_bytes.specs.declared.order.BoM.TheVariants.{Little}
 use Rattle.wide_forms.specs.declared.policy.Policy.{Policy}
-use Rattle.wide_forms.specs.declared.policy.Policy.TheVariants.{Each, Run, Skip}
 use Rattle.wide_bytes.proofs.Pairs.{units_in-short}
 use Rattle.wide_error.specs.declared.error.TranscodeError.{TranscodeError}
 use Rattle.wide_error.specs.declared.error.TranscodeError.TheVariants.{Utf16 as Utf16Fault, OutOfMemory, OddLength, Read, Write}
@@ -115,9 +115,7 @@ no-units : (us : List ℕ) (t : Bool) → us ≡ [] → items Utf16 us ≡ []
 no-units us t e = ap (λ xs. items Utf16 xs) e ∙ items-nil Utf16
 
 none-by : (policy : Policy) → lossy_by policy [] ≡ []
-none-by Each = refl
-none-by Run = refl
-none-by Skip = refl
+none-by policy = sym (lossy_after-none policy []) ∙ lossy_after-none_left policy false
 
 no-text : (policy : Policy) (us : List ℕ) (t : Bool) → us ≡ [] → reported_lossy policy us t ≡ record { text = []; ending = ending_of None t }
 no-text policy us t e = ap (λ is. record { text = utf8 (lossy_by policy is); ending = ending_of None t }) (no-units us t e) ∙ ap (λ cs. record { text = utf8 cs; ending = ending_of None t }) (none-by policy)

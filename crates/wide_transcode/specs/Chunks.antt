@@ -64,8 +64,8 @@ Finishes (Err OutOfMemory) order rest offset number = (2 ^ 64 ≤ offset) × (u 
 Finishes (Err Read) order rest offset number = ⊥
 Finishes (Err Write) order rest offset number = ⊥
 
--- The result at the end of the input under a policy, where `len` bytes were left, their lossy text is `text`, and `last`
--- was written of it.
+-- The result at the end of the input under a policy, where `len` bytes were left, their lossy text is `text`, and
+-- `last` was written of it.
 abbrev pub FinishesLossy : {T : Type 0} → Result T TranscodeError → List ℕ → List ℕ → ℕ → Type 0
 FinishesLossy (Ok u) last text len = (last ≡ text) × (len % 2 ≡ 0)
 FinishesLossy (Err OddLength) last text len = (last ≡ text) × (len % 2 ≡ 1)

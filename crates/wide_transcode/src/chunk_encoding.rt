@@ -19,7 +19,7 @@ use wide_utf16_to_utf8::utf16_to_utf8_until_fault;
 
 /// How far encoding a chunk came.
 #[derive(Clone, Copy, Debug)]
-pub(crate) struct ChunkStep {
+pub(crate) struct ChunkProgress {
     /// How many bytes were read.
     pub(crate) read: usize,
     /// How many bytes were written.
@@ -70,7 +70,7 @@ fn char_count(units: &[u16], text: &[u8]) -> usize
 }
 
 // Encodes the characters at the beginning of a chunk, up to a fault or the end.
-fn encode_strict(order: BoM, bytes: &[u8], units: &[u16], out: &mut [u8]) -> ChunkStep
+fn encode_strict(order: BoM, bytes: &[u8], units: &[u16], out: &mut [u8]) -> ChunkProgress
     requires units { units.now ≡ units_in order bytes.now }
     requires space { 3 * length bytes.now + 8 ≤ 2 * length out.old }
     ensures read { result.read ≤ length bytes.now }
@@ -88,7 +88,7 @@ fn encode_strict(order: BoM, bytes: &[u8], units: &[u16], out: &mut [u8]) -> Chu
         None => fault_before_zero(order, &bytes[read..]),
     };
     let characters = char_count(&units[..step.read], &out[..step.written]);
-    ChunkStep {
+    ChunkProgress {
         read,
         written: step.written,
         characters,
@@ -113,7 +113,7 @@ pub(crate) fn encode_chunk(
     spare: &mut [u16],
     policy: Option<Policy>,
     after_fault: bool,
-) -> ChunkStep
+) -> ChunkProgress
     requires units { units.now ≡ units_in order bytes.now }
     requires space { 3 * length bytes.now + 8 ≤ 2 * length out.old }
     requires spare { (lossy : Policy) → policy ≡ Some lossy → length units.now ≤ length spare.old }

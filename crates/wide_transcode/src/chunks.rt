@@ -24,7 +24,7 @@ const CHUNK_UNITS: usize = CHUNK / 2;
 const TEXT_CAPACITY: usize = 3 * CHUNK_UNITS + 64;
 
 // One more than the greatest index of a unit.
-const UNITS: u128 = 0x1_0000_0000_0000_0000;
+const INDEX_LIMIT: u128 = 0x1_0000_0000_0000_0000;
 
 // Moves the bytes from `from` up to `to` to the beginning.
 pub(crate) fn move_to_start(chunk: &mut [u8], from: usize, to: usize)
@@ -41,7 +41,7 @@ fn fault_at(offset: u128, item: u128, unit: u16) -> TranscodeError
     requires { item ≤ offset }
     ensures { IsFaultAt result offset item unit }
 {
-    if offset < UNITS {
+    if offset < INDEX_LIMIT {
         TranscodeError::Utf16 {
             index: offset as usize,
             item: item as usize,
@@ -62,6 +62,7 @@ fn finish_strict(order: BoM, rest: &[u8], offset: u128, item: u128) -> Result<()
     if rest.len() == 1 {
         return Err(TranscodeError::OddLength);
     }
+    // A whole unit that was not encoded is a zero unit, which is dropped, or a high surrogate, which no unit follows.
     if rest.len() >= 2 {
         let unit = unit_in(order, rest[0], rest[1]);
         if unit != 0 {
@@ -71,10 +72,10 @@ fn finish_strict(order: BoM, rest: &[u8], offset: u128, item: u128) -> Result<()
     Ok(())
 }
 
-// How far a run came: how many units were read, and whether a fault was read last. If there is no policy, `item` is the
-// number of characters.
+// The position in the units of the input, after the BOM, and whether a fault was read last. Without a policy, `item` is
+// the number of characters before the position.
 #[derive(Clone, Copy, Debug)]
-struct Progress {
+struct Position {
     offset: u128,
     item: u128,
     after_fault: bool,
@@ -88,19 +89,19 @@ fn finish<K: ByteSink>(
     rest: &[u8],
     out: &mut [u8],
     policy: Option<Policy>,
-    progress: Progress,
+    position: Position,
 ) -> Result<(), TranscodeError>
     requires sink_unfailed { K.has_failed sink.old ≡ false }
     requires pending { IsPending order rest.now }
     requires space { 3 ≤ length out.old }
-    requires few { progress.item ≤ progress.offset }
-    ensures run { (last : List ℕ) × Appends (K.held sink.old) (K.held sink.new) last × FinishesUnder result order policy progress.after_fault rest.now progress.offset progress.item last }
+    requires few { position.item ≤ position.offset }
+    ensures run { (last : List ℕ) × Appends (K.held sink.old) (K.held sink.new) last × FinishesUnder result order policy position.after_fault rest.now position.offset position.item last }
     ensures sink_failed { K.has_failed sink.new ≡ fails_to_write result }
 {
     let Some(policy) = policy else {
-        return finish_strict(order, rest, progress.offset, progress.item);
+        return finish_strict(order, rest, position.offset, position.item);
     };
-    let len = encode_end(order, rest, out, policy, progress.after_fault);
+    let len = encode_end(order, rest, out, policy, position.after_fault);
     put_all(sink, &out[..len])?;
     if rest.len() % 2 == 1 {
         Err(TranscodeError::OddLength)
@@ -168,7 +169,7 @@ fn transcode_chunks<S: ByteSource, K: ByteSink>(
     let mut units = [0u16; CHUNK_UNITS];
     let mut out = [0u8; TEXT_CAPACITY];
     let mut pending = start;
-    let mut progress = Progress {
+    let mut position = Position {
         offset: 0,
         item: 0,
         after_fault: false,
@@ -177,23 +178,23 @@ fn transcode_chunks<S: ByteSource, K: ByteSink>(
         fill_units(order, &chunk[..pending], &mut units);
         let bytes = &chunk[..pending];
         let filled = &units[..pending / 2];
-        let after_fault = progress.after_fault;
+        let after_fault = position.after_fault;
         let step = encode_chunk(order, bytes, filled, &mut out, spare, policy, after_fault);
         put_all(sink, &out[..step.written])?;
-        progress.offset += (step.read / 2) as u128;
-        progress.item += step.characters as u128;
-        progress.after_fault = step.after_fault;
+        position.offset += (step.read / 2) as u128;
+        position.item += step.characters as u128;
+        position.after_fault = step.after_fault;
         if let Some(unit) = step.fault {
-            return Err(fault_at(progress.offset, progress.item, unit));
+            return Err(fault_at(position.offset, position.item, unit));
         }
-        // A later fault could have an index that doesn't fit into a `usize`: it could not be reported.
-        if UNITS < progress.offset {
+        // There are more units than a `usize` can index, so a later fault could not be reported.
+        if INDEX_LIMIT < position.offset {
             return Err(TranscodeError::OutOfMemory);
         }
         move_to_start(chunk, step.read, pending);
         pending -= step.read;
         match take_after(source, chunk, pending) {
-            Ok(0) => return finish(order, sink, &chunk[..pending], &mut out, policy, progress),
+            Ok(0) => return finish(order, sink, &chunk[..pending], &mut out, policy, position),
             Ok(n) => pending += n,
             Err(_) => return Err(TranscodeError::Read),
         }

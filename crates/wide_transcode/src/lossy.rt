@@ -11,7 +11,7 @@ ghost use Rattle.wide_transcode.specs.Encoded.{IsPending};
 ghost use Rattle.wide_transcode.specs.Lossied.{Lossied, units_end_in_fault, lossy_text};
 ghost use Rattle.wide_transcode.specs.Chunks.{units_after};
 
-use crate::chunk_encoding::{ChunkStep, len_before_zero};
+use crate::chunk_encoding::{ChunkProgress, len_before_zero};
 use wide_bytes::{BoM, unit_in};
 use wide_forms::{Policy, is_high_surrogate, replacement};
 use wide_repair::{ends_in_fault, lossy_prefix_16};
@@ -71,7 +71,7 @@ pub(crate) fn encode_lossy(
     spare: &mut [u16],
     policy: Policy,
     after_fault: bool,
-) -> ChunkStep
+) -> ChunkProgress
     requires units { units.now ≡ units_in order bytes.now }
     requires space { 3 * length bytes.now + 8 ≤ 2 * length out.old }
     requires spare { length units.now ≤ length spare.old }
@@ -88,7 +88,7 @@ pub(crate) fn encode_lossy(
         Some(written) => written,
         None => encode_faulty(certain, out, spare, policy, after_fault),
     };
-    ChunkStep {
+    ChunkProgress {
         read: 2 * len,
         written,
         characters: 0,

@@ -40,7 +40,8 @@ pub trait UStrInUcstr<C, S> {
     // The number of a unit.
     ghost number: { C → ℕ };
 
-    /// Returns whether the units are the contents of the C string, without its NUL. It stops at the first units that differ.
+    /// Returns whether the units are the contents of the C string, without its NUL. It stops at the first units that
+    /// differ.
     fn eq_ucstr(self, other: S) -> bool
         ensures { IsTrue result ↔ (text self ≡ contents other) };
 

@@ -30,8 +30,8 @@ impl<C: FaultUnit> UCStr<'_, C> {
         self.as_ustr().to_string_lossy(alloc)
     }
 
-    /// Encodes the contents, without the NUL, as a UTF-8 string. The policy says what replaces the units that belong to
-    /// no character: one U+FFFD for each, one for each run of them, or nothing.
+    /// Encodes the contents, without the NUL, as a UTF-8 string. The [`Policy`] determines what replaces the units that
+    /// belong to no character.
     ///
     /// It allocates once, for as many bytes as the text has, or not at all if there are no contents.
     ///

@@ -223,8 +223,8 @@ impl<'a, C: FaultUnit> UCStr<'a, C> {
         self.as_ustr().chars_lossy()
     }
 
-    /// Returns an iterator over the characters of the contents, from both ends. The policy says what replaces the units
-    /// that belong to none: one U+FFFD for each, one for each run of them, or nothing.
+    /// Returns an iterator over the characters of the contents, from both ends. The [`Policy`] determines what replaces
+    /// the units that belong to none.
     pub fn chars_lossy_with(self, policy: Policy) -> CharsLossyWith<'a, C>
         ensures left { lossy_with_left C.form C.number result ≡ lossy_by policy (items C.form (map C.number (contents_seen self.entry))) }
         ensures rest { lossy_with_rest result ≡ contents_seen self.entry }

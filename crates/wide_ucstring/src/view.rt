@@ -84,7 +84,7 @@ impl<C: FaultUnit> UCStrInUcstring<C> for UCStr<'_, C> {
         let string = repeated(alloc, self.as_ustr(), count)?;
         match end(string.into_vec()) {
             Ok(made) => Ok(made),
-            Err(_refused) => Err(OutOfMemory),
+            Err(_error) => Err(OutOfMemory),
         }
     }
 }

@@ -13,9 +13,9 @@ use wide_unit::{Unit, split_first};
 /// A value that prints the text of a view, with one U+FFFD for each unit that belongs to no character (Unicode
 /// Standard, section 3.9). Made by [`UStr::display`](crate::UStr::display).
 ///
-/// It ignores the format options, such as width and fill. So `{:#}` prints the same text as `{}`, whereas the Rust
-/// crate leaves out each U+FFFD; [`UStr::display_skipping`](crate::UStr::display_skipping) does that here. No call
-/// allocates. It returns an error of the sink at once, and then writes nothing more.
+/// Printing ignores the format options, such as width and fill. So `{:#}` prints the same text as `{}`, whereas the
+/// Rust crate leaves out each U+FFFD; [`UStr::display_skipping`](crate::UStr::display_skipping) does that here.
+/// Printing does not allocate, returns an error of the sink at once, and then writes nothing more.
 ///
 /// `{:?}` prints the same text as `{:?}` of the view.
 #[derive(Clone, Copy)]
@@ -41,8 +41,8 @@ impl<C: Unit> fmt::Display for Display<'_, C> {
 /// A value that prints the text of a view without the units that belong to no character, and without any U+FFFD of the
 /// text. Made by [`UStr::display_skipping`](crate::UStr::display_skipping).
 ///
-/// It ignores the format options, such as width and fill. No call allocates. It returns an error of the sink at once,
-/// and then writes nothing more.
+/// Printing ignores the format options, such as width and fill. It does not allocate, returns an error of the sink at
+/// once, and then writes nothing more.
 ///
 /// `{:?}` prints the same text as `{:?}` of the view.
 #[derive(Clone, Copy)]

@@ -6,13 +6,12 @@ ghost use Rattle.std.specs.Fmt.{WritesStyledOnOk};
 use std::fmt;
 use wide_unit::write_escape;
 
-// Returns whether a character beyond ASCII is in one of these blocks or parts of blocks, whose characters std prints
-// unchanged, as they are letters, numbers, symbols and punctuation marks, and none is combining: Latin, spacing
-// modifiers, Greek and Cyrillic, general punctuation, arrows and mathematical operators, CJK punctuation, kana, CJK
-// ideographs, Hangul syllables, fullwidth forms, pictographs. Of the others, those below U+2010 take the fewest
-// comparisons: combining marks and the scripts that use most of them.
+// Returns whether a character past ASCII is in one of the blocks below, whose characters std prints unchanged: Latin,
+// spacing modifiers, Greek and Cyrillic, general punctuation, arrows and mathematical operators, CJK punctuation, kana,
+// CJK ideographs, Hangul syllables, fullwidth forms, pictographs. The second arm rejects the rest below U+2010 early,
+// since scripts with many combining marks are there.
 #[inline(always)]
-fn is_printable(code: u32) -> bool
+fn is_in_unescaped_block(code: u32) -> bool
     ensures { IsTrue result → 0x7F < code }
 {
     match code {
@@ -25,8 +24,8 @@ fn is_printable(code: u32) -> bool
     }
 }
 
-// Returns whether `{:?}` prints a character unchanged, for ASCII and the most frequent other characters. Of those for
-// which it returns false, std's tables of printable characters decide.
+// Returns whether `{:?}` prints a character unchanged, for ASCII and the most frequent other characters. If it returns
+// false for another character, std's tables decide.
 #[inline(always)]
 fn is_unescaped(c: char) -> bool
     ensures { IsTrue result → IsEscapeDebug c (c ∷ []) }
@@ -35,12 +34,12 @@ fn is_unescaped(c: char) -> bool
     if code < 0x80 {
         0x20 <= code && code < 0x7F && c != '"' && c != '\'' && c != '\\'
     } else {
-        is_printable(code)
+        is_in_unescaped_block(code)
     }
 }
 
-// Writes a character, in one write as `write_char` of the formatter does. That one first tests whether its bytes are
-// UTF-8, and is a call wherever the compiler doesn't inline it.
+// Writes a character in one write, as the formatter's `write_char` does. The formatter's call first tests whether the
+// bytes are UTF-8, and is not always inlined.
 #[inline(always)]
 pub(crate) fn write_char<W: fmt::Write>(f: &mut fmt::Formatter<W>, c: char) -> fmt::Result
     ensures { WritesStyledOnOk W.write_str_gives f.old result (encode_utf8 c) f.new }

@@ -12,8 +12,8 @@ use wide_forms::or_replacement;
 use wide_unit::{Unit, split_first, split_last};
 use wide_utferror::FaultUnit;
 
-// Returns the item as a strict iterator yields it: the character, or an error for a fault.
-fn answer<C: FaultUnit>(item: Result<char, C>) -> Result<char, C::Fault>
+// Returns the item with the error that a strict iterator yields for a fault.
+fn reported<C: FaultUnit>(item: Result<char, C>) -> Result<char, C::Fault>
     ensures { item_of C.reported result ≡ item_of C.number item }
 {
     match item {
@@ -59,7 +59,7 @@ impl<C: FaultUnit> Iterator for Chars<'_, C> {
     fn next(&mut self) -> Option<Result<char, C::Fault>> {
         let (item, rest) = split_first(self.rest)?;
         self.rest = rest;
-        Some(answer(item))
+        Some(reported(item))
     }
 
     fn size_hint(&self) -> (usize, Option<usize>)
@@ -81,7 +81,7 @@ impl<C: FaultUnit> DoubleEndedIterator for Chars<'_, C> {
     fn next_back(&mut self) -> Option<Result<char, C::Fault>> {
         let (rest, item) = split_last(self.rest)?;
         self.rest = rest;
-        Some(answer(item))
+        Some(reported(item))
     }
 }
 
@@ -184,7 +184,7 @@ impl<'a, C: FaultUnit> CharIndices<'a, C> {
         }
     }
 
-    /// Returns the offset, in units, of the next item from the front: how many units were read from there.
+    /// Returns the offset, in units, of the next item from the front, which is how many units were read from the front.
     pub fn offset(&self) -> usize
         ensures { result ≡ offset_of self.now }
     {
@@ -217,7 +217,7 @@ impl<C: FaultUnit> Iterator for CharIndices<'_, C> {
     #[inline]
     fn next(&mut self) -> Option<(usize, Result<char, C::Fault>)> {
         let (offset, item) = self.offsets.first()?;
-        Some((offset, answer(item)))
+        Some((offset, reported(item)))
     }
 
     fn size_hint(&self) -> (usize, Option<usize>)
@@ -238,7 +238,7 @@ impl<C: FaultUnit> DoubleEndedIterator for CharIndices<'_, C> {
     #[inline]
     fn next_back(&mut self) -> Option<(usize, Result<char, C::Fault>)> {
         let (offset, item) = self.offsets.last()?;
-        Some((offset, answer(item)))
+        Some((offset, reported(item)))
     }
 }
 
@@ -278,7 +278,8 @@ impl<'a, C: Unit> CharIndicesLossy<'a, C> {
         }
     }
 
-    /// Returns the offset, in units, of the next character from the front: how many units were read from there.
+    /// Returns the offset, in units, of the next character from the front, which is how many units were read from the
+    /// front.
     pub fn offset(&self) -> usize
         ensures { result ≡ lossy_offset_of self.now }
     {

@@ -32,8 +32,8 @@ impl<C: Unit> UStr<'_, C> {
         self.to_string_lossy_with(alloc, Policy::Each)
     }
 
-    /// Encodes the text of the view as a UTF-8 string. The policy says what replaces the units that belong to no
-    /// character: one U+FFFD for each, one for each run of them, or nothing.
+    /// Encodes the text of the view as a UTF-8 string. The [`Policy`] determines what replaces the units that belong to
+    /// no character.
     ///
     /// If the text is well formed, it reads the units three times, vectorized. It allocates once, for as many bytes as
     /// the text has, or not at all if the text is empty.

@@ -21,8 +21,8 @@ use wide_utferror::FaultUnit;
 /// the characters.
 ///
 /// `{:?}` prints the text between quotes, as [`char::escape_debug`] escapes it. A unit that belongs to no character is
-/// printed as `\<XXXX>`, its number in upper-case hexadecimal. It ignores the format options, and returns an error of
-/// the sink at once.
+/// printed as `\<H>`, where `H` is its number in upper-case hexadecimal, without leading zeros. Printing ignores the
+/// format options, and returns an error of the sink at once.
 #[derive(Clone, Copy, PartialEq, Eq, PartialOrd, Ord, Hash)]
 pub struct UStr<'a, C> {
     pub(crate) units: &'a [C],
@@ -34,10 +34,10 @@ pub type U16Str<'a> = UStr<'a, u16>;
 /// A view of 32-bit units.
 pub type U32Str<'a> = UStr<'a, u32>;
 
-/// The unit of the wide types, of 32 bits.
+/// The unit of the types whose names begin with `Wide`: 32 bits, as `wchar_t` has on Linux.
 pub type WideChar = u32;
 
-/// A view of wide units.
+/// A view of units of the type [`WideChar`].
 pub type WideStr<'a> = U32Str<'a>;
 
 impl<'a, C> UStr<'a, C> {
@@ -161,8 +161,8 @@ impl<'a, C: Unit> UStr<'a, C> {
         CharsLossy { rest: self.units }
     }
 
-    /// Returns an iterator over the characters, from both ends. The policy says what replaces the units that belong to
-    /// none: one U+FFFD for each, one for each run of them, or nothing.
+    /// Returns an iterator over the characters, from both ends. The [`Policy`] determines what replaces the units that
+    /// belong to none.
     pub fn chars_lossy_with(self, policy: Policy) -> CharsLossyWith<'a, C>
         ensures left { lossy_with_left C.form C.number result ≡ lossy_by policy (items C.form (map C.number (units_seen self.entry))) }
         ensures rest { lossy_with_rest result ≡ units_seen self.entry }

@@ -144,7 +144,7 @@ pub fn from_iter<S: Growing, M, P: Piece<S, M>, U: IntoIterator<Item = P>>(
     let mut string = empty;
     match extend(&mut string, pieces) {
         Ok(()) => Ok(string),
-        Err(_refused) => Err(string),
+        Err(_error) => Err(string),
     }
 }
 

@@ -135,7 +135,7 @@ pub(crate) fn push_char<C: Unit, A: Allocator>(units: &mut Vec<C, A>, c: char)
     }
 }
 
-// Writes the units of a text over units of the same number.
+// Writes the units of a text over as many units.
 fn write_str<C: Unit>(units: &mut [C], text: &str)
     requires { length units.old ≡ length (encode C.form (chars text.now)) }
     ensures { map C.number units.new ≡ encode C.form (chars text.now) }

@@ -35,7 +35,7 @@ use wide_utferror::FaultUnit;
 /// return the string of the items before the one that did not fit, and `into_boxed_ustr` returns the string.
 ///
 /// `{:?}` prints the text between quotes, as [`char::escape_debug`] escapes it. A unit that belongs to no character is
-/// printed as `\<XXXX>`, in hexadecimal.
+/// printed as `\<H>`, where `H` is its number in upper-case hexadecimal, without leading zeros.
 #[derive(Drop)]
 pub struct UString<C, A: Allocator = Global> {
     pub(crate) units: Vec<C, A>,
@@ -390,8 +390,8 @@ impl<C: FaultUnit, A: Allocator> UString<C, A> {
     }
 
     /// Retains the characters for which the closure returns true, in well-formed units. It calls the closure once for
-    /// each character, in order. The Rust crate has no such call. It serves strings of well-formed text;
-    /// [`UString::retain`] calls its closure for units.
+    /// each character, in order. The Rust crate has no such call. `UtfString::retain` calls it; [`UString::retain`]
+    /// calls its closure for units.
     ///
     /// # Requires
     ///
@@ -489,7 +489,7 @@ impl<C: FaultUnit, A: Allocator> UString<C, A> {
     }
 
     /// Appends the units of the text of a `&str`, like [`UString::push_str`]. It corresponds to `fmt::Write::write_str`
-    /// in the Rust crate, but its error says that memory ran out.
+    /// in the Rust crate, but returns [`OutOfMemory`] in place of `fmt::Error`.
     ///
     /// # Errors
     ///
@@ -504,7 +504,7 @@ impl<C: FaultUnit, A: Allocator> UString<C, A> {
     }
 
     /// Appends the units of a character, like [`UString::push_char`]. It corresponds to `fmt::Write::write_char` in the
-    /// Rust crate, but its error says that memory ran out.
+    /// Rust crate, but returns [`OutOfMemory`] in place of `fmt::Error`.
     ///
     /// # Errors
     ///

@@ -2,14 +2,14 @@
 //! step. Vectorized: each surrogate of a pair yields two of the four bytes, so one SIMD lane for each unit suffices. A
 //! look-up table of shuffles then compresses the bytes.
 
-ghost use Rattle.std.specs.Prelude.{◌≡◌, ◌+◌, ◌*◌, ◌/◌, ◌%◌, ◌≤◌, ◌<◌, ◌++◌, ℕ, slice_index, length, take, drop};
+ghost use Rattle.std.specs.Prelude.{◌≡◌, ◌+◌, ◌*◌, ◌/◌, ◌%◌, ◌≤◌, ◌<◌, ◌++◌, ℕ, None, slice_index, length, take, drop};
 ghost use Rattle.wide_utf16_to_utf8.specs.Encoded.{ArePaired, EncodedUnits};
 ghost use Rattle.wide_utf16_to_utf8.specs.PairedText.{IsPairedLead, paired_key, paired_text};
 
 use crate::lead_bytes::{last_lanes, lead_lanes};
 use crate::three_bytes::put_packed;
 use std::simd::prelude::*;
-use wide_forms::{HIGH_TOP, LOW_TOP, Progress, SURROGATE_TOP};
+use wide_forms::{HIGH_TOP, LOW_TOP, SURROGATE_TOP, StrictProgress};
 
 // Returns the first two UTF-8 bytes of each of eight units, low byte first, given the unit before each. A high
 // surrogate yields the first two bytes of its pair, and a low surrogate the last two.
@@ -61,15 +61,14 @@ fn put_eight_paired(window: &[u16], out: &mut [u8], at: usize) -> usize
 }
 
 /// Writes the last sixteen units of the window as UTF-8, or the fifteen before the last one if that is a high
-/// surrogate. Returns how many units were encoded, and the offset in bytes after the text. Up to fourteen bytes after
-/// the text may be overwritten.
+/// surrogate, and stops at no fault. Up to fourteen bytes after the text may be overwritten.
 ///
 /// # Requires
 ///
 /// The window has seventeen units. The surrogates from the second unit on are paired, except that the last unit may be
 /// a high surrogate. `out` has at least 52 bytes from `at` on.
 #[inline(never)]
-pub(crate) fn put_paired_text(window: &[u16], out: &mut [u8], at: usize) -> Progress
+pub(crate) fn put_paired_text(window: &[u16], out: &mut [u8], at: usize) -> StrictProgress
     requires whole { length window.now ≡ 17 }
     requires space { at + 52 ≤ length out.old }
     requires first { 0xdc00 ≤ slice_index window.now 1 → 0xe000 ≤ slice_index window.now 1 }
@@ -78,13 +77,15 @@ pub(crate) fn put_paired_text(window: &[u16], out: &mut [u8], at: usize) -> Prog
     ensures all { result.read ≤ 16 }
     ensures text { EncodedUnits (take result.read (drop 1 window.now)) (take at out.old) (take result.written out.new) }
     ensures high { result.written ≤ at + 3 * result.read }
+    ensures no_fault { result.fault ≡ None }
 {
     let half = put_eight_paired(&window[..9], out, at);
     let end = put_eight_paired(&window[8..17], out, half);
     // A high surrogate at the end is not counted: its pair is encoded together with the next unit.
     let cut = usize::from(window[16] / 0x400 == HIGH_TOP);
-    Progress {
+    StrictProgress {
         read: 16 - cut,
         written: end - 2 * cut,
+        fault: None,
     }
 }

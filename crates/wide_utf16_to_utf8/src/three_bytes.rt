@@ -10,9 +10,9 @@ use crate::lead_bytes::{last_lanes, lead_lanes};
 use crate::three_bytes_rows::{ROW_LENS, ROWS};
 use std::simd::prelude::*;
 
-// Returns two bits for each of eight units, in the upper bits of the two bytes of its lane: both are set if the unit
-// has one byte in UTF-8, and the second if it has two. So the upper bits of all sixteen bytes are the row numbers of
-// the first four units and of the last four.
+// Returns two bits for each of eight units, the top bits of the two bytes of its lane. Both are set if the unit has one
+// byte in UTF-8, only that of the second byte if it has two, and none if it has three. So the top bits of the first
+// eight bytes are the row number of the first four units, and those of the last eight that of the last four.
 #[inline(always)]
 fn masks_of(keys: u16x8) -> u16x8
     ensures { (k : ℕ) → k < 8 → slice_index result k ≡ mask_of (slice_index keys k) }
@@ -62,9 +62,9 @@ fn words_of(leads: u16x8, backs: u16x8) -> (u8x16, u8x16)
     (low.to_le_bytes(), high.to_le_bytes())
 }
 
-/// Writes the first one to three of the bytes in `leads` and `backs` for each of eight units, and returns the offset
-/// in bytes after them. The number is the UTF-8 length of the unit's key, as if that was a character. Up to twelve
-/// bytes after them may be overwritten.
+/// Writes the bytes of eight units, and returns the offset in bytes after them. A unit has up to three bytes: the first
+/// two are in `leads` and the third is in `backs`. It gets as many of them as its key, read as a character, has in
+/// UTF-8. Up to twelve bytes after them may be overwritten.
 ///
 /// # Requires
 ///

@@ -2,7 +2,7 @@
 //! block of units is classified in SIMD lanes, as ASCII, as units below 0x800, as units without surrogates, or as units
 //! with surrogates, and encoded by the method for its class.
 
-ghost use Rattle.std.specs.Prelude.{◌≡◌, ◌+◌, ◌*◌, ◌/◌, ◌%◌, ◌-◌, ◌≤◌, ◌<◌, ◌++◌, ◌∷◌, [], false, ℕ, slice_index, IsTrue, length, take, drop, is_some, true, IfNone, IfSome};
+ghost use Rattle.std.specs.Prelude.{◌≡◌, ◌+◌, ◌*◌, ◌/◌, ◌%◌, ◌-◌, ◌≤◌, ◌<◌, ◌++◌, ◌∷◌, [], false, ℕ, slice_index, IsTrue, length, take, drop, is_some, true, None, IfNone, IfSome};
 ghost use Rattle.wide_forms.specs.EncodingForm.{Utf16};
 ghost use Rattle.wide_forms.specs.Items.{IsWellFormed, chars};
 ghost use Rattle.wide_forms.specs.Utf8.{utf8};
@@ -13,7 +13,7 @@ use crate::paired_text::put_paired_text;
 use crate::three_bytes::put_three_bytes;
 use crate::two_bytes::put_two_bytes;
 use std::simd::prelude::*;
-use wide_forms::{HIGH_TOP, LOW_TOP, Progress, SURROGATE_TOP, StrictProgress};
+use wide_forms::{HIGH_TOP, LOW_TOP, SURROGATE_TOP, StrictProgress};
 
 // Returns the bitwise or of sixteen units. No unit is greater than it.
 #[inline(always)]
@@ -110,11 +110,11 @@ fn put_pairs(block: &[u16], out: &mut [u8], at: usize) -> usize
     at + 32
 }
 
-// Writes some of the sixteen units from `from` on as UTF-8. They are paired. The unit before them, if there is one, is
-// read too. Returns how many units were encoded, and the offset in bytes after the text. Up to fourteen bytes after the
-// text may be overwritten.
+// Writes the sixteen units from `from` on as UTF-8, or fifteen if the last one is a high surrogate. Their surrogates
+// are paired. It also reads the unit before them, if there is one. Up to fourteen bytes after the text may be
+// overwritten.
 #[inline(always)]
-fn put_paired(units: &[u16], from: usize, out: &mut [u8], at: usize) -> Progress
+fn put_paired(units: &[u16], from: usize, out: &mut [u8], at: usize) -> StrictProgress
     requires whole { from + 17 ≤ length units.now }
     requires space { at + 52 ≤ length out.old }
     requires first { 0xdc00 ≤ slice_index units.now from → 0xe000 ≤ slice_index units.now from }
@@ -123,10 +123,12 @@ fn put_paired(units: &[u16], from: usize, out: &mut [u8], at: usize) -> Progress
     ensures all { result.read ≤ 16 }
     ensures text { EncodedUnits (take result.read (drop from units.now)) (take at out.old) (take result.written out.new) }
     ensures high { result.written ≤ at + 3 * result.read }
+    ensures no_fault { result.fault ≡ None }
 {
     if from > 0 {
         return put_paired_text(&units[from - 1..from + 16], out, at);
     }
+    // No unit precedes the first one, so the window begins with a NUL.
     let mut window = [0u16; 17];
     window[1..].copy_from_slice(&units[..16]);
     put_paired_text(&window, out, at)
@@ -155,12 +157,7 @@ fn encode_surrogates(units: &[u16], from: usize, out: &mut [u8], at: usize) -> S
             fault: None,
         };
     }
-    let Progress { read, written } = put_paired(units, from, out, at);
-    StrictProgress {
-        read,
-        written,
-        fault: None,
-    }
+    put_paired(units, from, out, at)
 }
 
 // Returns whether the first eight units are ASCII characters.
@@ -191,7 +188,8 @@ fn put_eight_ascii(units: &[u16], out: &mut [u8], at: usize)
     u8x8::from_slice(&bytes).copy_to_slice(&mut out[at..at + 8]);
 }
 
-// Encodes the units as `encode_plain` does, but eight ASCII characters at the beginning in one step.
+// Encodes the units up to a fault or the end: ASCII at the beginning eight units in one step, and from there on one
+// character in one step.
 #[inline(always)]
 fn encode_rest(units: &[u16], out: &mut [u8], at: usize) -> StrictProgress
     requires { at + 3 * length units.now + 4 ≤ length out.old }
@@ -229,6 +227,7 @@ pub fn utf16_to_utf8_until_fault(units: &[u16], out: &mut [u8], at: usize) -> St
 {
     let mut read = 0;
     let mut written = at;
+    // A block is sixteen units. The unit after it shows whether a high surrogate at its end is paired.
     'sixteens: while units.len() - read >= 17 {
         let block = &units[read..read + 16];
         let bits = bits_of(block);

@@ -59,7 +59,7 @@ impl<A: Allocator> From<OutOfMemory> for Utf16ConvertError<A> {
 
     ghost from_gives = { λ _ e. e ≡ OutOfMemory };
 
-    fn from(_refused: OutOfMemory) -> Utf16ConvertError<A> {
+    fn from(_error: OutOfMemory) -> Utf16ConvertError<A> {
         Utf16ConvertError::OutOfMemory
     }
 }
@@ -69,7 +69,7 @@ impl<A: Allocator> From<AllocError> for Utf16ConvertError<A> {
 
     ghost from_gives = { λ _ e. e ≡ OutOfMemory };
 
-    fn from(_refused: AllocError) -> Utf16ConvertError<A> {
+    fn from(_error: AllocError) -> Utf16ConvertError<A> {
         Utf16ConvertError::OutOfMemory
     }
 }
@@ -79,7 +79,7 @@ impl<A: Allocator, T: Drop> From<AllocFailed<T>> for Utf16ConvertError<A> {
 
     ghost from_gives = { λ _ e. e ≡ OutOfMemory };
 
-    fn from(_refused: AllocFailed<T>) -> Utf16ConvertError<A> {
+    fn from(_error: AllocFailed<T>) -> Utf16ConvertError<A> {
         Utf16ConvertError::OutOfMemory
     }
 }
@@ -135,7 +135,7 @@ impl<A: Allocator> From<OutOfMemory> for Utf32ConvertError<A> {
 
     ghost from_gives = { λ _ e. e ≡ OutOfMemory };
 
-    fn from(_refused: OutOfMemory) -> Utf32ConvertError<A> {
+    fn from(_error: OutOfMemory) -> Utf32ConvertError<A> {
         Utf32ConvertError::OutOfMemory
     }
 }
@@ -145,7 +145,7 @@ impl<A: Allocator> From<AllocError> for Utf32ConvertError<A> {
 
     ghost from_gives = { λ _ e. e ≡ OutOfMemory };
 
-    fn from(_refused: AllocError) -> Utf32ConvertError<A> {
+    fn from(_error: AllocError) -> Utf32ConvertError<A> {
         Utf32ConvertError::OutOfMemory
     }
 }
@@ -155,7 +155,7 @@ impl<A: Allocator, T: Drop> From<AllocFailed<T>> for Utf32ConvertError<A> {
 
     ghost from_gives = { λ _ e. e ≡ OutOfMemory };
 
-    fn from(_refused: AllocFailed<T>) -> Utf32ConvertError<A> {
+    fn from(_error: AllocFailed<T>) -> Utf32ConvertError<A> {
         Utf32ConvertError::OutOfMemory
     }
 }
@@ -215,7 +215,7 @@ impl<A: Allocator> From<OutOfMemory> for Utf16BytesError<A> {
 
     ghost from_gives = { λ _ e. e ≡ OutOfMemory };
 
-    fn from(_refused: OutOfMemory) -> Utf16BytesError<A> {
+    fn from(_error: OutOfMemory) -> Utf16BytesError<A> {
         Utf16BytesError::OutOfMemory
     }
 }
@@ -225,7 +225,7 @@ impl<A: Allocator> From<AllocError> for Utf16BytesError<A> {
 
     ghost from_gives = { λ _ e. e ≡ OutOfMemory };
 
-    fn from(_refused: AllocError) -> Utf16BytesError<A> {
+    fn from(_error: AllocError) -> Utf16BytesError<A> {
         Utf16BytesError::OutOfMemory
     }
 }
@@ -235,7 +235,7 @@ impl<A: Allocator, T: Drop> From<AllocFailed<T>> for Utf16BytesError<A> {
 
     ghost from_gives = { λ _ e. e ≡ OutOfMemory };
 
-    fn from(_refused: AllocFailed<T>) -> Utf16BytesError<A> {
+    fn from(_error: AllocFailed<T>) -> Utf16BytesError<A> {
         Utf16BytesError::OutOfMemory
     }
 }

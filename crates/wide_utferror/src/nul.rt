@@ -197,7 +197,7 @@ impl<C, A: Allocator> From<OutOfMemory> for UCStringError<C, A> {
 
     ghost from_gives = { λ _ e. e ≡ OutOfMemory None };
 
-    fn from(_refused: OutOfMemory) -> UCStringError<C, A> {
+    fn from(_error: OutOfMemory) -> UCStringError<C, A> {
         UCStringError::OutOfMemory(None)
     }
 }
@@ -207,7 +207,7 @@ impl<C, A: Allocator> From<AllocError> for UCStringError<C, A> {
 
     ghost from_gives = { λ _ e. e ≡ OutOfMemory None };
 
-    fn from(_refused: AllocError) -> UCStringError<C, A> {
+    fn from(_error: AllocError) -> UCStringError<C, A> {
         UCStringError::OutOfMemory(None)
     }
 }
@@ -217,7 +217,7 @@ impl<C, A: Allocator, T: Drop> From<AllocFailed<T>> for UCStringError<C, A> {
 
     ghost from_gives = { λ _ e. e ≡ OutOfMemory None };
 
-    fn from(_refused: AllocFailed<T>) -> UCStringError<C, A> {
+    fn from(_error: AllocFailed<T>) -> UCStringError<C, A> {
         UCStringError::OutOfMemory(None)
     }
 }

@@ -18,7 +18,8 @@ impl<C: FaultUnit> UtfStr<'_, C> {
         same_units(self.as_slice(), other.as_slice())
     }
 
-    /// Returns whether the units are the contents of the C string, without its NUL. It stops at the first units that differ.
+    /// Returns whether the units are the contents of the C string, without its NUL. It stops at the first units that
+    /// differ.
     pub fn eq_ucstr(self, other: UCStr<'_, C>) -> bool
         ensures { IsTrue result ↔ (units_seen self.entry ≡ contents_seen other.entry) }
     {
@@ -59,7 +60,8 @@ pub trait UCStrInUtfstr<C, T> {
     // The units of the text.
     ghost text: { T → List C };
 
-    /// Returns whether the contents, without the NUL, are the units of the text. It stops at the first units that differ.
+    /// Returns whether the contents, without the NUL, are the units of the text. It stops at the first units that
+    /// differ.
     fn eq_utfstr(self, other: T) -> bool
         ensures { IsTrue result ↔ (contents self ≡ text other) };
 }

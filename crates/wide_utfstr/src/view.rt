@@ -110,14 +110,14 @@ impl<'a, C: Unit> UtfStr<'a, C> {
 
     /// Returns the offset, in units, at which the character at an index begins, which is the length in units of the
     /// first `index` characters. If the index is the number of characters, returns the offset of the end. If it is
-    /// greater, returns `None`. In UTF-16 it reads the units before the offset once, vectorized but for the last few; in
-    /// UTF-32 it reads none.
+    /// greater, returns `None`. In UTF-16 it reads the units before the offset once, vectorized but for the last few;
+    /// in UTF-32 it reads none.
     pub fn unit_offset(self, index: usize) -> Option<usize>
         ensures some { IsSome result ↔ (index ≤ length (text_seen self.entry)) }
         ensures offset { IfSome result (IsOffsetOf C.form (map C.number (units_seen self.entry)) index) }
         ensures char_boundary { IfSome result (IsCharBoundary C.form (map C.number (units_seen self.entry))) }
     {
-        // The count of all characters reads no unit where each character is one unit.
+        // In UTF-32 the number of characters is the length, so this reads no unit.
         if C::MAX_CHAR_LEN == 1 && index > self.char_count() {
             return None;
         }
@@ -240,8 +240,8 @@ impl<'a, C: Unit> UtfStr<'a, C> {
         encode_utf8(self.chars())
     }
 
-    // Returns whether a number is an index of a character and its offset too, as far as that is known without reading
-    // units. Where each character is one unit, the count of the characters before an offset is a length.
+    // Returns true only if the character at index `number` begins at unit offset `number`. It reads no unit, and
+    // returns true only in UTF-32. There the number of characters is the length, but the proof needs the count.
     fn is_offset_of_itself(self, number: usize) -> bool
         ensures within { IsTrue result → number ≤ length (text_seen self.entry) }
         ensures offset { IsTrue result → IsOffsetOf C.form (map C.number (units_seen self.entry)) number number }

@@ -38,8 +38,8 @@ impl<C: FaultUnit, A: Allocator> UtfString<C, A> {
         UtfString::from_slice_lossy_with(alloc, units, Policy::Each)
     }
 
-    /// Makes well-formed text of any units. The policy says what replaces the units that belong to no character: one
-    /// U+FFFD for each, one for each run of them, or nothing. If the units are well formed (Unicode Standard, D85),
+    /// Makes well-formed text of any units. The [`Policy`] determines what replaces the units that belong to no
+    /// character. If the units are well formed (Unicode Standard, D85),
     /// returns a view of the units themselves, without allocating. Otherwise returns a string with capacity for as many
     /// units as there are, and allocates once.
     ///
@@ -113,8 +113,8 @@ impl<C: FaultUnit, A: Allocator> UtfString<C, A> {
         UtfString::from_slice_lossy(alloc, view.as_slice())
     }
 
-    /// Makes well-formed text of the units of a view. The policy says what replaces the units that belong to no
-    /// character: one U+FFFD for each, one for each run of them, or nothing. If the units are well formed, returns a
+    /// Makes well-formed text of the units of a view. The [`Policy`] determines what replaces the units that belong to
+    /// no character. If the units are well formed, returns a
     /// view of them, without allocating. Otherwise returns a string with capacity for as many units as there are, and
     /// allocates once.
     ///
@@ -150,10 +150,9 @@ impl<C: FaultUnit, A: Allocator> UtfString<C, A> {
         UtfString::from_slice_lossy(alloc, view.as_slice())
     }
 
-    /// Makes well-formed text of the contents of a C string, without its NUL. The policy says what replaces the units
-    /// that belong to no character: one U+FFFD for each, one for each run of them, or nothing. If the contents are well
-    /// formed, returns a view of them, without allocating. Otherwise returns a string with capacity for as many units
-    /// as the contents have, and allocates once.
+    /// Makes well-formed text of the contents of a C string, without its NUL. The [`Policy`] determines what replaces
+    /// the units that belong to no character. If the contents are well formed, returns a view of them, without
+    /// allocating. Otherwise returns a string with capacity for as many units as the contents have, and allocates once.
     ///
     /// # Errors
     ///

@@ -730,7 +730,7 @@ impl<A: Allocator> UtfString<u32, A> {
     {
         match self.copy_chars() {
             Ok(chars) => Ok(chars),
-            Err(_refused) => Err(self),
+            Err(_error) => Err(self),
         }
     }
 }

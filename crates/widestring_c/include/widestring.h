@@ -41,9 +41,9 @@ extern "C" {
 uint32_t wide_version(void);
 
 /*
- * What a conversion, a count or a length returns if the text is ill-formed, and what a function that returns a size_t
- * and takes a policy or an order returns if that is not one of those below, unless its comment says otherwise. No text
- * has this length.
+ * What a conversion, a count or a length returns if the text is ill-formed. A function that returns a size_t and takes
+ * a policy or an order returns it, too, if that number is none of those below, unless its comment says otherwise. No
+ * text has this length.
  */
 #define WIDE_FAULT SIZE_MAX
 
@@ -106,7 +106,8 @@ size_t wide_utf8_char_count(const uint8_t *text, size_t length);
 
 /*
  * Returns the length of the text in another encoding form, in bytes of UTF-8 or in units of UTF-16 or UTF-32, or
- * WIDE_FAULT if the text is ill-formed. This is the number that the strict conversion returns. It writes nothing.
+ * WIDE_FAULT if the text is ill-formed. This is the number that the conversion returns whose name has
+ * no "_lossy". It writes nothing.
  *
  * A unit of UTF-16 becomes at most 3 bytes of UTF-8 or 1 unit of UTF-32. A unit of UTF-32 becomes at most 4 bytes of
  * UTF-8 or 2 units of UTF-16. A byte of UTF-8 becomes at most 1 unit of UTF-16 or UTF-32. These bounds also hold for
@@ -162,7 +163,8 @@ size_t wide_utf16_to_utf8_lossy_with(const uint16_t *units, size_t length, uint3
  * A stream is converted chunk by chunk. Once the first two bytes have been read, call wide_utf16_bytes_order. If there
  * is a BOM, drop its two bytes. If it returns WIDE_NO_BOM, choose an order. The caller keeps three things: the order, a
  * number `after_fault`, which is 0 at first, and a buffer. The buffer starts with the bytes left over from the previous
- * chunk, none at first, and the bytes of the next chunk follow them. For each chunk:
+ * chunk, none at first, and the bytes of the next chunk follow them. `length` is the number of bytes in the buffer. For
+ * each chunk:
  *
  *     complete = wide_utf16_bytes_complete(buffer, length, order);
  *     needed = wide_utf16_bytes_to_utf8_lossy_with(buffer, complete, order, policy, after_fault, text, capacity);
@@ -198,7 +200,7 @@ size_t wide_utf16_bytes_first_fault(const uint8_t *bytes, size_t length, uint32_
 
 /*
  * Returns 1 if the last whole unit is ill-formed, and 0 if it is not. If there are no whole units, it returns 0 if
- * `after_fault` is 0, and else 1. `after_fault` describes the unit before the bytes: 0 if it is well formed or there is
+ * `after_fault` is 0, and 1 otherwise. `after_fault` describes the unit before the bytes: 0 if it is well formed or there is
  * none, any other number if it is ill-formed. Returns 0 if the order is invalid.
  */
 uint32_t wide_utf16_bytes_end_in_fault(const uint8_t *bytes, size_t length, uint32_t order, uint32_t after_fault);
@@ -236,8 +238,8 @@ size_t wide_utf8_to_utf32(const uint8_t *text, size_t length, uint32_t *units, s
  * Converts well-formed UTF-16 to UTF-32, and well-formed UTF-32 to UTF-16. Returns WIDE_FAULT if the units are
  * ill-formed.
  */
-size_t wide_utf16_to_utf32(const uint16_t *units, size_t length, uint32_t *scalars, size_t capacity);
-size_t wide_utf32_to_utf16(const uint32_t *scalars, size_t length, uint16_t *units, size_t capacity);
+size_t wide_utf16_to_utf32(const uint16_t *utf16, size_t length, uint32_t *utf32, size_t capacity);
+size_t wide_utf32_to_utf16(const uint32_t *utf32, size_t length, uint16_t *utf16, size_t capacity);
 
 /*
  * Converts any bytes to UTF-16 or to UTF-32, and writes U+FFFD for each maximal subpart of an ill-formed sequence of

@@ -1,9 +1,9 @@
--- What a conversion leaves in a buffer of the caller: the text, if the buffer is long enough, and otherwise elements that
--- no definition states.
+-- What a conversion leaves in a buffer of the caller: the text, if the buffer is long enough, and otherwise elements
+-- that no definition states.
 use Rattle.std.specs.Prelude.{◌≡◌, ◌<◌, ◌≤◌, ◌-◌, ◌^◌, ℕ, List, Option, Some, None, length, map, take, drop}
 
--- All of the text has `count` elements, fewer than the greatest number, whether it fits or not. If it fits, it is at the
--- start of the buffer. The elements after it are unchanged.
+-- All of the text has `count` elements, fewer than the greatest number, whether it fits or not. If it fits, it is at
+-- the start of the buffer. The elements after it are unchanged.
 pub record Wrote (all before : List ℕ) (count : ℕ) (after : List ℕ) : Type 0 where
   pub len : count ≡ length all
   pub fits : count < 2 ^ 64 - 1

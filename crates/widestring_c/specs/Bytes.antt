@@ -15,10 +15,10 @@ abbrev pub order_named : ℕ → Option BoM
 order_named n = if n == 0 then Some Little else if n == 1 then Some Big else None
 
 -- the number of the byte order of a BOM, or 2 for no BOM
-abbrev pub number_of_mark : Option BoM → ℕ
-number_of_mark (Some Little) = 0
-number_of_mark (Some Big) = 1
-number_of_mark None = 2
+abbrev pub number_of_bom : Option BoM → ℕ
+number_of_bom (Some Little) = 0
+number_of_bom (Some Big) = 1
+number_of_bom None = 2
 
 -- both values, if there are two
 abbrev pub both : {A B : Type 0} → Option A → Option B → Option (A × B)

@@ -1,4 +1,4 @@
-//! Conversions between UTF-16 and UTF-32, into a buffer of the caller.
+//! Converts between UTF-16 and UTF-32, into a buffer of the caller.
 ghost use Rattle.std.specs.Prelude.{◌≡◌, ◌*◌, ◌<◌, ◌≤◌, ◌-◌, ◌^◌, IfNone, IfSome, length, map, min, take, drop};
 ghost use Rattle.wide_forms.specs.EncodingForm.{Utf16, Utf32, encode};
 ghost use Rattle.wide_forms.specs.Items.{IsWellFormed, chars};

@@ -73,8 +73,8 @@ static KINDS8: [&[u8]; 12] = [
     &[0xff, 0xef, 0xbf, 0xbd, 0xe8, 0xaa, 0xff],
 ];
 
-// How a conversion is called: the strict one, the one that writes U+FFFD for each fault, and the one with the number of a
-// policy, or, for `None`, with a number that is not a policy.
+// How a conversion is called: the strict one, the one that writes U+FFFD for each fault, and the one with the number of
+// a policy, or, for `None`, with a number that is not a policy.
 #[derive(Clone, Copy)]
 pub(crate) enum Way {
     Strict,
@@ -560,7 +560,7 @@ fn is_read_so(alloc: Global, bytes: &[u8], wanted: &[u8], is_text: bool) -> bool
     };
     let is_lossy = match String::from_utf8_lossy(alloc, bytes) {
         Ok(lossy) => lossy.as_bytes() == wanted,
-        Err(_refused) => false,
+        Err(_error) => false,
     };
     let is_whole = is_text == (fault == bytes.len());
     is_lossy & is_whole & (wide_utf8_first_fault(bytes) == fault)

@@ -1,5 +1,5 @@
-//! How many bytes of UTF-16 to read next, so that no surrogate pair is split (Unicode Standard, section 3.9, D91, D96
-//! and D97). It depends on the last unit alone.
+//! Computes how many bytes of UTF-16 to read next without splitting a surrogate pair (Unicode Standard, section 3.9,
+//! D91, D96 and D97). Only the last unit has to be read.
 ghost use Rattle.std.specs.Prelude.{◌≡◌, ◌<◌, ◌≤◌, ◌+◌, ◌%◌, ◌++◌, ℕ, List, slice_index, length, take, drop};
 ghost use Rattle.wide_forms.specs.EncodingForm.{Utf16, IsHighSurrogate};
 ghost use Rattle.wide_forms.specs.Laws.Items.{IsCut};
@@ -14,7 +14,7 @@ pub(crate) const CHUNK: usize = 1024;
 
 /// Returns how many of the first `prefix` bytes may be converted before the bytes after them are known: all, except a
 /// last high surrogate, which may begin a pair.
-pub(crate) fn uncut_len(order: BoM, bytes: &[u8], prefix: usize) -> usize
+pub(crate) fn len_before_high_surrogate(order: BoM, bytes: &[u8], prefix: usize) -> usize
     requires within { prefix ≤ length bytes.now }
     requires even { prefix % 2 ≡ 0 }
     ensures within { result ≤ prefix }
@@ -37,7 +37,7 @@ pub(crate) fn complete_len(order: BoM, bytes: &[u8]) -> usize
     ensures rest { IsCutShort order (drop result bytes.now) }
     ensures cut { (more : List ℕ) → IsCut Utf16 (units_in order (take result bytes.now)) (units_in order (drop result bytes.now ++ more)) }
 {
-    uncut_len(order, bytes, bytes.len() / 2 * 2)
+    len_before_high_surrogate(order, bytes, bytes.len() / 2 * 2)
 }
 
 /// Returns how many bytes to read next: all whole units if they fit into `CHUNK` units, or else as many as fit without
@@ -53,6 +53,6 @@ pub(crate) fn chunk_len(order: BoM, bytes: &[u8]) -> usize
     if bytes.len() <= 2 * CHUNK {
         bytes.len() / 2 * 2
     } else {
-        uncut_len(order, bytes, 2 * CHUNK)
+        len_before_high_surrogate(order, bytes, 2 * CHUNK)
     }
 }

@@ -1,4 +1,4 @@
-//! UTF-16 in bytes of either byte order, also chunk by chunk. The caller keeps the state between chunks.
+//! Reads and converts UTF-16 in bytes of either byte order, whole or chunk by chunk. The caller keeps the state.
 ghost use Rattle.std.specs.Prelude.{◌≡◌, ◌*◌, ◌<◌, ◌≤◌, ◌+◌, ◌-◌, ◌/◌, ◌%◌, ◌^◌, ◌++◌, ◌↔◌, ℕ, List, IfNone, IfSome, slice_index, length, min, take, drop};
 ghost use Rattle.wide_forms.specs.EncodingForm.{Utf16, IsHighSurrogate};
 ghost use Rattle.wide_forms.specs.Items.{IsFirstFault, IsWellFormed, chars};
@@ -7,10 +7,10 @@ ghost use Rattle.wide_forms.specs.Laws.Items.{IsCut};
 ghost use Rattle.wide_bytes.specs.Bytes.{bom_of, unit_in, units_in};
 ghost use Rattle.wide_transcode.specs.Encoded.{IsCutShort};
 ghost use Rattle.widestring_c.specs.Buffers.{Wrote, WroteIf};
-ghost use Rattle.widestring_c.specs.Bytes.{IsWellFormedBy, IsWellFormedIn, bytes_end_in_fault, bytes_text, is_set, number_of_flag, number_of_mark, order_and_policy, order_named, text_in};
+ghost use Rattle.widestring_c.specs.Bytes.{IsWellFormedBy, IsWellFormedIn, bytes_end_in_fault, bytes_text, is_set, number_of_flag, number_of_bom, order_and_policy, order_named, text_in};
 ghost use Rattle.widestring_c.specs.Policies.{policy_of};
 
-use crate::byte_chunks::{CHUNK, chunk_len, complete_len, uncut_len};
+use crate::byte_chunks::{CHUNK, chunk_len, complete_len, len_before_high_surrogate};
 use crate::policies::policy_of;
 use crate::to_utf8::put_lossy_after;
 use wide_bytes::{BoM, byte_order, fill_units, unit_in};
@@ -90,7 +90,7 @@ fn put_bytes(order: BoM, bytes: &[u8], policy: Policy, after_fault: bool, text: 
 
 // Returns how many units precede the first fault, or how many whole units there are if there is no fault. `units` is a
 // scratch array.
-fn valid_units(order: BoM, bytes: &[u8], units: &mut [u16]) -> usize
+fn valid_units_len(order: BoM, bytes: &[u8], units: &mut [u16]) -> usize
     requires { 1024 ≤ length units.old }
     ensures well_formed { (result ≡ length bytes.now / 2) ↔ IsWellFormed Utf16 (units_in order bytes.now) }
     ensures fault { result < length bytes.now / 2 → (item unit : ℕ) × IsFirstFault Utf16 (units_in order bytes.now) result item unit }
@@ -117,7 +117,7 @@ fn valid_units(order: BoM, bytes: &[u8], units: &mut [u16]) -> usize
 fn put_valid_bytes(order: BoM, bytes: &[u8], text: &mut [u8]) -> Option<usize>
     ensures { WroteIf (IsWellFormedIn order bytes.now) (text_in order bytes.now) text.old result text.new }
 {
-    if bytes.len() % 2 == 0 && valid_units(order, bytes, &mut [0; CHUNK]) == bytes.len() / 2 {
+    if bytes.len() % 2 == 0 && valid_units_len(order, bytes, &mut [0; CHUNK]) == bytes.len() / 2 {
         // In well-formed units there is nothing for a policy to replace.
         Some(put_bytes(order, bytes, Policy::Each, false, text))
     } else {
@@ -127,14 +127,18 @@ fn put_valid_bytes(order: BoM, bytes: &[u8], text: &mut [u8]) -> Option<usize>
 
 // Returns whether the last whole unit is ill-formed, or `after_fault` if there are no whole units. It reads only the
 // last one or two units.
-fn ends_bytes(order: BoM, bytes: &[u8], after_fault: bool) -> bool
+fn bytes_end_in_fault(order: BoM, bytes: &[u8], after_fault: bool) -> bool
     ensures { result ≡ bytes_end_in_fault order after_fault bytes.now }
 {
     if bytes.len() < 2 {
         return after_fault;
     }
     // The last whole unit, and the one before it if that is a high surrogate.
-    let (_, last) = bytes.split_at(uncut_len(order, bytes, bytes.len() / 2 * 2 - 2));
+    let (_, last) = bytes.split_at(len_before_high_surrogate(
+        order,
+        bytes,
+        bytes.len() / 2 * 2 - 2,
+    ));
     let mut units = [0; 2];
     fill_units(order, last, &mut units);
     ends_in_fault(&units[..last.len() / 2], after_fault)
@@ -144,7 +148,7 @@ fn ends_bytes(order: BoM, bytes: &[u8], after_fault: bool) -> bool
 /// endian, 2 if there is no BOM. The caller drops the two bytes of the BOM: they do not belong to the text.
 #[unsafe(no_mangle)]
 pub extern "C" fn wide_utf16_bytes_order(bytes: &[u8]) -> u32
-    ensures { result ≡ number_of_mark (bom_of bytes.now) }
+    ensures { result ≡ number_of_bom (bom_of bytes.now) }
 {
     match byte_order(bytes) {
         Some(BoM::Little) => 0,
@@ -200,15 +204,15 @@ pub extern "C" fn wide_utf16_bytes_to_utf8_lossy_with(
 }
 
 /// Returns 1 if the last whole unit is ill-formed, and 0 if it is not. If there are no whole units, it returns 0 if
-/// `after_fault` is 0, and else 1. `after_fault` is 0 if the unit before the bytes is well formed or there is none, and
-/// another number if it is ill-formed. If the order is neither 0 nor 1, it returns 0.
+/// `after_fault` is 0, and 1 otherwise. `after_fault` is 0 if the unit before the bytes is well formed or there is
+/// none, and another number if it is ill-formed. If the order is neither 0 nor 1, it returns 0.
 #[unsafe(no_mangle)]
 pub extern "C" fn wide_utf16_bytes_end_in_fault(bytes: &[u8], order: u32, after_fault: u32) -> u32
     ensures last { IfSome (order_named order) (λ o. result ≡ number_of_flag (bytes_end_in_fault o (is_set after_fault) bytes.now)) }
     ensures other { IfNone (order_named order) (result ≡ 0) }
 {
     match order_named(order) {
-        Some(order) => u32::from(ends_bytes(order, bytes, is_set(after_fault))),
+        Some(order) => u32::from(bytes_end_in_fault(order, bytes, is_set(after_fault))),
         None => 0,
     }
 }
@@ -243,7 +247,7 @@ pub extern "C" fn wide_utf16_bytes_first_fault(bytes: &[u8], order: u32) -> usiz
     ensures other { IfNone (order_named order) (result ≡ 2 ^ 64 - 1) }
 {
     match order_named(order) {
-        Some(order) => valid_units(order, bytes, &mut [0; CHUNK]),
+        Some(order) => valid_units_len(order, bytes, &mut [0; CHUNK]),
         None => usize::MAX,
     }
 }

@@ -1,4 +1,4 @@
-//! Conversions of UTF-8 to UTF-16 and UTF-32, into a buffer of the caller.
+//! Converts UTF-8 to UTF-16 and UTF-32, into a buffer of the caller.
 ghost use Rattle.std.specs.Prelude.{◌≡◌, ◌<◌, ◌≤◌, ◌↔◌, ◌+◌, ◌-◌, ◌^◌, ◌++◌, IfNone, IfSome, length, map, min, take, drop};
 ghost use Rattle.std.specs.Str.{IsUtf8, IsValidUpTo, chars as str_chars};
 ghost use Rattle.std.specs.Str.Lossy.{utf8_lossy};

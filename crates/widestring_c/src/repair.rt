@@ -1,4 +1,4 @@
-//! Copies of units in which U+FFFD replaces each fault, in a buffer of the caller.
+//! Copies units into a buffer of the caller, and replaces each fault by U+FFFD.
 ghost use Rattle.std.specs.Prelude.{◌≡◌, ◌≤◌, length, take, drop};
 ghost use Rattle.wide_forms.specs.EncodingForm.{Utf16, Utf32, encode};
 ghost use Rattle.wide_forms.specs.Items.{items};
@@ -6,8 +6,8 @@ ghost use Rattle.wide_forms.specs.Lossy.{lossy};
 
 use wide_unit::Unit;
 
-/// Copies UTF-16 (Unicode Standard, D91), and replaces each ill-formed unit by U+FFFD. Returns the length, which is that
-/// of the input in units. If `repaired` is at least that long, the result is at its start, and the units after the
+/// Copies UTF-16 (Unicode Standard, D91), and replaces each ill-formed unit by U+FFFD. Returns the length, which is
+/// that of the input in units. If `repaired` is at least that long, the result is at its start, and the units after the
 /// result are unchanged.
 #[unsafe(no_mangle)]
 pub extern "C" fn wide_utf16_repair(units: &[u16], repaired: &mut [u16]) -> usize

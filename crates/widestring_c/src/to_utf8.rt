@@ -1,4 +1,4 @@
-//! Conversions of UTF-16 and UTF-32 to UTF-8, into a buffer of the caller.
+//! Converts UTF-16 and UTF-32 to UTF-8, into a buffer of the caller.
 ghost use Rattle.std.specs.Prelude.{◌≡◌, ◌<◌, ◌≤◌, ◌+◌, ◌-◌, ◌^◌, ◌++◌, ◌*◌, IfNone, IfSome, length, map, min, take, drop};
 ghost use Rattle.wide_forms.specs.EncodingForm.{Utf16, Utf32};
 ghost use Rattle.wide_forms.specs.Items.{IsWellFormed, chars, items};
@@ -35,10 +35,11 @@ fn put_chunks<C: Unit>(units: &[C], text: &mut [u8], at: usize, chunk: &mut [u8]
     at
 }
 
-// Checks units, converts them to UTF-8 at the start of the buffer if they are well formed, and returns the length of
-// the result in bytes. Returns `None` if they are ill-formed. The requirement holds for all slices, which have fewer
-// than 2^63 bytes, so a length of four bytes for each unit fits into a `usize`.
-fn put_checked<C: Unit>(units: &[C], text: &mut [u8]) -> Option<usize>
+// Checks units, and then converts them to UTF-8 at the start of the buffer if they are well formed. Returns the length
+// of the result in bytes, or `None` if they are ill-formed. The small array is for UTF-32: few units of UTF-16 are
+// converted in one pass. The requirement holds for all slices, which have fewer than 2^63 bytes. It bounds the length
+// of the result, at most four bytes for each unit.
+fn put_in_two_passes<C: Unit>(units: &[C], text: &mut [u8]) -> Option<usize>
     requires { 4 * length units.now < 2 ^ 64 - 1 }
     ensures { WroteIf (IsWellFormed C.form (map C.number units.now)) (utf8 (chars C.form (map C.number units.now))) text.old result text.new }
 {
@@ -56,7 +57,7 @@ fn put_checked<C: Unit>(units: &[C], text: &mut [u8]) -> Option<usize>
 
 // Checks a few units of UTF-16 and converts them to UTF-8 at the start of the buffer in one pass, through the array
 // `chunk`. Returns the length of the result in bytes, or `None` if the units are ill-formed.
-fn put_whole(units: &[u16], text: &mut [u8], chunk: &mut [u8]) -> Option<usize>
+fn put_in_one_pass(units: &[u16], text: &mut [u8], chunk: &mut [u8]) -> Option<usize>
     requires { 3 * length units.now + 4 ≤ length chunk.old }
     ensures { WroteIf (IsWellFormed Utf16 units.now) (utf8 (chars Utf16 units.now)) text.old result text.new }
 {
@@ -69,16 +70,16 @@ fn put_whole(units: &[u16], text: &mut [u8], chunk: &mut [u8]) -> Option<usize>
 // Checks UTF-16, and converts it to UTF-8 at the start of the buffer. Returns the length of the result in bytes, or
 // `None` if the units are ill-formed. A short input is checked and converted in one pass, in an array whose size fits.
 // A longer one is checked first.
-fn put_valid(units: &[u16], text: &mut [u8]) -> Option<usize>
+fn put_valid_16(units: &[u16], text: &mut [u8]) -> Option<usize>
     ensures { WroteIf (IsWellFormed Utf16 units.now) (utf8 (chars Utf16 units.now)) text.old result text.new }
 {
     if units.len() <= FEW {
-        return put_whole(units, text, &mut [0; SMALL]);
+        return put_in_one_pass(units, text, &mut [0; SMALL]);
     }
     if units.len() <= MANY {
-        return put_whole(units, text, &mut [0; MIDDLE]);
+        return put_in_one_pass(units, text, &mut [0; MIDDLE]);
     }
-    put_checked(units, text)
+    put_in_two_passes(units, text)
 }
 
 // Converts any units to UTF-8 at the offset `at` of the buffer, replaces faults by the policy, and returns the offset
@@ -160,7 +161,7 @@ pub extern "C" fn wide_utf16_to_utf8(units: &[u16], text: &mut [u8]) -> usize
     ensures unchanged { (IsWellFormed Utf16 units.now → ⊥) → text.new ≡ text.old }
     ensures beyond { drop result text.new ≡ drop result text.old }
 {
-    put_valid(units, text).unwrap_or(usize::MAX)
+    put_valid_16(units, text).unwrap_or(usize::MAX)
 }
 
 /// Converts any UTF-16 to UTF-8, and writes U+FFFD for each ill-formed unit. Returns the length of the result in bytes.
@@ -172,7 +173,7 @@ pub extern "C" fn wide_utf16_to_utf8_lossy(units: &[u16], text: &mut [u8]) -> us
     ensures text { result ≤ length text.old → take result text.new ≡ utf8 (lossy (items Utf16 units.now)) }
     ensures beyond { drop result text.new ≡ drop result text.old }
 {
-    match put_valid(units, text) {
+    match put_valid_16(units, text) {
         Some(len) => len,
         None => put_lossy_16(units, Policy::Each, text),
     }
@@ -215,7 +216,7 @@ pub extern "C" fn wide_utf32_to_utf8(units: &[u32], text: &mut [u8]) -> usize
     ensures unchanged { (IsWellFormed Utf32 units.now → ⊥) → text.new ≡ text.old }
     ensures beyond { drop result text.new ≡ drop result text.old }
 {
-    put_checked(units, text).unwrap_or(usize::MAX)
+    put_in_two_passes(units, text).unwrap_or(usize::MAX)
 }
 
 /// Converts any UTF-32 to UTF-8, and writes U+FFFD for each unit that is not a scalar value. Returns the length of the

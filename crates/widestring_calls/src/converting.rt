@@ -54,7 +54,7 @@ fn printed(alloc: Global, value: &impl Display) -> Result<u64, OutOfMemory> {
     let mut sink = String::new(alloc);
     match write!(sink, "{value}") {
         Ok(()) => Ok(sink.len() as u64),
-        Err(_refused) => Err(OutOfMemory),
+        Err(_error) => Err(OutOfMemory),
     }
 }
 
@@ -63,7 +63,7 @@ fn debug_printed<C: FaultUnit>(alloc: Global, units: UStr<'_, C>) -> Result<u64,
     let mut sink = String::new(alloc);
     match write!(sink, "{units:?}") {
         Ok(()) => Ok(sink.len() as u64),
-        Err(_refused) => Err(OutOfMemory),
+        Err(_error) => Err(OutOfMemory),
     }
 }
 

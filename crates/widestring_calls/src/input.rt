@@ -72,7 +72,8 @@ pub fn units32(alloc: Global, bytes: &[u8]) -> Result<Vec<u32>, OutOfMemory> {
     Ok(units)
 }
 
-/// Makes a call `rounds` times, by turns on two copies of the units, so that no result can be taken from the call before.
+/// Makes a call `rounds` times, by turns on two copies of the units, so that no result can be taken from the call
+/// before.
 pub fn repeat<'a, K: Call, C: FaultUnit + Ord>(
     call: K,
     rounds: u64,

@@ -1,6 +1,6 @@
 //! Makes one call again and again, for `bench/instructions`: `calls CALL WIDTH ROUNDS TEXT NEEDLE`. TEXT and NEEDLE are
-//! files of little-endian units of WIDTH bits, 16 or 32. It prints the sum of what the calls returned, as a number each.
-//! The status is 2 for a usage error, and for a call of another name.
+//! files of little-endian units of WIDTH bits, 16 or 32. It prints the sum of what the calls returned, as a number
+//! each. The status is 2 for a usage error, and for a call of another name.
 #![tactic(auto)]
 
 mod converting;

@@ -128,7 +128,7 @@ fn edited_len<T: TextEdit + Drop>(
 fn marked(alloc: Global, utf8: &str) -> Result<Marked16, OutOfMemory> {
     match Marked16::new(alloc, Utf16String::from_str(alloc, utf8)?) {
         Ok(text) => Ok(text),
-        Err(_refused) => Err(OutOfMemory),
+        Err(_error) => Err(OutOfMemory),
     }
 }
 

@@ -181,7 +181,7 @@ fn make_all(
 fn marked_text(words: &mut Words, is_awkward: bool) -> Result<Marked16, OutOfMemory> {
     match Marked16::new(words.alloc, text(words, is_awkward)?) {
         Ok(marked) => Ok(marked),
-        Err(_refused) => Err(OutOfMemory),
+        Err(_error) => Err(OutOfMemory),
     }
 }
 

@@ -11,8 +11,8 @@ const UNITS: usize = 200_000;
 
 const NEEDLES: usize = 40;
 
-// Makes a needle of a part of a text, which occurs there but for the unit in its middle, which becomes another letter. So
-// the needle occurs rarely, if at all.
+// Makes a needle of a part of a text, which occurs there but for the unit in its middle, which becomes another letter.
+// So the needle occurs rarely, if at all.
 fn make_rare(
     random: &mut Random,
     part: U16Str<'_>,
@@ -134,8 +134,8 @@ fn split(words: &mut Words, units: &[u16], digest: &mut Digest) {
     }
 }
 
-// Replaces a word where it occurs next from an offset on, and returns the offset after it. Returns `None` if it does not
-// occur.
+// Replaces a word where it occurs next from an offset on, and returns the offset after it. Returns `None` if it does
+// not occur.
 fn replace_next(
     text: &mut U16String,
     from: usize,

@@ -67,7 +67,7 @@ fn push_string(
     digest.units(string.as_slice());
     match table.push(string) {
         Ok(()) => Ok(()),
-        Err(_refused) => Err(OutOfMemory),
+        Err(_error) => Err(OutOfMemory),
     }
 }
 

@@ -27,7 +27,7 @@ pub struct Words {
 pub fn granted(request: Result<(), AllocError>) -> Result<(), OutOfMemory> {
     match request {
         Ok(()) => Ok(()),
-        Err(_refused) => Err(OutOfMemory),
+        Err(_error) => Err(OutOfMemory),
     }
 }
 
@@ -112,8 +112,8 @@ fn push_entries(
 }
 
 impl Words {
-    /// Makes a vocabulary. Each seed makes another one. The inputs that are made of it have their usual sizes divided by
-    /// `divisor`.
+    /// Makes a vocabulary. Each seed makes another one. The inputs that are made of it have their usual sizes divided
+    /// by `divisor`.
     pub fn new(alloc: Global, divisor: usize, seed: u64) -> Result<Words, OutOfMemory> {
         let mut random = Random::new(seed);
         let mut texts = Vec::new(alloc);

@@ -159,8 +159,8 @@ fn is_prepared_for(alloc: Global, text: &mut Marked16, edit: Edit<'_>) -> bool {
     }
 }
 
-// Returns whether an edit of a new string that fails to allocate changes nothing, and one that succeeds has the reply of
-// the plain list. If the string can't be allocated, there is no edit.
+// Returns whether an edit of a new string that fails to allocate changes nothing, and one that succeeds has the reply
+// of the plain list. If the string can't be allocated, there is no edit.
 fn is_prepared(alloc: Global, edit: Edit<'_>) -> bool {
     match marked(alloc) {
         Ok(mut text) => is_prepared_for(alloc, &mut text, edit),

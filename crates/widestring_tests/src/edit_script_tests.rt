@@ -197,7 +197,7 @@ fn has_new_index(alloc: Global, text: &Marked16) -> bool {
     };
     match Marked16::new(alloc, copy) {
         Ok(new) => text.marks() == new.marks(),
-        Err(_refused) => false,
+        Err(_error) => false,
     }
 }
 

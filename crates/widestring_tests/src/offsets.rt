@@ -220,7 +220,8 @@ impl<C: ReadUnit> Case<'_, C> {
             && self.is_lossy(alloc, policy, &text)
     }
 
-    // Returns whether the calls that mark each fault, and those that convert no faults, agree with the standard library.
+    // Returns whether the calls that mark each fault, and those that convert no faults, agree with the standard
+    // library.
     fn holds_by_each(&self, alloc: Global, chars: &[Option<char>]) -> bool {
         let (mut text, mut middle) = (String::new(alloc), String::new(alloc));
         let view = UStr::from_slice(self.units);

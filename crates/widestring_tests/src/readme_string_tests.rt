@@ -18,7 +18,7 @@ fn editing(rt: HostRuntime) -> Result<(), Fail> {
 fn c_strings(rt: HostRuntime) -> Result<(), Fail> {
     let units = [0x61, 0, 0x62].to_vec(rt.alloc())?;
     let Err(UCStringError::ContainsNul(fault)) = U16CString::from_vec(units) else {
-        panic!(rt; "a NUL stands before the last unit")
+        panic!(rt; "a NUL precedes the last unit")
     };
     assert_eq!(rt; fault.nul_position(), 1);
     let cut = U16CStr::from_slice_truncate(&[0x61, 0, 0x62])?;

@@ -6,7 +6,7 @@ use widestring::{Utf16Str, Utf16String, decode_utf16};
 
 #[test]
 fn decoding(rt: HostRuntime) {
-    // `Hi`, an emoji, and half of a pair.
+    // `Hi`, an emoji, and an unpaired surrogate.
     let mut decoder = decode_utf16([0x48, 0x69, 0xd83d, 0xde00, 0xdc00]);
     assert_eq!(rt; decoder.next(), Some(Ok('H')));
     assert_eq!(rt;
@@ -31,7 +31,7 @@ fn transcoding(rt: HostRuntime) -> Result<(), Fail> {
 fn damaged(rt: HostRuntime) -> Result<(), Fail> {
     let units = [0x61, 0xd83d, 0xde00, 0xd800, 0xd, 0xa, 0x20, 0x62];
     let Err(fault) = Utf16Str::from_slice(&units) else {
-        panic!(rt; "half of a pair stands at place 3")
+        panic!(rt; "an unpaired surrogate is at index 3")
     };
     assert_eq!(rt; (fault.index(), fault.item()), (3, 2));
     let lossy = Utf16String::from_slice_lossy(rt.alloc(), &units)?;
@@ -52,7 +52,7 @@ fn searched(rt: HostRuntime) -> Result<(), Fail> {
     let line = text.as_utfstr();
     let equals = Utf16Str::from_slice(&[0x3d])?;
     let Some((name, rest)) = line.split_once(equals) else {
-        panic!(rt; "an equals sign stands at place 4")
+        panic!(rt; "an equals sign is at index 4")
     };
     assert!(rt; name.eq_str("name"));
     let mut fields = rest.split_char(';');

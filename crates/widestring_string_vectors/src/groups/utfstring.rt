@@ -340,9 +340,9 @@ fn is_kept<C: ReportedUnit>(
     }
 }
 
-// Makes a call in a field of its own, and adds what it returns. A text that would be too long is a `-`, with no request.
-// Adds a `?` if a request failed and the string is then not as the contract says, given its units and its capacity
-// before.
+// Makes a call in a field of its own, and adds what it returns. A text that would be too long is a `-`, with no
+// request. Adds a `?` if a request failed and the string is then not as the contract says, given its units and its
+// capacity before.
 fn in_field<'a, C: ReportedUnit>(
     memory: Memory<'a>,
     string: &mut Text<'a, C>,

@@ -5,7 +5,7 @@ use Rattle.wide_conversions.proofs.utf8_validation.checked_len.Goals as goal
 pub chunks-init : goal.chunks-init
 chunks-init c =
     let copied = c.copy_from_slice.new.self in
-    record { some = omega arith; within = omega arith; valid = first_follow c.args.text.now (copied ++ []) (append-nil copied ∙ c.copy_from_slice.ensures.after) (c.if-not-is_valid.ensures refl) }
+    record { some = omega arith; within = omega arith; valid = first_follow c.args.text.now (copied ++ []) (append-nil copied ∙ c.copy_from_slice.ensures.after) (c.if-not-can_follow.ensures refl) }
 
 pub chunks-preserved : goal.chunks-preserved
 chunks-preserved c =

@@ -6,5 +6,5 @@ pub returns-then-is_ascii-clause-follow : goal.returns-then-is_ascii-clause-foll
 returns-then-is_ascii-clause-follow c =
     ascii_following c.args.text.now c.ascii_len.result _ (c.if-is_ascii.ensures refl) c.ascii_len.ensures.ascii (omega (arith, c.ascii_len.ensures.within, length-take (length c.args.text.now - 67) (drop 67 c.args.text.now), length-drop 67 c.args.text.now))
 
-pub returns-then-follow-clause-follow : goal.returns-then-follow-clause-follow
-returns-then-follow-clause-follow c = block_following c.args.text.now (c.if-follow.ensures refl)
+pub returns-then-can_follow_by_rules-clause-follow : goal.returns-then-can_follow_by_rules-clause-follow
+returns-then-can_follow_by_rules-clause-follow c = block_following c.args.text.now (c.if-can_follow_by_rules.ensures refl)

@@ -4,7 +4,7 @@ use Rattle.wide_forms.specs.EncodingForm.{Utf16}
 use Rattle.wide_forms.specs.Items.{chars}
 use Rattle.wide_forms.specs.Laws.Offsets.{offset-IsOffsetOf}
 use Rattle.wide_forms.specs.Offsets.{IsOffsetOf}
-use Rattle.wide_editable.specs.Numbers.{first_number}
+use Rattle.wide_editable.specs.Indices.{first_number}
 use Rattle.wide_offset_index.proofs.Lengths.{size-cut}
 use Rattle.wide_offset_index.proofs.Marking.{well-formed, whole-size}
 use Rattle.wide_offset_index.proofs.Offsets.{found_some}

@@ -1,7 +1,7 @@
 use Rattle.std.proofs.Common.{◌≤◌, arith, subst, map, length, ◌∷◌, []}
 use Rattle.std.specs.Str.{chars}
 use Rattle.wide_forms.specs.Laws.Offsets.{offset-IsOffsetOf}
-use Rattle.wide_editable.specs.Numbers.{first_number}
+use Rattle.wide_editable.specs.Indices.{first_number}
 use Rattle.wide_forms.specs.Offsets.{text_of}
 use Rattle.wide_editable.proofs.Made.{in_place, past, in_range}
 use Rattle.wide_offset_index.proofs.Lengths.{size-splice, size-one}

@@ -11,4 +11,4 @@ returns-then-eq-clause-text c =
     let rest : List ℕ = drop (length chunk) c.args.text.now in
     let same : c.args.repaired.now ≡ chunk = same_text c.args.repaired.now chunk c.if-eq.ensures in
     let copied : c.copy_from_slice.new.self ≡ chunk = c.copy_from_slice.ensures.after in
-    ap (λ us. take (length chunk) (us ++ rest)) copied ∙ take-append_seam chunk rest ∙ unchanged (cond c.args.replaces Run Skip) c.args.after_fault chunk (sym c.requires.repaired ∙ same)
+    ap (λ us. take (length chunk) (us ++ rest)) copied ∙ take-append_seam chunk rest ∙ unchanged (cond c.args.is_run Run Skip) c.args.after_fault chunk (sym c.requires.repaired ∙ same)

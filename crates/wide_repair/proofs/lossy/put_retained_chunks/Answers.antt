@@ -6,7 +6,7 @@ use Rattle.wide_repair.proofs.lossy.put_retained_chunks.Goals as goal
 
 pub chunks-preserved : goal.chunks-preserved
 chunks-preserved c =
-    let policy = cond c.args.replaces Run Skip in
+    let policy = cond c.args.is_run Run Skip in
     let rest = c.chunks.rest.now in
     let n = c.uncut_len.result in
     let e = c.split_at.ensures in
@@ -27,4 +27,4 @@ chunks-preserved c =
     }
 
 pub returns-clause-text : goal.returns-clause-text
-returns-clause-text c = all-chunks (cond c.args.replaces Run Skip) _ _ c.chunks.is_after c.chunks.rest.now (grind (arith, c.is_empty.ensures, c.chunks-test.false)) c.chunks.invariant.so_far
+returns-clause-text c = all-chunks (cond c.args.is_run Run Skip) _ _ c.chunks.is_after c.chunks.rest.now (grind (arith, c.is_empty.ensures, c.chunks-test.false)) c.chunks.invariant.so_far

@@ -8,7 +8,7 @@ invariant-chunks l = record {
   within : l.at + length l.rest ≤ length l.units;
   space : length l.text ≡ length l.fn.text;
   repaired : 2 ≤ length l.repaired;
-  so_far : lossy_units (cond l.replaces Run Skip) l.fn.after_fault l.units ≡ take l.at l.text ++ lossy_units (cond l.replaces Run Skip) l.is_after l.rest;
+  so_far : lossy_units (cond l.is_run Run Skip) l.fn.after_fault l.units ≡ take l.at l.text ++ lossy_units (cond l.is_run Run Skip) l.is_after l.rest;
 }
 
 abbrev pub decreases-chunks : goal.decreases-chunks

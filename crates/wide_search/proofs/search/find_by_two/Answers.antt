@@ -44,14 +44,14 @@ find_each-matched-requires-clause-before g c =
     c.loop-at.invariant.2 (c.skip-step.ensures.before sought is)
     (λ whole. omega (arith, c.matched_in_blocks-matched.ensures.whole.0 whole, c.if-matched-probe.false, is.length))
 
-pub returns-in-Back-clause-before : goal.returns-in-Back-clause-before
-returns-in-Back-clause-before g c = λ k l.
+pub returns-in-Plain-clause-before : goal.returns-in-Plain-clause-before
+returns-in-Plain-clause-before g c = λ k l.
     let sought = g.P.Needle.sought c.args.needle in
     let is : IsProbe sought c.in-Some.probe = c.in-Some.ensures in
     none-tried g.C.Unit.number sought c.args.units.now c.split_at.result.1.now c.split_at-in-loop-at.result.1.now c.loop-at.at c.skip-step.result c.split_at.ensures.back c.split_at-in-loop-at.ensures.back
     c.loop-at.invariant.2 (c.skip-step.ensures.before sought is)
     (λ whole. omega (arith, c.matched_in_blocks-matched.ensures.whole.0 whole, c.if-matched-probe.false, is.length))
-    k (omega (arith, l, c.unfound-in-Back.ensures.at))
+    k (omega (arith, l, c.unfound-in-Plain.ensures.at))
 
 pub loop-at-preserved-in-Pairs : goal.loop-at-preserved-in-Pairs
 loop-at-preserved-in-Pairs g c =

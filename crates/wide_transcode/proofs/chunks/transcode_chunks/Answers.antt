@@ -46,8 +46,8 @@ returns-in-Some-clause-run g c =
     let ends = fault-ends c.args.policy first i.0 s (step.ensures.faults c.in-Some.unit c.in-Some.is) (Unit {0}) c.fault_at.result c.in-Some.unit (g.S.ByteSource.has_ended c.chunks.source) c.chunks.invariant.source_open c.fault_at.ensures fault in
     (i.0, i.1 ++ put.0, putting _ _ _ _ _ _ _ _ i.2 put.1, ends.0, ends.1, ends.2)
 
-pub returns-then-progress-gt-UNITS-clause-run : goal.returns-then-progress-gt-UNITS-clause-run
-returns-then-progress-gt-UNITS-clause-run g c =
+pub returns-then-position-gt-INDEX_LIMIT-clause-run : goal.returns-then-position-gt-INDEX_LIMIT-clause-run
+returns-then-position-gt-INDEX_LIMIT-clause-run g c =
     let i = c.chunks.invariant.run in
     let step = c.encode_chunk-step in
     let first = take c.args.start c.args.chunk.now in

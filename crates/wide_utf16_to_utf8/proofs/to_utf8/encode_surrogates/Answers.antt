@@ -9,8 +9,8 @@ put_pairs-requires-clause-high c = c.if-are_pairs.ensures refl
 pub put_pairs-requires-clause-low : goal.put_pairs-requires-clause-low
 put_pairs-requires-clause-low c = lows-beyond (take (c.args.from + 17 - c.args.from) (drop c.args.from c.args.units.now)) (c.if-not-is_paired.ensures.pairs refl) (c.if-are_pairs.ensures refl)
 
-pub put_paired-read-requires-clause-pairs : goal.put_paired-read-requires-clause-pairs
-put_paired-read-requires-clause-pairs c = pairs-at c.args.units.now c.args.from _ (omega arith) (c.if-not-is_paired.ensures.pairs refl)
+pub put_paired-requires-clause-pairs : goal.put_paired-requires-clause-pairs
+put_paired-requires-clause-pairs c = pairs-at c.args.units.now c.args.from _ (omega arith) (c.if-not-is_paired.ensures.pairs refl)
 
 pub returns-then-not-is_paired-clause-stop : goal.returns-then-not-is_paired-clause-stop
 returns-then-not-is_paired-clause-stop c some =

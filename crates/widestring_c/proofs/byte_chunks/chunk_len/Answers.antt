@@ -10,5 +10,5 @@ returns-then-bytes-clause-cut c =
 
 pub returns-else-bytes-clause-cut : goal.returns-else-bytes-clause-cut
 returns-else-bytes-clause-cut c =
-    let n = c.uncut_len.result in
-    cut-before_none c.args.order (units_in c.args.order (take n c.args.bytes.now)) (drop n c.args.bytes.now) (c.uncut_len.ensures.cut [])
+    let n = c.len_before_high_surrogate.result in
+    cut-before_none c.args.order (units_in c.args.order (take n c.args.bytes.now)) (drop n c.args.bytes.now) (c.len_before_high_surrogate.ensures.cut [])

@@ -4,5 +4,5 @@ use Rattle.widestring_c.proofs.byte_chunks.complete_len.Goals as goal
 
 pub returns-clause-rest : goal.returns-clause-rest
 returns-clause-rest c =
-    let e = c.uncut_len.ensures in
-    cut-short_after c.args.order c.args.bytes.now c.uncut_len.result (grind (arith, e.within)) (grind (arith, e.within, e.one_unit)) (λ some. e.high (omega (arith, some)))
+    let e = c.len_before_high_surrogate.ensures in
+    cut-short_after c.args.order c.args.bytes.now c.len_before_high_surrogate.result (grind (arith, e.within)) (grind (arith, e.within, e.one_unit)) (λ some. e.high (omega (arith, some)))

@@ -2,7 +2,7 @@ use Rattle.std.proofs.Common.{◌≡◌, ◌+◌, inl, inr, arith, get_or, subst
 use Rattle.std.proofs.lemmas.Bool.{cases_lt}
 use Rattle.std.proofs.lemmas.Nat.{le_or_l, le_or_r}
 use Rattle.wide_conversions.specs.Following.{CanFollow}
-use Rattle.wide_conversions.proofs.utf8_validation.follow.Goals as goal
+use Rattle.wide_conversions.proofs.utf8_validation.can_follow_by_rules.Goals as goal
 
 pub loop-k-preserved : goal.loop-k-preserved
 loop-k-preserved c = λ j within none.

@@ -2,7 +2,7 @@ use Rattle.std.proofs.Common.{refl, length, map}
 use Rattle.wide_forms.specs.Items.{chars}
 use Rattle.wide_forms.specs.Utf8.{utf8}
 use Rattle.widestring_c.proofs.Fits.{bytes-well_formed, exact_end}
-use Rattle.widestring_c.proofs.to_utf8.put_checked.Goals as goal
+use Rattle.widestring_c.proofs.to_utf8.put_in_two_passes.Goals as goal
 
 pub returns-then-units-le-FEW : goal.returns-then-units-le-FEW
 returns-then-units-le-FEW g c =

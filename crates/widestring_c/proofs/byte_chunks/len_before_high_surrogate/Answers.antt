@@ -3,8 +3,8 @@ use Rattle.wide_forms.specs.EncodingForm.{Utf16}
 use Rattle.wide_forms.specs.Laws.Items.{IsCut}
 use Rattle.wide_bytes.specs.Bytes.{unit_in, units_in}
 use Rattle.widestring_c.proofs.Cuts.{cut-at_prefix, cut-before_high, cut-after_plain}
-use Rattle.widestring_c.proofs.byte_chunks.uncut_len.Goals.{else-prefix-ge2-via-then-prefix-ge2+else-is_high_surrogate, else-prefix-ge2-via-else-prefix-ge2}
-use Rattle.widestring_c.proofs.byte_chunks.uncut_len.Goals as goal
+use Rattle.widestring_c.proofs.byte_chunks.len_before_high_surrogate.Goals.{else-prefix-ge2-via-then-prefix-ge2+else-is_high_surrogate, else-prefix-ge2-via-else-prefix-ge2}
+use Rattle.widestring_c.proofs.byte_chunks.len_before_high_surrogate.Goals as goal
 
 pub returns-then-is_high_surrogate-clause-cut : goal.returns-then-is_high_surrogate-clause-cut
 returns-then-is_high_surrogate-clause-cut c =

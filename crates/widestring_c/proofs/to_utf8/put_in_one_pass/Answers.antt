@@ -1,7 +1,7 @@
 use Rattle.std.proofs.Common.{◌∙◌, ap, arith, length}
 use Rattle.wide_forms.specs.EncodingForm.{Utf16}
 use Rattle.widestring_c.proofs.Fits.{bytes-well_formed}
-use Rattle.widestring_c.proofs.to_utf8.put_whole.Goals as goal
+use Rattle.widestring_c.proofs.to_utf8.put_in_one_pass.Goals as goal
 
 pub returns-in-Some : goal.returns-in-Some
 returns-in-Some c =
