@@ -6,7 +6,7 @@ use Rattle.wide_forms.specs.Items.{chars, IsWellFormed}
 use Rattle.wide_offset_index.specs.Found.{IsFoundRange}
 use Rattle.wide_edit.specs.Step.{step}
 use Rattle.wide_offset_index.specs.Marks.{mark, marks_of, IsEdited, AreMoved}
-use Rattle.wide_editable.specs.Marked.{edit_offset}
+use Rattle.wide_editable.specs.Marked.{first_changed}
 use Rattle.wide_editable.specs.Replaced.{Replaces}
 use Rattle.wide_edit.specs.declared.edits.Edit.{Edit}
 use Rattle.wide_offset_index.proofs.Lengths.{size}
@@ -25,15 +25,15 @@ module _ (us seen ms : List ℕ) (same : seen ≡ us) (marks : ms ≡ marks_of (
   pub marks-long : length ms ≡ count / 64
   marks-long = ap length marks ∙ length-map-range_with_len (mark cs) 1 (length cs / 64) ∙ ap (λ n. n / 64) (sym here)
 
-  module _ (edit : Edit) (first : ℕ) (begins : first ≡ edit_offset count edit) where
+  module _ (edit : Edit) (first : ℕ) (begins : first ≡ first_changed count edit) where
     pub kept-within : first / 64 ≤ length ms
     kept-within = omega (arith, begins, offset-within count edit, marks-long)
 
-    begins-here : first ≡ edit_offset (length cs) edit
-    begins-here = begins ∙ ap (λ n. edit_offset n edit) here
+    begins-here : first ≡ first_changed (length cs) edit
+    begins-here = begins ∙ ap (λ n. first_changed n edit) here
 
     -- The units after the last entry that is retained, before the edit.
-    pub read-before : (view : List ℕ) → view ≡ us → (more : ℕ) → more ≡ size Utf16 (chars Utf16 view) - mark (chars Utf16 view) (first / 64) → more ≡ size Utf16 cs - mark cs (edit_offset (length cs) edit / 64)
+    pub read-before : (view : List ℕ) → view ≡ us → (more : ℕ) → more ≡ size Utf16 (chars Utf16 view) - mark (chars Utf16 view) (first / 64) → more ≡ size Utf16 cs - mark cs (first_changed (length cs) edit / 64)
     read-before view e more reads = reads ∙ ap (λ vs. size Utf16 (chars Utf16 vs) - mark (chars Utf16 vs) (first / 64)) e ∙ ap (λ k. size Utf16 cs - mark cs (k / 64)) begins-here
 
     -- The edit was made, and a view of the new text has the units `last`.
@@ -41,14 +41,14 @@ module _ (us seen ms : List ℕ) (same : seen ≡ us) (marks : ms ≡ marks_of (
       pub read-after : IsWellFormed Utf16 (map (λ u. u) last) → size Utf16 (chars Utf16 new) ≡ length last
       read-after well = ap (λ vs. size Utf16 (chars Utf16 vs)) (sym same-new) ∙ whole-size last (well-formed last well)
 
-      pub marked-after : mark (chars Utf16 last) (first / 64) ≡ mark (chars Utf16 new) (edit_offset (length cs) edit / 64)
+      pub marked-after : mark (chars Utf16 last) (first / 64) ≡ mark (chars Utf16 new) (first_changed (length cs) edit / 64)
       marked-after = ap (λ vs. mark (chars Utf16 vs) (first / 64)) same-new ∙ ap (λ k. mark (chars Utf16 new) (k / 64)) begins-here
 
       module _ (made : chars Utf16 new ≡ (step cs edit).0) where
         -- The entries that are retained are those of the new text.
         pub kept-same : take (first / 64) ms ≡ take (first / 64) (marks_of (chars Utf16 last))
         kept-same =
-            let p = edit_offset (length cs) edit in
+            let p = first_changed (length cs) edit in
             let unchanged : take p (chars Utf16 new) ≡ take p cs = ap (take p) made ∙ step-keeps cs edit in
             ap (take (first / 64)) marks ∙ same-marks cs (chars Utf16 new) p (offset-within (length cs) edit) unchanged (first / 64) (omega (arith, begins-here))
             ∙ ap (λ vs. take (first / 64) (marks_of (chars Utf16 vs))) (sym same-new)

@@ -8,10 +8,10 @@ use Rattle.std.proofs.lemmas.List.{take-take, take-append-le}
 use Rattle.wide_edit.specs.Step.{step}
 use Rattle.wide_edit.specs.declared.edits.Edit.{Edit}
 use Rattle.wide_edit.specs.declared.edits.Edit.TheVariants.{Push, PushStr, Pop, Truncate, Insert, InsertStr, Remove, Retain, Drain, Replace, SplitOff, Clear}
-use Rattle.wide_editable.specs.Marked.{edit_offset}
+use Rattle.wide_editable.specs.Marked.{first_changed}
 
 -- The index of an edit's first character lies within the text, and the characters before it stay as they are.
-pub offset-within : (n : ℕ) (e : Edit) → edit_offset n e ≤ n
+pub offset-within : (n : ℕ) (e : Edit) → first_changed n e ≤ n
 offset-within n (Push c) = omega arith
 offset-within n (PushStr t) = omega arith
 offset-within n Pop = omega arith
@@ -29,7 +29,7 @@ module _ (l : List ℕ) where
   pub take-splice : (p i j : ℕ) (m : List ℕ) → p ≤ i → p ≤ length l → take p (splice l i j m) ≡ take p l
   take-splice p i j m le within = take-append-le p (take i l) (m ++ drop j l) (omega (arith, length-take i l)) ∙ take-take p i l le
 
-  pub step-keeps : (e : Edit) → take (edit_offset (length l) e) (step l e).0 ≡ take (edit_offset (length l) e) l
+  pub step-keeps : (e : Edit) → take (first_changed (length l) e) (step l e).0 ≡ take (first_changed (length l) e) l
   step-keeps (Push c) = take-splice (length l) (length l) (length l) (c ∷ []) (omega arith) (omega arith)
   step-keeps (PushStr t) = take-splice (length l) (length l) (length l) (str_chars t.now) (omega arith) (omega arith)
   step-keeps Pop = take-splice (length l - 1) (length l - 1) (length l) [] (omega arith) (omega arith)

@@ -12,23 +12,23 @@ use Rattle.wide_editable.specs.Edited.{CanHold}
 
 -- The index of the first character that an edit can change, in a text of `count` characters. The characters before it
 -- are unchanged.
-abbrev pub edit_offset : ℕ → Edit → ℕ
-edit_offset count (Push c) = count
-edit_offset count (PushStr t) = count
-edit_offset count Pop = count - 1
-edit_offset count (Truncate m) = min m count
-edit_offset count (Insert i c) = min i count
-edit_offset count (InsertStr i t) = min i count
-edit_offset count (Remove i) = min i count
-edit_offset count (Retain keep) = 0
-edit_offset count (Drain a b) = min a count
-edit_offset count (Replace a b t) = min a count
-edit_offset count (SplitOff i) = min i count
-edit_offset count Clear = 0
+abbrev pub first_changed : ℕ → Edit → ℕ
+first_changed count (Push c) = count
+first_changed count (PushStr t) = count
+first_changed count Pop = count - 1
+first_changed count (Truncate m) = min m count
+first_changed count (Insert i c) = min i count
+first_changed count (InsertStr i t) = min i count
+first_changed count (Remove i) = min i count
+first_changed count (Retain keep) = 0
+first_changed count (Drain a b) = min a count
+first_changed count (Replace a b t) = min a count
+first_changed count (SplitOff i) = min i count
+first_changed count Clear = 0
 
 -- How many index entries of the characters `cs` are not past the first character that the edit can change.
 abbrev pub marks_kept : List ℕ → Edit → ℕ
-marks_kept cs edit = edit_offset (length cs) edit / 64
+marks_kept cs edit = first_changed (length cs) edit / 64
 
 -- The number of units after the last entry that the edit leaves unchanged, in the old and in the new text together.
 abbrev pub units_after : List ℕ → List ℕ → Edit → ℕ

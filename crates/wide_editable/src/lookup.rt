@@ -1,11 +1,11 @@
-//! The offsets of an edit: in characters, as the edit states them, and in units, as they are in a well-formed string.
+//! The indices of characters that an edit states, and their offsets in the units of a well-formed string.
 ghost use Rattle.std.specs.Prelude.{◌≡◌, ◌≤◌, false, length, map, IfNone, IfSome};
 ghost use Rattle.wide_forms.specs.EncodingForm.{encode};
 ghost use Rattle.wide_forms.specs.Items.{IsWellFormed};
 ghost use Rattle.wide_forms.specs.Offsets.{text_of};
 ghost use Rattle.wide_ustring.specs.Units.{ustring_len};
 ghost use Rattle.wide_edit.specs.Step.{is_range};
-ghost use Rattle.wide_editable.specs.Indices.{first_number, second_number};
+ghost use Rattle.wide_editable.specs.Indices.{first_index, second_index};
 ghost use Rattle.wide_offset_index.specs.Found.{IsFoundAt, IsFoundRange};
 
 use std::ops::Range;
@@ -13,10 +13,10 @@ use wide_edit::Edit;
 use wide_utferror::FaultUnit;
 use wide_utfstring::UtfString;
 
-// Returns the two numbers of an edit, and 0 for one that it does not have: a search for character 0 reads nothing.
+// Returns the two indices of an edit, and 0 for one that it does not have: a search for character 0 reads nothing.
 pub(crate) fn indices_of(edit: Edit<'_>) -> (usize, usize)
-    ensures first { result.0 ≡ first_number edit.entry }
-    ensures second { result.1 ≡ second_number edit.entry }
+    ensures first { result.0 ≡ first_index edit.entry }
+    ensures second { result.1 ≡ second_index edit.entry }
 {
     match edit {
         Edit::Push(_) => (0, 0),
@@ -53,9 +53,9 @@ pub(crate) fn find<C: FaultUnit>(s: &UtfString<C>, index: usize) -> Option<usize
     s.as_utfstr().unit_offset(index)
 }
 
-// Returns the offset, in units, of the character at index `to`, or `None` if the index is past the end, given that of
-// the character at index `from`. In UTF-16 it reads the units between both, or those before it if it is the earlier
-// one.
+// Returns the offset, in units, of the character at index `to`, or `None` if the index is past the end. `start` is the
+// offset found for index `from`. In UTF-16 it reads the units from `start` on, or from the beginning if `to` is less
+// than `from`.
 pub(crate) fn find_second<C: FaultUnit>(
     s: &UtfString<C>,
     from: usize,
@@ -70,7 +70,7 @@ pub(crate) fn find_second<C: FaultUnit>(
     }
     recall(s);
     let at = start?;
-    let (_front, back) = s.as_utfstr().split_at(at);
+    let (_prefix, back) = s.as_utfstr().split_at(at);
     let ahead = back.unit_offset(to - from)?;
     Some(at + ahead)
 }

@@ -6,11 +6,11 @@ ghost use Rattle.wide_forms.specs.Offsets.{IsOffsetOf, IsCharBoundary};
 ghost use Rattle.wide_utfstr.specs.View.{units_seen};
 ghost use Rattle.wide_edit.specs.Step.{step, answer_of};
 ghost use Rattle.wide_editable.specs.Edited.{CanHold, IsMade, HasReplySpace};
-ghost use Rattle.wide_editable.specs.Indices.{first_number, second_number};
+ghost use Rattle.wide_editable.specs.Indices.{first_index, second_index};
 ghost use Rattle.wide_offset_index.specs.Found.{IsFoundAt};
 ghost use Rattle.wide_offset_index.specs.Counted.{counted, AddsAtMost};
 ghost use Rattle.wide_offset_index.specs.Marks.{mark, marks_of, IsEdited, AreMoved};
-ghost use Rattle.wide_editable.specs.Marked.{edit_offset, units_after, units_split_off, marked_capacity, marked_units, marked_text, IsMarkedReady};
+ghost use Rattle.wide_editable.specs.Marked.{first_changed, units_after, units_split_off, marked_capacity, marked_units, marked_text, IsMarkedReady};
 ghost use Rattle.wide_offset_index.specs.Passed.{units_put, IsShort, IsFew, marks_left};
 
 use crate::lookup::{indices_of, recall};
@@ -23,7 +23,7 @@ use std::marker::Model;
 use wide_edit::{Edit, Reply};
 use wide_error::OutOfMemory;
 use wide_offset_index::{
-    Range16, Steps, count_from, count_if_few, find_from, repair, shift, tick, units_from,
+    Range16, Steps, append_missing, count_from, count_if_few, find_from, shift, tick, units_from,
 };
 use wide_utfstr::Utf16Str;
 use wide_utfstring::Utf16String;
@@ -32,8 +32,8 @@ use wide_utfstring::Utf16String;
 /// and so on, and of the end if the number of characters is a positive multiple of 64.
 ///
 /// A character is found by its index from the last entry that is not past it, so that fewer than 64 characters are
-/// read. An edit keeps the entries that are not past its first character. If it replaces few characters by few, it
-/// moves the later ones, else it counts them again from the last of these.
+/// read. An edit leaves the entries that are not past its first character unchanged. If it replaces few characters by
+/// few, it moves the later entries. Otherwise it computes them again, from the last unchanged entry on.
 #[derive(Drop)]
 pub struct Marked16 {
     string: Utf16String,
@@ -57,9 +57,9 @@ impl Model for Marked16 {
 }
 
 // Returns the index of the first character that an edit can change, in a text of `count` characters. The characters
-// before it stay as they are.
-fn offset_in(edit: Edit<'_>, count: usize) -> usize
-    ensures { result ≡ edit_offset count edit.entry }
+// before it are unchanged.
+fn first_changed(edit: Edit<'_>, count: usize) -> usize
+    ensures { result ≡ first_changed count edit.entry }
 {
     match edit {
         Edit::Push(_) => count,
@@ -77,7 +77,8 @@ fn offset_in(edit: Edit<'_>, count: usize) -> usize
     }
 }
 
-// Allocates all memory that an edit needs in a UTF-16 string, given the offsets that were found.
+// Allocates all memory that an edit needs in a UTF-16 string, given the offsets that were found. It is a function of
+// its own, so that its contract is about the units themselves, and not about numbers of units of any width.
 fn prepare16(
     string: &mut Utf16String,
     alloc: Global,
@@ -85,8 +86,8 @@ fn prepare16(
     start: Option<usize>,
     end: Option<usize>,
 ) -> Result<Vec<char>, OutOfMemory>
-    requires start { IsFoundAt Utf16 string.old.units (first_number edit) start }
-    requires end { IsFoundAt Utf16 string.old.units (second_number edit) end }
+    requires start { IsFoundAt Utf16 string.old.units (first_index edit) start }
+    requires end { IsFoundAt Utf16 string.old.units (second_index edit) end }
     ensures ready { OnOk result (CanHold Utf16 string.new (step (chars Utf16 string.new.units) edit.entry).0) }
     ensures space { IfOk result (λ space. HasReplySpace (chars Utf16 string.new.units) edit.entry space) }
     ensures units { string.new.units ≡ string.old.units }
@@ -97,7 +98,7 @@ fn prepare16(
 
 // Returns how many units are read to count the characters of an edit's reply: those from the offset of a `SplitOff` on.
 fn units_counted(string: &Utf16String, edit: Edit<'_>, start: Option<usize>) -> usize
-    requires { IsFoundAt Utf16 string.now.units (first_number edit) start }
+    requires { IsFoundAt Utf16 string.now.units (first_index edit) start }
     ensures { result ≡ units_split_off (chars Utf16 string.now.units) edit.entry }
 {
     recall(string);
@@ -111,7 +112,8 @@ fn units_counted(string: &Utf16String, edit: Edit<'_>, start: Option<usize>) -> 
     }
 }
 
-// Makes the edit of a UTF-16 string at the offsets that were found.
+// Makes the edit of a UTF-16 string at the offsets that were found. It is a function of its own, so that its contract
+// is about the units themselves, and not about numbers of units of any width.
 fn apply16(
     string: &mut Utf16String,
     edit: Edit<'_>,
@@ -119,8 +121,8 @@ fn apply16(
     end: Option<usize>,
     space: Vec<char>,
 ) -> Reply
-    requires start { IsFoundAt Utf16 string.old.units (first_number edit) start }
-    requires end { IsFoundAt Utf16 string.old.units (second_number edit) end }
+    requires start { IsFoundAt Utf16 string.old.units (first_index edit) start }
+    requires end { IsFoundAt Utf16 string.old.units (second_index edit) end }
     requires ready { CanHold Utf16 string.old (step (chars Utf16 string.old.units) edit).0 }
     requires space { HasReplySpace (chars Utf16 string.old.units) edit space }
     ensures made { IsMade (chars Utf16 string.old.units) edit.entry (chars Utf16 string.new.units) result }
@@ -129,7 +131,7 @@ fn apply16(
     apply_at(string, edit, start, end, space)
 }
 
-// Counts the entries after the first `kept` ones again.
+// Computes the entries after the first `kept` ones again.
 fn recount(text: Utf16Str<'_>, marks: &mut Vec<usize>, kept: usize, steps: &mut Steps)
     requires within { kept ≤ length marks.old.items }
     requires some { take kept marks.old.items ≡ take kept (marks_of (chars Utf16 (units_seen text))) }
@@ -140,11 +142,11 @@ fn recount(text: Utf16Str<'_>, marks: &mut Vec<usize>, kept: usize, steps: &mut 
     ensures steps { counted steps.new + mark (chars Utf16 (units_seen text.entry)) kept ≡ counted steps.old + length (units_seen text.entry) }
 {
     marks.truncate(kept);
-    repair(text, marks, steps);
+    append_missing(text, marks, steps);
 }
 
-// Makes the entries those of a text whose characters in a range were replaced by others. The text had `count`
-// characters and `units` units before. If both are few, the entries after them are moved.
+// Updates the entries to a text whose characters in a range were replaced. The text had `count` characters and `units`
+// units before. If few characters were replaced by few, the entries after them are moved.
 fn update(
     text: Utf16Str<'_>,
     marks: &mut Vec<usize>,
@@ -197,7 +199,7 @@ fn apply_to(
     let start = find_from(string.as_utfstr(), marks.as_slice(), first, steps);
     let end = find_from(string.as_utfstr(), marks.as_slice(), second, steps);
     let count = count_from(string.as_utfstr(), marks.as_slice(), steps);
-    let kept = offset_in(edit, count) / 64;
+    let kept = first_changed(edit, count) / 64;
     // The edit may read the units after the last entry that is retained, and no others.
     tick(
         steps,
@@ -228,7 +230,7 @@ impl Marked16 {
         let count = string.as_utfstr().char_count();
         match Vec::with_capacity(alloc, count / 64) {
             Ok(mut marks) => {
-                repair(string.as_utfstr(), &mut marks, &mut Steps::new());
+                append_missing(string.as_utfstr(), &mut marks, &mut Steps::new());
                 Ok(Marked16 { string, marks })
             }
             Err(_error) => Err(string),

@@ -5,7 +5,7 @@ ghost use Rattle.wide_forms.specs.Offsets.{text_of};
 ghost use Rattle.wide_ustring.specs.Units.{ustring_len};
 ghost use Rattle.wide_edit.specs.Step.{changed, answer, step, chars_in};
 ghost use Rattle.wide_editable.specs.Edited.{CanHold, HasReplySpace};
-ghost use Rattle.wide_editable.specs.Indices.{first_number, second_number};
+ghost use Rattle.wide_editable.specs.Indices.{first_index, second_index};
 ghost use Rattle.wide_offset_index.specs.Found.{IsFoundAt};
 
 use crate::lookup::{range_at, recall};
@@ -22,8 +22,8 @@ pub(crate) fn growth<C: FaultUnit>(
     start: Option<usize>,
     end: Option<usize>,
 ) -> usize
-    requires start { IsFoundAt C.form (map C.number s.now.units) (first_number edit) start }
-    requires end { IsFoundAt C.form (map C.number s.now.units) (second_number edit) end }
+    requires start { IsFoundAt C.form (map C.number s.now.units) (first_index edit) start }
+    requires end { IsFoundAt C.form (map C.number s.now.units) (second_index edit) end }
     ensures { result ≡ length (encode C.form (changed (text_of C.form C.number s.now.units) edit.entry)) - ustring_len s.now }
 {
     recall(s);
@@ -54,8 +54,8 @@ pub(crate) fn reply_len<C: FaultUnit>(
     start: Option<usize>,
     end: Option<usize>,
 ) -> usize
-    requires start { IsFoundAt C.form (map C.number s.now.units) (first_number edit) start }
-    requires end { IsFoundAt C.form (map C.number s.now.units) (second_number edit) end }
+    requires start { IsFoundAt C.form (map C.number s.now.units) (first_index edit) start }
+    requires end { IsFoundAt C.form (map C.number s.now.units) (second_index edit) end }
     ensures { result ≡ chars_in (answer (text_of C.form C.number s.now.units) edit.entry) }
 {
     match edit {
@@ -79,8 +79,8 @@ pub(crate) fn prepare_at<C: FaultUnit>(
     start: Option<usize>,
     end: Option<usize>,
 ) -> Result<Vec<char>, OutOfMemory>
-    requires start { IsFoundAt C.form (map C.number s.old.units) (first_number edit) start }
-    requires end { IsFoundAt C.form (map C.number s.old.units) (second_number edit) end }
+    requires start { IsFoundAt C.form (map C.number s.old.units) (first_index edit) start }
+    requires end { IsFoundAt C.form (map C.number s.old.units) (second_index edit) end }
     ensures ready { OnOk result (CanHold C.form s.new (step (text_of C.form C.number s.new.units) edit.entry).0) }
     ensures space { IfOk result (λ space. HasReplySpace (text_of C.form C.number s.new.units) edit.entry space) }
     ensures units { s.new.units ≡ s.old.units }

@@ -1,7 +1,7 @@
 //! The twelve edits of a well-formed string, each made in units at offsets that were found, in memory that was
 //! allocated before.
 //!
-//! If a search found no offset, the index is past the end. The results of calls that could fail by allocation are not
+//! If a search found no offset, the index is past the end. The results of calls that could fail to allocate are not
 //! read, because the capacity was reserved before. `recall` changes nothing: its contract gives the proofs the facts
 //! that are true of every string.
 ghost use Rattle.std.specs.Prelude.{◌≡◌, ◌≤◌, [], length, map, vec_capacity};
@@ -9,7 +9,7 @@ ghost use Rattle.wide_forms.specs.Offsets.{text_of};
 ghost use Rattle.wide_utfstr.specs.View.{text_seen};
 ghost use Rattle.wide_edit.specs.Step.{changed};
 ghost use Rattle.wide_editable.specs.Edited.{CanHold, IsMade, HasReplySpace};
-ghost use Rattle.wide_editable.specs.Indices.{first_number, second_number};
+ghost use Rattle.wide_editable.specs.Indices.{first_index, second_index};
 ghost use Rattle.wide_offset_index.specs.Found.{IsFoundAt};
 ghost use Rattle.wide_edit.specs.declared.edits.Edit.TheVariants as edit_of;
 
@@ -39,7 +39,7 @@ fn push<C: FaultUnit>(s: &mut UtfString<C>, c: char) -> Reply
     ensures capacity { s.old.capacity ≤ s.new.capacity }
 {
     recall(s);
-    let _space_was_found = s.push(c);
+    let _fits = s.push(c);
     Reply::Done
 }
 
@@ -50,7 +50,7 @@ fn push_str<C: FaultUnit>(s: &mut UtfString<C>, text: &str) -> Reply
     ensures capacity { s.old.capacity ≤ s.new.capacity }
 {
     recall(s);
-    let _space_was_found = s.push_str(text);
+    let _fits = s.push_str(text);
     Reply::Done
 }
 
@@ -91,7 +91,7 @@ fn insert<C: FaultUnit>(s: &mut UtfString<C>, index: usize, found: Option<usize>
     recall(s);
     match found {
         Some(at) => {
-            let _space_was_found = s.insert(at, c);
+            let _fits = s.insert(at, c);
             Reply::Done
         }
         None => Reply::BadPlace,
@@ -113,7 +113,7 @@ fn insert_str<C: FaultUnit>(
     recall(s);
     match found {
         Some(at) => {
-            let _space_was_found = s.splice_str(at, at, text);
+            let _fits = s.splice_str(at, at, text);
             Reply::Done
         }
         None => Reply::BadPlace,
@@ -166,7 +166,7 @@ fn drain<C: FaultUnit>(
     match range_at(s, from, to, start, end) {
         Some(range) => {
             let taken = copy(s.as_utfstr().slice(range.start..range.end), space);
-            let _takes_no_space = s.replace_range(range.start..range.end, UtfStr::default());
+            let _fits = s.replace_range(range.start..range.end, UtfStr::default());
             Reply::Chars(taken)
         }
         None => Reply::BadRange,
@@ -191,7 +191,7 @@ fn replace<C: FaultUnit>(
     recall(s);
     match range_at(s, from, to, start, end) {
         Some(range) => {
-            let _space_was_found = s.splice_str(range.start, range.end, text);
+            let _fits = s.splice_str(range.start, range.end, text);
             Reply::Done
         }
         None => Reply::BadRange,
@@ -212,7 +212,7 @@ fn split_off<C: FaultUnit>(
 {
     match found {
         Some(at) => {
-            let (_front, back) = s.as_utfstr().split_at(at);
+            let (_prefix, back) = s.as_utfstr().split_at(at);
             let taken = copy(back, space);
             s.truncate(at);
             Reply::Chars(taken)
@@ -238,8 +238,8 @@ pub(crate) fn apply_at<C: FaultUnit>(
     end: Option<usize>,
     space: Vec<char>,
 ) -> Reply
-    requires start { IsFoundAt C.form (map C.number s.old.units) (first_number edit) start }
-    requires end { IsFoundAt C.form (map C.number s.old.units) (second_number edit) end }
+    requires start { IsFoundAt C.form (map C.number s.old.units) (first_index edit) start }
+    requires end { IsFoundAt C.form (map C.number s.old.units) (second_index edit) end }
     requires ready { CanHold C.form s.old (changed (text_of C.form C.number s.old.units) edit) }
     requires space { HasReplySpace (text_of C.form C.number s.old.units) edit space }
     ensures made { IsMade (text_of C.form C.number s.old.units) edit.entry (text_of C.form C.number s.new.units) result }

@@ -5,8 +5,8 @@ ghost use Rattle.wide_forms.specs.Items.{chars};
 ghost use Rattle.wide_edit.specs.Step.{step, is_range};
 ghost use Rattle.wide_offset_index.specs.Counted.{counted, AddsAtMost};
 ghost use Rattle.wide_offset_index.specs.Found.{IsFoundAt, IsFoundRange};
-ghost use Rattle.wide_editable.specs.Marked.{edit_offset};
-ghost use Rattle.wide_editable.specs.Indices.{first_number, second_number};
+ghost use Rattle.wide_editable.specs.Marked.{first_changed};
+ghost use Rattle.wide_editable.specs.Indices.{first_index, second_index};
 ghost use Rattle.wide_editable.specs.Replaced.{Replaces, units_at, units_removed};
 
 use crate::lookup::{range_at, recall};
@@ -31,7 +31,7 @@ fn range_at_end(string: &Utf16String, count: usize) -> Range16
     }
 }
 
-// Returns the range of characters that an edit states, or the empty one at the end of the text if they are none.
+// Returns the range of characters that an edit states, or the empty range at the end if it is not a range of the text.
 fn range_or_end(
     string: &Utf16String,
     count: usize,
@@ -96,11 +96,11 @@ pub(crate) fn replaced_range(
     steps: &mut Steps,
 ) -> Option<Range16>
     requires count { count ≡ length (chars Utf16 string.now.units) }
-    requires start { IsFoundAt Utf16 string.now.units (first_number edit) start }
-    requires end { IsFoundAt Utf16 string.now.units (second_number edit) end }
+    requires start { IsFoundAt Utf16 string.now.units (first_index edit) start }
+    requires end { IsFoundAt Utf16 string.now.units (second_index edit) end }
     ensures found { IfSome result (λ r. IsFoundRange Utf16 string.now.units r.from r.to r.start r.end) }
     ensures replaces { IfSome result (λ r. Replaces (chars Utf16 string.now.units) (step (chars Utf16 string.now.units) edit.entry).0 r.from r.to) }
-    ensures kept { IfSome result (λ r. edit_offset count edit.entry ≤ r.from) }
+    ensures kept { IfSome result (λ r. first_changed count edit.entry ≤ r.from) }
     ensures read { counted steps.new ≡ counted steps.old + units_removed (chars Utf16 string.now.units) edit.entry }
     ensures steps { AddsAtMost steps.old steps.new 2 }
 {

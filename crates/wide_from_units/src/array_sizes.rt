@@ -3,16 +3,19 @@
 //! takes less time for few units.
 
 /// The most units whose text is made in an array of `SMALL` bytes.
-pub const FEW: usize = 32;
+pub const SMALL_UNITS: usize = 32;
 
-/// The size of the array for at most `FEW` units, in bytes.
-pub const SMALL: usize = 3 * FEW + 4;
+/// The size of the array for at most `SMALL_UNITS` units, in bytes.
+pub const SMALL: usize = 3 * SMALL_UNITS + 4;
 
 /// The most units whose text is made in an array of `MIDDLE` bytes.
-pub const MANY: usize = 256;
+pub const MIDDLE_UNITS: usize = 256;
 
-/// The size of the array for at most `MANY` units, in bytes.
-pub const MIDDLE: usize = 3 * MANY + 4;
+/// The size of the array for at most `MIDDLE_UNITS` units, in bytes.
+pub const MIDDLE: usize = 3 * MIDDLE_UNITS + 4;
 
 /// The size of the array for more units, in bytes. Their text is made in chunks of at most 1,032 units.
 pub const LARGE: usize = 3 * 1032 + 4;
+
+/// The size of the array for repaired units, in units.
+pub const SPARE: usize = 256;

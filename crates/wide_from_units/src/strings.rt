@@ -8,7 +8,7 @@ ghost use Rattle.wide_forms.specs.Lossy.{lossy_by};
 ghost use Rattle.wide_forms.specs.Utf8.{utf8};
 ghost use Rattle.wide_utf16_to_utf8.specs.Encoded.{AppendsPrefix};
 
-use crate::array_sizes::{FEW, LARGE, MANY, MIDDLE, SMALL};
+use crate::array_sizes::{LARGE, MIDDLE, MIDDLE_UNITS, SMALL, SMALL_UNITS, SPARE};
 use crate::lossy::lossy_prefix;
 use crate::to_utf8::to_utf8_prefix;
 use crate::utf8_length::utf8_len;
@@ -58,9 +58,9 @@ pub fn push_utf8<C: Unit, A: Allocator>(
     ensures full { OnErr result (vec_capacity text.old < vec_len text.old + length (utf8 (chars C.form (map C.number units.now)))) }
     ensures prefix { AppendsPrefix text.old.items text.new.items (utf8 (chars C.form (map C.number units.now))) }
 {
-    if units.len() <= FEW {
+    if units.len() <= SMALL_UNITS {
         push_chunks(text, units, &mut [0; SMALL])
-    } else if units.len() <= MANY {
+    } else if units.len() <= MIDDLE_UNITS {
         push_chunks(text, units, &mut [0; MIDDLE])
     } else {
         push_chunks(text, units, &mut [0; LARGE])
@@ -87,9 +87,6 @@ pub fn utf8_string<C: Unit, A: Allocator>(alloc: A, units: &[C]) -> Result<Strin
     // The bytes were written as UTF-8, so they need no check.
     Ok(unsafe { String::from_utf8_unchecked(text) })
 }
-
-// How many units are repaired at once.
-const SPARE: usize = 256;
 
 // Returns the length of the lossy text of units in UTF-8 bytes, or `usize::MAX` if it is greater.
 fn lossy_len<C: Unit>(units: &[C], policy: Policy, spare: &mut [C]) -> usize

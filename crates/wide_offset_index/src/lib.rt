@@ -11,7 +11,7 @@ mod shifting;
 mod ticking;
 
 pub use counting::Steps;
-pub use marks::{count_from, find_from, repair, units_from};
+pub use marks::{append_missing, count_from, find_from, units_from};
 pub use passing::pass_on;
 pub use shifting::{Range16, count_if_few, shift};
 pub use ticking::tick;

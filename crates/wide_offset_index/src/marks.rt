@@ -37,7 +37,7 @@ fn seek<'a>(text: Utf16Str<'a>, marks: &[usize], number: usize) -> (usize, Chars
 /// # Requires
 ///
 /// The entries are the first ones of the text's index, and there is capacity for all.
-pub fn repair(text: Utf16Str<'_>, marks: &mut Vec<usize>, steps: &mut Steps)
+pub fn append_missing(text: Utf16Str<'_>, marks: &mut Vec<usize>, steps: &mut Steps)
     requires some { marks.old.items ≡ take (length marks.old.items) (marks_of (chars Utf16 (units_seen text))) }
     requires space { length (chars Utf16 (units_seen text)) / 64 ≤ vec_capacity marks.old }
     ensures marks { marks.new.items ≡ marks_of (chars Utf16 (units_seen text.entry)) }

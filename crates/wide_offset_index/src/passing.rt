@@ -42,7 +42,12 @@ fn len_before(text: Utf16Str<'_>, _index: usize, at: usize) -> usize
     2
 }
 
-/// Returns the offset of character number `to`, given that of an earlier one.
+/// Returns the offset of the character at index `to`, from the offset `start` of that at index `from`. It reads the
+/// units between both offsets, and counts them.
+///
+/// # Requires
+///
+/// `from` is at most `to`, which is at most the number of characters, and `start` is the offset of `from`.
 pub fn pass_on(text: Utf16Str<'_>, from: usize, start: usize, to: usize, steps: &mut Steps) -> usize
     requires forward { from ≤ to }
     requires within { to ≤ length (chars Utf16 (units_seen text)) }
@@ -61,7 +66,7 @@ pub fn pass_on(text: Utf16Str<'_>, from: usize, start: usize, to: usize, steps: 
     at
 }
 
-// Returns the offset of character number `to`, given that of a later one.
+// Returns the offset of the character at index `to`, from the offset `start` of that at index `from`, a later one.
 pub(crate) fn pass_back(
     text: Utf16Str<'_>,
     from: usize,
@@ -86,8 +91,8 @@ pub(crate) fn pass_back(
     at
 }
 
-// Returns the offset of character number `to`, given those of an earlier one and of a later one. It passes the
-// characters up to the nearer of both. If the characters between both have one unit each, it reads none.
+// Returns the offset of the character at index `to`, given index and offset of an earlier one and of a later one. It
+// passes the characters up to the nearer of both. If the characters between both have one unit each, it reads none.
 pub(crate) fn between(
     text: Utf16Str<'_>,
     low: (usize, usize),

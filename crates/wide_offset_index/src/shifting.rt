@@ -1,5 +1,5 @@
 //! The offset index after an edit that replaces few characters by few: the entries after them are moved, and not
-//! counted again.
+//! computed again.
 ghost use Rattle.std.specs.Prelude.{◌≡◌, ◌+◌, ◌-◌, ◌*◌, ◌/◌, ◌<◌, ◌≤◌, ◌↔◌, length, take, map, max, slice_index, vec_capacity, IsSome, IfSome};
 ghost use Rattle.std.specs.List.{range_with_len};
 ghost use Rattle.wide_forms.specs.EncodingForm.{Utf16};
@@ -14,9 +14,9 @@ use crate::passing::{between, pass_back, pass_on};
 use crate::ticking::tick;
 use wide_utfstr::Utf16Str;
 
-// If an edit removes or adds more characters, the entries after them are counted again. An entry moves by at most as
-// many characters as an edit removes or adds: by less than half of the 64 from one entry to the next, so that moving it
-// reads fewer units than counting again.
+// If an edit removes or adds more characters than this, the entries after them are computed again. An entry moves by at
+// most as many characters as an edit removes or adds: by less than half of the 64 from one entry to the next, so that
+// moving it reads fewer units than counting again.
 const FEW: usize = 31;
 
 /// A range of characters, and where it is in the units.
@@ -32,9 +32,9 @@ pub struct Range16 {
     pub end: usize,
 }
 
-/// Returns the number of characters of a text whose characters in a range were replaced by others, if both are few. The
-/// text had `count` characters and `units` units before. It reads the new characters, if they have few units, and
-/// counts these.
+/// Returns the number of characters of a text in which few characters were replaced by few, and otherwise `None`. The
+/// text had `count` characters and `units` units before. It counts the units of the new characters that it reads, and
+/// reads none if they are many.
 ///
 /// # Requires
 ///
@@ -69,8 +69,8 @@ pub fn count_if_few(
     Some(count - removed + added)
 }
 
-// Returns the number of a character whose offset is known from old entry number `number + 1`, and its offset in the new
-// text, or those of the end if there is no such entry.
+// Returns the new index and offset of the character of old entry number `number + 1`, or those of the end if there is
+// no such entry.
 fn known_from(
     text: Utf16Str<'_>,
     entries: &[usize],
@@ -124,6 +124,8 @@ fn moved_entry(
 {
     let to = 64 * (number + 1);
     let known = known_from(text, entries, number, count, units, total);
+    // If there are more characters now, the new entry is at or before the one to which the old entry moved, so it is
+    // between that and the new entry before it. If there are fewer, it is between two old entries that moved.
     if count <= total {
         return between(text, (to - 64, entries[number - 1]), known, to, steps);
     }
@@ -131,7 +133,8 @@ fn moved_entry(
     between(text, known, next, to, steps)
 }
 
-// Returns the new entry number `number + 1`: the first one after the range is counted from there, the others are moved.
+// Returns the new entry number `number + 1`. The first entry past the beginning of the range is found by reading from
+// that beginning, and each later one from where the old entry has moved.
 fn next_entry(
     text: Utf16Str<'_>,
     entries: &[usize],
@@ -164,8 +167,7 @@ fn next_entry(
     moved_entry(text, entries, number, count, units, total, steps)
 }
 
-// Makes the entries from the first one past the beginning of the range on those of the edited text, and counts a step
-// for each of them.
+// Updates the entries past the beginning of the range to the edited text, and counts a step for each.
 fn move_entries(
     text: Utf16Str<'_>,
     entries: &mut [usize],
@@ -200,7 +202,7 @@ fn move_entries(
     }
 }
 
-// Appends the last entry if it is missing, and counts it from the end of a text of `total` characters.
+// Appends the last entry if it is missing. It is found by reading back from the end of a text of `total` characters.
 fn push_last(text: Utf16Str<'_>, marks: &mut Vec<usize>, total: usize, steps: &mut Steps)
     requires total { total ≡ length (chars Utf16 (units_seen text)) }
     requires some { marks.old.items ≡ map (mark (chars Utf16 (units_seen text))) (range_with_len 1 (length marks.old.items)) }
@@ -220,14 +222,15 @@ fn push_last(text: Utf16Str<'_>, marks: &mut Vec<usize>, total: usize, steps: &m
     }
 }
 
-/// Makes the entries those of a text whose characters in a range were replaced by others, both few. The text had
-/// `count` characters and `units` units before, and has `total` characters now. It counts a step for each entry that it
-/// moves, and for each unit that it reads.
+/// Updates the entries to a text in which few characters were replaced by few. The text had `count` characters and
+/// `units` units before, and has `total` characters now. It counts a step for each entry that it moves, and for each
+/// unit that it reads.
 ///
 /// # Requires
 ///
-/// The entries are those of the text before, and there is capacity for those of the text now. The characters before the
-/// range and after it are as before; it had at most 31 characters, and the text has at most 31 more.
+/// The entries are those of the text before, and there is capacity for those of the text now. The characters before and
+/// after the range are unchanged. The range had at most 31 characters, and the text has at most 31 characters more than
+/// before.
 pub fn shift(
     text: Utf16Str<'_>,
     marks: &mut Vec<usize>,

@@ -4,9 +4,9 @@ ghost use Rattle.wide_offset_index.specs.Counted.{counted};
 
 use crate::counting::Steps;
 
-/// Counts `units` more units that are read.
-pub fn tick(steps: &mut Steps, units: usize)
-    ensures { counted steps.new ≡ counted steps.old + units }
+/// Adds steps to the counter: units that are read or may be read, or index entries that are moved.
+pub fn tick(steps: &mut Steps, more: usize)
+    ensures { counted steps.new ≡ counted steps.old + more }
 {
-    *steps = Steps::with(steps, &units);
+    *steps = Steps::with(steps, &more);
 }

@@ -14,10 +14,10 @@ use wide_error::TranscodeError;
 use wide_forms::Policy;
 
 // The length of a chunk in bytes.
-pub(crate) const CHUNK: usize = 4096;
+pub(crate) const CHUNK_BYTES: usize = 4096;
 
 // How many units a chunk has.
-const CHUNK_UNITS: usize = CHUNK / 2;
+const CHUNK_UNITS: usize = CHUNK_BYTES / 2;
 
 // The length of the buffer for the text of a chunk, in bytes: three for each unit, and some that the encoder may
 // overwrite.

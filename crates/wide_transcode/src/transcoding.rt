@@ -6,7 +6,7 @@ ghost use Rattle.wide_transcode.specs.Chunks.{WantsSpace};
 ghost use Rattle.wide_transcode.specs.Run.{AtEnd, Ends, Moves, ReportsAtOnce, fails_to_read, fails_to_write};
 ghost use Rattle.wide_transcode.specs.Transcoded.{transcoded, transcoded_by, transcoded_under};
 
-use crate::chunks::{CHUNK, move_to_start, take_start, transcode_after};
+use crate::chunks::{CHUNK_BYTES, move_to_start, take_start, transcode_after};
 use crate::mode::Mode;
 use wide_bytes::{BoM, ByteSink, ByteSource, byte_order, without_bom};
 use wide_error::TranscodeError;
@@ -30,7 +30,7 @@ fn transcode_under<S: ByteSource, K: ByteSink>(
     ensures source_failed { S.has_failed source.new ≡ fails_to_read result }
     ensures sink_failed { K.has_failed sink.new ≡ fails_to_write result }
 {
-    let mut chunk = [0u8; CHUNK];
+    let mut chunk = [0u8; CHUNK_BYTES];
     let pending = take_start(source, &mut chunk)?;
     if pending < 2 {
         return if pending == 0 {

@@ -10,7 +10,7 @@ use wide_bytes::{BoM, unit_in};
 use wide_forms::is_high_surrogate;
 
 /// How many units are read at a time.
-pub(crate) const CHUNK: usize = 1024;
+pub(crate) const CHUNK_UNITS: usize = 1024;
 
 /// Returns how many of the first `prefix` bytes may be converted before the bytes after them are known: all, except a
 /// last high surrogate, which may begin a pair.
@@ -40,7 +40,7 @@ pub(crate) fn complete_len(order: BoM, bytes: &[u8]) -> usize
     len_before_high_surrogate(order, bytes, bytes.len() / 2 * 2)
 }
 
-/// Returns how many bytes to read next: all whole units if they fit into `CHUNK` units, or else as many as fit without
+/// Returns how many bytes to read next: all whole units if they fit into `CHUNK_UNITS` units, or else as many as fit without
 /// splitting a surrogate pair.
 pub(crate) fn chunk_len(order: BoM, bytes: &[u8]) -> usize
     requires { 2 ≤ length bytes.now }
@@ -50,9 +50,9 @@ pub(crate) fn chunk_len(order: BoM, bytes: &[u8]) -> usize
     ensures even { result % 2 ≡ 0 }
     ensures cut { IsCut Utf16 (units_in order (take result bytes.now)) (units_in order (drop result bytes.now)) }
 {
-    if bytes.len() <= 2 * CHUNK {
+    if bytes.len() <= 2 * CHUNK_UNITS {
         bytes.len() / 2 * 2
     } else {
-        len_before_high_surrogate(order, bytes, 2 * CHUNK)
+        len_before_high_surrogate(order, bytes, 2 * CHUNK_UNITS)
     }
 }

@@ -10,12 +10,12 @@ ghost use Rattle.widestring_c.specs.Buffers.{Wrote, WroteIf};
 ghost use Rattle.widestring_c.specs.Bytes.{IsWellFormedBy, IsWellFormedIn, bytes_end_in_fault, bytes_text, is_set, number_of_flag, number_of_bom, order_and_policy, order_named, text_in};
 ghost use Rattle.widestring_c.specs.Policies.{policy_of};
 
-use crate::byte_chunks::{CHUNK, chunk_len, complete_len, len_before_high_surrogate};
+use crate::byte_chunks::{CHUNK_UNITS, chunk_len, complete_len, len_before_high_surrogate};
 use crate::policies::policy_of;
 use crate::to_utf8::put_lossy_after;
 use wide_bytes::{BoM, byte_order, fill_units, unit_in};
 use wide_forms::Policy;
-use wide_from_units::array_sizes::{LARGE, MANY};
+use wide_from_units::array_sizes::{LARGE, SPARE};
 use wide_repair::ends_in_fault;
 use wide_unit::valid_len;
 
@@ -82,8 +82,8 @@ fn put_bytes(order: BoM, bytes: &[u8], policy: Policy, after_fault: bool, text: 
         policy,
         after_fault,
         text,
-        &mut [0; CHUNK],
-        &mut [0; MANY],
+        &mut [0; CHUNK_UNITS],
+        &mut [0; SPARE],
         &mut [0; LARGE],
     )
 }
@@ -117,7 +117,9 @@ fn valid_units_len(order: BoM, bytes: &[u8], units: &mut [u16]) -> usize
 fn put_valid_bytes(order: BoM, bytes: &[u8], text: &mut [u8]) -> Option<usize>
     ensures { WroteIf (IsWellFormedIn order bytes.now) (text_in order bytes.now) text.old result text.new }
 {
-    if bytes.len() % 2 == 0 && valid_units_len(order, bytes, &mut [0; CHUNK]) == bytes.len() / 2 {
+    if bytes.len() % 2 == 0
+        && valid_units_len(order, bytes, &mut [0; CHUNK_UNITS]) == bytes.len() / 2
+    {
         // In well-formed units there is nothing for a policy to replace.
         Some(put_bytes(order, bytes, Policy::Each, false, text))
     } else {
@@ -247,7 +249,7 @@ pub extern "C" fn wide_utf16_bytes_first_fault(bytes: &[u8], order: u32) -> usiz
     ensures other { IfNone (order_named order) (result ≡ 2 ^ 64 - 1) }
 {
     match order_named(order) {
-        Some(order) => valid_units_len(order, bytes, &mut [0; CHUNK]),
+        Some(order) => valid_units_len(order, bytes, &mut [0; CHUNK_UNITS]),
         None => usize::MAX,
     }
 }

@@ -10,7 +10,7 @@ ghost use Rattle.widestring_c.specs.Policies.{policy_of};
 use crate::caller_buffer::put_items;
 use crate::policies::policy_of;
 use wide_forms::{Policy, Progress};
-use wide_from_units::array_sizes::{FEW, LARGE, MANY, MIDDLE, SMALL};
+use wide_from_units::array_sizes::{LARGE, MIDDLE, MIDDLE_UNITS, SMALL, SMALL_UNITS, SPARE};
 use wide_from_units::{lossy_prefix, to_utf8_prefix};
 use wide_unit::{Unit, find_fault};
 use wide_utf16_to_utf8::checked_utf16_to_utf8;
@@ -45,7 +45,7 @@ fn put_in_two_passes<C: Unit>(units: &[C], text: &mut [u8]) -> Option<usize>
 {
     match find_fault(units) {
         None => {
-            if units.len() <= FEW {
+            if units.len() <= SMALL_UNITS {
                 Some(put_chunks(units, text, 0, &mut [0; SMALL]))
             } else {
                 Some(put_chunks(units, text, 0, &mut [0; LARGE]))
@@ -73,10 +73,10 @@ fn put_in_one_pass(units: &[u16], text: &mut [u8], chunk: &mut [u8]) -> Option<u
 fn put_valid_16(units: &[u16], text: &mut [u8]) -> Option<usize>
     ensures { WroteIf (IsWellFormed Utf16 units.now) (utf8 (chars Utf16 units.now)) text.old result text.new }
 {
-    if units.len() <= FEW {
+    if units.len() <= SMALL_UNITS {
         return put_in_one_pass(units, text, &mut [0; SMALL]);
     }
-    if units.len() <= MANY {
+    if units.len() <= MIDDLE_UNITS {
         return put_in_one_pass(units, text, &mut [0; MIDDLE]);
     }
     put_in_two_passes(units, text)
@@ -135,10 +135,10 @@ fn put_lossy_by<C: Unit>(
 fn put_lossy_16(units: &[u16], policy: Policy, text: &mut [u8]) -> usize
     ensures { Wrote (utf8 (lossy_by policy (items Utf16 units.now))) text.old result text.new }
 {
-    if units.len() <= FEW {
-        put_lossy_by(units, policy, text, &mut [0; FEW], &mut [0; SMALL])
+    if units.len() <= SMALL_UNITS {
+        put_lossy_by(units, policy, text, &mut [0; SMALL_UNITS], &mut [0; SMALL])
     } else {
-        put_lossy_by(units, policy, text, &mut [0; MANY], &mut [0; LARGE])
+        put_lossy_by(units, policy, text, &mut [0; SPARE], &mut [0; LARGE])
     }
 }
 
@@ -146,7 +146,7 @@ fn put_lossy_16(units: &[u16], policy: Policy, text: &mut [u8]) -> usize
 fn put_lossy_32(units: &[u32], policy: Policy, text: &mut [u8]) -> usize
     ensures { Wrote (utf8 (lossy_by policy (items Utf32 units.now))) text.old result text.new }
 {
-    put_lossy_by(units, policy, text, &mut [0; MANY], &mut [0; LARGE])
+    put_lossy_by(units, policy, text, &mut [0; SPARE], &mut [0; LARGE])
 }
 
 /// Converts well-formed UTF-16 (Unicode Standard, D91) to UTF-8 (D92). Returns the length of the result in bytes. If

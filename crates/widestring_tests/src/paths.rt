@@ -83,10 +83,10 @@ pub mod ucstring {
 
 pub mod unit {
     pub use widestring::unit::{
-        AnyUnits, FirstFault, Policy, Progress, Unit, char_of, check, common_prefix, find_fault,
-        first_no_scalar, first_nul, first_of, first_surrogate, length_as_utf16, length_as_utf32,
-        next_code_point, order_of_units, put_char, range_check, same_units, split_first,
-        split_last, split_line, valid_len, write_escape,
+        AnyUnits, FirstFault, LossyProgress, Policy, Unit, char_of, check, common_prefix,
+        find_fault, first_no_scalar, first_nul, first_of, first_surrogate, length_as_utf16,
+        length_as_utf32, next_code_point, order_of_units, put_char, range_check, same_units,
+        split_first, split_last, split_line, valid_len, write_escape,
     };
 }
 

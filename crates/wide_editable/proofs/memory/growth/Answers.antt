@@ -1,7 +1,7 @@
 use Rattle.std.proofs.Common.{◌≤◌, arith, subst, map, length, ◌∷◌, []}
 use Rattle.std.specs.Str.{chars}
 use Rattle.wide_forms.specs.Laws.Offsets.{offset-IsOffsetOf}
-use Rattle.wide_editable.specs.Indices.{first_number}
+use Rattle.wide_editable.specs.Indices.{first_index}
 use Rattle.wide_forms.specs.Offsets.{text_of}
 use Rattle.wide_editable.proofs.Made.{in_place, past, in_range}
 use Rattle.wide_offset_index.proofs.Lengths.{size-splice, size-one}
@@ -34,8 +34,8 @@ returns-in-Some g c =
     let number = g.C.Unit.number in
     let l = text_of form number c.args.s.now.units in
     let i = c.in-Insert.field-0 in
-    let found = found_some form (map number c.args.s.now.units) (first_number c.args.edit) c.args.start c.in-Some._at c.requires.start c.in-Some.is in
-    let le = subst (λ e. first_number e ≤ length l) c.in-Insert.is found.within in
+    let found = found_some form (map number c.args.s.now.units) (first_index c.args.edit) c.args.start c.in-Some._at c.requires.start c.in-Some.is in
+    let le = subst (λ e. first_index e ≤ length l) c.in-Insert.is found.within in
     rw (c.in-Insert.is, in_place i (length l) le) (omega (arith, size-splice form l (c.in-Insert.c ∷ []) i i, size-one form c.in-Insert.c, c.recall.ensures.count, c.char_len-in-Some.ensures.value))
 
 pub returns-in-None : goal.returns-in-None
@@ -44,7 +44,7 @@ returns-in-None g c =
     let number = g.C.Unit.number in
     let l = text_of form number c.args.s.now.units in
     let i = c.in-Insert.field-0 in
-    let never = subst (λ e. first_number e ≤ length l → ⊥) c.in-Insert.is (found_none form (map number c.args.s.now.units) (first_number c.args.edit) c.args.start c.requires.start c.in-None.is) in
+    let never = subst (λ e. first_index e ≤ length l → ⊥) c.in-Insert.is (found_none form (map number c.args.s.now.units) (first_index c.args.edit) c.args.start c.requires.start c.in-None.is) in
     rw (c.in-Insert.is, past i (length l) never) (omega (arith, c.recall.ensures.count))
 
 pub returns-in-Some-start : goal.returns-in-Some-start
@@ -53,8 +53,8 @@ returns-in-Some-start g c =
     let number = g.C.Unit.number in
     let l = text_of form number c.args.s.now.units in
     let i = c.in-InsertStr.field-0 in
-    let found = found_some form (map number c.args.s.now.units) (first_number c.args.edit) c.args.start c.in-Some-start._at c.requires.start c.in-Some-start.is in
-    let le = subst (λ e. first_number e ≤ length l) c.in-InsertStr.is found.within in
+    let found = found_some form (map number c.args.s.now.units) (first_index c.args.edit) c.args.start c.in-Some-start._at c.requires.start c.in-Some-start.is in
+    let le = subst (λ e. first_index e ≤ length l) c.in-InsertStr.is found.within in
     rw (c.in-InsertStr.is, in_place i (length l) le) (omega (arith, size-splice form l (chars c.in-InsertStr.text.now) i i, c.recall.ensures.count, c.text_len-in-Some-start.ensures))
 
 pub returns-in-None-start : goal.returns-in-None-start
@@ -63,7 +63,7 @@ returns-in-None-start g c =
     let number = g.C.Unit.number in
     let l = text_of form number c.args.s.now.units in
     let i = c.in-InsertStr.field-0 in
-    let never = subst (λ e. first_number e ≤ length l → ⊥) c.in-InsertStr.is (found_none form (map number c.args.s.now.units) (first_number c.args.edit) c.args.start c.requires.start c.in-None-start.is) in
+    let never = subst (λ e. first_index e ≤ length l → ⊥) c.in-InsertStr.is (found_none form (map number c.args.s.now.units) (first_index c.args.edit) c.args.start c.requires.start c.in-None-start.is) in
     rw (c.in-InsertStr.is, past i (length l) never) (omega (arith, c.recall.ensures.count))
 
 pub returns-in-Some-range_at : goal.returns-in-Some-range_at

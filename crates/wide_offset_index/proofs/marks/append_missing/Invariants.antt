@@ -7,7 +7,7 @@ use Rattle.wide_utfstr.specs.View.{units_seen}
 use Rattle.wide_utfstr.specs.Iter.{chars_left}
 use Rattle.wide_offset_index.specs.Counted.{counted}
 use Rattle.wide_offset_index.specs.Marks.{mark}
-use Rattle.wide_offset_index.proofs.marks.repair.Given as goal
+use Rattle.wide_offset_index.proofs.marks.append_missing.Given as goal
 
 -- The loop invariant: the index entries of the characters that were read, 64 for each entry and `gone` more.
 abbrev pub invariant-loop-c : goal.invariant-loop-c

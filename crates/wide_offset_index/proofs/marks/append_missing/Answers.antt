@@ -10,7 +10,7 @@ use Rattle.wide_offset_index.specs.Counted.{counted}
 use Rattle.wide_offset_index.specs.Marks.{mark}
 use Rattle.wide_offset_index.proofs.Lengths.{size}
 use Rattle.wide_offset_index.proofs.Marking.{next_char, some-length, some-marks, well-formed, whole-size, goes-within, none-left}
-use Rattle.wide_offset_index.proofs.marks.repair.Goals as goal
+use Rattle.wide_offset_index.proofs.marks.append_missing.Goals as goal
 
 pub loop-c-init : goal.loop-c-init
 loop-c-init c =
