@@ -18,7 +18,7 @@ use Rattle.wide_conversions.specs.declared.utf8_validation.Utf8End.{Utf8End}
 use Rattle.wide_conversions.specs.declared.utf8_validation.Utf8End.TheVariants.{Complete, IllFormed, Incomplete}
 use Rattle.wide_conversions.specs.Laws.Utf8Items.{no_char-beyond, part-some}
 use Rattle.wide_conversions.proofs.FirstItems.{Follows, begins-ascii, begins-four, begins-part, begins-three, begins-two, follows, may_follow, unranged-one}
-use Rattle.wide_conversions.proofs.PartTexts.{utf8_items-text, utf8_items-valid_up_to}
+use Rattle.wide_conversions.proofs.PrefixTexts.{utf8_items-text, utf8_items-valid_up_to}
 use Rattle.wide_conversions.proofs.ValidPrefixes.{bytes-four, bytes-three, bytes-two}
 
 -- The items of bytes that begin with no character do not begin with one.

@@ -1,6 +1,6 @@
 pub mod ValidPrefixes
 pub mod FirstItems
-pub mod PartTexts
+pub mod PrefixTexts
 pub mod ChunkEnds
 pub mod LossyItems
 pub mod LossyFaults

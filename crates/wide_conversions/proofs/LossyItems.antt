@@ -16,7 +16,7 @@ use Rattle.wide_forms.specs.declared.policy.Policy.{Policy}
 use Rattle.wide_conversions.specs.Utf8Items.{BeginsWith, IsLossyPrefix, utf8_items}
 use Rattle.wide_conversions.proofs.FirstItems.{begins-ascii}
 use Rattle.wide_from_utf8.proofs.PrefixUnits.{beyond-is}
-use Rattle.wide_conversions.proofs.PartTexts.{utf8_items-prefix}
+use Rattle.wide_conversions.proofs.PrefixTexts.{utf8_items-prefix}
 use Rattle.wide_utf16_to_utf8.proofs.UnitEncodings.{one_unit-plain}
 
 -- ASCII characters are their own items and units.

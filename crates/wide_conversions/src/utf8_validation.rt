@@ -33,7 +33,7 @@ fn broken_rules(third: u8, second: u8, first: u8, byte: u8) -> u8
         + u8::from(below_90 < u8::from(first == 0xf4))
 }
 
-// Returns whether a block of 64 bytes and the three before it, 67 in all, are ASCII.
+// Returns whether all 67 bytes of a block are ASCII.
 #[inline(always)]
 fn is_ascii(block: &[u8]) -> bool
     requires { length block.now ≡ 67 }
@@ -96,8 +96,9 @@ fn can_follow(block: &[u8]) -> bool
     is_ascii(block) || can_follow_by_rules(block)
 }
 
-// Returns the length of a run of bytes, each of which may follow the three bytes before it: a block, and if that is
-// ASCII, also the ASCII after it. Returns 0 if a byte of the block may not.
+// Returns the length of a run of bytes after the first three of `text`, each of which may follow the three bytes before
+// it: 64 bytes, and if these and the first three are ASCII, the chunks of 128 ASCII bytes that follow them. Returns 0
+// if one of the 64 bytes may not follow.
 #[inline(always)]
 fn followed_len(text: &[u8]) -> usize
     requires { 67 ≤ length text.now }
@@ -188,7 +189,8 @@ pub fn first_utf8_chunk(text: &[u8]) -> Utf8Chunk
     ensures end { EndsAs text.now result.valid result.end }
 {
     let checked = checked_len(text);
-    // Std checks the rest: the block with the fault, or fewer than 64 bytes at the end.
+    // Std checks the rest, from the end of the last character that is complete in the checked blocks. It stops at the
+    // first fault, or reads at most 66 bytes at the end: fewer than a block, and up to three bytes before them.
     match str::from_utf8(&text[checked..]) {
         Ok(_text) => Utf8Chunk {
             valid: text.len(),

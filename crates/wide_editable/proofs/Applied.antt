@@ -26,8 +26,8 @@ module _ (us seen ms : List ℕ) (same : seen ≡ us) (marks : ms ≡ marks_of (
   marks-long = ap length marks ∙ length-map-range_with_len (mark cs) 1 (length cs / 64) ∙ ap (λ n. n / 64) (sym here)
 
   module _ (edit : Edit) (first : ℕ) (begins : first ≡ first_changed count edit) where
-    pub kept-within : first / 64 ≤ length ms
-    kept-within = omega (arith, begins, offset-within count edit, marks-long)
+    pub unchanged-within : first / 64 ≤ length ms
+    unchanged-within = omega (arith, begins, offset-within count edit, marks-long)
 
     begins-here : first ≡ first_changed (length cs) edit
     begins-here = begins ∙ ap (λ n. first_changed n edit) here
@@ -46,8 +46,8 @@ module _ (us seen ms : List ℕ) (same : seen ≡ us) (marks : ms ≡ marks_of (
 
       module _ (made : chars Utf16 new ≡ (step cs edit).0) where
         -- The entries that are retained are those of the new text.
-        pub kept-same : take (first / 64) ms ≡ take (first / 64) (marks_of (chars Utf16 last))
-        kept-same =
+        pub unchanged-same : take (first / 64) ms ≡ take (first / 64) (marks_of (chars Utf16 last))
+        unchanged-same =
             let p = first_changed (length cs) edit in
             let unchanged : take p (chars Utf16 new) ≡ take p cs = ap (take p) made ∙ step-keeps cs edit in
             ap (take (first / 64)) marks ∙ same-marks cs (chars Utf16 new) p (offset-within (length cs) edit) unchanged (first / 64) (omega (arith, begins-here))

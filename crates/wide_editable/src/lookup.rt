@@ -54,8 +54,8 @@ pub(crate) fn find<C: FaultUnit>(s: &UtfString<C>, index: usize) -> Option<usize
 }
 
 // Returns the offset, in units, of the character at index `to`, or `None` if the index is past the end. `start` is the
-// offset found for index `from`. In UTF-16 it reads the units from `start` on, or from the beginning if `to` is less
-// than `from`.
+// offset of the character at index `from`, or `None` if that is past the end. In UTF-16 it reads the units from `start`
+// on, or from the beginning if `to` is less than `from`.
 pub(crate) fn find_second<C: FaultUnit>(
     s: &UtfString<C>,
     from: usize,

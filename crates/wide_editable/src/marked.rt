@@ -77,8 +77,9 @@ fn first_changed(edit: Edit<'_>, count: usize) -> usize
     }
 }
 
-// Allocates all memory that an edit needs in a UTF-16 string, given the offsets that were found. It is a function of
-// its own, so that its contract is about the units themselves, and not about numbers of units of any width.
+// Allocates all memory that an edit needs in a UTF-16 string. `start` and `end` are the offsets of the characters at
+// the edit's indices, or `None` past the end. It is a function of its own, so that its contract is about the units
+// themselves, and not about numbers of units of any width.
 fn prepare16(
     string: &mut Utf16String,
     alloc: Global,
@@ -112,8 +113,9 @@ fn units_counted(string: &Utf16String, edit: Edit<'_>, start: Option<usize>) -> 
     }
 }
 
-// Makes the edit of a UTF-16 string at the offsets that were found. It is a function of its own, so that its contract
-// is about the units themselves, and not about numbers of units of any width.
+// Makes the edit of a UTF-16 string. `start` and `end` are the offsets of the characters at the edit's indices, or
+// `None` past the end. It is a function of its own, so that its contract is about the units themselves, and not about
+// numbers of units of any width.
 fn apply16(
     string: &mut Utf16String,
     edit: Edit<'_>,
@@ -131,17 +133,17 @@ fn apply16(
     apply_at(string, edit, start, end, space)
 }
 
-// Computes the entries after the first `kept` ones again.
-fn recount(text: Utf16Str<'_>, marks: &mut Vec<usize>, kept: usize, steps: &mut Steps)
-    requires within { kept ≤ length marks.old.items }
-    requires some { take kept marks.old.items ≡ take kept (marks_of (chars Utf16 (units_seen text))) }
+// Computes the index entries again, except the first `unchanged` ones.
+fn recount(text: Utf16Str<'_>, marks: &mut Vec<usize>, unchanged: usize, steps: &mut Steps)
+    requires within { unchanged ≤ length marks.old.items }
+    requires some { take unchanged marks.old.items ≡ take unchanged (marks_of (chars Utf16 (units_seen text))) }
     requires space { length (chars Utf16 (units_seen text)) / 64 ≤ vec_capacity marks.old }
     ensures marks { marks.new.items ≡ marks_of (chars Utf16 (units_seen text.entry)) }
     ensures space { vec_capacity marks.new ≡ vec_capacity marks.old }
     ensures grows { counted steps.old ≤ counted steps.new }
-    ensures steps { counted steps.new + mark (chars Utf16 (units_seen text.entry)) kept ≡ counted steps.old + length (units_seen text.entry) }
+    ensures steps { counted steps.new + mark (chars Utf16 (units_seen text.entry)) unchanged ≡ counted steps.old + length (units_seen text.entry) }
 {
-    marks.truncate(kept);
+    marks.truncate(unchanged);
     append_missing(text, marks, steps);
 }
 
@@ -151,7 +153,7 @@ fn update(
     text: Utf16Str<'_>,
     marks: &mut Vec<usize>,
     range: Range16,
-    kept: usize,
+    unchanged: usize,
     count: usize,
     units: usize,
     steps: &mut Steps,
@@ -159,7 +161,7 @@ fn update(
     requires edited { IsEdited (chars Utf16 (units_seen text)) count units range.from range.to range.start range.end }
     requires long { length marks.old.items ≡ count / 64 }
     requires some { take (range.from / 64) marks.old.items ≡ take (range.from / 64) (marks_of (chars Utf16 (units_seen text))) }
-    requires kept { kept ≤ range.from / 64 }
+    requires unchanged { unchanged ≤ range.from / 64 }
     requires moved { AreMoved (chars Utf16 (units_seen text)) count units range.to marks.old.items }
     requires space { length (chars Utf16 (units_seen text)) / 64 ≤ vec_capacity marks.old }
     ensures marks { marks.new.items ≡ marks_of (chars Utf16 (units_seen text.entry)) }
@@ -167,13 +169,13 @@ fn update(
     ensures grows { counted steps.old ≤ counted steps.new }
     ensures read { IsShort (units_seen text.entry) units range → counted steps.old + units_put (units_seen text.entry) units range ≤ counted steps.new }
     ensures moved { IsFew (units_seen text.entry) count units range → counted steps.old + units_put (units_seen text.entry) units range + (marks_left count (length (chars Utf16 (units_seen text.entry))) - range.from / 64) ≤ counted steps.new }
-    ensures many_removed { range.from + 31 < range.to → counted steps.new + mark (chars Utf16 (units_seen text.entry)) kept ≡ counted steps.old + length (units_seen text.entry) }
-    ensures many_put { 62 < units_put (units_seen text.entry) units range → counted steps.new + mark (chars Utf16 (units_seen text.entry)) kept ≡ counted steps.old + length (units_seen text.entry) }
-    ensures steps { counted steps.new + mark (chars Utf16 (units_seen text.entry)) kept ≤ counted steps.old + 63 + length (units_seen text.entry) }
+    ensures many_removed { range.from + 31 < range.to → counted steps.new + mark (chars Utf16 (units_seen text.entry)) unchanged ≡ counted steps.old + length (units_seen text.entry) }
+    ensures many_put { 62 < units_put (units_seen text.entry) units range → counted steps.new + mark (chars Utf16 (units_seen text.entry)) unchanged ≡ counted steps.old + length (units_seen text.entry) }
+    ensures steps { counted steps.new + mark (chars Utf16 (units_seen text.entry)) unchanged ≤ counted steps.old + 63 + length (units_seen text.entry) }
 {
     match count_if_few(text, range, count, units, steps) {
         Some(total) => shift(text, marks, range, count, units, total, steps),
-        None => recount(text, marks, kept, steps),
+        None => recount(text, marks, unchanged, steps),
     }
 }
 
@@ -199,18 +201,26 @@ fn apply_to(
     let start = find_from(string.as_utfstr(), marks.as_slice(), first, steps);
     let end = find_from(string.as_utfstr(), marks.as_slice(), second, steps);
     let count = count_from(string.as_utfstr(), marks.as_slice(), steps);
-    let kept = first_changed(edit, count) / 64;
+    let unchanged = first_changed(edit, count) / 64;
     // The edit may read the units after the last entry that is retained, and no others.
     tick(
         steps,
-        units_from(string.as_utfstr(), marks.as_slice(), kept),
+        units_from(string.as_utfstr(), marks.as_slice(), unchanged),
     );
     let range = replaced_range(string, edit, count, start, end, steps);
     let units = string.len();
     let reply = apply16(string, edit, start, end, space);
     match range {
-        Some(range) => update(string.as_utfstr(), marks, range, kept, count, units, steps),
-        None => recount(string.as_utfstr(), marks, kept, steps),
+        Some(range) => update(
+            string.as_utfstr(),
+            marks,
+            range,
+            unchanged,
+            count,
+            units,
+            steps,
+        ),
+        None => recount(string.as_utfstr(), marks, unchanged, steps),
     }
     reply
 }

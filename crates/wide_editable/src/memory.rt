@@ -71,7 +71,7 @@ pub(crate) fn reply_len<C: FaultUnit>(
     }
 }
 
-// Allocates all memory of an edit whose offsets were found.
+// Allocates all memory of an edit, given the offsets of its indices.
 pub(crate) fn prepare_at<C: FaultUnit>(
     s: &mut UtfString<C>,
     alloc: Global,

@@ -1,4 +1,4 @@
-//! The twelve edits of a well-formed string, each made in units at offsets that were found, in memory that was
+//! The twelve edits of a well-formed string, each made in units at the offsets of its indices, in memory that was
 //! allocated before.
 //!
 //! If a search found no offset, the index is past the end. The results of calls that could fail to allocate are not
@@ -230,7 +230,7 @@ fn clear<C: FaultUnit>(s: &mut UtfString<C>) -> Reply
     Reply::Done
 }
 
-// Makes the edit at offsets that were found, in memory that was allocated for it.
+// Makes the edit at the offsets of its indices, `start` and `end`, in memory that was allocated for it.
 pub(crate) fn apply_at<C: FaultUnit>(
     s: &mut UtfString<C>,
     edit: Edit<'_>,

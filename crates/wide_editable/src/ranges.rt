@@ -100,7 +100,7 @@ pub(crate) fn replaced_range(
     requires end { IsFoundAt Utf16 string.now.units (second_index edit) end }
     ensures found { IfSome result (λ r. IsFoundRange Utf16 string.now.units r.from r.to r.start r.end) }
     ensures replaces { IfSome result (λ r. Replaces (chars Utf16 string.now.units) (step (chars Utf16 string.now.units) edit.entry).0 r.from r.to) }
-    ensures kept { IfSome result (λ r. first_changed count edit.entry ≤ r.from) }
+    ensures unchanged { IfSome result (λ r. first_changed count edit.entry ≤ r.from) }
     ensures read { counted steps.new ≡ counted steps.old + units_removed (chars Utf16 string.now.units) edit.entry }
     ensures steps { AddsAtMost steps.old steps.new 2 }
 {

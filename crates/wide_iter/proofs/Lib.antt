@@ -5,4 +5,4 @@ pub mod Turns
 pub mod Runs
 pub mod Ended
 pub mod Replaced
-pub mod Rows
+pub mod FaultRuns

@@ -91,8 +91,8 @@ impl<E: Drop, D: Iterator<Item = Result<char, E>>> Iterator for LossyWith<D> {
             Some(Ok(first)) => Some(first),
             Some(Err(_)) => match replacement(self.policy, false) {
                 Some(c) => {
-                    // The rest of the run yields nothing. It is read now, since a later call could not tell it from a
-                    // new run.
+                    // If the rest of the run yields nothing, it is read now: a later call could not distinguish it
+                    // from a new run.
                     if replacement(self.policy, true).is_none() {
                         self.front = first_character(&mut self.items);
                     }
@@ -100,7 +100,7 @@ impl<E: Drop, D: Iterator<Item = Result<char, E>>> Iterator for LossyWith<D> {
                 }
                 None => match first_character(&mut self.items) {
                     Some(c) => Some(c),
-                    // The decoder has ended: only the character that was read ahead at the other end is left.
+                    // The decoder has ended: at most the lookahead at the back is left.
                     None => self.back.take(),
                 },
             },
@@ -131,8 +131,8 @@ impl<E: Drop, D: DoubleEndedIterator<Item = Result<char, E>>> DoubleEndedIterato
             Some(Ok(last)) => Some(last),
             Some(Err(_)) => match replacement(self.policy, false) {
                 Some(c) => {
-                    // The rest of the run yields nothing. It is read now, since a later call could not tell it from a
-                    // new run.
+                    // If the rest of the run yields nothing, it is read now: a later call could not distinguish it
+                    // from a new run.
                     if replacement(self.policy, true).is_none() {
                         self.back = last_character(&mut self.items);
                     }
@@ -140,7 +140,7 @@ impl<E: Drop, D: DoubleEndedIterator<Item = Result<char, E>>> DoubleEndedIterato
                 }
                 None => match last_character(&mut self.items) {
                     Some(c) => Some(c),
-                    // The decoder has ended: only the character that was read ahead at the other end is left.
+                    // The decoder has ended: at most the lookahead at the front is left.
                     None => self.front.take(),
                 },
             },

@@ -11,7 +11,7 @@ use Rattle.wide_offset_index.specs.declared.shifting.Range16.{Range16}
 use Rattle.wide_offset_index.proofs.Lengths.{size-take}
 use Rattle.wide_offset_index.proofs.Marking.{well-formed, whole-size, few-characters}
 use Rattle.wide_offset_index.proofs.Passes.{put-units}
-use Rattle.wide_offset_index.proofs.Parts.{part-range, part-count}
+use Rattle.wide_offset_index.proofs.Substrings.{part-range, part-count}
 
 module _ (us : List ℕ) (shown : IsWellFormed Utf16 (map (λ u. u) us)) (count units len : ℕ) (range : Range16) (edited : IsEdited (chars Utf16 us) count units range.from range.to range.start range.end) (long : len ≡ length us) where
   abbrev cs : List ℕ

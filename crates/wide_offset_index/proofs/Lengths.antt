@@ -34,9 +34,9 @@ module _ (form : EncodingForm) where
   pub size-without : (l : List ℕ) (i j : ℕ) → i ≤ j → size (splice l i j []) ≤ size l
   size-without l i j forward = omega (arith, size-splice l [] i j, offsets-grow form l i j forward)
 
-  kept_or_not : (c : ℕ) (kept cs : List ℕ) → size kept ≤ size cs → (keeps : Bool) → size (cond keeps (c ∷ kept) kept) ≤ size (c ∷ cs)
-  kept_or_not c kept cs less true = omega (arith, less, length-append (code_units form c) (encode form kept), length-append (code_units form c) (encode form cs))
-  kept_or_not c kept cs less false = omega (arith, less, length-append (code_units form c) (encode form cs))
+  kept_or_not : (c : ℕ) (unchanged cs : List ℕ) → size unchanged ≤ size cs → (keeps : Bool) → size (cond keeps (c ∷ unchanged) unchanged) ≤ size (c ∷ cs)
+  kept_or_not c unchanged cs less true = omega (arith, less, length-append (code_units form c) (encode form unchanged), length-append (code_units form c) (encode form cs))
+  kept_or_not c unchanged cs less false = omega (arith, less, length-append (code_units form c) (encode form cs))
 
   pub size-filter : (test : ℕ → Bool) (l : List ℕ) → size (filter test l) ≤ size l
   size-filter test [] = omega arith

@@ -2,7 +2,7 @@ pub mod Lengths
 pub mod Offsets
 pub mod Marking
 pub mod Neighbors
-pub mod Parts
+pub mod Substrings
 pub mod Passes
 pub mod Few
 pub mod Walks

@@ -102,12 +102,12 @@ module _ (old new : List ℕ) (p : ℕ) (within : p ≤ length old) (same : take
       ∙ sym (take-map-range_with_len (mark new) 1 (length new / 64) k (omega (arith, long)))
 
   module _ (k : ℕ) (before items : List ℕ) (le : k ≤ p / 64) (all : before ≡ marks_of old) (first : items ≡ take k before) where
-    kept-new : items ≡ take k (marks_of new)
-    kept-new = first ∙ ap (take k) all ∙ same-marks k le
+    unchanged-new : items ≡ take k (marks_of new)
+    unchanged-new = first ∙ ap (take k) all ∙ same-marks k le
 
-    pub kept-count : length items ≡ k
-    kept-count = ap length kept-new ∙ length-take-le k (marks_of new) (omega (arith, long, length-map-range_with_len (mark new) 1 (length new / 64)))
+    pub unchanged-count : length items ≡ k
+    unchanged-count = ap length unchanged-new ∙ length-take-le k (marks_of new) (omega (arith, long, length-map-range_with_len (mark new) 1 (length new / 64)))
 
     -- The retained entries of the old index are the first entries of the new one.
-    pub kept-marks : items ≡ take (length items) (marks_of new)
-    kept-marks = kept-new ∙ ap (λ n. take n (marks_of new)) (sym kept-count)
+    pub unchanged-marks : items ≡ take (length items) (marks_of new)
+    unchanged-marks = unchanged-new ∙ ap (λ n. take n (marks_of new)) (sym unchanged-count)

@@ -29,6 +29,6 @@ module _ (cs : List ℕ) (count units : ℕ) where
     pub starts : start ≡ offset cs from
     pub ends : IsMoved cs (length cs + to - count) units end
 
-  -- From index `to` on, the entries are those of that text.
+  -- From index `to` on, the entries are those of the text before the edit.
   abbrev pub AreMoved : ℕ → List ℕ → Type 0
   AreMoved to marks = (k : ℕ) → to ≤ 64 * (k + 1) → k < length marks → IsMoved cs (length cs + 64 * (k + 1) - count) units (slice_index marks k)

@@ -34,7 +34,7 @@ pub struct Range16 {
 
 /// Returns the number of characters of a text in which few characters were replaced by few, and otherwise `None`. The
 /// text had `count` characters and `units` units before. It counts the units of the new characters that it reads, and
-/// reads none if they are many.
+/// reads none if more than 31 characters were removed, or if the new ones have more than 62 units.
 ///
 /// # Requires
 ///
@@ -124,8 +124,8 @@ fn moved_entry(
 {
     let to = 64 * (number + 1);
     let known = known_from(text, entries, number, count, units, total);
-    // If there are more characters now, the new entry is at or before the one to which the old entry moved, so it is
-    // between that and the new entry before it. If there are fewer, it is between two old entries that moved.
+    // If there are at least as many characters as before, the new entry is at or before the offset to which the old
+    // entry moved, and after the new entry before it. If there are fewer, it is between two old entries that moved.
     if count <= total {
         return between(text, (to - 64, entries[number - 1]), known, to, steps);
     }
@@ -146,7 +146,7 @@ fn next_entry(
     steps: &mut Steps,
 ) -> usize
     requires edited { IsEdited (chars Utf16 (units_seen text)) count units range.from range.to range.start range.end }
-    requires kept { range.from / 64 ≤ number }
+    requires unchanged { range.from / 64 ≤ number }
     requires within { number < length entries.now }
     requires total { total ≡ length (chars Utf16 (units_seen text)) }
     requires more { total ≤ count + 31 }
@@ -167,7 +167,8 @@ fn next_entry(
     moved_entry(text, entries, number, count, units, total, steps)
 }
 
-// Updates the entries past the beginning of the range to the edited text, and counts a step for each.
+// Updates the entries past the beginning of the range to the edited text. It counts a step for each of them, and for
+// each unit that it reads.
 fn move_entries(
     text: Utf16Str<'_>,
     entries: &mut [usize],
@@ -184,7 +185,7 @@ fn move_entries(
     requires less { count ≤ total + 31 }
     requires old { 64 * length entries.old ≤ count }
     requires new { 64 * length entries.old ≤ total }
-    requires kept { range.from / 64 ≤ length entries.old }
+    requires unchanged { range.from / 64 ≤ length entries.old }
     requires some { take (range.from / 64) entries.old ≡ map (mark (chars Utf16 (units_seen text))) (range_with_len 1 (range.from / 64)) }
     requires moved { AreMoved (chars Utf16 (units_seen text)) count units range.to entries.old }
     ensures entries { entries.new ≡ map (mark (chars Utf16 (units_seen text.entry))) (range_with_len 1 (length entries.old)) }

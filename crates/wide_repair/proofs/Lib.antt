@@ -1,5 +1,5 @@
 pub mod Counts
-mod Mendings
+mod Repairs
 pub mod CompressedLanes
 pub mod Retained
 mod LossyScalars

@@ -57,7 +57,7 @@ fn put_repaired(units: &[u16], repaired: &mut [u16], at: usize)
 
 // Returns the unit before an index, or 0 at the beginning.
 #[inline(always)]
-#[tactic(auto, using(crate::proofs::Mendings::unit_after_first))]
+#[tactic(auto, using(crate::proofs::Repairs::unit_after_first))]
 fn unit_before(units: &[u16], at: usize) -> u16
     requires { at < length units.now }
     ensures { result ≡ slice_index (0 ∷ units.now) at }
@@ -67,7 +67,7 @@ fn unit_before(units: &[u16], at: usize) -> u16
 
 // Returns the unit after an index, or 0 at the end.
 #[inline(always)]
-#[tactic(auto, using(crate::proofs::Mendings::none_after_last))]
+#[tactic(auto, using(crate::proofs::Repairs::none_after_last))]
 fn unit_after(units: &[u16], at: usize) -> u16
     requires { at < length units.now }
     ensures { result ≡ slice_index units.now (at + 1) }

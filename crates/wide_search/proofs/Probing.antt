@@ -2,7 +2,7 @@
 use Rattle.std.proofs.Common.{◌≡◌, ℕ, ◌+◌, ◌<◌, true, List, [], ◌∷◌, length, get_or, map, take, drop, refl, sym, ap, ◌∙◌, subst, arith, length-drop, length-take}
 use Rattle.std.proofs.Common.{get_or-drop, get_or-take}
 use Rattle.wide_search.specs.Occurrences.{OccursAt}
-use Rattle.wide_search.specs.Probes.{are_units, StandAt, IsProbe}
+use Rattle.wide_search.specs.Probes.{are_units, BothMatchAt, IsProbe}
 use Rattle.wide_search.specs.declared.needle.Probe.{Probe}
 use Rattle.wide_search.proofs.Ranges.{number-at}
 
@@ -37,7 +37,7 @@ module _ {X : Type 0} (number : X → ℕ) where
 
   pub stands : (needle us : List X) (probe : Probe X) (at n : ℕ) → IsProbe needle probe → OccursAt needle us at → at < n
       → (front back : List X) → front ≡ take n us → back ≡ take n (drop probe.distance us)
-      → StandAt (number probe.first) (number probe.last) (map number front) (map number back) at
+      → BothMatchAt (number probe.first) (number probe.last) (map number front) (map number back) at
   stands needle us probe at n is occurs below front back front-is back-is =
       let long : length needle ≡ probe.distance + 1 = is.length in
       let within : at < length front = subst (λ xs. at < length xs) (sym front-is) (simp length-take (omega (arith, below, long, occurs.within))) in

@@ -3,7 +3,7 @@ use Rattle.std.proofs.Common.{◌≡◌, ℕ, zero, suc, ◌+◌, ◌-◌, ◌<�
 use Rattle.std.proofs.lemmas.List.{map-id, length-map, take-map, drop-map}
 use Rattle.std.proofs.lemmas.List.Sums.{prefix_len_passes, prefix_len-le-length}
 use Rattle.wide_forms.specs.Searches.{first_offset, is_unit}
-use Rattle.wide_search.specs.Probes.{are_units, StandAt}
+use Rattle.wide_search.specs.Probes.{are_units, BothMatchAt}
 use Rattle.std.proofs.lemmas.Bool.{cases_lt}
 
 module _ (P : ℕ → Type 0) where
@@ -47,7 +47,7 @@ number-at number (x ∷ xs) (suc k) d l = number-at number xs k d (omega (arith,
 
 -- The two units do not stand where a test says that they do not.
 pub apart : {X : Type 0} (number : X → ℕ) (front back : List X) (first last k : ℕ) (u v : X) (equal : Bool) → k < length front → k < length back → u ≡ get_or front k u → v ≡ get_or back k v
-    → equal ≡ are_units first last (number u) (number v) → equal ≡ false → ¬ (StandAt first last (map number front) (map number back) k)
+    → equal ≡ are_units first last (number u) (number v) → equal ≡ false → ¬ (BothMatchAt first last (map number front) (map number back) k)
 apart number front back first last k u v equal l l2 at at2 tested none holds =
     let e : get_or (map number front) k 0 ≡ number u = number-at number front k u l ∙ ap number (sym at) in
     let e2 : get_or (map number back) k 0 ≡ number v = number-at number back k v l2 ∙ ap number (sym at2) in
@@ -55,17 +55,17 @@ apart number front back first last k u v equal l l2 at at2 tested none holds =
     cc (tested, none, h)
 
 -- Units of either width, as units of their width.
-pub stand-as : (first last v w : ℕ) (xs ys us vs : List ℕ) (k : ℕ) → v ≡ first → w ≡ last → us ≡ xs → vs ≡ ys → StandAt first last xs ys k → StandAt v w (map (λ u. u) us) (map (λ u. u) vs) k
+pub stand-as : (first last v w : ℕ) (xs ys us vs : List ℕ) (k : ℕ) → v ≡ first → w ≡ last → us ≡ xs → vs ≡ ys → BothMatchAt first last xs ys k → BothMatchAt v w (map (λ u. u) us) (map (λ u. u) vs) k
 stand-as first last v w xs ys us vs k e e2 e3 e4 holds =
-    let here : StandAt v w us vs k = subst (λ n. StandAt v n us vs k) (sym e2) (subst (λ n. StandAt n last us vs k) (sym e) (subst (λ zs. StandAt first last us zs k) (sym e4) (subst (λ zs. StandAt first last zs ys k) (sym e3) holds))) in
-    subst (λ zs. StandAt v w (map (λ u. u) us) zs k) (sym (map-id vs)) (subst (λ zs. StandAt v w zs vs k) (sym (map-id us)) here)
+    let here : BothMatchAt v w us vs k = subst (λ n. BothMatchAt v n us vs k) (sym e2) (subst (λ n. BothMatchAt n last us vs k) (sym e) (subst (λ zs. BothMatchAt first last us zs k) (sym e4) (subst (λ zs. BothMatchAt first last zs ys k) (sym e3) holds))) in
+    subst (λ zs. BothMatchAt v w (map (λ u. u) us) zs k) (sym (map-id vs)) (subst (λ zs. BothMatchAt v w zs vs k) (sym (map-id us)) here)
 
 is_false : (b : Bool) → not b ≡ true → b ≡ false
 is_false true none = cc
 is_false false none = refl
 
 -- The two do not stand where the first one does not.
-pub alone-apart : (first last k : ℕ) (us ws : List ℕ) → is_unit first (get_or us k 0) ≡ false → ¬ (StandAt first last us ws k)
+pub alone-apart : (first last k : ℕ) (us ws : List ℕ) → is_unit first (get_or us k 0) ≡ false → ¬ (BothMatchAt first last us ws k)
 alone-apart first last k us ws none holds =
     let h : (false && is_unit last (get_or ws k 0)) ≡ true = subst (λ b. (b && is_unit last (get_or ws k 0)) ≡ true) none holds in
     cc (h)
@@ -77,7 +77,7 @@ module _ {X : Type 0} (number : X → ℕ) where
       ap (λ us. get_or us k 0) (sym (take-map number n (drop at xs)) ∙ ap (take n) (sym (drop-map number at xs)))
       ∙ get_or-take n (drop at (map number xs)) k 0 l ∙ get_or-drop at (map number xs) k 0
 
-  pub stand-in-part : (first last : ℕ) (front back : List X) (at n m k : ℕ) → k < n → k < m → StandAt first last (map number front) (map number back) (at + k) → StandAt first last (map number (take n (drop at front))) (map number (take m (drop at back))) k
+  pub stand-in-part : (first last : ℕ) (front back : List X) (at n m k : ℕ) → k < n → k < m → BothMatchAt first last (map number front) (map number back) (at + k) → BothMatchAt first last (map number (take n (drop at front))) (map number (take m (drop at back))) k
   stand-in-part first last front back at n m k l l2 holds =
       ap (λ u. are_units first last u (get_or (map number (take m (drop at back))) k 0)) (part-at front at n k l)
       ∙ ap (are_units first last (get_or (map number front) (at + k) 0)) (part-at back at m k l2) ∙ holds
@@ -96,7 +96,7 @@ module _ {X : Type 0} (number : X → ℕ) where
       let passed : not (is_unit v (get_or (map number (take n (drop at xs))) (k - at) 0)) ≡ true = prefix_len_passes (λ u. not (is_unit v u)) (map number (take n (drop at xs))) (k - at) 0 l in
       is_false (is_unit v (get_or (map number xs) k 0)) (subst (λ i. not (is_unit v (get_or (map number xs) i 0)) ≡ true) here (subst (λ u. not (is_unit v u) ≡ true) same passed))
 
-  pub stand-in-front : (first last : ℕ) (front back : List X) (n k : ℕ) → k < n → StandAt first last (map number front) (map number back) k → StandAt first last (map number (take n front)) (map number (take n back)) k
+  pub stand-in-front : (first last : ℕ) (front back : List X) (n k : ℕ) → k < n → BothMatchAt first last (map number front) (map number back) k → BothMatchAt first last (map number (take n front)) (map number (take n back)) k
   stand-in-front first last front back n k l holds =
       let same : k ≡ 0 + k = omega arith in
-      stand-in-part first last front back 0 n n k l l (subst (λ i. StandAt first last (map number front) (map number back) i) same holds)
+      stand-in-part first last front back 0 n n k l l (subst (λ i. BothMatchAt first last (map number front) (map number back) i) same holds)

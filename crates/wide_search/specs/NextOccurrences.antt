@@ -12,7 +12,8 @@ module _ {C : Type 0} (back : Bool) (number : C → ℕ) where
   abbrev pub OccursFrom : List C → List C → ℕ → Type 0
   OccursFrom needle units at = OccursIn (number_from needle) (length needle) (number_from units) (length units) at
 
-  -- A search from an offset on stopped at another: the needle occurs there if it was found, and at none between both.
+  -- A search from `from` on stopped at `stop.at`: the needle occurs there if it was found, and at no offset before it
+  -- from `from` on.
   pub record IsStop (needle units : List C) (from : ℕ) (stop : Stop) : Type 0 where
     pub after : from ≤ stop.at
     pub within : stop.at ≤ length units

@@ -13,6 +13,6 @@ pub record IsProbe {C : Type 0} (needle : List C) (probe : Probe C) : Type 0 whe
 abbrev pub are_units : (first last : ℕ) → ℕ → ℕ → Bool
 are_units first last u v = is_unit first u && is_unit last v
 
--- The elements of both lists at an index have these numbers.
-abbrev pub StandAt : (first last : ℕ) → (front back : List ℕ) → ℕ → Type 0
-StandAt first last front back k = are_units first last (slice_index front k) (slice_index back k) ≡ true
+-- At index `k`, `front` has the unit `first`, and `back` has the unit `last`.
+abbrev pub BothMatchAt : (first last : ℕ) → (front back : List ℕ) → ℕ → Type 0
+BothMatchAt first last front back k = are_units first last (slice_index front k) (slice_index back k) ≡ true

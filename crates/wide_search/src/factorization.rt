@@ -10,7 +10,7 @@ ghost use Rattle.wide_search.specs.Factorizations.{IsFactorization, Precedes};
 use crate::side::Side;
 use wide_unit::Unit;
 
-// A needle in two parts: those of its units before an index, and those from there on.
+// The two parts of a needle: its units before an index, and its units from there on.
 #[derive(Clone, Copy)]
 pub(crate) struct Factorization {
     // The index of the first unit of the second part.
@@ -75,7 +75,8 @@ fn greatest_suffix<C: Unit, S: Side>(needle: &[C], reversed: bool) -> Suffix
     Suffix { start, period }
 }
 
-// Returns whether the units before the cut are those a period later, as far as these are after the cut.
+// Returns whether each of the last `period` units before the cut, or each of all if there are fewer, equals the unit a
+// period after it.
 fn repeats_at<C: Unit, S: Side>(needle: &[C], cut: usize, period: usize) -> bool
     requires { cut + period ≤ length needle.now }
     ensures { IsTrue result ↔ IsRepeat (item_from S.BACK (length needle.now) (map C.number needle.now)) (length needle.now) cut period }

@@ -1,6 +1,6 @@
 //! Searches in units of UTF-16 and UTF-32, well formed or not, for a slice of units, for one unit and for a character.
-//! Offsets and lengths are counted in units. No call allocates or fails. The Rust crate has none of these calls. A call
-//! that `str` has too has its name there.
+//! Offsets and lengths are counted in units. No call allocates or fails. The Rust crate has none of these calls. Calls
+//! with a counterpart in `str` have the same name.
 //!
 //! A search proceeds through these files. `units.rt` and `chars.rt` have the public calls, over any needle
 //! (`needle.rt`, compared by `comparisons.rt`) in `search.rt` from the front and in `search_back.rt` from the back, and

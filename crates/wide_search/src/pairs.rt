@@ -1,14 +1,14 @@
-//! Searches for an index at which one list has a given unit and another list has another given unit.
+//! Searches two lists, `front` and `back`, for an index at which `front` has one given unit and `back` another.
 //!
-//! If the second list is the first one from a distance on, that is where a needle may occur that has these two units at
-//! this distance. Few indices pass even if one of the units is frequent. The blocks of both lists are compared in SIMD
+//! If `back` is `front` from a distance on, a needle that has these two units at this distance can occur only at such
+//! an index. Few indices pass even if one of the units is frequent. The blocks of both lists are compared in SIMD
 //! lanes: sixteen 16-bit units, or eight 32-bit units, in one step (W. Mula, "SIMD-friendly algorithms for substring
 //! searching").
 
 ghost use Rattle.std.specs.Prelude.{◌≡◌, ◌+◌, ◌<◌, ◌≤◌, ℕ, false, length, map, slice_index};
 ghost use Rattle.std.proofs.Common.{rules};
 ghost use Rattle.std.specs.Simd.Lanes.{mask_l, zip2};
-ghost use Rattle.wide_search.specs.Probes.{are_units, StandAt};
+ghost use Rattle.wide_search.specs.Probes.{are_units, BothMatchAt};
 ghost use Rattle.wide_forms.specs.Searches.{is_unit};
 
 use std::simd::prelude::*;
@@ -26,11 +26,11 @@ trait Lane: Copy {
     // How many lanes a block has.
     const COUNT: usize;
 
-    // Returns whether two units are equal to two others.
+    // Returns whether `self` is `first` and `other` is `last`.
     fn are_equal(self, other: Self, first: Self, last: Self) -> bool
         ensures { result ≡ are_units (number first) (number last) (number self) (number other) };
 
-    // Returns a bit mask: bit k is set if unit k of one block is `first`, and unit k of the other is `last`.
+    // Returns a bit mask: bit k is set if unit k of `front` is `first`, and unit k of `back` is `last`.
     fn bits(front: &[Self], back: &[Self], first: Self, last: Self) -> u64
         requires front { length front.now ≡ COUNT }
         requires back { length back.now ≡ COUNT }
@@ -96,7 +96,7 @@ fn before_pair<L: Lane>(front: &[L], back: &[L], at: usize, first: L, last: L) -
     requires front { at + L.COUNT ≤ length front.now }
     requires back { at + L.COUNT ≤ length back.now }
     ensures within { result ≤ L.COUNT }
-    ensures before { (k : ℕ) → k < result → ¬ (StandAt (L.number first) (L.number last) (map L.number front.now) (map L.number back.now) (at + k)) }
+    ensures before { (k : ℕ) → k < result → ¬ (BothMatchAt (L.number first) (L.number last) (map L.number front.now) (map L.number back.now) (at + k)) }
 {
     let end = at + L::COUNT;
     let bits = L::bits(&front[at..end], &back[at..end], first, last);
@@ -113,7 +113,7 @@ fn through_pair<L: Lane>(front: &[L], back: &[L], at: usize, first: L, last: L) 
     requires front { at + L.COUNT ≤ length front.now }
     requires back { at + L.COUNT ≤ length back.now }
     ensures within { result ≤ L.COUNT }
-    ensures beyond { (k : ℕ) → result ≤ k → k < L.COUNT → ¬ (StandAt (L.number first) (L.number last) (map L.number front.now) (map L.number back.now) (at + k)) }
+    ensures beyond { (k : ℕ) → result ≤ k → k < L.COUNT → ¬ (BothMatchAt (L.number first) (L.number last) (map L.number front.now) (map L.number back.now) (at + k)) }
 {
     let end = at + L::COUNT;
     let bits = L::bits(&front[at..end], &back[at..end], first, last);
@@ -126,7 +126,7 @@ fn through_pair<L: Lane>(front: &[L], back: &[L], at: usize, first: L, last: L) 
 fn first_in<L: Lane>(front: &[L], back: &[L], first: L, last: L) -> usize
     requires { length front.now ≡ length back.now }
     ensures within { result ≤ length back.now }
-    ensures before { (k : ℕ) → k < result → ¬ (StandAt (L.number first) (L.number last) (map L.number front.now) (map L.number back.now) k) }
+    ensures before { (k : ℕ) → k < result → ¬ (BothMatchAt (L.number first) (L.number last) (map L.number front.now) (map L.number back.now) k) }
 {
     let len = back.len();
     let mut at = 0;
@@ -152,7 +152,7 @@ fn first_in<L: Lane>(front: &[L], back: &[L], first: L, last: L) -> usize
 fn last_in<L: Lane>(front: &[L], back: &[L], first: L, last: L) -> usize
     requires { length front.now ≡ length back.now }
     ensures within { result ≤ length back.now }
-    ensures beyond { (k : ℕ) → result ≤ k → k < length back.now → ¬ (StandAt (L.number first) (L.number last) (map L.number front.now) (map L.number back.now) k) }
+    ensures beyond { (k : ℕ) → result ≤ k → k < length back.now → ¬ (BothMatchAt (L.number first) (L.number last) (map L.number front.now) (map L.number back.now) k) }
 {
     let len = back.len();
     let mut end = len;
@@ -173,14 +173,14 @@ fn last_in<L: Lane>(front: &[L], back: &[L], first: L, last: L) -> usize
     end
 }
 
-// Returns the first index at which `first` is in the one list and `last` in the other, or the length. It reads both
-// lists up to there, and to the end of the block. If the lists or the units had different widths, which does not
-// happen, it would return 0, which excludes no index.
+// Returns the first index at which `first` is in `front` and `last` in `back`, or the length. It reads both lists up to
+// the end of the block of that index. If the lists or the units had different widths, which does not happen, it would
+// return 0, which excludes no index.
 #[inline(always)]
 pub(crate) fn first_pair<C: Unit>(front: &[C], back: &[C], first: C, last: C) -> usize
     requires { length front.now ≡ length back.now }
     ensures within { result ≤ length back.now }
-    ensures before { (k : ℕ) → k < result → ¬ (StandAt (C.number first) (C.number last) (map C.number front.now) (map C.number back.now) k) }
+    ensures before { (k : ℕ) → k < result → ¬ (BothMatchAt (C.number first) (C.number last) (map C.number front.now) (map C.number back.now) k) }
 {
     match (C::as_any(front), C::as_any(back)) {
         (AnyUnits::U16(front), AnyUnits::U16(back)) => {
@@ -196,12 +196,12 @@ pub(crate) fn first_pair<C: Unit>(front: &[C], back: &[C], first: C, last: C) ->
     }
 }
 
-// Returns the index after the last one at which `first` is in the one list and `last` in the other, or 0. If the lists
-// or the units had different widths, which does not happen, it would return the length, which excludes no index.
+// Returns the index after the last one at which `first` is in `front` and `last` in `back`, or 0. If the lists or the
+// units had different widths, which does not happen, it would return the length, which excludes no index.
 pub(crate) fn last_pair<C: Unit>(front: &[C], back: &[C], first: C, last: C) -> usize
     requires { length front.now ≡ length back.now }
     ensures within { result ≤ length back.now }
-    ensures beyond { (k : ℕ) → result ≤ k → k < length back.now → ¬ (StandAt (C.number first) (C.number last) (map C.number front.now) (map C.number back.now) k) }
+    ensures beyond { (k : ℕ) → result ≤ k → k < length back.now → ¬ (BothMatchAt (C.number first) (C.number last) (map C.number front.now) (map C.number back.now) k) }
 {
     let len = back.len();
     match (C::as_any(front), C::as_any(back)) {

@@ -32,9 +32,9 @@ fn skip<C: Unit>(units: &[C], count: usize, probe: Probe<C>) -> usize
 }
 
 // Searches on from an offset before which the needle does not occur, offset by offset. It makes `tries` tries, or fewer
-// at the end or where too many units match; at the last try before these, `matched` units matched. Returns where it
-// stopped, and how many units matched in vain. For a short needle that is an estimate: as many at each try as at the
-// one before these.
+// if it reaches the end of the text or too many units match. `matched` is how many units matched at the last try before
+// the call. Returns where it stopped, and how many units matched in vain. For a short needle that number is an
+// estimate: `tries` times `matched`.
 #[inline(never)]
 fn find_each<C: Unit, P: Needle<C>>(
     units: &[C],

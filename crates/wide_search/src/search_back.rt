@@ -27,9 +27,9 @@ fn skip_back<C: Unit>(units: &[C], end: usize, probe: Probe<C>) -> usize
 }
 
 // Searches back from an offset from which on the needle does not occur, offset by offset. It makes `tries` tries, or
-// fewer at the beginning or where too many units match; at the last try before these, `matched` units matched. Returns
-// where it stopped, which is the offset after the needle's if it was found, and how many units matched in vain. For a
-// short needle that is an estimate: as many at each try as at the one before these.
+// fewer if it reaches the start of the text or too many units match. `matched` is how many units matched at the last
+// try before the call. Returns where it stopped, which is one more than the needle's offset if it was found, and how
+// many units matched in vain. For a short needle that number is an estimate: `tries` times `matched`.
 #[inline(never)]
 fn rfind_each<C: Unit, P: Needle<C>>(
     units: &[C],

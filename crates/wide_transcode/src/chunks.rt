@@ -110,7 +110,8 @@ fn finish<K: ByteSink>(
     }
 }
 
-/// Takes bytes into the beginning of the chunk until there are two, or the input ends. Returns how many were taken.
+/// Takes bytes into the beginning of the chunk until there are at least two, or the input ends. Returns how many were
+/// taken.
 ///
 /// # Requires
 ///

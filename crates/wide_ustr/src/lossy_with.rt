@@ -97,7 +97,7 @@ impl<C: Unit> Iterator for CharsLossyWith<'_, C> {
         let Some(c) = replacement(self.policy, false) else {
             return self.first_character();
         };
-        // The rest of the run yields nothing. It is read now, since a later call could not tell it from a new run.
+        // If the rest of the run yields nothing, it is read now: a later call could not distinguish it from a new run.
         if replacement(self.policy, true).is_none() {
             self.rest = after_faults(rest);
         }

@@ -1,5 +1,5 @@
 -- The UTF-8 of paired units, unit by unit: a high surrogate yields the first two of the four bytes of its pair, and a
--- low one the others.
+-- low surrogate yields the last two.
 use Rattle.std.specs.Prelude.{◌≡◌, ℕ, ◌<◌, ◌≤◌, ◌+◌, ◌*◌, ◌/◌, ◌%◌, nat_eq, nat_lt, if◌then◌else◌, List, [], ◌∷◌, ◌++◌}
 use Rattle.wide_forms.specs.Utf8.{utf8_bytes}
 use Rattle.wide_utf16_to_utf8.specs.Encoded.{high_word, low_word}

@@ -26,8 +26,8 @@ fn paired_leads_of(befores: u16x8, units: u16x8) -> u16x8
     let last = units % u16x8::splat(0x40) * u16x8::splat(0x100);
     let low = u16x8::splat(0x8080) + third + middle + last;
     let is_low = (units / u16x8::splat(0x400)).simd_eq(u16x8::splat(LOW_TOP));
-    let is_half = (units / u16x8::splat(0x800)).simd_eq(u16x8::splat(SURROGATE_TOP));
-    is_half.select(is_low.select(low, high), lead_lanes(units))
+    let is_surrogate = (units / u16x8::splat(0x800)).simd_eq(u16x8::splat(SURROGATE_TOP));
+    is_surrogate.select(is_low.select(low, high), lead_lanes(units))
 }
 
 // Returns keys that select how many bytes each unit yields: the unit itself, or 0x80 for a surrogate, which yields two
@@ -36,8 +36,8 @@ fn paired_leads_of(befores: u16x8, units: u16x8) -> u16x8
 fn paired_keys_of(units: u16x8) -> u16x8
     ensures { (k : ℕ) → k < 8 → slice_index result k ≡ paired_key (slice_index units k) }
 {
-    let is_half = (units / u16x8::splat(0x800)).simd_eq(u16x8::splat(SURROGATE_TOP));
-    is_half.select(u16x8::splat(0x80), units)
+    let is_surrogate = (units / u16x8::splat(0x800)).simd_eq(u16x8::splat(SURROGATE_TOP));
+    is_surrogate.select(u16x8::splat(0x80), units)
 }
 
 // Writes the bytes of the last eight of nine units at the offset `at`, and returns the offset after them. Up to twelve
@@ -61,7 +61,7 @@ fn put_eight_paired(window: &[u16], out: &mut [u8], at: usize) -> usize
 }
 
 /// Writes the last sixteen units of the window as UTF-8, or the fifteen before the last one if that is a high
-/// surrogate, and stops at no fault. Up to fourteen bytes after the text may be overwritten.
+/// surrogate. The result reports no fault. Up to fourteen bytes after the text may be overwritten.
 ///
 /// # Requires
 ///

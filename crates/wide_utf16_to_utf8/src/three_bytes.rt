@@ -12,7 +12,8 @@ use std::simd::prelude::*;
 
 // Returns two bits for each of eight units, the top bits of the two bytes of its lane. Both are set if the unit has one
 // byte in UTF-8, only that of the second byte if it has two, and none if it has three. So the top bits of the first
-// eight bytes are the row number of the first four units, and those of the last eight that of the last four.
+// eight bytes are the row number of the first four units, and the top bits of the last eight bytes are the row number
+// of the last four units.
 #[inline(always)]
 fn masks_of(keys: u16x8) -> u16x8
     ensures { (k : ℕ) → k < 8 → slice_index result k ≡ mask_of (slice_index keys k) }
@@ -50,8 +51,8 @@ fn put_row(words: u8x16, row: usize, out: &mut [u8], at: usize) -> usize
     at + ROW_LENS[row]
 }
 
-// Returns four bytes for each of eight units, from the first two bytes in `leads` and the third in `backs`: those of
-// the first four units, and those of the last four.
+// Returns four bytes for each of eight units: the first four units in the first vector, the last four in the second.
+// The first two bytes of a unit are in `leads`, and the third is in `backs`.
 #[inline(always)]
 fn words_of(leads: u16x8, backs: u16x8) -> (u8x16, u8x16)
     ensures low { (k : ℕ) → k < 4 → HoldsWord result.0 (4 * k) (slice_index leads k) (slice_index backs k) }

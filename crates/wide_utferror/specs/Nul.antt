@@ -1,4 +1,4 @@
--- What the error for a NUL holds that stands where none is allowed.
+-- What the error for a NUL at an offset where none is allowed holds.
 use Rattle.std.specs.Prelude.{ℕ, Option}
 use Rattle.std.specs.declared.vec.Vec.{Vec}
 use Rattle.wide_utferror.specs.declared.nul.ContainsNul.{ContainsNul}

@@ -41,16 +41,16 @@ extern "C" {
 uint32_t wide_version(void);
 
 /*
- * What a conversion, a count or a length returns if the text is ill-formed. A function that returns a size_t and takes
- * a policy or an order returns it, too, if that number is none of those below, unless its comment says otherwise. No
- * text has this length.
+ * What a conversion, a count or a length returns if the text is ill-formed. A function that returns a size_t also
+ * returns WIDE_FAULT for a policy other than WIDE_EACH, WIDE_RUN and WIDE_SKIP, and for an order other than
+ * WIDE_LITTLE_ENDIAN and WIDE_BIG_ENDIAN, unless its comment says otherwise. No text has this length.
  */
 #define WIDE_FAULT SIZE_MAX
 
 /*
  * What wide_utf16_find and wide_utf32_find return if the needle does not occur, and what wide_utf16_first_fault_item
- * and wide_utf32_first_fault_item return if the text is well formed. The other searches return the length then. It is
- * the same number as WIDE_FAULT; no function returns both.
+ * and wide_utf32_first_fault_item return if the text is well formed. The searches for a NUL or for one unit
+ * return `length` if there is none. WIDE_NOT_FOUND is the same number as WIDE_FAULT; no function returns both.
  */
 #define WIDE_NOT_FOUND SIZE_MAX
 
@@ -73,8 +73,9 @@ enum WideLossy {
  * Byte orders of UTF-16 in bytes: little endian, the low byte first, or big endian. WIDE_NO_BOM is not an order:
  * wide_utf16_bytes_order returns it if there is no BOM.
  *
- * An order is passed as a 32-bit number. For any other number, also for WIDE_NO_BOM, wide_utf16_bytes_complete and
- * wide_utf16_bytes_end_in_fault return 0, and the other functions return WIDE_FAULT. A buffer is unchanged then.
+ * An order is passed as a 32-bit number. For any number but WIDE_LITTLE_ENDIAN and WIDE_BIG_ENDIAN, WIDE_NO_BOM
+ * included, wide_utf16_bytes_complete and wide_utf16_bytes_end_in_fault return 0, and the functions that convert or
+ * look for a fault return WIDE_FAULT. A buffer is unchanged then.
  */
 enum WideOrder {
     WIDE_LITTLE_ENDIAN = 0,
@@ -106,8 +107,8 @@ size_t wide_utf8_char_count(const uint8_t *text, size_t length);
 
 /*
  * Returns the length of the text in another encoding form, in bytes of UTF-8 or in units of UTF-16 or UTF-32, or
- * WIDE_FAULT if the text is ill-formed. This is the number that the conversion returns whose name has
- * no "_lossy". It writes nothing.
+ * WIDE_FAULT if the text is ill-formed. The strict conversion between the same two forms, whose name does not end in
+ * "_lossy" or "_lossy_with", returns the same number. No buffer is written.
  *
  * A unit of UTF-16 becomes at most 3 bytes of UTF-8 or 1 unit of UTF-32. A unit of UTF-32 becomes at most 4 bytes of
  * UTF-8 or 2 units of UTF-16. A byte of UTF-8 becomes at most 1 unit of UTF-16 or UTF-32. These bounds also hold for
@@ -130,8 +131,8 @@ size_t wide_utf32_find_unit(const uint32_t *units, size_t length, uint32_t unit)
 
 /*
  * Returns the offset of the first occurrence of the needle, or WIDE_NOT_FOUND if it does not occur. An empty needle
- * occurs at offset 0. The time grows at most linearly with both lengths, even if the needle repeats itself and the text
- * does so too.
+ * occurs at offset 0. The time grows at most linearly with both lengths, even if both needle and text repeat
+ * themselves.
  */
 size_t wide_utf16_find(const uint16_t *units, size_t length, const uint16_t *needle, size_t needle_length);
 size_t wide_utf32_find(const uint32_t *units, size_t length, const uint32_t *needle, size_t needle_length);
@@ -250,8 +251,8 @@ size_t wide_utf8_to_utf16_lossy(const uint8_t *text, size_t length, uint16_t *un
 size_t wide_utf8_to_utf32_lossy(const uint8_t *text, size_t length, uint32_t *units, size_t capacity);
 
 /*
- * Converts any bytes to UTF-16 or to UTF-32, and replaces these maximal subparts by the policy. Returns WIDE_FAULT if
- * the policy is invalid.
+ * Converts any bytes to UTF-16 or to UTF-32, and replaces each maximal subpart of an ill-formed sequence of UTF-8
+ * (Unicode Standard, section 3.9) by the policy. Returns WIDE_FAULT if the policy is invalid.
  */
 size_t wide_utf8_to_utf16_lossy_with(const uint8_t *text, size_t length, uint32_t policy, uint16_t *units, size_t capacity);
 size_t wide_utf8_to_utf32_lossy_with(const uint8_t *text, size_t length, uint32_t policy, uint32_t *units, size_t capacity);

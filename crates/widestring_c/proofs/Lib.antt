@@ -3,6 +3,6 @@ mod Chunks
 mod Cuts
 mod Fits
 mod Pairs
-mod Pieces
+mod ChunkUnits
 mod Repaired
 mod Windows

@@ -40,8 +40,8 @@ pub(crate) fn complete_len(order: BoM, bytes: &[u8]) -> usize
     len_before_high_surrogate(order, bytes, bytes.len() / 2 * 2)
 }
 
-/// Returns how many bytes to read next: all whole units if they fit into `CHUNK_UNITS` units, or else as many as fit without
-/// splitting a surrogate pair.
+/// Returns how many bytes to read next: all whole units if they fit into `CHUNK_UNITS` units, or else as many as fit
+/// without splitting a surrogate pair.
 pub(crate) fn chunk_len(order: BoM, bytes: &[u8]) -> usize
     requires { 2 ≤ length bytes.now }
     ensures some { 2 ≤ result }

@@ -2,10 +2,10 @@
 //! usage message.
 #![tactic(auto)]
 
-mod refusal;
+mod messages;
 mod streams;
 mod utf8;
 
-pub use refusal::{REFUSED, SUCCESS, USAGE, WRONG_USAGE, end, refuse_words, report};
+pub use messages::{FAILED, SUCCESS, USAGE, WRONG_USAGE, end, report, usage_error};
 pub use streams::{finish, gather};
 pub use utf8::{command, parse_utf8, write_utf8};

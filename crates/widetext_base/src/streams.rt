@@ -4,7 +4,7 @@ ghost use Rattle.std.specs.Prelude.{◌≡◌, ◌≢◌, ◌≤◌, codes, IfEr
 ghost use Rattle.wide_error.specs.Texts.{out_of_memory_text};
 ghost use Rattle.widetext_base.specs.Command.{Says};
 
-use crate::refusal::{REFUSED, SUCCESS, USAGE, refuse_words, report};
+use crate::messages::{FAILED, SUCCESS, USAGE, report, usage_error};
 use std::io::{ErrorKind, Write};
 use std::rt::Env;
 use std::{env, io};
@@ -28,16 +28,16 @@ fn words_of<R: Env + AllocGlobal>(rt: &R) -> io::Result<Vec<String>> {
 /// `faults`. If an allocation fails, it is that of an error, and the message is written to `faults`.
 pub fn gather<R: Env + AllocGlobal, F: ByteSink>(rt: &R, faults: &mut F) -> Result<Vec<String>, u8>
     ensures quiet { OnOk result (faults.new ≡ faults.old) }
-    ensures refused { IfErr result (λ status. (1 ≤ status) × (status ≤ 2)) }
+    ensures failed { IfErr result (λ status. (1 ≤ status) × (status ≤ 2)) }
     ensures no_memory { IfErr result (λ status. status ≡ 1 → Says (F.held faults.old) (F.held faults.new) out_of_memory_text) }
     ensures usage { IfErr result (λ status. status ≡ 2 → Says (F.held faults.old) (F.held faults.new) USAGE.now) }
 {
     match words_of(rt) {
         Ok(words) => Ok(words),
-        Err(error) if error.kind() == ErrorKind::InvalidData => Err(refuse_words(faults)),
+        Err(error) if error.kind() == ErrorKind::InvalidData => Err(usage_error(faults)),
         Err(_) => {
             report(faults, &OutOfMemory);
-            Err(REFUSED)
+            Err(FAILED)
         }
     }
 }
@@ -46,14 +46,14 @@ pub fn gather<R: Env + AllocGlobal, F: ByteSink>(rt: &R, faults: &mut F) -> Resu
 /// is that of success, it writes a message to `faults`, and returns the status of an error. Otherwise it returns
 /// `status`.
 pub fn finish<W: Write, F: ByteSink>(output: &mut W, faults: &mut F, status: u8) -> u8
-    ensures first_refusal { status ≢ 0 → result ≡ status }
+    ensures first_failure { status ≢ 0 → result ≡ status }
     ensures statuses { status ≡ 0 → result ≢ 0 → result ≡ 1 }
     ensures quiet { result ≡ status → faults.new ≡ faults.old }
     ensures said { Says (F.held faults.old) (F.held faults.new) (codes "write fault") }
 {
     if output.flush().is_err() && status == SUCCESS {
         report(faults, &TranscodeError::Write);
-        return REFUSED;
+        return FAILED;
     }
     status
 }

@@ -4,7 +4,7 @@ ghost use Rattle.std.specs.Prelude.{◌≡◌, ◌≤◌, Option, Some, false};
 ghost use Rattle.wide_forms.specs.declared.policy.Policy.{Policy};
 ghost use Rattle.widetext_base.specs.Command.{AsksForUtf8, AsksForNoUtf8, IsOption, Says, Utf8Run};
 
-use crate::refusal::{USAGE, end, refuse_words};
+use crate::messages::{USAGE, end, usage_error};
 use wide_bytes::{ByteSink, ByteSource};
 use wide_forms::Policy;
 use wide_transcode::{Mode, transcode, transcode_with};
@@ -101,6 +101,6 @@ pub fn command<S: ByteSource, K: ByteSink, F: ByteSink>(
 {
     match parse_utf8(words) {
         Some(policy) => write_utf8(source, sink, faults, policy),
-        None => refuse_words(faults),
+        None => usage_error(faults),
     }
 }

@@ -25,7 +25,7 @@ pub fn answered<S: ByteSource, K: ByteSink, F: ByteSink>(
     requires sink_unfailed { K.has_failed sink.old ≡ false }
     requires faults_unfailed { F.has_failed faults.old ≡ false }
     ensures written { result ≡ 0 → WritesEnds words.now (K.held sink.old) (K.held sink.new) }
-    ensures refused { result ≡ 1 → K.has_failed sink.new ≡ false → sink.new ≡ sink.old }
+    ensures failed { result ≡ 1 → K.has_failed sink.new ≡ false → sink.new ≡ sink.old }
     ensures unread { source.new ≡ source.old }
 {
     command(alloc, words, source, sink, faults)
@@ -50,7 +50,7 @@ pub fn edited<S: ByteSource, K: ByteSink, F: ByteSink>(
     requires sink_unfailed { K.has_failed sink.old ≡ false }
     requires faults_unfailed { F.has_failed faults.old ≡ false }
     ensures written { result ≡ 0 → WritesEdits words.now (K.held sink.old) (K.held sink.new) }
-    ensures refused { result ≡ 1 → K.has_failed sink.new ≡ false → sink.new ≡ sink.old }
+    ensures failed { result ≡ 1 → K.has_failed sink.new ≡ false → sink.new ≡ sink.old }
     ensures unread { source.new ≡ source.old }
 {
     command(alloc, words, source, sink, faults)

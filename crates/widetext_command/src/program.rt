@@ -4,29 +4,29 @@ ghost use Rattle.std.specs.Prelude.{◌≡◌, ◌≢◌, ◌≤◌, Option, IfE
 ghost use Rattle.wide_forms.specs.declared.policy.Policy.{Policy};
 ghost use Rattle.wide_error.specs.Texts.{transcode_error_text};
 ghost use Rattle.widetext_base.specs.Command.{AsksForUtf8, AsksForNoUtf8, Says, Utf8Run};
-ghost use Rattle.widetext_requests.specs.Command.{AsksForEnds, AsksForEdits, IsAskedBy, IsEdited, IsEditedInPart, IsOfTypes, IsWritten, IsWrittenInPart, WritesEnds, WritesEndsInPart, WritesEdits, WritesEditsInPart, IsUnknown, refusal_of};
-ghost use Rattle.widetext_requests.specs.declared.words.Request.{Request};
+ghost use Rattle.widetext_requests.specs.Command.{AsksForEnds, AsksForEdits, IsAskedBy, IsEdited, IsEditedInPart, IsOfTypes, IsWritten, IsWrittenInPart, WritesEnds, WritesEndsInPart, WritesEdits, WritesEditsInPart, IsUnknown, failure_of};
+ghost use Rattle.widetext_requests.specs.declared.arguments.Request.{Request};
 
 use crate::edit_lines::edit_lines;
 use std::alloc::Global;
 use wide_bytes::{ByteSink, ByteSource, put_all};
 use wide_error::TranscodeError;
-use widetext_base::{USAGE, end, parse_utf8, refuse_words, write_utf8};
-use widetext_requests::{EditWord, Request, edits_of, parse_words, write_answers};
+use widetext_base::{USAGE, end, parse_utf8, usage_error, write_utf8};
+use widetext_requests::{EditArgument, Request, edits_of, parse_arguments, write_results};
 
 // Writes the replies to the edits of a text, and the resulting text. It makes all lines before it writes any.
 fn write_edits<K: ByteSink>(
     alloc: Global,
     sink: &mut K,
     text: &str,
-    words: &[EditWord<'_>],
+    words: &[EditArgument<'_>],
 ) -> Result<(), TranscodeError>
     requires { K.has_failed sink.old ≡ false }
     ensures written { OnOk result (IsEdited text.now words.now (K.held sink.old) (K.held sink.new)) }
     ensures valid { OnOk result (K.has_failed sink.new ≡ false) }
-    ensures refused { OnErr result (K.has_failed sink.new ≡ false → sink.new ≡ sink.old) }
+    ensures failed { OnErr result (K.has_failed sink.new ≡ false → sink.new ≡ sink.old) }
     ensures begun { OnErr result (K.has_failed sink.new ≡ true → IsEditedInPart text.now words.now (K.held sink.old) (K.held sink.new)) }
-    ensures refusal { IfErr result (λ error. error ≡ refusal_of (K.has_failed sink.new)) }
+    ensures failure { IfErr result (λ error. error ≡ failure_of (K.has_failed sink.new)) }
 {
     let edits = edits_of(alloc, words)?;
     put_all(sink, edit_lines(alloc, text, &edits)?.as_bytes())
@@ -41,12 +41,12 @@ fn write_lines<K: ByteSink>(
     requires { K.has_failed sink.old ≡ false }
     ensures written { OnOk result (IsWritten (K.held sink.old) (K.held sink.new) request.now) }
     ensures valid { OnOk result (K.has_failed sink.new ≡ false) }
-    ensures refused { OnErr result (K.has_failed sink.new ≡ false → sink.new ≡ sink.old) }
+    ensures failed { OnErr result (K.has_failed sink.new ≡ false → sink.new ≡ sink.old) }
     ensures begun { OnErr result (K.has_failed sink.new ≡ true → IsWrittenInPart (K.held sink.old) (K.held sink.new) request.now) }
-    ensures refusal { IfErr result (λ error. error ≡ refusal_of (K.has_failed sink.new)) }
+    ensures failure { IfErr result (λ error. error ≡ failure_of (K.has_failed sink.new)) }
 {
     match request {
-        Request::Ends { units, ends } => write_answers(alloc, sink, units, ends),
+        Request::Ends { units, ends } => write_results(alloc, sink, units, ends),
         Request::Edit { text, edits } => write_edits(alloc, sink, text, edits),
     }
 }
@@ -107,16 +107,16 @@ pub fn command<S: ByteSource, K: ByteSink, F: ByteSink>(
 
     // The message of an error says that the output failed, or else that memory ran out. After a usage error it is the
     // usage message.
-    ensures refusal { AsksForNoUtf8 words.now → result ≡ 1 → Says (F.held faults.old) (F.held faults.new) (transcode_error_text (refusal_of (K.has_failed sink.new))) }
+    ensures failure { AsksForNoUtf8 words.now → result ≡ 1 → Says (F.held faults.old) (F.held faults.new) (transcode_error_text (failure_of (K.has_failed sink.new))) }
     ensures usage { result ≡ 2 → Says (F.held faults.old) (F.held faults.new) USAGE.now }
     ensures statuses { result ≤ 2 }
 {
     if let Some(policy) = parse_utf8(words) {
         return write_utf8(source, sink, faults, policy);
     }
-    match parse_words(alloc, words) {
+    match parse_arguments(alloc, words) {
         Ok(Some(request)) => end(faults, write_lines(alloc, sink, &request)),
-        Ok(None) => refuse_words(faults),
+        Ok(None) => usage_error(faults),
         Err(_) => end(faults, Err(TranscodeError::OutOfMemory)),
     }
 }

@@ -3,8 +3,8 @@ use Rattle.std.proofs.Common.{◌≡◌, ℕ, ◌<◌, ◌≤◌, ◌-◌, lengt
 use Rattle.std.specs.declared.string.String.{String}
 use Rattle.std.specs.Prelude.{codes, string_bytes}
 use Rattle.std.proofs.lemmas.List.{take_all}
-use Rattle.widetext_requests.specs.declared.words.Request.{Request}
-use Rattle.widetext_requests.specs.declared.words.Request.TheVariants.{Ends, Edit}
+use Rattle.widetext_requests.specs.declared.arguments.Request.{Request}
+use Rattle.widetext_requests.specs.declared.arguments.Request.TheVariants.{Ends, Edit}
 use Rattle.widetext_base.specs.Command.{AsksForNoUtf8}
 use Rattle.widetext_requests.specs.Command.{AsksForEnds, AsksForEdits, IsEditOf, IsEndsOf, IsAskedBy, AreRead, NamesUnits}
 

@@ -15,11 +15,11 @@ use Rattle.wide_iter.specs.declared.ends.End.{End}
 use Rattle.wide_iter.specs.declared.ends.End.TheVariants.{Front, Back}
 use Rattle.wide_edit.specs.declared.edits.Edit.{Edit}
 use Rattle.wide_edit.specs.declared.edits.Edit.TheVariants.{Push, PushStr, Pop, Truncate, Insert, InsertStr, Remove, Retain, Drain, Replace, SplitOff, Clear}
-use Rattle.widetext_requests.specs.EditWords.{AreEach, HasTypes, IsNamedAt, IsNumber, IsNumberThen, WordHasTypes}
+use Rattle.widetext_requests.specs.EditArguments.{AreEach, HasTypes, IsNamedAt, IsNumber, IsNumberThen, ArgumentHasTypes}
 use Rattle.widetext_requests.specs.Command.{AreUnits, AreRead, IsEditOf, IsEndsOf, IsOfTypes, IsUnit, NamesUnits, end_letter}
-use Rattle.widetext_requests.specs.declared.edit_words.EditWord.{EditWord}
-use Rattle.widetext_requests.specs.declared.words.Request.{Request}
-use Rattle.widetext_requests.specs.declared.words.Request.TheVariants as request
+use Rattle.widetext_requests.specs.declared.edit_arguments.EditArgument.{EditArgument}
+use Rattle.widetext_requests.specs.declared.arguments.Request.{Request}
+use Rattle.widetext_requests.specs.declared.arguments.Request.TheVariants as request
 
 apart : (a b : ℕ) → a ≡ b → a < b → ⊥
 apart a b same less = absurd (omega arith)
@@ -202,6 +202,6 @@ each_at R (a ∷ xs) [] i x y are below = absurd are
 each_at R (a ∷ xs) (b ∷ ys) zero x y are below = (omega arith, are.0)
 each_at R (a ∷ xs) (b ∷ ys) (suc i) x y are below = let at = each_at R xs ys i x y are.1 (omega arith) in (omega (arith, at.0), at.1)
 
-pub asks_edit : {A : Type 0} (text : List ℕ) (words : List (String A)) (asked : Request) → IsOfTypes asked → IsEditOf text words asked → (read : List EditWord) × All WordHasTypes read × AreRead words read
+pub asks_edit : {A : Type 0} (text : List ℕ) (words : List (String A)) (asked : Request) → IsOfTypes asked → IsEditOf text words asked → (read : List EditArgument) × All ArgumentHasTypes read × AreRead words read
 asks_edit text words (request.Ends us ends) types is = absurd is
 asks_edit text words (request.Edit t read) types is = (read.items, types, is.1)

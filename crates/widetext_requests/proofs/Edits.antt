@@ -4,7 +4,7 @@ use Rattle.std.proofs.lemmas.List.{take_more, append-nil, append_assoc}
 use Rattle.std.proofs.lemmas.Str.{encodes-append}
 use Rattle.wide_edit.specs.declared.edits.Edit.{Edit}
 use Rattle.wide_edit.specs.declared.edits.Edit.TheVariants.{Push, PushStr, Pop, Truncate, Insert, InsertStr, Remove, Retain, Drain, Replace, SplitOff, Clear}
-use Rattle.widetext_requests.specs.EditWords.{AreEach, IsNamed, NamesEdit}
+use Rattle.widetext_requests.specs.EditArguments.{AreEach, IsNamed, NamesEdit}
 
 module _ {X Y : Type 0} (R : X → Y → Type 0) where
   each_more : (xs : List X) (ys : List Y) (x : X) (y : Y) → AreEach R xs ys → R x y → AreEach R (xs ++ x ∷ []) (ys ++ y ∷ [])

@@ -12,10 +12,10 @@ use Rattle.widetext_base.specs.Command.{AppendsPrefix, AsksForNoUtf8}
 use Rattle.std.specs.Str.{chars}
 use Rattle.wide_edit.specs.declared.edits.Edit as edit
 use Rattle.widetext_requests.specs.Lines.{ends_lines, edit_lines}
-use Rattle.widetext_requests.specs.EditWords.{AreEach, AreEdits, NamesWord, WordHasTypes}
-use Rattle.widetext_requests.specs.declared.edit_words.EditWord.{EditWord}
-use Rattle.widetext_requests.specs.declared.words.Request.{Request}
-use Rattle.widetext_requests.specs.declared.words.Request.TheVariants.{Ends, Edit}
+use Rattle.widetext_requests.specs.EditArguments.{AreEach, AreEdits, NamesArgument, ArgumentHasTypes}
+use Rattle.widetext_requests.specs.declared.edit_arguments.EditArgument.{EditArgument}
+use Rattle.widetext_requests.specs.declared.arguments.Request.{Request}
+use Rattle.widetext_requests.specs.declared.arguments.Request.TheVariants.{Ends, Edit}
 
 -- one to four hexadecimal digits, in either case, name the unit that is their number
 abbrev pub IsUnit : List ℕ → ℕ → Type 0
@@ -37,21 +37,21 @@ end_letter Front = 70
 end_letter Back = 66
 
 -- the lines of the edits of a text were written
-pub record IsEdited (text : List ℕ) (words : List EditWord) (held held' : Option (List ℕ)) : Type 0 where
+pub record IsEdited (text : List ℕ) (words : List EditArgument) (held held' : Option (List ℕ)) : Type 0 where
   pub edits : List edit.Edit
   pub named : AreEdits words edits
   pub put : Appends held held' (edit_lines (chars text) edits)
 
 -- a prefix of the lines of the edits of a text was written
-pub record IsEditedInPart (text : List ℕ) (words : List EditWord) (held held' : Option (List ℕ)) : Type 0 where
+pub record IsEditedInPart (text : List ℕ) (words : List EditArgument) (held held' : Option (List ℕ)) : Type 0 where
   pub edits : List edit.Edit
   pub named : AreEdits words edits
   pub put : AppendsPrefix held held' (edit_lines (chars text) edits)
 
 -- the error: the output failed, or an allocation failed before any line was written
-abbrev pub refusal_of : Bool → TranscodeError
-refusal_of true = Write
-refusal_of false = OutOfMemory
+abbrev pub failure_of : Bool → TranscodeError
+failure_of true = Write
+failure_of false = OutOfMemory
 
 -- the lines of a request were written
 abbrev pub IsWritten : Option (List ℕ) → Option (List ℕ) → Request → Type 0
@@ -66,7 +66,7 @@ IsWrittenInPart held held' (Edit text words) = IsEditedInPart text.now words.ite
 -- the values of a request are of their types
 abbrev pub IsOfTypes : Request → Type 0
 IsOfTypes (Ends units ends) = Unit {0}
-IsOfTypes (Edit text words) = All WordHasTypes words.items
+IsOfTypes (Edit text words) = All ArgumentHasTypes words.items
 
 -- the request is one of `ends`, with the units and the ends that these two arguments name
 abbrev pub IsEndsOf : List ℕ → List ℕ → Request → Type 0
@@ -75,8 +75,8 @@ IsEndsOf units calls (Edit text edits) = ⊥
 
 module _ {A : Type 0} where
   -- these were read from the arguments, one from each
-  abbrev pub AreRead : List (String A) → List EditWord → Type 0
-  AreRead words read = AreEach (λ word. NamesWord (string_bytes word)) words read
+  abbrev pub AreRead : List (String A) → List EditArgument → Type 0
+  AreRead words read = AreEach (λ word. NamesArgument (string_bytes word)) words read
 
   -- the request is one of `edit`, with this text and the edits that these arguments name
   abbrev pub IsEditOf : List ℕ → List (String A) → Request → Type 0
@@ -106,7 +106,7 @@ module _ {A : Type 0} where
   AsksForEdits (word ∷ text ∷ edits) = string_bytes word ≡ codes "edit"
 
   -- the first argument is the text, and the others name the edits
-  abbrev pub AsksForEditOf : List ℕ → List EditWord → List (String A) → Type 0
+  abbrev pub AsksForEditOf : List ℕ → List EditArgument → List (String A) → Type 0
   AsksForEditOf text read [] = ⊥
   AsksForEditOf text read (word ∷ []) = ⊥
   AsksForEditOf text read (word ∷ first ∷ edits) = (string_bytes word ≡ codes "edit") × (string_bytes first ≡ text) × AreRead edits read
@@ -133,14 +133,14 @@ module _ {A : Type 0} where
   -- `edit` wrote the lines of the edits of its text
   pub record WritesEdits (words : List (String A)) (held held' : Option (List ℕ)) : Type 0 where
     pub text : List ℕ
-    pub read : List EditWord
+    pub read : List EditArgument
     pub asked : AsksForEditOf text read words
     pub edited : IsEdited text read held held'
 
   -- `edit` wrote a prefix of these lines
   pub record WritesEditsInPart (words : List (String A)) (held held' : Option (List ℕ)) : Type 0 where
     pub text : List ℕ
-    pub read : List EditWord
+    pub read : List EditArgument
     pub asked : AsksForEditOf text read words
     pub edited : IsEditedInPart text read held held'
 

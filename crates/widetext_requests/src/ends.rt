@@ -5,7 +5,7 @@ ghost use Rattle.std.specs.Io.KnownBytes.{Appends};
 ghost use Rattle.std.specs.Option.{option_map};
 ghost use Rattle.wide_unit.specs.Unit.{reported_item};
 ghost use Rattle.widetext_base.specs.Command.{AppendsPrefix};
-ghost use Rattle.widetext_requests.specs.Command.{refusal_of};
+ghost use Rattle.widetext_requests.specs.Command.{failure_of};
 ghost use Rattle.widetext_requests.specs.Lines.{answer_line, ends_lines};
 
 use std::alloc::{AllocError, Global};
@@ -52,7 +52,7 @@ fn push_answers(
 ///
 /// [`TranscodeError::OutOfMemory`] if an allocation fails; the sink is as before. [`TranscodeError::Write`] if the sink
 /// fails; it got a prefix of the lines.
-pub fn write_answers<K: ByteSink>(
+pub fn write_results<K: ByteSink>(
     alloc: Global,
     sink: &mut K,
     units: &[u16],
@@ -61,9 +61,9 @@ pub fn write_answers<K: ByteSink>(
     requires { K.has_failed sink.old ≡ false }
     ensures written { OnOk result (Appends (K.held sink.old) (K.held sink.new) (ends_lines units.now ends.now)) }
     ensures valid { OnOk result (K.has_failed sink.new ≡ false) }
-    ensures refused { OnErr result (K.has_failed sink.new ≡ false → sink.new ≡ sink.old) }
+    ensures failed { OnErr result (K.has_failed sink.new ≡ false → sink.new ≡ sink.old) }
     ensures begun { OnErr result (K.has_failed sink.new ≡ true → AppendsPrefix (K.held sink.old) (K.held sink.new) (ends_lines units.now ends.now)) }
-    ensures refusal { IfErr result (λ error. error ≡ refusal_of (K.has_failed sink.new)) }
+    ensures failure { IfErr result (λ error. error ≡ failure_of (K.has_failed sink.new)) }
 {
     let answers = read_ends16(alloc, units, ends)?;
     let mut lines = String::new(alloc);

@@ -57,7 +57,7 @@ impl Ended<'_> {
     }
 
     /// Returns whether it failed with this message, and wrote no more than a prefix of this text.
-    pub fn is_refused(&self, line: &[u8], text: &[u8]) -> bool {
+    pub fn has_failed(&self, line: &[u8], text: &[u8]) -> bool {
         let mut well = self.status == 1;
         well &= self.said.bytes.as_slice() == line;
         well &= text.starts_with(self.sink.bytes.as_slice());

@@ -6,10 +6,10 @@ use std::io;
 use std::io::Write;
 use std::test::Fail;
 use widestring_testing::{SlowSink, SlowSource};
-use widetext_base::{REFUSED, SUCCESS, WRONG_USAGE, finish};
+use widetext_base::{FAILED, SUCCESS, WRONG_USAGE, finish};
 
 // A failing run: its arguments, its input, how much of its output is taken, its status and its message.
-struct Refused {
+struct FailedRun {
     words: &'static [&'static str],
     input: &'static [u8],
     space: Option<usize>,
@@ -17,36 +17,36 @@ struct Refused {
     said: &'static [u8],
 }
 
-static REFUSED_RUNS: [Refused; 5] = [
-    Refused {
+static FAILED_RUNS: [FailedRun; 5] = [
+    FailedRun {
         words: &["utf8"],
         input: b"a\x00\x00\xd8",
         space: None,
         status: 1,
         said: b"unpaired UTF-16 surrogate d800 at index 1 (item 1)\n",
     },
-    Refused {
+    FailedRun {
         words: &["utf8"],
         input: b"a\x00",
         space: Some(0),
         status: 1,
         said: b"write fault\n",
     },
-    Refused {
+    FailedRun {
         words: &["ends", "D83D,DE00", "BF"],
         input: b"",
         space: Some(0),
         status: 1,
         said: b"write fault\n",
     },
-    Refused {
+    FailedRun {
         words: &["edit", "a", "push=b"],
         input: b"",
         space: Some(0),
         status: 1,
         said: b"write fault\n",
     },
-    Refused {
+    FailedRun {
         words: &["edit", "a", "push=xy"],
         input: b"",
         space: None,
@@ -57,7 +57,7 @@ static REFUSED_RUNS: [Refused; 5] = [
 
 // Returns whether the message is written in one call if that takes all of it, and whether there is no second call if
 // the first one fails, with the same status and output.
-fn is_said_once(alloc: Global, program: Program, case: &Refused) -> Result<bool, AllocError> {
+fn is_said_once(alloc: Global, program: Program, case: &FailedRun) -> Result<bool, AllocError> {
     let sink = SlowSink::new(alloc, 4096, case.space, false);
     let source = SlowSource::new(case.input, 4096);
     let reported = run(alloc, program, case.words, source, sink, whole(alloc, 4096))?;
@@ -78,7 +78,7 @@ fn is_said_once(alloc: Global, program: Program, case: &Refused) -> Result<bool,
 fn first_wrong(
     alloc: Global,
     program: Program,
-    cases: &[Refused],
+    cases: &[FailedRun],
 ) -> Result<Option<usize>, AllocError> {
     for (number, case) in cases.iter().enumerate() {
         if !is_said_once(alloc, program, case)? {
@@ -91,11 +91,11 @@ fn first_wrong(
 #[test]
 fn faults_are_put_once(rt: HostRuntime) -> Result<(), Fail> {
     assert_eq!(rt;
-        first_wrong(rt.alloc(), Program::Whole, &REFUSED_RUNS)?,
+        first_wrong(rt.alloc(), Program::Whole, &FAILED_RUNS)?,
         None
     );
     assert_eq!(rt;
-        first_wrong(rt.alloc(), Program::Utf8Alone, &REFUSED_RUNS[..2])?,
+        first_wrong(rt.alloc(), Program::Utf8Alone, &FAILED_RUNS[..2])?,
         None
     );
     Ok(())
@@ -133,8 +133,8 @@ fn ends_with(alloc: Global, fails: bool, status: u8, last: u8, said: &[u8]) -> b
 fn last_flushes(rt: HostRuntime) -> Result<(), Fail> {
     let alloc = rt.alloc();
     let mut well = ends_with(alloc, false, SUCCESS, SUCCESS, b"");
-    well &= ends_with(alloc, true, SUCCESS, REFUSED, b"write fault\n");
-    well &= ends_with(alloc, true, REFUSED, REFUSED, b"");
+    well &= ends_with(alloc, true, SUCCESS, FAILED, b"write fault\n");
+    well &= ends_with(alloc, true, FAILED, FAILED, b"");
     well &= ends_with(alloc, true, WRONG_USAGE, WRONG_USAGE, b"");
     assert!(rt; well);
     Ok(())

@@ -55,18 +55,18 @@ fn escapes(rt: HostRuntime) {
 }
 
 // Returns whether `ends` fails with a sink that fails once it has this many bytes.
-fn ends_refused(alloc: Global, capacity: usize) -> Result<bool, AllocError> {
+fn ends_failed(alloc: Global, capacity: usize) -> Result<bool, AllocError> {
     let words = ["ends", "D83D,DE00", "BF"];
     let source = SlowSource::new(b"", 4096);
     let sink = SlowSink::new(alloc, 1, Some(capacity), false);
     let ran = run(alloc, Program::Whole, &words, source, sink, whole(alloc, 9))?;
-    Ok(ran.is_refused(b"write fault\n", b"U+1F600\nnone\n") & (ran.sink.bytes.len() == capacity))
+    Ok(ran.has_failed(b"write fault\n", b"U+1F600\nnone\n") & (ran.sink.bytes.len() == capacity))
 }
 
 // Returns the first number of bytes with which it does not fail.
-fn first_not_refused(alloc: Global) -> Option<usize> {
+fn first_not_failed(alloc: Global) -> Option<usize> {
     for capacity in 0..8 {
-        if ends_refused(alloc, capacity) != Ok(true) {
+        if ends_failed(alloc, capacity) != Ok(true) {
             return Some(capacity);
         }
     }
@@ -75,5 +75,5 @@ fn first_not_refused(alloc: Global) -> Option<usize> {
 
 #[test]
 fn ends_into_a_failing_sink(rt: HostRuntime) {
-    assert_eq!(rt; first_not_refused(rt.alloc()), None);
+    assert_eq!(rt; first_not_failed(rt.alloc()), None);
 }

@@ -7,7 +7,7 @@ use std::test::Fail;
 use widestring_testing::{SlowSink, SlowSource};
 
 // Returns whether all of the text is written, or memory ran out, with its message and no output.
-fn is_whole_or_refused(
+fn is_whole_or_failed(
     alloc: Global,
     program: Program,
     words: &[&str],
@@ -23,27 +23,27 @@ fn is_whole_or_refused(
 }
 
 #[test]
-fn refused_memory(rt: HostRuntime) -> Result<(), Fail> {
+fn failed_allocations(rt: HostRuntime) -> Result<(), Fail> {
     let input = b"\x3d\xd8\x00\xde";
     let text = b"\xf0\x9f\x98\x80";
-    let mut well = is_whole_or_refused(rt.alloc(), Program::Whole, &["utf8"], input, text)?;
-    well &= is_whole_or_refused(rt.alloc(), Program::Utf8Alone, &["utf8"], input, text)?;
+    let mut well = is_whole_or_failed(rt.alloc(), Program::Whole, &["utf8"], input, text)?;
+    well &= is_whole_or_failed(rt.alloc(), Program::Utf8Alone, &["utf8"], input, text)?;
     assert!(rt; well);
     Ok(())
 }
 
 #[test]
-fn refused_memory_of_ends(rt: HostRuntime) -> Result<(), Fail> {
+fn failed_allocations_of_ends(rt: HostRuntime) -> Result<(), Fail> {
     let words = ["ends", "D83D,DE00", "BF"];
     let lines = b"U+1F600\nnone\n";
-    assert!(rt; is_whole_or_refused(rt.alloc(), Program::Whole, &words, b"", lines)?);
+    assert!(rt; is_whole_or_failed(rt.alloc(), Program::Whole, &words, b"", lines)?);
     Ok(())
 }
 
 #[test]
-fn refused_memory_of_edits(rt: HostRuntime) -> Result<(), Fail> {
+fn failed_allocations_of_edits(rt: HostRuntime) -> Result<(), Fail> {
     let words = ["edit", "a", "push=b", "splitoff=0"];
     let lines = b"done\nchars ab\ntext \nutf16\nutf32\n";
-    assert!(rt; is_whole_or_refused(rt.alloc(), Program::Whole, &words, b"", lines)?);
+    assert!(rt; is_whole_or_failed(rt.alloc(), Program::Whole, &words, b"", lines)?);
     Ok(())
 }

@@ -217,7 +217,7 @@ fn ends_at_source(
         whole(alloc, 1),
         whole(alloc, 9),
     )?;
-    Ok(ran.is_refused(b"read fault\n", text) & (ran.source.calls == fails_at))
+    Ok(ran.has_failed(b"read fault\n", text) & (ran.source.calls == fails_at))
 }
 
 // Returns whether the run ends at each failing call of the source. There is one call for each byte and one that reports
@@ -244,7 +244,7 @@ fn ends_at_sink(
     let sink = SlowSink::new(alloc, 1, Some(written), takes_none);
     let source = SlowSource::new(input, 4096);
     let ran = run(alloc, program, words, source, sink, whole(alloc, 9))?;
-    let mut well = ran.is_refused(b"write fault\n", text);
+    let mut well = ran.has_failed(b"write fault\n", text);
     well &= ran.sink.bytes.len() == written;
     well &= ran.sink.calls == written.saturating_add(1);
     Ok(well)

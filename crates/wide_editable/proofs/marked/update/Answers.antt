@@ -10,7 +10,7 @@ use Rattle.wide_editable.proofs.marked.update.Goals as goal
 
 pub returns-in-Some-clause-steps : goal.returns-in-Some-clause-steps
 returns-in-Some-clause-steps c =
-    let before = offsets-grow Utf16 (chars Utf16 (units_seen c.args.text)) (64 * c.args.kept) c.args.range.from (omega (arith, c.requires.kept)) in
+    let before = offsets-grow Utf16 (chars Utf16 (units_seen c.args.text)) (64 * c.args.unchanged) c.args.range.from (omega (arith, c.requires.unchanged)) in
     omega (arith, c.count_if_few.ensures.steps, c.shift.ensures.steps, before, c.requires.edited.starts)
 
 pub returns-in-Some-clause-read : goal.returns-in-Some-clause-read

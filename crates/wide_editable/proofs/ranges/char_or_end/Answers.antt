@@ -6,7 +6,7 @@ use Rattle.wide_offset_index.specs.Marks.{offset}
 use Rattle.wide_offset_index.proofs.Marking.{well-formed}
 use Rattle.wide_offset_index.proofs.Neighbors.{apart}
 use Rattle.wide_offset_index.proofs.Offsets.{found_some}
-use Rattle.wide_offset_index.proofs.Parts.{stated}
+use Rattle.wide_offset_index.proofs.Substrings.{stated}
 use Rattle.wide_editable.proofs.ranges.char_or_end.Goals as goal
 
 pub returns-in-Some-clause-found : goal.returns-in-Some-clause-found

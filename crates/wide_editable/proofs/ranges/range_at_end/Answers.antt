@@ -5,7 +5,7 @@ use Rattle.wide_forms.specs.Items.{chars}
 use Rattle.wide_offset_index.specs.Marks.{offset}
 use Rattle.wide_offset_index.proofs.Lengths.{size}
 use Rattle.wide_offset_index.proofs.Marking.{well-formed, whole-size}
-use Rattle.wide_offset_index.proofs.Parts.{stated}
+use Rattle.wide_offset_index.proofs.Substrings.{stated}
 use Rattle.wide_editable.proofs.ranges.range_at_end.Goals as goal
 
 pub returns-clause-found : goal.returns-clause-found

@@ -1,5 +1,5 @@
 use Rattle.std.proofs.Common.{arith}
-use Rattle.wide_iter.proofs.Rows.{passed_first}
+use Rattle.wide_iter.proofs.FaultRuns.{passed_first}
 use Rattle.wide_iter.proofs.lossy_with.first_character.Goals as goal
 
 pub loop-item-preserved-in_default-item : goal.loop-item-preserved-in_default-item

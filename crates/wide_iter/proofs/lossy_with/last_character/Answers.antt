@@ -1,6 +1,6 @@
 use Rattle.std.proofs.Common.{arith}
 use Rattle.std.proofs.lemmas.Grind.{common_steps}
-use Rattle.wide_iter.proofs.Rows.{passed_last}
+use Rattle.wide_iter.proofs.FaultRuns.{passed_last}
 use Rattle.wide_iter.proofs.lossy_with.last_character.Goals as goal
 
 pub loop-item-preserved-in_default-item : goal.loop-item-preserved-in_default-item

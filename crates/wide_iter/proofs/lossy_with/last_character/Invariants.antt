@@ -2,7 +2,7 @@ use Rattle.std.specs.Prelude.{◌≤◌}
 use Rattle.std.specs.Iterator.{size}
 use Rattle.wide_iter.specs.Source.{source_count}
 use Rattle.wide_iter.specs.LossyWith.{CanAskAll}
-use Rattle.wide_iter.proofs.Rows.{PassedLast}
+use Rattle.wide_iter.proofs.FaultRuns.{PassedLast}
 use Rattle.wide_iter.proofs.lossy_with.last_character.Given as goal
 
 abbrev pub invariant-loop-item : goal.invariant-loop-item

@@ -27,7 +27,7 @@ loop-number-preserved c =
     let new = c.next_entry-entry.ensures in
     let below : n < length xs = omega (arith, c.loop-number-test.true, i.long) in
     let after : 1 + n ≡ n + 1 = omega arith in
-    let kept = c.args.range.from / 64 in
+    let unchanged = c.args.range.from / 64 in
     let next = apart cs (64 * n) (64 * (n + 1)) (omega arith) (omega (arith, below, i.long, c.requires.new, c.requires.total)) in
     record {
       long = omega (arith, i.long, length-set {A = ℕ});
@@ -35,16 +35,16 @@ loop-number-preserved c =
       same = λ k le. get_or-set_other xs n k c.next_entry-entry.result 0 (omega (arith, le)) ∙ i.same k (omega (arith, le));
       grows = omega (arith, i.grows, c.tick.ensures, new.grows);
       none = λ here. absurd (omega (arith, here, c.loop-number.auto.number));
-      least = λ _. elim (cases_lt kept n) [
+      least = λ _. elim (cases_lt unchanged n) [
         | inl later ↦ omega (arith, i.least later, c.tick.ensures, new.grows)
         | inr first ↦ (
-            let same : n ≡ kept = omega (arith, first, c.loop-number.auto.number) in
+            let same : n ≡ unchanged = omega (arith, first, c.loop-number.auto.number) in
             omega (arith, i.none same, c.tick.ensures, new.first same, new.entry, ap (λ k. mark cs (k + 1)) same, same))
       ];
-      steps = elim (cases_lt kept n) [
+      steps = elim (cases_lt unchanged n) [
         | inl later ↦ omega (arith, i.steps, c.tick.ensures, new.later later, next.least, offsets-grow Utf16 cs c.args.range.from (64 * n) (omega (arith, later)), c.requires.edited.starts)
         | inr first ↦ (
-            let same : n ≡ kept = omega (arith, first, c.loop-number.auto.number) in
+            let same : n ≡ unchanged = omega (arith, first, c.loop-number.auto.number) in
             omega (arith, i.steps, c.tick.ensures, new.first same, new.entry, same, offsets-grow Utf16 cs (64 * n) c.args.range.from (omega (arith, same)), offsets-grow Utf16 cs c.args.range.from (64 * (n + 1)) (omega (arith, same)), c.requires.edited.starts))
       ];
     }

@@ -34,9 +34,9 @@ returns-clause-steps c =
     let same : m ≡ length c.as_mut_slice.result.now = grind (arith, common_steps) in
     let whole = whole-size us (well-formed us c.args.text.well_formed) in
     let from = c.args.range.from in
-    let kept : from / 64 ≤ length c.as_mut_slice.result.now = grind (arith, common_steps, c.requires.edited.forward, c.requires.edited.within, c.requires.edited.fits) in
+    let unchanged : from / 64 ≤ length c.as_mut_slice.result.now = grind (arith, common_steps, c.requires.edited.forward, c.requires.edited.within, c.requires.edited.fits) in
     elim (cases_lt m (c.args.total / 64)) [
-      | inl below ↦ omega (arith, c.move_entries.ensures.steps, ap (mark cs) same, c.requires.edited.starts, c.push_last.ensures.missing below, whole, size-take Utf16 cs (64 * (m + 1)), offsets-grow Utf16 cs (64 * m) (64 * (m + 1)) (omega arith), offsets-grow Utf16 cs from (64 * (m + 1)) (omega (arith, same, kept)))
+      | inl below ↦ omega (arith, c.move_entries.ensures.steps, ap (mark cs) same, c.requires.edited.starts, c.push_last.ensures.missing below, whole, size-take Utf16 cs (64 * (m + 1)), offsets-grow Utf16 cs (64 * m) (64 * (m + 1)) (omega arith), offsets-grow Utf16 cs from (64 * (m + 1)) (omega (arith, same, unchanged)))
       | inr past ↦ omega (arith, c.move_entries.ensures.steps, ap (mark cs) same, c.requires.edited.starts, c.push_last.ensures.whole past, whole, size-take Utf16 cs (64 * m), size-take Utf16 cs from, c.requires.edited.starts)
     ]
 

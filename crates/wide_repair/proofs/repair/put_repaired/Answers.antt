@@ -2,7 +2,7 @@ use Rattle.std.proofs.Common.{◌≡◌, ℕ, ◌+◌, ◌-◌, ◌<◌, ◌∷�
 use Rattle.std.proofs.lemmas.List.{get_or-append_right}
 use Rattle.wide_forms.proofs.Stored.{stored-block}
 use Rattle.wide_repair.specs.Repaired.{repaired_unit}
-use Rattle.wide_repair.proofs.Mendings.{unit_after_first}
+use Rattle.wide_repair.proofs.Repairs.{unit_after_first}
 use Rattle.wide_repair.proofs.repair.put_repaired.Goals as goal
 
 pub returns-clause-each : goal.returns-clause-each

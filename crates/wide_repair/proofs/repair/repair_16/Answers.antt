@@ -1,5 +1,5 @@
 use Rattle.std.proofs.Common.{◌≡◌, ◌∙◌, length, length-take, arith}
-use Rattle.wide_repair.proofs.Mendings.{repaired-lossy, prefix_is}
+use Rattle.wide_repair.proofs.Repairs.{repaired-lossy, prefix_is}
 use Rattle.wide_repair.proofs.repair.repair_16.Goals as goal
 
 pub returns-clause-units : goal.returns-clause-units

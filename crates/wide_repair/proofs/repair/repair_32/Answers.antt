@@ -1,5 +1,5 @@
 use Rattle.std.proofs.Common.{◌≡◌, ◌∙◌, length, length-take, arith}
-use Rattle.wide_repair.proofs.Mendings.{repaired32-lossy, prefix_is}
+use Rattle.wide_repair.proofs.Repairs.{repaired32-lossy, prefix_is}
 use Rattle.wide_repair.proofs.repair.repair_32.Goals as goal
 
 pub returns-clause-units : goal.returns-clause-units

@@ -30,8 +30,8 @@ nonzero_rem-last c = Each2-splat _ _ 8 0x40 (Each1-all _ (λ a. omega arith) _)
 pub nonzero_div-is_low : goal.nonzero_div-is_low
 nonzero_div-is_low c = Each2-splat _ _ 8 0x400 (Each1-all _ (λ a. omega arith) _)
 
-pub nonzero_div-is_half : goal.nonzero_div-is_half
-nonzero_div-is_half c = Each2-splat _ _ 8 0x800 (Each1-all _ (λ a. omega arith) _)
+pub nonzero_div-is_surrogate : goal.nonzero_div-is_surrogate
+nonzero_div-is_surrogate c = Each2-splat _ _ 8 0x800 (Each1-all _ (λ a. omega arith) _)
 
 pub returns : goal.returns
 returns c = half-leads-are c.args.befores c.args.units c.lead_lanes.result c.fits-befores.0 c.fits-units.0 (omega arith) c.lead_lanes.ensures

@@ -1,6 +1,6 @@
 use Rattle.std.proofs.Common.{◌*◌, ◌/◌, [], length, take, drop, arith, length-drop}
 use Rattle.wide_bytes.specs.Bytes.{units_in}
-use Rattle.widestring_c.proofs.Pieces.{cut-before_half, cut-before_none}
+use Rattle.widestring_c.proofs.ChunkUnits.{cut-before_half, cut-before_none}
 use Rattle.widestring_c.proofs.byte_chunks.chunk_len.Goals as goal
 
 pub returns-then-bytes-clause-cut : goal.returns-then-bytes-clause-cut

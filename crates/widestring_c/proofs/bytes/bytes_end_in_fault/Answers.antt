@@ -3,7 +3,7 @@ use Rattle.wide_forms.specs.EncodingForm.{Utf16}
 use Rattle.wide_forms.specs.Laws.Items.{IsCut}
 use Rattle.wide_bytes.specs.Bytes.{units_in}
 use Rattle.wide_transcode.specs.Lossied.{units_end_in_fault}
-use Rattle.widestring_c.proofs.Pieces.{cut-before_none, ends-beyond, none-last}
+use Rattle.widestring_c.proofs.ChunkUnits.{cut-before_none, ends-beyond, none-last}
 use Rattle.widestring_c.proofs.bytes.bytes_end_in_fault.Goals as goal
 
 pub returns-then-bytes-lt2 : goal.returns-then-bytes-lt2

@@ -3,7 +3,7 @@ use Rattle.std.proofs.lemmas.List.{map-id}
 use Rattle.wide_bytes.specs.Bytes.{units_in}
 use Rattle.wide_transcode.specs.Lossied.{units_end_in_fault, lossy_text}
 use Rattle.widestring_c.proofs.Buffers.{Writing, after_more, counted_prefix, one_more, written_all}
-use Rattle.widestring_c.proofs.Pieces.{no_text-left, text-parted}
+use Rattle.widestring_c.proofs.ChunkUnits.{no_text-left, text-parted}
 use Rattle.widestring_c.proofs.bytes.put_bytes_by.Goals as goal
 
 pub chunks-preserved : goal.chunks-preserved

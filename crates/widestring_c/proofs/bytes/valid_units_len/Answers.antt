@@ -5,7 +5,7 @@ use Rattle.wide_forms.specs.Items.{IsFirstFault, IsWellFormed}
 use Rattle.wide_unit.proofs.Faults.{first_fault-below, first_fault-not_well_formed}
 use Rattle.wide_bytes.specs.Bytes.{units_in}
 use Rattle.wide_bytes.proofs.Pairs.{length-units_in}
-use Rattle.widestring_c.proofs.Pieces.{Passed, all-passed, fault-beyond, items-parted, more-passed, none-passed}
+use Rattle.widestring_c.proofs.ChunkUnits.{Passed, all-passed, fault-beyond, items-parted, more-passed, none-passed}
 use Rattle.widestring_c.proofs.bytes.valid_units_len.Goals as goal
 
 pub chunks-init : goal.chunks-init

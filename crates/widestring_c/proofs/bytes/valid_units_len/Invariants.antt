@@ -1,6 +1,6 @@
 use Rattle.std.proofs.Common.{◌≡◌, ◌+◌, ◌/◌, length}
 use Rattle.wide_bytes.specs.Bytes.{units_in}
-use Rattle.widestring_c.proofs.Pieces.{Passed}
+use Rattle.widestring_c.proofs.ChunkUnits.{Passed}
 use Rattle.widestring_c.proofs.bytes.valid_units_len.Given as goal
 
 abbrev pub invariant-chunks : goal.invariant-chunks

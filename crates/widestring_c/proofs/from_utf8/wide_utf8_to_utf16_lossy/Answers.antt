@@ -1,6 +1,6 @@
 use Rattle.std.proofs.Common.{◌∙◌, ap, arith, length}
 use Rattle.wide_forms.specs.EncodingForm.{Utf16, encode}
-use Rattle.wide_conversions.proofs.PartTexts.{lossy-utf8}
+use Rattle.wide_conversions.proofs.PrefixTexts.{lossy-utf8}
 use Rattle.widestring_c.proofs.from_utf8.wide_utf8_to_utf16_lossy.Goals as goal
 
 pub returns-clause-len : goal.returns-clause-len

@@ -1,5 +1,5 @@
 use Rattle.std.proofs.Common.{◌∙◌, ap, arith, length}
-use Rattle.wide_conversions.proofs.PartTexts.{lossy-utf8}
+use Rattle.wide_conversions.proofs.PrefixTexts.{lossy-utf8}
 use Rattle.widestring_c.proofs.from_utf8.wide_utf8_to_utf32_lossy.Goals as goal
 
 pub returns-clause-len : goal.returns-clause-len

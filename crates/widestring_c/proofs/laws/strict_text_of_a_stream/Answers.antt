@@ -1,4 +1,4 @@
-use Rattle.widestring_c.proofs.Pieces.{strict-joined, well_formed-joined, well_formed-parted}
+use Rattle.widestring_c.proofs.ChunkUnits.{strict-joined, well_formed-joined, well_formed-parted}
 use Rattle.widestring_c.proofs.laws.strict_text_of_a_stream.Goals as goal
 
 pub returns-clause-well_formed : goal.returns-clause-well_formed

@@ -1,4 +1,4 @@
-use Rattle.widestring_c.proofs.Pieces.{last-joined, text-joined}
+use Rattle.widestring_c.proofs.ChunkUnits.{last-joined, text-joined}
 use Rattle.widestring_c.proofs.laws.text_of_a_stream.Goals as goal
 
 pub returns-clause-text : goal.returns-clause-text

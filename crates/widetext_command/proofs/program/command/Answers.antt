@@ -23,5 +23,5 @@ returns-in-Some-clause-ends_begun g c = λ asks failed. absurd (ends_no_utf8 _ a
 pub returns-in-Some-clause-edit_begun : goal.returns-in-Some-clause-edit_begun
 returns-in-Some-clause-edit_begun g c = λ asks failed. absurd (edits_no_utf8 _ asks c.in-Some.policy (c.parse_utf8.ensures.utf8_alone c.in-Some.policy (search rules)))
 
-pub returns-in-Some-clause-refusal : goal.returns-in-Some-clause-refusal
-returns-in-Some-clause-refusal g c = λ other one. absurd (other c.in-Some.policy (c.parse_utf8.ensures.utf8_alone c.in-Some.policy (search rules)))
+pub returns-in-Some-clause-failure : goal.returns-in-Some-clause-failure
+returns-in-Some-clause-failure g c = λ other one. absurd (other c.in-Some.policy (c.parse_utf8.ensures.utf8_alone c.in-Some.policy (search rules)))

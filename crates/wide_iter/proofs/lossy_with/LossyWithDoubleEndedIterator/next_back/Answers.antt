@@ -1,6 +1,6 @@
 use Rattle.std.proofs.Common.{[], ap, sym, ◌∙◌}
 use Rattle.std.specs.Prelude.{is_some}
-use Rattle.wide_iter.proofs.Rows.{item_last, char_last, each_last, run_last, skip_last, skip_to_front}
+use Rattle.wide_iter.proofs.FaultRuns.{item_last, char_last, each_last, run_last, skip_last, skip_to_front}
 use Rattle.wide_iter.proofs.lossy_with.LossyWithDoubleEndedIterator.next_back.Goals as goal
 use Rattle.wide_iter.proofs.lossy_with.LossyWithDoubleEndedIterator.next_back.Goals.{then-is_none, else-is_none}
 

@@ -1,6 +1,6 @@
 use Rattle.std.proofs.Common.{[], ap, sym, ◌∙◌}
 use Rattle.std.specs.Prelude.{is_some}
-use Rattle.wide_iter.proofs.Rows.{item_first, each_first, run_first, skip_first, skip_to_end}
+use Rattle.wide_iter.proofs.FaultRuns.{item_first, each_first, run_first, skip_first, skip_to_end}
 use Rattle.wide_iter.proofs.lossy_with.LossyWithIterator.next.Goals as goal
 use Rattle.wide_iter.proofs.lossy_with.LossyWithIterator.next.Goals.{then-is_none, else-is_none}
 
