@@ -25,7 +25,7 @@ module _ (l : List ℕ) (edits : List Edit) (edit : Edit) (mid new : List ℕ) (
 
   after-parts : after ≡ before ++ (more ++ reply ∷ [])
   after-parts =
-      stepped.replied.1 ∙ ap (λ rs. rs ++ reply ∷ []) (sym (take-append-drop (length before) between) ∙ ap (λ rs. rs ++ more) run.unchanged)
+      stepped.replied.1 ∙ ap (λ rs. rs ++ reply ∷ []) (sym (take-append-drop (length before) between) ∙ ap (λ rs. rs ++ more) run.kept)
       ∙ append_assoc before more (reply ∷ [])
 
   answers-more : map answer_of (more ++ reply ∷ []) ≡ (meaning l (edits ++ edit ∷ [])).1
@@ -36,7 +36,7 @@ module _ (l : List ℕ) (edits : List Edit) (edit : Edit) (mid new : List ℕ) (
   run_more : HasRun l (edits ++ edit ∷ []) new before after
   run_more = record {
     text = stepped.text ∙ ap (λ t. (step t edit).0) run.text ∙ sym (text_last l edits edit);
-    unchanged = ap (take (length before)) after-parts ∙ take-append_seam before (more ++ reply ∷ []);
+    kept = ap (take (length before)) after-parts ∙ take-append_seam before (more ++ reply ∷ []);
     answers = ap (λ rs. map answer_of (drop (length before) rs)) after-parts ∙ ap (map answer_of) (drop-append_seam before (more ++ reply ∷ [])) ∙ answers-more;
   }
 

@@ -4,7 +4,7 @@ use Rattle.wide_offset_index.specs.contracts.counting.Steps.{the_row}
 use Rattle.wide_offset_index.proofs.counting.Steps.new.Statement.{statement}
 use Rattle.wide_offset_index.proofs.counting.Steps.new.Code as code
 
-abbrev stayed : Stays f.ended.signature.params f.ended.unchanged
+abbrev stayed : Stays f.ended.signature.params f.ended.kept
 stayed = tt
 
 pub new_spec : {M : Type 1} → statement M

@@ -5,7 +5,7 @@ use Rattle.wide_offset_index.specs.declared.counting.Steps.{Steps}
 use Rattle.wide_offset_index.proofs.counting.Steps.with.Statement.{statement}
 use Rattle.wide_offset_index.proofs.counting.Steps.with.Code as code
 
-abbrev stayed : Stays f.ended.signature.params f.ended.unchanged
+abbrev stayed : Stays f.ended.signature.params f.ended.kept
 stayed = (stay_none_ref (0 ∷ []) tt (plain (λ _. the_row)) yes, (stay_none_ref (1 ∷ []) tt (plain (λ _. usize)) yes, tt))
 
 pub with_spec : {M : Type 1} → statement M
