@@ -1,0 +1,111 @@
+// The search of the pages: it finds names, first sentences and tasks in SEARCH_INDEX, a list of
+// [name, kind, address, summary, further words].
+"use strict";
+
+const MOST = 40;
+const FILLERS = new Set("a an and any are be by can do for has have how i if in is it its of on one or that the to what which with".split(" "));
+const box = document.getElementById("search");
+const list = document.getElementById("results");
+const root = document.body.dataset.root;
+
+const entries = SEARCH_INDEX.map(([name, kind, address, summary, more]) => ({
+    name, kind, address, summary,
+    last: name.toLowerCase().split("::").pop(),
+    names: `${name} ${more}`.toLowerCase(),
+    all: `${name} ${more} ${kind} ${summary}`.toLowerCase(),
+}));
+
+function wordsOf(query) {
+    const words = query.toLowerCase().split(/[\s:,]+/).map((word) => word.replace(/\(.*$/, "")).filter(Boolean);
+    const telling = words.filter((word) => !FILLERS.has(word));
+    return telling.length ? telling : words;
+}
+
+// The word in the singular and without the ending of a verb, so that "converting" finds "convert".
+function stem(word) {
+    return word.length > 5 ? word.replace(/(?:ing|ed|es|s)$/, "") : word;
+}
+
+// A small number for a good match: an exact name, then names, then tasks, then sentences.
+function rank(entry, words) {
+    if (words.includes(entry.last)) return words.length > 1 && words.every((word) => entry.names.includes(word)) ? 0 : 1;
+    if (words.every((word) => entry.names.includes(word))) return entry.last.startsWith(words[words.length - 1]) ? 2 : 3;
+    if (entry.kind === "task" || entry.kind === "not available") return 4;
+    return entry.kind === "difference" ? 5 : 6;
+}
+
+// The entries that have the most of the words, the best first.
+function found(query) {
+    const words = wordsOf(query);
+    const counted = entries.map((entry) => [words.filter((word) => entry.all.includes(stem(word))).length, entry]);
+    const most = Math.max(...counted.map(([count]) => count));
+    if (!words.length || most === 0 || most < words.length / 2) return [];
+    return counted.filter(([count]) => count === most).map(([, entry]) => [rank(entry, words), entry])
+        .sort(([a, one], [b, other]) => a - b || one.name.length - other.name.length || (one.name < other.name ? -1 : 1))
+        .slice(0, MOST).map(([, entry]) => entry);
+}
+
+function part(kind, text) {
+    const made = document.createElement("span");
+    made.className = kind;
+    made.textContent = text;
+    return made;
+}
+
+function row(entry) {
+    const item = document.createElement("li");
+    const link = document.createElement("a");
+    link.href = root + entry.address;
+    link.append(part("name", entry.name), part("kind", entry.kind), part("summary", entry.summary));
+    item.append(link);
+    return item;
+}
+
+function show() {
+    const query = box.value.trim();
+    const rows = found(query).map(row);
+    list.hidden = !query;
+    list.replaceChildren(...(rows.length ? rows : [part("none", "Nothing was found.")]));
+}
+
+// Moves between the box and the results by the arrow keys.
+function move(event) {
+    const stops = [box, ...list.querySelectorAll("a")];
+    const at = stops.indexOf(document.activeElement);
+    const step = { ArrowDown: 1, ArrowUp: -1 }[event.key];
+    if (event.key === "Escape") {
+        list.hidden = true;
+    } else if (event.key === "Enter" && document.activeElement === box && stops.length > 1) {
+        stops[1].click();
+    } else if (step && at >= 0 && !list.hidden) {
+        event.preventDefault();
+        stops[Math.min(Math.max(at + step, 0), stops.length - 1)].focus();
+    }
+}
+
+box.addEventListener("input", show);
+box.addEventListener("focus", show);
+document.addEventListener("keydown", (event) => {
+    if (event.key === "/" && document.activeElement !== box) {
+        event.preventDefault();
+        box.focus();
+    } else {
+        move(event);
+    }
+});
+document.addEventListener("click", (event) => {
+    if (!event.target.closest("header") || event.target.closest("#results a")) list.hidden = true;
+});
+
+// The list of modules is open where there is space for it beside the page.
+document.querySelector(".menu").open = matchMedia("(min-width: 60rem)").matches;
+
+// One button opens or closes all contracts of a page.
+const folds = [...document.querySelectorAll("main details")];
+const button = document.getElementById("contracts");
+button.hidden = !folds.length;
+button.addEventListener("click", () => {
+    const opens = folds.some((fold) => !fold.open);
+    folds.forEach((fold) => { fold.open = opens; });
+    button.textContent = opens ? "Close contracts" : "Open contracts";
+});
