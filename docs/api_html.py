@@ -28,17 +28,17 @@ PAGE = """<!doctype html>
 <header>
 <a class="home" href="{root}index.html">widestring</a>
 <input id="search" type="search" placeholder="Search names and tasks" aria-label="Search" autocomplete="off">
-<button id="contracts" type="button" hidden>Open contracts</button>
 <ol id="results" hidden></ol>
 </header>
 <div class="columns">
 <details class="menu">
-<summary>Modules</summary>
+<summary>Pages</summary>
 <nav>
 {menu}
 </nav>
 </details>
 <main>
+<button id="contracts" type="button" hidden>Open contracts</button>
 {body}
 </main>
 </div>
@@ -129,7 +129,8 @@ def entries(site, texts):
     for module in sources.order_of_modules():
         for alias, name in api_items.aliases(module).items():
             names.setdefault((module, name), []).append(alias)
-    found = [*rows("CALLING.md", texts["CALLING.md"], ["task", "not available"]), *rows(DIFFERENCES, texts[DIFFERENCES], ["difference"])]
+    found = [*rows("CALLING.md", texts["CALLING.md"], ["task", "not available"])]
+    found += rows(DIFFERENCES, texts[DIFFERENCES], ["difference"])
     for it in site.places:
         name = it.section.name.replace(".", "::") if it.section.kind == "definition" else it.section.name
         kind = f"{it.section.kind} of {it.module}" if it.module else it.section.kind

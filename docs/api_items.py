@@ -53,8 +53,9 @@ def first_sentence(doc):
 
 
 def markdown_of(doc):
-    """Returns a doc comment as it stands, its headings as words in bold."""
-    return "\n".join(re.sub(r"^#+ (.*)", r"**\1**", line) for line in doc)
+    """Returns a doc comment as it stands, its headings as words in bold, and its examples as Rust."""
+    text = "\n".join(re.sub(r"^#+ (.*)", r"**\1**", line) for line in doc)
+    return re.sub(r"^```\n(.*?)^```$", r"```rust\n\1```", text, flags=re.M | re.S)
 
 
 def code(lines, language="text"):
@@ -123,8 +124,8 @@ def signature_lines(head):
 
 def paths_of(crate, file, name):
     """Returns the paths by which a public item can be imported, that of its module first."""
-    origin = sources.Origin(crate, file, name)
-    paths = [(path, public) for path, items in sources.modules().items() for public, it in items.items() if it == origin]
+    named = ((path, public, it) for path, items in sources.modules().items() for public, it in items.items())
+    paths = [(path, public) for path, public, it in named if it == sources.Origin(crate, file, name)]
     home = sources.homes().get(crate, "")
     paths.sort(key=lambda it: (it[1] != name, it[0].partition("::")[0] != home, it))
     return ["::".join(part for part in ("widestring", *it) if part) for it in paths]
@@ -145,12 +146,16 @@ class Located(typing.NamedTuple):
     entry: sources.Entry
 
 
+def is_trait(head):
+    return head.startswith(("trait ", "unsafe trait "))
+
+
 def own_names(module):
     """Returns the types and traits that a module declares."""
     found = set()
     for crate, file in sources.files(module):
         for it in sources.entries(crate, file):
-            if it.kind == "type" or it.kind == "owner" and it.head.startswith(("trait ", "unsafe trait ")):
+            if it.kind == "type" or it.kind == "owner" and is_trait(it.head):
                 found.add(type_of(it.head))
     return found
 
@@ -229,7 +234,7 @@ def calls_elsewhere():
     found = {}
     for module in sources.order_of_modules():
         for group in groups_of(module):
-            calls = [it for it in group.entries if it.entry.kind == "call" and it.owner.startswith("trait ")]
+            calls = [it for it in group.entries if it.entry.kind == "call" and is_trait(it.owner)]
             for it in group.entries if calls else ():
                 name = type_of(it.owner)
                 if it.entry.kind == "owner" and " for " in it.owner and types.get(name, module) != module:
@@ -244,7 +249,8 @@ def elsewhere(module, name):
     for (other, trait), calls in calls_elsewhere().get((module, name), {}).items():
         named = ", ".join(f"[`{call}`]({other}::{trait}::{call})" for call in dict.fromkeys(calls))
         listed.append(f"- [`{other}::{trait}`]({other}::{trait}): {named}")
-    return "\n".join(["Traits of other modules give it these calls. A caller imports the trait:", "", *listed]) if listed else ""
+    first = ["Traits of other modules give it these calls. A caller imports the trait:", ""]
+    return "\n".join([*first, *listed]) if listed else ""
 
 
 def declared(entry):
@@ -261,7 +267,8 @@ def declared(entry):
 
 def field_list(members):
     """Returns the fields of a type or a variant as a list."""
-    return "\n".join(f"- `{it.text.removeprefix('pub ')}`" + (f": {' '.join(it.doc)}" if it.doc else "") for it in members)
+    lines = ((it.text.removeprefix("pub "), " ".join(it.doc)) for it in members)
+    return "\n".join(f"- `{text}`" + (f": {doc}" if doc else "") for text, doc in lines)
 
 
 def type_sections(group, located, level):
@@ -323,7 +330,7 @@ def impls_section(group, level):
             impls[-1].append(it.entry)
     if not impls:
         return
-    is_type = not any(it.owner.startswith("trait ") for it in group.entries)
+    is_type = not any(is_trait(it.owner) for it in group.entries)
     title = f"Traits that `{group.name}` implements" if is_type else f"Types that implement `{group.name}`"
     words = {word: origin for impl in impls for it in impl for word, origin in it.words.items()}
     stated = [impl_lines(impl) for impl in impls if len(impl) > 1 or impl[0].doc]
@@ -344,8 +351,8 @@ def sections_of(group, level):
 def parts_of(group, level):
     """Yields the sections of a group: the type or the trait, its other names, its calls, and the impls of traits."""
     if group.name in ("", LAWS):
-        yield Section(level, group.title, "", "", "", "")
-    heads = [it for it in group.entries if it.entry.kind == "type" or it.entry.kind == "owner" and "trait " in it.owner[:13]]
+        yield Section(level, group.title, group.name, "", "", "")
+    heads = [it for it in group.entries if it.entry.kind == "type" or it.entry.kind == "owner" and is_trait(it.owner)]
     heads.sort(key=lambda it: type_of(it.entry.head) != group.name)
     for it in heads:
         own = type_of(it.entry.head) == group.name

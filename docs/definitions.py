@@ -96,7 +96,8 @@ def definition_files():
         names = list(dict.fromkeys(name for it in own for name in (it.name, *it.parts)))
         lost = {it for _, it in NAME.findall(text)} - set(names)
         if lost:
-            sys.exit(f"docs/definitions.py: {crate}/specs/{file}.antt: {', '.join(sorted(lost))} belong to no definition")
+            listed = ", ".join(sorted(lost))
+            sys.exit(f"docs/definitions.py: {listed} of {crate}/specs/{file}.antt are in no definition")
         comment = " ".join(line[3:] for line in lines[:first])
         found.append(DefinitionFile(name or file, crate, file, comment, names, own))
     return found

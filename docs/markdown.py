@@ -8,6 +8,8 @@ HEADING = re.compile(r"^(#{1,6}) +(.*?) *#*$")
 LINK = re.compile(r"(?<!!)\[((?:[^\[\]]|\[[^\[\]]*\])*)\]\(([^()\s]*(?:\([^()\s]*\))?[^()\s]*)\)")
 CODE = re.compile(r"(`+)(.+?)\1")
 ITEM = re.compile(r"^( *)([-*]|\d+\.) +")
+# A line with which a paragraph cannot go on.
+OTHER = re.compile(r" *(?:```|~~~|[-*] |\d+\. )|[|<#]")
 
 
 class Heading(typing.NamedTuple):
@@ -142,13 +144,14 @@ class Converter:
         if ITEM.match(lines[at]):
             end = first(lines, at, lambda line: line.strip() and not line.startswith(" ") and not ITEM.match(line))
             return end, self.list(lines[at:end])
-        end = first(lines, at + 1, lambda line: not line.strip() or FENCE.match(line) or ITEM.match(line) or line.startswith(("|", "<", "#")))
+        end = first(lines, at + 1, lambda line: not line.strip() or OTHER.match(line))
         return end, f"<p>{self.inline(' '.join(line.strip() for line in lines[at:end]))}</p>"
 
     def heading(self, found):
         level, anchor = len(found[1]), self.anchors.add(found[2])
         mark = f'<a class="mark" href="#{anchor}" aria-label="Link to this section">#</a>'
-        return f'<h{level} id="{anchor}">{self.inline(found[2])}{mark}</h{level}>'
+        shown = self.inline(found[2]).replace("::", "::<wbr>")
+        return f'<h{level} id="{anchor}">{shown}{mark}</h{level}>'
 
     def list(self, lines):
         """Returns a list, whose items have blocks of their own."""
@@ -157,7 +160,8 @@ class Converter:
         items = []
         for start, end in zip(starts, [*starts[1:], len(lines)]):
             margin = len(ITEM.match(lines[start])[0])
-            inner = self.blocks([lines[start][margin:], *(line[margin:] if not line[:margin].strip() else line.lstrip() for line in lines[start + 1 : end])])
+            more = (line.lstrip() if line[:margin].strip() else line[margin:] for line in lines[start + 1 : end])
+            inner = self.blocks([lines[start][margin:], *more])
             if inner and inner[0].startswith("<p>"):
                 inner[0] = inner[0][3:-4]
             items.append(f"<li>{''.join(inner)}</li>")

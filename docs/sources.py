@@ -212,7 +212,8 @@ def declaration(lines, at):
             continue
         if line in ("{", "{}"):
             break
-        ends = line.endswith(";") or line.endswith("{}") or line.endswith("{") and not line.startswith(("requires", "ensures"))
+        is_clause = line.startswith(("requires", "ensures"))
+        ends = line.endswith((";", "{}")) or line.endswith("{") and not is_clause
         text = re.sub(r"(;| ?\{\}| ?\{)$", "", line) if ends else line
         if text.startswith(("requires", "ensures")):
             clauses.append(text.rstrip(","))
@@ -287,7 +288,8 @@ class Reader:
                 self.doc = []
                 self.at += 1
             elif line.strip().startswith("#["):
-                self.derives = re.sub(r"^#\[derive\((.*)\)\]$", r"\1", line) if line.startswith("#[derive(") else self.derives
+                derived = re.match(r"#\[derive\((.*)\)\]$", line)
+                self.derives = derived[1] if derived else self.derives
                 self.at += 1
             else:
                 self.read_item(line)
@@ -376,13 +378,14 @@ def type_of(header):
     bare = header
     while re.search(r"<[^<>]*>", bare):
         bare = re.sub(r"<[^<>]*>", "", bare)
-    found = re.match(r"(?:unsafe )?(?:impl|trait|struct|enum|type)\s*(?:.* for )?&?(?:'\w+ )?(?:mut )?((?:\w+::)*\w+)", bare)
+    kind = r"(?:unsafe )?(?:impl|trait|struct|enum|type)\s*(?:.* for )?"
+    found = re.match(kind + r"&?(?:'\w+ )?(?:mut )?((?:\w+::)*\w+)", bare)
     return found[1] if found else ""
 
 
 def hidden_in(path):
     """Returns the types and traits of a file that are not public."""
-    return set(re.findall(r"^(?:pub\(crate\) )?(?:struct|enum|trait|type) (\w+)", path.read_text(encoding="utf-8"), re.M))
+    return set(re.findall(r"^(?:pub\(crate\) )?(?:struct|enum|trait|type) (\w+)", text_of(path), re.M))
 
 
 def is_hidden(header, hidden):

@@ -3,7 +3,8 @@
 "use strict";
 
 const MOST = 40;
-const FILLERS = new Set("a an and any are be by can do for has have how i if in is it its of on one or that the to what which with".split(" "));
+const FEW = 5;
+const FILLERS = new Set("a an and any are be by can do for has have how i if in into is it its may of on one or that the to what which with".split(" "));
 const box = document.getElementById("search");
 const list = document.getElementById("results");
 const root = document.body.dataset.root;
@@ -16,33 +17,40 @@ const entries = SEARCH_INDEX.map(([name, kind, address, summary, more]) => ({
 }));
 
 function wordsOf(query) {
-    const words = query.toLowerCase().split(/[\s:,]+/).map((word) => word.replace(/\(.*$/, "")).filter(Boolean);
+    const words = query.toLowerCase().split(/[\s:,]+/).map((word) => word.replace(/[(!].*$/, "")).filter(Boolean);
     const telling = words.filter((word) => !FILLERS.has(word));
     return telling.length ? telling : words;
 }
 
-// The word in the singular and without the ending of a verb, so that "converting" finds "convert".
+// The word without the ending of a plural or a verb, so that "converting" finds "convert".
 function stem(word) {
     return word.length > 5 ? word.replace(/(?:ing|ed|es|s)$/, "") : word;
 }
 
-// A small number for a good match: an exact name, then names, then tasks, then sentences.
+// A small number for a good match: an exact name, then tasks, then names, then sentences. Definitions and laws are last.
 function rank(entry, words) {
-    if (words.includes(entry.last)) return words.length > 1 && words.every((word) => entry.names.includes(word)) ? 0 : 1;
-    if (words.every((word) => entry.names.includes(word))) return entry.last.startsWith(words[words.length - 1]) ? 2 : 3;
-    if (entry.kind === "task" || entry.kind === "not available") return 4;
-    return entry.kind === "difference" ? 5 : 6;
+    const later = entry.kind === "definition" || entry.kind.startsWith("law ") ? 5 : 0;
+    const isNamed = words.every((word) => entry.names.includes(word));
+    if (words.includes(entry.last)) return later + (isNamed ? 0 : 1);
+    if (entry.kind === "task" || entry.kind === "not available") return 2;
+    if (isNamed) return later + (entry.last.startsWith(words[words.length - 1]) ? 3 : 4);
+    return later + (entry.kind === "difference" ? 5 : 6);
 }
 
-// The entries that have the most of the words, the best first.
+// The entries that have the most of the words, the best first, and those with one word less if there are few.
 function found(query) {
     const words = wordsOf(query);
-    const counted = entries.map((entry) => [words.filter((word) => entry.all.includes(stem(word))).length, entry]);
-    const most = Math.max(...counted.map(([count]) => count));
-    if (!words.length || most === 0 || most < words.length / 2) return [];
-    return counted.filter(([count]) => count === most).map(([, entry]) => [rank(entry, words), entry])
-        .sort(([a, one], [b, other]) => a - b || one.name.length - other.name.length || (one.name < other.name ? -1 : 1))
-        .slice(0, MOST).map(([, entry]) => entry);
+    const counted = entries.map((entry) => ({
+        entry,
+        count: words.filter((word) => entry.all.includes(stem(word))).length,
+        rank: rank(entry, words),
+    }));
+    const most = Math.max(...counted.map((it) => it.count));
+    const isFew = counted.filter((it) => it.count === most).length < FEW;
+    const least = Math.max(1, words.length / 2, isFew ? most - 1 : most);
+    return counted.filter((it) => it.count >= least)
+        .sort((a, b) => b.count - a.count || a.rank - b.rank || a.entry.name.length - b.entry.name.length || (a.entry.name < b.entry.name ? -1 : 1))
+        .slice(0, MOST).map((it) => it.entry);
 }
 
 function part(kind, text) {
