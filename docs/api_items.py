@@ -76,9 +76,15 @@ def clause_text(clause):
     return f"{word} {name}: {text}".replace("  :", ":").replace(" :", ":", 1)
 
 
+@functools.lru_cache(maxsize=None)
+def known_words():
+    """Returns the words that have a page: the crate, the file and the name of each definition."""
+    return {(it.crate, it.file, name) for it in definitions.definition_files() for name in it.names}
+
+
 def definitions_used(clauses, words):
     """Returns the line that links the words of clauses which the library defines."""
-    known = {(it.crate, it.file, name) for it in definitions.definition_files() for name in it.names}
+    known = known_words()
     used = {word: words[word] for clause in clauses for word in re.findall(r"[^\s(){},.]+", clause) if word in words}
     listed = sorted((word, origin) for word, origin in used.items() if origin in known)
     named = (f"[`{word}`](definition:{'.'.join(origin)})" + renamed(word, origin) for word, origin in listed)

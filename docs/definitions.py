@@ -5,7 +5,7 @@ import re
 import sys
 import typing
 
-from sources import ROOT, text_of
+from sources import ROOT, text_of, words_of
 
 # A public definition, or a public field of a record: its indentation and its name.
 NAME = re.compile(r"^( *)(?:abbrev |unfoldable )*pub (?:record |data )?(?!use |mod |module )([^\s:(]+)", re.M)
@@ -26,7 +26,7 @@ class Definition(typing.NamedTuple):
 
 class DefinitionFile(typing.NamedTuple):
     """A file of definitions, by the name that `widestring` gives it: where it is, what its first comment says, its
-    names in order, and its definitions."""
+    names in order, its definitions, and where the words in them come from."""
 
     name: str
     crate: str
@@ -34,6 +34,7 @@ class DefinitionFile(typing.NamedTuple):
     comment: str
     names: list
     definitions: list
+    words: dict
 
     def import_line(self, names):
         return f"ghost use Rattle.widestring.specs.{self.name}.{{{', '.join(names)}}};"
@@ -99,5 +100,9 @@ def definition_files():
             listed = ", ".join(sorted(lost))
             sys.exit(f"docs/definitions.py: {listed} of {crate}/specs/{file}.antt are in no definition")
         comment = " ".join(line[3:] for line in lines[:first])
-        found.append(DefinitionFile(name or file, crate, file, comment, names, own))
+        words = {word: origin for line in lines for word, origin in words_of(line).items()}
+        # Fields are left out: a word of such a name is more often a variable.
+        words |= {it.name: (crate, file, it.name) for it in own}
+        words |= {part: (crate, file, part) for it in own for part in it.parts if part[0].isupper()}
+        found.append(DefinitionFile(name or file, crate, file, comment, names, own, words))
     return found

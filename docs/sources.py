@@ -366,9 +366,9 @@ class Reader:
 
 
 def words_of(line):
-    """Returns where the words come from that a `ghost use` line imports: the crate, the file of definitions and the
-    name there of each, by the name that it has here."""
-    found = re.match(r"\s*ghost use Rattle\.(\w+)\.specs\.([\w.]+)\.\{(.*)\};$", line)
+    """Returns where the words come from that a `use` line of definitions imports: the crate, the file of definitions and
+    the name there of each, by the name that it has here."""
+    found = re.match(r"\s*(?:ghost )?use Rattle\.(\w+)\.specs\.([\w.]+)\.\{(.*)\};?$", line)
     pairs = (name.strip().partition(" as ") for name in found[3].split(",")) if found else ()
     return {new or name: (found[1], found[2], name) for name, _, new in pairs}
 

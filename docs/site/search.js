@@ -32,7 +32,8 @@ function rank(entry, words) {
     const later = entry.kind === "definition" || entry.kind.startsWith("law ") ? 5 : 0;
     const isNamed = words.every((word) => entry.names.includes(word));
     if (words.includes(entry.last)) return later + (isNamed ? 0 : 1);
-    if (entry.kind === "task" || entry.kind === "not available") return 2;
+    if (entry.kind === "task") return 2;
+    if (entry.kind === "not available") return 2.5;
     if (isNamed) return later + (entry.last.startsWith(words[words.length - 1]) ? 3 : 4);
     return later + (entry.kind === "difference" ? 5 : 6);
 }
