@@ -115,6 +115,7 @@ def arguments(text):
 
 def signature_lines(head):
     """Returns a signature, with one argument on each line if it is long."""
+    head = head.rstrip(",")
     opened = re.match(r"[^(<]*(?:<.*?>)?(?=\()", head)
     start = opened.end() if opened else -1
     if len(head) <= WIDTH or start < 0:

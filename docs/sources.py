@@ -239,6 +239,11 @@ def joined_until(lines, at, ends):
     return text, at
 
 
+def in_one_line(head):
+    """Returns a head of several lines as if it had been written in one."""
+    return re.sub(r"<\s+", "<", re.sub(r",?\s+>", ">", head))
+
+
 def members_of(lines, at):
     """Returns the public fields or the variants of the type whose body follows this line, with the fields of each
     variant."""
@@ -324,7 +329,7 @@ class Reader:
 
     def read_owner(self):
         header, last = joined_until(self.lines, self.at, lambda text: text.rstrip().endswith(("{", "{}")))
-        owner = re.sub(r"\s*\{(\})?$", "", header)
+        owner = in_one_line(re.sub(r"\s*\{(\})?$", "", header))
         self.is_public = owner.startswith("pub trait") or " for " in owner
         self.is_inside = not header.endswith("}")
         self.owner, self.words_inside = re.sub(r"^pub ", "", owner), {}
@@ -333,9 +338,9 @@ class Reader:
 
     def read_type(self):
         head, last = joined_until(self.lines, self.at, lambda text: re.search(r"[{;]$", text))
-        declared = re.sub(r"^pub |\s*[{;]$", "", re.sub(r"<\s+", "<", re.sub(r",?\s+>", ">", head)))
+        declared = re.sub(r"^pub |\s*[{;]$", "", in_one_line(head))
         members = members_of(self.lines, last) if head.endswith("{") else []
-        self.add("type", re.sub(r"^pub ", "", declared).strip(), [self.derives] if self.derives else [], members)
+        self.add("type", declared, [self.derives] if self.derives else [], members)
         self.at += 1
 
     def read_call(self, call):
