@@ -290,7 +290,6 @@ class Reader:
                 self.at += 1
             elif line.strip().startswith("//") and not line.startswith("//!"):
                 self.notes.append(re.sub(r"^// ?", "", line.strip()))
-                self.doc = []
                 self.at += 1
             elif line.strip().startswith("#["):
                 derived = re.match(r"#\[derive\((.*)\)\]$", line)
