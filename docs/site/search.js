@@ -9,15 +9,25 @@ const box = document.getElementById("search");
 const list = document.getElementById("results");
 const root = document.body.dataset.root;
 
+// A text whose words have a space on each side.
+function spaced(text) {
+    return ` ${text.toLowerCase().replace(/[^\p{L}\p{N}_]+/gu, " ")} `;
+}
+
+// Whether a text has a word: a short one as a whole, a longer one also in another word.
+function has(text, word) {
+    return text.includes(word.length < 3 ? ` ${word} ` : word);
+}
+
 const entries = SEARCH_INDEX.map(([name, kind, address, summary, more]) => ({
     name, kind, address, summary,
     last: name.toLowerCase().split("::").pop(),
-    names: `${name} ${more}`.toLowerCase(),
-    all: `${name} ${more} ${kind} ${summary}`.toLowerCase(),
+    names: spaced(`${name} ${more}`),
+    all: spaced(`${name} ${more} ${kind} ${summary}`),
 }));
 
 function wordsOf(query) {
-    const words = query.toLowerCase().split(/[\s:,]+/).map((word) => word.replace(/[(!].*$/, "")).filter(Boolean);
+    const words = query.toLowerCase().replace(/\(.*?\)/g, " ").split(/[^\p{L}\p{N}_]+/u).filter(Boolean);
     const telling = words.filter((word) => !FILLERS.has(word));
     return telling.length ? telling : words;
 }
@@ -30,12 +40,12 @@ function stem(word) {
 // A small number for a good match: an exact name, then tasks, then names, then sentences. Definitions and laws are last.
 function rank(entry, words) {
     const later = entry.kind === "definition" || entry.kind.startsWith("law ") ? 5 : 0;
-    const isNamed = words.every((word) => entry.names.includes(word));
+    const isNamed = words.every((word) => has(entry.names, stem(word)));
     if (words.includes(entry.last)) return later + (isNamed ? 0 : 1);
-    if (entry.kind === "task") return 2;
-    if (entry.kind === "not available") return 2.5;
-    if (isNamed) return later + (entry.last.startsWith(words[words.length - 1]) ? 3 : 4);
-    return later + (entry.kind === "difference" ? 5 : 6);
+    if (entry.kind === "task") return isNamed ? 2 : 4;
+    if (entry.kind === "not available") return isNamed ? 3 : 5;
+    if (isNamed) return later + (entry.last.startsWith(words[words.length - 1]) ? 6 : 7);
+    return later + (entry.kind === "difference" ? 8 : 9);
 }
 
 // The entries that have the most of the words, the best first, and those with one word less if there are few.
@@ -43,7 +53,7 @@ function found(query) {
     const words = wordsOf(query);
     const counted = entries.map((entry) => ({
         entry,
-        count: words.filter((word) => entry.all.includes(stem(word))).length,
+        count: words.filter((word) => has(entry.all, stem(word))).length,
         rank: rank(entry, words),
     }));
     const most = Math.max(...counted.map((it) => it.count));
