@@ -1,9 +1,11 @@
 """What the page tools read from the sources: the public modules and items of the library, the files that have them,
-and the types, calls and clauses of a file. `docs/calling`, `docs/own`, `docs/paths` and `docs/uncalled` share it.
+and the types, calls and clauses of a file. `docs/api_pages`, `docs/links`, `docs/own`, `docs/paths` and `docs/uncalled`
+share it.
 
 What is public is what `crates/widestring/src` makes so, by `pub mod` and `pub use`, and what those lines name in the
 crates below. Nothing here has to name a new item, file or crate.
 """
+import collections
 import functools
 import pathlib
 import re
@@ -14,8 +16,6 @@ ROOT = pathlib.Path(__file__).resolve().parent.parent
 ITEM = re.compile(r"^pub (?:const fn|unsafe fn|fn|struct|enum|trait|type|const|static) (\w+)", re.M)
 TYPE = re.compile(r"^(?:pub(?:\(crate\))? )?(?:unsafe )?(?:struct|enum|trait|type) (\w+)", re.M)
 CALL = re.compile(r"^( *)(pub )?(const )?(unsafe )?fn (\w+)")
-# Ghost members of an impl that describe what its calls return.
-GHOST = re.compile(r"^    ghost (next_gives|next_back_gives|into_iter_gives|from_gives|output|is_clone|is_ready|text|seen|left|held) = \{ (.*) \};$")
 
 # What is editorial: the order of the modules on the pages, and for each the files that come first, since a reader meets
 # their types first. Each other module and file comes after these: files in the order of their crates in crates.txt,
@@ -44,13 +44,27 @@ class Origin(typing.NamedTuple):
     name: str
 
 
+class Member(typing.NamedTuple):
+    """A public field or a variant of a type, with its doc comment, and the fields of a variant."""
+
+    text: str
+    doc: list
+    fields: list
+
+
 class Entry(typing.NamedTuple):
-    """A heading, a type or a call of a file: `kind` is `owner`, `type` or `call`."""
+    """A heading, a type, a call, a constant or a ghost member of a file.
+
+    `kind` is `owner`, `type`, `call`, `const` or `ghost`. `more` holds the clauses of a call, or what a type derives.
+    `words` says where the words of clauses come from.
+    """
 
     kind: str
     head: str
     more: list
     doc: list
+    members: list
+    words: typing.Mapping
 
 
 def text_of(path):
@@ -177,7 +191,7 @@ def entries(crate, file):
     path, found, skips = source(crate, file), [], False
     own = {it.name for it in public() if (it.crate, it.file) == (crate, file)}
     hidden = private_types() | hidden_in(path)
-    for entry in map(Entry._make, quoted(path, own)):
+    for entry in Reader(path, own).read():
         if entry.kind == "owner":
             skips = is_hidden(entry.head, hidden)
         elif entry.kind == "type":
@@ -198,7 +212,8 @@ def declaration(lines, at):
             continue
         if line in ("{", "{}"):
             break
-        ends = line.endswith(";") or line.endswith("{}") or line.endswith("{") and not line.startswith(("requires", "ensures"))
+        is_clause = line.startswith(("requires", "ensures"))
+        ends = line.endswith((";", "{}")) or line.endswith("{") and not is_clause
         text = re.sub(r"(;| ?\{\}| ?\{)$", "", line) if ends else line
         if text.startswith(("requires", "ensures")):
             clauses.append(text.rstrip(","))
@@ -214,77 +229,152 @@ def declaration(lines, at):
     return joined, clauses, at
 
 
-def type_text(lines, at, derives):
-    """Returns the declaration of a type that begins in this line: its head, what it derives, and its public fields
-    or its variants."""
-    head = re.sub(r"^pub ", "", lines[at])
-    while not re.search(r"[{;]$", head):
+def joined_until(lines, at, ends):
+    """Returns the text from this line to the first one for which `ends` holds, in one line, and the index of that
+    line."""
+    text = lines[at]
+    while not ends(text):
         at += 1
-        head += " " + lines[at].strip()
-    text = [re.sub(r"<\s+", "<", re.sub(r",?\s+>", ">", re.sub(r"\s*[{;]$", "", head)))]
-    text += [f"  derives {derives}"] if derives else []
-    if not head.endswith("{"):
-        return text
+        text += " " + lines[at].strip()
+    return text, at
+
+
+def in_one_line(head):
+    """Returns a head of several lines as if it had been written in one."""
+    return re.sub(r"<\s+", "<", re.sub(r",?\s+>", ">", head))
+
+
+def members_of(lines, at):
+    """Returns the public fields or the variants of the type whose body follows this line, with the fields of each
+    variant."""
+    found, doc = [], []
     while lines[at + 1] != "}":
         at += 1
-        line = lines[at].strip().rstrip(",")
+        line = lines[at].strip()
+        if line.startswith("///"):
+            doc.append(comment_text(line))
+            continue
         if re.match(r"    (pub [a-z]\w*:|[A-Z])", lines[at]):
-            text.append("  " + line)
+            found.append(Member(re.sub(r"[,{ ]+$", "", line), doc, []))
         elif re.match(r"        \w+: ", lines[at]):
-            text.append("    " + line)
-    return text
+            found[-1].fields.append(Member(line.rstrip(","), doc, []))
+        doc = []
+    return found
 
 
-def quoted(path, exported):
-    """Yields the headings, types and calls of a file, in order, each with the doc comment before it. Functions of no
-    type are left out unless their names are in `exported`."""
-    lines = path.read_text(encoding="utf-8").split("\n")
-    out, owner, is_public, at, doc, derives = [], None, False, 0, [], ""
-    while at < len(lines):
-        line = lines[at]
-        if line.startswith("#[cfg(test)]"):
-            break
-        if line.strip().startswith("///"):
-            doc.append(line.strip()[3:].strip())
-            at += 1
-            continue
-        if line.startswith("#[derive("):
-            derives = line[len("#[derive(") : -2]
-        if line.strip().startswith("#["):
-            at += 1
-            continue
+def comment_text(line):
+    """Returns what a line of a doc comment says, with its indentation."""
+    return re.sub(r"^ ", "", line.strip()[3:]).rstrip()
+
+
+class Reader:
+    """Reads the headings, types, calls and ghost members of a file, in order, each with the doc comment before it.
+    Functions of no type are left out unless their names are in `exported`."""
+
+    def __init__(self, path, exported):
+        self.lines = text_of(path).split("\n")
+        self.exported = exported
+        self.found, self.at = [], 0
+        # What the next item has before it: its doc comment, other comments, and the traits that it derives.
+        self.doc, self.notes, self.derives = [], [], ""
+        # The heading of the impl or trait that the line is in, or was in if only functions of no type follow.
+        self.owner, self.is_inside, self.is_public = "", False, False
+        # Where the words of clauses come from: those of the whole file, and those of the impl or trait alone.
+        self.words, self.words_inside = {}, {}
+
+    def read(self):
+        while self.at < len(self.lines) and not self.lines[self.at].startswith("#[cfg(test)]"):
+            line = self.lines[self.at]
+            if line.strip().startswith("///"):
+                self.doc.append(comment_text(line))
+                self.at += 1
+            elif line.strip().startswith("//") and not line.startswith("//!"):
+                self.notes.append(re.sub(r"^// ?", "", line.strip()))
+                self.at += 1
+            elif line.strip().startswith("#["):
+                derived = re.match(r"#\[derive\((.*)\)\]$", line)
+                self.derives = derived[1] if derived else self.derives
+                self.at += 1
+            else:
+                self.read_item(line)
+                self.doc, self.notes, self.derives = [], [], ""
+        return self.found
+
+    def read_item(self, line):
+        """Reads the item that begins in this line, if it is public, and moves to the line after its head."""
         if re.match(r"(pub )?(unsafe )?(impl|trait)\b", line):
-            header, at_header = line, at
-            while not header.rstrip().endswith("{") and not header.rstrip().endswith("{}"):
-                at_header += 1
-                header += " " + lines[at_header].strip()
-            owner = re.sub(r"\s*\{(\})?$", "", header)
-            is_public = owner.startswith("pub trait") or " for " in owner
-            out.append(("owner", re.sub(r"^pub ", "", owner), [], doc))
-            at, doc, derives = at_header + 1, [], ""
-            continue
-        if re.match(r"pub (struct|enum|type)\b", line):
-            out.append(("type", re.sub(r"^pub ", "", line), type_text(lines, at, derives), doc))
-        ghost = GHOST.match(line)
-        if ghost and owner:
-            out.append(("call", f"  ghost {ghost[1]}: {ghost[2]}", [], []))
-        call = CALL.match(line)
-        if call and (call[2] or is_public and call[1]) and not line.strip().startswith("pub(crate)"):
-            if not call[1] and call[5] not in exported:
-                at, doc = declaration(lines, at)[2], []
-                continue
+            self.read_owner()
+        elif re.match(r"pub (struct|enum|type)\b", line):
+            self.read_type()
+        elif CALL.match(line) and not line.strip().startswith("pub(crate)"):
+            self.read_call(CALL.match(line))
+        else:
+            if line.strip().startswith("ghost use "):
+                (self.words_inside if line.startswith(" ") else self.words).update(words_of(line))
+            elif self.is_inside:
+                self.read_member(line)
+            elif line.startswith("pub const ") and ITEM.match(line)[1] in self.exported:
+                self.owner = ""
+                self.add("owner", "")
+                self.add("const", re.sub(r"^pub | = .*|;$", "", line))
+            if line == "}":
+                self.is_public = self.is_inside = False
+            self.at += 1
+
+    def add(self, kind, head, more=(), members=()):
+        words = collections.ChainMap(self.words_inside if self.owner else {}, self.words)
+        doc = self.notes if kind == "ghost" else [] if kind == "owner" and not head else self.doc
+        self.found.append(Entry(kind, head, list(more), doc, list(members), words))
+
+    def read_owner(self):
+        header, last = joined_until(self.lines, self.at, lambda text: text.rstrip().endswith(("{", "{}")))
+        owner = in_one_line(re.sub(r"\s*\{(\})?$", "", header))
+        self.is_public = owner.startswith("pub trait") or " for " in owner
+        self.is_inside = not header.endswith("}")
+        self.owner, self.words_inside = re.sub(r"^pub ", "", owner), {}
+        self.add("owner", self.owner)
+        self.at = last + 1
+
+    def read_type(self):
+        head, last = joined_until(self.lines, self.at, lambda text: re.search(r"[{;]$", text))
+        declared = re.sub(r"^pub |\s*[{;]$", "", in_one_line(head))
+        members = members_of(self.lines, last) if head.endswith("{") else []
+        self.add("type", declared, [self.derives] if self.derives else [], members)
+        self.at += 1
+
+    def read_call(self, call):
+        """Reads a function. One of no type has an empty heading of its own before it."""
+        is_public = call[2] or self.is_public and call[1]
+        if not is_public:
+            self.at += 1
+            return
+        signature, clauses, after = declaration(self.lines, self.at)
+        if call[1] or call[5] in self.exported:
             if not call[1]:
-                owner = None
-                out.append(("owner", "", [], []))
-            signature, clauses, at = declaration(lines, at)
-            out.append(("call", re.sub(r"^pub ", "", signature), clauses, doc))
-            doc, derives = [], ""
-            continue
-        if line == "}":
-            is_public = False
-        doc, derives = [], ""
-        at += 1
-    return out
+                self.owner = ""
+                self.add("owner", "")
+            self.add("call", re.sub(r"^pub ", "", signature), clauses)
+        self.at = after
+
+    def read_member(self, line):
+        """Reads what a public trait declares, or an impl states, beside calls."""
+        declares = self.owner.startswith("trait ")
+        ghost = re.match(r"^    ghost (\w+)(: | = )\{ (.*) \};$", line)
+        constant = re.match(r"^    (const \w+: .*|type \w+: .*);$", line)
+        if ghost and (ghost[2] == ": ") == declares:
+            self.add("ghost", f"ghost {ghost[1]}: {ghost[3]}")
+        elif constant and declares:
+            self.add("const", constant[1])
+        elif re.match(r"^    type \w+ = .*;$", line) and not declares:
+            self.add("ghost", line.strip(" ;"))
+
+
+def words_of(line):
+    """Returns where the words come from that a `use` line of definitions imports: the crate, the file of definitions and
+    the name there of each, by the name that it has here."""
+    found = re.match(r"\s*(?:ghost )?use Rattle\.(\w+)\.specs\.([\w.]+)\.\{(.*)\};?$", line)
+    pairs = (name.strip().partition(" as ") for name in found[3].split(",")) if found else ()
+    return {new or name: (found[1], found[2], name) for name, _, new in pairs}
 
 
 def type_of(header):
@@ -292,13 +382,14 @@ def type_of(header):
     bare = header
     while re.search(r"<[^<>]*>", bare):
         bare = re.sub(r"<[^<>]*>", "", bare)
-    found = re.match(r"(?:unsafe )?(?:impl|trait|struct|enum|type)\s*(?:.* for )?&?(?:'\w+ )?(?:mut )?((?:\w+::)*\w+)", bare)
+    kind = r"(?:unsafe )?(?:impl|trait|struct|enum|type)\s*(?:.* for )?"
+    found = re.match(kind + r"&?(?:'\w+ )?(?:mut )?((?:\w+::)*\w+)", bare)
     return found[1] if found else ""
 
 
 def hidden_in(path):
     """Returns the types and traits of a file that are not public."""
-    return set(re.findall(r"^(?:pub\(crate\) )?(?:struct|enum|trait|type) (\w+)", path.read_text(encoding="utf-8"), re.M))
+    return set(re.findall(r"^(?:pub\(crate\) )?(?:struct|enum|trait|type) (\w+)", text_of(path), re.M))
 
 
 def is_hidden(header, hidden):
