@@ -23,8 +23,8 @@ fn time_word(nanoseconds: f64) -> String {
     }
 }
 
-/// Returns the library's time, and this time as a multiple of each peer's. The library's buffer is exactly as long as
-/// the result.
+/// Returns the library's time, its speed in gigabytes of input a second, and the time as a multiple of each peer's. The
+/// library's buffer is exactly as long as the result.
 fn times<From, To: Clone + Default>(conversion: &Conversion<From, To>, input: &[From], rounds: u32, calls: u32) -> String {
     let needed = (conversion.library)(input, &mut []);
     let mut exact = vec![To::default(); needed];
@@ -41,7 +41,8 @@ fn times<From, To: Clone + Default>(conversion: &Conversion<From, To>, input: &[
     }
     let best = clock::best_times(rounds, &mut runners);
     let multiples: Vec<String> = best[1..].iter().map(|peer| format!("{:.2}", best[0] / peer)).collect();
-    format!("{:>8}  {}", time_word(best[0]), multiples.join(" "))
+    let speed = std::mem::size_of_val(input) as f64 / best[0];
+    format!("{:>8} {speed:>5.1} GB/s  {}", time_word(best[0]), multiples.join(" "))
 }
 
 /// A text by its name, made of a number of units.
@@ -50,7 +51,7 @@ type Text<'a, From> = (&'a str, &'a dyn Fn(usize) -> Vec<From>);
 /// Prints a line for each text with both sizes, then one for each tiny text.
 fn race<From, To: Clone + Default>(conversion: &Conversion<From, To>, texts: &[Text<From>]) {
     let peers: Vec<&str> = conversion.peers().map(|(name, _)| name).collect();
-    println!("\n{}: the library's time, and it as multiples of those of {}", conversion.name, peers.join(", "));
+    println!("\n{}: the library's time and speed, and the time as multiples of those of {}", conversion.name, peers.join(", "));
     for (name, text) in texts {
         print!("{name:40}");
         for (size, length, rounds, calls) in SIZES {

@@ -4,7 +4,7 @@
 //! The callers show what the contracts say at concrete types; each is proved. The tests are about sources that yield
 //! more after their end or report wrong bounds, about devices, errors and laws, random edits and edits that an
 //! allocation failure stops, conversions into too little space, what is printed and what a sink then holds, and the
-//! code of README.md. Loops over texts compare results with the standard library.
+//! code of docs/TOUR.md. Loops over texts compare results with the standard library.
 #![tactic(auto)]
 
 #[cfg(test)]
@@ -49,10 +49,6 @@ mod print_loops;
 #[cfg(test)]
 mod random;
 #[cfg(test)]
-mod readme_string_tests;
-#[cfg(test)]
-mod readme_tests;
-#[cfg(test)]
 mod resumed_source_tests;
 #[cfg(test)]
 mod search_tests;
@@ -60,3 +56,7 @@ mod search_tests;
 mod sink_tests;
 #[cfg(test)]
 mod source_tests;
+#[cfg(test)]
+mod tour_string_tests;
+#[cfg(test)]
+mod tour_tests;

@@ -1,4 +1,4 @@
-//! The code of README.md on owned strings and on edits, word for word.
+//! The code of docs/TOUR.md on owned strings and on edits, word for word.
 use std::test::Fail;
 use widestring::edit::{Edit, Reply, run_both};
 use widestring::error::UCStringError;

@@ -1,4 +1,4 @@
-//! The code of README.md that decodes and transcodes, and that on damaged text and on searches, word for word.
+//! The code of docs/TOUR.md that decodes and transcodes, and that on damaged text and on searches, word for word.
 use std::test::Fail;
 use widestring::bytes::{FromRead, FromWrite, Mode, transcode};
 use widestring::error::DecodeUtf16Error;
