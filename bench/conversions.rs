@@ -50,7 +50,7 @@ impl<From, To: Clone> Conversion<From, To> {
 }
 
 pub const TO_UTF8: Conversion<u16, u8> = Conversion {
-    name: "to UTF-8",
+    name: "UTF-16 to UTF-8",
     // Each slice is memory of its length that may be read or written, here and below.
     library: |units, text| unsafe { wide_utf16_to_utf8(units.as_ptr(), units.len(), text.as_mut_ptr(), text.len()) },
     rust_crate: |units, _| Some(Cow::Owned(U16Str::from_slice(units).to_string().ok()?.into_bytes())),
@@ -69,7 +69,7 @@ pub const TO_UTF8: Conversion<u16, u8> = Conversion {
 };
 
 pub const TO_UTF8_LOSSY: Conversion<u16, u8> = Conversion {
-    name: "to UTF-8, lossy",
+    name: "UTF-16 to UTF-8, lossy",
     library: |units, text| unsafe { wide_utf16_to_utf8_lossy(units.as_ptr(), units.len(), text.as_mut_ptr(), text.len()) },
     rust_crate: |units, _| Some(Cow::Owned(U16Str::from_slice(units).to_string_lossy().into_bytes())),
     std: |units, _| Some(Cow::Owned(String::from_utf16_lossy(units).into_bytes())),
@@ -88,7 +88,7 @@ pub const TO_UTF8_LOSSY: Conversion<u16, u8> = Conversion {
 };
 
 pub const TO_UTF16: Conversion<u8, u16> = Conversion {
-    name: "to UTF-16",
+    name: "UTF-8 to UTF-16",
     library: |text, units| unsafe { wide_utf8_to_utf16(text.as_ptr(), text.len(), units.as_mut_ptr(), units.len()) },
     rust_crate: |text, _| Some(Cow::Owned(Utf16String::from_str(std::str::from_utf8(text).ok()?).into_vec())),
     std: |text, _| Some(Cow::Owned(std::str::from_utf8(text).ok()?.encode_utf16().collect())),
@@ -102,7 +102,7 @@ pub const TO_UTF16: Conversion<u8, u16> = Conversion {
 };
 
 pub const TO_UTF16_LOSSY: Conversion<u8, u16> = Conversion {
-    name: "to UTF-16, lossy",
+    name: "UTF-8 to UTF-16, lossy",
     library: |text, units| unsafe { wide_utf8_to_utf16_lossy(text.as_ptr(), text.len(), units.as_mut_ptr(), units.len()) },
     rust_crate: |text, _| Some(Cow::Owned(Utf16String::from_str(&String::from_utf8_lossy(text)).into_vec())),
     std: |text, _| Some(Cow::Owned(String::from_utf8_lossy(text).encode_utf16().collect())),
@@ -117,7 +117,7 @@ pub const TO_UTF16_LOSSY: Conversion<u8, u16> = Conversion {
 
 /// Neither encoding_rs nor ICU has functions for UTF-32 of a whole text in memory.
 pub const TO_UTF32: Conversion<u8, u32> = Conversion {
-    name: "to UTF-32",
+    name: "UTF-8 to UTF-32",
     library: |text, units| unsafe { wide_utf8_to_utf32(text.as_ptr(), text.len(), units.as_mut_ptr(), units.len()) },
     rust_crate: |text, _| Some(Cow::Owned(Utf32String::from_str(std::str::from_utf8(text).ok()?).into_vec())),
     std: |text, _| Some(Cow::Owned(std::str::from_utf8(text).ok()?.chars().map(u32::from).collect())),
@@ -172,7 +172,7 @@ pub const UTF32_TO_UTF16: Conversion<u32, u16> = Conversion {
 
 /// ICU has no function for this conversion.
 pub const REPAIR: Conversion<u16, u16> = Conversion {
-    name: "repair",
+    name: "repair of UTF-16",
     library: |units, repaired| unsafe { wide_utf16_repair(units.as_ptr(), units.len(), repaired.as_mut_ptr(), repaired.len()) },
     rust_crate: |units, _| Some(Cow::Owned(Utf16String::from_slice_lossy(units).into_owned().into_vec())),
     std: |units, _| {
