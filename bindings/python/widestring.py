@@ -1,9 +1,15 @@
-"""Conversions, checks and searches of UTF-16, UTF-32 and UTF-8 in bytes objects, by a library whose functions are
+r"""Conversions, checks and searches of UTF-16, UTF-32 and UTF-8 in bytes objects, by a library whose functions are
 proved for all units, well formed or ill-formed.
+
+>>> units = "Hi😀".encode("utf-16-le") + b"\x00\xdc"
+>>> utf16_first_fault(units)
+4
+>>> utf16_to_utf8_lossy(units, Lossy.EACH).decode()
+'Hi😀�'
 
 Units are in native byte order, which is little endian on the machines that the library is built for: Python's codecs
 `utf-16-le` and `utf-32-le`, without a BOM. Offsets and lengths are counted in code units, or in bytes of UTF-8. Every
-result is a new `bytes` object.
+converted text is a new `bytes` object.
 
 Text is `bytes`, which is not copied, or another object with a buffer, which is copied. The elements of a buffer are
 bytes (`B`, `b` or `c`, like those of `bytearray`, `mmap` and `memoryview.cast("B")`), and their number is a multiple of
@@ -12,6 +18,8 @@ for UTF-32, `L` if it has four bytes) or, for UTF-32, characters of four bytes (
 UTF-16 in bytes of either byte order, only have bytes as elements. Anything else raises TypeError: `str`, signed
 numbers, other sizes, the other byte order (`>u2` of numpy), floats and objects. A buffer of any shape and with any
 strides is read in the order of its indices.
+
+A conversion raises MemoryError if there is no memory for its result.
 
 The shared library is the one that WIDESTRING_LIBRARY names, or one that the system's loader finds. ImportError is
 raised if there is none, or if it has another version. The module requires CPython 3.7 or later, since it writes into
@@ -86,7 +94,17 @@ _SIGNATURES = {
 
 
 class Fault(ValueError):
-    """The text is ill-formed. `offset` is the offset of the first fault."""
+    r"""Reports ill-formed text: the error of strict conversions. As a ValueError it is caught with those for arguments.
+
+    `offset` is the offset of the first ill-formed sequence, in bytes of UTF-8, or in units of UTF-16 or UTF-32. For
+    UTF-16 in bytes it counts units.
+
+    >>> try:
+    ...     utf8_to_utf16(b"H\xffi")
+    ... except Fault as fault:
+    ...     print(fault.offset, fault)
+    1 ill-formed at offset 1
+    """
 
     def __init__(self, offset):
         super().__init__(offset)
@@ -97,8 +115,15 @@ class Fault(ValueError):
 
 
 class Lossy(enum.IntEnum):
-    """Policies of lossy conversions: U+FFFD for each ill-formed sequence, one U+FFFD for each longest run of
-    adjacent ones, or nothing."""
+    r"""Chooses what lossy conversions write for ill-formed sequences.
+
+    EACH writes U+FFFD for each one, RUN writes one U+FFFD for each longest run of adjacent ones, and SKIP writes
+    nothing. SKIP joins the text on both sides of a sequence. So the result may contain a word that a filter did not
+    find before the conversion: filter the result, not the input.
+
+    >>> [utf8_to_utf16_lossy(b"a\xff\xffb", policy).decode("utf-16-le") for policy in Lossy]
+    ['a��b', 'a�b', 'ab']
+    """
 
     EACH = 0
     RUN = 1
@@ -106,7 +131,11 @@ class Lossy(enum.IntEnum):
 
 
 class Order(enum.IntEnum):
-    """Which of the two bytes of a unit of UTF-16 comes first."""
+    """Says which of the two bytes of a unit of UTF-16 comes first: the low byte (LITTLE) or the high byte (BIG).
+
+    >>> utf16_bytes_to_utf8("Hi".encode("utf-16-be"), Order.BIG)
+    b'Hi'
+    """
 
     LITTLE = 0
     BIG = 1
@@ -145,7 +174,11 @@ def _call(name):
 
 
 def version():
-    """Returns the version of the library, as three numbers."""
+    """Returns the version of the library, as three numbers: major, minor and patch.
+
+    >>> version()[:2]
+    (0, 1)
+    """
     number = _call("version")()
     return number >> 16, number >> 8 & 0xFF, number & 0xFF
 
@@ -305,173 +338,441 @@ _utf16_bytes_to_utf8_lossy = _Conversion("utf16_bytes_to_utf8_lossy_with", 1, 1)
 
 
 def utf8_first_fault(text):
-    """Returns the offset of the first byte of the first ill-formed sequence, or None if the text is well formed."""
+    r"""Returns the offset, in bytes, of the first byte of the first ill-formed sequence, or None if the text is well
+    formed.
+
+    Raises:
+        TypeError: `text` is neither bytes nor a buffer of bytes.
+
+    >>> utf8_first_fault(b"Hi\xff")
+    2
+    >>> utf8_first_fault(b"Hi") is None
+    True
+    """
     return _offset(_first_fault8, text, 1)
 
 
 def utf16_first_fault(units):
-    """Returns the offset of the first ill-formed unit, or None if the units are well formed."""
+    r"""Returns the offset, in units, of the first ill-formed unit, or None if the units are well formed.
+
+    Raises:
+        TypeError: `units` is neither bytes nor a buffer of bytes or of units of 16 bits.
+        ValueError: an incomplete unit is at the end.
+
+    >>> utf16_first_fault("😀".encode("utf-16-le") + b"\x00\xdc")
+    2
+    """
     return _offset(_first_fault16, units, 2)
 
 
 def utf32_first_fault(units):
-    """Returns the offset of the first unit that is not a scalar value, or None if the units are well formed."""
+    """Returns the offset, in units, of the first unit that is not a scalar value, or None if the units are well formed.
+
+    Raises:
+        TypeError: `units` is neither bytes nor a buffer of bytes or of units of 32 bits.
+        ValueError: an incomplete unit is at the end.
+
+    >>> import array
+    >>> utf32_first_fault(array.array("I", [0x48, 0x110000]))
+    1
+    """
     return _offset(_first_fault32, units, 4)
 
 
 def utf16_first_fault_item(units):
-    """Returns how many characters precede the first ill-formed unit, or None if the units are well formed."""
+    r"""Returns how many characters precede the first ill-formed unit, or None if the units are well formed.
+
+    Raises:
+        TypeError: `units` is neither bytes nor a buffer of bytes or of units of 16 bits.
+        ValueError: an incomplete unit is at the end.
+
+    >>> utf16_first_fault_item("😀".encode("utf-16-le") + b"\x00\xdc")
+    1
+    """
     return _number(_first_fault_item16, units, 2)
 
 
 def utf32_first_fault_item(units):
     """Returns how many characters precede the first unit that is not a scalar value, or None if the units are well
-    formed."""
+    formed. It is the offset that utf32_first_fault returns.
+
+    Raises:
+        TypeError: `units` is neither bytes nor a buffer of bytes or of units of 32 bits.
+        ValueError: an incomplete unit is at the end.
+    """
     return _number(_first_fault_item32, units, 4)
 
 
 def utf8_char_count(text):
-    """Returns how many characters the text has, or None if it is ill-formed."""
+    """Returns how many characters the text has, or None if it is ill-formed.
+
+    Raises:
+        TypeError: `text` is neither bytes nor a buffer of bytes.
+
+    >>> utf8_char_count("é😀".encode())
+    2
+    """
     return _number(_char_count8, text, 1)
 
 
 def utf16_char_count(units):
-    """Returns how many characters the units have, or None if they are ill-formed."""
+    """Returns how many characters the units have, or None if they are ill-formed.
+
+    Raises:
+        TypeError: `units` is neither bytes nor a buffer of bytes or of units of 16 bits.
+        ValueError: an incomplete unit is at the end.
+
+    >>> utf16_char_count("é😀".encode("utf-16-le"))
+    2
+    """
     return _number(_char_count16, units, 2)
 
 
 def utf32_char_count(units):
-    """Returns how many characters the units have, or None if they are ill-formed."""
+    """Returns how many characters the units have, or None if they are ill-formed. It is the number of units.
+
+    Raises:
+        TypeError: `units` is neither bytes nor a buffer of bytes or of units of 32 bits.
+        ValueError: an incomplete unit is at the end.
+    """
     return _number(_char_count32, units, 4)
 
 
 def utf16_first_nul(units):
-    """Returns the offset of the first NUL, or None if there is none."""
+    r"""Returns the offset, in units, of the first NUL, or None if there is none.
+
+    Raises:
+        TypeError: `units` is neither bytes nor a buffer of bytes or of units of 16 bits.
+        ValueError: an incomplete unit is at the end.
+
+    >>> utf16_first_nul("Hi\0".encode("utf-16-le"))
+    2
+    """
     return _offset(_first_nul16, units, 2)
 
 
 def utf32_first_nul(units):
-    """Returns the offset of the first NUL, or None if there is none."""
+    """Returns the offset, in units, of the first NUL, or None if there is none.
+
+    Raises:
+        TypeError: `units` is neither bytes nor a buffer of bytes or of units of 32 bits.
+        ValueError: an incomplete unit is at the end.
+    """
     return _offset(_first_nul32, units, 4)
 
 
 def utf16_find_unit(units, unit):
-    """Returns the offset of the first unit with this number, or None if there is none, also for a negative number
-    and one above 0xFFFF. Raises TypeError for anything that is not an integer."""
+    """Returns the offset, in units, of the first unit with this number, or None if there is none, also for a negative
+    number and one above 0xFFFF. Units are compared as numbers, also if they are ill-formed.
+
+    Raises:
+        TypeError: `unit` is not an integer, or `units` is neither bytes nor a buffer of bytes or of units of 16 bits.
+        ValueError: an incomplete unit is at the end.
+
+    >>> utf16_find_unit("Hi!".encode("utf-16-le"), ord("!"))
+    2
+    """
     return _find_unit(_find_unit16, units, 2, unit)
 
 
 def utf32_find_unit(units, unit):
-    """Returns the offset of the first unit with this number, or None if there is none, also for a negative number
-    and one above 0xFFFFFFFF. Raises TypeError for anything that is not an integer."""
+    """Returns the offset, in units, of the first unit with this number, or None if there is none, also for a negative
+    number and one above 0xFFFFFFFF. Units are compared as numbers, also if they are not scalar values.
+
+    Raises:
+        TypeError: `unit` is not an integer, or `units` is neither bytes nor a buffer of bytes or of units of 32 bits.
+        ValueError: an incomplete unit is at the end.
+
+    >>> utf32_find_unit("Hi!".encode("utf-32-le"), ord("!"))
+    2
+    """
     return _find_unit(_find_unit32, units, 4, unit)
 
 
 def utf16_find(units, needle):
-    """Returns the offset of the first occurrence of a needle, or None if it does not occur. An empty needle occurs
-    at offset 0."""
+    """Returns the offset, in units, of the first occurrence of a needle, or None if it does not occur. An empty needle
+    occurs at offset 0. Units are compared as numbers, also if they are ill-formed. The time grows at most linearly with
+    both lengths.
+
+    Raises:
+        TypeError: `units` or `needle` is neither bytes nor a buffer of bytes or of units of 16 bits.
+        ValueError: an incomplete unit is at the end of one of them.
+
+    >>> utf16_find("Hi 😀".encode("utf-16-le"), "😀".encode("utf-16-le"))
+    3
+    """
     return _number(_find16, units, 2, *_elements(needle, 2))
 
 
 def utf32_find(units, needle):
-    """Returns the offset of the first occurrence of a needle, or None if it does not occur. An empty needle occurs
-    at offset 0."""
+    """Returns the offset, in units, of the first occurrence of a needle, or None if it does not occur. An empty needle
+    occurs at offset 0. Units are compared as numbers, also if they are not scalar values. The time grows at most
+    linearly with both lengths.
+
+    Raises:
+        TypeError: `units` or `needle` is neither bytes nor a buffer of bytes or of units of 32 bits.
+        ValueError: an incomplete unit is at the end of one of them.
+
+    >>> utf32_find("Hi 😀".encode("utf-32-le"), "😀".encode("utf-32-le"))
+    3
+    """
     return _number(_find32, units, 4, *_elements(needle, 4))
 
 
 def utf16_to_utf8(units):
-    """Converts well-formed UTF-16 to UTF-8. Raises Fault if the units are ill-formed."""
+    r"""Converts well-formed UTF-16 to UTF-8.
+
+    Raises:
+        Fault: the units are ill-formed. Its `offset` is that of the first ill-formed unit, in units.
+        TypeError: `units` is neither bytes nor a buffer of bytes or of units of 16 bits.
+        ValueError: an incomplete unit is at the end.
+
+    >>> utf16_to_utf8("Hi😀".encode("utf-16-le")).decode()
+    'Hi😀'
+    >>> utf16_to_utf8(b"H\x00\x00\xdc")
+    Traceback (most recent call last):
+    ...
+    widestring.Fault: ill-formed at offset 1
+    """
     return _utf16_to_utf8.strict(units, _first_fault16)
 
 
 def utf32_to_utf8(units):
-    """Converts well-formed UTF-32 to UTF-8. Raises Fault if the units are ill-formed."""
+    """Converts well-formed UTF-32 to UTF-8.
+
+    Raises:
+        Fault: a unit is not a scalar value. Its `offset` is that of the first one, in units.
+        TypeError: `units` is neither bytes nor a buffer of bytes or of units of 32 bits.
+        ValueError: an incomplete unit is at the end.
+
+    >>> utf32_to_utf8("Hi😀".encode("utf-32-le")).decode()
+    'Hi😀'
+    """
     return _utf32_to_utf8.strict(units, _first_fault32)
 
 
 def utf8_to_utf16(text):
-    """Converts well-formed UTF-8 to UTF-16. Raises Fault if the text is ill-formed."""
+    r"""Converts well-formed UTF-8 to UTF-16.
+
+    Raises:
+        Fault: the text is ill-formed. Its `offset` is that of the first ill-formed sequence, in bytes.
+        TypeError: `text` is neither bytes nor a buffer of bytes.
+
+    >>> utf8_to_utf16(b"Hi")
+    b'H\x00i\x00'
+    >>> utf8_to_utf16(b"H\xff")
+    Traceback (most recent call last):
+    ...
+    widestring.Fault: ill-formed at offset 1
+    """
     return _utf8_to_utf16.strict(text, _first_fault8)
 
 
 def utf8_to_utf32(text):
-    """Converts well-formed UTF-8 to UTF-32. Raises Fault if the text is ill-formed."""
+    r"""Converts well-formed UTF-8 to UTF-32.
+
+    Raises:
+        Fault: the text is ill-formed. Its `offset` is that of the first ill-formed sequence, in bytes.
+        TypeError: `text` is neither bytes nor a buffer of bytes.
+
+    >>> utf8_to_utf32(b"H")
+    b'H\x00\x00\x00'
+    """
     return _utf8_to_utf32.strict(text, _first_fault8)
 
 
 def utf16_to_utf32(units):
-    """Converts well-formed UTF-16 to UTF-32. Raises Fault if the units are ill-formed."""
+    r"""Converts well-formed UTF-16 to UTF-32.
+
+    Raises:
+        Fault: the units are ill-formed. Its `offset` is that of the first ill-formed unit, in units.
+        TypeError: `units` is neither bytes nor a buffer of bytes or of units of 16 bits.
+        ValueError: an incomplete unit is at the end.
+
+    >>> units = "😀".encode("utf-16-le") + b"\x00\xdc"
+    >>> utf16_to_utf32(utf16_repair(units)).decode("utf-32-le")
+    '😀�'
+    """
     return _utf16_to_utf32.strict(units, _first_fault16)
 
 
 def utf32_to_utf16(units):
-    """Converts well-formed UTF-32 to UTF-16. Raises Fault if the units are ill-formed."""
+    """Converts well-formed UTF-32 to UTF-16.
+
+    Raises:
+        Fault: a unit is not a scalar value. Its `offset` is that of the first one, in units.
+        TypeError: `units` is neither bytes nor a buffer of bytes or of units of 32 bits.
+        ValueError: an incomplete unit is at the end.
+
+    >>> utf32_to_utf16("😀".encode("utf-32-le")).decode("utf-16-le")
+    '😀'
+    """
     return _utf32_to_utf16.strict(units, _first_fault32)
 
 
 def utf16_to_utf8_lossy(units, policy=Lossy.EACH):
-    """Converts any UTF-16 to UTF-8, and replaces ill-formed units by the policy."""
+    r"""Converts any UTF-16 to UTF-8, and replaces ill-formed units by the policy.
+
+    Raises:
+        TypeError: `units` is neither bytes nor a buffer of bytes or of units of 16 bits.
+        ValueError: an incomplete unit is at the end, or `policy` is none of Lossy.
+
+    >>> units = "Hi".encode("utf-16-le") + b"\x00\xdc\x00\xdc"
+    >>> [utf16_to_utf8_lossy(units, policy).decode() for policy in Lossy]
+    ['Hi��', 'Hi�', 'Hi']
+    """
     return _utf16_to_utf8_lossy.lossy(units, Lossy(policy))
 
 
 def utf32_to_utf8_lossy(units, policy=Lossy.EACH):
-    """Converts any UTF-32 to UTF-8, and replaces units that are not scalar values by the policy."""
+    """Converts any UTF-32 to UTF-8, and replaces units that are not scalar values by the policy.
+
+    Raises:
+        TypeError: `units` is neither bytes nor a buffer of bytes or of units of 32 bits.
+        ValueError: an incomplete unit is at the end, or `policy` is none of Lossy.
+
+    >>> import array
+    >>> utf32_to_utf8_lossy(array.array("I", [0x48, 0x110000])).decode()
+    'H�'
+    """
     return _utf32_to_utf8_lossy.lossy(units, Lossy(policy))
 
 
 def utf8_to_utf16_lossy(text, policy=Lossy.EACH):
-    """Converts any bytes to UTF-16, and replaces maximal subparts of ill-formed sequences by the policy: the longest
-    prefix that begins a character of UTF-8 but does not continue as one, or a byte that begins none."""
+    r"""Converts any bytes to UTF-16 under a policy. It replaces maximal subparts of ill-formed sequences: the longest
+    prefix that begins a character of UTF-8 but does not continue as one, or a byte that begins none.
+
+    Raises:
+        TypeError: `text` is neither bytes nor a buffer of bytes.
+        ValueError: `policy` is none of Lossy.
+
+    >>> utf8_to_utf16_lossy(b"H\xf0\x9f\xff").decode("utf-16-le")
+    'H��'
+    """
     return _utf8_to_utf16_lossy.lossy(text, Lossy(policy))
 
 
 def utf8_to_utf32_lossy(text, policy=Lossy.EACH):
-    """Converts any bytes to UTF-32, and replaces maximal subparts of ill-formed sequences by the policy: the longest
-    prefix that begins a character of UTF-8 but does not continue as one, or a byte that begins none."""
+    r"""Converts any bytes to UTF-32 under a policy. It replaces maximal subparts of ill-formed sequences: the longest
+    prefix that begins a character of UTF-8 but does not continue as one, or a byte that begins none.
+
+    Raises:
+        TypeError: `text` is neither bytes nor a buffer of bytes.
+        ValueError: `policy` is none of Lossy.
+
+    >>> utf8_to_utf32_lossy(b"H\xf0\x9f\xff", Lossy.RUN).decode("utf-32-le")
+    'H�'
+    """
     return _utf8_to_utf32_lossy.lossy(text, Lossy(policy))
 
 
 def utf16_repair(units):
-    """Copies UTF-16, and replaces each ill-formed unit by U+FFFD."""
+    r"""Copies UTF-16, and replaces each ill-formed unit by U+FFFD. The result has as many units as the input.
+
+    Raises:
+        TypeError: `units` is neither bytes nor a buffer of bytes or of units of 16 bits.
+        ValueError: an incomplete unit is at the end.
+
+    >>> utf16_repair(b"H\x00\x00\xdc").decode("utf-16-le")
+    'H�'
+    """
     return _utf16_repair.lossy(units)
 
 
 def utf32_repair(units):
-    """Copies UTF-32, and replaces each unit that is not a scalar value by U+FFFD."""
+    """Copies UTF-32, and replaces each unit that is not a scalar value by U+FFFD. The result has as many units as the
+    input.
+
+    Raises:
+        TypeError: `units` is neither bytes nor a buffer of bytes or of units of 32 bits.
+        ValueError: an incomplete unit is at the end.
+
+    >>> import array
+    >>> utf32_repair(array.array("I", [0x48, 0x110000])).decode("utf-32-le")
+    'H�'
+    """
     return _utf32_repair.lossy(units)
 
 
 def utf16_bytes_order(data):
-    """Returns the byte order of the BOM at the start of UTF-16 in bytes, or None if there is none. The two bytes of
-    the BOM do not belong to the text."""
+    r"""Returns the byte order of the byte order mark (BOM) at the start of UTF-16 in bytes, or None if there is none.
+    The two bytes of the BOM do not belong to the text.
+
+    Raises:
+        TypeError: `data` is neither bytes nor a buffer of bytes.
+
+    >>> data = b"\xfe\xff\x00H\x00i"
+    >>> utf16_bytes_order(data)
+    <Order.BIG: 1>
+    >>> utf16_bytes_to_utf8(data[2:], Order.BIG)
+    b'Hi'
+    """
     number = _utf16_bytes_order(*_elements(data, 1))
     return Order(number) if number < 2 else None
 
 
 def utf16_bytes_complete(data, order):
-    """Returns how many bytes at the start are whole units whose meaning no later bytes can change: all whole units,
-    except a last high surrogate."""
+    r"""Returns how many bytes at the start are whole units whose meaning no later bytes can change: all whole units,
+    except a last high surrogate. At most three bytes follow them.
+
+    Raises:
+        TypeError: `data` is neither bytes nor a buffer of bytes.
+        ValueError: `order` is none of Order.
+
+    >>> utf16_bytes_complete(b"H\x00\x3d\xd8", Order.LITTLE)
+    2
+    >>> utf16_bytes_complete(b"H\x00\x3d\xd8\x00\xde", Order.LITTLE)
+    6
+    """
     return _utf16_bytes_complete(*_elements(data, 1), Order(order))
 
 
 def utf16_bytes_first_fault(data, order):
-    """Returns the offset, in units, of the first ill-formed unit of UTF-16 in this byte order, or None if there is
-    none."""
+    r"""Returns the offset, in units, of the first ill-formed unit of UTF-16 in this byte order, or None if there is
+    none. An odd last byte is ignored.
+
+    Raises:
+        TypeError: `data` is neither bytes nor a buffer of bytes.
+        ValueError: `order` is none of Order.
+
+    >>> utf16_bytes_first_fault(b"\x00H\xdc\x00", Order.BIG)
+    1
+    """
     data, length = _elements(data, 1)
     offset = _utf16_bytes_first_fault(data, length, Order(order))
     return None if offset == length // 2 else offset
 
 
 def utf16_bytes_end_in_fault(data, order, after_fault=False):
-    """Returns whether the last whole unit is ill-formed. If there are no whole units, returns `after_fault`, which
-    says whether the unit before the bytes is ill-formed."""
+    r"""Returns whether the last whole unit is ill-formed. If there are no whole units, returns `after_fault`, which
+    says whether the unit before the bytes is ill-formed. utf16_bytes_to_utf8_lossy takes the result for the next chunk.
+
+    Raises:
+        TypeError: `data` is neither bytes nor a buffer of bytes.
+        ValueError: `order` is none of Order.
+
+    >>> utf16_bytes_end_in_fault(b"H\x00\x00\xdc", Order.LITTLE)
+    True
+    """
     return _utf16_bytes_end_in_fault(*_elements(data, 1), Order(order), bool(after_fault)) != 0
 
 
 def utf16_bytes_to_utf8(data, order):
-    """Converts well-formed UTF-16 in this byte order to UTF-8. Raises Fault with the offset in units of the first
-    ill-formed unit. If the units are well formed but the number of bytes is odd, the offset is the number of whole
-    units."""
+    r"""Converts well-formed UTF-16 in this byte order to UTF-8. A BOM is converted as the character U+FEFF.
+
+    Raises:
+        Fault: the units are ill-formed, or the number of bytes is odd. Its `offset` is that of the first ill-formed
+            unit, in units, or else the number of whole units.
+        TypeError: `data` is neither bytes nor a buffer of bytes.
+        ValueError: `order` is none of Order.
+
+    >>> utf16_bytes_to_utf8(b"\x00H\x00i", Order.BIG)
+    b'Hi'
+    >>> utf16_bytes_to_utf8(b"\x00H\x00", Order.BIG)
+    Traceback (most recent call last):
+    ...
+    widestring.Fault: ill-formed at offset 1
+    """
     data, length = _elements(data, 1)
     order = Order(order)
     needed = _utf16_bytes_to_utf8.call(data, length, order, None, 0)
@@ -481,6 +782,19 @@ def utf16_bytes_to_utf8(data, order):
 
 
 def utf16_bytes_to_utf8_lossy(data, order, policy=Lossy.EACH, after_fault=False):
-    """Converts the whole units of UTF-16 in this byte order to UTF-8, and replaces ill-formed units by the policy.
-    `after_fault` says whether the unit before the bytes is ill-formed. widestring.h describes how to read a stream."""
+    r"""Converts the whole units of UTF-16 in this byte order to UTF-8, and replaces ill-formed units by the policy.
+    `after_fault` says whether the unit before the bytes is ill-formed, so that a run of ill-formed units may cross
+    chunks. An odd last byte is ignored, and a BOM is converted as the character U+FEFF. README.md shows how to read a
+    stream.
+
+    Raises:
+        TypeError: `data` is neither bytes nor a buffer of bytes.
+        ValueError: `order` is none of Order, or `policy` is none of Lossy.
+
+    >>> data = b"\xdc\x00\x00H"
+    >>> utf16_bytes_to_utf8_lossy(data, Order.BIG, Lossy.RUN).decode()
+    '�H'
+    >>> utf16_bytes_to_utf8_lossy(data, Order.BIG, Lossy.RUN, after_fault=True).decode()
+    'H'
+    """
     return _utf16_bytes_to_utf8_lossy.lossy(data, Order(order), Lossy(policy), bool(after_fault))

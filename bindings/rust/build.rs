@@ -1,10 +1,14 @@
 //! Links the static library: the one in the folder WIDESTRING_LIB_DIR, or else one of this crate's version that
 //! pkg-config finds, or else the one of this repository. PKG_CONFIG names the program that is called.
+//!
+//! Documentation links nothing, so a missing library is a warning here. The crate itself then does not compile, unless
+//! it is documented or DOCS_RS is set.
 use std::env;
 use std::path::{absolute, Path, PathBuf};
 use std::process::{exit, Command};
 
-const WATCHED: [&str; 5] = [
+const WATCHED: [&str; 6] = [
+    "DOCS_RS",
     "WIDESTRING_LIB_DIR",
     "PKG_CONFIG",
     "PKG_CONFIG_PATH",
@@ -68,17 +72,40 @@ fn known_folder() -> Option<PathBuf> {
     (!folder.is_empty()).then(|| PathBuf::from(folder))
 }
 
-/// Returns the library's name in a folder, as it is installed or as it is built.
+/// The library's names, as it is installed and as it is built.
+const NAMES: [&str; 2] = ["widestring", "widestring_c"];
+
+/// Returns the library's file in a folder.
+fn file(folder: &Path, name: &str) -> PathBuf {
+    folder.join(format!("lib{name}.a"))
+}
+
+/// Returns the library's name in a folder.
 fn name_in(folder: &Path) -> Option<&'static str> {
-    ["widestring", "widestring_c"]
-        .into_iter()
-        .find(|name| folder.join(format!("lib{name}.a")).is_file())
+    NAMES.into_iter().find(|name| file(folder, name).is_file())
+}
+
+/// Warns that no folder has the library, and passes the reason on to `lib.rs`, where it is an error for all but
+/// documentation. As files are watched that do not exist, the next build looks again.
+fn report_missing(folders: &[PathBuf]) {
+    let why = format!("no library of widestring in {folders:?}: set WIDESTRING_LIB_DIR, or run ./prove widestring_c in the repository");
+    for folder in folders {
+        for name in NAMES {
+            println!("cargo:rerun-if-changed={}", file(folder, name).display());
+        }
+    }
+    println!("cargo:warning={why}");
+    if env::var_os("DOCS_RS").is_none() {
+        println!("cargo:rustc-cfg=widestring_missing");
+        println!("cargo:rustc-env=WIDESTRING_MISSING=widestring-proved: {why}");
+    }
 }
 
 fn main() {
     for name in WATCHED {
         println!("cargo:rerun-if-env-changed={name}");
     }
+    println!("cargo:rustc-check-cfg=cfg(widestring_missing)");
     check_target();
     let own = Path::new(&env::var("CARGO_MANIFEST_DIR").expect("cargo's folder"))
         .join("../../crates/widestring_c/out");
@@ -90,12 +117,9 @@ fn main() {
         .iter()
         .find_map(|folder| Some((folder, name_in(folder)?)))
     else {
-        fail(&format!("no library of widestring in {folders:?}: set WIDESTRING_LIB_DIR, or run ./prove widestring_c in the repository"));
+        return report_missing(&folders);
     };
-    println!(
-        "cargo:rerun-if-changed={}",
-        folder.join(format!("lib{name}.a")).display()
-    );
+    println!("cargo:rerun-if-changed={}", file(folder, name).display());
     println!("cargo:rustc-link-search=native={}", folder.display());
     println!("cargo:rustc-link-lib=static={name}");
 }

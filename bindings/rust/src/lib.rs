@@ -1,13 +1,4 @@
-//! Conversions, checks and searches of UTF-16, UTF-32 and UTF-8 by a library whose functions are proved for all units,
-//! well formed or ill-formed.
-//!
-//! Offsets and lengths are counted in elements: code units, or bytes of UTF-8. Functions that return a string or a
-//! vector allocate once if the beginning of a text predicts its length well, and else twice. Functions whose names end
-//! in `_into` write into a buffer of the caller, and return the length of the result. If the buffer is too short, they
-//! return an error with the needed length. The crate needs no std, only `alloc`.
-//!
-//! Each function but [`version`] panics if the linked library has another version than this crate, or if it returns a
-//! length that no text has.
+#![doc = include_str!("../README.md")]
 #![no_std]
 #![warn(missing_docs)]
 #![deny(
@@ -16,6 +7,10 @@
     clippy::undocumented_unsafe_blocks,
     clippy::missing_safety_doc
 )]
+
+// Documentation links nothing, so it needs no library.
+#[cfg(all(widestring_missing, not(doc)))]
+compile_error!(env!("WIDESTRING_MISSING"));
 
 extern crate alloc;
 
@@ -27,10 +22,21 @@ use alloc::vec::Vec;
 use core::error::Error;
 use core::fmt;
 
-/// The error for ill-formed text, with the offset of the first ill-formed sequence.
+/// Reports ill-formed text: the error of strict conversions, with the offset of the first ill-formed sequence.
+///
+/// # Examples
+///
+/// ```
+/// use widestring_proved::{utf8_to_utf16, Fault};
+///
+/// let fault = utf8_to_utf16(b"H\xffi").unwrap_err();
+/// assert_eq!(fault, Fault { offset: 1 });
+/// assert_eq!(fault.to_string(), "ill-formed at offset 1");
+/// ```
 #[derive(Clone, Copy, Debug, PartialEq, Eq)]
 pub struct Fault {
-    /// The offset in elements: units, or bytes of UTF-8.
+    /// Counts the elements before the sequence: code units of UTF-16 or UTF-32, or bytes of UTF-8. For UTF-16 in bytes
+    /// it counts units.
     pub offset: usize,
 }
 
@@ -42,10 +48,25 @@ impl fmt::Display for Fault {
 
 impl Error for Fault {}
 
-/// The error for a buffer that is shorter than the result. The content of the buffer is unspecified then.
+/// Reports a buffer that is shorter than the result: the error of lossy conversions into a buffer. The content of the
+/// buffer is unspecified then.
+///
+/// # Examples
+///
+/// ```
+/// use widestring_proved::{utf16_to_utf8_lossy_into, Lossy, Short};
+///
+/// let units = [0x20ac, 0xd800];
+/// let mut buffer = vec![0; 3];
+/// let short = utf16_to_utf8_lossy_into(&units, Lossy::Each, &mut buffer).unwrap_err();
+/// assert_eq!(short, Short { needed: 6 });
+/// buffer.resize(short.needed, 0);
+/// assert_eq!(utf16_to_utf8_lossy_into(&units, Lossy::Each, &mut buffer), Ok(6));
+/// assert_eq!(buffer, "\u{20ac}\u{fffd}".as_bytes());
+/// ```
 #[derive(Clone, Copy, Debug, PartialEq, Eq)]
 pub struct Short {
-    /// The length of the result in elements.
+    /// Counts the elements of the result: code units of UTF-16 or UTF-32, or bytes of UTF-8.
     pub needed: usize,
 }
 
@@ -57,12 +78,23 @@ impl fmt::Display for Short {
 
 impl Error for Short {}
 
-/// Why a buffer does not hold the result.
+/// Reports why a buffer does not hold the result: the error of strict conversions into a buffer.
+///
+/// # Examples
+///
+/// ```
+/// use widestring_proved::{utf16_to_utf8_into, Fault, IntoError, Short};
+///
+/// let mut buffer = [0; 2];
+/// assert_eq!(utf16_to_utf8_into(&[0x48, 0x69], &mut buffer), Ok(2));
+/// assert_eq!(utf16_to_utf8_into(&[0x20ac], &mut buffer), Err(IntoError::Short(Short { needed: 3 })));
+/// assert_eq!(utf16_to_utf8_into(&[0xdc00], &mut buffer), Err(IntoError::Fault(Fault { offset: 0 })));
+/// ```
 #[derive(Clone, Copy, Debug, PartialEq, Eq)]
 pub enum IntoError {
-    /// The text is ill-formed. The buffer is unchanged.
+    /// Reports ill-formed text. The buffer is unchanged.
     Fault(Fault),
-    /// The buffer is too short. Its content is unspecified.
+    /// Reports that the buffer is too short. Its content is unspecified.
     Short(Short),
 }
 
@@ -89,103 +121,272 @@ impl From<Short> for IntoError {
     }
 }
 
-/// Policies of lossy conversions: what replaces ill-formed sequences.
+/// Chooses what lossy conversions write for ill-formed sequences.
+///
+/// [`Lossy::Skip`] joins the text on both sides of a sequence. So the result may contain a word that a filter did not
+/// find before the conversion: filter the result, not the input.
+///
+/// # Examples
+///
+/// ```
+/// use widestring_proved::{utf16_to_utf8_lossy, Lossy};
+///
+/// let units = [0x61, 0xdc00, 0xdc00, 0x62];
+/// assert_eq!(utf16_to_utf8_lossy(&units, Lossy::Each), "a\u{fffd}\u{fffd}b");
+/// assert_eq!(utf16_to_utf8_lossy(&units, Lossy::Run), "a\u{fffd}b");
+/// assert_eq!(utf16_to_utf8_lossy(&units, Lossy::Skip), "ab");
+/// ```
 #[derive(Clone, Copy, Debug, PartialEq, Eq)]
 #[repr(u32)]
 pub enum Lossy {
-    /// U+FFFD for each one.
+    /// Writes U+FFFD for each one.
     Each = 0,
-    /// One U+FFFD for each longest run of adjacent ones.
+    /// Writes one U+FFFD for each longest run of adjacent ones.
     Run = 1,
-    /// Nothing.
+    /// Writes nothing.
     Skip = 2,
 }
 
-/// Which of the two bytes of a unit of UTF-16 comes first.
+/// Says which of the two bytes of a unit of UTF-16 comes first.
 #[derive(Clone, Copy, Debug, PartialEq, Eq)]
 #[repr(u32)]
 pub enum Order {
-    /// The low byte.
+    /// Means that the low byte comes first.
     Little = 0,
-    /// The high byte.
+    /// Means that the high byte comes first.
     Big = 1,
 }
 
 /// Returns the version of the linked library: 65,536 times the major number, plus 256 times the minor number, plus the
 /// patch number. It never panics.
+///
+/// # Examples
+///
+/// ```
+/// let number = widestring_proved::version();
+/// assert_eq!((number >> 16, number >> 8 & 0xff), (0, 1));
+/// ```
 pub fn version() -> u32 {
     calls::version()
 }
 
-/// Returns the offset of the first byte of the first ill-formed sequence of UTF-8, or `None` if the text is well
-/// formed.
+/// Returns the offset, in bytes, of the first byte of the first ill-formed sequence of UTF-8, or `None` if the text is
+/// well formed.
+///
+/// # Panics
+///
+/// If the linked library is [not this crate's](crate#panics).
+///
+/// # Examples
+///
+/// ```
+/// use widestring_proved::utf8_first_fault;
+///
+/// assert_eq!(utf8_first_fault("H\u{e9}".as_bytes()), None);
+/// assert_eq!(utf8_first_fault(b"H\xc3\xa9\xff"), Some(3));
+/// ```
 pub fn utf8_first_fault(text: &[u8]) -> Option<usize> {
     calls::UTF8_FIRST_FAULT.offset(text)
 }
 
-/// Returns the offset of the first ill-formed unit of UTF-16, or `None` if the units are well formed.
+/// Returns the offset, in units, of the first ill-formed unit of UTF-16, or `None` if the units are well formed.
+///
+/// # Panics
+///
+/// If the linked library is [not this crate's](crate#panics).
+///
+/// # Examples
+///
+/// ```
+/// use widestring_proved::utf16_first_fault;
+///
+/// assert_eq!(utf16_first_fault(&[0x48, 0xd83d, 0xde00]), None);
+/// assert_eq!(utf16_first_fault(&[0x48, 0xde00, 0xd83d]), Some(1));
+/// ```
 pub fn utf16_first_fault(units: &[u16]) -> Option<usize> {
     calls::UTF16_FIRST_FAULT.offset(units)
 }
 
-/// Returns the offset of the first unit of UTF-32 that is not a scalar value, or `None` if the units are well formed.
+/// Returns the offset, in units, of the first unit of UTF-32 that is not a scalar value, or `None` if the units are
+/// well formed.
+///
+/// # Panics
+///
+/// If the linked library is [not this crate's](crate#panics).
+///
+/// # Examples
+///
+/// ```
+/// use widestring_proved::utf32_first_fault;
+///
+/// assert_eq!(utf32_first_fault(&[0x48, 0x1f600]), None);
+/// assert_eq!(utf32_first_fault(&[0x48, 0x1f600, 0x110000]), Some(2));
+/// ```
 pub fn utf32_first_fault(units: &[u32]) -> Option<usize> {
     calls::UTF32_FIRST_FAULT.offset(units)
 }
 
-/// Returns how many characters precede the first ill-formed unit of UTF-16, or `None` if the units are well formed.
+/// Returns how many characters precede the first ill-formed unit of UTF-16, or `None` if the units are well formed. A
+/// decoder that yields one item for each character and each ill-formed unit yields that unit as the item with this
+/// index.
+///
+/// # Panics
+///
+/// If the linked library is [not this crate's](crate#panics).
+///
+/// # Examples
+///
+/// ```
+/// use widestring_proved::{utf16_first_fault, utf16_first_fault_item};
+///
+/// let units = [0xd83d, 0xde00, 0xdc00];
+/// assert_eq!(utf16_first_fault(&units), Some(2));
+/// assert_eq!(utf16_first_fault_item(&units), Some(1));
+/// ```
 pub fn utf16_first_fault_item(units: &[u16]) -> Option<usize> {
     calls::UTF16_FIRST_FAULT_ITEM.count(units)
 }
 
-/// Returns how many characters precede the first ill-formed unit of UTF-32, or `None` if the units are well formed.
+/// Returns how many characters precede the first unit of UTF-32 that is not a scalar value, or `None` if the units are
+/// well formed. It is the offset that [`utf32_first_fault`] returns.
+///
+/// # Panics
+///
+/// If the linked library is [not this crate's](crate#panics).
 pub fn utf32_first_fault_item(units: &[u32]) -> Option<usize> {
     calls::UTF32_FIRST_FAULT_ITEM.count(units)
 }
 
 /// Returns how many characters UTF-8 has, or `None` if it is ill-formed.
+///
+/// # Panics
+///
+/// If the linked library is [not this crate's](crate#panics).
+///
+/// # Examples
+///
+/// ```
+/// use widestring_proved::utf8_char_count;
+///
+/// assert_eq!(utf8_char_count("\u{e9}\u{1f600}".as_bytes()), Some(2));
+/// assert_eq!(utf8_char_count(b"\xff"), None);
+/// ```
 pub fn utf8_char_count(text: &[u8]) -> Option<usize> {
     calls::UTF8_CHAR_COUNT.count(text)
 }
 
 /// Returns how many characters UTF-16 has, or `None` if it is ill-formed.
+///
+/// # Panics
+///
+/// If the linked library is [not this crate's](crate#panics).
+///
+/// # Examples
+///
+/// ```
+/// use widestring_proved::utf16_char_count;
+///
+/// assert_eq!(utf16_char_count(&[0x48, 0xd83d, 0xde00]), Some(2));
+/// assert_eq!(utf16_char_count(&[0x48, 0xd83d]), None);
+/// ```
 pub fn utf16_char_count(units: &[u16]) -> Option<usize> {
     calls::UTF16_CHAR_COUNT.count(units)
 }
 
-/// Returns how many characters UTF-32 has, or `None` if it is ill-formed.
+/// Returns how many characters UTF-32 has, or `None` if it is ill-formed. It is the number of units.
+///
+/// # Panics
+///
+/// If the linked library is [not this crate's](crate#panics).
 pub fn utf32_char_count(units: &[u32]) -> Option<usize> {
     calls::UTF32_CHAR_COUNT.count(units)
 }
 
-/// Returns the offset of the first NUL of UTF-16, or `None` if there is none.
+/// Returns the offset, in units, of the first NUL of UTF-16, or `None` if there is none.
+///
+/// # Panics
+///
+/// If the linked library is [not this crate's](crate#panics).
+///
+/// # Examples
+///
+/// ```
+/// use widestring_proved::{utf16_first_nul, utf16_to_utf8};
+///
+/// let units = [0x48, 0x69, 0, 0xdc00];
+/// let end = utf16_first_nul(&units).unwrap_or(units.len());
+/// assert_eq!(utf16_to_utf8(&units[..end]).unwrap(), "Hi");
+/// ```
 pub fn utf16_first_nul(units: &[u16]) -> Option<usize> {
     calls::UTF16_FIRST_NUL.offset(units)
 }
 
-/// Returns the offset of the first NUL of UTF-32, or `None` if there is none.
+/// Returns the offset, in units, of the first NUL of UTF-32, or `None` if there is none.
+///
+/// # Panics
+///
+/// If the linked library is [not this crate's](crate#panics).
 pub fn utf32_first_nul(units: &[u32]) -> Option<usize> {
     calls::UTF32_FIRST_NUL.offset(units)
 }
 
-/// Returns the offset of the first unit of UTF-16 that equals this one, or `None` if there is none.
+/// Returns the offset, in units, of the first unit of UTF-16 that equals this one, or `None` if there is none. Units
+/// are compared as numbers, also if they are ill-formed.
+///
+/// # Panics
+///
+/// If the linked library is [not this crate's](crate#panics).
+///
+/// # Examples
+///
+/// ```
+/// use widestring_proved::utf16_find_unit;
+///
+/// assert_eq!(utf16_find_unit(&[0x48, 0x69], 0x69), Some(1));
+/// assert_eq!(utf16_find_unit(&[0x48, 0x69], 0x21), None);
+/// ```
 pub fn utf16_find_unit(units: &[u16], unit: u16) -> Option<usize> {
     calls::UTF16_SEARCH.unit(units, unit)
 }
 
-/// Returns the offset of the first unit of UTF-32 that equals this one, or `None` if there is none.
+/// Returns the offset, in units, of the first unit of UTF-32 that equals this one, or `None` if there is none. Units
+/// are compared as numbers, also if they are not scalar values.
+///
+/// # Panics
+///
+/// If the linked library is [not this crate's](crate#panics).
 pub fn utf32_find_unit(units: &[u32], unit: u32) -> Option<usize> {
     calls::UTF32_SEARCH.unit(units, unit)
 }
 
-/// Returns the offset of the first occurrence of a needle in UTF-16, or `None` if it does not occur. An empty needle
-/// occurs at offset 0.
+/// Returns the offset, in units, of the first occurrence of a needle in UTF-16, or `None` if it does not occur. An
+/// empty needle occurs at offset 0. Units are compared as numbers, also if they are ill-formed. The time grows at most
+/// linearly with both lengths.
+///
+/// # Panics
+///
+/// If the linked library is [not this crate's](crate#panics).
+///
+/// # Examples
+///
+/// ```
+/// use widestring_proved::utf16_find;
+///
+/// assert_eq!(utf16_find(&[0x48, 0x69, 0x21], &[0x69, 0x21]), Some(1));
+/// assert_eq!(utf16_find(&[0x48, 0x69, 0x21], &[0x21, 0x69]), None);
+/// assert_eq!(utf16_find(&[0x48], &[]), Some(0));
+/// ```
 pub fn utf16_find(units: &[u16], needle: &[u16]) -> Option<usize> {
     calls::UTF16_SEARCH.find(units, needle)
 }
 
-/// Returns the offset of the first occurrence of a needle in UTF-32, or `None` if it does not occur. An empty needle
-/// occurs at offset 0.
+/// Returns the offset, in units, of the first occurrence of a needle in UTF-32, or `None` if it does not occur. An
+/// empty needle occurs at offset 0. Units are compared as numbers, also if they are not scalar values. The time grows
+/// at most linearly with both lengths.
+///
+/// # Panics
+///
+/// If the linked library is [not this crate's](crate#panics).
 pub fn utf32_find(units: &[u32], needle: &[u32]) -> Option<usize> {
     calls::UTF32_SEARCH.find(units, needle)
 }
@@ -194,7 +395,20 @@ pub fn utf32_find(units: &[u32], needle: &[u32]) -> Option<usize> {
 ///
 /// # Errors
 ///
-/// [`Fault`], with the offset of the first ill-formed unit, if the units are ill-formed.
+/// [`Fault`], with the offset in units of the first ill-formed unit, if the units are ill-formed.
+///
+/// # Panics
+///
+/// If the linked library is [not this crate's](crate#panics).
+///
+/// # Examples
+///
+/// ```
+/// use widestring_proved::utf16_to_utf8;
+///
+/// assert_eq!(utf16_to_utf8(&[0x48, 0x69, 0xd83d, 0xde00]).unwrap(), "Hi\u{1f600}");
+/// assert_eq!(utf16_to_utf8(&[0x48, 0x69, 0xd83d]).unwrap_err().offset, 2);
+/// ```
 pub fn utf16_to_utf8(units: &[u16]) -> Result<String, Fault> {
     calls::UTF16_TO_UTF8.strict_text(units)
 }
@@ -203,7 +417,20 @@ pub fn utf16_to_utf8(units: &[u16]) -> Result<String, Fault> {
 ///
 /// # Errors
 ///
-/// [`Fault`], with the offset of the first unit that is not a scalar value, if there is one.
+/// [`Fault`], with the offset in units of the first unit that is not a scalar value, if there is one.
+///
+/// # Panics
+///
+/// If the linked library is [not this crate's](crate#panics).
+///
+/// # Examples
+///
+/// ```
+/// use widestring_proved::utf32_to_utf8;
+///
+/// assert_eq!(utf32_to_utf8(&[0x48, 0x1f600]).unwrap(), "H\u{1f600}");
+/// assert_eq!(utf32_to_utf8(&[0x48, 0xd800]).unwrap_err().offset, 1);
+/// ```
 pub fn utf32_to_utf8(units: &[u32]) -> Result<String, Fault> {
     calls::UTF32_TO_UTF8.strict_text(units)
 }
@@ -212,7 +439,20 @@ pub fn utf32_to_utf8(units: &[u32]) -> Result<String, Fault> {
 ///
 /// # Errors
 ///
-/// [`Fault`], with the offset of the first ill-formed sequence, if the bytes are ill-formed.
+/// [`Fault`], with the offset in bytes of the first ill-formed sequence, if the bytes are ill-formed.
+///
+/// # Panics
+///
+/// If the linked library is [not this crate's](crate#panics).
+///
+/// # Examples
+///
+/// ```
+/// use widestring_proved::utf8_to_utf16;
+///
+/// assert_eq!(utf8_to_utf16("H\u{1f600}".as_bytes()).unwrap(), [0x48, 0xd83d, 0xde00]);
+/// assert_eq!(utf8_to_utf16(b"H\xf0\x9f").unwrap_err().offset, 1);
+/// ```
 pub fn utf8_to_utf16(text: &[u8]) -> Result<Vec<u16>, Fault> {
     calls::UTF8_TO_UTF16.strict(text)
 }
@@ -221,7 +461,20 @@ pub fn utf8_to_utf16(text: &[u8]) -> Result<Vec<u16>, Fault> {
 ///
 /// # Errors
 ///
-/// [`Fault`], with the offset of the first ill-formed sequence, if the bytes are ill-formed.
+/// [`Fault`], with the offset in bytes of the first ill-formed sequence, if the bytes are ill-formed.
+///
+/// # Panics
+///
+/// If the linked library is [not this crate's](crate#panics).
+///
+/// # Examples
+///
+/// ```
+/// use widestring_proved::utf8_to_utf32;
+///
+/// assert_eq!(utf8_to_utf32("H\u{1f600}".as_bytes()).unwrap(), [0x48, 0x1f600]);
+/// assert_eq!(utf8_to_utf32(b"H\xf0\x9f").unwrap_err().offset, 1);
+/// ```
 pub fn utf8_to_utf32(text: &[u8]) -> Result<Vec<u32>, Fault> {
     calls::UTF8_TO_UTF32.strict(text)
 }
@@ -230,7 +483,22 @@ pub fn utf8_to_utf32(text: &[u8]) -> Result<Vec<u32>, Fault> {
 ///
 /// # Errors
 ///
-/// [`Fault`], with the offset of the first ill-formed unit, if the units are ill-formed.
+/// [`Fault`], with the offset in units of the first ill-formed unit, if the units are ill-formed.
+///
+/// # Panics
+///
+/// If the linked library is [not this crate's](crate#panics).
+///
+/// # Examples
+///
+/// ```
+/// use widestring_proved::{utf16_repair, utf16_to_utf32};
+///
+/// assert_eq!(utf16_to_utf32(&[0x48, 0xd83d, 0xde00]).unwrap(), [0x48, 0x1f600]);
+/// let units = [0x48, 0xde00];
+/// assert_eq!(utf16_to_utf32(&units).unwrap_err().offset, 1);
+/// assert_eq!(utf16_to_utf32(&utf16_repair(&units)).unwrap(), [0x48, 0xfffd]);
+/// ```
 pub fn utf16_to_utf32(units: &[u16]) -> Result<Vec<u32>, Fault> {
     calls::UTF16_TO_UTF32.strict(units)
 }
@@ -239,39 +507,135 @@ pub fn utf16_to_utf32(units: &[u16]) -> Result<Vec<u32>, Fault> {
 ///
 /// # Errors
 ///
-/// [`Fault`], with the offset of the first unit that is not a scalar value, if there is one.
+/// [`Fault`], with the offset in units of the first unit that is not a scalar value, if there is one.
+///
+/// # Panics
+///
+/// If the linked library is [not this crate's](crate#panics).
+///
+/// # Examples
+///
+/// ```
+/// use widestring_proved::utf32_to_utf16;
+///
+/// assert_eq!(utf32_to_utf16(&[0x48, 0x1f600]).unwrap(), [0x48, 0xd83d, 0xde00]);
+/// assert_eq!(utf32_to_utf16(&[0x48, 0x110000]).unwrap_err().offset, 1);
+/// ```
 pub fn utf32_to_utf16(units: &[u32]) -> Result<Vec<u16>, Fault> {
     calls::UTF32_TO_UTF16.strict(units)
 }
 
 /// Converts any UTF-16 to UTF-8, and replaces ill-formed units by the policy.
+///
+/// # Panics
+///
+/// If the linked library is [not this crate's](crate#panics).
+///
+/// # Examples
+///
+/// ```
+/// use widestring_proved::{utf16_to_utf8_lossy, Lossy};
+///
+/// let units = [0x48, 0x69, 0xdc00, 0xdc00];
+/// assert_eq!(utf16_to_utf8_lossy(&units, Lossy::Each), "Hi\u{fffd}\u{fffd}");
+/// assert_eq!(utf16_to_utf8_lossy(&units, Lossy::Run), "Hi\u{fffd}");
+/// assert_eq!(utf16_to_utf8_lossy(&units, Lossy::Skip), "Hi");
+/// ```
 pub fn utf16_to_utf8_lossy(units: &[u16], policy: Lossy) -> String {
     calls::UTF16_TO_UTF8.lossy_text(units, policy, calls::UTF16_TO_UTF8_LOSSILY)
 }
 
 /// Converts any UTF-32 to UTF-8, and replaces units that are not scalar values by the policy.
+///
+/// # Panics
+///
+/// If the linked library is [not this crate's](crate#panics).
+///
+/// # Examples
+///
+/// ```
+/// use widestring_proved::{utf32_to_utf8_lossy, Lossy};
+///
+/// assert_eq!(utf32_to_utf8_lossy(&[0x48, 0x110000], Lossy::Each), "H\u{fffd}");
+/// ```
 pub fn utf32_to_utf8_lossy(units: &[u32], policy: Lossy) -> String {
     calls::UTF32_TO_UTF8.lossy_text(units, policy, calls::UTF32_TO_UTF8_LOSSILY)
 }
 
-/// Converts any bytes to UTF-16, and replaces maximal subparts of ill-formed sequences by the policy: the longest
-/// prefix that begins a character of UTF-8 but does not continue as one, or a byte that begins none.
+/// Converts any bytes to UTF-16 under a policy.
+///
+/// It replaces maximal subparts of ill-formed sequences of UTF-8: the longest prefix that begins a character but does
+/// not continue as one, or a byte that begins none.
+///
+/// # Panics
+///
+/// If the linked library is [not this crate's](crate#panics).
+///
+/// # Examples
+///
+/// ```
+/// use widestring_proved::{utf8_to_utf16_lossy, Lossy};
+///
+/// // The first two bytes of a character of four, and a byte that begins none.
+/// let text = b"H\xf0\x9f\xff";
+/// assert_eq!(utf8_to_utf16_lossy(text, Lossy::Each), [0x48, 0xfffd, 0xfffd]);
+/// assert_eq!(utf8_to_utf16_lossy(text, Lossy::Run), [0x48, 0xfffd]);
+/// ```
 pub fn utf8_to_utf16_lossy(text: &[u8], policy: Lossy) -> Vec<u16> {
     calls::UTF8_TO_UTF16.lossy(text, policy, calls::UTF8_TO_UTF16_LOSSILY)
 }
 
-/// Converts any bytes to UTF-32, and replaces maximal subparts of ill-formed sequences by the policy: the longest
-/// prefix that begins a character of UTF-8 but does not continue as one, or a byte that begins none.
+/// Converts any bytes to UTF-32 under a policy.
+///
+/// It replaces maximal subparts of ill-formed sequences of UTF-8: the longest prefix that begins a character but does
+/// not continue as one, or a byte that begins none.
+///
+/// # Panics
+///
+/// If the linked library is [not this crate's](crate#panics).
+///
+/// # Examples
+///
+/// ```
+/// use widestring_proved::{utf8_to_utf32_lossy, Lossy};
+///
+/// assert_eq!(utf8_to_utf32_lossy(b"H\xf0\x9f\xff", Lossy::Each), [0x48, 0xfffd, 0xfffd]);
+/// ```
 pub fn utf8_to_utf32_lossy(text: &[u8], policy: Lossy) -> Vec<u32> {
     calls::UTF8_TO_UTF32.lossy(text, policy, calls::UTF8_TO_UTF32_LOSSILY)
 }
 
-/// Copies UTF-16, and replaces each ill-formed unit by U+FFFD.
+/// Copies UTF-16, and replaces each ill-formed unit by U+FFFD. The result has as many units as the input.
+///
+/// # Panics
+///
+/// If the linked library is [not this crate's](crate#panics).
+///
+/// # Examples
+///
+/// ```
+/// use widestring_proved::utf16_repair;
+///
+/// assert_eq!(utf16_repair(&[0xd83d, 0xde00, 0xdc00]), [0xd83d, 0xde00, 0xfffd]);
+/// ```
 pub fn utf16_repair(units: &[u16]) -> Vec<u16> {
     calls::UTF16_REPAIR.of(units)
 }
 
-/// Copies UTF-32, and replaces each unit that is not a scalar value by U+FFFD.
+/// Copies UTF-32, and replaces each unit that is not a scalar value by U+FFFD. The result has as many units as the
+/// input.
+///
+/// # Panics
+///
+/// If the linked library is [not this crate's](crate#panics).
+///
+/// # Examples
+///
+/// ```
+/// use widestring_proved::utf32_repair;
+///
+/// assert_eq!(utf32_repair(&[0x48, 0xd800, 0x110000]), [0x48, 0xfffd, 0xfffd]);
+/// ```
 pub fn utf32_repair(units: &[u32]) -> Vec<u32> {
     calls::UTF32_REPAIR.of(units)
 }
@@ -283,39 +647,78 @@ pub fn utf32_repair(units: &[u32]) -> Vec<u32> {
 ///
 /// [`IntoError::Fault`] if the units are ill-formed; the buffer is unchanged. [`IntoError::Short`], with the needed
 /// length in bytes, if the buffer is shorter than the result; its content is unspecified.
+///
+/// # Panics
+///
+/// If the linked library is [not this crate's](crate#panics).
+///
+/// # Examples
+///
+/// ```
+/// use widestring_proved::{utf16_to_utf8_into, IntoError, Short};
+///
+/// let units = [0x48, 0x20ac];
+/// let length = utf16_to_utf8_into(&units, &mut []);
+/// assert_eq!(length, Err(IntoError::Short(Short { needed: 4 })));
+/// let mut buffer = [0; 16];
+/// let length = utf16_to_utf8_into(&units, &mut buffer).unwrap();
+/// assert_eq!(&buffer[..length], "H\u{20ac}".as_bytes());
+/// ```
 pub fn utf16_to_utf8_into(units: &[u16], buffer: &mut [u8]) -> Result<usize, IntoError> {
     calls::UTF16_TO_UTF8.strict_into(units, buffer)
 }
 
 /// Converts well-formed UTF-32 to UTF-8, writes the result to the start of the buffer, and returns its length in bytes.
-/// The bytes after it are unchanged.
+/// The bytes after it are unchanged. An empty buffer can be used to get the length.
 ///
 /// # Errors
 ///
 /// [`IntoError::Fault`] if the units are ill-formed; the buffer is unchanged. [`IntoError::Short`], with the needed
 /// length in bytes, if the buffer is shorter than the result; its content is unspecified.
+///
+/// # Panics
+///
+/// If the linked library is [not this crate's](crate#panics).
 pub fn utf32_to_utf8_into(units: &[u32], buffer: &mut [u8]) -> Result<usize, IntoError> {
     calls::UTF32_TO_UTF8.strict_into(units, buffer)
 }
 
 /// Converts well-formed UTF-8 to UTF-16, writes the result to the start of the buffer, and returns its length in units.
-/// The units after it are unchanged.
+/// The units after it are unchanged. An empty buffer can be used to get the length.
 ///
 /// # Errors
 ///
 /// [`IntoError::Fault`] if the bytes are ill-formed; the buffer is unchanged. [`IntoError::Short`], with the needed
 /// length in units, if the buffer is shorter than the result; its content is unspecified.
+///
+/// # Panics
+///
+/// If the linked library is [not this crate's](crate#panics).
+///
+/// # Examples
+///
+/// ```
+/// use widestring_proved::utf8_to_utf16_into;
+///
+/// let mut buffer = [0; 4];
+/// let length = utf8_to_utf16_into(b"Hi", &mut buffer).unwrap();
+/// assert_eq!(buffer[..length], [0x48, 0x69]);
+/// ```
 pub fn utf8_to_utf16_into(text: &[u8], buffer: &mut [u16]) -> Result<usize, IntoError> {
     calls::UTF8_TO_UTF16.strict_into(text, buffer)
 }
 
 /// Converts well-formed UTF-8 to UTF-32, writes the result to the start of the buffer, and returns its length in units.
-/// The units after it are unchanged.
+/// The units after it are unchanged. An empty buffer can be used to get the length.
 ///
 /// # Errors
 ///
 /// [`IntoError::Fault`] if the bytes are ill-formed; the buffer is unchanged. [`IntoError::Short`], with the needed
 /// length in units, if the buffer is shorter than the result; its content is unspecified.
+///
+/// # Panics
+///
+/// If the linked library is [not this crate's](crate#panics).
 pub fn utf8_to_utf32_into(text: &[u8], buffer: &mut [u32]) -> Result<usize, IntoError> {
     calls::UTF8_TO_UTF32.strict_into(text, buffer)
 }
@@ -326,6 +729,20 @@ pub fn utf8_to_utf32_into(text: &[u8], buffer: &mut [u32]) -> Result<usize, Into
 /// # Errors
 ///
 /// [`Short`], with the needed length in bytes, if the buffer is shorter than the result; its content is unspecified.
+///
+/// # Panics
+///
+/// If the linked library is [not this crate's](crate#panics).
+///
+/// # Examples
+///
+/// ```
+/// use widestring_proved::{utf16_to_utf8_lossy_into, Lossy};
+///
+/// let mut buffer = [0; 8];
+/// let length = utf16_to_utf8_lossy_into(&[0x48, 0xdc00], Lossy::Each, &mut buffer).unwrap();
+/// assert_eq!(&buffer[..length], "H\u{fffd}".as_bytes());
+/// ```
 pub fn utf16_to_utf8_lossy_into(
     units: &[u16],
     policy: Lossy,
@@ -335,11 +752,15 @@ pub fn utf16_to_utf8_lossy_into(
 }
 
 /// Converts any UTF-32 to UTF-8 under a policy, writes the result to the start of the buffer, and returns its length in
-/// bytes. The bytes after it are unchanged.
+/// bytes. The bytes after it are unchanged. An empty buffer can be used to get the length.
 ///
 /// # Errors
 ///
 /// [`Short`], with the needed length in bytes, if the buffer is shorter than the result; its content is unspecified.
+///
+/// # Panics
+///
+/// If the linked library is [not this crate's](crate#panics).
 pub fn utf32_to_utf8_lossy_into(
     units: &[u32],
     policy: Lossy,
@@ -349,11 +770,18 @@ pub fn utf32_to_utf8_lossy_into(
 }
 
 /// Converts any bytes to UTF-16 under a policy, writes the result to the start of the buffer, and returns its length in
-/// units. The units after it are unchanged.
+/// units. The units after it are unchanged. An empty buffer can be used to get the length.
+///
+/// It replaces maximal subparts of ill-formed sequences of UTF-8: the longest prefix that begins a character but does
+/// not continue as one, or a byte that begins none.
 ///
 /// # Errors
 ///
 /// [`Short`], with the needed length in units, if the buffer is shorter than the result; its content is unspecified.
+///
+/// # Panics
+///
+/// If the linked library is [not this crate's](crate#panics).
 pub fn utf8_to_utf16_lossy_into(
     text: &[u8],
     policy: Lossy,
@@ -363,11 +791,18 @@ pub fn utf8_to_utf16_lossy_into(
 }
 
 /// Converts any bytes to UTF-32 under a policy, writes the result to the start of the buffer, and returns its length in
-/// units. The units after it are unchanged.
+/// units. The units after it are unchanged. An empty buffer can be used to get the length.
+///
+/// It replaces maximal subparts of ill-formed sequences of UTF-8: the longest prefix that begins a character but does
+/// not continue as one, or a byte that begins none.
 ///
 /// # Errors
 ///
 /// [`Short`], with the needed length in units, if the buffer is shorter than the result; its content is unspecified.
+///
+/// # Panics
+///
+/// If the linked library is [not this crate's](crate#panics).
 pub fn utf8_to_utf32_lossy_into(
     text: &[u8],
     policy: Lossy,
@@ -376,35 +811,104 @@ pub fn utf8_to_utf32_lossy_into(
     calls::UTF8_TO_UTF32.lossy_into(text, policy, buffer, calls::UTF8_TO_UTF32_LOSSILY)
 }
 
-/// Returns the byte order of the BOM at the start of UTF-16 in bytes, or `None` if there is none. The two bytes of the
-/// BOM do not belong to the text.
+/// Returns the byte order of the byte order mark (BOM) at the start of UTF-16 in bytes, or `None` if there is none. The
+/// two bytes of the BOM do not belong to the text.
+///
+/// # Panics
+///
+/// If the linked library is [not this crate's](crate#panics).
+///
+/// # Examples
+///
+/// ```
+/// use widestring_proved::{utf16_bytes_order, utf16_bytes_to_utf8, Order};
+///
+/// let file = b"\xfe\xff\x00H\x00i";
+/// assert_eq!(utf16_bytes_order(file), Some(Order::Big));
+/// assert_eq!(utf16_bytes_to_utf8(&file[2..], Order::Big).unwrap(), "Hi");
+/// assert_eq!(utf16_bytes_order(&file[2..]), None);
+/// ```
 pub fn utf16_bytes_order(bytes: &[u8]) -> Option<Order> {
     calls::utf16_bytes_order(bytes)
 }
 
 /// Returns how many bytes at the start are whole units whose meaning no later bytes can change: all whole units, except
-/// a last high surrogate.
+/// a last high surrogate. At most three bytes follow them.
+///
+/// # Panics
+///
+/// If the linked library is [not this crate's](crate#panics).
+///
+/// # Examples
+///
+/// ```
+/// use widestring_proved::{utf16_bytes_complete, Order};
+///
+/// assert_eq!(utf16_bytes_complete(b"H\x00i", Order::Little), 2);
+/// assert_eq!(utf16_bytes_complete(b"H\x00\x3d\xd8", Order::Little), 2);
+/// assert_eq!(utf16_bytes_complete(b"H\x00\x3d\xd8\x00\xde", Order::Little), 6);
+/// ```
 pub fn utf16_bytes_complete(bytes: &[u8], order: Order) -> usize {
     calls::utf16_bytes_complete(bytes, order)
 }
 
-/// Returns the offset, in units, of the first ill-formed unit in the bytes, or `None` if there is none.
+/// Returns the offset, in units, of the first ill-formed unit in the bytes, or `None` if there is none. An odd last
+/// byte is ignored.
+///
+/// # Panics
+///
+/// If the linked library is [not this crate's](crate#panics).
+///
+/// # Examples
+///
+/// ```
+/// use widestring_proved::{utf16_bytes_first_fault, Order};
+///
+/// assert_eq!(utf16_bytes_first_fault(b"H\x00\x00\xdc", Order::Little), Some(1));
+/// assert_eq!(utf16_bytes_first_fault(b"H\x00i", Order::Little), None);
+/// ```
 pub fn utf16_bytes_first_fault(bytes: &[u8], order: Order) -> Option<usize> {
     calls::utf16_bytes_first_fault(bytes, order)
 }
 
 /// Returns whether the last whole unit is ill-formed. If there are no whole units, it returns `after_fault`, which says
-/// whether the unit before the bytes is ill-formed.
+/// whether the unit before the bytes is ill-formed. [`utf16_bytes_to_utf8_lossy`] takes the result for the next chunk.
+///
+/// # Panics
+///
+/// If the linked library is [not this crate's](crate#panics).
+///
+/// # Examples
+///
+/// ```
+/// use widestring_proved::{utf16_bytes_end_in_fault, Order};
+///
+/// assert!(utf16_bytes_end_in_fault(b"H\x00\x00\xdc", Order::Little, false));
+/// assert!(!utf16_bytes_end_in_fault(b"H\x00", Order::Little, true));
+/// ```
 pub fn utf16_bytes_end_in_fault(bytes: &[u8], order: Order, after_fault: bool) -> bool {
     calls::utf16_bytes_end_in_fault(bytes, order, after_fault)
 }
 
-/// Converts bytes of well-formed UTF-16 to UTF-8.
+/// Converts bytes of well-formed UTF-16 to UTF-8. A BOM is converted as the character U+FEFF.
 ///
 /// # Errors
 ///
 /// [`Fault`], with the offset in units of the first ill-formed unit. If the units are well formed but the number of
 /// bytes is odd, the offset is the number of whole units.
+///
+/// # Panics
+///
+/// If the linked library is [not this crate's](crate#panics).
+///
+/// # Examples
+///
+/// ```
+/// use widestring_proved::{utf16_bytes_to_utf8, Order};
+///
+/// assert_eq!(utf16_bytes_to_utf8(b"\x00H\x00i", Order::Big).unwrap(), "Hi");
+/// assert_eq!(utf16_bytes_to_utf8(b"H\x00i", Order::Little).unwrap_err().offset, 1);
+/// ```
 pub fn utf16_bytes_to_utf8(bytes: &[u8], order: Order) -> Result<String, Fault> {
     calls::utf16_bytes_to_utf8(bytes, order).ok_or_else(|| Fault {
         offset: utf16_bytes_first_fault(bytes, order).unwrap_or(bytes.len() / 2),
@@ -412,7 +916,23 @@ pub fn utf16_bytes_to_utf8(bytes: &[u8], order: Order) -> Result<String, Fault> 
 }
 
 /// Converts the whole units of any bytes to UTF-8, and replaces ill-formed units by the policy. `after_fault` says
-/// whether the unit before the bytes is ill-formed. `widestring.h` describes how to read a stream.
+/// whether the unit before the bytes is ill-formed, so that a run of ill-formed units may cross chunks. An odd last
+/// byte is ignored, and a BOM is converted as the character U+FEFF. [The crate's
+/// page](crate#utf-16-in-bytes-chunk-by-chunk) shows how to read a stream.
+///
+/// # Panics
+///
+/// If the linked library is [not this crate's](crate#panics).
+///
+/// # Examples
+///
+/// ```
+/// use widestring_proved::{utf16_bytes_to_utf8_lossy, Lossy, Order};
+///
+/// let bytes = b"\xdc\x00\x00H";
+/// assert_eq!(utf16_bytes_to_utf8_lossy(bytes, Order::Big, Lossy::Run, false), "\u{fffd}H");
+/// assert_eq!(utf16_bytes_to_utf8_lossy(bytes, Order::Big, Lossy::Run, true), "H");
+/// ```
 pub fn utf16_bytes_to_utf8_lossy(
     bytes: &[u8],
     order: Order,

@@ -99,15 +99,15 @@ extern "C" {
         capacity: usize,
     ) -> usize;
     pub fn wide_utf16_to_utf32(
-        units: *const u16,
+        utf16: *const u16,
         length: usize,
-        scalars: *mut u32,
+        utf32: *mut u32,
         capacity: usize,
     ) -> usize;
     pub fn wide_utf32_to_utf16(
-        scalars: *const u32,
+        utf32: *const u32,
         length: usize,
-        units: *mut u16,
+        utf16: *mut u16,
         capacity: usize,
     ) -> usize;
     pub fn wide_utf8_to_utf16_lossy_with(
