@@ -92,7 +92,7 @@ pub(crate) fn pass_back(
 }
 
 // Returns the offset of the character at index `to`, given index and offset of an earlier one and of a later one. It
-// passes the characters up to the nearer of both. If the characters between both have one unit each, it reads none.
+// reads from the nearer of these two. If the characters between them have one unit each, it reads none.
 pub(crate) fn between(
     text: Utf16Str<'_>,
     low: (usize, usize),

@@ -125,7 +125,8 @@ fn moved_entry(
     let to = 64 * (number + 1);
     let known = known_from(text, entries, number, count, units, total);
     // If there are at least as many characters as before, the new entry is at or before the offset to which the old
-    // entry moved, and after the new entry before it. If there are fewer, it is between two old entries that moved.
+    // entry moved, and after the new entry before it. If there are fewer, it is at or after that offset, and at or
+    // before the one to which the next old entry moved, or the end of the text if there is no next one.
     if count <= total {
         return between(text, (to - 64, entries[number - 1]), known, to, steps);
     }
@@ -134,7 +135,7 @@ fn moved_entry(
 }
 
 // Returns the new entry number `number + 1`. The first entry past the beginning of the range is found by reading from
-// that beginning, and each later one from where the old entry has moved.
+// that beginning. Each later one is found from the offset to which the old entry moved, or from the end of the text.
 fn next_entry(
     text: Utf16Str<'_>,
     entries: &[usize],

@@ -38,10 +38,10 @@ impl<'a, C: FaultUnit> UCStr<'a, C> {
     /// if there is none. An empty needle occurs at the start. Units may have any values but 0, so the offset may be
     /// within a surrogate pair.
     ///
-    /// The search for the first unit of the needle is vectorized. Where that unit is frequent, so is the search for an
-    /// offset at which the first and the last unit of the needle both match. Units are compared up to one that differs.
-    /// If too many are compared in vain, as they may be if the needle repeats itself, the two-way search passes the
-    /// next offsets, so the time is linear in both lengths.
+    /// The search for the first unit of the needle is vectorized. If that unit is frequent, a vectorized search for an
+    /// offset at which the first and the last unit of the needle both match follows. Units are compared up to one that
+    /// differs. If too many are compared in vain, as they may be if the needle repeats itself, the two-way search
+    /// passes the next offsets, so the time is linear in both lengths.
     pub fn find(self, needle: UCStr<'_, C>) -> Option<usize>
         ensures first { IfSome result (IsFirstAt (contents_seen needle.entry) (contents_seen self.entry)) }
         ensures none { IfNone result (OccursNowhere (contents_seen needle.entry) (contents_seen self.entry)) }

@@ -9,7 +9,7 @@ ghost use Rattle.std.specs.List.{copy_within};
 const BLOCK: usize = 32;
 
 // Moves a block of elements from one index to another. The compiler vectorizes both loops, whose bounds are proved.
-// `copy_from_slice` into a part of the array would need the size of an element, which is unknown for a generic type.
+// `copy_from_slice` would need the size of an element, which is unknown for a generic `T: Copy`.
 #[inline(always)]
 fn move_block<T: Copy>(elements: &mut [T], from: usize, to: usize)
     requires from { from + 32 ≤ length elements.old }

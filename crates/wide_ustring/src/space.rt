@@ -10,7 +10,7 @@ use wide_error::OutOfMemory;
 use wide_from_utf8::from_utf8_prefix;
 use wide_unit::Unit;
 
-// Removes the units from `from` up to `to`. Each unit after them moves once. If there are none, no unit moves.
+// Removes the units from `from` up to `to`, and moves each unit after them once. If `from` is `to`, no unit moves.
 pub(crate) fn cut<C: Copy, A: Allocator>(units: &mut Vec<C, A>, from: usize, to: usize)
     requires forward { from ≤ to }
     requires within { to ≤ vec_len units.old }
@@ -54,7 +54,7 @@ pub(crate) fn open<C: Unit, A: Allocator>(
     Ok(())
 }
 
-// Replaces the units from `from` up to `to` by other units. Each unit after them moves once.
+// Replaces the units from `from` up to `to` by other units. Each unit after them moves at most once.
 pub(crate) fn replace<C: Unit, A: Allocator>(
     units: &mut Vec<C, A>,
     from: usize,
@@ -75,7 +75,7 @@ pub(crate) fn replace<C: Unit, A: Allocator>(
     Ok(())
 }
 
-// Replaces the units from `from` up to `to` by the units of a character. Each unit after them moves once.
+// Replaces the units from `from` up to `to` by the units of a character. Each unit after them moves at most once.
 pub(crate) fn replace_char<C: Unit, A: Allocator>(
     units: &mut Vec<C, A>,
     from: usize,
@@ -162,7 +162,7 @@ pub(crate) fn push_str<C: Unit, A: Allocator>(
 }
 
 // Replaces the units from `from` up to `to` by the units of a text. They are written into a gap of their length. Each
-// unit after them moves once.
+// unit after them moves at most once.
 pub(crate) fn replace_str<C: Unit, A: Allocator>(
     units: &mut Vec<C, A>,
     from: usize,

@@ -381,7 +381,7 @@ impl<C: FaultUnit, A: Allocator> UString<C, A> {
         let mut kept = 0;
         for at in 0..units.len() {
             let unit = units[at];
-            // The unit is written in either case, since a branch by the closure's answer is often predicted wrong. One
+            // The unit is written in either case, since a branch by the closure's result is often predicted wrong. One
             // that is not retained is overwritten by the next unit or removed by `truncate`.
             units[kept] = unit;
             kept += usize::from(keep(unit));
@@ -410,7 +410,7 @@ impl<C: FaultUnit, A: Allocator> UString<C, A> {
         while at < len {
             let first = units[at];
             if let Some(c) = first.as_scalar() {
-                // The unit is written in either case, since a branch by the closure's answer is often predicted wrong.
+                // The unit is written in either case, since a branch by the closure's result is often predicted wrong.
                 // One that is not retained is overwritten by a later character or removed by `truncate`.
                 units[kept] = first;
                 kept += usize::from(keep(c));

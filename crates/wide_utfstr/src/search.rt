@@ -38,10 +38,10 @@ impl<C: Unit> UtfStr<'_, C> {
     /// Returns the offset, in units, of the first occurrence of the needle, or `None` if there is none. An empty needle
     /// occurs at the start. The offset and the end of the occurrence are character boundaries.
     ///
-    /// The search for the first unit of the needle is vectorized. Where that unit is frequent, so is the search for an
-    /// offset at which the first and the last unit of the needle both match. Units are compared up to one that differs.
-    /// If too many are compared in vain, as they may be if the needle repeats itself, the two-way search passes the
-    /// next offsets, so the time is linear in both lengths.
+    /// The search for the first unit of the needle is vectorized. If that unit is frequent, a vectorized search for an
+    /// offset at which the first and the last unit of the needle both match follows. Units are compared up to one that
+    /// differs. If too many are compared in vain, as they may be if the needle repeats itself, the two-way search
+    /// passes the next offsets, so the time is linear in both lengths.
     pub fn find(self, needle: UtfStr<'_, C>) -> Option<usize>
         ensures first { IfSome result (IsFirstAt (units_seen needle.entry) (units_seen self.entry)) }
         ensures none { IfNone result (OccursNowhere (units_seen needle.entry) (units_seen self.entry)) }

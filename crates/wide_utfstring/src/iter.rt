@@ -17,7 +17,8 @@ use wide_utfstr::UtfStr;
 ///
 /// `{}` prints the characters that were not read yet. `{:?}` prints them between quotes, as [`char::escape_debug`]
 /// escapes them.
-// Once the range is removed, the string is shorter than `total`, and the offsets may no longer be character boundaries.
+// Once a range that is not empty is removed, the string is shorter than `total`, and the offsets may no longer be
+// character boundaries.
 pub struct DrainUtf<'a, C: FaultUnit, A: Allocator = Global> {
     pub(crate) string: &'a mut UtfString<C, A>,
     pub(crate) total: usize,

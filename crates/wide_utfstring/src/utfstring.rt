@@ -656,7 +656,7 @@ impl<C: FaultUnit, A: Allocator> UtfString<C, A> {
         }
     }
 
-    // Removes the units from `from` up to `to`. Each unit after them moves once.
+    // Removes the units from `from` up to `to`. Each unit after them moves at most once.
     pub(crate) fn remove_part(&mut self, from: usize, to: usize)
         requires range { IsWithin from to (ustring_len self.old) }
         requires others { IsWellFormed C.form (map C.number (splice self.old.units from to [])) }

@@ -201,8 +201,8 @@ size_t wide_utf16_bytes_first_fault(const uint8_t *bytes, size_t length, uint32_
 
 /*
  * Returns 1 if the last whole unit is ill-formed, and 0 if it is not. If there are no whole units, it returns 0 if
- * `after_fault` is 0, and 1 otherwise. `after_fault` describes the unit before the bytes: 0 if it is well formed or there is
- * none, any other number if it is ill-formed. Returns 0 if the order is invalid.
+ * `after_fault` is 0, and 1 otherwise. `after_fault` describes the unit before the bytes: 0 if it is well formed or
+ * there is none, any other number if it is ill-formed. Returns 0 if the order is invalid.
  */
 uint32_t wide_utf16_bytes_end_in_fault(const uint8_t *bytes, size_t length, uint32_t order, uint32_t after_fault);
 

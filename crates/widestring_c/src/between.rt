@@ -9,8 +9,8 @@ use wide_forms::Progress;
 use wide_from_units::between_forms_prefix;
 use wide_unit::{Unit, find_fault};
 
-// The size of the array, in units, that the converted units of a short input are copied from. Less of it has to be
-// cleared.
+// The size of the array, in units, that the converted units of a short input are copied from. A small array takes less
+// time to clear.
 const FEW: usize = 32;
 
 // The size of the array, in units, that the converted units of a longer input are copied from: 48 steps of sixteen.

@@ -16,7 +16,8 @@ use wide_from_units::is_after_fault;
 use wide_from_utf8::from_utf8_prefix;
 use wide_unit::Unit;
 
-// The size of the array, in units, that the units of a short input are copied from. Less of it has to be cleared.
+// The size of the array, in units, that the units of a short input are copied from. A small array takes less time to
+// clear.
 const FEW: usize = 32;
 
 // The size of the array, in units, that the units of a longer input are copied from: 48 steps of at most sixteen.
