@@ -24,9 +24,9 @@ pub(crate) struct Factorization {
 // The units of a needle from an index on.
 #[derive(Clone, Copy)]
 struct Suffix {
-    // The index of the first of them.
+    // The index of the first unit of the suffix.
     start: usize,
-    // The least period of them.
+    // The least period of the suffix.
     period: usize,
 }
 

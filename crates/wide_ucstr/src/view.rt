@@ -30,7 +30,7 @@ use wide_utferror::{ContainsNul, FaultUnit, MissingNulTerminator, NulError};
 /// Equality, order and hash of C strings are those of their units with the NUL. Since a NUL is the least unit, the
 /// order is that of the contents, by the units' numbers. `{:?}` prints the units with the NUL between quotes, as
 /// [`char::escape_debug`] escapes them, so the NUL is printed last, as `\0`. A unit that belongs to no character is
-/// printed as `\<XXXX>`, in upper-case hexadecimal.
+/// printed as `\<H>`, where `H` is its number in upper-case hexadecimal, without leading zeros.
 #[derive(PartialEq, Eq, PartialOrd, Ord, Hash)]
 pub struct UCStr<'a, C: Unit> {
     pub(crate) units: &'a [C],

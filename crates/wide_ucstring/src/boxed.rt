@@ -16,8 +16,8 @@ use wide_utferror::FaultUnit;
 /// `Box<U32CStr>` in the Rust crate. Its type guarantees that the last unit is a NUL, and the only one.
 ///
 /// Compare two of them through their views, by [`BoxedUCStr::as_ucstr`]. `{:?}` prints the units with the NUL between
-/// quotes, as [`char::escape_debug`] escapes them; a unit that belongs to no character is printed as `\<XXXX>`, in
-/// hexadecimal.
+/// quotes, as [`char::escape_debug`] escapes them; a unit that belongs to no character is printed as `\<H>`, where `H`
+/// is its number in upper-case hexadecimal, without leading zeros.
 #[derive(Drop)]
 pub struct BoxedUCStr<C: FaultUnit, A: Allocator = Global> {
     units: BoxedUStr<C, A>,

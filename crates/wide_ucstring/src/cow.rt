@@ -16,8 +16,8 @@ use wide_utferror::FaultUnit;
 /// U32CStr>` in the Rust crate.
 ///
 /// Compare two of them through their views, by [`CowUCStr::as_ucstr`]. `{:?}` prints the units with the NUL between
-/// quotes, as [`char::escape_debug`] escapes them; a unit that belongs to no character is printed as `\<XXXX>`, in
-/// hexadecimal.
+/// quotes, as [`char::escape_debug`] escapes them; a unit that belongs to no character is printed as `\<H>`, where `H`
+/// is its number in upper-case hexadecimal, without leading zeros.
 #[derive(Drop)]
 pub enum CowUCStr<'a, C: FaultUnit, A: Allocator = Global> {
     /// A view of units that something else owns.

@@ -28,7 +28,8 @@ use wide_utferror::{ContainsNul, FaultUnit, UCStringError};
 /// passed, if any.
 ///
 /// `{:?}` prints the units with the NUL between quotes, as [`char::escape_debug`] escapes them, so the NUL is printed
-/// last, as `\0`. A unit that belongs to no character is printed as `\<XXXX>`, in hexadecimal.
+/// last, as `\0`. A unit that belongs to no character is printed as `\<H>`, where `H` is its number in upper-case
+/// hexadecimal, without leading zeros.
 #[derive(Drop)]
 pub struct UCString<C: FaultUnit, A: Allocator = Global> {
     pub(crate) string: UString<C, A>,

@@ -19,7 +19,8 @@ use wide_utferror::FaultUnit;
 /// `Cow<'_, U32Str>` in the Rust crate.
 ///
 /// Compare two of them through their views, by [`CowUStr::as_ustr`]. `{:?}` prints the text between quotes, as
-/// [`char::escape_debug`] escapes it; a unit that belongs to no character is printed as `\<XXXX>`, in hexadecimal.
+/// [`char::escape_debug`] escapes it; a unit that belongs to no character is printed as `\<H>`, where `H` is its number
+/// in upper-case hexadecimal, without leading zeros.
 #[derive(Drop)]
 pub enum CowUStr<'a, C, A: Allocator = Global> {
     /// A view of units that something else owns.
