@@ -177,7 +177,7 @@ FILES = [
     ("no calls", b""),
     ("an edit of a string that is not well formed leaves it", b"string \\uD800\nremove 99\nisWellFormed\ntoWellFormed\n"),
     ("and so where its place is there", b"string a\\uDC00\ninsert 0 x\nreplace 0 1 x\nremove 0\nslice 0 9\n"),
-    ("an edit that is refused leaves the string", "string é😀\nremove 2\ninsert 3 x\nreplace 1 3 x\nreplace 1 0 x\nslice 0 9\n".encode()),
+    ("an edit that is rejected leaves the string", "string é😀\nremove 2\ninsert 3 x\nreplace 1 3 x\nreplace 1 0 x\nslice 0 9\n".encode()),
     ("edits at places in characters", "string a😀b\nremove 1\ninsert 1 é😀\nreplace 0 2 ''\nreplace 1 1\ninsert 4\n".encode()),
     ("an escape is four hexadecimal digits", b"string x\\u12\nslice 0 9\nstring \\u+123\nstring \\u 123\nstring \\u\n"),
     ("and none is lost", "string 😀\\u00e\nstring \\uD83D\\uDE00\\u00E9\\u004g\nstring \\u00é1\nslice 0 9\n".encode()),

@@ -16,7 +16,7 @@ use Rattle.wide_edit.specs.Step.{changed, answer, chars_in, step, Chars}
 use Rattle.wide_editable.specs.Edited.{IsMade}
 use Rattle.wide_edit.specs.declared.edits.Edit.TheVariants.{Push, PushStr, Truncate, Insert, InsertStr, Remove, Drain, Replace, SplitOff}
 use Rattle.wide_edit.specs.declared.edits.Reply.TheVariants as reply
-use Rattle.wide_editable.proofs.Made.{in_place, in_range, made-push, made-push_str, made-truncate, made-insert, made-insert_str, made-remove, made-replace, made-split, made-drain, refused-insert, refused-insert_str, refused-remove, refused-split}
+use Rattle.wide_editable.proofs.Made.{in_place, in_range, made-push, made-push_str, made-truncate, made-insert, made-insert_str, made-remove, made-replace, made-split, made-drain, rejected-insert, rejected-insert_str, rejected-remove, rejected-split}
 use Rattle.wide_offset_index.proofs.Lengths.{size-splice, size-one}
 use Rattle.wide_offset_index.proofs.Offsets.{got, no_units, Found, found_some, found_none, before-offset, range-forward, part-text}
 
@@ -33,16 +33,16 @@ module _ (form : EncodingForm) (us : List ℕ) (i : ℕ) (r : Option ℕ) (searc
     not-truncated = made-truncate l l i (sym (take_all i l (omega (arith, never))))
 
     pub not-inserted : (c : ℕ) → IsMade l (Insert i c) l reply.BadPlace
-    not-inserted c = refused-insert l i c never
+    not-inserted c = rejected-insert l i c never
 
     pub not-inserted_str : (t : Bor (List ℕ)) → IsMade l (InsertStr i t) l reply.BadPlace
-    not-inserted_str t = refused-insert_str l l t i never
+    not-inserted_str t = rejected-insert_str l l t i never
 
     pub not-removed : IsMade l (Remove i) l reply.BadPlace
-    not-removed = refused-remove l i (omega (arith, never))
+    not-removed = rejected-remove l i (omega (arith, never))
 
     pub not-split : IsMade l (SplitOff i) l reply.BadPlace
-    not-split = refused-split l i never
+    not-split = rejected-split l i never
 
   module _ (at : ℕ) (some : r ≡ Some at) where
     there : Found form us i at

@@ -72,17 +72,17 @@ module _ (l new : List ℕ) where
 
 -- An edit that is rejected.
 module _ (l : List ℕ) where
-  pub refused-insert : (i c : ℕ) → (i ≤ length l → ⊥) → IsMade l (Insert i c) l reply.BadPlace
-  refused-insert i c never = record { text = rw (past i (length l) never) refl; answer = rw (past i (length l) never) refl }
+  pub rejected-insert : (i c : ℕ) → (i ≤ length l → ⊥) → IsMade l (Insert i c) l reply.BadPlace
+  rejected-insert i c never = record { text = rw (past i (length l) never) refl; answer = rw (past i (length l) never) refl }
 
-  pub refused-remove : (i : ℕ) → length l ≤ i → IsMade l (Remove i) l reply.BadPlace
-  refused-remove i le = record { text = rw (not_below i (length l) le) refl; answer = rw (not_below i (length l) le) refl }
+  pub rejected-remove : (i : ℕ) → length l ≤ i → IsMade l (Remove i) l reply.BadPlace
+  rejected-remove i le = record { text = rw (not_below i (length l) le) refl; answer = rw (not_below i (length l) le) refl }
 
-  pub refused-split : (i : ℕ) → (i ≤ length l → ⊥) → IsMade l (SplitOff i) l reply.BadPlace
-  refused-split i never = record { text = rw (past i (length l) never) refl; answer = rw (past i (length l) never) refl }
+  pub rejected-split : (i : ℕ) → (i ≤ length l → ⊥) → IsMade l (SplitOff i) l reply.BadPlace
+  rejected-split i never = record { text = rw (past i (length l) never) refl; answer = rw (past i (length l) never) refl }
 
-  pub refused-drain : (a b : ℕ) → is_range a b (length l) ≡ false → IsMade l (Drain a b) l reply.BadRange
-  refused-drain a b e = record { text = rw e refl; answer = rw e refl }
+  pub rejected-drain : (a b : ℕ) → is_range a b (length l) ≡ false → IsMade l (Drain a b) l reply.BadRange
+  rejected-drain a b e = record { text = rw e refl; answer = rw e refl }
 
 module _ (l new : List ℕ) (t : Bor (List ℕ)) where
   pub made-push_str : new ≡ l ++ chars t.now → IsMade l (PushStr t) new reply.Done
@@ -94,8 +94,8 @@ module _ (l new : List ℕ) (t : Bor (List ℕ)) where
   pub made-replace : (a b : ℕ) → a ≤ b → b ≤ length l → new ≡ splice l a b (chars t.now) → IsMade l (Replace a b t) new reply.Done
   made-replace a b le within e = record { text = rw (in_range a b (length l) le within) e; answer = rw (in_range a b (length l) le within) refl }
 
-  pub refused-insert_str : (i : ℕ) → (i ≤ length l → ⊥) → IsMade l (InsertStr i t) l reply.BadPlace
-  refused-insert_str i never = record { text = rw (past i (length l) never) refl; answer = rw (past i (length l) never) refl }
+  pub rejected-insert_str : (i : ℕ) → (i ≤ length l → ⊥) → IsMade l (InsertStr i t) l reply.BadPlace
+  rejected-insert_str i never = record { text = rw (past i (length l) never) refl; answer = rw (past i (length l) never) refl }
 
-  pub refused-replace : (a b : ℕ) → is_range a b (length l) ≡ false → IsMade l (Replace a b t) l reply.BadRange
-  refused-replace a b e = record { text = rw e refl; answer = rw e refl }
+  pub rejected-replace : (a b : ℕ) → is_range a b (length l) ≡ false → IsMade l (Replace a b t) l reply.BadRange
+  rejected-replace a b e = record { text = rw e refl; answer = rw e refl }

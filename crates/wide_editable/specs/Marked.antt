@@ -27,13 +27,13 @@ first_changed count (SplitOff i) = min i count
 first_changed count Clear = 0
 
 -- How many index entries of the characters `cs` are not past the first character that the edit can change.
-abbrev pub marks_kept : List ℕ → Edit → ℕ
-marks_kept cs edit = first_changed (length cs) edit / 64
+abbrev pub marks_unchanged : List ℕ → Edit → ℕ
+marks_unchanged cs edit = first_changed (length cs) edit / 64
 
 -- The number of units after the last entry that the edit leaves unchanged, in the old and in the new text together.
 abbrev pub units_after : List ℕ → List ℕ → Edit → ℕ
 units_after old new edit =
-    (length (encode Utf16 old) - mark old (marks_kept old edit)) + (length (encode Utf16 new) - mark new (marks_kept old edit))
+    (length (encode Utf16 old) - mark old (marks_unchanged old edit)) + (length (encode Utf16 new) - mark new (marks_unchanged old edit))
 
 -- The number of units that are read to count the characters of a reply: those of the characters that a `SplitOff`
 -- removes.

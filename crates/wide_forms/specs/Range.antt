@@ -15,10 +15,10 @@ module _ {X : Type 0} (xs : List X) (start end : Bound ℕ) where
   abbrev pub IsInRange : Type 0
   IsInRange = IsWithin (start_index start) (end_index end (length xs)) (length xs)
 
-  -- The slice between them.
+  -- The slice of the list that the range names.
   abbrev pub part_of : List X
   part_of = slice_range xs (start_index start) (end_index end (length xs))
 
-  -- The list with another list in place of that slice.
+  -- The list with another list in place of the slice that the range names.
   abbrev pub part_replaced : List X → List X
   part_replaced put = splice xs (start_index start) (end_index end (length xs)) put

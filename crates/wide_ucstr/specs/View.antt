@@ -5,7 +5,7 @@ use Rattle.wide_ucstr.specs.CString.{contents}
 use Rattle.wide_ucstr.specs.declared.view.UCStr.{UCStr}
 
 module _ {C : Type 0} {g : Ghosts C} where
-  -- Its units, and those before the NUL.
+  -- The units of a C string with its NUL, and those before the NUL.
   abbrev pub units_with_nul : UCStr C g → List C
   units_with_nul view = view.units.now
 

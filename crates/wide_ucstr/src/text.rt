@@ -68,7 +68,7 @@ impl UCStr<'_, u16> {
         ensures fault { IfErr result (λ e. IfSome (utf16_fault e) (λ fault. IsFirstFault Utf16 (contents_seen self.entry) (index_of fault) (item_of fault) (unit_of fault))) }
         ensures within { IfErr result (λ e. IfSome (utf16_fault e) (λ fault. index_of fault < length (contents_seen self.entry))) }
         ensures no_vector { IfErr result (λ e. IfSome (utf16_fault e) (λ fault. vec_of fault ≡ None)) }
-        ensures refused { IfErr result (λ e. IfNone (utf16_fault e) (IsWellFormed Utf16 (contents_seen self.entry))) }
+        ensures no_memory { IfErr result (λ e. IfNone (utf16_fault e) (IsWellFormed Utf16 (contents_seen self.entry))) }
         ensures succeeds { contents_seen self.entry ≡ [] → IsOk result }
     {
         self.as_ustr().to_string(alloc)
@@ -93,7 +93,7 @@ impl UCStr<'_, u32> {
         ensures fault { IfErr result (λ e. IfSome (utf32_fault e) (λ fault. IsFirstFault Utf32 (contents_seen self.entry) (index_of fault) (item_of fault) (unit_of fault))) }
         ensures within { IfErr result (λ e. IfSome (utf32_fault e) (λ fault. index_of fault < length (contents_seen self.entry))) }
         ensures no_vector { IfErr result (λ e. IfSome (utf32_fault e) (λ fault. vec_of fault ≡ None)) }
-        ensures refused { IfErr result (λ e. IfNone (utf32_fault e) (IsWellFormed Utf32 (contents_seen self.entry))) }
+        ensures no_memory { IfErr result (λ e. IfNone (utf32_fault e) (IsWellFormed Utf32 (contents_seen self.entry))) }
         ensures succeeds { contents_seen self.entry ≡ [] → IsOk result }
     {
         self.as_ustr().to_string(alloc)

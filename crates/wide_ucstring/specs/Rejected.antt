@@ -49,6 +49,6 @@ module _ {C A : Type 0} (number : C → ℕ) where
     RejectsNulOfCopy (OutOfMemory vec) = vec ≡ None
 
 -- No vector was passed, and no NUL is rejected: the only error is that the allocation failed, and it holds no vector.
-abbrev pub IsWantOfMemory : {C A : Type 0} → UCStringError C A → Type 0
-IsWantOfMemory (ContainsNul e) = ⊥
-IsWantOfMemory (OutOfMemory vec) = vec ≡ None
+abbrev pub IsAllocationFailure : {C A : Type 0} → UCStringError C A → Type 0
+IsAllocationFailure (ContainsNul e) = ⊥
+IsAllocationFailure (OutOfMemory vec) = vec ≡ None

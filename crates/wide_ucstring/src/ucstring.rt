@@ -10,7 +10,7 @@ ghost use Rattle.wide_ustring.specs.Units.{Units};
 ghost use Rattle.wide_ucstr.specs.CString.{IsCString, contents};
 ghost use Rattle.wide_ucstr.specs.View.{units_with_nul};
 ghost use Rattle.wide_ucstring.specs.Made.{HasNoInnerNul, EndsAsGiven, EndsAtFirst};
-ghost use Rattle.wide_ucstring.specs.Rejected.{RejectsInnerNul, RejectsInnerNulOfCopy, RejectsNulOfCopy, IsOutOfSpace, IsWantOfMemory};
+ghost use Rattle.wide_ucstring.specs.Rejected.{RejectsInnerNul, RejectsInnerNulOfCopy, RejectsNulOfCopy, IsOutOfSpace, IsAllocationFailure};
 
 use std::alloc::{Allocator, Global};
 use std::marker::Model;
@@ -209,7 +209,7 @@ impl<C: FaultUnit, A: Allocator> UCString<C, A> {
     /// Out of memory, if the allocation fails. The error holds no vector.
     pub fn new(alloc: A) -> Result<Self, UCStringError<C, A>>
         ensures made { IfOk result (λ s. map C.number s.units ≡ 0 ∷ []) }
-        ensures rejected { IfErr result IsWantOfMemory }
+        ensures rejected { IfErr result IsAllocationFailure }
     {
         end(with_space(alloc, 0)?.into_vec())
     }
@@ -242,7 +242,7 @@ impl<C: FaultUnit, A: Allocator> UCString<C, A> {
     pub fn from_ustr_unchecked(alloc: A, text: UStr<'_, C>) -> Result<Self, UCStringError<C, A>>
         requires { HasNoInnerNul (map C.number (units_seen text)) }
         ensures made { IfOk result (λ s. EndsAsGiven (map C.number (units_seen text.entry)) (map C.number s.units)) }
-        ensures rejected { IfErr result IsWantOfMemory }
+        ensures rejected { IfErr result IsAllocationFailure }
     {
         UCString::from_vec_unchecked(copy_of_ustr(alloc, text)?)
     }
@@ -255,7 +255,7 @@ impl<C: FaultUnit, A: Allocator> UCString<C, A> {
     /// Out of memory, if the allocation for the copy fails. The error holds no vector.
     pub fn from_ustr_truncate(alloc: A, text: UStr<'_, C>) -> Result<Self, UCStringError<C, A>>
         ensures made { IfOk result (λ s. EndsAtFirst (map C.number (units_seen text.entry)) (map C.number s.units)) }
-        ensures rejected { IfErr result IsWantOfMemory }
+        ensures rejected { IfErr result IsAllocationFailure }
     {
         match first_nul(text.as_slice()) {
             Some(offset) => end(copy_of_ustr(alloc, text.slice(..offset))?),
@@ -292,7 +292,7 @@ impl<C: FaultUnit, A: Allocator> UCString<C, A> {
     pub fn from_str_unchecked(alloc: A, text: &str) -> Result<Self, UCStringError<C, A>>
         requires { HasNoInnerNul (encode C.form (chars text.now)) }
         ensures made { IfOk result (λ s. EndsAsGiven (encode C.form (chars text.now)) (map C.number s.units)) }
-        ensures rejected { IfErr result IsWantOfMemory }
+        ensures rejected { IfErr result IsAllocationFailure }
     {
         UCString::from_vec_unchecked(copy_of_str(alloc, text)?)
     }
@@ -305,7 +305,7 @@ impl<C: FaultUnit, A: Allocator> UCString<C, A> {
     /// Out of memory, if the allocation for the whole text fails. The error holds no vector.
     pub fn from_str_truncate(alloc: A, text: &str) -> Result<Self, UCStringError<C, A>>
         ensures made { IfOk result (λ s. EndsAtFirst (encode C.form (chars text.now)) (map C.number s.units)) }
-        ensures rejected { IfErr result IsWantOfMemory }
+        ensures rejected { IfErr result IsAllocationFailure }
     {
         UCString::from_vec_truncate(copy_of_str(alloc, text)?)
     }
@@ -423,7 +423,7 @@ impl<A: Allocator> UCString<u32, A> {
     pub fn from_chars_unchecked(alloc: A, chars: &[char]) -> Result<Self, UCStringError<u32, A>>
         requires { HasNoInnerNul chars.now }
         ensures made { IfOk result (λ s. EndsAsGiven chars.now s.units) }
-        ensures rejected { IfErr result IsWantOfMemory }
+        ensures rejected { IfErr result IsAllocationFailure }
     {
         UCString::from_vec_unchecked(copy_of_chars(alloc, chars)?)
     }
@@ -437,7 +437,7 @@ impl<A: Allocator> UCString<u32, A> {
     /// Out of memory, if the allocation for all characters fails. The error holds no vector.
     pub fn from_chars_truncate(alloc: A, chars: &[char]) -> Result<Self, UCStringError<u32, A>>
         ensures made { IfOk result (λ s. EndsAtFirst chars.now s.units) }
-        ensures rejected { IfErr result IsWantOfMemory }
+        ensures rejected { IfErr result IsAllocationFailure }
     {
         UCString::from_vec_truncate(copy_of_chars(alloc, chars)?)
     }

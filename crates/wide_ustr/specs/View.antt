@@ -5,7 +5,7 @@ use Rattle.wide_forms.specs.Segmentation.{Item}
 use Rattle.wide_forms.specs.Items.{items}
 use Rattle.wide_ustr.specs.declared.view.UStr.{UStr}
 
--- Its units.
+-- The units that a view shows.
 abbrev pub units_seen : {C : Type 0} → UStr C → List C
 units_seen view = view.units.now
 

@@ -74,7 +74,7 @@ impl UStr<'_, u16> {
         ensures fault { IfErr result (λ e. IfSome (utf16_fault e) (λ fault. IsFirstFault Utf16 (units_seen self.entry) (index_of fault) (item_of fault) (unit_of fault))) }
         ensures within { IfErr result (λ e. IfSome (utf16_fault e) (λ fault. index_of fault < length (units_seen self.entry))) }
         ensures no_vector { IfErr result (λ e. IfSome (utf16_fault e) (λ fault. vec_of fault ≡ None)) }
-        ensures refused { IfErr result (λ e. IfNone (utf16_fault e) (IsWellFormed Utf16 (units_seen self.entry))) }
+        ensures no_memory { IfErr result (λ e. IfNone (utf16_fault e) (IsWellFormed Utf16 (units_seen self.entry))) }
         ensures succeeds { units_seen self.entry ≡ [] → IsOk result }
     {
         match check(self.units) {
@@ -102,7 +102,7 @@ impl UStr<'_, u32> {
         ensures fault { IfErr result (λ e. IfSome (utf32_fault e) (λ fault. IsFirstFault Utf32 (units_seen self.entry) (index_of fault) (item_of fault) (unit_of fault))) }
         ensures within { IfErr result (λ e. IfSome (utf32_fault e) (λ fault. index_of fault < length (units_seen self.entry))) }
         ensures no_vector { IfErr result (λ e. IfSome (utf32_fault e) (λ fault. vec_of fault ≡ None)) }
-        ensures refused { IfErr result (λ e. IfNone (utf32_fault e) (IsWellFormed Utf32 (units_seen self.entry))) }
+        ensures no_memory { IfErr result (λ e. IfNone (utf32_fault e) (IsWellFormed Utf32 (units_seen self.entry))) }
         ensures succeeds { units_seen self.entry ≡ [] → IsOk result }
     {
         match check(self.units) {

@@ -23,12 +23,12 @@ module _ {U S I : Type 0} (becomes : U → S → Type 0) (steps : S → Option I
   pub record AddsUpTo (source : U) (old new : List ℕ) (capacity : ℕ) : Type 0 where
     pub iterator : S
     pub items : List I
-    pub refused : I
+    pub failed : I
     pub later : S
     pub from : becomes source iterator
-    pub given : Yields steps iterator (items ++ refused ∷ []) later
+    pub given : Yields steps iterator (items ++ failed ∷ []) later
     pub units : new ≡ old ++ flat_map text items
-    pub full : capacity < length new + length (text refused)
+    pub full : capacity < length new + length (text failed)
 
 -- A call extended a string, given by the numbers of its units and its capacity: by all items if it succeeded, and
 -- otherwise by those before the one whose allocation failed.

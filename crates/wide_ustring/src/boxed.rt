@@ -75,7 +75,7 @@ impl<C: FaultUnit, A: Allocator> UString<C, A> {
     /// and no more capacity than before. That is all that std's contract says of a vector that shrinks.
     pub fn into_boxed_ustr(mut self) -> Result<BoxedUStr<C, A>, Self>
         ensures units { IfOk result (λ boxed. boxed ≡ self.units) }
-        ensures refused { IfErr result (λ s. s.units ≡ self.units) }
+        ensures failed { IfErr result (λ s. s.units ≡ self.units) }
         ensures space { IfErr result (λ s. s.capacity ≤ self.capacity) }
         ensures spare { IfErr result (λ s. ustring_len s < s.capacity) }
         ensures succeeds { self.capacity ≤ ustring_len self → IsOk result }

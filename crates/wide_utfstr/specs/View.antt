@@ -6,7 +6,7 @@ use Rattle.wide_forms.specs.Items.{items, chars}
 use Rattle.wide_unit.specs.declared.unit.Unit.{Ghosts}
 use Rattle.wide_utfstr.specs.declared.view.UtfStr.{UtfStr}
 
--- Its units.
+-- The units that a view of well-formed text shows.
 abbrev pub units_seen : {C : Type 0} {g : Ghosts C} → UtfStr C g → List C
 units_seen view = view.units.now
 

@@ -82,7 +82,7 @@ impl<C: FaultUnit, A: Allocator> UtfString<C, A> {
     /// capacity than before.
     pub fn into_boxed_utfstr(self) -> Result<BoxedUtfStr<C, A>, Self>
         ensures units { IfOk result (λ boxed. boxed ≡ self.units) }
-        ensures refused { IfErr result (λ s. s.units ≡ self.units) }
+        ensures failed { IfErr result (λ s. s.units ≡ self.units) }
         ensures space { IfErr result (λ s. s.capacity ≤ self.capacity) }
         ensures spare { IfErr result (λ s. ustring_len s < s.capacity) }
         ensures succeeds { self.capacity ≤ ustring_len self → IsOk result }

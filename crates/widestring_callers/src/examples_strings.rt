@@ -94,7 +94,7 @@ pub fn capacity_of_text(string: U16String) -> Option<usize>
 pub fn put_whole_or_not(string: &mut U16String) -> bool
     requires { string.old.units ≡ 0x61 ∷ [] }
     ensures put { result ≡ true → string.new.units ≡ 0x61 ∷ 0xD83D ∷ 0xDE00 ∷ [] }
-    ensures refused { result ≡ false → string.new.units ≡ 0x61 ∷ [] }
+    ensures failed { result ≡ false → string.new.units ≡ 0x61 ∷ [] }
 {
     '😀'.push_to(string).is_ok()
 }

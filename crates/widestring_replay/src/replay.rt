@@ -122,7 +122,7 @@ impl Replay {
         for granted in 0..requests {
             heap.set(granted);
             match answered::<S>(memory, self.group, case) {
-                Err(NoAnswer::OutOfMemory) if heap.refused_one() => {}
+                Err(NoAnswer::OutOfMemory) if heap.failed_one() => {}
                 _ => return false,
             }
         }

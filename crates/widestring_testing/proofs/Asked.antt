@@ -1,4 +1,4 @@
--- How a proof calls `Ration::refuses`: what it passes, and what it has afterwards. Assumes `Logic`.
+-- How a proof calls `Ration::fails`: what it passes, and what it has afterwards. Assumes `Logic`.
 use Rattle.std.proofs.Common.{◌≡◌, ℕ, Bool, List, [], ◌∷◌, refl, ap}
 use seplogic.Ra.Ura.{Ura}
 use mir.Val.{Val, vbool, vptr}
@@ -16,7 +16,7 @@ use denote.Triple.Statement.{Contract}
 use denote.Triple.Spec.{triple_of}
 use Rattle.widestring_testing.specs.declared.limited.Ration.{Ration}
 use Rattle.widestring_testing.specs.contracts.limited.Ration.{the_row}
-use Rattle.widestring_testing.specs.contracts.limited.Ration.refuses as asked
+use Rattle.widestring_testing.specs.contracts.limited.Ration.fails as asked
 
 abbrev pub lent : Lft → ℕ × ℕ → Ration → Fml
 lent κ offset ration = hidden_shr the_row κ ration offset.0 offset.1
@@ -37,10 +37,10 @@ module _ {M : Type 1} {𝓤 : Ura M} (𝓛 : Logic 𝓤) (at_mem : Memory → SP
       feq_i ! (List Val) (vptr offset.0 offset.1 ∷ []) _ refl $ fjoin ! $ nothing ! $ move ! (1 ∷ 0 ∷ []) $ fjoin ! $
       nothing ! $ move ! (2 ∷ 0 ∷ []) $ join ! $ join ! $ nothing ! $ move ! (1 ∷ 0 ∷ []) $ join ! $ done !
 
-  pub answer : (v : Val) → ent 𝓤 ((Asks 𝓛 at_mem run).post picked v) (H.⇛ (ex 𝓤 (λ (refused : Bool). guard 𝓤 (v ≡ vbool refused) (A.lft κ q))))
+  pub answer : (v : Val) → ent 𝓤 ((Asks 𝓛 at_mem run).post picked v) (H.⇛ (ex 𝓤 (λ (failed : Bool). guard 𝓤 (v ≡ vbool failed) (A.lft κ q))))
   answer v =
       qed 𝓛 (raw ((Asks 𝓛 at_mem run).post picked v) ∷ []) ∵ updating ! $
-      use1 𝓛 (later (some (λ (refused : Bool). ((‵ (flft κ q) ⊛ ‵ ftrue) ⊛ ‵ (bool.own_val refused (v ∷ []))) ⊛
-      some (λ (left : Unit {0} × Unit {0}). ‵ (fsep ftrue ftrue) ⊛ ‵ ftrue)))) (id⊢ 𝓤 _) $ await ! tt $ pick ! (λ refused.
+      use1 𝓛 (later (some (λ (failed : Bool). ((‵ (flft κ q) ⊛ ‵ ftrue) ⊛ ‵ (bool.own_val failed (v ∷ []))) ⊛
+      some (λ (left : Unit {0} × Unit {0}). ‵ (fsep ftrue ftrue) ⊛ ‵ ftrue)))) (id⊢ 𝓤 _) $ await ! tt $ pick ! (λ failed.
       split ! $ split ! $ move ! (1 ∷ []) $ feq_l ! (λ is. split ! $
-      at_once ! $ show ! (λ (b : Bool). guard 𝓤 (v ≡ vbool b) (A.lft κ q)) refused $ check ! (ap only is) $ keep ! (0 ∷ []) $ done !))
+      at_once ! $ show ! (λ (b : Bool). guard 𝓤 (v ≡ vbool b) (A.lft κ q)) failed $ check ! (ap only is) $ keep ! (0 ∷ []) $ done !))

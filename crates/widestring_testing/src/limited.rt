@@ -6,15 +6,15 @@ use std::cell::Cell;
 #[derive(Drop)]
 struct Ration {
     left: Cell<u64>,
-    refused: Cell<u64>,
+    failed: Cell<u64>,
 }
 
 impl Ration {
     // Counts a request, and returns whether it fails.
-    fn refuses(&self) -> bool {
+    fn fails(&self) -> bool {
         let left = self.left.get();
         if left == 0 {
-            self.refused.set(self.refused.get().saturating_add(1));
+            self.failed.set(self.failed.get().saturating_add(1));
             return true;
         }
         self.left.set(left - 1);
@@ -37,7 +37,7 @@ impl<B: Allocator> Limited<B> {
             inner,
             ration: Ration {
                 left: Cell::new(0),
-                refused: Cell::new(0),
+                failed: Cell::new(0),
             },
         }
     }
@@ -45,7 +45,7 @@ impl<B: Allocator> Limited<B> {
     /// Grants this many more requests, and resets the number of failed ones.
     pub fn set(&self, left: u64) {
         self.ration.left.set(left);
-        self.ration.refused.set(0);
+        self.ration.failed.set(0);
     }
 
     /// Returns how many more requests are granted.
@@ -54,18 +54,18 @@ impl<B: Allocator> Limited<B> {
     }
 
     /// Returns how many requests failed since the last [`Limited::set`].
-    pub fn refused(&self) -> u64 {
-        self.ration.refused.get()
+    pub fn failed(&self) -> u64 {
+        self.ration.failed.get()
     }
 
     /// Returns whether all granted requests were made, this many and at least one, and none failed.
     pub fn granted_all(&self, granted: u64) -> bool {
-        granted > 0 && self.left() == 0 && self.refused() == 0
+        granted > 0 && self.left() == 0 && self.failed() == 0
     }
 
     /// Returns whether all granted requests were made, and one more, which failed.
-    pub fn refused_one(&self) -> bool {
-        self.left() == 0 && self.refused() == 1
+    pub fn failed_one(&self) -> bool {
+        self.left() == 0 && self.failed() == 1
     }
 }
 
@@ -82,7 +82,7 @@ unsafe impl<B: Allocator> Allocator for Limited<B> {
     ghost dealloc_token = { λ heap ty ptr. B.dealloc_token heap.inner ty ptr };
 
     fn allocate(&self, size: usize, align: usize) -> Result<*mut u8, AllocError> {
-        if self.ration.refuses() {
+        if self.ration.fails() {
             return Err(AllocError);
         }
         self.inner.allocate(size, align)

@@ -82,13 +82,13 @@ fn faults_of_c_strings(rt: HostRuntime) -> Result<(), Fail> {
     Ok(())
 }
 
-fn refused() -> Result<(), OutOfMemory> {
+fn failed() -> Result<(), OutOfMemory> {
     Err(AllocError)?;
     Ok(())
 }
 
-fn refused_in_a_run() -> Result<(), TranscodeError> {
-    refused()?;
+fn failed_in_a_run() -> Result<(), TranscodeError> {
+    failed()?;
     Ok(())
 }
 
@@ -112,8 +112,8 @@ fn faults_of_runs(rt: HostRuntime) {
         ),
         prints(alloc, &TranscodeError::Read, "read fault"),
         prints(alloc, &TranscodeError::Write, "write fault"),
-        refused() == Err(OutOfMemory),
-        refused_in_a_run() == Err(TranscodeError::OutOfMemory),
+        failed() == Err(OutOfMemory),
+        failed_in_a_run() == Err(TranscodeError::OutOfMemory),
         io::Error::from(OutOfMemory).kind() == io::ErrorKind::OutOfMemory,
     ];
     all_hold(&rt, &cases);

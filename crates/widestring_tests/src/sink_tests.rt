@@ -1,5 +1,5 @@
 //! Tests of what a sink holds at an error, if it takes a write whole or not at all: printing hands on each character as
-//! a write of its own, in the same writes as a loop over them, so every character before the refused write is held.
+//! a write of its own, in the same writes as a loop over them, so every character before the failed write is held.
 use crate::all_hold::case_holds;
 use crate::coded::{Coded, push_numbers};
 use crate::print_loops::{Items, Lossy, LossyChars, PolicyChars, Skipping};
@@ -25,7 +25,7 @@ struct Limits {
     longest: usize,
 }
 
-// A sink that takes a write whole, or refuses it and takes nothing.
+// A sink that takes a write whole, or fails and takes nothing.
 #[derive(PartialEq, Drop)]
 struct WholeSink {
     bytes: Vec<u8>,
@@ -57,7 +57,7 @@ impl fmt::Write for WholeSink {
     }
 }
 
-// Returns whether two values print in the same writes up to the one that is refused, and fail alike.
+// Returns whether two values print in the same writes up to the one that fails, and fail alike.
 fn display_alike(
     alloc: Global,
     limits: Limits,
@@ -70,7 +70,7 @@ fn display_alike(
     ended == write!(second, "{other}") && first == second
 }
 
-// Returns whether the debug texts of two values are in the same writes up to the one that is refused, and fail alike.
+// Returns whether the debug texts of two values are in the same writes up to the one that fails, and fail alike.
 fn debug_alike(
     alloc: Global,
     limits: Limits,

@@ -72,7 +72,7 @@ module _ (form : EncodingForm) (us : List ℕ) (from to : ℕ) (well : IsWellFor
       in
       sym (ap (take (j - i)) joined ∙ ap (λ n. take n (part ++ drop j (chars form us))) (sym long) ∙ take-append_seam part (drop j (chars form us)))
 
-  -- Other units in its place.
+  -- Other units in place of a range of the units.
   module _ (new : List ℕ) (inserted : IsWellFormed form new) where
     back-well_formed : IsWellFormed form (new ++ drop to us)
     back-well_formed = IsWellFormed-append form new (drop to us) inserted (IsWellFormed-drop form us well to at_to)

@@ -25,10 +25,10 @@ pub fn collected<T: Drop>(string: &mut T, answer: &mut Answer, made: Result<T, T
 
 /// Adds what a call answers whose request failed: a `?` if it did not leave the string as its contract says, and a `-`
 /// if the string would be too long, with no request. Otherwise records the failure.
-pub fn refused(heap: &Heap, answer: &mut Answer, is_kept: Result<bool, NoAnswer>) {
+pub fn failed(heap: &Heap, answer: &mut Answer, is_kept: Result<bool, NoAnswer>) {
     match is_kept {
         Ok(false) => answer.word("?"),
-        Ok(true) if heap.refused() == 0 => answer.word("-"),
+        Ok(true) if heap.failed() == 0 => answer.word("-"),
         Ok(true) => answer.fail(NoAnswer::OutOfMemory),
         Err(error) => answer.fail(error),
     }

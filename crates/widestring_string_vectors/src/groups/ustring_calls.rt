@@ -6,7 +6,7 @@
 //! requests. A string that would be too long is a `-`, with no request.
 ghost use Rattle.std.specs.Prelude.{IfOk, ◌≤◌};
 
-use crate::groups::outcomes::{refused, replaced};
+use crate::groups::outcomes::{failed, replaced};
 use crate::groups::pieces::{self, Item, Units};
 use crate::groups::ustring::range_and_more;
 use crate::groups::ustring_items::by_items;
@@ -589,7 +589,7 @@ fn in_field<'a, C: ReportedUnit>(
         Err(NoAnswer::OutOfMemory) => {
             let after = (string.as_slice(), string.capacity());
             let is_kept = pieces::is_kept(memory.alloc, written, before, after);
-            refused(memory.heap, answer, is_kept);
+            failed(memory.heap, answer, is_kept);
         }
         Err(error) => answer.fail(error),
     }

@@ -21,7 +21,7 @@
 //!   closure.
 //! - `p`, `l`: `pop`, `clear`.
 //! - `.`: a call by its name, of `text_calls`.
-use crate::groups::outcomes::refused;
+use crate::groups::outcomes::failed;
 use crate::groups::pieces::{self, Text};
 use crate::groups::text_calls::{self, shown};
 use crate::groups::ustring::range_and_more;
@@ -357,7 +357,7 @@ fn in_field<'a, C: ReportedUnit>(
         Err(NoAnswer::OutOfMemory) => {
             let after = (string.as_slice(), string.capacity());
             let is_kept = is_kept(memory.alloc, written, before, after);
-            refused(memory.heap, answer, is_kept);
+            failed(memory.heap, answer, is_kept);
         }
         Err(error) => answer.fail(error),
     }

@@ -268,7 +268,7 @@ fn copy<C: ReportedUnit>(memory: Memory<'_>, answer: &mut Answer, left: u64, uni
 }
 
 // Adds the fault of a copy, and the copy that the error returns.
-fn refused<C: ReportedUnit>(
+fn rejected<C: ReportedUnit>(
     memory: Memory<'_>,
     answer: &mut Answer,
     left: u64,
@@ -289,7 +289,7 @@ fn copied<'a, C: ReportedUnit>(
 ) {
     match made {
         Ok(Ok(string)) => copy(memory, answer, left, string.as_slice()),
-        Ok(Err(fault)) => refused(memory, answer, left, fault),
+        Ok(Err(fault)) => rejected(memory, answer, left, fault),
         Err(error) => answer.fail(error),
     }
 }
@@ -299,7 +299,7 @@ pub fn file(memory: Memory<'_>, answer: &mut Answer, bytes: &[u8]) {
     let left = memory.heap.left();
     match include_utf16str(memory.heap, bytes) {
         Ok(string) => copy(memory, answer, left, string.as_slice()),
-        Err(Utf16BytesError::Utf16(fault)) => refused(memory, answer, left, fault),
+        Err(Utf16BytesError::Utf16(fault)) => rejected(memory, answer, left, fault),
         Err(Utf16BytesError::OutOfMemory) => answer.fail(NoAnswer::OutOfMemory),
         Err(Utf16BytesError::OddLength) => {
             check(memory, answer, left, false);

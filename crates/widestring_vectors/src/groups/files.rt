@@ -62,7 +62,7 @@ fn fields(answer: &mut Answer, bytes: &[u8]) {
     answer.number(fields.half.map(u32::from));
 }
 
-fn refused(answer: &mut Answer, fault: Utf16Error<&Heap>) {
+fn rejected(answer: &mut Answer, fault: Utf16Error<&Heap>) {
     answer.first_fault(&fault);
     answer.part();
     answer.handed_back(fault.into_vec());
@@ -73,7 +73,7 @@ fn text(memory: Memory<'_>, answer: &mut Answer, bytes: &[u8]) {
         Ok(string) => answer.units(string.as_slice()),
         Err(Utf16BytesError::OddLength) => answer.word("odd"),
         Err(Utf16BytesError::OutOfMemory) => answer.fail(NoAnswer::OutOfMemory),
-        Err(Utf16BytesError::Utf16(fault)) => refused(answer, fault),
+        Err(Utf16BytesError::Utf16(fault)) => rejected(answer, fault),
     }
 }
 

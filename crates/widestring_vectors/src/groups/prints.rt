@@ -8,7 +8,7 @@
 //!
 //! - For units, `debug` is the view; `display` and `skipping` are the values that print its text; `chars`, `lossy`,
 //!   `each`, `run` and `skip` are its characters; `string` is the string of them, `box` the boxed string, and `cow` the
-//!   view as a borrowed string; `mended` is what lossy text prints, `fault` the error of ill-formed units, `refused`
+//!   view as a borrowed string; `mended` is what lossy text prints, `fault` the error of ill-formed units, `rejected`
 //!   that of units that are not a C string, and `escape` what characters print as escapes.
 //! - For a C string there are `c_debug`, `c_display`, `c_skipping`, `c_string`, `c_box` and `c_cow`; for text
 //!   `t_debug`, `t_string`, `t_box`, `t_chars`, the three escapes `escape_debug`, `escape_default` and
@@ -256,13 +256,13 @@ static OF_TEXT: [(&str, Text); 8] = [
 #[derive(Clone, Copy)]
 enum Reported {
     Fault,
-    Refused,
+    Rejected,
     Escape,
 }
 
 static REPORTED: [(&str, Reported); 3] = [
     ("fault", Reported::Fault),
-    ("refused", Reported::Refused),
+    ("rejected", Reported::Rejected),
     ("escape", Reported::Escape),
 ];
 
@@ -318,12 +318,12 @@ fn mended<C: Width>(alloc: Global, answer: &mut Answer, view: UStr<'_, C>) {
 fn of_error<C: Width>(alloc: Global, answer: &mut Answer, units: &[C], reported: Reported) {
     match reported {
         Reported::Fault => C::print_fault(alloc, answer, units),
-        Reported::Refused => refused(alloc, answer, units),
+        Reported::Rejected => rejected(alloc, answer, units),
         Reported::Escape => escapes(alloc, answer, units),
     }
 }
 
-fn refused<C: Width>(alloc: Global, answer: &mut Answer, units: &[C]) {
+fn rejected<C: Width>(alloc: Global, answer: &mut Answer, units: &[C]) {
     match UCStr::from_slice(units) {
         Ok(_) => answer.fail(NoAnswer::Unparsed),
         Err(NulError::ContainsNul(fault)) => inner_nul(alloc, answer, fault),

@@ -123,7 +123,7 @@ fn split_text<C: Width>(answer: &mut Answer, text: UtfStr<'_, C>, mid: usize) {
 }
 
 // Adds the first fault, and the units that the error returns.
-fn refused<C: Width>(answer: &mut Answer, fault: UtfError<C>) {
+fn rejected<C: Width>(answer: &mut Answer, fault: UtfError<C>) {
     answer.first_fault(&fault);
     answer.part();
     answer.handed_back(fault.into_vec());
@@ -147,7 +147,7 @@ fn text_of_contents<C: Width>(answer: &mut Answer, view: UCStr<'_, C>) {
                 UtfStr::from_ucstr_unchecked(view).as_slice(),
             ],
         ),
-        Err(fault) => refused(answer, fault),
+        Err(fault) => rejected(answer, fault),
     }
 }
 
@@ -238,7 +238,7 @@ fn of_text<C: Width>(answer: &mut Answer, text: UtfStr<'_, C>, call: Call) {
 // Adds the fault of ill-formed units, if the question is what is made of them.
 fn of_ill_formed<C: Width>(answer: &mut Answer, view: UStr<'_, C>, call: Call) {
     match (call, UtfStr::from_ustr(view)) {
-        (Call::Made, Err(fault)) => refused(answer, fault),
+        (Call::Made, Err(fault)) => rejected(answer, fault),
         _ => answer.fail(NoAnswer::Unparsed),
     }
 }

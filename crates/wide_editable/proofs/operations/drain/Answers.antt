@@ -2,7 +2,7 @@ use Rattle.std.proofs.Common.{arith, ap, map, length}
 use Rattle.std.specs.Prelude.{vec_capacity}
 use Rattle.wide_forms.specs.Offsets.{text_of}
 use Rattle.wide_utfstr.specs.View.{units_seen}
-use Rattle.wide_editable.proofs.Made.{refused-drain}
+use Rattle.wide_editable.proofs.Made.{rejected-drain}
 use Rattle.wide_editable.proofs.AtFound.{drained-fits, drained}
 use Rattle.wide_editable.proofs.operations.drain.Goals as goal
 
@@ -29,4 +29,4 @@ returns-in-Some-clause-made g c =
     record { text = both.0; answer = both.1 }
 
 pub returns-in-None-clause-made : goal.returns-in-None-clause-made
-returns-in-None-clause-made g c = refused-drain (text_of g.C.Unit.form g.C.Unit.number c.args.s.now.units) c.args.from c.args.to c.in-None.ensures.none
+returns-in-None-clause-made g c = rejected-drain (text_of g.C.Unit.form g.C.Unit.number c.args.s.now.units) c.args.from c.args.to c.in-None.ensures.none

@@ -1,6 +1,6 @@
 use Rattle.std.proofs.Common.{map, length}
 use Rattle.wide_forms.specs.Offsets.{text_of}
-use Rattle.wide_editable.proofs.Made.{refused-replace}
+use Rattle.wide_editable.proofs.Made.{rejected-replace}
 use Rattle.wide_editable.proofs.AtFound.{replaced}
 use Rattle.wide_editable.proofs.operations.replace.Goals as goal
 
@@ -13,4 +13,4 @@ returns-in-Some-clause-made g c =
 pub returns-in-None-clause-made : goal.returns-in-None-clause-made
 returns-in-None-clause-made g c =
     let l = text_of g.C.Unit.form g.C.Unit.number c.args.s.now.units in
-    refused-replace l l c.args.text c.args.from c.args.to c.in-None.ensures.none
+    rejected-replace l l c.args.text c.args.from c.args.to c.in-None.ensures.none

@@ -9,7 +9,7 @@ pub returns-in_err-text-clause-succeeds : goal.returns-in_err-text-clause-succee
 returns-in_err-text-clause-succeeds g c = λ none.
     let bytes : length (utf8 (chars g.C.Unit.form (map g.C.Unit.number c.args.units.now))) ≡ 0 = ap length (no_text g.C.Unit.form g.C.Unit.number c.args.units.now (ap length none)) in
     let asked : c.utf8_len.result ≡ 0 = omega (arith, c.utf8_len.ensures, bytes) in
-    let refused = c.in_err-text.ensures.succeeds asked in absurd cc
+    let failed = c.in_err-text.ensures.succeeds asked in absurd cc
 
 pub from_utf8_unchecked-requires : goal.from_utf8_unchecked-requires
 from_utf8_unchecked-requires g c =

@@ -8,7 +8,7 @@ returns-in_err-push_to-clause-added g c =
     Adds-at_err c.from_residual.result c.args.pieces g.S.Growing.seen c.args.string.now c.push_to.new.string c.from_residual.ensures.0 (record {
       iterator = c.into_iter-piece-iterator.result;
       items = c.loop-piece.yielded;
-      refused = c.in-Some.piece;
+      failed = c.in-Some.piece;
       later = c.next.new.self;
       from = c.into_iter-piece-iterator.ensures.into_iter_gives;
       given = Yields-one_more g.U.IntoIter.Iterator.next_gives _ c.loop-piece.piece-iterator c.next.new.self c.loop-piece.yielded c.in-Some.piece (search rules) (search rules);

@@ -37,8 +37,8 @@ use denote.Triple.Table.{framed}
 use denote.Triple.Walked.{Stays, stay_dropped, walk_of, ends_at, Goes-dropped}
 use Rattle.std.specs.Allocator.{block_if_ok}
 use Rattle.widestring_testing.proofs.Asked.{lent, Asks, picked, asking, answer}
-use Rattle.widestring_testing.proofs.limited.Ration.refuses.Symbol as ration
-use Rattle.widestring_testing.proofs.limited.Ration.refuses.Met as ration_met
+use Rattle.widestring_testing.proofs.limited.Ration.fails.Symbol as ration
+use Rattle.widestring_testing.proofs.limited.Ration.fails.Met as ration_met
 use Rattle.widestring_testing.specs.contracts.limited.Limited as limited
 use Rattle.widestring_testing.specs.contracts.limited.LimitedAllocator.allocate as f
 use Rattle.widestring_testing.specs.contracts.limited.LimitedAllocator.allocate.Key as key
@@ -98,7 +98,7 @@ module _ (B : Al) {M : Type 1} {𝓤 : Ura M} (𝓛 : Logic 𝓤) (𝓜 : Model 
         sets ! (addr ! (through ! refl (fld ! refl (stop !)))) refl (tt, tt) $
         use2 𝓛 (raw ((Asks 𝓛 𝓜.mem 𝓡.returns).pre (picked 𝓛 𝓜.mem 𝓡.returns κ q count r.now.ration))) (asking 𝓛 𝓜.mem 𝓡.returns κ q count r.now.ration) $
         calls_at ! (framed 𝓤 𝓛.H 𝓜 𝓣) (Asks 𝓛 𝓜.mem 𝓡.returns) asks (picked 𝓛 𝓜.mem 𝓡.returns κ q count r.now.ration) (and_then ! (get ! refl) (no_more !)) (λ u.
-        use1 𝓛 (later (some (λ (refused : Bool). given (u ≡ vbool refused) (‵ (flft κ q))))) (answer 𝓛 𝓜.mem 𝓡.returns κ q count r.now.ration u) $ await ! tt $ pick ! (λ refused. learn ! (λ is.
+        use1 𝓛 (later (some (λ (failed : Bool). given (u ≡ vbool failed) (‵ (flft κ q))))) (answer 𝓛 𝓜.mem 𝓡.returns κ q count r.now.ration u) $ await ! tt $ pick ! (λ failed. learn ! (λ is.
         lands_as ! is refl (tt, tt) $ first ! $ branches ! (get ! refl)
         (λ yes. sets ! (agg ! (no_more !)) refl (tt, tt) $ sets ! (agg ! (and_then ! (lit ! tt) (and_then ! (get ! refl) (no_more !)))) refl (Answer-typed false 0 0) $
         returns_within ! Post refl (look_at ! 0 refl) $ free_all ! refl $
