@@ -10,6 +10,7 @@ import functools
 import pathlib
 import re
 import sys
+import textwrap
 import typing
 
 ROOT = pathlib.Path(__file__).resolve().parent.parent
@@ -65,6 +66,22 @@ class Entry(typing.NamedTuple):
     doc: list
     members: list
     words: typing.Mapping
+
+
+# The longest line that the formatter leaves.
+WIDTH = 99
+
+
+def use_line(head, names, margin=""):
+    """Returns a `use` line, of which this is the head, as the formatter writes it after a margin."""
+    listed = sorted(set(names), key=lambda name: (not name[0].isupper(), natural(name)))
+    if len(listed) == 1:
+        return f"{margin}{head}::{listed[0]};"
+    short = f"{margin}{head}::{{{', '.join(listed)}}};"
+    if len(short) <= WIDTH:
+        return short
+    body = textwrap.fill(", ".join(listed) + ",", WIDTH - len(margin) - 4)
+    return textwrap.indent(f"{head}::{{\n{textwrap.indent(body, '    ')}\n}};", margin)
 
 
 def text_of(path):
