@@ -117,17 +117,21 @@ class Fault(ValueError):
 class Lossy(enum.IntEnum):
     r"""Chooses what lossy conversions write for ill-formed sequences.
 
-    EACH writes U+FFFD for each one, RUN writes one U+FFFD for each longest run of adjacent ones, and SKIP writes
-    nothing. SKIP joins the text on both sides of a sequence. So the result may contain a word that a filter did not
-    find before the conversion: filter the result, not the input.
+    SKIP joins the text on both sides of a sequence. So the result may contain a word that a filter did not find before
+    the conversion: filter the result, not the input.
 
     >>> [utf8_to_utf16_lossy(b"a\xff\xffb", policy).decode("utf-16-le") for policy in Lossy]
     ['a��b', 'a�b', 'ab']
     """
 
+    # Made by bindings/tables of WideLossy:
+    # Writes U+FFFD for each ill-formed sequence.
     EACH = 0
+    # Writes one U+FFFD for each longest run of adjacent ill-formed sequences.
     RUN = 1
+    # Writes nothing for ill-formed sequences.
     SKIP = 2
+    # End of what bindings/tables makes.
 
 
 class Order(enum.IntEnum):

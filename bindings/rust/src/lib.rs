@@ -139,12 +139,14 @@ impl From<Short> for IntoError {
 #[derive(Clone, Copy, Debug, PartialEq, Eq)]
 #[repr(u32)]
 pub enum Lossy {
-    /// Writes U+FFFD for each one.
+    // Made by bindings/tables of WideLossy:
+    /// Writes U+FFFD for each ill-formed sequence.
     Each = 0,
-    /// Writes one U+FFFD for each longest run of adjacent ones.
+    /// Writes one U+FFFD for each longest run of adjacent ill-formed sequences.
     Run = 1,
-    /// Writes nothing.
+    /// Writes nothing for ill-formed sequences.
     Skip = 2,
+    // End of what bindings/tables makes.
 }
 
 /// Says which of the two bytes of a unit of UTF-16 comes first.

@@ -55,18 +55,17 @@ uint32_t wide_version(void);
 #define WIDE_NOT_FOUND SIZE_MAX
 
 /*
- * Policies of lossy conversions: what is written for ill-formed sequences. WIDE_EACH writes U+FFFD for each one,
- * WIDE_RUN writes one U+FFFD for each longest run of adjacent ones, and WIDE_SKIP writes nothing. WIDE_SKIP joins the
- * text on both sides of a sequence. So the result may contain a word that a filter did not find before the conversion
- * (Unicode Technical Report 36, section 3.5). Filter the result, not the input.
+ * Policies of lossy conversions: what is written for ill-formed sequences. WIDE_SKIP joins the text on both sides of a
+ * sequence. So the result may contain a word that a filter did not find before the conversion (Unicode Technical Report
+ * 36, section 3.5). Filter the result, not the input.
  *
  * A policy is passed as a 32-bit number, since the width of an enum depends on the C implementation. For any other
  * number the functions return WIDE_FAULT and leave the buffer unchanged.
  */
 enum WideLossy {
-    WIDE_EACH = 0,
-    WIDE_RUN = 1,
-    WIDE_SKIP = 2
+    WIDE_EACH = 0, /* Writes U+FFFD for each ill-formed sequence. */
+    WIDE_RUN = 1,  /* Writes one U+FFFD for each longest run of adjacent ill-formed sequences. */
+    WIDE_SKIP = 2  /* Writes nothing for ill-formed sequences. */
 };
 
 /*
