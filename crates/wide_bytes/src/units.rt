@@ -11,6 +11,13 @@ use super::units_from_bytes::unit_in;
 
 /// An iterator over the code units of bytes that are not read yet. [`units_of_bytes`] creates it. The Rust crate has no
 /// such type.
+///
+/// # Example
+///
+/// ```
+/// let units = units_of_bytes(b"\xfe\xff\0H\0i\0\0");
+/// assert!(rt; units.eq([0x48, 0x69]));
+/// ```
 #[derive(Clone, Copy, Debug)]
 pub struct UnitsOfBytes<'a> {
     order: BoM,

@@ -10,6 +10,15 @@ use crate::units::{UnitsOfBytes, units_in};
 
 /// The BOM, the code units and the half unit of UTF-16 in bytes. [`utf16_of_bytes`] creates it. The Rust crate has no
 /// such type.
+///
+/// # Example
+///
+/// ```
+/// let file = utf16_of_bytes(b"H\0i");
+/// assert!(rt; !file.has_bom && file.order == BoM::Little);
+/// assert!(rt; file.units.eq([0x48]));
+/// assert!(rt; file.half == Some(b'i'));
+/// ```
 #[derive(Clone, Copy, Debug)]
 pub struct Utf16OfBytes<'a> {
     /// The order of the two bytes of each unit.
@@ -36,6 +45,15 @@ fn half_of(bytes: &[u8]) -> Option<u8>
 /// Splits the bytes of UTF-16 (Unicode Standard, D98). A BOM at the beginning gives the byte order; without one the
 /// order is little-endian, like in [`units_of_bytes`](crate::units_of_bytes). Nothing is lost: the bytes of the BOM, of
 /// the units and of the half unit are all the bytes. It does not allocate. The Rust crate has no such call.
+///
+/// # Example
+///
+/// ```
+/// let file = utf16_of_bytes(b"\xff\xfeH\0\x3d\xd8\x00\xde");
+/// let units: Vec<u16> = file.units.collect(rt.alloc())?;
+/// let text = U16Str::from_slice(&units).to_string(rt.alloc())?;
+/// assert!(rt; text.as_str() == "H😀");
+/// ```
 pub fn utf16_of_bytes(bytes: &[u8]) -> Utf16OfBytes<'_>
     ensures order { result.order ≡ order_of bytes.now }
     ensures has_bom { result.has_bom ≡ is_some (bom_of bytes.now) }

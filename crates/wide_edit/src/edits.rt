@@ -9,6 +9,15 @@ use wide_error::OutOfMemory;
 /// Indices and ends of ranges count characters, that is Unicode scalar values (Unicode Standard, D76), from 0, in the
 /// text as it is before the edit. An edit whose reply is [`Reply::BadPlace`] or [`Reply::BadRange`] is rejected and
 /// changes nothing.
+///
+/// # Example
+///
+/// ```
+/// let mut text = Utf16String::from_str(rt.alloc(), "a😀b")?;
+/// let edits = [Edit::Remove(1), Edit::Insert(1, 'é'), Edit::PushStr("!")];
+/// run(rt.alloc(), &mut text, &edits, &mut Vec::new(rt.alloc()))?;
+/// assert!(rt; text.as_utfstr().eq_str("aéb!"));
+/// ```
 #[derive(Clone, Copy, Debug, PartialEq, Eq)]
 pub enum Edit<'a> {
     /// Appends the character. The reply is [`Reply::Done`].
@@ -44,6 +53,16 @@ pub enum Edit<'a> {
 }
 
 /// The reply of an edit.
+///
+/// # Example
+///
+/// ```
+/// let mut text = Utf16String::from_str(rt.alloc(), "a😀")?;
+/// let edits = [Edit::Remove(1), Edit::Remove(7)];
+/// let mut replies = Vec::new(rt.alloc());
+/// run(rt.alloc(), &mut text, &edits, &mut replies)?;
+/// assert!(rt; replies.as_slice() == [Reply::Char('😀'), Reply::BadPlace].as_slice());
+/// ```
 #[derive(Debug, PartialEq, Eq, Drop)]
 pub enum Reply {
     /// The edit was made, and returns no characters.
@@ -61,6 +80,18 @@ pub enum Reply {
 }
 
 /// An allocation failed after the first `done` edits of a list were made.
+///
+/// # Example
+///
+/// ```
+/// let mut text = Utf16String::from_str(rt.alloc(), "Hi")?;
+/// let edits = [Edit::Push('!'), Edit::PushStr("😀")];
+/// let done = match run(rt.alloc(), &mut text, &edits, &mut Vec::new(rt.alloc())) {
+///     Ok(()) => edits.len(),
+///     Err(Stopped { done }) => done,
+/// };
+/// assert!(rt; done == 2);
+/// ```
 #[derive(Clone, Copy, Debug, PartialEq, Eq)]
 pub struct Stopped {
     /// The number of edits that were made and have their replies. The next edit has changed nothing.

@@ -34,6 +34,18 @@ use wide_utfstring::Utf16String;
 /// A character is found by its index from the last entry that is not past it, so that fewer than 64 characters are
 /// read. An edit leaves the entries that are not past its first character unchanged. If it replaces few characters by
 /// few, it moves the later entries. Otherwise it computes them again, from the last unchanged entry on.
+///
+/// # Example
+///
+/// ```
+/// let text = Utf16String::from_str(rt.alloc(), "a😀b")?;
+/// let Ok(mut marked) = Marked16::new(rt.alloc(), text) else {
+///     return Err(OutOfMemory.into());
+/// };
+/// let mut replies = Vec::new(rt.alloc());
+/// run(rt.alloc(), &mut marked, &[Edit::Remove(1)], &mut replies)?;
+/// assert!(rt; marked.as_utfstr().eq_str("ab"));
+/// ```
 #[derive(Drop)]
 pub struct Marked16 {
     string: Utf16String,

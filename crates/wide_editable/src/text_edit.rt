@@ -9,6 +9,18 @@ use wide_edit::{Edit, Reply};
 use wide_error::OutOfMemory;
 
 /// A text that can be edited: a list of characters, stored as the code units of one encoding form.
+///
+/// # Example
+///
+/// ```
+/// use widestring::edit::TextEdit;
+///
+/// let mut text = Utf16String::from_str(rt.alloc(), "Hi")?;
+/// let edit = Edit::Push('😀');
+/// let space = text.prepare(rt.alloc(), edit)?;
+/// assert!(rt; text.apply(edit, space) == Reply::Done);
+/// assert!(rt; (text.char_count(), text.unit_count()) == (3, 4));
+/// ```
 pub trait TextEdit {
     ghost use Rattle.wide_edit.specs.declared.edits.Edit.{Edit};
 

@@ -8,6 +8,14 @@ use std::marker::Model;
 use std::{fmt, io};
 
 /// An unpaired surrogate in UTF-16.
+///
+/// # Example
+///
+/// ```
+/// let mut decoder = decode_utf16([0xd83d, 0x48]);
+/// assert!(rt; decoder.next() == Some(Err(DecodeUtf16Error::new(0xd83d))));
+/// assert!(rt; decoder.next() == Some(Ok('H')));
+/// ```
 #[derive(Clone, Copy, Debug, PartialEq, Eq)]
 pub struct DecodeUtf16Error {
     unit: u16,
@@ -32,6 +40,13 @@ impl DecodeUtf16Error {
     }
 
     /// Returns the unpaired surrogate.
+    ///
+    /// # Example
+    ///
+    /// ```
+    /// let fault = Utf16Str::from_slice(&[0x48, 0x69, 0xd83d]).err();
+    /// assert!(rt; fault.map(|fault| fault.cause().unpaired_surrogate()) == Some(0xd83d));
+    /// ```
     pub fn unpaired_surrogate(&self) -> u16
         ensures { result ≡ self.now }
     {
@@ -57,6 +72,14 @@ impl fmt::Display for DecodeUtf16Error {
 impl Error for DecodeUtf16Error {}
 
 /// A unit of UTF-32 that is no Unicode scalar value.
+///
+/// # Example
+///
+/// ```
+/// let mut decoder = decode_utf32([0x1_f600, 0x11_0000]);
+/// assert!(rt; decoder.next() == Some(Ok('😀')));
+/// assert!(rt; decoder.next() == Some(Err(DecodeUtf32Error::new(0x11_0000))));
+/// ```
 #[derive(Clone, Copy, Debug, PartialEq, Eq)]
 pub struct DecodeUtf32Error {
     code: u32,
@@ -81,6 +104,13 @@ impl DecodeUtf32Error {
     }
 
     /// Returns the number that is no scalar value.
+    ///
+    /// # Example
+    ///
+    /// ```
+    /// let fault = Utf32Str::from_slice(&[0x48, 0x69, 0xd83d, 0xde00]).err();
+    /// assert!(rt; fault.map(|fault| fault.cause().invalid_code_point()) == Some(0xd83d));
+    /// ```
     pub fn invalid_code_point(&self) -> u32
         ensures { result ≡ self.now }
     {
@@ -106,6 +136,16 @@ impl fmt::Display for DecodeUtf32Error {
 impl Error for DecodeUtf32Error {}
 
 /// An allocation failed.
+///
+/// # Example
+///
+/// ```
+/// use widestring::ustring::UStrInUstring;
+///
+/// let view = U16Str::from_slice(&[0x48, 0x69]);
+/// let repeated = view.repeat(rt.alloc(), usize::MAX);
+/// assert!(rt; repeated.err() == Some(OutOfMemory));
+/// ```
 #[derive(Clone, Copy, Debug, PartialEq, Eq, Hash)]
 pub struct OutOfMemory;
 
@@ -151,6 +191,17 @@ impl From<OutOfMemory> for io::Error {
 }
 
 /// The error of transcoding UTF-16 to UTF-8.
+///
+/// # Example
+///
+/// ```
+/// let mut source = FromRead::new(b"H\0i\0\x3d\xd8".as_slice());
+/// let mut sink = FromWrite::new(Vec::new(rt.alloc()));
+/// let fault = transcode(&mut source, &mut sink, Mode::Strict).err();
+/// let (index, item, unit) = (2, 2, 0xd83d);
+/// assert!(rt; fault == Some(TranscodeError::Utf16 { index, item, unit }));
+/// assert!(rt; sink.into_inner().as_slice() == "Hi".as_bytes());
+/// ```
 #[derive(Clone, Copy, Debug, PartialEq, Eq)]
 pub enum TranscodeError {
     /// The unit at `index`, counted from 0, is an unpaired surrogate.

@@ -6,6 +6,16 @@ ghost use Rattle.wide_forms.specs.Lossy.{or_replacement, replacement};
 /// What lossy text contains for faults, the units that belong to no character.
 ///
 /// A U+FFFD of the text itself is a character, and is retained under each policy.
+///
+/// # Example
+///
+/// ```
+/// let view = U16Str::from_slice(&[0x48, 0xd83d, 0xd83d, 0x69]);
+/// let each = view.chars_lossy_with(Policy::Each);
+/// assert!(rt; each.eq("H\u{fffd}\u{fffd}i".chars()));
+/// assert!(rt; view.chars_lossy_with(Policy::Run).eq("H\u{fffd}i".chars()));
+/// assert!(rt; view.chars_lossy_with(Policy::Skip).eq("Hi".chars()));
+/// ```
 #[derive(Clone, Copy, Debug, PartialEq, Eq)]
 pub enum Policy {
     /// U+FFFD for each fault.

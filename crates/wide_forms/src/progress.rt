@@ -10,6 +10,17 @@ pub struct Progress {
 }
 
 /// How far writing lossy text came.
+///
+/// # Example
+///
+/// ```
+/// use widestring::unit::Unit;
+///
+/// let mut text = [0; 3];
+/// let progress = u16::lossy_prefix(&[0x48, 0xd83d, 0xd83d], Policy::Run, false, &mut text);
+/// assert!(rt; (progress.read, progress.written) == (3, 2));
+/// assert!(rt; progress.after_fault);
+/// ```
 #[derive(Clone, Copy, Debug, PartialEq, Eq)]
 pub struct LossyProgress {
     /// How many elements were read: units, or bytes of UTF-8.

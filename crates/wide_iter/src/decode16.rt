@@ -22,6 +22,15 @@ use wide_unit::Unit;
 /// It yields each character of the source as `Ok`, and each unpaired surrogate as an `Err` that holds the unit. It
 /// iterates from both ends if the source does. It is fused, and does not call a source again after its end. It does not
 /// allocate. [`decode_utf16`] creates it.
+///
+/// # Example
+///
+/// ```
+/// let mut decoder = decode_utf16([0x48, 0xd83d, 0xde00]);
+/// assert!(rt; decoder.next_back() == Some(Ok('😀')));
+/// assert!(rt; decoder.next() == Some(Ok('H')));
+/// assert!(rt; decoder.next().is_none());
+/// ```
 #[derive(Debug, Drop)]
 pub struct DecodeUtf16<I> {
     source: Source<I>,
@@ -31,6 +40,15 @@ pub struct DecodeUtf16<I> {
 }
 
 /// Creates a decoder of the units that `units` yields.
+///
+/// # Example
+///
+/// ```
+/// let mut decoder = decode_utf16([0xe9, 0xd83d, 0xde00, 0xdc00]);
+/// assert!(rt; decoder.next() == Some(Ok('é')));
+/// assert!(rt; decoder.next() == Some(Ok('😀')));
+/// assert!(rt; decoder.next() == Some(Err(DecodeUtf16Error::new(0xdc00))));
+/// ```
 pub fn decode_utf16<U: IntoIterator<Item = u16>>(units: U) -> DecodeUtf16<U::IntoIter>
     ensures source { U.into_iter_gives units (inner_of (source_of result)) }
     ensures new { IsNew result }

@@ -19,6 +19,15 @@ use wide_unit::Unit;
 /// number: two surrogates are two faults, never a pair. It iterates from both ends if the source does, and is an
 /// `ExactSizeIterator` if the source is one. It is fused, and does not call a source again after its end. It does not
 /// allocate. [`decode_utf32`] creates it.
+///
+/// # Example
+///
+/// ```
+/// let mut decoder = decode_utf32([0x1_f600, 0xd83d, 0xde00]);
+/// assert!(rt; decoder.len() == 3);
+/// assert!(rt; decoder.next() == Some(Ok('😀')));
+/// assert!(rt; decoder.next() == Some(Err(DecodeUtf32Error::new(0xd83d))));
+/// ```
 #[derive(Debug, Drop)]
 pub struct DecodeUtf32<I> {
     source: Source<I>,

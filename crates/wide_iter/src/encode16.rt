@@ -21,6 +21,15 @@ use wide_unit::Unit;
 ///
 /// It yields the one or two units of each character of the source, in order, from the front only. It is fused, and does
 /// not call a source again after its end. It does not allocate. [`encode_utf16`] creates it.
+///
+/// # Example
+///
+/// ```
+/// let mut units = encode_utf16("😀".chars());
+/// assert!(rt; units.next() == Some(0xd83d));
+/// assert!(rt; units.next() == Some(0xde00));
+/// assert!(rt; units.next().is_none());
+/// ```
 #[derive(Debug, Drop)]
 pub struct EncodeUtf16<I> {
     source: Source<I>,
@@ -29,6 +38,13 @@ pub struct EncodeUtf16<I> {
 }
 
 /// Creates an encoder to UTF-16 of the characters that `chars` yields.
+///
+/// # Example
+///
+/// ```
+/// let units: Vec<u16> = encode_utf16("Hé😀".chars()).collect(rt.alloc())?;
+/// assert!(rt; units.as_slice() == [0x48, 0xe9, 0xd83d, 0xde00].as_slice());
+/// ```
 pub fn encode_utf16<C: IntoIterator<Item = char>>(chars: C) -> EncodeUtf16<C::IntoIter>
     ensures source { C.into_iter_gives chars (inner_of (source_of result)) }
     ensures new { IsNew result }

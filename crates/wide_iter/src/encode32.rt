@@ -16,6 +16,13 @@ use std::slice::Iter;
 /// It yields the unit of each character of the source. It iterates from both ends if the source does, and is an
 /// `ExactSizeIterator` if the source is one. It is fused, and does not call a source again after its end. It does not
 /// allocate. [`encode_utf32`] creates it.
+///
+/// # Example
+///
+/// ```
+/// let units = encode_utf32("é😀".chars());
+/// assert!(rt; units.eq([0xe9, 0x1_f600]));
+/// ```
 #[derive(Debug, Drop)]
 pub struct EncodeUtf32<I> {
     source: Source<I>,

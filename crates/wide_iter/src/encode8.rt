@@ -28,6 +28,15 @@ enum Pending {
 ///
 /// It yields the bytes of each character of the source, in order, from the front only. It is fused, and does not call a
 /// source again after its end. It does not allocate. [`encode_utf8`] creates it.
+///
+/// # Example
+///
+/// ```
+/// let mut bytes = encode_utf8(['é']);
+/// assert!(rt; bytes.next() == Some(0xc3));
+/// assert!(rt; bytes.next() == Some(0xa9));
+/// assert!(rt; bytes.next().is_none());
+/// ```
 #[derive(Debug, Drop)]
 pub struct EncodeUtf8<I> {
     source: Source<I>,
@@ -35,6 +44,13 @@ pub struct EncodeUtf8<I> {
 }
 
 /// Creates an encoder to UTF-8 of the characters that `chars` yields.
+///
+/// # Example
+///
+/// ```
+/// let bytes: Vec<u8> = encode_utf8(['H', '😀']).collect(rt.alloc())?;
+/// assert!(rt; bytes.as_slice() == "H😀".as_bytes());
+/// ```
 pub fn encode_utf8<C: IntoIterator<Item = char>>(chars: C) -> EncodeUtf8<C::IntoIter>
     ensures source { C.into_iter_gives chars (inner_of (source_of result)) }
     ensures new { IsNew result }

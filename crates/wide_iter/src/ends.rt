@@ -12,6 +12,14 @@ use std::alloc::Allocator;
 use wide_error::{DecodeUtf16Error, DecodeUtf32Error, OutOfMemory};
 
 /// The end of a list from which an item is read.
+///
+/// # Example
+///
+/// ```
+/// let units = [0x48, 0xd83d, 0xde00];
+/// let chars = read_ends16(rt.alloc(), &units, &[End::Back, End::Front, End::Back])?;
+/// assert!(rt; chars.as_slice() == [Some(Ok('😀')), Some(Ok('H')), None].as_slice());
+/// ```
 #[derive(Clone, Copy, Debug, PartialEq, Eq)]
 pub enum End {
     /// The first item that is left.

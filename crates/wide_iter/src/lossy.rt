@@ -24,6 +24,14 @@ use wide_forms::or_replacement;
 ///
 /// A run of faults yields a U+FFFD for each. It iterates from both ends if the source does. It is fused, and does not
 /// call a source again after its end. It does not allocate. [`decode_utf16_lossy`] creates it.
+///
+/// # Example
+///
+/// ```
+/// let mut decoder = decode_utf16_lossy([0xdc00, 0x48, 0xd83d]);
+/// assert!(rt; decoder.next_back() == Some('\u{fffd}'));
+/// assert!(rt; decoder.next_back() == Some('H'));
+/// ```
 #[derive(Debug, Drop)]
 pub struct DecodeUtf16Lossy<I> {
     utf16: DecodeUtf16<I>,
@@ -35,12 +43,27 @@ pub struct DecodeUtf16Lossy<I> {
 /// A run of faults yields a U+FFFD for each. It iterates from both ends if the source does, and is an
 /// `ExactSizeIterator` if the source is one. It is fused, and does not call a source again after its end. It does not
 /// allocate. [`decode_utf32_lossy`] creates it.
+///
+/// # Example
+///
+/// ```
+/// let mut decoder = decode_utf32_lossy([0x48, 0x11_0000]);
+/// assert!(rt; decoder.next() == Some('H'));
+/// assert!(rt; decoder.next() == Some('\u{fffd}'));
+/// ```
 #[derive(Debug, Drop)]
 pub struct DecodeUtf32Lossy<I> {
     utf32: DecodeUtf32<I>,
 }
 
 /// Creates a lossy decoder of the 16-bit units that `units` yields.
+///
+/// # Example
+///
+/// ```
+/// let chars = decode_utf16_lossy([0x48, 0xd83d, 0xd83d, 0xde00]);
+/// assert!(rt; chars.eq(['H', '\u{fffd}', '😀']));
+/// ```
 pub fn decode_utf16_lossy<U: IntoIterator<Item = u16>>(units: U) -> DecodeUtf16Lossy<U::IntoIter>
     ensures source { U.into_iter_gives units (inner_of (source_of (strict16_of result))) }
     ensures new { IsNew (strict16_of result) }

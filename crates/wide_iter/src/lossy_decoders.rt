@@ -20,6 +20,13 @@ use wide_forms::Policy;
 /// It iterates from both ends if the source does. It is fused, and does not call a source again after its end. Under
 /// [`Policy::Run`] and [`Policy::Skip`], the call that reaches a run of faults reads it to its end. Under
 /// [`Policy::Each`], each call reads one fault. It does not allocate. [`decode_utf16_lossy_with`] creates it.
+///
+/// # Example
+///
+/// ```
+/// let chars = decode_utf16_lossy_with([0x48, 0xd83d, 0xd83d, 0x69], Policy::Run);
+/// assert!(rt; chars.eq(['H', '\u{fffd}', 'i']));
+/// ```
 #[derive(Debug, Drop)]
 pub struct DecodeUtf16LossyWith<I> {
     chars: LossyWith<DecodeUtf16<I>>,
@@ -84,6 +91,13 @@ impl<I: Iterator<Item = u16>> FusedIterator for DecodeUtf16LossyWith<I> {}
 /// It iterates from both ends if the source does. It is fused, and does not call a source again after its end. Under
 /// [`Policy::Run`] and [`Policy::Skip`], the call that reaches a run of faults reads it to its end. Under
 /// [`Policy::Each`], each call reads one fault. It does not allocate. [`decode_utf32_lossy_with`] creates it.
+///
+/// # Example
+///
+/// ```
+/// let chars = decode_utf32_lossy_with([0x48, 0xd83d, 0xde00, 0x69], Policy::Skip);
+/// assert!(rt; chars.eq(['H', 'i']));
+/// ```
 #[derive(Debug, Drop)]
 pub struct DecodeUtf32LossyWith<I> {
     chars: LossyWith<DecodeUtf32<I>>,

@@ -5,6 +5,17 @@ use std::marker::Model;
 
 /// The number of code units that were read, and of index entries that were moved, without an upper bound. Only
 /// contracts can see it. It takes no bytes, and the program does nothing with it at run time.
+///
+/// # Example
+///
+/// ```
+/// let text = Utf16String::from_str(rt.alloc(), "a😀b")?;
+/// let Ok(marked) = Marked16::new(rt.alloc(), text) else {
+///     return Err(OutOfMemory.into());
+/// };
+/// let mut steps = Steps::new();
+/// assert!(rt; marked.unit_offset(2, &mut steps) == Some(3));
+/// ```
 #[derive(Drop)]
 pub struct Steps {
     ghost count: { ℕ },

@@ -76,6 +76,15 @@ fn transcode_under<S: ByteSource, K: ByteSink>(
 /// - [`TranscodeError::Write`]: the sink failed in this call. A prefix of the text of the bytes that were read was
 ///   written.
 /// - [`TranscodeError::OutOfMemory`]: there are more units than an index can count. A prefix of the text was written.
+///
+/// # Example
+///
+/// ```
+/// let mut source = FromRead::new(b"\xff\xfe\x3d\xd8\x00\xde".as_slice());
+/// let mut sink = FromWrite::new(Vec::new(rt.alloc()));
+/// transcode(&mut source, &mut sink, Mode::Strict)?;
+/// assert!(rt; sink.into_inner().as_slice() == "😀".as_bytes());
+/// ```
 pub fn transcode<S: ByteSource, K: ByteSink>(
     source: &mut S,
     sink: &mut K,
@@ -121,6 +130,15 @@ pub fn transcode<S: ByteSource, K: ByteSink>(
 /// - [`TranscodeError::Write`]: the sink failed in this call. A prefix of the text of the bytes that were read was
 ///   written.
 /// - [`TranscodeError::OutOfMemory`]: there are more units than an index can count. A prefix of the text was written.
+///
+/// # Example
+///
+/// ```
+/// let mut source = FromRead::new(b"H\0\x3d\xd8\x3d\xd8i\0".as_slice());
+/// let mut sink = FromWrite::new(Vec::new(rt.alloc()));
+/// transcode_with(&mut source, &mut sink, Policy::Skip)?;
+/// assert!(rt; sink.into_inner().as_slice() == "Hi".as_bytes());
+/// ```
 pub fn transcode_with<S: ByteSource, K: ByteSink>(
     source: &mut S,
     sink: &mut K,

@@ -30,6 +30,15 @@ impl<C: FaultUnit> UCStr<'_, C> {
 
 /// Comparison of a view of units of the type `C` with a C string of the type `S`. It is in a trait because the view's
 /// crate does not know C strings.
+///
+/// # Example
+///
+/// ```
+/// use widestring::ucstr::UStrInUcstr;
+///
+/// let name = U16CStr::from_slice(&[0x48, 0x69, 0])?;
+/// assert!(rt; U16Str::from_slice(&[0x48, 0x69]).eq_ucstr(name));
+/// ```
 pub trait UStrInUcstr<C, S> {
     // The units of the view.
     ghost text: { Self → List C };

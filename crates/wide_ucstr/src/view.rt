@@ -31,6 +31,14 @@ use wide_utferror::{ContainsNul, FaultUnit, MissingNulTerminator, NulError};
 /// order is that of the contents, by the units' numbers. `{:?}` prints the units with the NUL between quotes, as
 /// [`char::escape_debug`] escapes them, so the NUL is printed last, as `\0`. A unit that belongs to no character is
 /// printed as `\<H>`, where `H` is its number in upper-case hexadecimal, without leading zeros.
+///
+/// # Example
+///
+/// ```
+/// let name = U16CStr::from_slice(&[0x48, 0x69, 0])?;
+/// assert!(rt; name.len() == 2);
+/// assert!(rt; name.as_slice_with_nul() == [0x48, 0x69, 0].as_slice());
+/// ```
 #[derive(PartialEq, Eq, PartialOrd, Ord, Hash)]
 pub struct UCStr<'a, C: Unit> {
     pub(crate) units: &'a [C],
@@ -61,6 +69,14 @@ impl<'a, C: FaultUnit> UCStr<'a, C> {
     ///
     /// A missing NUL, if there are no units or the last one is not a NUL. Otherwise the offset of the first NUL, in
     /// units, if that is not the last unit. The error holds no vector.
+    ///
+    /// # Example
+    ///
+    /// ```
+    /// let name = U16CStr::from_slice(&[0x48, 0x69, 0])?;
+    /// assert!(rt; name.as_slice() == [0x48, 0x69].as_slice());
+    /// assert!(rt; U16CStr::from_slice(&[0x48, 0, 0x69, 0]).is_err());
+    /// ```
     pub fn from_slice(units: &'a [C]) -> Result<Self, NulError<C>>
         ensures view { IfOk result (λ view. units_with_nul view ≡ units.now) }
         ensures ok { OnOk result (IsCString (map C.number units.now)) }
@@ -84,6 +100,14 @@ impl<'a, C: FaultUnit> UCStr<'a, C> {
     /// # Errors
     ///
     /// [`MissingNulTerminator`] if there is no NUL.
+    ///
+    /// # Example
+    ///
+    /// ```
+    /// let buffer = [0x48, 0x69, 0, 0xffff, 0];
+    /// let name = U16CStr::from_slice_truncate(&buffer)?;
+    /// assert!(rt; name.as_slice() == [0x48, 0x69].as_slice());
+    /// ```
     pub fn from_slice_truncate(units: &'a [C]) -> Result<Self, MissingNulTerminator>
         ensures view { IfOk result (λ view. (offset : ℕ) × IsFirstNul (map C.number units.now) offset × (units_with_nul view ≡ take (offset + 1) units.now)) }
         ensures err { OnErr result (HasNoNul (map C.number units.now)) }

@@ -18,6 +18,16 @@ use wide_utferror::FaultUnit;
 /// Compare two of them through their views, by [`BoxedUCStr::as_ucstr`]. `{:?}` prints the units with the NUL between
 /// quotes, as [`char::escape_debug`] escapes them; a unit that belongs to no character is printed as `\<H>`, where `H`
 /// is its number in upper-case hexadecimal, without leading zeros.
+///
+/// # Example
+///
+/// ```
+/// let name = U16CString::from_str(rt.alloc(), "Hi")?;
+/// let Ok(boxed) = name.into_boxed_ucstr() else {
+///     return Err(OutOfMemory.into());
+/// };
+/// assert!(rt; boxed.as_ucstr().as_slice_with_nul() == [0x48, 0x69, 0].as_slice());
+/// ```
 #[derive(Drop)]
 pub struct BoxedUCStr<C: FaultUnit, A: Allocator = Global> {
     units: BoxedUStr<C, A>,

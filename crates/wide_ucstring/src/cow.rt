@@ -18,6 +18,15 @@ use wide_utferror::FaultUnit;
 /// Compare two of them through their views, by [`CowUCStr::as_ucstr`]. `{:?}` prints the units with the NUL between
 /// quotes, as [`char::escape_debug`] escapes them; a unit that belongs to no character is printed as `\<H>`, where `H`
 /// is its number in upper-case hexadecimal, without leading zeros.
+///
+/// # Example
+///
+/// ```
+/// let view = U16CStr::from_slice(&[0x48, 0x69, 0])?;
+/// let name: CowU16CStr<'_> = CowU16CStr::Borrowed(view);
+/// let owned = name.into_owned(rt.alloc())?;
+/// assert!(rt; owned.as_ucstr() == view);
+/// ```
 #[derive(Drop)]
 pub enum CowUCStr<'a, C: FaultUnit, A: Allocator = Global> {
     /// A view of units that something else owns.

@@ -17,6 +17,16 @@ use wide_ustring::extend::{Growing, Piece, extend, from_iter};
 use wide_utferror::FaultUnit;
 
 /// The marker for the impls of `Piece` for C strings, which append their contents, without their NULs, to a string.
+///
+/// # Example
+///
+/// ```
+/// use widestring::ustring::extend::Piece;
+///
+/// let mut text = U16String::from_str(rt.alloc(), "Hi")?;
+/// U16CStr::from_slice(&[0x21, 0])?.push_to(&mut text)?;
+/// assert!(rt; text.as_slice() == [0x48, 0x69, 0x21].as_slice());
+/// ```
 pub struct OfCStrings;
 
 impl<C: FaultUnit, A: Allocator> Piece<UString<C, A>, OfCStrings> for UCStr<'_, C> {
@@ -37,6 +47,16 @@ impl<C: FaultUnit, A: Allocator, B: Allocator> Piece<UString<C, A>, OfCStrings> 
 
 /// Calls of a string of units that take owned C strings. They are in a trait because the string's crate does not know C
 /// strings.
+///
+/// # Example
+///
+/// ```
+/// use widestring::ucstring::UStringInUcstring;
+///
+/// let mut path = U16String::from_str(rt.alloc(), "C:")?;
+/// path.extend_ucstrings([U16CString::from_str(rt.alloc(), "\\temp")?])?;
+/// assert!(rt; path.as_ustr().chars_lossy().eq("C:\\temp".chars()));
+/// ```
 pub trait UStringInUcstring<C: FaultUnit, A: Allocator>: Growing + Sized {
     /// Appends the contents of the C strings, without their NULs.
     ///
@@ -91,6 +111,17 @@ impl<C: FaultUnit, A: Allocator> UStringInUcstring<C, A> for UString<C, A> {
 /// Calls of a string of units that take views of C strings. They are in a trait because the string's crate does not
 /// know C strings. It is separate from [`UStringInUcstring`], and has the type of the iterator that yields the views as
 /// a parameter.
+///
+/// # Example
+///
+/// ```
+/// use widestring::ucstring::UStringOverUcstrs;
+///
+/// let mut text = U16String::new(rt.alloc());
+/// let word = U16CStr::from_slice(&[0x48, 0x69, 0])?;
+/// text.extend_ucstrs([word, word])?;
+/// assert!(rt; text.as_slice() == [0x48, 0x69, 0x48, 0x69].as_slice());
+/// ```
 pub trait UStringOverUcstrs<
     'a,
     C: FaultUnit + 'a,

@@ -30,6 +30,15 @@ use wide_utferror::{ContainsNul, FaultUnit, UCStringError};
 /// `{:?}` prints the units with the NUL between quotes, as [`char::escape_debug`] escapes them, so the NUL is printed
 /// last, as `\0`. A unit that belongs to no character is printed as `\<H>`, where `H` is its number in upper-case
 /// hexadecimal, without leading zeros.
+///
+/// # Example
+///
+/// ```
+/// let path = U16CString::from_str(rt.alloc(), "C:\\temp")?;
+/// let view = path.as_ucstr();
+/// assert!(rt; view.len() == 7);
+/// assert!(rt; view.as_slice_with_nul().last() == Some(&0));
+/// ```
 #[derive(Drop)]
 pub struct UCString<C: FaultUnit, A: Allocator = Global> {
     pub(crate) string: UString<C, A>,
@@ -140,6 +149,14 @@ impl<C: FaultUnit, A: Allocator> UCString<C, A> {
     ///
     /// The offset of the first NUL, in units, if it is not the last unit; or out of memory, if the vector has no NUL
     /// and no spare capacity, and the allocation fails. Both errors hold the vector, with its units and its capacity.
+    ///
+    /// # Example
+    ///
+    /// ```
+    /// let units = [0x48, 0x69].to_vec(rt.alloc())?;
+    /// let name = U16CString::from_vec(units)?;
+    /// assert!(rt; name.as_ucstr().as_slice_with_nul() == [0x48, 0x69, 0].as_slice());
+    /// ```
     pub fn from_vec(units: Vec<C, A>) -> Result<Self, UCStringError<C, A>>
         ensures made { IfOk result (λ s. EndsAsGiven (map C.number units.items) (map C.number s.units)) }
         ensures ok { IfOk result (λ s. HasNoInnerNul (map C.number units.items)) }
@@ -187,6 +204,14 @@ impl<C: FaultUnit, A: Allocator> UCString<C, A> {
     ///
     /// Out of memory, if the vector has no NUL and no spare capacity, and the allocation fails. The error holds the
     /// vector, with its units and its capacity.
+    ///
+    /// # Example
+    ///
+    /// ```
+    /// let buffer = [0x48, 0x69, 0, 0x21, 0].to_vec(rt.alloc())?;
+    /// let name = U16CString::from_vec_truncate(buffer)?;
+    /// assert!(rt; name.as_ucstr().as_slice() == [0x48, 0x69].as_slice());
+    /// ```
     pub fn from_vec_truncate(units: Vec<C, A>) -> Result<Self, UCStringError<C, A>>
         ensures made { IfOk result (λ s. EndsAtFirst (map C.number units.items) (map C.number s.units)) }
         ensures space { IfOk result (λ s. s.capacity ≡ max (vec_capacity units) (length s.units)) }
@@ -221,6 +246,14 @@ impl<C: FaultUnit, A: Allocator> UCString<C, A> {
     ///
     /// Out of memory, without a vector, if the allocation for the copy fails; or the offset of the first NUL, in units,
     /// if it is not the last unit, with the copy.
+    ///
+    /// # Example
+    ///
+    /// ```
+    /// let view = U16Str::from_slice(&[0x48, 0xd83d]);
+    /// let name = U16CString::from_ustr(rt.alloc(), view)?;
+    /// assert!(rt; name.as_ucstr().as_slice_with_nul() == [0x48, 0xd83d, 0].as_slice());
+    /// ```
     pub fn from_ustr(alloc: A, text: UStr<'_, C>) -> Result<Self, UCStringError<C, A>>
         ensures made { IfOk result (λ s. EndsAsGiven (map C.number (units_seen text.entry)) (map C.number s.units)) }
         ensures ok { IfOk result (λ s. HasNoInnerNul (map C.number (units_seen text.entry))) }
@@ -270,6 +303,14 @@ impl<C: FaultUnit, A: Allocator> UCString<C, A> {
     ///
     /// Out of memory, without a vector, if the allocation for the units fails; or the offset of the first NUL, in
     /// units, if it is not the last unit, with the vector of the units.
+    ///
+    /// # Example
+    ///
+    /// ```
+    /// let name = U16CString::from_str(rt.alloc(), "é😀")?;
+    /// assert!(rt; name.as_ucstr().as_slice_with_nul() == [0xe9, 0xd83d, 0xde00, 0].as_slice());
+    /// assert!(rt; U16CString::from_str(rt.alloc(), "Hi\0there").is_err());
+    /// ```
     pub fn from_str(alloc: A, text: &str) -> Result<Self, UCStringError<C, A>>
         ensures made { IfOk result (λ s. EndsAsGiven (encode C.form (chars text.now)) (map C.number s.units)) }
         ensures read_back { IfOk result (λ s. HasNoNul (encode C.form (chars text.now)) → utf8 (text_chars C.form (map C.number (contents s.units))) ≡ text.now) }
@@ -331,6 +372,14 @@ impl<C: FaultUnit, A: Allocator> UCString<C, A> {
     }
 
     /// Returns a view of the C string.
+    ///
+    /// # Example
+    ///
+    /// ```
+    /// let name = U16CString::from_str(rt.alloc(), "Заголовок")?;
+    /// let text = name.as_ucstr().to_string(rt.alloc())?;
+    /// assert!(rt; text.as_str() == "Заголовок");
+    /// ```
     pub fn as_ucstr(&self) -> UCStr<'_, C>
         ensures { units_with_nul result ≡ self.now.units }
     {

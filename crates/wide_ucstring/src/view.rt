@@ -16,6 +16,16 @@ use wide_utferror::FaultUnit;
 
 /// Calls of a view of a C string that make an owned string. They are in a trait because the view's crate does not know
 /// owned strings.
+///
+/// # Example
+///
+/// ```
+/// use widestring::ucstring::UCStrInUcstring;
+///
+/// let word = U16CStr::from_slice(&[0x48, 0x69, 0])?;
+/// let twice = word.repeat(rt.alloc(), 2)?;
+/// assert!(rt; twice.as_ucstr().chars_lossy().eq("HiHi".chars()));
+/// ```
 pub trait UCStrInUcstring<C: FaultUnit> {
     // The units before the NUL.
     ghost text: { Self → List C };

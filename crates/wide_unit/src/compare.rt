@@ -26,9 +26,11 @@ fn prefix_by_blocks<C: Unit>(left: &[C], right: &[C]) -> usize
 /// Returns how many units at the beginning of two slices are the same: up to the first difference, or to the end of the
 /// shorter slice. The comparison is vectorized. The Rust crate has no such call.
 ///
+/// # Example
+///
 /// ```
 /// let shared = common_prefix(&[0x61u16, 0x62, 0x63], &[0x61, 0x62, 0x64, 0x65]);
-/// assert!(shared == 2);
+/// assert!(rt; shared == 2);
 /// ```
 #[inline]
 pub fn common_prefix<C: Unit>(left: &[C], right: &[C]) -> usize

@@ -22,6 +22,16 @@ use wide_repair::{char_count, lossy_prefix_16, lossy_prefix_32, repair_16, repai
 /// A code unit: `u16` for UTF-16, `u32` for UTF-32 (Unicode Standard, D77).
 ///
 /// The Rust crate has no such trait. No call allocates or fails.
+///
+/// # Example
+///
+/// ```
+/// use widestring::unit::Unit;
+///
+/// assert!(rt; u16::encode_char('😀') == (0xd83d, Some(0xde00)));
+/// assert!(rt; 0xd83du16.is_high() && 0xde00u16.is_low());
+/// assert!(rt; 0xd83du16.pair_scalar(0xde00) == Some('😀'));
+/// ```
 pub trait Unit: Copy {
     // The encoding form of the units.
     ghost form: { EncodingForm };

@@ -34,6 +34,16 @@ fn after_blocks<C: Unit>(units: &[C]) -> &[C]
 }
 
 /// The first fault of ill-formed units (Unicode Standard, D84).
+///
+/// # Example
+///
+/// ```
+/// let Err(fault) = check(&[0xd83du16, 0xde00, 0xd83d]) else {
+///     panic!(rt; "an unpaired surrogate is at index 2")
+/// };
+/// let FirstFault { index, item, unit } = fault;
+/// assert!(rt; (index, item, unit) == (2, 1, 0xd83d));
+/// ```
 #[derive(Clone, Copy, Debug, PartialEq, Eq)]
 pub struct FirstFault<C> {
     /// Its index: the number of units before it.

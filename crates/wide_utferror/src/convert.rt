@@ -11,6 +11,16 @@ use wide_error::OutOfMemory;
 /// The error of converting UTF-16: the units are ill-formed, or an allocation failed.
 ///
 /// It prints what the error of the units prints, or that memory is out.
+///
+/// # Example
+///
+/// ```
+/// let text = U16Str::from_slice(&[0x48, 0xdc00]).to_string(rt.alloc());
+/// let Err(Utf16ConvertError::Utf16(fault)) = text else {
+///     panic!(rt; "an unpaired surrogate is at index 1")
+/// };
+/// assert!(rt; fault.index() == 1);
+/// ```
 #[derive(Drop)]
 pub enum Utf16ConvertError<A: Allocator = Global> {
     /// The units are ill-formed (Unicode Standard, D84).
@@ -87,6 +97,17 @@ impl<A: Allocator, T: Drop> From<AllocFailed<T>> for Utf16ConvertError<A> {
 /// The error of converting UTF-32: the units are ill-formed, or an allocation failed.
 ///
 /// It prints what the error of the units prints, or that memory is out.
+///
+/// # Example
+///
+/// ```
+/// let view = U32Str::from_slice(&[0xe9, 0xd83d, 0xde00]);
+/// let Err(Utf32ConvertError::Utf32(fault)) = view.to_string(rt.alloc()) else {
+///     panic!(rt; "a surrogate is at index 1")
+/// };
+/// let printed = fault.to_string(rt.alloc())?;
+/// assert!(rt; printed.as_str() == "invalid UTF-32 value d83d at index 1 (item 1)");
+/// ```
 #[derive(Drop)]
 pub enum Utf32ConvertError<A: Allocator = Global> {
     /// The units are ill-formed (Unicode Standard, D84).
@@ -163,6 +184,13 @@ impl<A: Allocator, T: Drop> From<AllocFailed<T>> for Utf32ConvertError<A> {
 /// The error of converting bytes of UTF-16: their number is odd, the units are ill-formed, or an allocation failed.
 ///
 /// It prints what the error of the units prints, or why else there is no text.
+///
+/// # Example
+///
+/// ```
+/// let text = include_utf16str(rt.alloc(), b"\xff\xfeH\0i");
+/// assert!(rt; matches!(text, Err(Utf16BytesError::OddLength)));
+/// ```
 #[derive(Drop)]
 pub enum Utf16BytesError<A: Allocator = Global> {
     /// The number of bytes is odd: the last byte is half of a unit.

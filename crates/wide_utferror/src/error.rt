@@ -12,6 +12,15 @@ use wide_unit::{FirstFault, Unit};
 /// A unit for which a decoder can report a fault: `u16` as a [`DecodeUtf16Error`], `u32` as a [`DecodeUtf32Error`].
 ///
 /// The Rust crate has no such trait.
+///
+/// # Example
+///
+/// ```
+/// use widestring::error::FaultUnit;
+///
+/// assert!(rt; 0xd83du16.fault().unpaired_surrogate() == 0xd83d);
+/// assert!(rt; 0x11_0000u32.fault().invalid_code_point() == 0x11_0000);
+/// ```
 pub trait FaultUnit: Unit {
     /// The type of the fault.
     type Fault: Copy;
@@ -50,6 +59,15 @@ impl FaultUnit for u32 {
 ///
 /// The error of a constructor of an owned type holds the vector that was passed in, or its copy. The error for a view
 /// holds none.
+///
+/// # Example
+///
+/// ```
+/// let units = [0x48, 0x69, 0xd83d].to_vec(rt.alloc())?;
+/// let fault = Utf16String::from_vec(units).err();
+/// let units = fault.and_then(|fault| fault.into_vec());
+/// assert!(rt; units.map(|units| units.len()) == Some(3));
+/// ```
 #[derive(Drop)]
 pub struct UtfError<C, A: Allocator = Global> {
     index: usize,
@@ -81,6 +99,13 @@ impl<C: FaultUnit, A: Allocator> UtfError<C, A> {
     }
 
     /// Returns the index of the first fault: the number of units before it.
+    ///
+    /// # Example
+    ///
+    /// ```
+    /// let fault = Utf16Str::from_slice(&[0x48, 0xd83d, 0xde00, 0xd83d]).err();
+    /// assert!(rt; fault.map(|fault| fault.index()) == Some(3));
+    /// ```
     pub fn index(&self) -> usize
         ensures { result ≡ index_of self.now }
     {
@@ -88,6 +113,13 @@ impl<C: FaultUnit, A: Allocator> UtfError<C, A> {
     }
 
     /// Returns the item number of the first fault: the number of characters before it.
+    ///
+    /// # Example
+    ///
+    /// ```
+    /// let fault = Utf16Str::from_slice(&[0x48, 0xd83d, 0xde00, 0xd83d]).err();
+    /// assert!(rt; fault.map(|fault| fault.item()) == Some(2));
+    /// ```
     pub fn item(&self) -> usize
         ensures { result ≡ item_of self.now }
     {
@@ -95,6 +127,13 @@ impl<C: FaultUnit, A: Allocator> UtfError<C, A> {
     }
 
     /// Returns the first fault itself.
+    ///
+    /// # Example
+    ///
+    /// ```
+    /// let fault = Utf16Str::from_slice(&[0x48, 0xdc00]).err();
+    /// assert!(rt; fault.map(|fault| fault.cause()) == Some(DecodeUtf16Error::new(0xdc00)));
+    /// ```
     pub fn cause(&self) -> C::Fault
         ensures { C.reported result ≡ C.number (unit_of self.now) }
     {

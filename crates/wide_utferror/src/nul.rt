@@ -9,6 +9,13 @@ use std::fmt;
 use wide_error::OutOfMemory;
 
 /// The units do not end in NUL. The error of a call that truncates at a NUL means that there is no NUL at all.
+///
+/// # Example
+///
+/// ```
+/// let missing = U16CStr::from_slice_truncate(&[0x48, 0x69]).err();
+/// assert!(rt; missing == Some(MissingNulTerminator));
+/// ```
 #[derive(Clone, Copy, Debug, PartialEq, Eq, Hash)]
 pub struct MissingNulTerminator;
 
@@ -29,6 +36,17 @@ impl Error for MissingNulTerminator {}
 ///
 /// The error of a constructor of an owned string holds the vector that was passed in, or its copy. The error for a view
 /// holds none.
+///
+/// # Example
+///
+/// ```
+/// let units = [0x43, 0, 0x3a].to_vec(rt.alloc())?;
+/// let Err(UCStringError::ContainsNul(fault)) = U16CString::from_vec(units) else {
+///     panic!(rt; "a NUL is at index 1")
+/// };
+/// let units = fault.into_vec();
+/// assert!(rt; units.map(|units| units.len()) == Some(3));
+/// ```
 #[derive(Drop)]
 pub struct ContainsNul<C, A: Allocator = Global> {
     position: usize,
@@ -45,6 +63,16 @@ impl<C, A: Allocator> ContainsNul<C, A> {
     }
 
     /// Returns the offset of the first NUL, in units.
+    ///
+    /// # Example
+    ///
+    /// ```
+    /// let units = [0x48, 0x69, 0, 0x21, 0];
+    /// let Err(NulError::ContainsNul(fault)) = U16CStr::from_slice(&units) else {
+    ///     panic!(rt; "a NUL is at index 2")
+    /// };
+    /// assert!(rt; fault.nul_position() == 2);
+    /// ```
     pub fn nul_position(&self) -> usize
         ensures { result ≡ position_of self.now }
     {
@@ -80,6 +108,15 @@ impl<C, A: Allocator> fmt::Debug for ContainsNul<C, A> {
 impl<C: Drop, A: Allocator + Drop> Error for ContainsNul<C, A> {}
 
 /// The units are no C string: they do not end in NUL, or have a NUL before their last unit.
+///
+/// # Example
+///
+/// ```
+/// let open = U16CStr::from_slice(&[0x48, 0x69]);
+/// assert!(rt; matches!(open, Err(NulError::MissingNulTerminator(_))));
+/// let parted = U16CStr::from_slice(&[0x48, 0, 0x69, 0]);
+/// assert!(rt; matches!(parted, Err(NulError::ContainsNul(_))));
+/// ```
 #[derive(Drop)]
 pub enum NulError<C, A: Allocator = Global> {
     /// The units do not end in NUL.
@@ -149,6 +186,17 @@ impl<C, A: Allocator> From<ContainsNul<C, A>> for NulError<C, A> {
 }
 
 /// No C string was made: there is a NUL at an offset where none is allowed, or an allocation failed.
+///
+/// # Example
+///
+/// ```
+/// let made = U16CString::from_str(rt.alloc(), "Hi\0there");
+/// let Some(error) = made.err() else {
+///     panic!(rt; "a NUL is at index 2")
+/// };
+/// let printed = error.to_string(rt.alloc())?;
+/// assert!(rt; printed.as_str() == "invalid nul value found at position 2");
+/// ```
 #[derive(Drop)]
 pub enum UCStringError<C, A: Allocator = Global> {
     /// There is a NUL before the last unit, or anywhere for a call that allows no NUL.
