@@ -192,8 +192,7 @@ impl<'a, C: Unit> UStr<'a, C> {
     ///
     /// ```
     /// let units = U16Str::from_slice(&[0x48, 0xd83d, 0xde00, 0xdc00]);
-    /// assert!(rt; units.chars_lossy().count() == 3);
-    /// assert!(rt; units.chars_lossy().next_back() == Some('\u{fffd}'));
+    /// assert!(rt; units.chars_lossy().eq("H😀\u{fffd}".chars()));
     /// ```
     pub fn chars_lossy(self) -> CharsLossy<'a, C>
         ensures { lossy_left C.form C.number result ≡ lossy (items C.form (map C.number (units_seen self.entry))) }
