@@ -123,6 +123,15 @@ impl UStr<'_, u32> {
     ///
     /// The first fault, if the text is ill-formed, with its index in units, its item number in characters, and no
     /// vector. It is found before anything is allocated. Otherwise out of memory, if the allocation fails.
+    ///
+    /// # Example
+    ///
+    /// ```
+    /// let text = U32Str::from_slice(&[0x48, 0x1f600]).to_string(rt.alloc())?;
+    /// assert!(rt; text.as_str() == "H😀");
+    /// let fault = U32Str::from_slice(&[0x48, 0x110000]).to_string(rt.alloc());
+    /// assert!(rt; matches!(&fault, Err(Utf32ConvertError::Utf32(fault)) if fault.index() == 1));
+    /// ```
     pub fn to_string<A: Allocator>(self, alloc: A) -> Result<String<A>, Utf32ConvertError>
         ensures text { IfOk result (λ text. string_bytes text ≡ utf8 (chars Utf32 (units_seen self.entry))) }
         ensures well_formed { OnOk result (IsWellFormed Utf32 (units_seen self.entry)) }
