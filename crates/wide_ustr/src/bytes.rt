@@ -28,6 +28,13 @@ impl<C: Unit> UStr<'_, C> {
     /// # Errors
     ///
     /// [`OutOfMemory`] if the allocation fails. It never fails if there are no units.
+    ///
+    /// # Example
+    ///
+    /// ```
+    /// let bytes = U16Str::from_slice(&[0x48, 0x20ac]).to_le_bytes(rt.alloc())?;
+    /// assert!(rt; bytes.as_slice() == [0x48, 0, 0xac, 0x20].as_slice());
+    /// ```
     pub fn to_le_bytes<A: Allocator>(self, alloc: A) -> Result<Vec<u8, A>, OutOfMemory>
         ensures bytes { IfOk result (λ bytes. bytes.items ≡ little_bytes_of C.form (map C.number (units_seen self.entry))) }
         ensures succeeds { units_seen self.entry ≡ [] → IsOk result }
@@ -43,6 +50,13 @@ impl<C: Unit> UStr<'_, C> {
     /// # Errors
     ///
     /// [`OutOfMemory`] if the allocation fails. It never fails if there are no units.
+    ///
+    /// # Example
+    ///
+    /// ```
+    /// let bytes = U16Str::from_slice(&[0x417, 0xd83d]).to_be_bytes(rt.alloc())?;
+    /// assert!(rt; bytes.as_slice() == [0x4, 0x17, 0xd8, 0x3d].as_slice());
+    /// ```
     pub fn to_be_bytes<A: Allocator>(self, alloc: A) -> Result<Vec<u8, A>, OutOfMemory>
         ensures bytes { IfOk result (λ bytes. bytes.items ≡ big_bytes_of C.form (map C.number (units_seen self.entry))) }
         ensures succeeds { units_seen self.entry ≡ [] → IsOk result }
@@ -59,6 +73,13 @@ impl<C: Unit> UStr<'_, C> {
     /// # Errors
     ///
     /// [`OutOfMemory`] if the allocation fails.
+    ///
+    /// # Example
+    ///
+    /// ```
+    /// let bytes = U16Str::from_slice(&[0x48, 0x69]).to_le_bytes_with_bom(rt.alloc())?;
+    /// assert!(rt; bytes.as_slice() == [0xff, 0xfe, 0x48, 0, 0x69, 0].as_slice());
+    /// ```
     pub fn to_le_bytes_with_bom<A: Allocator>(self, alloc: A) -> Result<Vec<u8, A>, OutOfMemory>
         ensures { IfOk result (λ bytes. bytes.items ≡ little_bytes_of C.form (byte_order_mark ∷ map C.number (units_seen self.entry))) }
     {
@@ -76,6 +97,13 @@ impl<C: Unit> UStr<'_, C> {
     /// # Errors
     ///
     /// [`OutOfMemory`] if the allocation fails.
+    ///
+    /// # Example
+    ///
+    /// ```
+    /// let bytes = U32Str::from_slice(&[0x1f600]).to_be_bytes_with_bom(rt.alloc())?;
+    /// assert!(rt; bytes.as_slice() == [0, 0, 0xfe, 0xff, 0, 0x1, 0xf6, 0].as_slice());
+    /// ```
     pub fn to_be_bytes_with_bom<A: Allocator>(self, alloc: A) -> Result<Vec<u8, A>, OutOfMemory>
         ensures { IfOk result (λ bytes. bytes.items ≡ big_bytes_of C.form (byte_order_mark ∷ map C.number (units_seen self.entry))) }
     {

@@ -18,6 +18,14 @@ use wide_unit::{Unit, split_first};
 /// Printing does not allocate, returns an error of the sink at once, and then writes nothing more.
 ///
 /// `{:?}` prints the same text as `{:?}` of the view.
+///
+/// # Example
+///
+/// ```
+/// let shown = U16Str::from_slice(&[0x48, 0x69, 0xd83d]).display();
+/// let text = format!(in rt.alloc(); "{shown} {shown:?}")?;
+/// assert!(rt; text.as_str() == "Hi\u{fffd} \"Hi\\<D83D>\"");
+/// ```
 #[derive(Clone, Copy)]
 pub struct Display<'a, C> {
     pub(crate) view: UStr<'a, C>,
@@ -45,6 +53,14 @@ impl<C: Unit> fmt::Display for Display<'_, C> {
 /// once, and then writes nothing more.
 ///
 /// `{:?}` prints the same text as `{:?}` of the view.
+///
+/// # Example
+///
+/// ```
+/// let shown = U16Str::from_slice(&[0x48, 0xdc00, 0x69, 0xfffd]).display_skipping();
+/// let text = shown.to_string(rt.alloc())?;
+/// assert!(rt; text.as_str() == "Hi");
+/// ```
 #[derive(Clone, Copy)]
 pub struct DisplaySkipping<'a, C> {
     pub(crate) view: UStr<'a, C>,

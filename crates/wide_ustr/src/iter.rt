@@ -35,6 +35,15 @@ fn unit_hint<C: Unit>(units: &[C]) -> (usize, Option<usize>)
 /// [`UStr::chars`](crate::UStr::chars).
 ///
 /// `{:?}` prints the units that were not read yet, as `{:?}` of a view prints them.
+///
+/// # Example
+///
+/// ```
+/// let mut items = U16Str::from_slice(&[0x48, 0xd83d, 0xde00, 0xdc00]).chars();
+/// assert!(rt; items.next() == Some(Ok('H')));
+/// assert!(rt; items.next_back() == Some(Err(DecodeUtf16Error::new(0xdc00))));
+/// assert!(rt; items.next_back() == Some(Ok('😀')));
+/// ```
 #[derive(Clone, Drop)]
 pub struct Chars<'a, C> {
     pub(crate) rest: &'a [C],
@@ -98,6 +107,14 @@ impl<C: FaultUnit> FusedIterator for Chars<'_, C> {}
 ///
 /// `{:?}` prints the characters that were not read yet between quotes, as [`char::escape_debug`] escapes them. A fault
 /// is printed as the escape of U+FFFD.
+///
+/// # Example
+///
+/// ```
+/// let mut characters = U16Str::from_slice(&[0xdc00, 0x48, 0xd83d, 0xde00]).chars_lossy();
+/// assert!(rt; characters.next() == Some('\u{fffd}'));
+/// assert!(rt; characters.next_back() == Some('😀'));
+/// ```
 #[derive(Clone, Drop)]
 pub struct CharsLossy<'a, C> {
     pub(crate) rest: &'a [C],
@@ -158,6 +175,15 @@ impl<C: Unit> FusedIterator for CharsLossy<'_, C> {}
 
 /// An iterator over the characters of a view and the units that belong to none, each with the offset, in units, at
 /// which it begins. Made by [`UStr::char_indices`](crate::UStr::char_indices).
+///
+/// # Example
+///
+/// ```
+/// let mut items = U16Str::from_slice(&[0xd83d, 0xde00, 0xdc00]).char_indices();
+/// assert!(rt; items.next() == Some((0, Ok('😀'))));
+/// assert!(rt; items.offset() == 2);
+/// assert!(rt; items.next() == Some((2, Err(DecodeUtf16Error::new(0xdc00)))));
+/// ```
 #[derive(Debug, Drop)]
 pub struct CharIndices<'a, C> {
     offsets: Offsets<'a, C>,
@@ -252,6 +278,15 @@ impl<C: FaultUnit> FusedIterator for CharIndices<'_, C> {}
 
 /// An iterator over the characters of a view, with one U+FFFD for each unit that belongs to none, each with the offset,
 /// in units, at which it begins. Made by [`UStr::char_indices_lossy`](crate::UStr::char_indices_lossy).
+///
+/// # Example
+///
+/// ```
+/// let mut characters = U16Str::from_slice(&[0xd83d, 0xde00, 0xdc00]).char_indices_lossy();
+/// assert!(rt; characters.next_back() == Some((2, '\u{fffd}')));
+/// assert!(rt; characters.next() == Some((0, '😀')));
+/// assert!(rt; characters.offset() == 2);
+/// ```
 #[derive(Debug, Drop)]
 pub struct CharIndicesLossy<'a, C> {
     offsets: Offsets<'a, C>,

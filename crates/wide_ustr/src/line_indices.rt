@@ -14,6 +14,14 @@ use wide_utferror::FaultUnit;
 
 /// An iterator over the lines of a view, from the front, each with the offset, in units, at which it begins. Made by
 /// [`UStr::line_indices_lossy`](crate::UStr::line_indices_lossy) and by `line_indices` of well-formed views.
+///
+/// # Example
+///
+/// ```
+/// let text = U16Str::from_slice(&[0x48, 0x69, 0xd, 0xa, 0x21]);
+/// let last = text.line_indices_lossy().last();
+/// assert!(rt; last == Some((4, U16Str::from_slice(&[0x21]))));
+/// ```
 #[derive(Debug)]
 pub struct LineIndices<V: LineView> {
     len: usize,
@@ -87,6 +95,14 @@ impl<C: FaultUnit> UStr<'_, C> {
 
     /// Returns an iterator over the lines, as [`UStr::lines_lossy`] splits them, each with the offset, in units, at
     /// which it begins in the view. The Rust crate has no such call.
+    ///
+    /// # Example
+    ///
+    /// ```
+    /// let mut lines = U16Str::from_slice(&[0x48, 0x69, 0xa, 0xdc00]).line_indices_lossy();
+    /// assert!(rt; lines.next() == Some((0, U16Str::from_slice(&[0x48, 0x69]))));
+    /// assert!(rt; lines.next() == Some((3, U16Str::from_slice(&[0xdc00]))));
+    /// ```
     pub fn line_indices_lossy(self) -> LineIndices<Self>
         ensures lines { placed_left result ≡ placed_lines C.form 0 (items C.form (map C.number (units_seen self.entry))) }
         ensures boundaries { All (λ line. IsBoundary C.form (map C.number (units_seen self.entry)) line.0) (placed_left result) }

@@ -16,6 +16,16 @@ use wide_utferror::FaultUnit;
 /// A view that can be split into lines.
 ///
 /// The Rust crate has no such trait. No call allocates.
+///
+/// # Example
+///
+/// ```
+/// use widestring::ustr::LineView;
+///
+/// let text = U16Str::from_slice(&[0x48, 0x69, 0xd, 0xa, 0x21]);
+/// let line = U16Str::from_slice(&[0x48, 0x69]);
+/// assert!(rt; text.first_line() == Some((line, U16Str::from_slice(&[0x21]))));
+/// ```
 pub trait LineView: Copy {
     // The characters of the view, and its units that belong to none.
     ghost items_seen: { Self → List Item };
@@ -41,6 +51,15 @@ pub trait LineView: Copy {
 
 /// An iterator over the lines of a view, from the front. Made by [`UStr::lines_lossy`](crate::UStr::lines_lossy) and by
 /// `lines` of well-formed views.
+///
+/// # Example
+///
+/// ```
+/// let mut lines = U16Str::from_slice(&[0x48, 0x69, 0xa, 0xa]).lines_lossy();
+/// assert!(rt; lines.next() == Some(U16Str::from_slice(&[0x48, 0x69])));
+/// assert!(rt; lines.next().is_some_and(|line| line.is_empty()));
+/// assert!(rt; lines.next().is_none());
+/// ```
 #[derive(Clone, Debug, Drop)]
 pub struct Lines<V> {
     rest: V,
@@ -109,6 +128,14 @@ impl<C: FaultUnit> UStr<'_, C> {
     /// at each line feed (U+000A), which is in no line. A line before a line feed loses one carriage return (U+000D) at
     /// its end. The last substring is not a line if it is empty. Units that belong to no character remain in the lines
     /// unchanged.
+    ///
+    /// # Example
+    ///
+    /// ```
+    /// let mut lines = U16Str::from_slice(&[0x48, 0x69, 0xd, 0xa, 0xdc00]).lines_lossy();
+    /// assert!(rt; lines.next() == Some(U16Str::from_slice(&[0x48, 0x69])));
+    /// assert!(rt; lines.next() == Some(U16Str::from_slice(&[0xdc00])));
+    /// ```
     pub fn lines_lossy(self) -> Lines<Self>
         ensures lines { lines_left (items_seen C.form C.number) result ≡ lines_of (items C.form (map C.number (units_seen self.entry))) }
         ensures most { length (lines_left (items_seen C.form C.number) result) ≤ length (units_seen self.entry) }

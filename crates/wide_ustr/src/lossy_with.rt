@@ -39,6 +39,15 @@ fn before_faults<C: Unit>(units: &[C]) -> &[C]
 /// Under [`Policy::Run`] and [`Policy::Skip`] the call that reaches a run of faults, at either end, reads the whole
 /// run. Under [`Policy::Each`] each call reads one fault. It continues to return `None` after its end, and does not
 /// allocate.
+///
+/// # Example
+///
+/// ```
+/// let units = U16Str::from_slice(&[0x48, 0xdc00, 0xdc00]);
+/// let mut characters = units.chars_lossy_with(Policy::Run);
+/// assert!(rt; characters.next_back() == Some('\u{fffd}'));
+/// assert!(rt; characters.next_back() == Some('H'));
+/// ```
 #[derive(Clone, Drop)]
 pub struct CharsLossyWith<'a, C> {
     pub(crate) rest: &'a [C],

@@ -36,6 +36,15 @@ impl<C: Unit> UStr<'_, C> {
     /// offset at which the first and the last unit of the needle both match follows. Units are compared up to one that
     /// differs. If too many are compared in vain, as they may be if the needle repeats itself, the two-way search
     /// passes the next offsets, so the time is linear in both lengths.
+    ///
+    /// # Example
+    ///
+    /// ```
+    /// let path = U16String::from_str(rt.alloc(), "C:\\temp")?;
+    /// assert!(rt; path.as_ustr().find(U16Str::from_slice(&[0x5c])) == Some(2));
+    /// let emoji = U16Str::from_slice(&[0xd83d, 0xde00]);
+    /// assert!(rt; emoji.find(U16Str::from_slice(&[0xde00])) == Some(1));
+    /// ```
     pub fn find(self, needle: UStr<'_, C>) -> Option<usize>
         ensures first { IfSome result (IsFirstAt (units_seen needle.entry) (units_seen self.entry)) }
         ensures none { IfNone result (OccursNowhere (units_seen needle.entry) (units_seen self.entry)) }

@@ -15,6 +15,16 @@ use wide_unit::Unit;
 /// A view that can be split at a separator of some type: units, or a character.
 ///
 /// The Rust crate has no such trait. No call allocates.
+///
+/// # Example
+///
+/// ```
+/// use widestring::ustr::SplitView;
+///
+/// let setting = U16Str::from_slice(&[0x78, 0x3d, 0x31]);
+/// let cut = setting.cut_first(U16Str::from_slice(&[0x3d]));
+/// assert!(rt; cut == Some((U16Str::from_slice(&[0x78]), U16Str::from_slice(&[0x31]))));
+/// ```
 pub trait SplitView<P>: Copy {
     // The numbers of the view's units, and of the separator's.
     ghost numbers_seen: { Self → List ℕ };
@@ -30,6 +40,14 @@ pub trait SplitView<P>: Copy {
 
 /// An iterator over the substrings of a view between the occurrences of a separator, from the front. Made by
 /// [`UStr::split`](crate::UStr::split) and by `split` and `split_char` of the other views.
+///
+/// # Example
+///
+/// ```
+/// let path = U16Str::from_slice(&[0x43, 0x3a, 0x5c, 0x74, 0x5c, 0xe9]);
+/// let parts = path.split(U16Str::from_slice(&[0x5c]));
+/// assert!(rt; parts.count() == 3);
+/// ```
 #[derive(Clone, Copy, Debug, Drop)]
 pub struct Split<V, P> {
     rest: Option<V>,
@@ -101,6 +119,16 @@ impl<C: Unit> UStr<'_, C> {
     /// occurrence is the first one after the one before, so occurrences do not overlap. If the separator occurs at the
     /// start, at the end, or twice in a row, the substring there is empty. If it does not occur, or is empty, the whole
     /// view is the only substring.
+    ///
+    /// # Example
+    ///
+    /// ```
+    /// let row = U16Str::from_slice(&[0x61, 0x3b, 0xd800, 0x3b]);
+    /// let mut fields = row.split(U16Str::from_slice(&[0x3b]));
+    /// assert!(rt; fields.next() == Some(U16Str::from_slice(&[0x61])));
+    /// assert!(rt; fields.next() == Some(U16Str::from_slice(&[0xd800])));
+    /// assert!(rt; fields.next().is_some_and(|field| field.is_empty()));
+    /// ```
     pub fn split<'p>(self, needle: UStr<'p, C>) -> Split<Self, UStr<'p, C>>
         ensures left { unit_substrings_left C.number result ≡ substrings (numbers_seen C.number needle.entry) (numbers_seen C.number self.entry) }
         ensures cut { 0 < length (units_seen needle.entry) → AreSubstrings (numbers_seen C.number needle.entry) (numbers_seen C.number self.entry) (unit_substrings_left C.number result) }

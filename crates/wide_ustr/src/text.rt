@@ -25,6 +25,14 @@ impl<C: Unit> UStr<'_, C> {
     /// # Errors
     ///
     /// [`OutOfMemory`] if the allocation fails. It never fails if there are no units.
+    ///
+    /// # Example
+    ///
+    /// ```
+    /// let name = U16Str::from_slice(&[0x64, 0xe9, 0x6a, 0xe0, 0xdc00]);
+    /// let text = name.to_string_lossy(rt.alloc())?;
+    /// assert!(rt; text.as_str() == "déjà\u{fffd}");
+    /// ```
     pub fn to_string_lossy<A: Allocator>(self, alloc: A) -> Result<String<A>, OutOfMemory>
         ensures text { IfOk result (λ text. string_bytes text ≡ utf8 (lossy (items C.form (map C.number (units_seen self.entry))))) }
         ensures succeeds { units_seen self.entry ≡ [] → IsOk result }
@@ -41,6 +49,16 @@ impl<C: Unit> UStr<'_, C> {
     /// # Errors
     ///
     /// [`OutOfMemory`] if the allocation fails. It never fails if there are no units.
+    ///
+    /// # Example
+    ///
+    /// ```
+    /// let units = U16Str::from_slice(&[0x48, 0xdc00, 0xdc00, 0x69]);
+    /// let text = units.to_string_lossy_with(rt.alloc(), Policy::Run)?;
+    /// assert!(rt; text.as_str() == "H\u{fffd}i");
+    /// let text = units.to_string_lossy_with(rt.alloc(), Policy::Skip)?;
+    /// assert!(rt; text.as_str() == "Hi");
+    /// ```
     pub fn to_string_lossy_with<A: Allocator>(
         self,
         alloc: A,
@@ -68,6 +86,15 @@ impl UStr<'_, u16> {
     ///
     /// The first fault, if the text is ill-formed, with its index in units, its item number in characters, and no
     /// vector. It is found before anything is allocated. Otherwise out of memory, if the allocation fails.
+    ///
+    /// # Example
+    ///
+    /// ```
+    /// let text = U16Str::from_slice(&[0x48, 0xd83d, 0xde00]).to_string(rt.alloc())?;
+    /// assert!(rt; text.as_str() == "H😀");
+    /// let fault = U16Str::from_slice(&[0x48, 0xd83d]).to_string(rt.alloc());
+    /// assert!(rt; matches!(&fault, Err(Utf16ConvertError::Utf16(fault)) if fault.index() == 1));
+    /// ```
     pub fn to_string<A: Allocator>(self, alloc: A) -> Result<String<A>, Utf16ConvertError>
         ensures text { IfOk result (λ text. string_bytes text ≡ utf8 (chars Utf16 (units_seen self.entry))) }
         ensures well_formed { OnOk result (IsWellFormed Utf16 (units_seen self.entry)) }
@@ -96,6 +123,15 @@ impl UStr<'_, u32> {
     ///
     /// The first fault, if the text is ill-formed, with its index in units, its item number in characters, and no
     /// vector. It is found before anything is allocated. Otherwise out of memory, if the allocation fails.
+    ///
+    /// # Example
+    ///
+    /// ```
+    /// let text = U32Str::from_slice(&[0x48, 0x1f600]).to_string(rt.alloc())?;
+    /// assert!(rt; text.as_str() == "H😀");
+    /// let fault = U32Str::from_slice(&[0x48, 0x110000]).to_string(rt.alloc());
+    /// assert!(rt; matches!(&fault, Err(Utf32ConvertError::Utf32(fault)) if fault.index() == 1));
+    /// ```
     pub fn to_string<A: Allocator>(self, alloc: A) -> Result<String<A>, Utf32ConvertError>
         ensures text { IfOk result (λ text. string_bytes text ≡ utf8 (chars Utf32 (units_seen self.entry))) }
         ensures well_formed { OnOk result (IsWellFormed Utf32 (units_seen self.entry)) }

@@ -23,6 +23,14 @@ use wide_utferror::FaultUnit;
 /// `{:?}` prints the text between quotes, as [`char::escape_debug`] escapes it. A unit that belongs to no character is
 /// printed as `\<H>`, where `H` is its number in upper-case hexadecimal, without leading zeros. Printing ignores the
 /// format options, and returns an error of the sink at once.
+///
+/// # Example
+///
+/// ```
+/// let path = U16Str::from_slice(&[0x43, 0x3a, 0x5c, 0xd800]);
+/// assert!(rt; path.len() == 4);
+/// assert!(rt; path.get(..2) == Some(U16Str::from_slice(&[0x43, 0x3a])));
+/// ```
 #[derive(Clone, Copy, PartialEq, Eq, PartialOrd, Ord, Hash)]
 pub struct UStr<'a, C> {
     pub(crate) units: &'a [C],
@@ -45,6 +53,14 @@ impl<'a, C> UStr<'a, C> {
     ghost use Rattle.wide_ustr.specs.Printed.{displayed, displayed_skipping};
 
     /// Makes a view of a slice of units.
+    ///
+    /// # Example
+    ///
+    /// ```
+    /// let units = [0x48, 0x69, 0xd83d];
+    /// let view = U16Str::from_slice(&units);
+    /// assert!(rt; view.as_slice() == units.as_slice());
+    /// ```
     pub fn from_slice(units: &'a [C]) -> Self
         ensures { units_seen result ≡ units.now }
     {
@@ -134,6 +150,14 @@ impl<'a, C> UStr<'a, C> {
 
     /// Returns a value whose `Display` prints the text of the view, with one U+FFFD for each unit that belongs to no
     /// character.
+    ///
+    /// # Example
+    ///
+    /// ```
+    /// let name = U16Str::from_slice(&[0x48, 0x69, 0xd83d]);
+    /// let line = format!(in rt.alloc(); "Name: {}", name.display())?;
+    /// assert!(rt; line.as_str() == "Name: Hi\u{fffd}");
+    /// ```
     pub fn display(self) -> Display<'a, C>
         ensures { displayed result ≡ self.entry }
     {
@@ -142,6 +166,14 @@ impl<'a, C> UStr<'a, C> {
 
     /// Returns a value whose `Display` prints the text of the view without the units that belong to no character, and
     /// without any U+FFFD of the text.
+    ///
+    /// # Example
+    ///
+    /// ```
+    /// let name = U16Str::from_slice(&[0x48, 0xd83d, 0x69]);
+    /// let line = format!(in rt.alloc(); "Name: {}", name.display_skipping())?;
+    /// assert!(rt; line.as_str() == "Name: Hi");
+    /// ```
     pub fn display_skipping(self) -> DisplaySkipping<'a, C>
         ensures { displayed_skipping result ≡ self.entry }
     {
@@ -155,6 +187,13 @@ impl<'a, C: Unit> UStr<'a, C> {
     ghost use Rattle.wide_ustr.specs.LossyWith.{lossy_with_left, lossy_with_rest};
 
     /// Returns an iterator over the characters, from both ends, with one U+FFFD for each unit that belongs to none.
+    ///
+    /// # Example
+    ///
+    /// ```
+    /// let units = U16Str::from_slice(&[0x48, 0xd83d, 0xde00, 0xdc00]);
+    /// assert!(rt; units.chars_lossy().eq("H😀\u{fffd}".chars()));
+    /// ```
     pub fn chars_lossy(self) -> CharsLossy<'a, C>
         ensures { lossy_left C.form C.number result ≡ lossy (items C.form (map C.number (units_seen self.entry))) }
     {
@@ -175,6 +214,15 @@ impl<'a, C: Unit> UStr<'a, C> {
 
     /// Returns an iterator over the characters, from both ends, with one U+FFFD for each unit that belongs to none.
     /// Each comes with the offset, in units, at which it begins in the view.
+    ///
+    /// # Example
+    ///
+    /// ```
+    /// let units = U16Str::from_slice(&[0xd83d, 0xde00, 0xdc00]);
+    /// let mut characters = units.char_indices_lossy();
+    /// assert!(rt; characters.next() == Some((0, '😀')));
+    /// assert!(rt; characters.next() == Some((2, '\u{fffd}')));
+    /// ```
     pub fn char_indices_lossy(self) -> CharIndicesLossy<'a, C>
         ensures items { indices_lossy_left C.form C.number result ≡ indexed_lossy C.form 0 (items C.form (map C.number (units_seen self.entry))) }
         ensures offset { lossy_offset_of result ≡ 0 }
@@ -197,6 +245,15 @@ impl<'a, C: FaultUnit> UStr<'a, C> {
 
     /// Returns an iterator over the characters, from both ends. It yields an error for each unit that belongs to none
     /// (Unicode Standard, D84a). Each comes with the offset, in units, at which it begins in the view.
+    ///
+    /// # Example
+    ///
+    /// ```
+    /// let units = U16Str::from_slice(&[0x48, 0xd83d, 0x69, 0xdc00]);
+    /// let mut faults = units.char_indices().filter(|item| item.1.is_err());
+    /// assert!(rt; faults.next() == Some((1, Err(DecodeUtf16Error::new(0xd83d)))));
+    /// assert!(rt; faults.next() == Some((3, Err(DecodeUtf16Error::new(0xdc00)))));
+    /// ```
     pub fn char_indices(self) -> CharIndices<'a, C>
         ensures items { indices_left C.form C.number result ≡ indexed C.form 0 (items C.form (map C.number (units_seen self.entry))) }
         ensures offset { offset_of result ≡ 0 }

@@ -21,6 +21,15 @@ use wide_utferror::FaultUnit;
 /// Compare two of them through their views, by [`BoxedUStr::as_ustr`]. `{:?}` prints the text between quotes, as
 /// [`char::escape_debug`] escapes it; a unit that belongs to no character is printed as `\<H>`, where `H` is its number
 /// in upper-case hexadecimal, without leading zeros.
+///
+/// # Example
+///
+/// ```
+/// let string = U16String::from_str(rt.alloc(), "Hi")?;
+/// let boxed = string.into_boxed_ustr()?;
+/// assert!(rt; boxed.as_ustr().len() == 2);
+/// assert!(rt; boxed.into_ustring().capacity() == 2);
+/// ```
 #[derive(Drop)]
 pub struct BoxedUStr<C, A: Allocator = Global> {
     // A string without spare capacity. It is no `BoxedSlice` of std, which would retain its vector's spare capacity,

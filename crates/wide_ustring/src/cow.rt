@@ -21,6 +21,15 @@ use wide_utferror::FaultUnit;
 /// Compare two of them through their views, by [`CowUStr::as_ustr`]. `{:?}` prints the text between quotes, as
 /// [`char::escape_debug`] escapes it; a unit that belongs to no character is printed as `\<H>`, where `H` is its number
 /// in upper-case hexadecimal, without leading zeros.
+///
+/// # Example
+///
+/// ```
+/// let cow = CowU16Str::Borrowed(U16Str::from_slice(&[0x48, 0xd83d]));
+/// let mut string = cow.into_owned(rt.alloc())?;
+/// string.truncate(1);
+/// assert!(rt; string.as_slice() == [0x48].as_slice());
+/// ```
 #[derive(Drop)]
 pub enum CowUStr<'a, C, A: Allocator = Global> {
     /// A view of units that something else owns.

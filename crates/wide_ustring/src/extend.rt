@@ -18,6 +18,16 @@ use wide_utferror::FaultUnit;
 
 /// A string that can grow at its end. The Rust crate has no such trait. Dependent crates implement it for their
 /// strings.
+///
+/// # Example
+///
+/// ```
+/// use widestring::ustring::extend::extend;
+///
+/// let mut path = Utf16String::from_str(rt.alloc(), "C:")?;
+/// extend(&mut path, ["\\temp", "\\é"])?;
+/// assert!(rt; path.as_utfstr().eq_str("C:\\temp\\é"));
+/// ```
 pub trait Growing {
     // The numbers of the string's units, and how many units it can hold without allocating.
     ghost seen: { Self → Units ℕ };
@@ -32,6 +42,17 @@ impl<C: FaultUnit, A: Allocator> Growing for UString<C, A> {
 ///
 /// A crate that implements the trait for a view and a string of two other crates needs a type of its own in the impl,
 /// by Rust's orphan rule, and passes it as the marker `M`. Any other impl passes [`Whole`].
+///
+/// # Example
+///
+/// ```
+/// use widestring::ustring::extend::Piece;
+///
+/// let mut string = U16String::new(rt.alloc());
+/// '😀'.push_to(&mut string)?;
+/// "!".push_to(&mut string)?;
+/// assert!(rt; string.as_slice() == [0xd83d, 0xde00, 0x21].as_slice());
+/// ```
 pub trait Piece<S: Growing, M> {
     // The numbers of the item's units.
     ghost text: { Self → List ℕ };
@@ -49,6 +70,16 @@ pub trait Piece<S: Growing, M> {
 }
 
 /// The marker for impls of [`Piece`] in the crate of their string, which need no marker of their own.
+///
+/// # Example
+///
+/// ```
+/// use widestring::ustring::extend::{Piece, Whole};
+///
+/// let mut string = U16String::new(rt.alloc());
+/// <char as Piece<U16String, Whole>>::push_to('é', &mut string)?;
+/// assert!(rt; string.as_slice() == [0xe9].as_slice());
+/// ```
 pub struct Whole;
 
 impl<C: FaultUnit, A: Allocator> Piece<UString<C, A>, Whole> for char {

@@ -10,6 +10,15 @@ use std::iter::FusedIterator;
 
 /// An iterator over the units of a range, from both ends. When it is dropped, the whole range is removed from the
 /// string, even if it was not read to the end. Made by [`UString::drain`].
+///
+/// # Example
+///
+/// ```
+/// let mut string = U16String::from_vec([0x48, 0x69, 0x21].to_vec(rt.alloc())?);
+/// let first = string.drain(1..).next();
+/// assert!(rt; first == Some(0x69));
+/// assert!(rt; string.as_slice() == [0x48].as_slice());
+/// ```
 // The offsets are clamped to the string's length, so that the proof needs to know nothing about the borrowed string.
 pub struct Drain<'a, C: Copy, A: Allocator = Global> {
     pub(crate) string: &'a mut UString<C, A>,

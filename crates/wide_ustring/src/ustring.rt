@@ -36,6 +36,15 @@ use wide_utferror::FaultUnit;
 ///
 /// `{:?}` prints the text between quotes, as [`char::escape_debug`] escapes it. A unit that belongs to no character is
 /// printed as `\<H>`, where `H` is its number in upper-case hexadecimal, without leading zeros.
+///
+/// # Example
+///
+/// ```
+/// let mut name = U16String::from_str(rt.alloc(), "C:\\temp")?;
+/// name.push_slice(&[0x5c, 0xd800])?;
+/// assert!(rt; name.len() == 9);
+/// assert!(rt; name.as_ustr().get(7..) == Some(U16Str::from_slice(&[0x5c, 0xd800])));
+/// ```
 #[derive(Drop)]
 pub struct UString<C, A: Allocator = Global> {
     pub(crate) units: Vec<C, A>,
@@ -137,6 +146,15 @@ impl<C: FaultUnit, A: Allocator> UString<C, A> {
     /// # Errors
     ///
     /// [`OutOfMemory`] if the allocation fails. It never fails if the text is empty.
+    ///
+    /// # Example
+    ///
+    /// ```
+    /// let string = U16String::from_str(rt.alloc(), "é😀")?;
+    /// assert!(rt; string.as_slice() == [0xe9, 0xd83d, 0xde00].as_slice());
+    /// let string = U32String::from_str(rt.alloc(), "é😀")?;
+    /// assert!(rt; string.as_slice() == [0xe9, 0x1f600].as_slice());
+    /// ```
     pub fn from_str(alloc: A, text: &str) -> Result<Self, OutOfMemory>
         ensures units { IfOk result (λ s. map C.number s.units ≡ encode C.form (chars text.now)) }
         ensures read_back { IfOk result (λ s. utf8 (text_chars C.form (map C.number s.units)) ≡ text.now) }
@@ -148,6 +166,13 @@ impl<C: FaultUnit, A: Allocator> UString<C, A> {
     }
 
     /// Returns a view of the units.
+    ///
+    /// # Example
+    ///
+    /// ```
+    /// let string = U16String::from_str(rt.alloc(), "Заголовок")?;
+    /// assert!(rt; string.as_ustr().find_char('г') == Some(2));
+    /// ```
     pub fn as_ustr(&self) -> UStr<'_, C>
         ensures { units_seen result ≡ self.now.units }
     {
@@ -292,6 +317,14 @@ impl<C: FaultUnit, A: Allocator> UString<C, A> {
     /// # Errors
     ///
     /// [`OutOfMemory`] if the allocation fails; the string is unchanged. It never fails if the spare capacity suffices.
+    ///
+    /// # Example
+    ///
+    /// ```
+    /// let mut string = U16String::from_str(rt.alloc(), "Hi")?;
+    /// string.push(U16Str::from_slice(&[0x21, 0xd83d]))?;
+    /// assert!(rt; string.as_slice() == [0x48, 0x69, 0x21, 0xd83d].as_slice());
+    /// ```
     pub fn push(&mut self, more: UStr<'_, C>) -> Result<(), OutOfMemory>
         ensures ok { OnOk result (self.new.units ≡ self.old.units ++ units_seen more.entry) }
         ensures err { OnErr result (self.new ≡ self.old) }
@@ -463,6 +496,14 @@ impl<C: FaultUnit, A: Allocator> UString<C, A> {
     /// # Errors
     ///
     /// [`OutOfMemory`] if the allocation fails; the string is unchanged. It never fails if the spare capacity suffices.
+    ///
+    /// # Example
+    ///
+    /// ```
+    /// let mut string = U16String::new(rt.alloc());
+    /// string.push_char('😀')?;
+    /// assert!(rt; string.as_slice() == [0xd83d, 0xde00].as_slice());
+    /// ```
     pub fn push_char(&mut self, c: char) -> Result<(), OutOfMemory>
         ensures ok { OnOk result (map C.number self.new.units ≡ map C.number self.old.units ++ code_units C.form c) }
         ensures err { OnErr result (self.new ≡ self.old) }
@@ -479,6 +520,15 @@ impl<C: FaultUnit, A: Allocator> UString<C, A> {
     /// # Errors
     ///
     /// [`OutOfMemory`] if the allocation fails; the string is unchanged. It never fails if the spare capacity suffices.
+    ///
+    /// # Example
+    ///
+    /// ```
+    /// let mut path = U16String::from_str(rt.alloc(), "C:")?;
+    /// path.push_str("\\temp")?;
+    /// let text = path.as_ustr().to_string(rt.alloc())?;
+    /// assert!(rt; text.as_str() == "C:\\temp");
+    /// ```
     pub fn push_str(&mut self, text: &str) -> Result<(), OutOfMemory>
         ensures ok { OnOk result (map C.number self.new.units ≡ map C.number self.old.units ++ encode C.form (chars text.now)) }
         ensures err { OnErr result (self.new ≡ self.old) }

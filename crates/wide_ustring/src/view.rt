@@ -10,6 +10,15 @@ use wide_utferror::FaultUnit;
 
 /// Calls of a view of units that make an owned string. They are in a trait because the view's crate does not know owned
 /// strings.
+///
+/// # Example
+///
+/// ```
+/// use widestring::ustring::UStrInUstring;
+///
+/// let line = U16Str::from_slice(&[0x2d, 0x20]).repeat(rt.alloc(), 2)?;
+/// assert!(rt; line.as_slice() == [0x2d, 0x20, 0x2d, 0x20].as_slice());
+/// ```
 pub trait UStrInUstring<C> {
     // The units of the view.
     ghost text: { Self → List C };
@@ -19,6 +28,16 @@ pub trait UStrInUstring<C> {
     /// # Errors
     ///
     /// [`OutOfMemory`] if the allocation fails. It never fails if there are no units.
+    ///
+    /// # Example
+    ///
+    /// ```
+    /// use widestring::ustring::UStrInUstring;
+    ///
+    /// let mut copy = U16Str::from_slice(&[0x48, 0x69, 0xd83d]).to_ustring(rt.alloc())?;
+    /// copy.push_str("!")?;
+    /// assert!(rt; copy.as_slice() == [0x48, 0x69, 0xd83d, 0x21].as_slice());
+    /// ```
     fn to_ustring<A: Allocator>(self, alloc: A) -> Result<UString<C, A>, OutOfMemory>
         ensures units { IfOk result (λ s. s.units ≡ text self) }
         ensures succeeds { text self ≡ [] → IsOk result };

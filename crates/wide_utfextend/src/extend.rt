@@ -16,6 +16,18 @@ use wide_utfstr::UtfStr;
 use wide_utfstring::UtfString;
 
 /// The marker for the impls of `Piece` for well-formed text, which append its units to a string of any units.
+///
+/// # Example
+///
+/// ```
+/// use widestring::ustring::extend::Piece;
+/// use widestring::utfstring::OfText;
+///
+/// let mut string = U16String::new(rt.alloc());
+/// let text = Utf16Str::from_slice(&[0x48, 0x69])?;
+/// <Utf16Str as Piece<U16String, OfText>>::push_to(text, &mut string)?;
+/// assert!(rt; string.as_slice() == [0x48, 0x69].as_slice());
+/// ```
 pub struct OfText;
 
 impl<C: FaultUnit, A: Allocator> Piece<UString<C, A>, OfText> for UtfStr<'_, C> {
@@ -36,6 +48,17 @@ impl<C: FaultUnit, A: Allocator, B: Allocator> Piece<UString<C, A>, OfText> for 
 
 /// Calls of a string of units that take views of well-formed text. They are in a trait because the string's crate does
 /// not know such views. The trait has the type of the iterator that yields the views as a parameter.
+///
+/// # Example
+///
+/// ```
+/// use widestring::utfstring::UStringOverUtfstrs;
+///
+/// let text = Utf16Str::from_slice(&[0x48, 0x69, 0xd, 0xa, 0xd83d, 0xde00])?;
+/// let mut string = U16String::new(rt.alloc());
+/// string.extend_utfstrs(text.lines())?;
+/// assert!(rt; string.as_slice() == [0x48, 0x69, 0xd83d, 0xde00].as_slice());
+/// ```
 pub trait UStringOverUtfstrs<
     'a,
     C: FaultUnit + 'a,
@@ -73,6 +96,17 @@ pub trait UStringOverUtfstrs<
 
 /// Calls of a string of units that take strings of well-formed text. They are in a trait because the string's crate
 /// does not know such strings. It is separate from [`UStringOverUtfstrs`], which takes views.
+///
+/// # Example
+///
+/// ```
+/// use widestring::utfstring::UStringInUtfstring;
+///
+/// let text = Utf16String::from_str(rt.alloc(), "é😀")?;
+/// let mut string = U16String::from_str(rt.alloc(), "Hi")?;
+/// string.extend_utfstrings([text])?;
+/// assert!(rt; string.as_slice() == [0x48, 0x69, 0xe9, 0xd83d, 0xde00].as_slice());
+/// ```
 pub trait UStringInUtfstring<C: FaultUnit, A: Allocator>: Growing + Sized {
     /// Appends the units of the strings.
     ///

@@ -32,6 +32,14 @@ fn same_text(narrow: Utf16Str<'_>, wide: Utf32Str<'_>) -> bool
 impl<C: Unit> UtfStr<'_, C> {
     /// Returns whether the view has the same characters as the `str`. It reads both once, chunk by chunk, until two
     /// chunks differ.
+    ///
+    /// # Example
+    ///
+    /// ```
+    /// let text = Utf16Str::from_slice(&[0x64, 0xe9, 0x6a, 0xe0])?;
+    /// assert!(rt; text.eq_str("déjà"));
+    /// assert!(rt; !text.eq_str("de\u{301}ja\u{300}"));
+    /// ```
     pub fn eq_str(self, text: &str) -> bool
         ensures { IsTrue result ↔ (text_seen self.entry ≡ str_chars text.now) }
     {

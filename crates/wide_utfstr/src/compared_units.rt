@@ -29,6 +29,16 @@ impl<C: FaultUnit> UtfStr<'_, C> {
 
 /// Comparison of a view of units of the type `C` with well-formed text of the type `T`. It is in a trait because the
 /// view's crate does not know well-formed text.
+///
+/// # Example
+///
+/// ```
+/// use widestring::utfstr::UStrInUtfstr;
+///
+/// let text = Utf16Str::from_slice(&[0x48, 0x69])?;
+/// assert!(rt; U16Str::from_slice(&[0x48, 0x69]).eq_utfstr(text));
+/// assert!(rt; !U16Str::from_slice(&[0x48, 0xd83d]).eq_utfstr(text));
+/// ```
 pub trait UStrInUtfstr<C, T> {
     // The units of the view.
     ghost units: { Self → List C };
@@ -53,6 +63,15 @@ impl<'a, C: FaultUnit> UStrInUtfstr<C, UtfStr<'a, C>> for UStr<'_, C> {
 
 /// Comparison of a view of a C string, of units of the type `C`, with well-formed text of the type `T`. It is in a
 /// trait because the view's crate does not know well-formed text.
+///
+/// # Example
+///
+/// ```
+/// use widestring::utfstr::UCStrInUtfstr;
+///
+/// let name = U16CStr::from_slice(&[0x48, 0x69, 0])?;
+/// assert!(rt; name.eq_utfstr(Utf16Str::from_slice(&[0x48, 0x69])?));
+/// ```
 pub trait UCStrInUtfstr<C, T> {
     // The units before the NUL.
     ghost contents: { Self → List C };

@@ -168,6 +168,14 @@ impl<'a, C: Unit> Escapes<'a, C> {
 ///
 /// It yields them from the front, continues to return `None` after its end, and does not allocate. Made by
 /// [`UtfStr::escape_unicode`](crate::UtfStr::escape_unicode).
+///
+/// # Example
+///
+/// ```
+/// let escaped = Utf16Str::from_slice(&[0x48, 0xd83d, 0xde00])?.escape_unicode();
+/// let text = escaped.to_string(rt.alloc())?;
+/// assert!(rt; text.as_str() == "\\u{48}\\u{1f600}");
+/// ```
 #[derive(Drop)]
 pub struct EscapeUnicode<'a, C: Unit> {
     escapes: Escapes<'a, C>,
@@ -240,6 +248,14 @@ impl<C: Unit> fmt::Debug for EscapeUnicode<'_, C> {
 ///
 /// It yields them from the front, continues to return `None` after its end, and does not allocate. Made by
 /// [`UtfStr::escape_default`](crate::UtfStr::escape_default).
+///
+/// # Example
+///
+/// ```
+/// let escaped = Utf16Str::from_slice(&[0x22, 0xe9, 0x22])?.escape_default();
+/// let text = escaped.to_string(rt.alloc())?;
+/// assert!(rt; text.as_str() == "\\\"\\u{e9}\\\"");
+/// ```
 #[derive(Drop)]
 pub struct EscapeDefault<'a, C: Unit> {
     escapes: Escapes<'a, C>,
@@ -312,6 +328,14 @@ impl<C: Unit> fmt::Debug for EscapeDefault<'_, C> {
 ///
 /// It yields them from the front, continues to return `None` after its end, and does not allocate. Made by
 /// [`UtfStr::escape_debug`](crate::UtfStr::escape_debug).
+///
+/// # Example
+///
+/// ```
+/// let escaped = Utf16Str::from_slice(&[0xe9, 0x9, 0])?.escape_debug();
+/// let text = escaped.to_string(rt.alloc())?;
+/// assert!(rt; text.as_str() == "é\\t\\0");
+/// ```
 #[derive(Drop)]
 pub struct EscapeDebug<'a, C: Unit> {
     escapes: Escapes<'a, C>,

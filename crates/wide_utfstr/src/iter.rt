@@ -26,6 +26,15 @@ fn hint_of<C: Unit>(text: UtfStr<'_, C>) -> (usize, Option<usize>)
 /// An iterator over the characters of a well-formed view. Made by [`UtfStr::chars`](crate::UtfStr::chars).
 ///
 /// `{}` and `{:?}` print the characters that were not read yet, as they print a view of them.
+///
+/// # Example
+///
+/// ```
+/// let mut rest = Utf16Str::from_slice(&[0x48, 0x69, 0xd83d, 0xde00])?.chars();
+/// assert!(rt; rest.next() == Some('H'));
+/// let text = rest.to_string(rt.alloc())?;
+/// assert!(rt; text.as_str() == "i😀");
+/// ```
 #[derive(Drop)]
 pub struct Chars<'a, C: Unit> {
     pub(crate) text: UtfStr<'a, C>,
@@ -99,6 +108,15 @@ impl<C: Unit> FusedIterator for Chars<'_, C> {}
 
 /// An iterator over the characters of a well-formed view, each with the offset, in units, at which it begins. Made by
 /// [`UtfStr::char_indices`](crate::UtfStr::char_indices).
+///
+/// # Example
+///
+/// ```
+/// let mut characters = Utf16Str::from_slice(&[0xd83d, 0xde00, 0x48, 0x69])?.char_indices();
+/// assert!(rt; characters.next() == Some((0, '😀')));
+/// assert!(rt; characters.offset() == 2);
+/// assert!(rt; characters.next_back() == Some((3, 'i')));
+/// ```
 #[derive(Debug, Drop)]
 pub struct CharIndices<'a, C: Unit> {
     text: UtfStr<'a, C>,
@@ -196,6 +214,14 @@ impl ExactSizeIterator for CharIndices<'_, u32> {
 impl<C: Unit> FusedIterator for CharIndices<'_, C> {}
 
 /// An iterator over the units of well-formed UTF-16. Made by [`UtfStr::code_units`](crate::UtfStr::code_units).
+///
+/// # Example
+///
+/// ```
+/// let mut units = Utf16Str::from_slice(&[0x48, 0xd83d, 0xde00])?.code_units();
+/// assert!(rt; units.len() == 3);
+/// assert!(rt; units.next_back() == Some(0xde00));
+/// ```
 #[derive(Clone, Debug, Drop)]
 pub struct CodeUnits<'a> {
     pub(crate) rest: &'a [u16],

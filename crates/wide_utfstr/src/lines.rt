@@ -36,6 +36,16 @@ impl<C: Unit> UtfStr<'_, C> {
     /// Returns an iterator over the lines, from the front. Each line is a well-formed view of some of the units. The
     /// text is split at each line feed (U+000A), which is in no line. A line before a line feed loses one carriage
     /// return (U+000D) at its end. The last substring is not a line if it is empty.
+    ///
+    /// # Example
+    ///
+    /// ```
+    /// let text = Utf16Str::from_slice(&[0x48, 0x69, 0xd, 0xa, 0xd83d, 0xde00, 0xa])?;
+    /// let mut lines = text.lines();
+    /// assert!(rt; lines.next().is_some_and(|line| line.eq_str("Hi")));
+    /// assert!(rt; lines.next().is_some_and(|line| line.eq_str("😀")));
+    /// assert!(rt; lines.next().is_none());
+    /// ```
     pub fn lines(self) -> Lines<Self>
         ensures lines { lines_left (items_seen C.form C.number) result ≡ lines_of (items C.form (map C.number (units_seen self.entry))) }
         ensures most { length (lines_left (items_seen C.form C.number) result) ≤ length (units_seen self.entry) }
@@ -48,6 +58,14 @@ impl<C: Unit> UtfStr<'_, C> {
 
     /// Returns an iterator over the lines, as [`UtfStr::lines`] splits them, each with the offset, in units, at which
     /// it begins in the text.
+    ///
+    /// # Example
+    ///
+    /// ```
+    /// let text = Utf16Str::from_slice(&[0xd83d, 0xde00, 0xa, 0x48, 0x69])?;
+    /// let last = text.line_indices().last();
+    /// assert!(rt; last.is_some_and(|(offset, line)| offset == 3 && line.eq_str("Hi")));
+    /// ```
     pub fn line_indices(self) -> LineIndices<Self>
         ensures lines { placed_left result ≡ placed_lines C.form 0 (items C.form (map C.number (units_seen self.entry))) }
         ensures boundaries { All (λ line. IsCharBoundary C.form (map C.number (units_seen self.entry)) line.0) (placed_left result) }

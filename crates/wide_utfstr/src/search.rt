@@ -15,6 +15,14 @@ use wide_ustr::{Split, SplitView};
 
 impl<C: Unit> UtfStr<'_, C> {
     /// Returns whether the view begins with the needle. It does if the needle is empty.
+    ///
+    /// # Example
+    ///
+    /// ```
+    /// let path = Utf16Str::from_slice(&[0x43, 0x3a, 0x5c, 0xe9])?;
+    /// assert!(rt; path.starts_with(Utf16Str::from_slice(&[0x43, 0x3a])?));
+    /// assert!(rt; !path.starts_with(Utf16Str::from_slice(&[0x63, 0x3a])?));
+    /// ```
     pub fn starts_with(self, needle: UtfStr<'_, C>) -> bool
         ensures { IsTrue result ↔ BeginsWith (units_seen needle.entry) (units_seen self.entry) }
     {
@@ -42,6 +50,15 @@ impl<C: Unit> UtfStr<'_, C> {
     /// offset at which the first and the last unit of the needle both match follows. Units are compared up to one that
     /// differs. If too many are compared in vain, as they may be if the needle repeats itself, the two-way search
     /// passes the next offsets, so the time is linear in both lengths.
+    ///
+    /// # Example
+    ///
+    /// ```
+    /// let text = Utf16Str::from_slice(&[0xd83d, 0xde00, 0x3d, 0x3e, 0x31])?;
+    /// let arrow = Utf16Str::from_slice(&[0x3d, 0x3e])?;
+    /// assert!(rt; text.find(arrow) == Some(2));
+    /// assert!(rt; arrow.find(text).is_none());
+    /// ```
     pub fn find(self, needle: UtfStr<'_, C>) -> Option<usize>
         ensures first { IfSome result (IsFirstAt (units_seen needle.entry) (units_seen self.entry)) }
         ensures none { IfNone result (OccursNowhere (units_seen needle.entry) (units_seen self.entry)) }
@@ -67,6 +84,14 @@ impl<C: Unit> UtfStr<'_, C> {
 
     /// Returns the offset, in units, of the first occurrence of the character, or `None` if there is none. The offset
     /// and the end of the character are character boundaries.
+    ///
+    /// # Example
+    ///
+    /// ```
+    /// let text = Utf16Str::from_slice(&[0x48, 0xd83d, 0xde00, 0x21])?;
+    /// assert!(rt; text.find_char('😀') == Some(1));
+    /// assert!(rt; text.find_char('!') == Some(3));
+    /// ```
     pub fn find_char(self, c: char) -> Option<usize>
         ensures first { IfSome result (IsFirstAt (code_units C.form c) (map C.number (units_seen self.entry))) }
         ensures none { IfNone result (OccursNowhere (code_units C.form c) (map C.number (units_seen self.entry))) }
@@ -115,6 +140,14 @@ impl<C: Unit> UtfStr<'_, C> {
 
     /// Splits the view at the first occurrence of the needle, into the text before it and the text after it. Returns
     /// `None` if there is none.
+    ///
+    /// # Example
+    ///
+    /// ```
+    /// let setting = Utf16Str::from_slice(&[0xe9, 0x3d, 0x31])?;
+    /// let parts = setting.split_once(Utf16Str::from_slice(&[0x3d])?);
+    /// assert!(rt; parts.is_some_and(|(name, value)| name.eq_str("é") && value.eq_str("1")));
+    /// ```
     pub fn split_once(self, needle: UtfStr<'_, C>) -> Option<(Self, Self)>
         ensures first { IfSome result (λ r. IsFirstSplit (units_seen needle.entry) (units_seen self.entry) (units_seen r.0) (units_seen r.1)) }
         ensures none { IfNone result (OccursNowhere (units_seen needle.entry) (units_seen self.entry)) }
@@ -160,6 +193,16 @@ impl<C: Unit> UtfStr<'_, C> {
     /// Returns an iterator over the substrings between the occurrences of a character, each well formed, from the
     /// front. If the character occurs at the start, at the end, or twice in a row, the substring there is empty. If it
     /// does not occur, the whole text is the only substring.
+    ///
+    /// # Example
+    ///
+    /// ```
+    /// let row = Utf16Str::from_slice(&[0xe9, 0x3b, 0xd83d, 0xde00, 0x3b])?;
+    /// let mut fields = row.split_char(';');
+    /// assert!(rt; fields.next().is_some_and(|field| field.eq_str("é")));
+    /// assert!(rt; fields.next().is_some_and(|field| field.eq_str("😀")));
+    /// assert!(rt; fields.next().is_some_and(|field| field.is_empty()));
+    /// ```
     pub fn split_char(self, c: char) -> Split<Self, char>
         ensures left { char_substrings_left C.form C.number result ≡ substrings (code_units C.form c) (numbers_seen C.number self.entry) }
         ensures cut { AreSubstrings (code_units C.form c) (numbers_seen C.number self.entry) (char_substrings_left C.form C.number result) }

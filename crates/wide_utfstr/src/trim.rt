@@ -40,6 +40,13 @@ impl<C: Unit> UtfStr<'_, C> {
 
     /// Returns a view of the text without its longest prefix and its longest suffix of White_Space characters (Unicode
     /// Character Database). It is empty if all characters are White_Space.
+    ///
+    /// # Example
+    ///
+    /// ```
+    /// let text = Utf16Str::from_slice(&[0x3000, 0x48, 0x69, 0x20, 0xa])?;
+    /// assert!(rt; text.trim().eq_str("Hi"));
+    /// ```
     pub fn trim(self) -> Self
         ensures trimmed { IsTrimmed (text_seen self.entry) (text_seen result) }
         ensures part { IsMiddleOf (units_seen self.entry) (units_seen result) }

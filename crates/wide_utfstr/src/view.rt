@@ -34,6 +34,14 @@ const FEW: usize = 16;
 ///
 /// `{}` prints the characters. `{:?}` prints them between quotes, as [`char::escape_debug`] escapes them. Both ignore
 /// the format options, and return an error of the sink at once.
+///
+/// # Example
+///
+/// ```
+/// let text = Utf16Str::from_slice(&[0x48, 0x69, 0xd83d, 0xde00])?;
+/// assert!(rt; text.len() == 4);
+/// assert!(rt; text.eq_str("Hi😀"));
+/// ```
 #[derive(PartialEq, Eq, PartialOrd, Ord, Hash)]
 pub struct UtfStr<'a, C: Unit> {
     units: &'a [C],
@@ -102,6 +110,14 @@ impl<'a, C: Unit> UtfStr<'a, C> {
     }
 
     /// Returns the number of characters. In UTF-16 it reads each unit once, vectorized; in UTF-32 it reads none.
+    ///
+    /// # Example
+    ///
+    /// ```
+    /// let text = Utf16Str::from_slice(&[0x48, 0xd83d, 0xde00])?;
+    /// assert!(rt; text.len() == 3);
+    /// assert!(rt; text.char_count() == 2);
+    /// ```
     pub fn char_count(self) -> usize
         ensures { result ≡ length (text_seen self.entry) }
     {
@@ -152,6 +168,14 @@ impl<'a, C: Unit> UtfStr<'a, C> {
     /// Returns a view of the units in a range, whose ends are offsets in units. Returns `None` if the range starts
     /// after its end, ends past the end of the view, or has a bound past `usize::MAX`, or if one of its ends is no
     /// character boundary. [`range_check`] checks the range.
+    ///
+    /// # Example
+    ///
+    /// ```
+    /// let text = Utf16Str::from_slice(&[0x48, 0xd83d, 0xde00])?;
+    /// assert!(rt; text.get(1..).is_some_and(|emoji| emoji.eq_str("😀")));
+    /// assert!(rt; text.get(2..).is_none());
+    /// ```
     pub fn get<R: RangeBounds<usize>>(self, range: R) -> Option<Self>
         ensures some { R.has_bounds range → IsSome result ↔ IsTextPart C.form C.number (units_seen self.entry) (R.start_bound range) (R.end_bound range) }
         ensures char_range { R.has_bounds range → IsSome result ↔ IsCharPart C.form C.number (units_seen self.entry) (R.start_bound range) (R.end_bound range) }
@@ -172,6 +196,14 @@ impl<'a, C: Unit> UtfStr<'a, C> {
     ///
     /// The range starts at or before its end and lies within the view. Both its ends are character boundaries. It is
     /// not an inclusive range that was iterated to its end.
+    ///
+    /// # Example
+    ///
+    /// ```
+    /// let text = Utf16Str::from_slice(&[0x48, 0xd83d, 0xde00])?;
+    /// let end = text.floor_char_boundary(2);
+    /// assert!(rt; text.slice(..end).eq_str("H"));
+    /// ```
     pub fn slice<R: RangeBounds<usize>>(self, range: R) -> Self
         requires bounds { R.has_bounds range }
         requires at_boundaries { IsCharPart C.form C.number (units_seen self) (R.start_bound range) (R.end_bound range) }
@@ -203,6 +235,18 @@ impl<'a, C: Unit> UtfStr<'a, C> {
     /// # Requires
     ///
     /// The offset is a character boundary: it is at most the length, and not between the two surrogates of a pair.
+    ///
+    /// # Example
+    ///
+    /// ```
+    /// let setting = Utf16Str::from_slice(&[0xe9, 0x3d, 0x31])?;
+    /// let Some(at) = setting.find_char('=') else {
+    ///     panic!(rt; "an equals sign is at index 1")
+    /// };
+    /// let (name, rest) = setting.split_at(at);
+    /// assert!(rt; name.eq_str("é"));
+    /// assert!(rt; rest.eq_str("=1"));
+    /// ```
     pub fn split_at(self, mid: usize) -> (Self, Self)
         requires { IsCharBoundary C.form (map C.number (units_seen self)) mid }
         ensures prefix { units_seen result.0 ≡ take mid (units_seen self.entry) }
@@ -214,6 +258,15 @@ impl<'a, C: Unit> UtfStr<'a, C> {
     }
 
     /// Returns an iterator over the characters, from both ends.
+    ///
+    /// # Example
+    ///
+    /// ```
+    /// let text = Utf16Str::from_slice(&[0xe9, 0xd83d, 0xde00])?;
+    /// let mut characters = text.chars();
+    /// assert!(rt; characters.next() == Some('é'));
+    /// assert!(rt; characters.next_back() == Some('😀'));
+    /// ```
     pub fn chars(self) -> Chars<'a, C>
         ensures characters { chars_left C.form C.number result ≡ text_seen self.entry }
         ensures units { chars_rest result ≡ units_seen self.entry }
@@ -223,6 +276,14 @@ impl<'a, C: Unit> UtfStr<'a, C> {
 
     /// Returns an iterator over the characters, from both ends, each with the offset, in units, at which it begins in
     /// the view.
+    ///
+    /// # Example
+    ///
+    /// ```
+    /// let text = Utf16Str::from_slice(&[0xd83d, 0xde00, 0x31, 0x32])?;
+    /// let digit = text.char_indices().find(|at| at.1.is_ascii_digit());
+    /// assert!(rt; digit == Some((2, '1')));
+    /// ```
     pub fn char_indices(self) -> CharIndices<'a, C>
         ensures characters { indices_left C.form C.number result ≡ indexed_chars C.form 0 (text_seen self.entry) }
         ensures offset { offset_of result ≡ 0 }
@@ -289,6 +350,14 @@ impl<'a, C: FaultUnit> UtfStr<'a, C> {
     ///
     /// The first fault, if the units are ill-formed. Its index is counted in units, its item number in characters. The
     /// error holds no vector.
+    ///
+    /// # Example
+    ///
+    /// ```
+    /// assert!(rt; Utf16Str::from_slice(&[0xd83d, 0xde00]).is_ok());
+    /// let fault = Utf16Str::from_slice(&[0xd83d, 0xde00, 0xdc00]).err();
+    /// assert!(rt; fault.map(|fault| (fault.index(), fault.item())) == Some((2, 1)));
+    /// ```
     pub fn from_slice(units: &'a [C]) -> Result<Self, UtfError<C>>
         ensures view { IfOk result (λ view. units_seen view ≡ units.now) }
         ensures ok { OnOk result (IsWellFormed C.form (map C.number units.now)) }
@@ -384,6 +453,14 @@ impl<'a> UtfStr<'a, u16> {
     }
 
     /// Returns an iterator over the UTF-32 units of the characters (Unicode Standard, D90), from both ends.
+    ///
+    /// # Example
+    ///
+    /// ```
+    /// let mut units = Utf16Str::from_slice(&[0x48, 0xd83d, 0xde00])?.encode_utf32();
+    /// assert!(rt; units.next() == Some(0x48));
+    /// assert!(rt; units.next() == Some(0x1f600));
+    /// ```
     pub fn encode_utf32(self) -> EncodeUtf32<CharsUtf16<'a>>
         ensures { units32_left (chars_left Utf16 (λ u. u)) result ≡ encode Utf32 (chars Utf16 (units_seen self.entry)) }
     {
@@ -412,6 +489,14 @@ impl<'a> UtfStr<'a, u32> {
     }
 
     /// Returns an iterator over the UTF-16 units of the characters (Unicode Standard, D91), from the front.
+    ///
+    /// # Example
+    ///
+    /// ```
+    /// let mut units = Utf32Str::from_slice(&[0x1f600])?.encode_utf16();
+    /// assert!(rt; units.next() == Some(0xd83d));
+    /// assert!(rt; units.next() == Some(0xde00));
+    /// ```
     pub fn encode_utf16(self) -> EncodeUtf16<CharsUtf32<'a>>
         ensures { units16_left (chars_left Utf32 (λ u. u)) result ≡ encode Utf16 (chars Utf32 (units_seen self.entry)) }
     {

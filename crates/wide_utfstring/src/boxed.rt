@@ -19,6 +19,15 @@ use wide_utfstr::UtfStr;
 ///
 /// Compare two of them through their views, by [`BoxedUtfStr::as_utfstr`]. `{}` prints the characters. `{:?}` prints
 /// them between quotes, as [`char::escape_debug`] escapes them.
+///
+/// # Example
+///
+/// ```
+/// let text = Utf16String::from_str(rt.alloc(), "H😀")?;
+/// let boxed = text.into_boxed_utfstr()?;
+/// assert!(rt; boxed.as_utfstr().char_count() == 2);
+/// assert!(rt; boxed.into_utfstring().capacity() == 3);
+/// ```
 #[derive(Drop)]
 pub struct BoxedUtfStr<C: FaultUnit, A: Allocator = Global> {
     units: BoxedUStr<C, A>,

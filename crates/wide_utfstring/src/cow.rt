@@ -18,6 +18,15 @@ use wide_utfstr::UtfStr;
 ///
 /// Compare two of them through their views, by [`CowUtfStr::as_utfstr`]. `{}` prints the characters. `{:?}` prints them
 /// between quotes, as [`char::escape_debug`] escapes them.
+///
+/// # Example
+///
+/// ```
+/// let cow = Utf16String::from_slice_lossy(rt.alloc(), &[0x48, 0x69, 0xdc00])?;
+/// let mut text = cow.into_owned(rt.alloc())?;
+/// text.push('!')?;
+/// assert!(rt; text.as_utfstr().eq_str("Hi\u{fffd}!"));
+/// ```
 #[derive(Drop)]
 pub enum CowUtfStr<'a, C: FaultUnit, A: Allocator = Global> {
     /// A view of units that something else owns.

@@ -202,6 +202,14 @@ impl<C: FaultUnit, A: Allocator> UtfString<C, A> {
     /// # Errors
     ///
     /// The allocation for an item failed. The error is the string of the items before it.
+    ///
+    /// # Example
+    ///
+    /// ```
+    /// let text = Utf16Str::from_slice(&[0x48, 0xd83d, 0xde00])?;
+    /// let wide = Utf32String::from_iter_chars(rt.alloc(), text.chars())?;
+    /// assert!(rt; wide.as_slice() == [0x48, 0x1f600].as_slice());
+    /// ```
     pub fn from_iter_chars<U: IntoIterator<Item = char>>(alloc: A, items: U) -> Result<Self, Self>
         requires { IsFiniteIterable U.into_iter_gives U.IntoIter.can_next U.IntoIter.remaining items }
         ensures { Collects result U.into_iter_gives U.IntoIter.next_gives (code_units C.form) items (numbered C.number) }

@@ -17,6 +17,15 @@ use wide_utfstr::UtfStr;
 ///
 /// `{}` prints the characters that were not read yet. `{:?}` prints them between quotes, as [`char::escape_debug`]
 /// escapes them.
+///
+/// # Example
+///
+/// ```
+/// let mut text = Utf16String::from_str(rt.alloc(), "H😀i")?;
+/// let mut drain = text.drain(..);
+/// assert!(rt; drain.next_back() == Some('i'));
+/// assert!(rt; drain.as_utfstr().eq_str("H😀"));
+/// ```
 // Once a range that is not empty is removed, the string is shorter than `total`, and the offsets may no longer be
 // character boundaries.
 pub struct DrainUtf<'a, C: FaultUnit, A: Allocator = Global> {

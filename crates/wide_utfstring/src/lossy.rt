@@ -28,6 +28,13 @@ impl<C: FaultUnit, A: Allocator> UtfString<C, A> {
     /// # Errors
     ///
     /// [`OutOfMemory`] if the allocation fails. It never fails if the units are well formed.
+    ///
+    /// # Example
+    ///
+    /// ```
+    /// let text = Utf16String::from_slice_lossy(rt.alloc(), &[0x48, 0xd83d, 0x69])?;
+    /// assert!(rt; text.as_utfstr().eq_str("H\u{fffd}i"));
+    /// ```
     pub fn from_slice_lossy<'a>(
         alloc: A,
         units: &'a [C],
@@ -103,6 +110,15 @@ impl<C: FaultUnit, A: Allocator> UtfString<C, A> {
     /// # Errors
     ///
     /// [`OutOfMemory`] if the allocation fails. It never fails if the units are well formed.
+    ///
+    /// # Example
+    ///
+    /// ```
+    /// let view = U16Str::from_slice(&[0x48, 0xd83d, 0xde00]);
+    /// let text = Utf16String::from_ustr_lossy(rt.alloc(), view)?;
+    /// assert!(rt; text.as_utfstr().eq_str("H😀"));
+    /// assert!(rt; matches!(&text, CowUtf16Str::Borrowed(_)));
+    /// ```
     pub fn from_ustr_lossy<'a>(
         alloc: A,
         view: UStr<'a, C>,

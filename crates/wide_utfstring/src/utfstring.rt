@@ -37,6 +37,15 @@ use wide_utfstr::{UtfStr, check};
 /// the `extend_*` calls, which keep the items before the one that did not fit.
 ///
 /// `{}` prints the characters. `{:?}` prints them between quotes, as [`char::escape_debug`] escapes them.
+///
+/// # Example
+///
+/// ```
+/// let mut text = Utf16String::from_str(rt.alloc(), "Hi😀")?;
+/// assert!(rt; text.len() == 4);
+/// assert!(rt; text.pop() == Some('😀'));
+/// assert!(rt; text.len() == 2);
+/// ```
 #[derive(Drop)]
 pub struct UtfString<C: FaultUnit, A: Allocator = Global> {
     pub(crate) string: UString<C, A>,
@@ -101,6 +110,15 @@ impl<C: FaultUnit, A: Allocator> UtfString<C, A> {
     ///
     /// The first fault, if the units are ill-formed. Its index is counted in units, its item number in characters. The
     /// error holds the vector.
+    ///
+    /// # Example
+    ///
+    /// ```
+    /// let text = Utf16String::from_vec([0xd83d, 0xde00].to_vec(rt.alloc())?)?;
+    /// assert!(rt; text.as_utfstr().eq_str("😀"));
+    /// let fault = Utf16String::from_vec([0x48, 0xd83d].to_vec(rt.alloc())?).err();
+    /// assert!(rt; fault.map(|fault| fault.index()) == Some(1));
+    /// ```
     pub fn from_vec(units: Vec<C, A>) -> Result<Self, UtfError<C, A>>
         ensures string { IfOk result (λ s. (s.units ≡ units.items) × (s.capacity ≡ vec_capacity units)) }
         ensures ok { OnOk result (IsWellFormed C.form (map C.number units.items)) }
@@ -200,6 +218,13 @@ impl<C: FaultUnit, A: Allocator> UtfString<C, A> {
     /// # Errors
     ///
     /// [`OutOfMemory`] if the allocation fails. It never fails if the text is empty.
+    ///
+    /// # Example
+    ///
+    /// ```
+    /// let text = Utf16String::from_str(rt.alloc(), "é😀")?;
+    /// assert!(rt; text.as_slice() == [0xe9, 0xd83d, 0xde00].as_slice());
+    /// ```
     pub fn from_str(alloc: A, text: &str) -> Result<Self, OutOfMemory>
         ensures units { IfOk result (λ s. map C.number s.units ≡ encode C.form (str_chars text.now)) }
         ensures text { IfOk result (λ s. text_of C.form C.number s.units ≡ str_chars text.now) }
@@ -212,6 +237,13 @@ impl<C: FaultUnit, A: Allocator> UtfString<C, A> {
     }
 
     /// Returns a view of the text.
+    ///
+    /// # Example
+    ///
+    /// ```
+    /// let text = Utf16String::from_str(rt.alloc(), "  Заголовок\n")?;
+    /// assert!(rt; text.as_utfstr().trim().eq_str("Заголовок"));
+    /// ```
     pub fn as_utfstr(&self) -> UtfStr<'_, C>
         ensures { units_seen result ≡ self.now.units }
     {
@@ -334,6 +366,14 @@ impl<C: FaultUnit, A: Allocator> UtfString<C, A> {
     /// # Errors
     ///
     /// [`OutOfMemory`] if the allocation fails; the string is unchanged. It never fails if the spare capacity suffices.
+    ///
+    /// # Example
+    ///
+    /// ```
+    /// let mut text = Utf16String::from_str(rt.alloc(), "Hi")?;
+    /// text.push('😀')?;
+    /// assert!(rt; text.as_slice() == [0x48, 0x69, 0xd83d, 0xde00].as_slice());
+    /// ```
     pub fn push(&mut self, c: char) -> Result<(), OutOfMemory>
         ensures units { OnOk result (map C.number self.new.units ≡ map C.number self.old.units ++ code_units C.form c) }
         ensures text { OnOk result (text_of C.form C.number self.new.units ≡ text_of C.form C.number self.old.units ++ c ∷ []) }
@@ -365,6 +405,14 @@ impl<C: FaultUnit, A: Allocator> UtfString<C, A> {
     /// # Errors
     ///
     /// [`OutOfMemory`] if the allocation fails; the string is unchanged. It never fails if the spare capacity suffices.
+    ///
+    /// # Example
+    ///
+    /// ```
+    /// let mut path = Utf16String::from_str(rt.alloc(), "C:")?;
+    /// path.push_str("\\temp")?;
+    /// assert!(rt; path.as_utfstr().eq_str("C:\\temp"));
+    /// ```
     pub fn push_str(&mut self, text: &str) -> Result<(), OutOfMemory>
         ensures units { OnOk result (map C.number self.new.units ≡ map C.number self.old.units ++ encode C.form (str_chars text.now)) }
         ensures text { OnOk result (text_of C.form C.number self.new.units ≡ text_of C.form C.number self.old.units ++ str_chars text.now) }
@@ -396,6 +444,14 @@ impl<C: FaultUnit, A: Allocator> UtfString<C, A> {
     /// # Errors
     ///
     /// [`OutOfMemory`] if the allocation fails; the string is unchanged. It never fails if the spare capacity suffices.
+    ///
+    /// # Example
+    ///
+    /// ```
+    /// let mut text = Utf16String::from_str(rt.alloc(), "Hi")?;
+    /// text.push_utfstr(Utf16Str::from_slice(&[0x20, 0xd83d, 0xde00])?)?;
+    /// assert!(rt; text.as_utfstr().eq_str("Hi 😀"));
+    /// ```
     pub fn push_utfstr(&mut self, text: UtfStr<'_, C>) -> Result<(), OutOfMemory>
         ensures units { OnOk result (self.new.units ≡ self.old.units ++ units_seen text.entry) }
         ensures text { OnOk result (text_of C.form C.number self.new.units ≡ text_of C.form C.number self.old.units ++ text_seen text.entry) }
@@ -429,6 +485,16 @@ impl<C: FaultUnit, A: Allocator> UtfString<C, A> {
     /// # Errors
     ///
     /// [`OutOfMemory`] if the allocation fails; the string is unchanged. It never fails if the spare capacity suffices.
+    ///
+    /// # Example
+    ///
+    /// ```
+    /// let mut text = Utf16String::from_str(rt.alloc(), "😀!")?;
+    /// if let Some(at) = text.as_utfstr().find_char('!') {
+    ///     text.insert(at, 'é')?;
+    /// }
+    /// assert!(rt; text.as_utfstr().eq_str("😀é!"));
+    /// ```
     pub fn insert(&mut self, at: usize, c: char) -> Result<(), OutOfMemory>
         requires { IsCharBoundary C.form (map C.number self.old.units) at }
         ensures units { OnOk result (map C.number self.new.units ≡ splice (map C.number self.old.units) at at (code_units C.form c)) }
@@ -449,6 +515,14 @@ impl<C: FaultUnit, A: Allocator> UtfString<C, A> {
     /// # Errors
     ///
     /// [`OutOfMemory`] if the allocation fails; the string is unchanged. It never fails if the spare capacity suffices.
+    ///
+    /// # Example
+    ///
+    /// ```
+    /// let mut path = Utf16String::from_str(rt.alloc(), "temp")?;
+    /// path.insert_utfstr(0, Utf16Str::from_slice(&[0x43, 0x3a, 0x5c])?)?;
+    /// assert!(rt; path.as_utfstr().eq_str("C:\\temp"));
+    /// ```
     pub fn insert_utfstr(&mut self, at: usize, text: UtfStr<'_, C>) -> Result<(), OutOfMemory>
         requires { IsCharBoundary C.form (map C.number self.old.units) at }
         ensures units { OnOk result (self.new.units ≡ splice self.old.units at at (units_seen text.entry)) }
@@ -508,6 +582,17 @@ impl<C: FaultUnit, A: Allocator> UtfString<C, A> {
     /// # Requires
     ///
     /// The offset is a character boundary and less than the length.
+    ///
+    /// # Example
+    ///
+    /// ```
+    /// let mut text = Utf16String::from_str(rt.alloc(), "Hi😀!")?;
+    /// let at = text.as_utfstr().floor_char_boundary(3);
+    /// if at < text.len() {
+    ///     assert!(rt; text.remove(at) == '😀');
+    /// }
+    /// assert!(rt; text.as_utfstr().eq_str("Hi!"));
+    /// ```
     pub fn remove(&mut self, at: usize) -> char
         requires boundary { IsCharBoundary C.form (map C.number self.old.units) at }
         requires below { at < ustring_len self.old }
@@ -538,6 +623,16 @@ impl<C: FaultUnit, A: Allocator> UtfString<C, A> {
     ///
     /// [`OutOfMemory`] if the allocation fails; the string is unchanged. It never fails if the new length is at most
     /// the capacity.
+    ///
+    /// # Example
+    ///
+    /// ```
+    /// let mut text = Utf16String::from_str(rt.alloc(), "Hi😀")?;
+    /// if let Some(at) = text.as_utfstr().find_char('😀') {
+    ///     text.replace_range(at.., Utf16Str::from_slice(&[0x20, 0xe9])?)?;
+    /// }
+    /// assert!(rt; text.as_utfstr().eq_str("Hi é"));
+    /// ```
     pub fn replace_range<R: RangeBounds<usize>>(
         &mut self,
         range: R,
@@ -633,6 +728,17 @@ impl<C: FaultUnit, A: Allocator> UtfString<C, A> {
     ///
     /// The range starts at or before its end and lies within the string. Both its ends are character boundaries. It is
     /// not an inclusive range that was iterated to its end.
+    ///
+    /// # Example
+    ///
+    /// ```
+    /// let mut text = Utf16String::from_str(rt.alloc(), "Hi😀!")?;
+    /// if let Some(at) = text.as_utfstr().find_char('😀') {
+    ///     let first = text.drain(at..).next();
+    ///     assert!(rt; first == Some('😀'));
+    /// }
+    /// assert!(rt; text.as_utfstr().eq_str("Hi"));
+    /// ```
     pub fn drain<R: RangeBounds<usize>>(&mut self, range: R) -> DrainUtf<'_, C, A>
         requires bounds { R.has_bounds range }
         requires in_range { IsCharPart C.form C.number self.old.units (R.start_bound range) (R.end_bound range) }
@@ -676,6 +782,13 @@ impl<A: Allocator> UtfString<u32, A> {
     /// # Errors
     ///
     /// [`OutOfMemory`] if the allocation fails. It never fails if there are no characters.
+    ///
+    /// # Example
+    ///
+    /// ```
+    /// let text = Utf32String::from_chars(rt.alloc(), &['H', '😀'])?;
+    /// assert!(rt; text.as_slice() == [0x48, 0x1f600].as_slice());
+    /// ```
     pub fn from_chars(alloc: A, text: &[char]) -> Result<Self, OutOfMemory>
         ensures units { IfOk result (λ s. s.units ≡ text.now) }
         ensures text { IfOk result (λ s. chars Utf32 s.units ≡ text.now) }

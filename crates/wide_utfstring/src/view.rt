@@ -15,6 +15,15 @@ use wide_utfstr::UtfStr;
 
 /// Calls of a view of well-formed text that make an owned string. They are in a trait because the view's crate does not
 /// know owned strings.
+///
+/// # Example
+///
+/// ```
+/// use widestring::utfstring::UtfStrInUtfstring;
+///
+/// let text = Utf16Str::from_slice(&[0xd83d, 0xde00, 0x20])?.repeat(rt.alloc(), 2)?;
+/// assert!(rt; text.as_utfstr().eq_str("😀 😀 "));
+/// ```
 pub trait UtfStrInUtfstring<C: FaultUnit> {
     // The units of the view.
     ghost text: { Self → List C };
@@ -24,6 +33,16 @@ pub trait UtfStrInUtfstring<C: FaultUnit> {
     /// # Errors
     ///
     /// [`OutOfMemory`] if the allocation fails. It never fails if the text is empty.
+    ///
+    /// # Example
+    ///
+    /// ```
+    /// use widestring::utfstring::UtfStrInUtfstring;
+    ///
+    /// let mut text = Utf16Str::from_slice(&[0x48, 0x69])?.to_utfstring(rt.alloc())?;
+    /// text.push('!')?;
+    /// assert!(rt; text.as_utfstr().eq_str("Hi!"));
+    /// ```
     fn to_utfstring<A: Allocator>(self, alloc: A) -> Result<UtfString<C, A>, OutOfMemory>
         ensures units { IfOk result (λ s. s.units ≡ text self) }
         ensures succeeds { text self ≡ [] → IsOk result };
@@ -47,6 +66,16 @@ pub trait UtfStrInUtfstring<C: FaultUnit> {
     ///
     /// [`OutOfMemory`] if an allocation fails. It allocates first for as many units as the text has, and again only if
     /// the text grows beyond them. It never fails if the text is empty.
+    ///
+    /// # Example
+    ///
+    /// ```
+    /// use widestring::utfstring::UtfStrInUtfstring;
+    ///
+    /// let title = Utf16String::from_str(rt.alloc(), "ЗАГОЛОВОК Σ")?;
+    /// let text = title.as_utfstr().to_lowercase(rt.alloc())?;
+    /// assert!(rt; text.as_utfstr().eq_str("заголовок σ"));
+    /// ```
     fn to_lowercase<A: Allocator>(self, alloc: A) -> Result<UtfString<C, A>, OutOfMemory>
         ensures text { IfOk result (λ s. text_of C.form C.number s.units ≡ flat_map to_lowercase (text_of C.form C.number (text self))) }
         ensures empty { text self ≡ [] → IsOk result };
@@ -59,6 +88,16 @@ pub trait UtfStrInUtfstring<C: FaultUnit> {
     ///
     /// [`OutOfMemory`] if an allocation fails. It allocates first for as many units as the text has, and again only if
     /// the text grows beyond them. It never fails if the text is empty.
+    ///
+    /// # Example
+    ///
+    /// ```
+    /// use widestring::utfstring::UtfStrInUtfstring;
+    ///
+    /// let street = Utf16String::from_str(rt.alloc(), "Straße")?;
+    /// let text = street.as_utfstr().to_uppercase(rt.alloc())?;
+    /// assert!(rt; text.as_utfstr().eq_str("STRASSE"));
+    /// ```
     fn to_uppercase<A: Allocator>(self, alloc: A) -> Result<UtfString<C, A>, OutOfMemory>
         ensures text { IfOk result (λ s. text_of C.form C.number s.units ≡ flat_map to_uppercase (text_of C.form C.number (text self))) }
         ensures empty { text self ≡ [] → IsOk result };
