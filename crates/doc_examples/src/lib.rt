@@ -3,4 +3,24 @@
 #![tactic(auto)]
 
 #[cfg(test)]
+mod bytes;
+#[cfg(test)]
+mod edit;
+#[cfg(test)]
+mod error;
+#[cfg(test)]
+mod iter;
+#[cfg(test)]
+mod ucstr;
+#[cfg(test)]
+mod ucstring;
+#[cfg(test)]
 mod unit;
+#[cfg(test)]
+mod ustr;
+#[cfg(test)]
+mod ustring;
+#[cfg(test)]
+mod utfstr;
+#[cfg(test)]
+mod utfstring;

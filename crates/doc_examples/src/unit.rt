@@ -1,10 +1,63 @@
 //! The examples of `widestring::unit`.
 use std::test::Fail;
-use widestring::unit::common_prefix;
+use widestring::U16Str;
+use widestring::unit::{AnyUnits, FirstFault, Policy, Unit, check, common_prefix, first_nul};
+
+#[test]
+fn example_of_unit(rt: HostRuntime) -> Result<(), Fail> {
+    assert!(rt; u16::encode_char('😀') == (0xd83d, Some(0xde00)));
+    assert!(rt; 0xd83du16.is_high() && 0xde00u16.is_low());
+    assert!(rt; 0xd83du16.pair_scalar(0xde00) == Some('😀'));
+    Ok(())
+}
+
+#[test]
+fn example_of_policy(rt: HostRuntime) -> Result<(), Fail> {
+    let view = U16Str::from_slice(&[0x48, 0xd83d, 0xd83d, 0x69]);
+    let each = view.chars_lossy_with(Policy::Each);
+    assert!(rt; each.eq("H\u{fffd}\u{fffd}i".chars()));
+    assert!(rt; view.chars_lossy_with(Policy::Run).eq("H\u{fffd}i".chars()));
+    assert!(rt; view.chars_lossy_with(Policy::Skip).eq("Hi".chars()));
+    Ok(())
+}
+
+#[test]
+fn example_of_anyunits(rt: HostRuntime) -> Result<(), Fail> {
+    let units = u16::as_any(&[0xd83d, 0xde00]);
+    assert!(rt; matches!(units, AnyUnits::U16([0xd83d, 0xde00])));
+    Ok(())
+}
+
+#[test]
+fn example_of_firstfault(rt: HostRuntime) -> Result<(), Fail> {
+    let Err(fault) = check(&[0xd83du16, 0xde00, 0xd83d]) else {
+        panic!(rt; "an unpaired surrogate is at index 2")
+    };
+    let FirstFault { index, item, unit } = fault;
+    assert!(rt; (index, item, unit) == (2, 1, 0xd83d));
+    Ok(())
+}
+
+#[test]
+fn example_of_lossyprogress(rt: HostRuntime) -> Result<(), Fail> {
+    let mut text = [0; 3];
+    let progress = u16::lossy_prefix(&[0x48, 0xd83d, 0xd83d], Policy::Run, false, &mut text);
+    assert!(rt; (progress.read, progress.written) == (3, 2));
+    assert!(rt; progress.after_fault);
+    Ok(())
+}
+
+#[test]
+fn example_of_first_nul(rt: HostRuntime) -> Result<(), Fail> {
+    let buffer = [0x48u16, 0x69, 0, 0];
+    assert!(rt; first_nul(&buffer) == Some(2));
+    assert!(rt; first_nul(&[0x48u16, 0x69]).is_none());
+    Ok(())
+}
 
 #[test]
 fn example_of_common_prefix(rt: HostRuntime) -> Result<(), Fail> {
     let shared = common_prefix(&[0x61u16, 0x62, 0x63], &[0x61, 0x62, 0x64, 0x65]);
-    assert!(shared == 2);
+    assert!(rt; shared == 2);
     Ok(())
 }

@@ -1,0 +1,262 @@
+//! The examples of `widestring::ustr`.
+use std::test::Fail;
+use widestring::error::{DecodeUtf16Error, Utf16ConvertError, Utf32ConvertError};
+use widestring::ustr::{LineView, SplitView, U16Str, U32Str};
+use widestring::{Policy, U16String};
+
+#[test]
+fn example_of_ustr(rt: HostRuntime) -> Result<(), Fail> {
+    let path = U16Str::from_slice(&[0x43, 0x3a, 0x5c, 0xd800]);
+    assert!(rt; path.len() == 4);
+    assert!(rt; path.get(..2) == Some(U16Str::from_slice(&[0x43, 0x3a])));
+    Ok(())
+}
+
+#[test]
+fn example_of_ustr_from_slice(rt: HostRuntime) -> Result<(), Fail> {
+    let units = [0x48, 0x69, 0xd83d];
+    let view = U16Str::from_slice(&units);
+    assert!(rt; view.as_slice() == units.as_slice());
+    Ok(())
+}
+
+#[test]
+fn example_of_ustr_display(rt: HostRuntime) -> Result<(), Fail> {
+    let name = U16Str::from_slice(&[0x48, 0x69, 0xd83d]);
+    let line = format!(in rt.alloc(); "Name: {}", name.display())?;
+    assert!(rt; line.as_str() == "Name: Hi\u{fffd}");
+    Ok(())
+}
+
+#[test]
+fn example_of_ustr_display_skipping(rt: HostRuntime) -> Result<(), Fail> {
+    let name = U16Str::from_slice(&[0x48, 0xd83d, 0x69]);
+    let line = format!(in rt.alloc(); "Name: {}", name.display_skipping())?;
+    assert!(rt; line.as_str() == "Name: Hi");
+    Ok(())
+}
+
+#[test]
+fn example_of_ustr_chars_lossy(rt: HostRuntime) -> Result<(), Fail> {
+    let units = U16Str::from_slice(&[0x48, 0xd83d, 0xde00, 0xdc00]);
+    assert!(rt; units.chars_lossy().eq("H😀\u{fffd}".chars()));
+    Ok(())
+}
+
+#[test]
+fn example_of_ustr_char_indices_lossy(rt: HostRuntime) -> Result<(), Fail> {
+    let units = U16Str::from_slice(&[0xd83d, 0xde00, 0xdc00]);
+    let mut characters = units.char_indices_lossy();
+    assert!(rt; characters.next() == Some((0, '😀')));
+    assert!(rt; characters.next() == Some((2, '\u{fffd}')));
+    Ok(())
+}
+
+#[test]
+fn example_of_ustr_char_indices(rt: HostRuntime) -> Result<(), Fail> {
+    let units = U16Str::from_slice(&[0x48, 0xd83d, 0x69, 0xdc00]);
+    let mut faults = units.char_indices().filter(|item| item.1.is_err());
+    assert!(rt; faults.next() == Some((1, Err(DecodeUtf16Error::new(0xd83d)))));
+    assert!(rt; faults.next() == Some((3, Err(DecodeUtf16Error::new(0xdc00)))));
+    Ok(())
+}
+
+#[test]
+fn example_of_ustr_to_string_lossy(rt: HostRuntime) -> Result<(), Fail> {
+    let name = U16Str::from_slice(&[0x64, 0xe9, 0x6a, 0xe0, 0xdc00]);
+    let text = name.to_string_lossy(rt.alloc())?;
+    assert!(rt; text.as_str() == "déjà\u{fffd}");
+    Ok(())
+}
+
+#[test]
+fn example_of_ustr_to_string_lossy_with(rt: HostRuntime) -> Result<(), Fail> {
+    let units = U16Str::from_slice(&[0x48, 0xdc00, 0xdc00, 0x69]);
+    let text = units.to_string_lossy_with(rt.alloc(), Policy::Run)?;
+    assert!(rt; text.as_str() == "H\u{fffd}i");
+    let text = units.to_string_lossy_with(rt.alloc(), Policy::Skip)?;
+    assert!(rt; text.as_str() == "Hi");
+    Ok(())
+}
+
+#[test]
+fn example_of_ustr_to_string(rt: HostRuntime) -> Result<(), Fail> {
+    let text = U16Str::from_slice(&[0x48, 0xd83d, 0xde00]).to_string(rt.alloc())?;
+    assert!(rt; text.as_str() == "H😀");
+    let fault = U16Str::from_slice(&[0x48, 0xd83d]).to_string(rt.alloc());
+    assert!(rt; matches!(&fault, Err(Utf16ConvertError::Utf16(fault)) if fault.index() == 1));
+    Ok(())
+}
+
+#[test]
+fn example_of_ustr_to_string_2(rt: HostRuntime) -> Result<(), Fail> {
+    let text = U32Str::from_slice(&[0x48, 0x1f600]).to_string(rt.alloc())?;
+    assert!(rt; text.as_str() == "H😀");
+    let fault = U32Str::from_slice(&[0x48, 0x110000]).to_string(rt.alloc());
+    assert!(rt; matches!(&fault, Err(Utf32ConvertError::Utf32(fault)) if fault.index() == 1));
+    Ok(())
+}
+
+#[test]
+fn example_of_ustr_lines_lossy(rt: HostRuntime) -> Result<(), Fail> {
+    let mut lines = U16Str::from_slice(&[0x48, 0x69, 0xd, 0xa, 0xdc00]).lines_lossy();
+    assert!(rt; lines.next() == Some(U16Str::from_slice(&[0x48, 0x69])));
+    assert!(rt; lines.next() == Some(U16Str::from_slice(&[0xdc00])));
+    Ok(())
+}
+
+#[test]
+fn example_of_ustr_line_indices_lossy(rt: HostRuntime) -> Result<(), Fail> {
+    let mut lines = U16Str::from_slice(&[0x48, 0x69, 0xa, 0xdc00]).line_indices_lossy();
+    assert!(rt; lines.next() == Some((0, U16Str::from_slice(&[0x48, 0x69]))));
+    assert!(rt; lines.next() == Some((3, U16Str::from_slice(&[0xdc00]))));
+    Ok(())
+}
+
+#[test]
+fn example_of_ustr_find(rt: HostRuntime) -> Result<(), Fail> {
+    let path = U16String::from_str(rt.alloc(), "C:\\temp")?;
+    assert!(rt; path.as_ustr().find(U16Str::from_slice(&[0x5c])) == Some(2));
+    let emoji = U16Str::from_slice(&[0xd83d, 0xde00]);
+    assert!(rt; emoji.find(U16Str::from_slice(&[0xde00])) == Some(1));
+    Ok(())
+}
+
+#[test]
+fn example_of_ustr_split(rt: HostRuntime) -> Result<(), Fail> {
+    let row = U16Str::from_slice(&[0x61, 0x3b, 0xd800, 0x3b]);
+    let mut fields = row.split(U16Str::from_slice(&[0x3b]));
+    assert!(rt; fields.next() == Some(U16Str::from_slice(&[0x61])));
+    assert!(rt; fields.next() == Some(U16Str::from_slice(&[0xd800])));
+    assert!(rt; fields.next().is_some_and(|field| field.is_empty()));
+    Ok(())
+}
+
+#[test]
+fn example_of_ustr_to_le_bytes(rt: HostRuntime) -> Result<(), Fail> {
+    let bytes = U16Str::from_slice(&[0x48, 0x20ac]).to_le_bytes(rt.alloc())?;
+    assert!(rt; bytes.as_slice() == [0x48, 0, 0xac, 0x20].as_slice());
+    Ok(())
+}
+
+#[test]
+fn example_of_ustr_to_be_bytes(rt: HostRuntime) -> Result<(), Fail> {
+    let bytes = U16Str::from_slice(&[0x417, 0xd83d]).to_be_bytes(rt.alloc())?;
+    assert!(rt; bytes.as_slice() == [0x4, 0x17, 0xd8, 0x3d].as_slice());
+    Ok(())
+}
+
+#[test]
+fn example_of_ustr_to_le_bytes_with_bom(rt: HostRuntime) -> Result<(), Fail> {
+    let bytes = U16Str::from_slice(&[0x48, 0x69]).to_le_bytes_with_bom(rt.alloc())?;
+    assert!(rt; bytes.as_slice() == [0xff, 0xfe, 0x48, 0, 0x69, 0].as_slice());
+    Ok(())
+}
+
+#[test]
+fn example_of_ustr_to_be_bytes_with_bom(rt: HostRuntime) -> Result<(), Fail> {
+    let bytes = U32Str::from_slice(&[0x1f600]).to_be_bytes_with_bom(rt.alloc())?;
+    assert!(rt; bytes.as_slice() == [0, 0, 0xfe, 0xff, 0, 0x1, 0xf6, 0].as_slice());
+    Ok(())
+}
+
+#[test]
+fn example_of_chars(rt: HostRuntime) -> Result<(), Fail> {
+    let mut items = U16Str::from_slice(&[0x48, 0xd83d, 0xde00, 0xdc00]).chars();
+    assert!(rt; items.next() == Some(Ok('H')));
+    assert!(rt; items.next_back() == Some(Err(DecodeUtf16Error::new(0xdc00))));
+    assert!(rt; items.next_back() == Some(Ok('😀')));
+    Ok(())
+}
+
+#[test]
+fn example_of_charslossy(rt: HostRuntime) -> Result<(), Fail> {
+    let mut characters = U16Str::from_slice(&[0xdc00, 0x48, 0xd83d, 0xde00]).chars_lossy();
+    assert!(rt; characters.next() == Some('\u{fffd}'));
+    assert!(rt; characters.next_back() == Some('😀'));
+    Ok(())
+}
+
+#[test]
+fn example_of_charindices(rt: HostRuntime) -> Result<(), Fail> {
+    let mut items = U16Str::from_slice(&[0xd83d, 0xde00, 0xdc00]).char_indices();
+    assert!(rt; items.next() == Some((0, Ok('😀'))));
+    assert!(rt; items.offset() == 2);
+    assert!(rt; items.next() == Some((2, Err(DecodeUtf16Error::new(0xdc00)))));
+    Ok(())
+}
+
+#[test]
+fn example_of_charindiceslossy(rt: HostRuntime) -> Result<(), Fail> {
+    let mut characters = U16Str::from_slice(&[0xd83d, 0xde00, 0xdc00]).char_indices_lossy();
+    assert!(rt; characters.next_back() == Some((2, '\u{fffd}')));
+    assert!(rt; characters.next() == Some((0, '😀')));
+    assert!(rt; characters.offset() == 2);
+    Ok(())
+}
+
+#[test]
+fn example_of_charslossywith(rt: HostRuntime) -> Result<(), Fail> {
+    let units = U16Str::from_slice(&[0x48, 0xdc00, 0xdc00]);
+    let mut characters = units.chars_lossy_with(Policy::Run);
+    assert!(rt; characters.next_back() == Some('\u{fffd}'));
+    assert!(rt; characters.next_back() == Some('H'));
+    Ok(())
+}
+
+#[test]
+fn example_of_lineview(rt: HostRuntime) -> Result<(), Fail> {
+    let text = U16Str::from_slice(&[0x48, 0x69, 0xd, 0xa, 0x21]);
+    let line = U16Str::from_slice(&[0x48, 0x69]);
+    assert!(rt; text.first_line() == Some((line, U16Str::from_slice(&[0x21]))));
+    Ok(())
+}
+
+#[test]
+fn example_of_lines(rt: HostRuntime) -> Result<(), Fail> {
+    let mut lines = U16Str::from_slice(&[0x48, 0x69, 0xa, 0xa]).lines_lossy();
+    assert!(rt; lines.next() == Some(U16Str::from_slice(&[0x48, 0x69])));
+    assert!(rt; lines.next().is_some_and(|line| line.is_empty()));
+    assert!(rt; lines.next().is_none());
+    Ok(())
+}
+
+#[test]
+fn example_of_lineindices(rt: HostRuntime) -> Result<(), Fail> {
+    let text = U16Str::from_slice(&[0x48, 0x69, 0xd, 0xa, 0x21]);
+    let last = text.line_indices_lossy().last();
+    assert!(rt; last == Some((4, U16Str::from_slice(&[0x21]))));
+    Ok(())
+}
+
+#[test]
+fn example_of_splitview(rt: HostRuntime) -> Result<(), Fail> {
+    let setting = U16Str::from_slice(&[0x78, 0x3d, 0x31]);
+    let cut = setting.cut_first(U16Str::from_slice(&[0x3d]));
+    assert!(rt; cut == Some((U16Str::from_slice(&[0x78]), U16Str::from_slice(&[0x31]))));
+    Ok(())
+}
+
+#[test]
+fn example_of_split(rt: HostRuntime) -> Result<(), Fail> {
+    let path = U16Str::from_slice(&[0x43, 0x3a, 0x5c, 0x74, 0x5c, 0xe9]);
+    let parts = path.split(U16Str::from_slice(&[0x5c]));
+    assert!(rt; parts.count() == 3);
+    Ok(())
+}
+
+#[test]
+fn example_of_display(rt: HostRuntime) -> Result<(), Fail> {
+    let shown = U16Str::from_slice(&[0x48, 0x69, 0xd83d]).display();
+    let text = format!(in rt.alloc(); "{shown} {shown:?}")?;
+    assert!(rt; text.as_str() == "Hi\u{fffd} \"Hi\\<D83D>\"");
+    Ok(())
+}
+
+#[test]
+fn example_of_displayskipping(rt: HostRuntime) -> Result<(), Fail> {
+    let shown = U16Str::from_slice(&[0x48, 0xdc00, 0x69, 0xfffd]).display_skipping();
+    let text = shown.to_string(rt.alloc())?;
+    assert!(rt; text.as_str() == "Hi");
+    Ok(())
+}

@@ -1,0 +1,122 @@
+//! The examples of `widestring::ustring`.
+use std::test::Fail;
+use widestring::ustring::extend::{Piece, Whole, extend};
+use widestring::ustring::{CowU16Str, U16String, U32String, UStrInUstring};
+use widestring::{U16Str, Utf16String};
+
+#[test]
+fn example_of_ustring(rt: HostRuntime) -> Result<(), Fail> {
+    let mut name = U16String::from_str(rt.alloc(), "C:\\temp")?;
+    name.push_slice(&[0x5c, 0xd800])?;
+    assert!(rt; name.len() == 9);
+    assert!(rt; name.as_ustr().get(7..) == Some(U16Str::from_slice(&[0x5c, 0xd800])));
+    Ok(())
+}
+
+#[test]
+fn example_of_ustring_from_str(rt: HostRuntime) -> Result<(), Fail> {
+    let string = U16String::from_str(rt.alloc(), "é😀")?;
+    assert!(rt; string.as_slice() == [0xe9, 0xd83d, 0xde00].as_slice());
+    let string = U32String::from_str(rt.alloc(), "é😀")?;
+    assert!(rt; string.as_slice() == [0xe9, 0x1f600].as_slice());
+    Ok(())
+}
+
+#[test]
+fn example_of_ustring_as_ustr(rt: HostRuntime) -> Result<(), Fail> {
+    let string = U16String::from_str(rt.alloc(), "Заголовок")?;
+    assert!(rt; string.as_ustr().find_char('г') == Some(2));
+    Ok(())
+}
+
+#[test]
+fn example_of_ustring_push(rt: HostRuntime) -> Result<(), Fail> {
+    let mut string = U16String::from_str(rt.alloc(), "Hi")?;
+    string.push(U16Str::from_slice(&[0x21, 0xd83d]))?;
+    assert!(rt; string.as_slice() == [0x48, 0x69, 0x21, 0xd83d].as_slice());
+    Ok(())
+}
+
+#[test]
+fn example_of_ustring_push_char(rt: HostRuntime) -> Result<(), Fail> {
+    let mut string = U16String::new(rt.alloc());
+    string.push_char('😀')?;
+    assert!(rt; string.as_slice() == [0xd83d, 0xde00].as_slice());
+    Ok(())
+}
+
+#[test]
+fn example_of_ustring_push_str(rt: HostRuntime) -> Result<(), Fail> {
+    let mut path = U16String::from_str(rt.alloc(), "C:")?;
+    path.push_str("\\temp")?;
+    let text = path.as_ustr().to_string(rt.alloc())?;
+    assert!(rt; text.as_str() == "C:\\temp");
+    Ok(())
+}
+
+#[test]
+fn example_of_cowustr(rt: HostRuntime) -> Result<(), Fail> {
+    let cow = CowU16Str::Borrowed(U16Str::from_slice(&[0x48, 0xd83d]));
+    let mut string = cow.into_owned(rt.alloc())?;
+    string.truncate(1);
+    assert!(rt; string.as_slice() == [0x48].as_slice());
+    Ok(())
+}
+
+#[test]
+fn example_of_boxedustr(rt: HostRuntime) -> Result<(), Fail> {
+    let string = U16String::from_str(rt.alloc(), "Hi")?;
+    let boxed = string.into_boxed_ustr()?;
+    assert!(rt; boxed.as_ustr().len() == 2);
+    assert!(rt; boxed.into_ustring().capacity() == 2);
+    Ok(())
+}
+
+#[test]
+fn example_of_drain(rt: HostRuntime) -> Result<(), Fail> {
+    let mut string = U16String::from_vec([0x48, 0x69, 0x21].to_vec(rt.alloc())?);
+    let first = string.drain(1..).next();
+    assert!(rt; first == Some(0x69));
+    assert!(rt; string.as_slice() == [0x48].as_slice());
+    Ok(())
+}
+
+#[test]
+fn example_of_growing(rt: HostRuntime) -> Result<(), Fail> {
+    let mut path = Utf16String::from_str(rt.alloc(), "C:")?;
+    extend(&mut path, ["\\temp", "\\é"])?;
+    assert!(rt; path.as_utfstr().eq_str("C:\\temp\\é"));
+    Ok(())
+}
+
+#[test]
+fn example_of_piece(rt: HostRuntime) -> Result<(), Fail> {
+    let mut string = U16String::new(rt.alloc());
+    '😀'.push_to(&mut string)?;
+    "!".push_to(&mut string)?;
+    assert!(rt; string.as_slice() == [0xd83d, 0xde00, 0x21].as_slice());
+    Ok(())
+}
+
+#[test]
+fn example_of_whole(rt: HostRuntime) -> Result<(), Fail> {
+    let mut string = U16String::new(rt.alloc());
+    <char as Piece<U16String, Whole>>::push_to('é', &mut string)?;
+    assert!(rt; string.as_slice() == [0xe9].as_slice());
+    Ok(())
+}
+
+#[test]
+fn example_of_ustrinustring(rt: HostRuntime) -> Result<(), Fail> {
+    let line = U16Str::from_slice(&[0x2d, 0x20]).repeat(rt.alloc(), 2)?;
+    assert!(rt; line.as_slice() == [0x2d, 0x20, 0x2d, 0x20].as_slice());
+    Ok(())
+}
+
+#[test]
+fn example_of_ustrinustring_to_ustring(rt: HostRuntime) -> Result<(), Fail> {
+    let mut copy = U16Str::from_slice(&[0x48, 0x69, 0xd83d]).to_ustring(rt.alloc())?;
+    copy.push_str("!")?;
+    assert!(rt; copy.as_slice() == [0x48, 0x69, 0xd83d, 0x21].as_slice());
+    Ok(())
+}

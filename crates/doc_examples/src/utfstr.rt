@@ -1,0 +1,230 @@
+//! The examples of `widestring::utfstr`.
+use std::test::Fail;
+use widestring::utfstr::{UCStrInUtfstr, UStrInUtfstr, Utf16Str, Utf32Str};
+use widestring::{U16CStr, U16Str};
+
+#[test]
+fn example_of_utfstr(rt: HostRuntime) -> Result<(), Fail> {
+    let text = Utf16Str::from_slice(&[0x48, 0x69, 0xd83d, 0xde00])?;
+    assert!(rt; text.len() == 4);
+    assert!(rt; text.eq_str("Hi😀"));
+    Ok(())
+}
+
+#[test]
+fn example_of_utfstr_char_count(rt: HostRuntime) -> Result<(), Fail> {
+    let text = Utf16Str::from_slice(&[0x48, 0xd83d, 0xde00])?;
+    assert!(rt; text.len() == 3);
+    assert!(rt; text.char_count() == 2);
+    Ok(())
+}
+
+#[test]
+fn example_of_utfstr_get(rt: HostRuntime) -> Result<(), Fail> {
+    let text = Utf16Str::from_slice(&[0x48, 0xd83d, 0xde00])?;
+    assert!(rt; text.get(1..).is_some_and(|emoji| emoji.eq_str("😀")));
+    assert!(rt; text.get(2..).is_none());
+    Ok(())
+}
+
+#[test]
+fn example_of_utfstr_slice(rt: HostRuntime) -> Result<(), Fail> {
+    let text = Utf16Str::from_slice(&[0x48, 0xd83d, 0xde00])?;
+    let end = text.floor_char_boundary(2);
+    assert!(rt; text.slice(..end).eq_str("H"));
+    Ok(())
+}
+
+#[test]
+fn example_of_utfstr_split_at(rt: HostRuntime) -> Result<(), Fail> {
+    let setting = Utf16Str::from_slice(&[0xe9, 0x3d, 0x31])?;
+    let Some(at) = setting.find_char('=') else {
+        panic!(rt; "an equals sign is at index 1")
+    };
+    let (name, rest) = setting.split_at(at);
+    assert!(rt; name.eq_str("é"));
+    assert!(rt; rest.eq_str("=1"));
+    Ok(())
+}
+
+#[test]
+fn example_of_utfstr_chars(rt: HostRuntime) -> Result<(), Fail> {
+    let text = Utf16Str::from_slice(&[0xe9, 0xd83d, 0xde00])?;
+    let mut characters = text.chars();
+    assert!(rt; characters.next() == Some('é'));
+    assert!(rt; characters.next_back() == Some('😀'));
+    Ok(())
+}
+
+#[test]
+fn example_of_utfstr_char_indices(rt: HostRuntime) -> Result<(), Fail> {
+    let text = Utf16Str::from_slice(&[0xd83d, 0xde00, 0x31, 0x32])?;
+    let digit = text.char_indices().find(|at| at.1.is_ascii_digit());
+    assert!(rt; digit == Some((2, '1')));
+    Ok(())
+}
+
+#[test]
+fn example_of_utfstr_from_slice(rt: HostRuntime) -> Result<(), Fail> {
+    assert!(rt; Utf16Str::from_slice(&[0xd83d, 0xde00]).is_ok());
+    let fault = Utf16Str::from_slice(&[0xd83d, 0xde00, 0xdc00]).err();
+    assert!(rt; fault.map(|fault| (fault.index(), fault.item())) == Some((2, 1)));
+    Ok(())
+}
+
+#[test]
+fn example_of_utfstr_encode_utf32(rt: HostRuntime) -> Result<(), Fail> {
+    let mut units = Utf16Str::from_slice(&[0x48, 0xd83d, 0xde00])?.encode_utf32();
+    assert!(rt; units.next() == Some(0x48));
+    assert!(rt; units.next() == Some(0x1f600));
+    Ok(())
+}
+
+#[test]
+fn example_of_utfstr_encode_utf16(rt: HostRuntime) -> Result<(), Fail> {
+    let mut units = Utf32Str::from_slice(&[0x1f600])?.encode_utf16();
+    assert!(rt; units.next() == Some(0xd83d));
+    assert!(rt; units.next() == Some(0xde00));
+    Ok(())
+}
+
+#[test]
+fn example_of_utfstr_trim(rt: HostRuntime) -> Result<(), Fail> {
+    let text = Utf16Str::from_slice(&[0x3000, 0x48, 0x69, 0x20, 0xa])?;
+    assert!(rt; text.trim().eq_str("Hi"));
+    Ok(())
+}
+
+#[test]
+fn example_of_utfstr_lines(rt: HostRuntime) -> Result<(), Fail> {
+    let text = Utf16Str::from_slice(&[0x48, 0x69, 0xd, 0xa, 0xd83d, 0xde00, 0xa])?;
+    let mut lines = text.lines();
+    assert!(rt; lines.next().is_some_and(|line| line.eq_str("Hi")));
+    assert!(rt; lines.next().is_some_and(|line| line.eq_str("😀")));
+    assert!(rt; lines.next().is_none());
+    Ok(())
+}
+
+#[test]
+fn example_of_utfstr_line_indices(rt: HostRuntime) -> Result<(), Fail> {
+    let text = Utf16Str::from_slice(&[0xd83d, 0xde00, 0xa, 0x48, 0x69])?;
+    let last = text.line_indices().last();
+    assert!(rt; last.is_some_and(|(offset, line)| offset == 3 && line.eq_str("Hi")));
+    Ok(())
+}
+
+#[test]
+fn example_of_utfstr_starts_with(rt: HostRuntime) -> Result<(), Fail> {
+    let path = Utf16Str::from_slice(&[0x43, 0x3a, 0x5c, 0xe9])?;
+    assert!(rt; path.starts_with(Utf16Str::from_slice(&[0x43, 0x3a])?));
+    assert!(rt; !path.starts_with(Utf16Str::from_slice(&[0x63, 0x3a])?));
+    Ok(())
+}
+
+#[test]
+fn example_of_utfstr_find(rt: HostRuntime) -> Result<(), Fail> {
+    let text = Utf16Str::from_slice(&[0xd83d, 0xde00, 0x3d, 0x3e, 0x31])?;
+    let arrow = Utf16Str::from_slice(&[0x3d, 0x3e])?;
+    assert!(rt; text.find(arrow) == Some(2));
+    assert!(rt; arrow.find(text).is_none());
+    Ok(())
+}
+
+#[test]
+fn example_of_utfstr_find_char(rt: HostRuntime) -> Result<(), Fail> {
+    let text = Utf16Str::from_slice(&[0x48, 0xd83d, 0xde00, 0x21])?;
+    assert!(rt; text.find_char('😀') == Some(1));
+    assert!(rt; text.find_char('!') == Some(3));
+    Ok(())
+}
+
+#[test]
+fn example_of_utfstr_split_once(rt: HostRuntime) -> Result<(), Fail> {
+    let setting = Utf16Str::from_slice(&[0xe9, 0x3d, 0x31])?;
+    let parts = setting.split_once(Utf16Str::from_slice(&[0x3d])?);
+    assert!(rt; parts.is_some_and(|(name, value)| name.eq_str("é") && value.eq_str("1")));
+    Ok(())
+}
+
+#[test]
+fn example_of_utfstr_split_char(rt: HostRuntime) -> Result<(), Fail> {
+    let row = Utf16Str::from_slice(&[0xe9, 0x3b, 0xd83d, 0xde00, 0x3b])?;
+    let mut fields = row.split_char(';');
+    assert!(rt; fields.next().is_some_and(|field| field.eq_str("é")));
+    assert!(rt; fields.next().is_some_and(|field| field.eq_str("😀")));
+    assert!(rt; fields.next().is_some_and(|field| field.is_empty()));
+    Ok(())
+}
+
+#[test]
+fn example_of_utfstr_eq_str(rt: HostRuntime) -> Result<(), Fail> {
+    let text = Utf16Str::from_slice(&[0x64, 0xe9, 0x6a, 0xe0])?;
+    assert!(rt; text.eq_str("déjà"));
+    assert!(rt; !text.eq_str("de\u{301}ja\u{300}"));
+    Ok(())
+}
+
+#[test]
+fn example_of_escapeunicode(rt: HostRuntime) -> Result<(), Fail> {
+    let escaped = Utf16Str::from_slice(&[0x48, 0xd83d, 0xde00])?.escape_unicode();
+    let text = escaped.to_string(rt.alloc())?;
+    assert!(rt; text.as_str() == "\\u{48}\\u{1f600}");
+    Ok(())
+}
+
+#[test]
+fn example_of_escapedefault(rt: HostRuntime) -> Result<(), Fail> {
+    let escaped = Utf16Str::from_slice(&[0x22, 0xe9, 0x22])?.escape_default();
+    let text = escaped.to_string(rt.alloc())?;
+    assert!(rt; text.as_str() == "\\\"\\u{e9}\\\"");
+    Ok(())
+}
+
+#[test]
+fn example_of_escapedebug(rt: HostRuntime) -> Result<(), Fail> {
+    let escaped = Utf16Str::from_slice(&[0xe9, 0x9, 0])?.escape_debug();
+    let text = escaped.to_string(rt.alloc())?;
+    assert!(rt; text.as_str() == "é\\t\\0");
+    Ok(())
+}
+
+#[test]
+fn example_of_chars(rt: HostRuntime) -> Result<(), Fail> {
+    let mut rest = Utf16Str::from_slice(&[0x48, 0x69, 0xd83d, 0xde00])?.chars();
+    assert!(rt; rest.next() == Some('H'));
+    let text = rest.to_string(rt.alloc())?;
+    assert!(rt; text.as_str() == "i😀");
+    Ok(())
+}
+
+#[test]
+fn example_of_ustrinutfstr(rt: HostRuntime) -> Result<(), Fail> {
+    let text = Utf16Str::from_slice(&[0x48, 0x69])?;
+    assert!(rt; U16Str::from_slice(&[0x48, 0x69]).eq_utfstr(text));
+    assert!(rt; !U16Str::from_slice(&[0x48, 0xd83d]).eq_utfstr(text));
+    Ok(())
+}
+
+#[test]
+fn example_of_ucstrinutfstr(rt: HostRuntime) -> Result<(), Fail> {
+    let name = U16CStr::from_slice(&[0x48, 0x69, 0])?;
+    assert!(rt; name.eq_utfstr(Utf16Str::from_slice(&[0x48, 0x69])?));
+    Ok(())
+}
+
+#[test]
+fn example_of_charindices(rt: HostRuntime) -> Result<(), Fail> {
+    let mut characters = Utf16Str::from_slice(&[0xd83d, 0xde00, 0x48, 0x69])?.char_indices();
+    assert!(rt; characters.next() == Some((0, '😀')));
+    assert!(rt; characters.offset() == 2);
+    assert!(rt; characters.next_back() == Some((3, 'i')));
+    Ok(())
+}
+
+#[test]
+fn example_of_codeunits(rt: HostRuntime) -> Result<(), Fail> {
+    let mut units = Utf16Str::from_slice(&[0x48, 0xd83d, 0xde00])?.code_units();
+    assert!(rt; units.len() == 3);
+    assert!(rt; units.next_back() == Some(0xde00));
+    Ok(())
+}
