@@ -28,14 +28,15 @@ marks_left count total = min (count / 64) (total / 64)
 
 module _ (cs : List ℕ) (before after : Steps) where
   -- The steps of a search for character number `to` between those number `low` and `high`: none if the characters
-  -- between these have one unit each, or else the units up to the nearer one.
+  -- between these have one unit each, or else the units from the nearer of these two to
+  -- `to`.
   pub record AddsPassed (low high to : ℕ) : Type 0 where
     pub none : offset cs high + low ≡ offset cs low + high → counted after ≡ counted before
     pub on : offset cs low + high < offset cs high + low → to - low ≤ high - to → counted after + offset cs low ≡ counted before + offset cs to
     pub back : offset cs low + high < offset cs high + low → high - to < to - low → counted after + offset cs to ≡ counted before + offset cs high
 
   -- The steps of entry number `number + 1` of `entries`, after an edit of a text of `count` characters that has `total`
-  -- now. The characters to which the old entries belong have moved by the difference. If there are at least as many
+  -- now. The characters to which the old entries belong have moved by the difference of the two. If there are at least as many
   -- characters as before, the new entry is between the new entry before it and the offset to which the old entry moved.
   -- If there are fewer, it is between the offsets to which this old entry and the next one moved, or up to the end.
   pub record AddsMoved (entries number count total : ℕ) : Type 0 where

@@ -5,9 +5,10 @@ use Rattle.wide_ucstr.specs.CString.{contents}
 use Rattle.wide_ucstr.specs.declared.view.UCStr.{UCStr}
 
 module _ {C : Type 0} {g : Ghosts C} where
-  -- The units of a C string with its NUL, and those before the NUL.
+  -- The units of a C string, of which the last is the NUL.
   abbrev pub units_with_nul : UCStr C g → List C
   units_with_nul view = view.units.now
 
+  -- The units of a C string before the NUL.
   abbrev pub contents_seen : UCStr C g → List C
   contents_seen view = contents (units_with_nul view)

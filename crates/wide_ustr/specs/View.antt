@@ -9,10 +9,10 @@ use Rattle.wide_ustr.specs.declared.view.UStr.{UStr}
 abbrev pub units_seen : {C : Type 0} → UStr C → List C
 units_seen view = view.units.now
 
--- The characters of its units, and the units that belong to none.
+-- The items of a view: its characters, and the units that belong to none.
 abbrev pub items_seen : {C : Type 0} → EncodingForm → (C → ℕ) → UStr C → List Item
 items_seen form number view = items form (map number (units_seen view))
 
--- The numbers of its units.
+-- The numbers of a view's units.
 abbrev pub numbers_seen : {C : Type 0} → (C → ℕ) → UStr C → List ℕ
 numbers_seen number view = map number (units_seen view)

@@ -10,14 +10,14 @@ use Rattle.wide_utfstr.specs.declared.view.UtfStr.{UtfStr}
 abbrev pub units_seen : {C : Type 0} {g : Ghosts C} → UtfStr C g → List C
 units_seen view = view.units.now
 
--- Its characters.
+-- The characters of a view of well-formed text.
 abbrev pub text_seen : {C : Type 0} {g : Ghosts C} → UtfStr C g → List ℕ
 text_seen {g = g} view = chars g.form (map g.number view.units.now)
 
--- The items of its units, which are its characters only.
+-- The items of a view of well-formed text, which are its characters alone.
 abbrev pub items_seen : {C : Type 0} {g : Ghosts C} → EncodingForm → (C → ℕ) → UtfStr C g → List Item
 items_seen form number view = items form (map number (units_seen view))
 
--- The numbers of its units.
+-- The numbers of the units of a view of well-formed text.
 abbrev pub numbers_seen : {C : Type 0} {g : Ghosts C} → (C → ℕ) → UtfStr C g → List ℕ
 numbers_seen number view = map number (units_seen view)
