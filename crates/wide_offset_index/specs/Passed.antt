@@ -28,8 +28,7 @@ marks_left count total = min (count / 64) (total / 64)
 
 module _ (cs : List ℕ) (before after : Steps) where
   -- The steps of a search for character number `to` between those number `low` and `high`: none if the characters
-  -- between these have one unit each, or else the units from the nearer of these two to
-  -- `to`.
+  -- between these have one unit each, or else the units from the nearer of the two to `to`.
   pub record AddsPassed (low high to : ℕ) : Type 0 where
     pub none : offset cs high + low ≡ offset cs low + high → counted after ≡ counted before
     pub on : offset cs low + high < offset cs high + low → to - low ≤ high - to → counted after + offset cs low ≡ counted before + offset cs to
