@@ -19,16 +19,7 @@ use wide_forms::{Policy, replacement};
 fn is_retained(policy: Policy, before: u16, repaired_before: u16, unit: u16, repaired: u16) -> bool
     ensures { result ≡ is_retained policy before repaired_before unit repaired }
 {
-    // For the first fault of a run, and for each later one. Neither depends on the units, so the compiler computes both
-    // once for all lanes.
-    let is_first_written = replacement(policy, false).is_some();
-    let is_later_written = replacement(policy, true).is_some();
-    let is_written = if before == repaired_before {
-        is_first_written
-    } else {
-        is_later_written
-    };
-    unit == repaired || is_written
+    unit == repaired || replacement(policy, before != repaired_before).is_some()
 }
 
 // Sets lane k to 1 if unit k + 1 of a window is retained, and otherwise to 0.
@@ -39,9 +30,17 @@ fn retained_lanes(policy: Policy, units: &[u16], repaired: &[u16], lanes: &mut [
     requires space { length lanes.old ≡ 8 }
     ensures { (k : ℕ) → k < 8 → slice_index lanes.new k ≡ bit_of (is_retained policy (slice_index units.now k) (slice_index repaired.now k) (slice_index units.now (k + 1)) (slice_index repaired.now (k + 1))) }
 {
+    // What the policy writes for the first fault of a run, and for each later one, does not depend on the units. It is
+    // computed before the loop, which then has no branches.
+    let is_first_written = replacement(policy, false).is_some();
+    let is_later_written = replacement(policy, true).is_some();
     for k in 0..8 {
-        let is_retained = is_retained(policy, units[k], repaired[k], units[k + 1], repaired[k + 1]);
-        lanes[k] = u16::from(is_retained);
+        let is_written = if units[k] == repaired[k] {
+            is_first_written
+        } else {
+            is_later_written
+        };
+        lanes[k] = u16::from(units[k + 1] == repaired[k + 1] || is_written);
     }
 }
 
