@@ -7,9 +7,8 @@ use Rattle.std.proofs.lemmas.List.{map-append, append-nil}
 use Rattle.wide_forms.specs.Segmentation.{Item, Char, Fault}
 use Rattle.wide_unit.specs.Unit.{item_of}
 use Rattle.wide_forms.specs.Lossy.{lossy_by, lossy_after, ends_in_fault, replacement}
-use Rattle.wide_forms.specs.Laws.Policies.{lossy_by-at_char, lossy_after-append, lossy_after-char, lossy_after-dropped, lossy_after-none, lossy_after-none_left, lossy_after-replaced, replacement-is}
+use Rattle.wide_forms.specs.Laws.Policies.{lossy_by-at_char, lossy_after-append, lossy_after-char, lossy_after-dropped, lossy_after-none, lossy_after-none_left, lossy_after-replaced, replacement-drops_run, replacement-is}
 use Rattle.wide_forms.specs.declared.policy.Policy.{Policy}
-use Rattle.wide_forms.specs.declared.policy.Policy.TheVariants.{Each, Run, Skip}
 use Rattle.wide_iter.specs.declared.source.Source.{Source}
 use Rattle.wide_iter.specs.Source.{unasked, source_steps}
 use Rattle.wide_iter.specs.LossyWith.{GivesFirstItem, GivesLastItem, TakesFirstCharacter, TakesLastCharacter}
@@ -132,12 +131,6 @@ by-run_end : (p : Policy) (us : List ℕ) (u : ℕ) (r : Option ℕ) → replace
 by-run_end p [] u r e none = by-run p u [] r e none
 by-run_end p (v ∷ us) u r e none = ap (λ is. lossy_by p (Fault v ∷ is)) (sym (map-append Fault us (u ∷ []))) ∙ by-run p v (us ++ u ∷ []) r e none
 
--- A policy that drops the first fault of a run drops all of it.
-drops_run : (p : Policy) → replacement p false ≡ None → is_some (replacement p true) ≡ false
-drops_run Each e = absurd cc
-drops_run Run e = refl
-drops_run Skip e = refl
-
 -- A run of faults up to a character, or to the end.
 abbrev FirstRow : List Item → Option ℕ → List Item → Type 0
 FirstRow mid r js = (run : List ℕ) × MatchOption r ((mid ≡ map Fault run) × (js ≡ [])) (λ c. mid ≡ map Fault run ++ Char c ∷ js)
@@ -176,10 +169,10 @@ module _ (p : Policy) (is mid js : List Item) (b : Option ℕ) where
   run_first u c (Some d) e f g h = beyond_run u d (Some c) e f g h
 
   pub skip_first : (u c : ℕ) → replacement p false ≡ None → is ≡ Fault u ∷ mid → FirstRow mid (Some c) js → left None p is b ≡ c ∷ left None p js b
-  skip_first u c e g h = beyond_run u c None e (drops_run p e) g h
+  skip_first u c e g h = beyond_run u c None e (replacement-drops_run p e) g h
 
   pub skip_to_end : (u : ℕ) → replacement p false ≡ None → is ≡ Fault u ∷ mid → FirstRow mid None js → MatchOption b ((left None p is b ≡ []) × (left None p js None ≡ [])) (λ x. left None p is b ≡ x ∷ left None p js None)
-  skip_to_end u e g h = end_first (lossy_by p is) (lossy_by p js) (only_run u None e (drops_run p e) g h) (ap (lossy_by p) h.1.1 ∙ by-nil p) b
+  skip_to_end u e g h = end_first (lossy_by p is) (lossy_by p js) (only_run u None e (replacement-drops_run p e) g h) (ap (lossy_by p) h.1.1 ∙ by-nil p) b
 
   pub at_end : is ≡ [] → js ≡ [] → MatchOption b ((left None p is b ≡ []) × (left None p js None ≡ [])) (λ x. left None p is b ≡ x ∷ left None p js None)
   at_end e f = end_first (lossy_by p is) (lossy_by p js) (ap (lossy_by p) e ∙ by-nil p) (ap (lossy_by p) f ∙ by-nil p) b
@@ -219,10 +212,10 @@ module _ (p : Policy) (is mid js : List Item) (f : Option ℕ) where
   run_last u c (Some d) e h g k = placed_lookahead (lossy_by p is) (lossy_by p js) c d (before_run u d (Some c) e h g k)
 
   pub skip_last : (u c : ℕ) → replacement p false ≡ None → is ≡ mid ++ Fault u ∷ [] → LastRow mid (Some c) js → left f p is None ≡ left f p js None ++ c ∷ []
-  skip_last u c e g k = placed_nil (lossy_by p is) (lossy_by p js) c (before_run u c None e (drops_run p e) g k ∙ append-nil (lossy_by p js ++ c ∷ []))
+  skip_last u c e g k = placed_nil (lossy_by p is) (lossy_by p js) c (before_run u c None e (replacement-drops_run p e) g k ∙ append-nil (lossy_by p js ++ c ∷ []))
 
   pub skip_to_front : (u : ℕ) → replacement p false ≡ None → is ≡ mid ++ Fault u ∷ [] → LastRow mid None js → MatchOption f ((left f p is None ≡ []) × (left None p js None ≡ [])) (λ x. left f p is None ≡ left None p js None ++ x ∷ [])
-  skip_to_front u e g k = end_last (lossy_by p is) (lossy_by p js) (only_run_end u None e (drops_run p e) g k) (ap (lossy_by p) k.1.1 ∙ by-nil p) f
+  skip_to_front u e g k = end_last (lossy_by p is) (lossy_by p js) (only_run_end u None e (replacement-drops_run p e) g k) (ap (lossy_by p) k.1.1 ∙ by-nil p) f
 
   pub at_front : is ≡ [] → js ≡ [] → MatchOption f ((left f p is None ≡ []) × (left None p js None ≡ [])) (λ x. left f p is None ≡ left None p js None ++ x ∷ [])
   at_front e g = end_last (lossy_by p is) (lossy_by p js) (ap (lossy_by p) e ∙ by-nil p) (ap (lossy_by p) g ∙ by-nil p) f

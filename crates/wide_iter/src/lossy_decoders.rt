@@ -17,9 +17,10 @@ use wide_forms::Policy;
 /// An iterator over the characters of UTF-16 units, with what a policy yields in place of each unit that belongs to no
 /// character (Unicode Standard, D93b).
 ///
-/// It iterates from both ends if the source does. It is fused, and does not call a source again after its end. Under
-/// [`Policy::Run`] and [`Policy::Skip`], the call that reaches a run of faults reads it to its end. Under
-/// [`Policy::Each`], each call reads one fault. It does not allocate. [`decode_utf16_lossy_with`] creates it.
+/// It iterates from both ends if the source does. It is fused, and does not call a source again after its end. Under a
+/// policy that yields nothing for a fault directly after another, such as [`Policy::Run`], the call that reaches a run
+/// of faults reads it to its end. Under the other policies, each call reads one fault. It does not allocate.
+/// [`decode_utf16_lossy_with`] creates it.
 ///
 /// # Example
 ///
@@ -33,7 +34,7 @@ pub struct DecodeUtf16LossyWith<I> {
 }
 
 /// Creates a lossy decoder, under a policy, of the 16-bit units that `units` yields. A call of the decoder may read a
-/// run of faults of any length under [`Policy::Run`] and [`Policy::Skip`], so it can only be called if the source is
+/// run of faults of any length, under a policy such as [`Policy::Run`], so it can only be called if the source is
 /// finite.
 pub fn decode_utf16_lossy_with<U: IntoIterator<Item = u16>>(
     units: U,
@@ -88,9 +89,10 @@ impl<I: Iterator<Item = u16>> FusedIterator for DecodeUtf16LossyWith<I> {}
 /// An iterator over the characters of UTF-32 units, with what a policy yields in place of each unit that is no
 /// character (Unicode Standard, D93b).
 ///
-/// It iterates from both ends if the source does. It is fused, and does not call a source again after its end. Under
-/// [`Policy::Run`] and [`Policy::Skip`], the call that reaches a run of faults reads it to its end. Under
-/// [`Policy::Each`], each call reads one fault. It does not allocate. [`decode_utf32_lossy_with`] creates it.
+/// It iterates from both ends if the source does. It is fused, and does not call a source again after its end. Under a
+/// policy that yields nothing for a fault directly after another, such as [`Policy::Run`], the call that reaches a run
+/// of faults reads it to its end. Under the other policies, each call reads one fault. It does not allocate.
+/// [`decode_utf32_lossy_with`] creates it.
 ///
 /// # Example
 ///
@@ -104,7 +106,7 @@ pub struct DecodeUtf32LossyWith<I> {
 }
 
 /// Creates a lossy decoder, under a policy, of the 32-bit units that `units` yields. A call of the decoder may read a
-/// run of faults of any length under [`Policy::Run`] and [`Policy::Skip`], so it can only be called if the source is
+/// run of faults of any length, under a policy such as [`Policy::Run`], so it can only be called if the source is
 /// finite.
 pub fn decode_utf32_lossy_with<U: IntoIterator<Item = u32>>(
     units: U,

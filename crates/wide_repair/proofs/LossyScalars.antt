@@ -1,7 +1,7 @@
 -- The lossy text of UTF-32 under a policy, unit by unit.
 use Rattle.std.proofs.Common.{◌≡◌, ℕ, ◌+◌, ◌≤◌, ◌<◌, Bool, true, false, cond, not, ◌||◌, eqb, inl, inr, List, [], ◌∷◌, ◌++◌, append_assoc, length, get_or, drop, refl, sym, ap, ◌∙◌, arith}
 use Rattle.std.specs.Char.{IsScalar}
-use Rattle.std.specs.Prelude.{Option, Some, None, is_some}
+use Rattle.std.specs.Prelude.{is_some}
 use Rattle.std.proofs.lemmas.Bool.{cases_Bool}
 use Rattle.std.proofs.lemmas.Bool.Decides.{eqb_tells}
 use Rattle.std.proofs.lemmas.List.{append-nil, drop_all, drop_more}
@@ -10,7 +10,7 @@ use Rattle.wide_forms.specs.Items.{items}
 use Rattle.wide_forms.specs.Lossy.{ends_in_fault, lossy_after, replacement}
 use Rattle.wide_forms.specs.Searches.{is_no_scalar}
 use Rattle.wide_forms.specs.Laws.Items.{items-nil}
-use Rattle.wide_forms.specs.Laws.Policies.{lossy_after-char, lossy_after-dropped, lossy_after-none_left, lossy_after-replaced, replacement-is}
+use Rattle.wide_forms.specs.Laws.Policies.{lossy_after-char, lossy_after-fault, lossy_after-none_left}
 use Rattle.wide_forms.specs.Laws.Utf32.{encode32, items32-char, items32-fault}
 use Rattle.wide_forms.specs.declared.policy.Policy.{Policy}
 use Rattle.wide_repair.specs.Repaired.{repaired_scalar}
@@ -39,15 +39,9 @@ abbrev written : Policy → Bool → ℕ → List ℕ
 written policy after u = cond (not (not (eqb (repaired_scalar u) u)) || is_some (replacement policy after)) (repaired_scalar u ∷ []) []
 
 module _ (policy : Policy) (after : Bool) (u : ℕ) (us : List ℕ) where
-  fault : (r : Option ℕ) → replacement policy after ≡ r → is_no_scalar u ≡ true → lossy_after policy after (items Utf32 (u ∷ us)) ≡ cond (is_some r) (0xFFFD ∷ []) [] ++ lossy_after policy true (items Utf32 us)
-  fault None e is = ap (lossy_after policy after) (items32-fault u us (no_scalar u is)) ∙ lossy_after-dropped policy after u (items Utf32 us) e
-  fault (Some c) e is =
-      let one : c ≡ 0xFFFD = replacement-is policy after c e in
-      ap (lossy_after policy after) (items32-fault u us (no_scalar u is)) ∙ lossy_after-replaced policy after u c (items Utf32 us) e ∙ ap (λ d. d ∷ lossy_after policy true (items Utf32 us)) one
-
   unit-written : lossy_after policy after (items Utf32 (u ∷ us)) ≡ written policy after u ++ lossy_after policy (not (eqb (repaired_scalar u) u)) (items Utf32 us)
   unit-written = elim (cases_Bool (is_no_scalar u)) [
-    | inl is ↦ rw (is, other u is) (fault (replacement policy after) refl is)
+    | inl is ↦ rw (is, other u is) (ap (lossy_after policy after) (items32-fault u us (no_scalar u is)) ∙ lossy_after-fault policy after u (items Utf32 us))
     | inr isnt ↦ rw (isnt, same u) (ap (lossy_after policy after) (items32-char u us (scalar u isnt)) ∙ lossy_after-char policy after u (items Utf32 us))
   ]
 

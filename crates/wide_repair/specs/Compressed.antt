@@ -1,19 +1,21 @@
--- Which repaired units are retained under a policy that has fewer replacement characters than faults.
-use Rattle.std.specs.Prelude.{ℕ, zero, suc, ◌+◌, ◌*◌, ◌/◌, ◌%◌, nat_eq, nat_lt, Bool, true, false, if◌then◌else◌, List, [], ◌∷◌}
+-- Which repaired units are retained under a policy that may have fewer replacement characters than faults.
+use Rattle.std.specs.Prelude.{ℕ, zero, suc, ◌+◌, ◌*◌, ◌/◌, ◌%◌, nat_eq, nat_lt, Bool, true, not, if◌then◌else◌, List, [], ◌∷◌, is_some}
 use Rattle.wide_forms.specs.Bits.{bit_of}
+use Rattle.wide_forms.specs.Lossy.{replacement}
+use Rattle.wide_forms.specs.declared.policy.Policy.{Policy}
 
--- Whether a repaired unit is retained: if it is the unit itself, or if `is_run` is true and the unit before was not
--- replaced.
-abbrev pub is_retained : Bool → ℕ → ℕ → ℕ → ℕ → Bool
-is_retained is_run before repaired_before unit repaired = if nat_eq unit repaired then true else if is_run then nat_eq before repaired_before else false
+-- Whether a repaired unit is retained: if it is the unit itself, or if the policy writes a replacement for it, given
+-- whether the unit before it was replaced.
+abbrev pub is_retained : Policy → ℕ → ℕ → ℕ → ℕ → Bool
+is_retained policy before repaired_before unit repaired = if nat_eq unit repaired then true else is_some (replacement policy (not (nat_eq before repaired_before)))
 
 -- One bit for each of the first units, from the lowest on: set if the repaired unit is retained. The unit before them
 -- and its repaired unit are given.
-abbrev pub retained_bits : ℕ → Bool → ℕ → ℕ → List ℕ → List ℕ → ℕ
-retained_bits zero is_run u m us ms = 0
-retained_bits (suc n) is_run u m [] ms = 0
-retained_bits (suc n) is_run u m (v ∷ us) [] = 0
-retained_bits (suc n) is_run u m (v ∷ us) (w ∷ ms) = bit_of (is_retained is_run u m v w) + 2 * retained_bits n is_run v w us ms
+abbrev pub retained_bits : ℕ → Policy → ℕ → ℕ → List ℕ → List ℕ → ℕ
+retained_bits zero policy u m us ms = 0
+retained_bits (suc n) policy u m [] ms = 0
+retained_bits (suc n) policy u m (v ∷ us) [] = 0
+retained_bits (suc n) policy u m (v ∷ us) (w ∷ ms) = bit_of (is_retained policy u m v w) + 2 * retained_bits n policy v w us ms
 
 -- The lanes whose bits are set.
 abbrev pub compressed_lanes : ℕ → List ℕ → List ℕ

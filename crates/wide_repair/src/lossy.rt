@@ -1,13 +1,12 @@
 //! Writes the lossy text of a slice of units under a policy, as well-formed units, prefix by prefix (Unicode Standard,
 //! section 3.9, "U+FFFD Substitution of Maximal Subparts"). UTF-16 is vectorized: all units are repaired, with U+FFFD
-//! for each fault. Under `Policy::Run` and `Policy::Skip` they are repaired chunk by chunk into an array, and the
-//! U+FFFD that the policy does not write are left out when the chunk is copied.
-ghost use Rattle.std.specs.Prelude.{◌≡◌, ◌<◌, ◌≤◌, length, min, take, drop, if◌then◌else◌};
+//! for each fault. Under a policy that does not write all of these they are repaired chunk by chunk into an array, and
+//! the U+FFFD that the policy does not write are left out when the chunk is copied.
+ghost use Rattle.std.specs.Prelude.{◌≡◌, ◌<◌, ◌≤◌, length, min, take, drop};
 ghost use Rattle.wide_forms.specs.EncodingForm.{Utf16, Utf32, encode};
 ghost use Rattle.wide_forms.specs.Items.{items};
 ghost use Rattle.wide_forms.specs.Lossy.{ends_in_fault, lossy, lossy_after};
 ghost use Rattle.wide_forms.specs.Laws.Items.{IsCut};
-ghost use Rattle.wide_forms.specs.declared.policy.Policy.TheVariants.{Run, Skip};
 
 use crate::repair::{repair_16, repaired_scalar};
 use crate::retention::{put_one, retain_after};
@@ -57,39 +56,38 @@ pub fn ends_in_fault(units: &[u16], after_fault: bool) -> bool
 }
 
 // Writes the retained units of a repaired chunk of UTF-16, and returns their number. A chunk without faults is copied.
-// The policy is `Run` if `is_run` is true, and otherwise `Skip`.
 fn put_chunk(
     chunk: &[u16],
     repaired: &[u16],
-    is_run: bool,
+    policy: Policy,
     after_fault: bool,
     text: &mut [u16],
 ) -> usize
     requires repaired { repaired.now ≡ encode Utf16 (lossy (items Utf16 chunk.now)) }
     requires long { length repaired.now ≡ length chunk.now }
     requires space { length chunk.now ≤ length text.old }
-    ensures text { take result text.new ≡ encode Utf16 (lossy_after (if is_run then Run else Skip) after_fault (items Utf16 chunk.now)) }
+    ensures text { take result text.new ≡ encode Utf16 (lossy_after policy after_fault (items Utf16 chunk.now)) }
     ensures within { result ≤ length chunk.now }
 {
     if repaired == chunk {
         text[..chunk.len()].copy_from_slice(chunk);
         return chunk.len();
     }
-    retain_after(is_run, after_fault, chunk, repaired, text)
+    retain_after(policy, after_fault, chunk, repaired, text)
 }
 
-// Writes the lossy text of all units of UTF-16, and returns how many units it has. Each chunk is repaired in the array
-// `repaired` first. The policy is `Run` if `is_run` is true, and otherwise `Skip`.
+// Writes the lossy text of all units of UTF-16 under a policy, and returns how many units it has. Each chunk is
+// repaired in the array `repaired` first.
 fn put_retained_chunks(
     units: &[u16],
-    is_run: bool,
+    policy: Policy,
     after_fault: bool,
     repaired: &mut [u16],
     text: &mut [u16],
 ) -> usize
     requires spare { 2 ≤ length repaired.old }
     requires space { length units.now ≤ length text.old }
-    ensures text { take result text.new ≡ encode Utf16 (lossy_after (if is_run then Run else Skip) after_fault (items Utf16 units.now)) }
+    ensures text { take result text.new ≡ encode Utf16 (lossy_after policy after_fault (items Utf16 units.now)) }
     ensures within { result ≤ length units.now }
 {
     let mut rest = units;
@@ -99,7 +97,7 @@ fn put_retained_chunks(
         let (chunk, beyond) = rest.split_at(uncut_len(rest, repaired.len()));
         repair_16(chunk, repaired);
         let fixed = &repaired[..chunk.len()];
-        at += put_chunk(chunk, fixed, is_run, is_after, &mut text[at..]);
+        at += put_chunk(chunk, fixed, policy, is_after, &mut text[at..]);
         is_after = ends_in_fault(chunk, is_after);
         rest = beyond;
     }
@@ -112,16 +110,15 @@ fn put_lossy(units: &[u16], policy: Policy, after_fault: bool, text: &mut [u16])
     ensures text { take result text.new ≡ encode Utf16 (lossy_after policy after_fault (items Utf16 units.now)) }
     ensures within { result ≤ length units.now }
 {
-    if policy == Policy::Each {
+    if replacement(policy, false).is_some() && replacement(policy, true).is_some() {
+        // U+FFFD is written for each fault, so all repaired units are retained.
         repair_16(units, text);
         return units.len();
     }
-    // The policy is now Run or Skip. They differ only in what they write for the first fault of a run.
-    let is_run = replacement(policy, false).is_some();
     if units.len() <= SMALL_CHUNK {
-        put_retained_chunks(units, is_run, after_fault, &mut [0; SMALL_CHUNK], text)
+        put_retained_chunks(units, policy, after_fault, &mut [0; SMALL_CHUNK], text)
     } else {
-        put_retained_chunks(units, is_run, after_fault, &mut [0; LARGE_CHUNK], text)
+        put_retained_chunks(units, policy, after_fault, &mut [0; LARGE_CHUNK], text)
     }
 }
 

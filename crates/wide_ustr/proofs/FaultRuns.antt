@@ -5,9 +5,8 @@ use Rattle.std.proofs.lemmas.List.{append-nil, map_push}
 use Rattle.wide_forms.specs.Segmentation.{Item, Char, Fault}
 use Rattle.wide_forms.specs.Items.{characters}
 use Rattle.wide_forms.specs.Lossy.{lossy_runs, lossy_by, lossy_after, ends_in_fault, replacement}
-use Rattle.wide_forms.specs.Laws.Policies.{characters-append, lossy_by-at_char, runs-at_char, runs-of_run, lossy_after-append, lossy_after-char, lossy_after-dropped, lossy_after-none, lossy_after-none_left, lossy_after-replaced, ends_in_fault-append}
+use Rattle.wide_forms.specs.Laws.Policies.{characters-append, lossy_by-at_char, lossy_by-characters, runs-at_char, runs-of_run, lossy_after-append, lossy_after-char, lossy_after-dropped, lossy_after-none, lossy_after-none_left, lossy_after-replaced, ends_in_fault-append}
 use Rattle.wide_forms.specs.declared.policy.Policy.{Policy}
-use Rattle.wide_forms.specs.declared.policy.Policy.TheVariants.{Each, Run, Skip}
 use Rattle.wide_ustr.specs.LossyWith.{BeginsPastFaults, EndsBeforeFaults}
 
 -- All items that were read are faults, from the front and from the back.
@@ -97,19 +96,13 @@ run_next_back policy is prefix rest u c e none f ends =
     ∙ lossy_after-append policy false rest faults ∙ ap (λ after. lossy_after policy false rest ++ lossy_after policy after faults) (ends_in_char rest ends.before)
     ∙ ap (λ xs. lossy_after policy false rest ++ xs) (run_end policy ends.run u c e none) ∙ ap (λ xs. xs ++ c ∷ []) (lossy_after-none policy rest)
 
--- A policy that has nothing for the first fault of a run has nothing for any fault.
-only_characters : (policy : Policy) (is : List Item) → replacement policy false ≡ None → lossy_by policy is ≡ characters is
-only_characters Each is e = absurd cc
-only_characters Run is e = absurd cc
-only_characters Skip is e = refl
-
 -- A call that skips a fault at the end, and then takes the last character, if there is one.
 pub skip_back : (policy now : Policy) (is prefix rest : List Item) (u : ℕ) (r : Option ℕ) → replacement policy false ≡ None → now ≡ policy → is ≡ prefix ++ Fault u ∷ []
     → MatchOption r ((characters prefix ≡ []) × (characters rest ≡ [])) (λ c. characters prefix ≡ characters rest ++ c ∷ [])
     → MatchOption r ((lossy_by policy is ≡ []) × (lossy_by now rest ≡ [])) (λ c. lossy_by policy is ≡ lossy_by now rest ++ c ∷ [])
 skip_back policy now is prefix rest u r e same f h =
-    let skipped = only_characters policy is e ∙ ap characters f ∙ characters-append prefix (Fault u ∷ []) ∙ append-nil (characters prefix) in
-    rw (same, skipped, only_characters policy rest e) h
+    let skipped = lossy_by-characters policy is e ∙ ap characters f ∙ characters-append prefix (Fault u ∷ []) ∙ append-nil (characters prefix) in
+    rw (same, skipped, lossy_by-characters policy rest e) h
 
 -- The last item under any policy, if it is a character.
 pub last_char : (policy : Policy) (is prefix : List Item) (c : ℕ) → is ≡ prefix ++ Char c ∷ [] → lossy_by policy is ≡ lossy_by policy prefix ++ c ∷ []

@@ -36,9 +36,9 @@ fn before_faults<C: Unit>(units: &[C]) -> &[C]
 /// An iterator over the characters of a view, with the units that belong to none replaced as a policy says. Made by
 /// [`UStr::chars_lossy_with`](crate::UStr::chars_lossy_with).
 ///
-/// Under [`Policy::Run`] and [`Policy::Skip`] the call that reaches a run of faults, at either end, reads the whole
-/// run. Under [`Policy::Each`] each call reads one fault. It continues to return `None` after its end, and does not
-/// allocate.
+/// Under a policy that yields nothing for a fault directly after another, such as [`Policy::Run`], the call that
+/// reaches a run of faults, at either end, reads the whole run. Under the other policies each call reads one fault. It
+/// continues to return `None` after its end, and does not allocate.
 ///
 /// # Example
 ///

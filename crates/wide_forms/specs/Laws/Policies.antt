@@ -1,6 +1,6 @@
 -- Lossy text under a policy: of concatenated lists, at both ends, and of well-formed text.
 use Rattle.std.proofs.Common.{◌≡◌, ℕ, ◌<◌, ◌≤◌, suc, zero, length, length-append, List, [], ◌∷◌, ◌++◌, refl, sym, ◌∙◌, ap, arith}
-use Rattle.std.specs.Prelude.{map, Bool, true, false, Some, None}
+use Rattle.std.specs.Prelude.{map, Bool, true, false, Option, Some, None, is_some, if◌then◌else◌}
 use Rattle.std.specs.Char.{IsScalar}
 use Rattle.std.specs.List.{All}
 use Rattle.std.proofs.lemmas.List.{map-append}
@@ -106,6 +106,34 @@ lossy_after-dropped Each after u is e = absurd cc
 lossy_after-dropped Run true u is e = refl
 lossy_after-dropped Run false u is e = absurd cc
 lossy_after-dropped Skip after u is e = refl
+
+-- A fault becomes U+FFFD or nothing, as the policy says.
+pub lossy_after-fault : (policy : Policy) (after : Bool) (u : ℕ) (is : List Item) → lossy_after policy after (Fault u ∷ is) ≡ (if is_some (replacement policy after) then 0xFFFD ∷ [] else []) ++ lossy_after policy true is
+lossy_after-fault policy after u is = by_replacement (replacement policy after) refl
+  where
+    by_replacement : (r : Option ℕ) → replacement policy after ≡ r → lossy_after policy after (Fault u ∷ is) ≡ (if is_some r then 0xFFFD ∷ [] else []) ++ lossy_after policy true is
+    by_replacement None e = lossy_after-dropped policy after u is e
+    by_replacement (Some c) e = lossy_after-replaced policy after u c is e ∙ ap (λ d. d ∷ lossy_after policy true is) (replacement-is policy after c e)
+
+-- A policy that replaces the first fault of a run, and each later one.
+pub lossy_after-all_replaced : (policy : Policy) → is_some (replacement policy false) ≡ true → is_some (replacement policy true) ≡ true → (after : Bool) (is : List Item) → lossy_after policy after is ≡ lossy is
+lossy_after-all_replaced policy first later after [] = lossy_after-none_left policy after
+lossy_after-all_replaced policy first later after (Char c ∷ is) = lossy_after-char policy after c is ∙ ap (λ l. c ∷ l) (lossy_after-all_replaced policy first later false is)
+lossy_after-all_replaced policy first later true (Fault u ∷ is) =
+    lossy_after-fault policy true u is ∙ ap (λ b. (if b then 0xFFFD ∷ [] else []) ++ lossy_after policy true is) later ∙ ap (λ l. 0xFFFD ∷ l) (lossy_after-all_replaced policy first later true is)
+lossy_after-all_replaced policy first later false (Fault u ∷ is) =
+    lossy_after-fault policy false u is ∙ ap (λ b. (if b then 0xFFFD ∷ [] else []) ++ lossy_after policy true is) first ∙ ap (λ l. 0xFFFD ∷ l) (lossy_after-all_replaced policy first later true is)
+
+-- A policy that has nothing for the first fault of a run has nothing for any fault: only the characters are left.
+pub replacement-drops_run : (policy : Policy) → replacement policy false ≡ None → is_some (replacement policy true) ≡ false
+replacement-drops_run Each e = absurd cc
+replacement-drops_run Run e = refl
+replacement-drops_run Skip e = refl
+
+pub lossy_by-characters : (policy : Policy) (is : List Item) → replacement policy false ≡ None → lossy_by policy is ≡ characters is
+lossy_by-characters Each is e = absurd cc
+lossy_by-characters Run is e = absurd cc
+lossy_by-characters Skip is e = refl
 
 -- A run of faults only.
 pub runs-of_run : (u : ℕ) (us : List ℕ) → lossy_runs (map Fault (u ∷ us)) ≡ 0xFFFD ∷ []

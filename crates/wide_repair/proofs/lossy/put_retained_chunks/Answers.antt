@@ -1,12 +1,10 @@
-use Rattle.std.proofs.Common.{◌≡◌, ◌∙◌, ◌++◌, ◌+◌, ◌-◌, ◌≤◌, cond, ap, arith, length, take, drop, length-take, length-drop}
+use Rattle.std.proofs.Common.{◌≡◌, ◌∙◌, ◌++◌, ◌+◌, ◌-◌, ◌≤◌, ap, arith, length, take, drop, length-take, length-drop}
 use borrow.Rule.Slice.PartMut.{put_mid}
-use Rattle.wide_forms.specs.declared.policy.Policy.TheVariants.{Run, Skip}
 use Rattle.wide_repair.proofs.LossyChunks.{all-chunks, chunk-passed, lossy_units, put-beyond, put-length}
 use Rattle.wide_repair.proofs.lossy.put_retained_chunks.Goals as goal
 
 pub chunks-preserved : goal.chunks-preserved
 chunks-preserved c =
-    let policy = cond c.args.is_run Run Skip in
     let rest = c.chunks.rest.now in
     let n = c.uncut_len.result in
     let e = c.split_at.ensures in
@@ -21,10 +19,10 @@ chunks-preserved c =
       within = omega (arith, c.chunks.invariant.within, put.ensures.within, e.front_len, e.back_len);
       space = put-length text put.new.text at (length text - at) (omega (arith, within)) part ∙ c.chunks.invariant.space;
       repaired = omega (arith, c.repair_16.auto.repaired, c.chunks.invariant.repaired);
-      so_far = chunk-passed policy (lossy_units policy c.args.after_fault c.args.units.now) before now c.chunks.is_after c.ends_in_fault-is_after.result rest c.split_at.result.0.now c.split_at.result.1.now n
+      so_far = chunk-passed c.args.policy (lossy_units c.args.policy c.args.after_fault c.args.units.now) before now c.chunks.is_after c.ends_in_fault-is_after.result rest c.split_at.result.0.now c.split_at.result.1.now n
           c.chunks.invariant.so_far e.front e.back c.uncut_len.ensures.cut c.ends_in_fault-is_after.ensures
           (put-beyond text put.new.text at put.result (length text - at) within (omega (arith, put.ensures.within, part, e.front_len, c.chunks.invariant.within, e.back_len, c.chunks.invariant.space, c.requires.space)) ∙ ap (λ us. before ++ us) put.ensures.text);
     }
 
 pub returns-clause-text : goal.returns-clause-text
-returns-clause-text c = all-chunks (cond c.args.is_run Run Skip) _ _ c.chunks.is_after c.chunks.rest.now (grind (arith, c.is_empty.ensures, c.chunks-test.false)) c.chunks.invariant.so_far
+returns-clause-text c = all-chunks c.args.policy _ _ c.chunks.is_after c.chunks.rest.now (grind (arith, c.is_empty.ensures, c.chunks-test.false)) c.chunks.invariant.so_far

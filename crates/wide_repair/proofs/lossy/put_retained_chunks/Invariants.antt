@@ -1,5 +1,4 @@
-use Rattle.std.proofs.Common.{◌≡◌, ◌++◌, ◌+◌, ◌≤◌, cond, length, take}
-use Rattle.wide_forms.specs.declared.policy.Policy.TheVariants.{Run, Skip}
+use Rattle.std.proofs.Common.{◌≡◌, ◌++◌, ◌+◌, ◌≤◌, length, take}
 use Rattle.wide_repair.proofs.LossyChunks.{lossy_units}
 use Rattle.wide_repair.proofs.lossy.put_retained_chunks.Given as goal
 
@@ -8,7 +7,7 @@ invariant-chunks l = record {
   within : l.at + length l.rest ≤ length l.units;
   space : length l.text ≡ length l.fn.text;
   repaired : 2 ≤ length l.repaired;
-  so_far : lossy_units (cond l.is_run Run Skip) l.fn.after_fault l.units ≡ take l.at l.text ++ lossy_units (cond l.is_run Run Skip) l.is_after l.rest;
+  so_far : lossy_units l.policy l.fn.after_fault l.units ≡ take l.at l.text ++ lossy_units l.policy l.is_after l.rest;
 }
 
 abbrev pub decreases-chunks : goal.decreases-chunks

@@ -9,7 +9,7 @@ invariant-eights l = record {
   within : l.done ≤ length l.units;
   few : l.at ≤ l.done;
   space : length l.compressed ≡ length l.fn.compressed;
-  units : retained l.is_run 0 (bit_of l.after_fault) l.units l.repaired ≡ take l.at l.compressed ++ retained l.is_run (get_or l.units (l.done - 1) 0) (get_or l.repaired (l.done - 1) 0) (drop l.done l.units) (drop l.done l.repaired);
+  units : retained l.policy 0 (bit_of l.after_fault) l.units l.repaired ≡ take l.at l.compressed ++ retained l.policy (get_or l.units (l.done - 1) 0) (get_or l.repaired (l.done - 1) 0) (drop l.done l.units) (drop l.done l.repaired);
 }
 
 abbrev pub decreases-eights : goal.decreases-eights
@@ -21,7 +21,7 @@ invariant-ones l = record {
   within : l.done ≤ length l.units;
   few : l.at ≤ l.done;
   space : length l.compressed ≡ length l.fn.compressed;
-  units : retained l.is_run 0 (bit_of l.after_fault) l.units l.repaired ≡ take l.at l.compressed ++ retained l.is_run (get_or l.units (l.done - 1) 0) (get_or l.repaired (l.done - 1) 0) (drop l.done l.units) (drop l.done l.repaired);
+  units : retained l.policy 0 (bit_of l.after_fault) l.units l.repaired ≡ take l.at l.compressed ++ retained l.policy (get_or l.units (l.done - 1) 0) (get_or l.repaired (l.done - 1) 0) (drop l.done l.units) (drop l.done l.repaired);
 }
 
 abbrev pub decreases-ones : goal.decreases-ones
