@@ -1,5 +1,6 @@
 //! Calls of a view of units that make an owned string.
-ghost use Rattle.std.specs.Prelude.{◌≡◌, [], List, IsOk, IfOk};
+ghost use Rattle.std.specs.Prelude.{◌≡◌, [], List, map, IsOk, IfOk};
+ghost use Rattle.std.specs.Char.{to_ascii_lowercase, to_ascii_uppercase};
 ghost use Rattle.std.specs.List.{repeat};
 
 use crate::UString;
@@ -10,7 +11,7 @@ use wide_utferror::FaultUnit;
 
 /// Calls of a view of units that make an owned string. They are in a trait because the view's crate does not know owned
 /// strings.
-pub trait UStrInUstring<C> {
+pub trait UStrInUstring<C: FaultUnit> {
     // The units of the view.
     ghost text: { Self → List C };
 
@@ -33,6 +34,26 @@ pub trait UStrInUstring<C> {
         ensures units { IfOk result (λ s. s.units ≡ repeat count (text self)) }
         ensures succeeds { count ≡ 0 → IsOk result }
         ensures empty { text self ≡ [] → IsOk result };
+
+    /// Copies the view's units into a new string, and writes each upper-case ASCII letter in lower case. Allocates once,
+    /// or not at all if there are no units.
+    ///
+    /// # Errors
+    ///
+    /// [`OutOfMemory`] if the allocation fails. It never fails if there are no units.
+    fn to_ascii_lowercase<A: Allocator>(self, alloc: A) -> Result<UString<C, A>, OutOfMemory>
+        ensures units { IfOk result (λ s. map C.number s.units ≡ map to_ascii_lowercase (map C.number (text self))) }
+        ensures succeeds { text self ≡ [] → IsOk result };
+
+    /// Copies the view's units into a new string, and writes each lower-case ASCII letter in upper case. Allocates once,
+    /// or not at all if there are no units.
+    ///
+    /// # Errors
+    ///
+    /// [`OutOfMemory`] if the allocation fails. It never fails if there are no units.
+    fn to_ascii_uppercase<A: Allocator>(self, alloc: A) -> Result<UString<C, A>, OutOfMemory>
+        ensures units { IfOk result (λ s. map C.number s.units ≡ map to_ascii_uppercase (map C.number (text self))) }
+        ensures succeeds { text self ≡ [] → IsOk result };
 }
 
 impl<C: FaultUnit> UStrInUstring<C> for UStr<'_, C> {
@@ -58,5 +79,17 @@ impl<C: FaultUnit> UStrInUstring<C> for UStr<'_, C> {
             }
         }
         Ok(UString { units })
+    }
+
+    fn to_ascii_lowercase<A: Allocator>(self, alloc: A) -> Result<UString<C, A>, OutOfMemory> {
+        let mut string = self.to_ustring(alloc)?;
+        string.make_ascii_lowercase();
+        Ok(string)
+    }
+
+    fn to_ascii_uppercase<A: Allocator>(self, alloc: A) -> Result<UString<C, A>, OutOfMemory> {
+        let mut string = self.to_ustring(alloc)?;
+        string.make_ascii_uppercase();
+        Ok(string)
     }
 }
