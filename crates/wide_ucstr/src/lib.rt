@@ -3,6 +3,7 @@
 //! `specs/` defines what a C string is. The contracts of the functions of [`laws`] state the laws of C strings.
 #![tactic(auto)]
 
+mod ascii;
 mod compare;
 mod display;
 pub mod laws;

@@ -1,6 +1,7 @@
 //! Owned wide C strings: units of 16 or 32 bits that end in their only NUL.
 #![tactic(auto)]
 
+mod ascii;
 mod boxed;
 mod compare;
 mod cow;

@@ -1,5 +1,6 @@
 //! Calls of a view of a C string that make an owned string.
-ghost use Rattle.std.specs.Prelude.{◌≡◌, [], List, IsOk, IfOk};
+ghost use Rattle.std.specs.Prelude.{◌≡◌, [], List, map, IsOk, IfOk};
+ghost use Rattle.std.specs.Char.{to_ascii_lowercase, to_ascii_uppercase};
 ghost use Rattle.std.specs.List.{repeat};
 ghost use Rattle.wide_ustr.specs.View.{units_seen};
 ghost use Rattle.wide_ucstr.specs.CString.{contents};
@@ -55,6 +56,42 @@ pub trait UCStrInUcstring<C: FaultUnit> {
     /// [`OutOfMemory`] if the allocation fails, or if the length in units exceeds `usize::MAX`.
     fn repeat<A: Allocator>(self, alloc: A, count: usize) -> Result<UCString<C, A>, OutOfMemory>
         ensures { IfOk result (λ s. contents s.units ≡ repeat count (text self)) };
+
+    /// Copies the C string into a new owned C string, and writes each upper-case ASCII letter in lower case.
+    ///
+    /// # Errors
+    ///
+    /// [`OutOfMemory`] if the allocation fails.
+    ///
+    /// # Example
+    ///
+    /// ```
+    /// use widestring::ucstring::UCStrInUcstring;
+    ///
+    /// let text = U16CString::from_str(rt.alloc(), "C:\\Temp")?;
+    /// let text = text.as_ucstr().to_ascii_lowercase(rt.alloc())?;
+    /// assert!(rt; text.as_ucstr().chars_lossy().eq("c:\\temp".chars()));
+    /// ```
+    fn to_ascii_lowercase<A: Allocator>(self, alloc: A) -> Result<UCString<C, A>, OutOfMemory>
+        ensures { IfOk result (λ s. map C.number (contents s.units) ≡ map to_ascii_lowercase (map C.number (text self))) };
+
+    /// Copies the C string into a new owned C string, and writes each lower-case ASCII letter in upper case.
+    ///
+    /// # Errors
+    ///
+    /// [`OutOfMemory`] if the allocation fails.
+    ///
+    /// # Example
+    ///
+    /// ```
+    /// use widestring::ucstring::UCStrInUcstring;
+    ///
+    /// let text = U16CString::from_str(rt.alloc(), "Größe")?;
+    /// let text = text.as_ucstr().to_ascii_uppercase(rt.alloc())?;
+    /// assert!(rt; text.as_ucstr().chars_lossy().eq("GRößE".chars()));
+    /// ```
+    fn to_ascii_uppercase<A: Allocator>(self, alloc: A) -> Result<UCString<C, A>, OutOfMemory>
+        ensures { IfOk result (λ s. map C.number (contents s.units) ≡ map to_ascii_uppercase (map C.number (text self))) };
 }
 
 // Returns the units repeated `count` times, with capacity for a NUL.
@@ -96,5 +133,17 @@ impl<C: FaultUnit> UCStrInUcstring<C> for UCStr<'_, C> {
             Ok(made) => Ok(made),
             Err(_error) => Err(OutOfMemory),
         }
+    }
+
+    fn to_ascii_lowercase<A: Allocator>(self, alloc: A) -> Result<UCString<C, A>, OutOfMemory> {
+        let mut string = self.to_ucstring(alloc)?;
+        string.make_ascii_lowercase();
+        Ok(string)
+    }
+
+    fn to_ascii_uppercase<A: Allocator>(self, alloc: A) -> Result<UCString<C, A>, OutOfMemory> {
+        let mut string = self.to_ucstring(alloc)?;
+        string.make_ascii_uppercase();
+        Ok(string)
     }
 }

@@ -1,6 +1,7 @@
 //! Views of units of 16 or 32 bits, which may be well formed or ill-formed.
 #![tactic(auto)]
 
+mod ascii;
 mod bytes;
 mod display;
 mod escaped;

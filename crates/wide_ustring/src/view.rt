@@ -1,5 +1,6 @@
 //! Calls of a view of units that make an owned string.
-ghost use Rattle.std.specs.Prelude.{◌≡◌, [], List, IsOk, IfOk};
+ghost use Rattle.std.specs.Prelude.{◌≡◌, [], List, map, IsOk, IfOk};
+ghost use Rattle.std.specs.Char.{to_ascii_lowercase, to_ascii_uppercase};
 ghost use Rattle.std.specs.List.{repeat};
 
 use crate::UString;
@@ -19,7 +20,7 @@ use wide_utferror::FaultUnit;
 /// let line = U16Str::from_slice(&[0x2d, 0x20]).repeat(rt.alloc(), 2)?;
 /// assert!(rt; line.as_slice() == [0x2d, 0x20, 0x2d, 0x20].as_slice());
 /// ```
-pub trait UStrInUstring<C> {
+pub trait UStrInUstring<C: FaultUnit> {
     // The units of the view.
     ghost text: { Self → List C };
 
@@ -52,6 +53,46 @@ pub trait UStrInUstring<C> {
         ensures units { IfOk result (λ s. s.units ≡ repeat count (text self)) }
         ensures succeeds { count ≡ 0 → IsOk result }
         ensures empty { text self ≡ [] → IsOk result };
+
+    /// Copies the view's units into a new string, and writes each upper-case ASCII letter in lower case. Allocates once,
+    /// or not at all if there are no units.
+    ///
+    /// # Errors
+    ///
+    /// [`OutOfMemory`] if the allocation fails. It never fails if there are no units.
+    ///
+    /// # Example
+    ///
+    /// ```
+    /// use widestring::ustring::UStrInUstring;
+    ///
+    /// let text = U16String::from_str(rt.alloc(), "C:\\Temp")?;
+    /// let text = text.as_ustr().to_ascii_lowercase(rt.alloc())?;
+    /// assert!(rt; text.as_ustr().chars_lossy().eq("c:\\temp".chars()));
+    /// ```
+    fn to_ascii_lowercase<A: Allocator>(self, alloc: A) -> Result<UString<C, A>, OutOfMemory>
+        ensures units { IfOk result (λ s. map C.number s.units ≡ map to_ascii_lowercase (map C.number (text self))) }
+        ensures succeeds { text self ≡ [] → IsOk result };
+
+    /// Copies the view's units into a new string, and writes each lower-case ASCII letter in upper case. Allocates once,
+    /// or not at all if there are no units.
+    ///
+    /// # Errors
+    ///
+    /// [`OutOfMemory`] if the allocation fails. It never fails if there are no units.
+    ///
+    /// # Example
+    ///
+    /// ```
+    /// use widestring::ustring::UStrInUstring;
+    ///
+    /// let text = U16String::from_str(rt.alloc(), "Größe")?;
+    /// let text = text.as_ustr().to_ascii_uppercase(rt.alloc())?;
+    /// assert!(rt; text.as_ustr().chars_lossy().eq("GRößE".chars()));
+    /// ```
+    fn to_ascii_uppercase<A: Allocator>(self, alloc: A) -> Result<UString<C, A>, OutOfMemory>
+        ensures units { IfOk result (λ s. map C.number s.units ≡ map to_ascii_uppercase (map C.number (text self))) }
+        ensures succeeds { text self ≡ [] → IsOk result };
 }
 
 impl<C: FaultUnit> UStrInUstring<C> for UStr<'_, C> {
@@ -77,5 +118,17 @@ impl<C: FaultUnit> UStrInUstring<C> for UStr<'_, C> {
             }
         }
         Ok(UString { units })
+    }
+
+    fn to_ascii_lowercase<A: Allocator>(self, alloc: A) -> Result<UString<C, A>, OutOfMemory> {
+        let mut string = self.to_ustring(alloc)?;
+        string.make_ascii_lowercase();
+        Ok(string)
+    }
+
+    fn to_ascii_uppercase<A: Allocator>(self, alloc: A) -> Result<UString<C, A>, OutOfMemory> {
+        let mut string = self.to_ustring(alloc)?;
+        string.make_ascii_uppercase();
+        Ok(string)
     }
 }

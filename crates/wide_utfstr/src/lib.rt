@@ -1,6 +1,7 @@
 //! Views of well-formed text, UTF-16 or UTF-32, in units of 16 or 32 bits.
 #![tactic(auto)]
 
+mod ascii;
 mod boundaries;
 mod compared;
 mod compared_units;

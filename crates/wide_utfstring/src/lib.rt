@@ -2,6 +2,7 @@
 //! and text in an allocation of exactly its length.
 #![tactic(auto)]
 
+mod ascii;
 mod boxed;
 mod case;
 mod compare;

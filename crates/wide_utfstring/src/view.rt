@@ -1,5 +1,6 @@
 //! Calls of a view of well-formed text that make an owned string.
-ghost use Rattle.std.specs.Prelude.{◌≡◌, [], List, IsOk, IfOk};
+ghost use Rattle.std.specs.Prelude.{◌≡◌, [], List, map, IsOk, IfOk};
+ghost use Rattle.std.specs.Char.{to_ascii_lowercase, to_ascii_uppercase};
 ghost use Rattle.std.specs.List.{repeat, flat_map};
 ghost use Rattle.std.specs.Char.Unicode.ToLowercase.{to_lowercase};
 ghost use Rattle.std.specs.Char.Unicode.ToUppercase.{to_uppercase};
@@ -101,6 +102,48 @@ pub trait UtfStrInUtfstring<C: FaultUnit> {
     fn to_uppercase<A: Allocator>(self, alloc: A) -> Result<UtfString<C, A>, OutOfMemory>
         ensures text { IfOk result (λ s. text_of C.form C.number s.units ≡ flat_map to_uppercase (text_of C.form C.number (text self))) }
         ensures empty { text self ≡ [] → IsOk result };
+
+    /// Copies the view's text into a new string, and writes each upper-case ASCII letter in lower case. Allocates once,
+    /// or not at all if the text is empty.
+    ///
+    /// # Errors
+    ///
+    /// [`OutOfMemory`] if the allocation fails. It never fails if the text is empty.
+    ///
+    /// # Example
+    ///
+    /// ```
+    /// use widestring::utfstring::UtfStrInUtfstring;
+    ///
+    /// let text = Utf16String::from_str(rt.alloc(), "C:\\Temp")?;
+    /// let text = text.as_utfstr().to_ascii_lowercase(rt.alloc())?;
+    /// assert!(rt; text.as_utfstr().eq_str("c:\\temp"));
+    /// ```
+    fn to_ascii_lowercase<A: Allocator>(self, alloc: A) -> Result<UtfString<C, A>, OutOfMemory>
+        ensures text { IfOk result (λ s. text_of C.form C.number s.units ≡ map to_ascii_lowercase (text_of C.form C.number (text self))) }
+        ensures units { IfOk result (λ s. map C.number s.units ≡ map to_ascii_lowercase (map C.number (text self))) }
+        ensures succeeds { text self ≡ [] → IsOk result };
+
+    /// Copies the view's text into a new string, and writes each lower-case ASCII letter in upper case. Allocates once,
+    /// or not at all if the text is empty.
+    ///
+    /// # Errors
+    ///
+    /// [`OutOfMemory`] if the allocation fails. It never fails if the text is empty.
+    ///
+    /// # Example
+    ///
+    /// ```
+    /// use widestring::utfstring::UtfStrInUtfstring;
+    ///
+    /// let text = Utf16String::from_str(rt.alloc(), "Größe")?;
+    /// let text = text.as_utfstr().to_ascii_uppercase(rt.alloc())?;
+    /// assert!(rt; text.as_utfstr().eq_str("GRößE"));
+    /// ```
+    fn to_ascii_uppercase<A: Allocator>(self, alloc: A) -> Result<UtfString<C, A>, OutOfMemory>
+        ensures text { IfOk result (λ s. text_of C.form C.number s.units ≡ map to_ascii_uppercase (text_of C.form C.number (text self))) }
+        ensures units { IfOk result (λ s. map C.number s.units ≡ map to_ascii_uppercase (map C.number (text self))) }
+        ensures succeeds { text self ≡ [] → IsOk result };
 }
 
 impl<C: FaultUnit> UtfStrInUtfstring<C> for UtfStr<'_, C> {
@@ -124,5 +167,17 @@ impl<C: FaultUnit> UtfStrInUtfstring<C> for UtfStr<'_, C> {
 
     fn to_uppercase<A: Allocator>(self, alloc: A) -> Result<UtfString<C, A>, OutOfMemory> {
         in_case(self, Case::Upper, alloc)
+    }
+
+    fn to_ascii_lowercase<A: Allocator>(self, alloc: A) -> Result<UtfString<C, A>, OutOfMemory> {
+        let mut string = self.to_utfstring(alloc)?;
+        string.make_ascii_lowercase();
+        Ok(string)
+    }
+
+    fn to_ascii_uppercase<A: Allocator>(self, alloc: A) -> Result<UtfString<C, A>, OutOfMemory> {
+        let mut string = self.to_utfstring(alloc)?;
+        string.make_ascii_uppercase();
+        Ok(string)
     }
 }
