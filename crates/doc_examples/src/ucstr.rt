@@ -28,6 +28,21 @@ fn example_of_ucstr_from_slice_truncate(rt: HostRuntime) -> Result<(), Fail> {
 }
 
 #[test]
+fn example_of_ucstr_is_ascii(rt: HostRuntime) -> Result<(), Fail> {
+    let name = U16CStr::from_slice_truncate(&[0x52, 0x75, 0x6e, 0])?;
+    assert!(rt; name.is_ascii());
+    Ok(())
+}
+
+#[test]
+fn example_of_ucstr_eq_ignore_ascii_case(rt: HostRuntime) -> Result<(), Fail> {
+    let name = U16CStr::from_slice_truncate(&[0x52, 0x75, 0x6e, 0])?;
+    let other = U16CStr::from_slice_truncate(&[0x72, 0x55, 0x4e, 0])?;
+    assert!(rt; name.eq_ignore_ascii_case(other));
+    Ok(())
+}
+
+#[test]
 fn example_of_ustrinucstr(rt: HostRuntime) -> Result<(), Fail> {
     let name = U16CStr::from_slice(&[0x48, 0x69, 0])?;
     assert!(rt; U16Str::from_slice(&[0x48, 0x69]).eq_ucstr(name));

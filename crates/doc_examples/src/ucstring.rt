@@ -57,6 +57,22 @@ fn example_of_ucstring_as_ucstr(rt: HostRuntime) -> Result<(), Fail> {
 }
 
 #[test]
+fn example_of_ucstring_make_ascii_lowercase(rt: HostRuntime) -> Result<(), Fail> {
+    let mut text = U16CString::from_str(rt.alloc(), "C:\\Temp")?;
+    text.make_ascii_lowercase();
+    assert!(rt; text.as_ucstr().chars_lossy().eq("c:\\temp".chars()));
+    Ok(())
+}
+
+#[test]
+fn example_of_ucstring_make_ascii_uppercase(rt: HostRuntime) -> Result<(), Fail> {
+    let mut text = U16CString::from_str(rt.alloc(), "Größe")?;
+    text.make_ascii_uppercase();
+    assert!(rt; text.as_ucstr().chars_lossy().eq("GRößE".chars()));
+    Ok(())
+}
+
+#[test]
 fn example_of_cowucstr(rt: HostRuntime) -> Result<(), Fail> {
     let view = U16CStr::from_slice(&[0x48, 0x69, 0])?;
     let name: CowU16CStr<'_> = CowU16CStr::Borrowed(view);
@@ -80,6 +96,22 @@ fn example_of_ucstrinucstring(rt: HostRuntime) -> Result<(), Fail> {
     let word = U16CStr::from_slice(&[0x48, 0x69, 0])?;
     let twice = word.repeat(rt.alloc(), 2)?;
     assert!(rt; twice.as_ucstr().chars_lossy().eq("HiHi".chars()));
+    Ok(())
+}
+
+#[test]
+fn example_of_ucstrinucstring_to_ascii_lowercase(rt: HostRuntime) -> Result<(), Fail> {
+    let text = U16CString::from_str(rt.alloc(), "C:\\Temp")?;
+    let text = text.as_ucstr().to_ascii_lowercase(rt.alloc())?;
+    assert!(rt; text.as_ucstr().chars_lossy().eq("c:\\temp".chars()));
+    Ok(())
+}
+
+#[test]
+fn example_of_ucstrinucstring_to_ascii_uppercase(rt: HostRuntime) -> Result<(), Fail> {
+    let text = U16CString::from_str(rt.alloc(), "Größe")?;
+    let text = text.as_ucstr().to_ascii_uppercase(rt.alloc())?;
+    assert!(rt; text.as_ucstr().chars_lossy().eq("GRößE".chars()));
     Ok(())
 }
 

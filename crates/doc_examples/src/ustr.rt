@@ -133,6 +133,21 @@ fn example_of_ustr_split(rt: HostRuntime) -> Result<(), Fail> {
 }
 
 #[test]
+fn example_of_ustr_is_ascii(rt: HostRuntime) -> Result<(), Fail> {
+    let name = U16Str::from_slice(&[0x4e, 0x61, 0x6d, 0x65]);
+    assert!(rt; name.is_ascii());
+    assert!(rt; !U16Str::from_slice(&[0x4e, 0xe4]).is_ascii());
+    Ok(())
+}
+
+#[test]
+fn example_of_ustr_eq_ignore_ascii_case(rt: HostRuntime) -> Result<(), Fail> {
+    let key = U16Str::from_slice(&[0x52, 0x75, 0x6e]);
+    assert!(rt; key.eq_ignore_ascii_case(U16Str::from_slice(&[0x72, 0x55, 0x4e])));
+    Ok(())
+}
+
+#[test]
 fn example_of_ustr_to_le_bytes(rt: HostRuntime) -> Result<(), Fail> {
     let bytes = U16Str::from_slice(&[0x48, 0x20ac]).to_le_bytes(rt.alloc())?;
     assert!(rt; bytes.as_slice() == [0x48, 0, 0xac, 0x20].as_slice());

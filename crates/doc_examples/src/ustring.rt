@@ -55,6 +55,22 @@ fn example_of_ustring_push_str(rt: HostRuntime) -> Result<(), Fail> {
 }
 
 #[test]
+fn example_of_ustring_make_ascii_lowercase(rt: HostRuntime) -> Result<(), Fail> {
+    let mut text = U16String::from_str(rt.alloc(), "C:\\Temp")?;
+    text.make_ascii_lowercase();
+    assert!(rt; text.as_ustr().chars_lossy().eq("c:\\temp".chars()));
+    Ok(())
+}
+
+#[test]
+fn example_of_ustring_make_ascii_uppercase(rt: HostRuntime) -> Result<(), Fail> {
+    let mut text = U16String::from_str(rt.alloc(), "Größe")?;
+    text.make_ascii_uppercase();
+    assert!(rt; text.as_ustr().chars_lossy().eq("GRößE".chars()));
+    Ok(())
+}
+
+#[test]
 fn example_of_cowustr(rt: HostRuntime) -> Result<(), Fail> {
     let cow = CowU16Str::Borrowed(U16Str::from_slice(&[0x48, 0xd83d]));
     let mut string = cow.into_owned(rt.alloc())?;
@@ -118,5 +134,21 @@ fn example_of_ustrinustring_to_ustring(rt: HostRuntime) -> Result<(), Fail> {
     let mut copy = U16Str::from_slice(&[0x48, 0x69, 0xd83d]).to_ustring(rt.alloc())?;
     copy.push_str("!")?;
     assert!(rt; copy.as_slice() == [0x48, 0x69, 0xd83d, 0x21].as_slice());
+    Ok(())
+}
+
+#[test]
+fn example_of_ustrinustring_to_ascii_lowercase(rt: HostRuntime) -> Result<(), Fail> {
+    let text = U16String::from_str(rt.alloc(), "C:\\Temp")?;
+    let text = text.as_ustr().to_ascii_lowercase(rt.alloc())?;
+    assert!(rt; text.as_ustr().chars_lossy().eq("c:\\temp".chars()));
+    Ok(())
+}
+
+#[test]
+fn example_of_ustrinustring_to_ascii_uppercase(rt: HostRuntime) -> Result<(), Fail> {
+    let text = U16String::from_str(rt.alloc(), "Größe")?;
+    let text = text.as_ustr().to_ascii_uppercase(rt.alloc())?;
+    assert!(rt; text.as_ustr().chars_lossy().eq("GRößE".chars()));
     Ok(())
 }

@@ -1,7 +1,7 @@
 //! The examples of `widestring::utfstr`.
 use std::test::Fail;
 use widestring::utfstr::{UCStrInUtfstr, UStrInUtfstr, Utf16Str, Utf32Str};
-use widestring::{U16CStr, U16Str};
+use widestring::{U16CStr, U16Str, Utf16String};
 
 #[test]
 fn example_of_utfstr(rt: HostRuntime) -> Result<(), Fail> {
@@ -153,6 +153,21 @@ fn example_of_utfstr_split_char(rt: HostRuntime) -> Result<(), Fail> {
     assert!(rt; fields.next().is_some_and(|field| field.eq_str("é")));
     assert!(rt; fields.next().is_some_and(|field| field.eq_str("😀")));
     assert!(rt; fields.next().is_some_and(|field| field.is_empty()));
+    Ok(())
+}
+
+#[test]
+fn example_of_utfstr_is_ascii(rt: HostRuntime) -> Result<(), Fail> {
+    let name = Utf16String::from_str(rt.alloc(), "Name")?;
+    assert!(rt; name.as_utfstr().is_ascii());
+    Ok(())
+}
+
+#[test]
+fn example_of_utfstr_eq_ignore_ascii_case(rt: HostRuntime) -> Result<(), Fail> {
+    let first = Utf16String::from_str(rt.alloc(), "Größe")?;
+    let second = Utf16String::from_str(rt.alloc(), "GRößE")?;
+    assert!(rt; first.as_utfstr().eq_ignore_ascii_case(second.as_utfstr()));
     Ok(())
 }
 

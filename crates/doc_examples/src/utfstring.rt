@@ -137,6 +137,22 @@ fn example_of_utfstring_from_ustr_lossy(rt: HostRuntime) -> Result<(), Fail> {
 }
 
 #[test]
+fn example_of_utfstring_make_ascii_lowercase(rt: HostRuntime) -> Result<(), Fail> {
+    let mut text = Utf16String::from_str(rt.alloc(), "C:\\Temp")?;
+    text.make_ascii_lowercase();
+    assert!(rt; text.as_utfstr().eq_str("c:\\temp"));
+    Ok(())
+}
+
+#[test]
+fn example_of_utfstring_make_ascii_uppercase(rt: HostRuntime) -> Result<(), Fail> {
+    let mut text = Utf16String::from_str(rt.alloc(), "Größe")?;
+    text.make_ascii_uppercase();
+    assert!(rt; text.as_utfstr().eq_str("GRößE"));
+    Ok(())
+}
+
+#[test]
 fn example_of_utfstring_from_iter_chars(rt: HostRuntime) -> Result<(), Fail> {
     let text = Utf16Str::from_slice(&[0x48, 0xd83d, 0xde00])?;
     let wide = Utf32String::from_iter_chars(rt.alloc(), text.chars())?;
@@ -199,6 +215,22 @@ fn example_of_utfstrinutfstring_to_uppercase(rt: HostRuntime) -> Result<(), Fail
     let street = Utf16String::from_str(rt.alloc(), "Straße")?;
     let text = street.as_utfstr().to_uppercase(rt.alloc())?;
     assert!(rt; text.as_utfstr().eq_str("STRASSE"));
+    Ok(())
+}
+
+#[test]
+fn example_of_utfstrinutfstring_to_ascii_lowercase(rt: HostRuntime) -> Result<(), Fail> {
+    let text = Utf16String::from_str(rt.alloc(), "C:\\Temp")?;
+    let text = text.as_utfstr().to_ascii_lowercase(rt.alloc())?;
+    assert!(rt; text.as_utfstr().eq_str("c:\\temp"));
+    Ok(())
+}
+
+#[test]
+fn example_of_utfstrinutfstring_to_ascii_uppercase(rt: HostRuntime) -> Result<(), Fail> {
+    let text = Utf16String::from_str(rt.alloc(), "Größe")?;
+    let text = text.as_utfstr().to_ascii_uppercase(rt.alloc())?;
+    assert!(rt; text.as_utfstr().eq_str("GRößE"));
     Ok(())
 }
 
