@@ -4,7 +4,7 @@ use widestring::error::OutOfMemory;
 use widestring::ucstring::{
     CowU16CStr, U16CString, UCStrInUcstring, UStringInUcstring, UStringOverUcstrs,
 };
-use widestring::ustring::extend::Piece;
+use widestring::ustring::extend::Appendable;
 use widestring::{U16CStr, U16Str, U16String};
 
 #[test]

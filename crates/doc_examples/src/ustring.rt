@@ -1,6 +1,6 @@
 //! The examples of `widestring::ustring`.
 use std::test::Fail;
-use widestring::ustring::extend::{Piece, Whole, extend};
+use widestring::ustring::extend::{Appendable, Whole, extend};
 use widestring::ustring::{CowU16Str, U16String, U32String, UStrInUstring};
 use widestring::{U16Str, Utf16String};
 
@@ -117,7 +117,7 @@ fn example_of_piece(rt: HostRuntime) -> Result<(), Fail> {
 #[test]
 fn example_of_whole(rt: HostRuntime) -> Result<(), Fail> {
     let mut string = U16String::new(rt.alloc());
-    <char as Piece<U16String, Whole>>::push_to('é', &mut string)?;
+    <char as Appendable<U16String, Whole>>::push_to('é', &mut string)?;
     assert!(rt; string.as_slice() == [0xe9].as_slice());
     Ok(())
 }

@@ -1,6 +1,6 @@
 //! The examples of `widestring::utfstring`.
 use std::test::Fail;
-use widestring::ustring::extend::Piece;
+use widestring::ustring::extend::Appendable;
 use widestring::utfstring::{
     CowUtf16Str, OfText, UStringInUtfstring, UStringOverUtfstrs, Utf16String, Utf32String,
     UtfStrInUtfstring,
@@ -238,7 +238,7 @@ fn example_of_utfstrinutfstring_to_ascii_uppercase(rt: HostRuntime) -> Result<()
 fn example_of_oftext(rt: HostRuntime) -> Result<(), Fail> {
     let mut string = U16String::new(rt.alloc());
     let text = Utf16Str::from_slice(&[0x48, 0x69])?;
-    <Utf16Str as Piece<U16String, OfText>>::push_to(text, &mut string)?;
+    <Utf16Str as Appendable<U16String, OfText>>::push_to(text, &mut string)?;
     assert!(rt; string.as_slice() == [0x48, 0x69].as_slice());
     Ok(())
 }

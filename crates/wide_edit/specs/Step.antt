@@ -8,25 +8,25 @@ use Rattle.wide_edit.specs.declared.edits.Reply.{Reply}
 use Rattle.wide_edit.specs.declared.edits.Reply.TheVariants as reply
 
 -- A reply as data: the characters that it holds, without their memory.
-pub data Answer : Type 0 where
-  Done : Answer
-  Char : (c : ℕ) → Answer
-  NoChar : Answer
-  Chars : (cs : List ℕ) → Answer
-  BadPlace : Answer
-  BadRange : Answer
+pub data ReplyData : Type 0 where
+  Done : ReplyData
+  Char : (c : ℕ) → ReplyData
+  NoChar : ReplyData
+  Chars : (cs : List ℕ) → ReplyData
+  BadPlace : ReplyData
+  BadRange : ReplyData
 
 -- The data of a reply.
-abbrev pub answer_of : Reply → Answer
-answer_of reply.Done = Done
-answer_of (reply.Char c) = Char c
-answer_of reply.NoChar = NoChar
-answer_of (reply.Chars cs) = Chars cs.items
-answer_of reply.BadPlace = BadPlace
-answer_of reply.BadRange = BadRange
+abbrev pub reply_data : Reply → ReplyData
+reply_data reply.Done = Done
+reply_data (reply.Char c) = Char c
+reply_data reply.NoChar = NoChar
+reply_data (reply.Chars cs) = Chars cs.items
+reply_data reply.BadPlace = BadPlace
+reply_data reply.BadRange = BadRange
 
 -- The first of these characters, if there is one.
-abbrev pub first_char : List ℕ → Answer
+abbrev pub first_char : List ℕ → ReplyData
 first_char [] = NoChar
 first_char (c ∷ cs) = Char c
 
@@ -54,31 +54,31 @@ changed l (SplitOff i) = if nat_le i (length l) then take i l else l
 changed l Clear = []
 
 -- The reply to an edit of the list `l`.
-abbrev pub answer : List ℕ → Edit → Answer
-answer l (Push c) = Done
-answer l (PushStr t) = Done
-answer l Pop = first_char (drop (length l - 1) l)
-answer l (Truncate m) = Done
-answer l (Insert i c) = if nat_le i (length l) then Done else BadPlace
-answer l (InsertStr i t) = if nat_le i (length l) then Done else BadPlace
-answer l (Remove i) = if nat_lt i (length l) then first_char (drop i l) else BadPlace
-answer l (Retain keep) = Done
-answer l (Drain a b) = if is_range a b (length l) then Chars (slice_range l a b) else BadRange
-answer l (Replace a b t) = if is_range a b (length l) then Done else BadRange
-answer l (SplitOff i) = if nat_le i (length l) then Chars (drop i l) else BadPlace
-answer l Clear = Done
+abbrev pub reply_to : List ℕ → Edit → ReplyData
+reply_to l (Push c) = Done
+reply_to l (PushStr t) = Done
+reply_to l Pop = first_char (drop (length l - 1) l)
+reply_to l (Truncate m) = Done
+reply_to l (Insert i c) = if nat_le i (length l) then Done else BadPlace
+reply_to l (InsertStr i t) = if nat_le i (length l) then Done else BadPlace
+reply_to l (Remove i) = if nat_lt i (length l) then first_char (drop i l) else BadPlace
+reply_to l (Retain keep) = Done
+reply_to l (Drain a b) = if is_range a b (length l) then Chars (slice_range l a b) else BadRange
+reply_to l (Replace a b t) = if is_range a b (length l) then Done else BadRange
+reply_to l (SplitOff i) = if nat_le i (length l) then Chars (drop i l) else BadPlace
+reply_to l Clear = Done
 
 -- One edit: the new list, and the reply.
-abbrev pub step : List ℕ → Edit → List ℕ × Answer
-step l edit = (changed l edit, answer l edit)
+abbrev pub step : List ℕ → Edit → List ℕ × ReplyData
+step l edit = (changed l edit, reply_to l edit)
 
 -- Edits one after another, each of the list that the edits before it made: the last list, and the list of replies.
-abbrev pub meaning : List ℕ → List Edit → List ℕ × List Answer
+abbrev pub meaning : List ℕ → List Edit → List ℕ × List ReplyData
 meaning l [] = (l, [])
 meaning l (edit ∷ edits) = ((meaning (step l edit).0 edits).0, (step l edit).1 ∷ (meaning (step l edit).0 edits).1)
 
 -- How many characters a reply holds in a list.
-abbrev pub chars_in : Answer → ℕ
+abbrev pub chars_in : ReplyData → ℕ
 chars_in Done = 0
 chars_in (Char c) = 0
 chars_in NoChar = 0

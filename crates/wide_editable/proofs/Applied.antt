@@ -5,7 +5,7 @@ use Rattle.wide_forms.specs.EncodingForm.{Utf16}
 use Rattle.wide_forms.specs.Items.{chars, IsWellFormed}
 use Rattle.wide_offset_index.specs.Found.{IsFoundRange}
 use Rattle.wide_edit.specs.Step.{step}
-use Rattle.wide_offset_index.specs.Marks.{mark, marks_of, IsEdited, AreMoved}
+use Rattle.wide_offset_index.specs.Marks.{index_entry, index_entries, IsEdited, AreMoved}
 use Rattle.wide_editable.specs.Marked.{first_changed}
 use Rattle.wide_editable.specs.Replaced.{Replaces}
 use Rattle.wide_edit.specs.declared.edits.Edit.{Edit}
@@ -15,7 +15,7 @@ use Rattle.wide_editable.proofs.Kept.{offset-within, step-keeps}
 use Rattle.wide_editable.proofs.Replaced.{edited, edited-marks}
 
 -- A text of the units `us` with the entries `ms`. A view of it has the units `seen`.
-module _ (us seen ms : List ℕ) (same : seen ≡ us) (marks : ms ≡ marks_of (chars Utf16 us)) (count : ℕ) (counts : count ≡ length (chars Utf16 seen)) where
+module _ (us seen ms : List ℕ) (same : seen ≡ us) (marks : ms ≡ index_entries (chars Utf16 us)) (count : ℕ) (counts : count ≡ length (chars Utf16 seen)) where
   abbrev cs : List ℕ
   cs = chars Utf16 us
 
@@ -23,7 +23,7 @@ module _ (us seen ms : List ℕ) (same : seen ≡ us) (marks : ms ≡ marks_of (
   here = counts ∙ ap (λ vs. length (chars Utf16 vs)) same
 
   pub marks-long : length ms ≡ count / 64
-  marks-long = ap length marks ∙ length-map-range_with_len (mark cs) 1 (length cs / 64) ∙ ap (λ n. n / 64) (sym here)
+  marks-long = ap length marks ∙ length-map-range_with_len (index_entry cs) 1 (length cs / 64) ∙ ap (λ n. n / 64) (sym here)
 
   module _ (edit : Edit) (first : ℕ) (begins : first ≡ first_changed count edit) where
     pub unchanged-within : first / 64 ≤ length ms
@@ -33,32 +33,32 @@ module _ (us seen ms : List ℕ) (same : seen ≡ us) (marks : ms ≡ marks_of (
     begins-here = begins ∙ ap (λ n. first_changed n edit) here
 
     -- The units after the last entry that is retained, before the edit.
-    pub read-before : (view : List ℕ) → view ≡ us → (more : ℕ) → more ≡ size Utf16 (chars Utf16 view) - mark (chars Utf16 view) (first / 64) → more ≡ size Utf16 cs - mark cs (first_changed (length cs) edit / 64)
-    read-before view e more reads = reads ∙ ap (λ vs. size Utf16 (chars Utf16 vs) - mark (chars Utf16 vs) (first / 64)) e ∙ ap (λ k. size Utf16 cs - mark cs (k / 64)) begins-here
+    pub read-before : (view : List ℕ) → view ≡ us → (more : ℕ) → more ≡ size Utf16 (chars Utf16 view) - index_entry (chars Utf16 view) (first / 64) → more ≡ size Utf16 cs - index_entry cs (first_changed (length cs) edit / 64)
+    read-before view e more reads = reads ∙ ap (λ vs. size Utf16 (chars Utf16 vs) - index_entry (chars Utf16 vs) (first / 64)) e ∙ ap (λ k. size Utf16 cs - index_entry cs (k / 64)) begins-here
 
     -- The edit was made, and a view of the new text has the units `last`.
     module _ (new last : List ℕ) (same-new : last ≡ new) where
       pub read-after : IsWellFormed Utf16 (map (λ u. u) last) → size Utf16 (chars Utf16 new) ≡ length last
       read-after well = ap (λ vs. size Utf16 (chars Utf16 vs)) (sym same-new) ∙ whole-size last (well-formed last well)
 
-      pub marked-after : mark (chars Utf16 last) (first / 64) ≡ mark (chars Utf16 new) (first_changed (length cs) edit / 64)
-      marked-after = ap (λ vs. mark (chars Utf16 vs) (first / 64)) same-new ∙ ap (λ k. mark (chars Utf16 new) (k / 64)) begins-here
+      pub marked-after : index_entry (chars Utf16 last) (first / 64) ≡ index_entry (chars Utf16 new) (first_changed (length cs) edit / 64)
+      marked-after = ap (λ vs. index_entry (chars Utf16 vs) (first / 64)) same-new ∙ ap (λ k. index_entry (chars Utf16 new) (k / 64)) begins-here
 
       module _ (made : chars Utf16 new ≡ (step cs edit).0) where
         -- The entries that are retained are those of the new text.
-        pub unchanged-same : take (first / 64) ms ≡ take (first / 64) (marks_of (chars Utf16 last))
+        pub unchanged-same : take (first / 64) ms ≡ take (first / 64) (index_entries (chars Utf16 last))
         unchanged-same =
             let p = first_changed (length cs) edit in
             let unchanged : take p (chars Utf16 new) ≡ take p cs = ap (take p) made ∙ step-keeps cs edit in
             ap (take (first / 64)) marks ∙ same-marks cs (chars Utf16 new) p (offset-within (length cs) edit) unchanged (first / 64) (omega (arith, begins-here))
-            ∙ ap (λ vs. take (first / 64) (marks_of (chars Utf16 vs))) (sym same-new)
+            ∙ ap (λ vs. take (first / 64) (index_entries (chars Utf16 vs))) (sym same-new)
 
         -- The edit replaced a range that was found.
         module _ (from to start stop units : ℕ) (long : units ≡ length us) (found : IsFoundRange Utf16 us from to start stop) (replaces : Replaces cs (step cs edit).0 from to) where
           replaced : Replaces cs (chars Utf16 last) from to
           replaced = subst (λ l. Replaces cs l from to) (sym (ap (chars Utf16) same-new ∙ made)) replaces
 
-          pub range-same : take (from / 64) ms ≡ take (from / 64) (marks_of (chars Utf16 last))
+          pub range-same : take (from / 64) ms ≡ take (from / 64) (index_entries (chars Utf16 last))
           range-same =
               ap (take (from / 64)) marks ∙ same-marks cs (chars Utf16 last) from (omega (arith, found.forward, found.within)) replaced.prefix (from / 64) (omega arith)
 

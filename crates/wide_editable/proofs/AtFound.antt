@@ -12,7 +12,7 @@ use Rattle.wide_forms.specs.Laws.Offsets.{offset-IsOffsetOf}
 use Rattle.wide_forms.specs.Laws.Splices.{chars-nil}
 use Rattle.std.specs.Prelude.{map}
 use Rattle.wide_offset_index.specs.Found.{IsFoundAt, IsFoundRange}
-use Rattle.wide_edit.specs.Step.{changed, answer, chars_in, step, Chars}
+use Rattle.wide_edit.specs.Step.{changed, reply_to, chars_in, step, Chars}
 use Rattle.wide_editable.specs.Edited.{IsMade}
 use Rattle.wide_edit.specs.declared.edits.Edit.TheVariants.{Push, PushStr, Truncate, Insert, InsertStr, Remove, Drain, Replace, SplitOff}
 use Rattle.wide_edit.specs.declared.edits.Reply.TheVariants as reply
@@ -105,7 +105,7 @@ module _ {X : Type 0} (form : EncodingForm) (number : X → ℕ) (xs : List X) (
     part-of : chars form (map number part) ≡ slice_range text i j
     part-of = ap (λ ys. chars form (map number ys)) cut ∙ ap (λ ys. chars form (map number (slice_range ys a b))) same ∙ part-text form number xs well i j a b found
 
-    pub drained-fits : (space : ℕ) → chars_in (answer text (Drain i j)) ≤ space → length (chars form (map number part)) ≤ space
+    pub drained-fits : (space : ℕ) → chars_in (reply_to text (Drain i j)) ≤ space → length (chars form (map number part)) ≤ space
     drained-fits space fits =
         let enough : length (slice_range text i j) ≤ space = rw (in_range i j (length text) found.forward found.within) at fits in
         omega (arith, ap length part-of, enough)
@@ -130,7 +130,7 @@ module _ {X : Type 0} (form : EncodingForm) (number : X → ℕ) (xs : List X) (
   rest-of : chars form (map number back) ≡ drop i whole
   rest-of = ap (λ ys. chars form (map number ys)) cut ∙ ap (chars form) (sym (drop-map number at xs)) ∙ here.offset.rest
 
-  pub split-fits : (space : ℕ) → chars_in (answer whole (SplitOff i)) ≤ space → length (chars form (map number back)) ≤ space
+  pub split-fits : (space : ℕ) → chars_in (reply_to whole (SplitOff i)) ≤ space → length (chars form (map number back)) ≤ space
   split-fits space fits =
       let enough : length (drop i whole) ≤ space = rw (in_place i (length whole) here.within) at fits in
       omega (arith, ap length rest-of, enough)

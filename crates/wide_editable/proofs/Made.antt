@@ -45,24 +45,24 @@ in_range a b n first second = rw (le-leb a b first, le-leb b n second) refl
 
 module _ (l new : List ℕ) where
   pub made-push : (c : ℕ) → new ≡ l ++ c ∷ [] → IsMade l (Push c) new reply.Done
-  made-push c e = record { text = e ∙ sym (splice-end l (c ∷ [])); answer = refl }
+  made-push c e = record { text = e ∙ sym (splice-end l (c ∷ [])); replied = refl }
 
   pub made-pop : (c : ℕ) → l ≡ new ++ c ∷ [] → IsMade l Pop new (reply.Char c)
-  made-pop c e = record { text = sym (splice-last l new c e); answer = sym (ap first_char (drop-last l new c e)) }
+  made-pop c e = record { text = sym (splice-last l new c e); replied = sym (ap first_char (drop-last l new c e)) }
 
   pub made-pop_none : l ≡ [] → new ≡ [] → IsMade l Pop new reply.NoChar
-  made-pop_none e f = record { text = rw (e, f) refl; answer = rw e refl }
+  made-pop_none e f = record { text = rw (e, f) refl; replied = rw e refl }
 
   pub made-truncate : (m : ℕ) → new ≡ take m l → IsMade l (Truncate m) new reply.Done
-  made-truncate m e = record { text = e; answer = refl }
+  made-truncate m e = record { text = e; replied = refl }
 
   pub made-insert : (i c : ℕ) → i ≤ length l → new ≡ splice l i i (c ∷ []) → IsMade l (Insert i c) new reply.Done
-  made-insert i c le e = record { text = rw (in_place i (length l) le) e; answer = rw (in_place i (length l) le) refl }
+  made-insert i c le e = record { text = rw (in_place i (length l) le) e; replied = rw (in_place i (length l) le) refl }
 
   pub made-remove : (i c : ℕ) → i ≤ length l → drop i l ≡ c ∷ drop (i + 1) l → new ≡ splice l i (i + 1) [] → IsMade l (Remove i) new (reply.Char c)
   made-remove i c le first e =
       let lt : i < length l = omega (arith, le, ap length first, length-drop i l, length-drop (i + 1) l) in
-      record { text = rw (below i (length l) lt) e; answer = rw (below i (length l) lt) (sym (ap first_char first)) }
+      record { text = rw (below i (length l) lt) e; replied = rw (below i (length l) lt) (sym (ap first_char first)) }
 
   pub made-split : (i : ℕ) (taken : List ℕ) → i ≤ length l → new ≡ take i l → taken ≡ drop i l → (new ≡ (step l (SplitOff i)).0) × (Chars taken ≡ (step l (SplitOff i)).1)
   made-split i taken le e f = (rw (in_place i (length l) le) e, rw (in_place i (length l) le) (ap Chars f))
@@ -73,29 +73,29 @@ module _ (l new : List ℕ) where
 -- An edit that is rejected.
 module _ (l : List ℕ) where
   pub rejected-insert : (i c : ℕ) → (i ≤ length l → ⊥) → IsMade l (Insert i c) l reply.BadPlace
-  rejected-insert i c never = record { text = rw (past i (length l) never) refl; answer = rw (past i (length l) never) refl }
+  rejected-insert i c never = record { text = rw (past i (length l) never) refl; replied = rw (past i (length l) never) refl }
 
   pub rejected-remove : (i : ℕ) → length l ≤ i → IsMade l (Remove i) l reply.BadPlace
-  rejected-remove i le = record { text = rw (not_below i (length l) le) refl; answer = rw (not_below i (length l) le) refl }
+  rejected-remove i le = record { text = rw (not_below i (length l) le) refl; replied = rw (not_below i (length l) le) refl }
 
   pub rejected-split : (i : ℕ) → (i ≤ length l → ⊥) → IsMade l (SplitOff i) l reply.BadPlace
-  rejected-split i never = record { text = rw (past i (length l) never) refl; answer = rw (past i (length l) never) refl }
+  rejected-split i never = record { text = rw (past i (length l) never) refl; replied = rw (past i (length l) never) refl }
 
   pub rejected-drain : (a b : ℕ) → is_range a b (length l) ≡ false → IsMade l (Drain a b) l reply.BadRange
-  rejected-drain a b e = record { text = rw e refl; answer = rw e refl }
+  rejected-drain a b e = record { text = rw e refl; replied = rw e refl }
 
 module _ (l new : List ℕ) (t : Bor (List ℕ)) where
   pub made-push_str : new ≡ l ++ chars t.now → IsMade l (PushStr t) new reply.Done
-  made-push_str e = record { text = e ∙ sym (splice-end l (chars t.now)); answer = refl }
+  made-push_str e = record { text = e ∙ sym (splice-end l (chars t.now)); replied = refl }
 
   pub made-insert_str : (i : ℕ) → i ≤ length l → new ≡ splice l i i (chars t.now) → IsMade l (InsertStr i t) new reply.Done
-  made-insert_str i le e = record { text = rw (in_place i (length l) le) e; answer = rw (in_place i (length l) le) refl }
+  made-insert_str i le e = record { text = rw (in_place i (length l) le) e; replied = rw (in_place i (length l) le) refl }
 
   pub made-replace : (a b : ℕ) → a ≤ b → b ≤ length l → new ≡ splice l a b (chars t.now) → IsMade l (Replace a b t) new reply.Done
-  made-replace a b le within e = record { text = rw (in_range a b (length l) le within) e; answer = rw (in_range a b (length l) le within) refl }
+  made-replace a b le within e = record { text = rw (in_range a b (length l) le within) e; replied = rw (in_range a b (length l) le within) refl }
 
   pub rejected-insert_str : (i : ℕ) → (i ≤ length l → ⊥) → IsMade l (InsertStr i t) l reply.BadPlace
-  rejected-insert_str i never = record { text = rw (past i (length l) never) refl; answer = rw (past i (length l) never) refl }
+  rejected-insert_str i never = record { text = rw (past i (length l) never) refl; replied = rw (past i (length l) never) refl }
 
   pub rejected-replace : (a b : ℕ) → is_range a b (length l) ≡ false → IsMade l (Replace a b t) l reply.BadRange
-  rejected-replace a b e = record { text = rw e refl; answer = rw e refl }
+  rejected-replace a b e = record { text = rw e refl; replied = rw e refl }

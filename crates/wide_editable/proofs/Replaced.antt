@@ -16,13 +16,13 @@ use Rattle.wide_forms.specs.Laws.Offsets.{IsOffsetOf-prefix, offset-IsOffsetOf}
 use Rattle.wide_offset_index.specs.Found.{IsFoundRange}
 use Rattle.wide_offset_index.proofs.Offsets.{part-text}
 use Rattle.wide_edit.specs.Step.{changed, is_range}
-use Rattle.wide_offset_index.specs.Marks.{offset, mark, marks_of, IsMoved, IsEdited, AreMoved}
+use Rattle.wide_offset_index.specs.Marks.{offset, index_entry, index_entries, IsMoved, IsEdited, AreMoved}
 use Rattle.wide_editable.specs.Replaced.{Replaces}
 use Rattle.wide_edit.specs.declared.edits.Edit.TheVariants.{Insert, InsertStr, Remove, Drain, Replace}
 use Rattle.wide_offset_index.proofs.Lengths.{size, size-cut}
 use Rattle.wide_editable.proofs.Made.{in_place, in_range, below, not_below}
 use Rattle.wide_editable.proofs.Kept.{take-splice}
-use Rattle.wide_offset_index.proofs.Marking.{all-some, mark-at, char-boundary, well-formed, whole-size}
+use Rattle.wide_offset_index.proofs.Marking.{all-some, index_entry-at, char-boundary, well-formed, whole-size}
 
 module _ (l : List ℕ) where
   pub replaces-splice : (m : List ℕ) (i j : ℕ) → i ≤ j → j ≤ length l → Replaces l (splice l i j m) i j
@@ -108,10 +108,10 @@ module _ (old new : List ℕ) (from to : ℕ) (within : to ≤ length old) (edit
       let tails : drop m new ≡ drop n old = ap (λ i. drop i new) there ∙ sym (drop-drop k first new) ∙ ap (drop k) edit.rest ∙ drop-drop k to old ∙ ap (λ i. drop i old) back in
       omega (arith, size-cut Utf16 old n, size-cut Utf16 new m, ap (size Utf16) tails)
 
-  pub marks-moved : (ms : List ℕ) → ms ≡ marks_of old → AreMoved new (length old) (size Utf16 old) to ms
+  pub marks-moved : (ms : List ℕ) → ms ≡ index_entries old → AreMoved new (length old) (size Utf16 old) to ms
   marks-moved ms all k after below =
-      let long = length-map-range_with_len (mark old) 1 (length old / 64) in
-      let entry : get_or ms k 0 ≡ mark old (k + 1) = mark-at old ms k (k + 1) 0 (all-some old ms all) below (omega arith) in
+      let long = length-map-range_with_len (index_entry old) 1 (length old / 64) in
+      let entry : get_or ms k 0 ≡ index_entry old (k + 1) = index_entry-at old ms k (k + 1) 0 (all-some old ms all) below (omega arith) in
       omega (arith, entry, moved (64 * (k + 1)) after (omega (arith, below, ap length all, long)))
 
 pub well-at : (vs us : List ℕ) → vs ≡ us → IsWellFormed Utf16 (map (λ u. u) vs) → IsWellFormed Utf16 us
@@ -132,5 +132,5 @@ module _ (us new : List ℕ) (well : IsWellFormed Utf16 us) (from to start end c
         ends = omega (arith, last, place, ap (λ n. offset new (length new + to - n)) counts, long, whole-size us well);
       }
 
-  pub edited-marks : (ms : List ℕ) → ms ≡ marks_of (chars Utf16 us) → AreMoved new count units to ms
+  pub edited-marks : (ms : List ℕ) → ms ≡ index_entries (chars Utf16 us) → AreMoved new count units to ms
   edited-marks ms all = rw (counts, long, sym (whole-size us well)) (marks-moved (chars Utf16 us) new from to found.within edit ms all)

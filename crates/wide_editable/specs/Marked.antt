@@ -4,7 +4,7 @@ use Rattle.std.specs.Coded.{Coded, code_by, coded×, coded_ℕ}
 use Rattle.wide_forms.specs.EncodingForm.{Utf16, encode}
 use Rattle.wide_forms.specs.Items.{chars}
 use Rattle.wide_ustring.specs.Units.{Units, units_code}
-use Rattle.wide_offset_index.specs.Marks.{mark}
+use Rattle.wide_offset_index.specs.Marks.{index_entry}
 use Rattle.wide_edit.specs.Step.{step}
 use Rattle.wide_edit.specs.declared.edits.Edit.{Edit}
 use Rattle.wide_edit.specs.declared.edits.Edit.TheVariants.{Push, PushStr, Pop, Truncate, Insert, InsertStr, Remove, Retain, Drain, Replace, SplitOff, Clear}
@@ -27,13 +27,13 @@ first_changed count (SplitOff i) = min i count
 first_changed count Clear = 0
 
 -- How many index entries of the characters `cs` are not past the first character that the edit can change.
-abbrev pub marks_unchanged : List ℕ → Edit → ℕ
-marks_unchanged cs edit = first_changed (length cs) edit / 64
+abbrev pub entries_unchanged : List ℕ → Edit → ℕ
+entries_unchanged cs edit = first_changed (length cs) edit / 64
 
 -- The number of units after the last entry that the edit leaves unchanged, in the old and in the new text together.
 abbrev pub units_after : List ℕ → List ℕ → Edit → ℕ
 units_after old new edit =
-    (length (encode Utf16 old) - mark old (marks_unchanged old edit)) + (length (encode Utf16 new) - mark new (marks_unchanged old edit))
+    (length (encode Utf16 old) - index_entry old (entries_unchanged old edit)) + (length (encode Utf16 new) - index_entry new (entries_unchanged old edit))
 
 -- The number of units that are read to count the characters of a reply: those of the characters that a `SplitOff`
 -- removes.
@@ -54,12 +54,12 @@ units_split_off cs Clear = 0
 -- What contracts say about a string with an offset index: the string, and how many entries fit without allocating.
 pub record Marked : Type 0 where
   pub string : Units ℕ
-  pub marks_space : ℕ
+  pub index_capacity : ℕ
 
 abbrev pub marked_code : Coded Marked
 marked_code =
-    code_by (Units ℕ × ℕ) (coded× (units_code coded_ℕ) coded_ℕ) (λ m. (m.string, m.marks_space))
-    (λ p. record { string = p.0; marks_space = p.1 }) (λ _. refl)
+    code_by (Units ℕ × ℕ) (coded× (units_code coded_ℕ) coded_ℕ) (λ m. (m.string, m.index_capacity))
+    (λ p. record { string = p.0; index_capacity = p.1 }) (λ _. refl)
 
 -- The units of the string.
 abbrev pub marked_units : Marked → List ℕ
@@ -76,4 +76,4 @@ marked_text m = chars Utf16 m.string.units
 -- The new units and the new index entries fit without allocating.
 pub record IsMarkedReady (m : Marked) (edit : Edit) : Type 0 where
   pub units : CanHold Utf16 m.string (step (marked_text m) edit).0
-  pub marks : length (step (marked_text m) edit).0 / 64 ≤ m.marks_space
+  pub marks : length (step (marked_text m) edit).0 / 64 ≤ m.index_capacity

@@ -35,7 +35,7 @@ pub(crate) fn indices_of(edit: Edit<'_>) -> (usize, usize)
 }
 
 // Changes nothing, and reads no unit. Its contract gives the caller's proof the facts that are true of every string.
-pub(crate) fn recall<C: FaultUnit>(s: &UtfString<C>)
+pub(crate) fn string_facts<C: FaultUnit>(s: &UtfString<C>)
     ensures well_formed { IsWellFormed C.form (map C.number s.now.units) }
     ensures encoded { map C.number s.now.units ≡ encode C.form (text_of C.form C.number s.now.units) }
     ensures count { length (encode C.form (text_of C.form C.number s.now.units)) ≡ ustring_len s.now }
@@ -68,7 +68,7 @@ pub(crate) fn find_second<C: FaultUnit>(
     if to < from {
         return find(s, to);
     }
-    recall(s);
+    string_facts(s);
     let at = start?;
     let (_prefix, back) = s.as_utfstr().split_at(at);
     let ahead = back.unit_offset(to - from)?;
@@ -89,7 +89,7 @@ pub(crate) fn range_at<C: FaultUnit>(
     ensures none { IfNone result (is_range from to (length (text_of C.form C.number s.now.units)) ≡ false) }
     ensures some { IfSome result (λ r. IsFoundRange C.form (map C.number s.now.units) from to r.start r.end) }
 {
-    recall(s);
+    string_facts(s);
     if to < from {
         return None;
     }

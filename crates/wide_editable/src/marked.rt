@@ -4,16 +4,16 @@ ghost use Rattle.wide_forms.specs.EncodingForm.{Utf16, encode};
 ghost use Rattle.wide_forms.specs.Items.{chars};
 ghost use Rattle.wide_forms.specs.Offsets.{IsOffsetOf, IsCharBoundary};
 ghost use Rattle.wide_utfstr.specs.View.{units_seen};
-ghost use Rattle.wide_edit.specs.Step.{step, answer_of};
+ghost use Rattle.wide_edit.specs.Step.{step, reply_data};
 ghost use Rattle.wide_editable.specs.Edited.{CanHold, IsMade, HasReplySpace};
 ghost use Rattle.wide_editable.specs.Indices.{first_index, second_index};
 ghost use Rattle.wide_offset_index.specs.Found.{IsFoundAt};
 ghost use Rattle.wide_offset_index.specs.Counted.{counted, AddsAtMost};
-ghost use Rattle.wide_offset_index.specs.Marks.{mark, marks_of, IsEdited, AreMoved};
+ghost use Rattle.wide_offset_index.specs.Marks.{index_entry, index_entries, IsEdited, AreMoved};
 ghost use Rattle.wide_editable.specs.Marked.{first_changed, units_after, units_split_off, marked_capacity, marked_units, marked_text, IsMarkedReady};
-ghost use Rattle.wide_offset_index.specs.Passed.{units_put, IsShort, IsFew, marks_left};
+ghost use Rattle.wide_offset_index.specs.Passed.{units_put, IsShort, IsFew, entries_left};
 
-use crate::lookup::{indices_of, recall};
+use crate::lookup::{indices_of, string_facts};
 use crate::memory::prepare_at;
 use crate::operations::apply_at;
 use crate::ranges::replaced_range;
@@ -57,15 +57,15 @@ impl Model for Marked16 {
     ghost use Rattle.wide_forms.specs.EncodingForm.{Utf16};
     ghost use Rattle.wide_forms.specs.Items.{chars};
     ghost use Rattle.wide_editable.specs.Marked.{Marked, marked_code};
-    ghost use Rattle.wide_offset_index.specs.Marks.{marks_of};
+    ghost use Rattle.wide_offset_index.specs.Marks.{index_entries};
 
     ghost Value = { Marked };
 
     ghost coded = { marked_code };
 
-    ghost view = { λ m. record { string = m.string; marks_space = vec_capacity m.marks } };
+    ghost view = { λ m. record { string = m.string; index_capacity = vec_capacity m.marks } };
 
-    ghost invariant = { λ m. m.marks.items ≡ marks_of (chars Utf16 m.string.units) };
+    ghost invariant = { λ m. m.marks.items ≡ index_entries (chars Utf16 m.string.units) };
 }
 
 // Returns the index of the first character that an edit can change, in a text of `count` characters. The characters
@@ -114,7 +114,7 @@ fn units_counted(string: &Utf16String, edit: Edit<'_>, start: Option<usize>) -> 
     requires { IsFoundAt Utf16 string.now.units (first_index edit) start }
     ensures { result ≡ units_split_off (chars Utf16 string.now.units) edit.entry }
 {
-    recall(string);
+    string_facts(string);
     let len = string.unit_count();
     match edit {
         Edit::SplitOff(_) => match start {
@@ -148,12 +148,12 @@ fn apply16(
 // Computes the index entries again, except the first `unchanged` ones.
 fn recount(text: Utf16Str<'_>, marks: &mut Vec<usize>, unchanged: usize, steps: &mut Steps)
     requires within { unchanged ≤ length marks.old.items }
-    requires some { take unchanged marks.old.items ≡ take unchanged (marks_of (chars Utf16 (units_seen text))) }
+    requires some { take unchanged marks.old.items ≡ take unchanged (index_entries (chars Utf16 (units_seen text))) }
     requires space { length (chars Utf16 (units_seen text)) / 64 ≤ vec_capacity marks.old }
-    ensures marks { marks.new.items ≡ marks_of (chars Utf16 (units_seen text.entry)) }
+    ensures marks { marks.new.items ≡ index_entries (chars Utf16 (units_seen text.entry)) }
     ensures space { vec_capacity marks.new ≡ vec_capacity marks.old }
     ensures grows { counted steps.old ≤ counted steps.new }
-    ensures steps { counted steps.new + mark (chars Utf16 (units_seen text.entry)) unchanged ≡ counted steps.old + length (units_seen text.entry) }
+    ensures steps { counted steps.new + index_entry (chars Utf16 (units_seen text.entry)) unchanged ≡ counted steps.old + length (units_seen text.entry) }
 {
     marks.truncate(unchanged);
     append_missing(text, marks, steps);
@@ -172,18 +172,18 @@ fn update(
 )
     requires edited { IsEdited (chars Utf16 (units_seen text)) count units range.from range.to range.start range.end }
     requires long { length marks.old.items ≡ count / 64 }
-    requires some { take (range.from / 64) marks.old.items ≡ take (range.from / 64) (marks_of (chars Utf16 (units_seen text))) }
+    requires some { take (range.from / 64) marks.old.items ≡ take (range.from / 64) (index_entries (chars Utf16 (units_seen text))) }
     requires unchanged { unchanged ≤ range.from / 64 }
     requires moved { AreMoved (chars Utf16 (units_seen text)) count units range.to marks.old.items }
     requires space { length (chars Utf16 (units_seen text)) / 64 ≤ vec_capacity marks.old }
-    ensures marks { marks.new.items ≡ marks_of (chars Utf16 (units_seen text.entry)) }
+    ensures marks { marks.new.items ≡ index_entries (chars Utf16 (units_seen text.entry)) }
     ensures space { vec_capacity marks.new ≡ vec_capacity marks.old }
     ensures grows { counted steps.old ≤ counted steps.new }
     ensures read { IsShort (units_seen text.entry) units range → counted steps.old + units_put (units_seen text.entry) units range ≤ counted steps.new }
-    ensures moved { IsFew (units_seen text.entry) count units range → counted steps.old + units_put (units_seen text.entry) units range + (marks_left count (length (chars Utf16 (units_seen text.entry))) - range.from / 64) ≤ counted steps.new }
-    ensures many_removed { range.from + 31 < range.to → counted steps.new + mark (chars Utf16 (units_seen text.entry)) unchanged ≡ counted steps.old + length (units_seen text.entry) }
-    ensures many_put { 62 < units_put (units_seen text.entry) units range → counted steps.new + mark (chars Utf16 (units_seen text.entry)) unchanged ≡ counted steps.old + length (units_seen text.entry) }
-    ensures steps { counted steps.new + mark (chars Utf16 (units_seen text.entry)) unchanged ≤ counted steps.old + 63 + length (units_seen text.entry) }
+    ensures moved { IsFew (units_seen text.entry) count units range → counted steps.old + units_put (units_seen text.entry) units range + (entries_left count (length (chars Utf16 (units_seen text.entry))) - range.from / 64) ≤ counted steps.new }
+    ensures many_removed { range.from + 31 < range.to → counted steps.new + index_entry (chars Utf16 (units_seen text.entry)) unchanged ≡ counted steps.old + length (units_seen text.entry) }
+    ensures many_put { 62 < units_put (units_seen text.entry) units range → counted steps.new + index_entry (chars Utf16 (units_seen text.entry)) unchanged ≡ counted steps.old + length (units_seen text.entry) }
+    ensures steps { counted steps.new + index_entry (chars Utf16 (units_seen text.entry)) unchanged ≤ counted steps.old + 63 + length (units_seen text.entry) }
 {
     match count_if_few(text, range, count, units, steps) {
         Some(total) => shift(text, marks, range, count, units, total, steps),
@@ -199,14 +199,14 @@ fn apply_to(
     space: Vec<char>,
     steps: &mut Steps,
 ) -> Reply
-    requires marks { marks.old.items ≡ marks_of (chars Utf16 string.old.units) }
+    requires marks { marks.old.items ≡ index_entries (chars Utf16 string.old.units) }
     requires ready { CanHold Utf16 string.old (step (chars Utf16 string.old.units) edit).0 }
-    requires marks_ready { length (step (chars Utf16 string.old.units) edit).0 / 64 ≤ vec_capacity marks.old }
+    requires index_ready { length (step (chars Utf16 string.old.units) edit).0 / 64 ≤ vec_capacity marks.old }
     requires space { HasReplySpace (chars Utf16 string.old.units) edit space }
     ensures made { IsMade (chars Utf16 string.old.units) edit.entry (chars Utf16 string.new.units) result }
-    ensures marks { marks.new.items ≡ marks_of (chars Utf16 string.new.units) }
+    ensures marks { marks.new.items ≡ index_entries (chars Utf16 string.new.units) }
     ensures capacity { string.old.capacity ≤ string.new.capacity }
-    ensures marks_capacity { vec_capacity marks.new ≡ vec_capacity marks.old }
+    ensures index_capacity { vec_capacity marks.new ≡ vec_capacity marks.old }
     ensures steps { AddsAtMost steps.old steps.new (512 + units_after (chars Utf16 string.old.units) (chars Utf16 string.new.units) edit.entry) }
 {
     let (first, second) = indices_of(edit);
@@ -262,7 +262,7 @@ impl Marked16 {
     /// Returns the entries of the offset index: for each `k` from 1 on, as long as there are `64 * k` characters, the
     /// length in units of the first `64 * k` characters (Unicode Standard, D79 and D91).
     pub fn marks(&self) -> &[usize]
-        ensures { result.now ≡ marks_of (marked_text self.now) }
+        ensures { result.now ≡ index_entries (marked_text self.now) }
     {
         self.marks.as_slice()
     }
@@ -315,7 +315,7 @@ impl Marked16 {
         ensures space { IfOk result (λ space. HasReplySpace (marked_text self.new) edit.entry space) }
         ensures units { marked_units self.new ≡ marked_units self.old }
         ensures capacity { marked_capacity self.old ≤ marked_capacity self.new }
-        ensures marks_capacity { self.old.marks_space ≤ self.new.marks_space }
+        ensures index_capacity { self.old.index_capacity ≤ self.new.index_capacity }
         ensures steps { AddsAtMost steps.old steps.new (252 + units_split_off (marked_text self.old) edit.entry) }
     {
         let (first, second) = indices_of(edit);
@@ -346,9 +346,9 @@ impl Marked16 {
         requires ready { IsMarkedReady self.old edit }
         requires space { HasReplySpace (marked_text self.old) edit space }
         ensures text { marked_text self.new ≡ (step (marked_text self.old) edit.entry).0 }
-        ensures reply { answer_of result ≡ (step (marked_text self.old) edit.entry).1 }
+        ensures reply { reply_data result ≡ (step (marked_text self.old) edit.entry).1 }
         ensures capacity { marked_capacity self.old ≤ marked_capacity self.new }
-        ensures marks_capacity { self.new.marks_space ≡ self.old.marks_space }
+        ensures index_capacity { self.new.index_capacity ≡ self.old.index_capacity }
         ensures steps { AddsAtMost steps.old steps.new (512 + units_after (marked_text self.old) (marked_text self.new) edit.entry) }
     {
         apply_to(&mut self.string, &mut self.marks, edit, space, steps)

@@ -3,12 +3,12 @@ ghost use Rattle.std.specs.Prelude.{◌≡◌, ◌≤◌, ◌-◌, length, map, 
 ghost use Rattle.wide_forms.specs.EncodingForm.{encode};
 ghost use Rattle.wide_forms.specs.Offsets.{text_of};
 ghost use Rattle.wide_ustring.specs.Units.{ustring_len};
-ghost use Rattle.wide_edit.specs.Step.{changed, answer, step, chars_in};
+ghost use Rattle.wide_edit.specs.Step.{changed, reply_to, step, chars_in};
 ghost use Rattle.wide_editable.specs.Edited.{CanHold, HasReplySpace};
 ghost use Rattle.wide_editable.specs.Indices.{first_index, second_index};
 ghost use Rattle.wide_offset_index.specs.Found.{IsFoundAt};
 
-use crate::lookup::{range_at, recall};
+use crate::lookup::{range_at, string_facts};
 use std::alloc::Global;
 use wide_edit::Edit;
 use wide_error::OutOfMemory;
@@ -26,7 +26,7 @@ pub(crate) fn growth<C: FaultUnit>(
     requires end { IsFoundAt C.form (map C.number s.now.units) (second_index edit) end }
     ensures { result ≡ length (encode C.form (changed (text_of C.form C.number s.now.units) edit.entry)) - ustring_len s.now }
 {
-    recall(s);
+    string_facts(s);
     match edit {
         Edit::Push(c) => C::char_len(c),
         Edit::PushStr(text) => C::text_len(text),
@@ -56,7 +56,7 @@ pub(crate) fn reply_len<C: FaultUnit>(
 ) -> usize
     requires start { IsFoundAt C.form (map C.number s.now.units) (first_index edit) start }
     requires end { IsFoundAt C.form (map C.number s.now.units) (second_index edit) end }
-    ensures { result ≡ chars_in (answer (text_of C.form C.number s.now.units) edit.entry) }
+    ensures { result ≡ chars_in (reply_to (text_of C.form C.number s.now.units) edit.entry) }
 {
     match edit {
         Edit::Drain(from, to) => match range_at(s, from, to, start, end) {
@@ -87,7 +87,7 @@ pub(crate) fn prepare_at<C: FaultUnit>(
     ensures capacity { s.old.capacity ≤ s.new.capacity }
     ensures succeeds { CanHold C.form s.old (step (text_of C.form C.number s.old.units) edit.entry).0 → chars_in (step (text_of C.form C.number s.old.units) edit.entry).1 ≡ 0 → IsOk result }
 {
-    recall(s);
+    string_facts(s);
     s.reserve(growth(s, edit, start, end))?;
     Ok(Vec::with_capacity(alloc, reply_len(s, edit, start, end))?)
 }

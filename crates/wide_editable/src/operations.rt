@@ -2,7 +2,7 @@
 //! allocated before.
 //!
 //! If a search found no offset, the index is past the end. The results of calls that could fail to allocate are not
-//! read, because the capacity was reserved before. `recall` changes nothing: its contract gives the proofs the facts
+//! read, because the capacity was reserved before. `string_facts` changes nothing: its contract gives the proofs the facts
 //! that are true of every string.
 ghost use Rattle.std.specs.Prelude.{◌≡◌, ◌≤◌, [], length, map, vec_capacity};
 ghost use Rattle.wide_forms.specs.Offsets.{text_of};
@@ -13,7 +13,7 @@ ghost use Rattle.wide_editable.specs.Indices.{first_index, second_index};
 ghost use Rattle.wide_offset_index.specs.Found.{IsFoundAt};
 ghost use Rattle.wide_edit.specs.declared.edits.Edit.TheVariants as edit_of;
 
-use crate::lookup::{range_at, recall};
+use crate::lookup::{range_at, string_facts};
 use wide_edit::{Edit, Reply};
 use wide_utferror::FaultUnit;
 use wide_utfstr::UtfStr;
@@ -38,7 +38,7 @@ fn push<C: FaultUnit>(s: &mut UtfString<C>, c: char) -> Reply
     ensures made { IsMade (text_of C.form C.number s.old.units) (edit_of.Push c) (text_of C.form C.number s.new.units) result }
     ensures capacity { s.old.capacity ≤ s.new.capacity }
 {
-    recall(s);
+    string_facts(s);
     let _fits = s.push(c);
     Reply::Done
 }
@@ -49,7 +49,7 @@ fn push_str<C: FaultUnit>(s: &mut UtfString<C>, text: &str) -> Reply
     ensures made { IsMade (text_of C.form C.number s.old.units) (edit_of.PushStr text.entry) (text_of C.form C.number s.new.units) result }
     ensures capacity { s.old.capacity ≤ s.new.capacity }
 {
-    recall(s);
+    string_facts(s);
     let _fits = s.push_str(text);
     Reply::Done
 }
@@ -71,7 +71,7 @@ fn truncate<C: FaultUnit>(s: &mut UtfString<C>, len: usize, found: Option<usize>
     ensures made { IsMade (text_of C.form C.number s.old.units) (edit_of.Truncate len) (text_of C.form C.number s.new.units) result }
     ensures capacity { s.old.capacity ≤ s.new.capacity }
 {
-    recall(s);
+    string_facts(s);
     match found {
         Some(at) => {
             s.truncate(at);
@@ -88,7 +88,7 @@ fn insert<C: FaultUnit>(s: &mut UtfString<C>, index: usize, found: Option<usize>
     ensures made { IsMade (text_of C.form C.number s.old.units) (edit_of.Insert index c) (text_of C.form C.number s.new.units) result }
     ensures capacity { s.old.capacity ≤ s.new.capacity }
 {
-    recall(s);
+    string_facts(s);
     match found {
         Some(at) => {
             let _fits = s.insert(at, c);
@@ -110,7 +110,7 @@ fn insert_str<C: FaultUnit>(
     ensures made { IsMade (text_of C.form C.number s.old.units) (edit_of.InsertStr index text.entry) (text_of C.form C.number s.new.units) result }
     ensures capacity { s.old.capacity ≤ s.new.capacity }
 {
-    recall(s);
+    string_facts(s);
     match found {
         Some(at) => {
             let _fits = s.splice_str(at, at, text);
@@ -126,7 +126,7 @@ fn remove<C: FaultUnit>(s: &mut UtfString<C>, index: usize, found: Option<usize>
     ensures made { IsMade (text_of C.form C.number s.old.units) (edit_of.Remove index) (text_of C.form C.number s.new.units) result }
     ensures capacity { s.old.capacity ≤ s.new.capacity }
 {
-    recall(s);
+    string_facts(s);
     match found {
         Some(at) => {
             if at == s.len() {
@@ -162,7 +162,7 @@ fn drain<C: FaultUnit>(
     ensures made { IsMade (text_of C.form C.number s.old.units) (edit_of.Drain from to) (text_of C.form C.number s.new.units) result }
     ensures capacity { s.old.capacity ≤ s.new.capacity }
 {
-    recall(s);
+    string_facts(s);
     match range_at(s, from, to, start, end) {
         Some(range) => {
             let taken = copy(s.as_utfstr().slice(range.start..range.end), space);
@@ -188,7 +188,7 @@ fn replace<C: FaultUnit>(
     ensures made { IsMade (text_of C.form C.number s.old.units) (edit_of.Replace from to text.entry) (text_of C.form C.number s.new.units) result }
     ensures capacity { s.old.capacity ≤ s.new.capacity }
 {
-    recall(s);
+    string_facts(s);
     match range_at(s, from, to, start, end) {
         Some(range) => {
             let _fits = s.splice_str(range.start, range.end, text);

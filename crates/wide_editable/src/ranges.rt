@@ -9,7 +9,7 @@ ghost use Rattle.wide_editable.specs.Marked.{first_changed};
 ghost use Rattle.wide_editable.specs.Indices.{first_index, second_index};
 ghost use Rattle.wide_editable.specs.Replaced.{Replaces, units_at, units_removed};
 
-use crate::lookup::{range_at, recall};
+use crate::lookup::{range_at, string_facts};
 use wide_edit::Edit;
 use wide_offset_index::{Range16, Steps, pass_on};
 use wide_utfstring::Utf16String;
@@ -21,7 +21,7 @@ fn range_at_end(string: &Utf16String, count: usize) -> Range16
     ensures from { result.from ≡ count }
     ensures to { result.to ≡ count }
 {
-    recall(string);
+    string_facts(string);
     let len = string.len();
     Range16 {
         from: count,
@@ -73,7 +73,7 @@ fn char_or_end(
     ensures read { counted steps.new ≡ counted steps.old + units_at (chars Utf16 string.now.units) index }
     ensures steps { AddsAtMost steps.old steps.new 2 }
 {
-    recall(string);
+    string_facts(string);
     match start {
         Some(start) if index < count => Range16 {
             from: index,

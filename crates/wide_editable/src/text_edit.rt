@@ -1,7 +1,7 @@
 //! The trait of texts that can be edited.
 ghost use Rattle.std.specs.Prelude.{◌≡◌, ◌≤◌, ℕ, List, length, IfOk, OnOk};
 ghost use Rattle.wide_forms.specs.EncodingForm.{EncodingForm, encode};
-ghost use Rattle.wide_edit.specs.Step.{step, answer_of};
+ghost use Rattle.wide_edit.specs.Step.{step, reply_data};
 ghost use Rattle.wide_editable.specs.Edited.{HasReplySpace};
 
 use std::alloc::Global;
@@ -71,6 +71,6 @@ pub trait TextEdit {
         requires ready { is_ready self.old edit }
         requires space { HasReplySpace (text self.old) edit space }
         ensures text { text self.new ≡ (step (text self.old) edit.entry).0 }
-        ensures reply { answer_of result ≡ (step (text self.old) edit.entry).1 }
+        ensures reply { reply_data result ≡ (step (text self.old) edit.entry).1 }
         ensures capacity { capacity self.old ≤ capacity self.new };
 }

@@ -4,7 +4,7 @@ ghost use Rattle.wide_forms.specs.Offsets.{text_of};
 ghost use Rattle.wide_edit.specs.Step.{step, chars_in};
 ghost use Rattle.wide_editable.specs.Edited.{CanHold, HasReplySpace};
 
-use crate::lookup::{find, find_second, indices_of, recall};
+use crate::lookup::{find, find_second, indices_of, string_facts};
 use crate::memory::prepare_at;
 use crate::operations::apply_at;
 use crate::text_edit::TextEdit;
@@ -34,7 +34,7 @@ impl<C: FaultUnit> TextEdit for UtfString<C> {
     }
 
     fn unit_count(&self) -> usize {
-        recall(self);
+        string_facts(self);
         self.len()
     }
 

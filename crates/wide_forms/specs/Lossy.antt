@@ -38,25 +38,26 @@ past_faults [] = []
 past_faults (Char c ∷ is) = Char c ∷ is
 past_faults (Fault u ∷ is) = past_faults is
 
--- Whether the last item is a fault, where `after` says whether a fault precedes the items.
+-- Whether the last item is a fault, where `after_fault` says whether a fault precedes the items.
 abbrev pub ends_in_fault : Bool → List Item → Bool
-ends_in_fault after [] = after
-ends_in_fault after (Char c ∷ is) = ends_in_fault false is
-ends_in_fault after (Fault u ∷ is) = ends_in_fault true is
+ends_in_fault after_fault [] = after_fault
+ends_in_fault after_fault (Char c ∷ is) = ends_in_fault false is
+ends_in_fault after_fault (Fault u ∷ is) = ends_in_fault true is
 
--- Lossy text of items after others, where `after` says whether the last of those is a fault: a run of faults continues.
+-- Lossy text of items that follow others. `after_fault` says whether a fault directly precedes them; under `Run` its run
+-- then continues without another U+FFFD.
 abbrev pub lossy_after : Policy → Bool → List Item → List ℕ
-lossy_after Each after is = lossy is
+lossy_after Each after_fault is = lossy is
 lossy_after Run true is = lossy_runs (past_faults is)
 lossy_after Run false is = lossy_runs is
-lossy_after Skip after is = characters is
+lossy_after Skip after_fault is = characters is
 
--- What a policy yields for a fault, where `after` says whether another fault directly precedes it.
+-- What a policy yields for a fault, where `after_fault` says whether another fault directly precedes it.
 abbrev pub replacement : Policy → Bool → Option ℕ
-replacement Each after = Some 0xFFFD
+replacement Each after_fault = Some 0xFFFD
 replacement Run true = None
 replacement Run false = Some 0xFFFD
-replacement Skip after = None
+replacement Skip after_fault = None
 
 -- The character, or U+FFFD in place of an error.
 abbrev pub or_replacement : {E : Type 0} → Result ℕ E → ℕ

@@ -133,22 +133,23 @@ abbrev pub PartsAreWellFormed : Type 0
 PartsAreWellFormed = (form : EncodingForm) (us : List ℕ) (from to : ℕ) → IsWellFormed form us → IsBoundary form us from → IsBoundary form us to → from ≤ to
     → IsWellFormed form (slice_range us from to) × (chars form (slice_range us from to) ≡ slice_range (chars form us) (chars_before form us from) (chars_before form us to))
 
--- Well-formed units that replace those between two boundaries leave the units well formed, and their characters replace
--- those between the two.
+-- If well-formed units replace those between two boundaries, the result is well formed, and the new characters replace
+-- those between the boundaries.
 abbrev pub SplicesAreWellFormed : Type 0
 SplicesAreWellFormed = (form : EncodingForm) (us new : List ℕ) (from to : ℕ) → IsWellFormed form us → IsWellFormed form new → IsBoundary form us from → IsBoundary form us to
     → IsWellFormed form (splice us from to new) × (chars form (splice us from to new) ≡ splice (chars form us) (chars_before form us from) (chars_before form us to) (chars form new))
 
--- The encoding of characters is split where that of the first ones ends.
+-- An encoding, split after the units of its first `i` characters, gives the encodings of those characters and of the
+-- rest.
 abbrev pub EncodingsAreCut : Type 0
 EncodingsAreCut = (form : EncodingForm) (cs : List ℕ) (i : ℕ)
     → (encode form (take i cs) ≡ take (length (encode form (take i cs))) (encode form cs)) × (encode form (drop i cs) ≡ drop (length (encode form (take i cs))) (encode form cs))
 
--- The encoding of more of the first characters is at least as long.
+-- If `i` is at most `j`, the first `j` characters have at least as many units as the first `i`.
 abbrev pub OffsetsGrow : Type 0
 OffsetsGrow = (form : EncodingForm) (cs : List ℕ) (i j : ℕ) → i ≤ j → length (encode form (take i cs)) ≤ length (encode form (take j cs))
 
--- The units of characters with others in place of some are the units with those of the others in that place.
+-- Replacing characters `i` to `j` of a text replaces exactly their units in its encoding.
 abbrev pub EncodingsAreSpliced : Type 0
 EncodingsAreSpliced = (form : EncodingForm) (cs new : List ℕ) (i j : ℕ)
     → encode form (splice cs i j new) ≡ splice (encode form cs) (length (encode form (take i cs))) (length (encode form (take j cs))) (encode form new)
@@ -190,8 +191,8 @@ UnendedIsOneLine = (form : EncodingForm) (us : List ℕ) → us ≢ [] → All (
 -- The first line feed among the units ends the first line, which loses a carriage return at its end. The lines after it
 -- are those of the units after it.
 abbrev pub FeedEndsLine : Type 0
-FeedEndsLine = (form : EncodingForm) (prefix back : List ℕ) → All (λ u. u ≢ line_feed) prefix
-    → lines_of (items form (prefix ++ line_feed ∷ back)) ≡ without_return (items form prefix) ∷ lines_of (items form back)
+FeedEndsLine = (form : EncodingForm) (prefix suffix : List ℕ) → All (λ u. u ≢ line_feed) prefix
+    → lines_of (items form (prefix ++ line_feed ∷ suffix)) ≡ without_return (items form prefix) ∷ lines_of (items form suffix)
 
 -- Lossy text under the policy that yields U+FFFD for each fault is lossy text without a policy.
 abbrev pub EachIsLossy : Type 0
@@ -206,8 +207,8 @@ abbrev pub RunsGiveOne : Type 0
 RunsGiveOne = (u : ℕ) (us : List ℕ) → lossy_by Run (map Fault (u ∷ us)) ≡ 0xFFFD ∷ []
 
 -- Under `Skip`, faults alone yield nothing.
-abbrev pub RunsGiveNone : Type 0
-RunsGiveNone = (us : List ℕ) → lossy_by Skip (map Fault us) ≡ []
+abbrev pub SkipGivesNone : Type 0
+SkipGivesNone = (us : List ℕ) → lossy_by Skip (map Fault us) ≡ []
 
 -- Under `Run`, the faults that directly follow a fault yield nothing.
 abbrev pub RunsGoOn : Type 0

@@ -10,7 +10,7 @@ use Rattle.wide_forms.specs.Lossy.{lossy_by, lossy_after, ends_in_fault, replace
 use Rattle.wide_forms.specs.Laws.Policies.{lossy_by-at_char, lossy_after-append, lossy_after-char, lossy_after-dropped, lossy_after-none, lossy_after-none_left, lossy_after-replaced, replacement-drops_run, replacement-is}
 use Rattle.wide_forms.specs.declared.policy.Policy.{Policy}
 use Rattle.wide_iter.specs.declared.source.Source.{Source}
-use Rattle.wide_iter.specs.Source.{unasked, source_steps}
+use Rattle.wide_iter.specs.Source.{left_in_source, source_steps}
 use Rattle.wide_iter.specs.LossyWith.{GivesFirstItem, GivesLastItem, TakesFirstCharacter, TakesLastCharacter}
 use Rattle.wide_iter.proofs.Ended.{by_end, left_where}
 
@@ -25,32 +25,32 @@ module _ {A B : Type 0} (view : A → B) (whole us ts : List B) (b : Bool) (e : 
   asked_last (Some x) f h = e ∙ h ∙ ap (λ d. cond d [] ts ++ view x ∷ []) (sym f)
 
 module _ {D E : Type 0} {steps : D → Option (Result ℕ E) → D → Type 0} where
-  pub item_first : (number : E → ℕ) (rest : D → List Item) → GivesFirstItem steps number rest → (s t : Source D) (r : Option (Result ℕ E)) → source_steps steps s r t → YieldsFirstBy (item_of number) (unasked rest) s r t
+  pub item_first : (number : E → ℕ) (rest : D → List Item) → GivesFirstItem steps number rest → (s t : Source D) (r : Option (Result ℕ E)) → source_steps steps s r t → YieldsFirstBy (item_of number) (left_in_source rest) s r t
   item_first number rest reports s t r h = elim (by_end s.ended h) [
-    | inl done ↦ (let none = left_where rest s true done.0 in rw done.1.0 (none, ap (unasked rest) done.1.1 ∙ none))
+    | inl done ↦ (let none = left_where rest s true done.0 in rw done.1.0 (none, ap (left_in_source rest) done.1.1 ∙ none))
     | inr more ↦ asked_first (item_of number) _ _ _ _ (left_where rest s false more.0) r more.1.1 (reports.at s.inner r t.inner more.1.0)
   ]
 
-  pub item_last : (number : E → ℕ) (rest : D → List Item) → GivesLastItem steps number rest → (s t : Source D) (r : Option (Result ℕ E)) → source_steps steps s r t → YieldsLastBy (item_of number) (unasked rest) s r t
+  pub item_last : (number : E → ℕ) (rest : D → List Item) → GivesLastItem steps number rest → (s t : Source D) (r : Option (Result ℕ E)) → source_steps steps s r t → YieldsLastBy (item_of number) (left_in_source rest) s r t
   item_last number rest reports s t r h = elim (by_end s.ended h) [
-    | inl done ↦ (let none = left_where rest s true done.0 in rw done.1.0 (none, ap (unasked rest) done.1.1 ∙ none))
+    | inl done ↦ (let none = left_where rest s true done.0 in rw done.1.0 (none, ap (left_in_source rest) done.1.1 ∙ none))
     | inr more ↦ asked_last (item_of number) _ _ _ _ (left_where rest s false more.0) r more.1.1 (reports.at s.inner r t.inner more.1.0)
   ]
 
 module _ {D E : Type 0} (steps : D → Option (Result ℕ E) → D → Type 0) (s t : Source D) where
   -- A run of faults was read, from the front or the back.
   pub record PassedFirst : Type 0 where
-    pub at : (number : E → ℕ) (rest : D → List Item) → GivesFirstItem steps number rest → (run : List ℕ) × (unasked rest s ≡ map Fault run ++ unasked rest t)
+    pub at : (number : E → ℕ) (rest : D → List Item) → GivesFirstItem steps number rest → (run : List ℕ) × (left_in_source rest s ≡ map Fault run ++ left_in_source rest t)
 
   pub record PassedLast : Type 0 where
-    pub at : (number : E → ℕ) (rest : D → List Item) → GivesLastItem steps number rest → (run : List ℕ) × (unasked rest s ≡ unasked rest t ++ map Fault run)
+    pub at : (number : E → ℕ) (rest : D → List Item) → GivesLastItem steps number rest → (run : List ℕ) × (left_in_source rest s ≡ left_in_source rest t ++ map Fault run)
 
 module _ {D E : Type 0} {steps : D → Option (Result ℕ E) → D → Type 0} (s t u : Source D) where
   pub passed_first : PassedFirst steps s t → (e : E) → source_steps steps t (Some (Err e)) u → PassedFirst steps s u
   passed_first p e h = record {
     at = λ number rest reports.
         let q = p.at number rest reports in
-        (q.0 ++ number e ∷ [], q.1 ∙ ap (λ l. map Fault q.0 ++ l) (item_first number rest reports t u (Some (Err e)) h) ∙ sym (append_assoc (map Fault q.0) (Fault (number e) ∷ []) (unasked rest u)) ∙ ap (λ l. l ++ unasked rest u) (sym (map-append Fault q.0 (number e ∷ []))));
+        (q.0 ++ number e ∷ [], q.1 ∙ ap (λ l. map Fault q.0 ++ l) (item_first number rest reports t u (Some (Err e)) h) ∙ sym (append_assoc (map Fault q.0) (Fault (number e) ∷ []) (left_in_source rest u)) ∙ ap (λ l. l ++ left_in_source rest u) (sym (map-append Fault q.0 (number e ∷ []))));
   }
 
   pub took_first : PassedFirst steps s t → (c : ℕ) → source_steps steps t (Some (Ok c)) u → TakesFirstCharacter steps s (Some c) u
@@ -72,14 +72,14 @@ module _ {D E : Type 0} {steps : D → Option (Result ℕ E) → D → Type 0} (
   passed_last p e h = record {
     at = λ number rest reports.
         let q = p.at number rest reports in
-        (number e ∷ q.0, q.1 ∙ ap (λ l. l ++ map Fault q.0) (item_last number rest reports t u (Some (Err e)) h) ∙ append_assoc (unasked rest u) (Fault (number e) ∷ []) (map Fault q.0));
+        (number e ∷ q.0, q.1 ∙ ap (λ l. l ++ map Fault q.0) (item_last number rest reports t u (Some (Err e)) h) ∙ append_assoc (left_in_source rest u) (Fault (number e) ∷ []) (map Fault q.0));
   }
 
   pub took_last : PassedLast steps s t → (c : ℕ) → source_steps steps t (Some (Ok c)) u → TakesLastCharacter steps s (Some c) u
   took_last p c h = record {
     at = λ number rest reports.
         let q = p.at number rest reports in
-        (q.0, q.1 ∙ ap (λ l. l ++ map Fault q.0) (item_last number rest reports t u (Some (Ok c)) h) ∙ append_assoc (unasked rest u) (Char c ∷ []) (map Fault q.0));
+        (q.0, q.1 ∙ ap (λ l. l ++ map Fault q.0) (item_last number rest reports t u (Some (Ok c)) h) ∙ append_assoc (left_in_source rest u) (Char c ∷ []) (map Fault q.0));
   }
 
   pub none_last : PassedLast steps s t → source_steps steps t None u → TakesLastCharacter steps s None u

@@ -5,7 +5,7 @@ use Rattle.std.specs.Iterator.{Count, count_map}
 use Rattle.wide_forms.specs.EncodingForm.{Utf16}
 use Rattle.wide_forms.specs.Segmentation.{Item}
 use Rattle.wide_forms.specs.Items.{items}
-use Rattle.wide_iter.specs.Source.{has_ended, unasked, CanAsk, source_count}
+use Rattle.wide_iter.specs.Source.{has_ended, left_in_source, CanAsk, source_count}
 use Rattle.wide_iter.specs.declared.source.Source.{Source}
 use Rattle.wide_iter.specs.declared.decode16.DecodeUtf16.{DecodeUtf16}
 
@@ -23,7 +23,7 @@ module _ {I : Type 0} where
   -- The units that are left: the one in the lookahead at the front, those of the source, and the one in the lookahead
   -- at the back.
   abbrev pub units_left : (I → List ℕ) → DecodeUtf16 I → List ℕ
-  units_left rest s = option_to_list (front_lookahead s) ++ unasked rest (source_of s) ++ option_to_list (back_lookahead s)
+  units_left rest s = option_to_list (front_lookahead s) ++ left_in_source rest (source_of s) ++ option_to_list (back_lookahead s)
 
   -- The items that will be yielded.
   abbrev pub items_left : (I → List ℕ) → DecodeUtf16 I → List Item

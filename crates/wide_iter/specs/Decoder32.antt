@@ -4,7 +4,7 @@ use Rattle.std.specs.Iterator.{Count}
 use Rattle.wide_forms.specs.EncodingForm.{Utf32}
 use Rattle.wide_forms.specs.Segmentation.{Item}
 use Rattle.wide_forms.specs.Items.{items}
-use Rattle.wide_iter.specs.Source.{unasked, CanAsk, source_count}
+use Rattle.wide_iter.specs.Source.{left_in_source, CanAsk, source_count}
 use Rattle.wide_iter.specs.declared.source.Source.{Source}
 use Rattle.wide_iter.specs.declared.decode32.DecodeUtf32.{DecodeUtf32}
 
@@ -15,7 +15,7 @@ module _ {I : Type 0} where
 
   -- The items that will be yielded.
   abbrev pub items32_left : (I → List ℕ) → DecodeUtf32 I → List Item
-  items32_left rest s = items Utf32 (unasked rest (source32_of s))
+  items32_left rest s = items Utf32 (left_in_source rest (source32_of s))
 
   -- The source may be called, unless it has ended.
   abbrev pub CanDecode32 : (I → Type 0) → DecodeUtf32 I → Type 0

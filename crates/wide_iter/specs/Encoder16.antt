@@ -3,7 +3,7 @@ use Rattle.std.specs.Prelude.{◌≡◌, ℕ, ◌+◌, ◌*◌, false, List, ◌
 use Rattle.std.specs.Option.{option_to_list, option_len}
 use Rattle.std.specs.Iterator.{Count, count_map}
 use Rattle.wide_forms.specs.EncodingForm.{Utf16, encode}
-use Rattle.wide_iter.specs.Source.{has_ended, unasked, CanAsk, source_count}
+use Rattle.wide_iter.specs.Source.{has_ended, left_in_source, CanAsk, source_count}
 use Rattle.wide_iter.specs.declared.source.Source.{Source}
 use Rattle.wide_iter.specs.declared.encode16.EncodeUtf16.{EncodeUtf16}
 
@@ -17,7 +17,7 @@ module _ {I : Type 0} where
 
   -- The units that will be yielded: the pending one, and those of the characters that are left.
   abbrev pub units_left : (I → List ℕ) → EncodeUtf16 I → List ℕ
-  units_left rest s = option_to_list (unit_in_lookahead s) ++ encode Utf16 (unasked rest (source_of s))
+  units_left rest s = option_to_list (unit_in_lookahead s) ++ encode Utf16 (left_in_source rest (source_of s))
 
   -- The source may be called, unless it has ended.
   abbrev pub CanEncode : (I → Type 0) → EncodeUtf16 I → Type 0

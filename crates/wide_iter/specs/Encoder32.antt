@@ -2,7 +2,7 @@
 use Rattle.std.specs.Prelude.{◌≡◌, ℕ, false, List}
 use Rattle.std.specs.Iterator.{Count}
 use Rattle.wide_forms.specs.EncodingForm.{Utf32, encode}
-use Rattle.wide_iter.specs.Source.{has_ended, unasked, CanAsk, source_count}
+use Rattle.wide_iter.specs.Source.{has_ended, left_in_source, CanAsk, source_count}
 use Rattle.wide_iter.specs.declared.source.Source.{Source}
 use Rattle.wide_iter.specs.declared.encode32.EncodeUtf32.{EncodeUtf32}
 
@@ -12,7 +12,7 @@ module _ {I : Type 0} where
 
   -- The units of the characters that are left.
   abbrev pub units_left : (I → List ℕ) → EncodeUtf32 I → List ℕ
-  units_left rest s = encode Utf32 (unasked rest (source_of s))
+  units_left rest s = encode Utf32 (left_in_source rest (source_of s))
 
   -- The source may be called, unless it has ended.
   abbrev pub CanEncode : (I → Type 0) → EncodeUtf32 I → Type 0

@@ -2,7 +2,7 @@
 use Rattle.std.specs.Prelude.{◌≡◌, ℕ, ◌+◌, ◌*◌, false, List, [], ◌∷◌, ◌++◌, length}
 use Rattle.std.specs.Iterator.{Count, count_map}
 use Rattle.wide_forms.specs.Utf8.{utf8}
-use Rattle.wide_iter.specs.Source.{has_ended, unasked, CanAsk, source_count}
+use Rattle.wide_iter.specs.Source.{has_ended, left_in_source, CanAsk, source_count}
 use Rattle.wide_iter.specs.declared.source.Source.{Source}
 use Rattle.wide_iter.specs.declared.encode8.EncodeUtf8.{EncodeUtf8}
 use Rattle.wide_iter.specs.declared.encode8.Pending.{Pending}
@@ -24,7 +24,7 @@ module _ {I : Type 0} where
 
   -- The bytes that will be yielded: the pending ones, and those of the characters that are left.
   abbrev pub bytes_left : (I → List ℕ) → EncodeUtf8 I → List ℕ
-  bytes_left rest s = bytes_in_lookahead s ++ utf8 (unasked rest (source_of s))
+  bytes_left rest s = bytes_in_lookahead s ++ utf8 (left_in_source rest (source_of s))
 
   -- The source may be called, unless it has ended.
   abbrev pub CanEncode : (I → Type 0) → EncodeUtf8 I → Type 0

@@ -6,7 +6,7 @@ use Rattle.wide_forms.specs.Segmentation.{Item, Char, Fault}
 use Rattle.wide_unit.specs.Unit.{item_of}
 use Rattle.wide_forms.specs.Lossy.{lossy_by}
 use Rattle.wide_forms.specs.declared.policy.Policy.{Policy}
-use Rattle.wide_iter.specs.Source.{has_ended, unasked, CanAsk, source_count}
+use Rattle.wide_iter.specs.Source.{has_ended, left_in_source, CanAsk, source_count}
 use Rattle.wide_iter.specs.declared.source.Source.{Source}
 use Rattle.wide_iter.specs.declared.lossy_with.LossyWith.{LossyWith}
 
@@ -25,7 +25,7 @@ module _ {D : Type 0} where
   -- The characters that will be yielded: the one in the lookahead at the front, the lossy text of the items that are
   -- left, and the one in the lookahead at the back.
   abbrev pub lossy_with_left : (D → List Item) → LossyWith D → List ℕ
-  lossy_with_left rest s = option_to_list s.front ++ lossy_by s.policy (unasked rest s.items) ++ option_to_list s.back
+  lossy_with_left rest s = option_to_list s.front ++ lossy_by s.policy (left_in_source rest s.items) ++ option_to_list s.back
 
   -- The lookahead is empty, and the decoder may be called.
   pub record IsUnread (s : LossyWith D) : Type 0 where
@@ -49,11 +49,11 @@ module _ {D E : Type 0} (steps : D → Option (Result ℕ E) → D → Type 0) w
   -- A run of faults was read from the front, or the back, and then the character that was returned, or nothing.
   pub record TakesFirstCharacter (s : Source D) (r : Option ℕ) (t : Source D) : Type 0 where
     pub at : (number : E → ℕ) (rest : D → List Item) → GivesFirstItem number rest
-        → (run : List ℕ) × MatchOption r ((unasked rest s ≡ map Fault run) × (unasked rest t ≡ [])) (λ c. unasked rest s ≡ map Fault run ++ Char c ∷ unasked rest t)
+        → (run : List ℕ) × MatchOption r ((left_in_source rest s ≡ map Fault run) × (left_in_source rest t ≡ [])) (λ c. left_in_source rest s ≡ map Fault run ++ Char c ∷ left_in_source rest t)
 
   pub record TakesLastCharacter (s : Source D) (r : Option ℕ) (t : Source D) : Type 0 where
     pub at : (number : E → ℕ) (rest : D → List Item) → GivesLastItem number rest
-        → (run : List ℕ) × MatchOption r ((unasked rest s ≡ map Fault run) × (unasked rest t ≡ [])) (λ c. unasked rest s ≡ unasked rest t ++ Char c ∷ map Fault run)
+        → (run : List ℕ) × MatchOption r ((left_in_source rest s ≡ map Fault run) × (left_in_source rest t ≡ [])) (λ c. left_in_source rest s ≡ left_in_source rest t ++ Char c ∷ map Fault run)
 
   -- For each function that returns the items of the decoder, a call yielded the first, or the last, of the characters
   -- that were left.

@@ -13,8 +13,8 @@ module _ {I : Type 0} where
   has_ended s = s.ended
 
   -- What is left, for a function that returns what the source itself has left.
-  abbrev pub unasked : {A : Type 0} → (I → List A) → Source I → List A
-  unasked rest s = if has_ended s then [] else rest (inner_of s)
+  abbrev pub left_in_source : {A : Type 0} → (I → List A) → Source I → List A
+  left_in_source rest s = if has_ended s then [] else rest (inner_of s)
 
   -- The source may be called, unless it has ended.
   abbrev pub CanAsk : (I → Type 0) → Source I → Type 0

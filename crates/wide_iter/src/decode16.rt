@@ -6,7 +6,7 @@ ghost use Rattle.wide_forms.specs.EncodingForm.{Utf16, IsCodeUnit};
 ghost use Rattle.wide_forms.specs.Items.{items};
 ghost use Rattle.wide_unit.specs.Unit.{reported_item};
 ghost use Rattle.wide_iter.specs.Over.{FirstOver, LastOver};
-ghost use Rattle.wide_iter.specs.Source.{inner_of, unasked, source_count};
+ghost use Rattle.wide_iter.specs.Source.{inner_of, left_in_source, source_count};
 ghost use Rattle.wide_iter.specs.Sources.{copied_rest};
 ghost use Rattle.wide_iter.specs.Decoder16.{source_of, front_lookahead, back_lookahead, units_left, items_left, CanDecode, decoder_count, IsSpent, IsNew, pending, upper_with};
 
@@ -196,8 +196,8 @@ impl DecodeUtf16<Copied<Iter<'_, u16>>> {
     /// read yet, and at most one for each of these and each in the lookahead. Generic code uses the trait's
     /// `size_hint`, whose contract says less.
     pub fn size_hint(&self) -> (usize, Option<usize>)
-        ensures lower { result.0 ≡ length (unasked copied_rest (source_of self.now)) / 2 }
-        ensures upper { result.1 ≡ upper_with (Some (length (unasked copied_rest (source_of self.now)))) (pending self.now) }
+        ensures lower { result.0 ≡ length (left_in_source copied_rest (source_of self.now)) / 2 }
+        ensures upper { result.1 ≡ upper_with (Some (length (left_in_source copied_rest (source_of self.now)))) (pending self.now) }
     {
         let left = self.source.len();
         decoded_hint((left, Some(left)), self.pending())

@@ -7,7 +7,7 @@ ghost use Rattle.std.specs.Char.{IsScalar};
 ghost use Rattle.wide_forms.specs.EncodingForm.{Utf16, encode};
 ghost use Rattle.wide_iter.specs.Over.{FirstOver};
 ghost use Rattle.wide_iter.specs.Hints.{upper_times};
-ghost use Rattle.wide_iter.specs.Source.{inner_of, source_count, unasked};
+ghost use Rattle.wide_iter.specs.Source.{inner_of, source_count, left_in_source};
 ghost use Rattle.wide_iter.specs.Sources.{copied_rest};
 ghost use Rattle.wide_iter.specs.Encoder16.{source_of, unit_in_lookahead, units_left, CanEncode, encoder_count, IsNew};
 
@@ -96,8 +96,8 @@ impl EncodeUtf16<Copied<Iter<'_, char>>> {
     /// not read yet, and at most two for each of these and one for a pending unit. Generic code uses the trait's
     /// `size_hint`, whose contract says less.
     pub fn size_hint(&self) -> (usize, Option<usize>)
-        ensures lower { result.0 ≡ length (unasked copied_rest (source_of self.now)) }
-        ensures upper { result.1 ≡ upper_times (Some (length (unasked copied_rest (source_of self.now)))) 2 (option_len (unit_in_lookahead self.now)) }
+        ensures lower { result.0 ≡ length (left_in_source copied_rest (source_of self.now)) }
+        ensures upper { result.1 ≡ upper_times (Some (length (left_in_source copied_rest (source_of self.now)))) 2 (option_len (unit_in_lookahead self.now)) }
     {
         let left = self.source.len();
         encoded_hint((left, Some(left)), 2, usize::from(self.second.is_some()))

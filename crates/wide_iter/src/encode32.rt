@@ -3,7 +3,7 @@ ghost use Rattle.std.specs.Prelude.{◌≡◌, ℕ, List, length, Some};
 ghost use Rattle.std.specs.Char.{IsScalar};
 ghost use Rattle.wide_forms.specs.EncodingForm.{Utf32, encode};
 ghost use Rattle.wide_iter.specs.Over.{FirstOver, LastOver};
-ghost use Rattle.wide_iter.specs.Source.{inner_of, unasked};
+ghost use Rattle.wide_iter.specs.Source.{inner_of, left_in_source};
 ghost use Rattle.wide_iter.specs.Sources.{copied_rest};
 ghost use Rattle.wide_iter.specs.Encoder32.{source_of, units_left, CanEncode, encoder_count, IsNew};
 
@@ -84,8 +84,8 @@ impl EncodeUtf32<Copied<Iter<'_, char>>> {
     /// Returns the number of units as both bounds, over the characters of a slice: one for each character that was not
     /// read yet.
     pub fn size_hint(&self) -> (usize, Option<usize>)
-        ensures lower { result.0 ≡ length (unasked copied_rest (source_of self.now)) }
-        ensures upper { result.1 ≡ Some (length (unasked copied_rest (source_of self.now))) }
+        ensures lower { result.0 ≡ length (left_in_source copied_rest (source_of self.now)) }
+        ensures upper { result.1 ≡ Some (length (left_in_source copied_rest (source_of self.now))) }
     {
         let left = self.source.len();
         (left, Some(left))

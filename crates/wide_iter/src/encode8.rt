@@ -6,7 +6,7 @@ ghost use Rattle.std.specs.Char.{IsScalar};
 ghost use Rattle.wide_forms.specs.Utf8.{utf8_bytes, utf8, trailing_byte};
 ghost use Rattle.wide_iter.specs.Over.{FirstOver};
 ghost use Rattle.wide_iter.specs.Hints.{upper_times};
-ghost use Rattle.wide_iter.specs.Source.{inner_of, source_count, unasked};
+ghost use Rattle.wide_iter.specs.Source.{inner_of, source_count, left_in_source};
 ghost use Rattle.wide_iter.specs.Sources.{copied_rest};
 ghost use Rattle.wide_iter.specs.Encoder8.{source_of, pending_bytes, bytes_in_lookahead, bytes_left, CanEncode, encoder_count, IsNew};
 
@@ -159,8 +159,8 @@ impl EncodeUtf8<Copied<Iter<'_, char>>> {
     /// not read yet, and at most four for each of these and one for each pending byte. Generic code uses the trait's
     /// `size_hint`, whose contract says less.
     pub fn size_hint(&self) -> (usize, Option<usize>)
-        ensures lower { result.0 ≡ length (unasked copied_rest (source_of self.now)) }
-        ensures upper { result.1 ≡ upper_times (Some (length (unasked copied_rest (source_of self.now)))) 4 (length (bytes_in_lookahead self.now)) }
+        ensures lower { result.0 ≡ length (left_in_source copied_rest (source_of self.now)) }
+        ensures upper { result.1 ≡ upper_times (Some (length (left_in_source copied_rest (source_of self.now)))) 4 (length (bytes_in_lookahead self.now)) }
     {
         let left = self.source.len();
         encoded_hint((left, Some(left)), 4, self.pending())

@@ -7,7 +7,7 @@ ghost use Rattle.wide_forms.specs.EncodingForm.{Utf16, Utf32, IsCodeUnit};
 ghost use Rattle.wide_forms.specs.Items.{items};
 ghost use Rattle.wide_forms.specs.Lossy.{lossy, or_replacement};
 ghost use Rattle.wide_iter.specs.Over.{FirstOver, LastOver};
-ghost use Rattle.wide_iter.specs.Source.{has_ended, inner_of, source_count, unasked};
+ghost use Rattle.wide_iter.specs.Source.{has_ended, inner_of, source_count, left_in_source};
 ghost use Rattle.wide_iter.specs.Sources.{copied_rest};
 ghost use Rattle.wide_iter.specs.Decoder16.{source_of, CanDecode, decoder_count, IsNew, pending, upper_with};
 ghost use Rattle.wide_iter.specs.Decoder32.{source32_of, CanDecode32, decoder32_count};
@@ -134,8 +134,8 @@ impl DecodeUtf16Lossy<Copied<Iter<'_, u16>>> {
     /// not read yet, and at most one for each of these and each in the lookahead. Generic code uses the trait's
     /// `size_hint`, whose contract says less.
     pub fn size_hint(&self) -> (usize, Option<usize>)
-        ensures lower { result.0 ≡ length (unasked copied_rest (source_of (strict16_of self.now))) / 2 }
-        ensures upper { result.1 ≡ upper_with (Some (length (unasked copied_rest (source_of (strict16_of self.now))))) (pending (strict16_of self.now)) }
+        ensures lower { result.0 ≡ length (left_in_source copied_rest (source_of (strict16_of self.now))) / 2 }
+        ensures upper { result.1 ≡ upper_with (Some (length (left_in_source copied_rest (source_of (strict16_of self.now))))) (pending (strict16_of self.now)) }
     {
         self.utf16.size_hint()
     }

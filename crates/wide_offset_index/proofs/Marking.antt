@@ -12,7 +12,7 @@ use Rattle.wide_forms.specs.Laws.Offsets.{encode-chars, IsOffsetOf-prefix}
 use Rattle.wide_unit.proofs.CharBoundaries.{IsCharBoundary-of}
 use Rattle.wide_offset_index.specs.Found.{IsFoundAt}
 use Rattle.wide_forms.specs.Laws.Forms.{some_units}
-use Rattle.wide_offset_index.specs.Marks.{mark, marks_of}
+use Rattle.wide_offset_index.specs.Marks.{index_entry, index_entries}
 use Rattle.wide_offset_index.proofs.Lengths.{size, size-append, size-one, size-take}
 
 -- One more character was read.
@@ -33,17 +33,17 @@ next_char cs read c rest e =
     }
 
 -- The first entries.
-pub some-length : (cs : List ℕ) (ms : List ℕ) → ms ≡ take (length ms) (marks_of cs) → length ms ≤ length cs / 64
-some-length cs ms e = omega (arith, ap length e, length-take (length ms) (marks_of cs), length-map-range_with_len (mark cs) 1 (length cs / 64))
+pub some-length : (cs : List ℕ) (ms : List ℕ) → ms ≡ take (length ms) (index_entries cs) → length ms ≤ length cs / 64
+some-length cs ms e = omega (arith, ap length e, length-take (length ms) (index_entries cs), length-map-range_with_len (index_entry cs) 1 (length cs / 64))
 
-pub some-marks : (cs : List ℕ) (ms : List ℕ) → ms ≡ take (length ms) (marks_of cs) → ms ≡ map (mark cs) (range_with_len 1 (length ms))
-some-marks cs ms e = e ∙ take-map-range_with_len (mark cs) 1 (length cs / 64) (length ms) (some-length cs ms e)
+pub some-marks : (cs : List ℕ) (ms : List ℕ) → ms ≡ take (length ms) (index_entries cs) → ms ≡ map (index_entry cs) (range_with_len 1 (length ms))
+some-marks cs ms e = e ∙ take-map-range_with_len (index_entry cs) 1 (length cs / 64) (length ms) (some-length cs ms e)
 
-pub mark-at : (cs : List ℕ) (ms : List ℕ) (k j d : ℕ) → ms ≡ take (length ms) (marks_of cs) → k < length ms → 1 + k ≡ j → get_or ms k d ≡ mark cs j
-mark-at cs ms k j d e lt is = ap (λ xs. get_or xs k d) (some-marks cs ms e) ∙ get_or-map-range_with_len (mark cs) 1 (length ms) k j d lt is
+pub index_entry-at : (cs : List ℕ) (ms : List ℕ) (k j d : ℕ) → ms ≡ take (length ms) (index_entries cs) → k < length ms → 1 + k ≡ j → get_or ms k d ≡ index_entry cs j
+index_entry-at cs ms k j d e lt is = ap (λ xs. get_or xs k d) (some-marks cs ms e) ∙ get_or-map-range_with_len (index_entry cs) 1 (length ms) k j d lt is
 
-pub all-some : (cs ms : List ℕ) → ms ≡ marks_of cs → ms ≡ take (length ms) (marks_of cs)
-all-some cs ms e = e ∙ sym (take_all (length ms) (marks_of cs) (omega (arith, ap length e)))
+pub all-some : (cs ms : List ℕ) → ms ≡ index_entries cs → ms ≡ take (length ms) (index_entries cs)
+all-some cs ms e = e ∙ sym (take_all (length ms) (index_entries cs) (omega (arith, ap length e)))
 
 -- The units of a view are those of its characters.
 pub well-formed : (us : List ℕ) → IsWellFormed Utf16 (map (λ u. u) us) → IsWellFormed Utf16 us
@@ -92,22 +92,22 @@ module _ (old new : List ℕ) (p : ℕ) (within : p ≤ length old) (same : take
   long : p ≤ length new
   long = omega (arith, ap length same, length-take p old, length-take p new)
 
-  mark-same : (j : ℕ) → 64 * j ≤ p → mark old j ≡ mark new j
-  mark-same j le = ap (size Utf16) (sym (take-take (64 * j) p old le) ∙ ap (take (64 * j)) (sym same) ∙ take-take (64 * j) p new le)
+  index_entry-same : (j : ℕ) → 64 * j ≤ p → index_entry old j ≡ index_entry new j
+  index_entry-same j le = ap (size Utf16) (sym (take-take (64 * j) p old le) ∙ ap (take (64 * j)) (sym same) ∙ take-take (64 * j) p new le)
 
-  pub same-marks : (k : ℕ) → k ≤ p / 64 → take k (marks_of old) ≡ take k (marks_of new)
+  pub same-marks : (k : ℕ) → k ≤ p / 64 → take k (index_entries old) ≡ take k (index_entries new)
   same-marks k le =
-      take-map-range_with_len (mark old) 1 (length old / 64) k (omega (arith, within))
-      ∙ map-same (mark old) (mark new) 1 k (λ j lt. mark-same j (omega (arith, lt)))
-      ∙ sym (take-map-range_with_len (mark new) 1 (length new / 64) k (omega (arith, long)))
+      take-map-range_with_len (index_entry old) 1 (length old / 64) k (omega (arith, within))
+      ∙ map-same (index_entry old) (index_entry new) 1 k (λ j lt. index_entry-same j (omega (arith, lt)))
+      ∙ sym (take-map-range_with_len (index_entry new) 1 (length new / 64) k (omega (arith, long)))
 
-  module _ (k : ℕ) (before items : List ℕ) (le : k ≤ p / 64) (all : before ≡ marks_of old) (first : items ≡ take k before) where
-    unchanged-new : items ≡ take k (marks_of new)
+  module _ (k : ℕ) (before items : List ℕ) (le : k ≤ p / 64) (all : before ≡ index_entries old) (first : items ≡ take k before) where
+    unchanged-new : items ≡ take k (index_entries new)
     unchanged-new = first ∙ ap (take k) all ∙ same-marks k le
 
     pub unchanged-count : length items ≡ k
-    unchanged-count = ap length unchanged-new ∙ length-take-le k (marks_of new) (omega (arith, long, length-map-range_with_len (mark new) 1 (length new / 64)))
+    unchanged-count = ap length unchanged-new ∙ length-take-le k (index_entries new) (omega (arith, long, length-map-range_with_len (index_entry new) 1 (length new / 64)))
 
     -- The retained entries of the old index are the first entries of the new one.
-    pub unchanged-marks : items ≡ take (length items) (marks_of new)
-    unchanged-marks = unchanged-new ∙ ap (λ n. take n (marks_of new)) (sym unchanged-count)
+    pub unchanged-marks : items ≡ take (length items) (index_entries new)
+    unchanged-marks = unchanged-new ∙ ap (λ n. take n (index_entries new)) (sym unchanged-count)

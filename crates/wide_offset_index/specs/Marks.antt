@@ -8,12 +8,12 @@ abbrev pub offset : List ℕ → ℕ → ℕ
 offset cs index = length (encode Utf16 (take index cs))
 
 -- Entry number `k` of the index of these characters: the length in units of the first `64 * k`.
-abbrev pub mark : List ℕ → ℕ → ℕ
-mark cs k = length (encode Utf16 (take (64 * k) cs))
+abbrev pub index_entry : List ℕ → ℕ → ℕ
+index_entry cs k = length (encode Utf16 (take (64 * k) cs))
 
 -- The entries number 1, 2 and so on, as long as there are so many characters.
-abbrev pub marks_of : List ℕ → List ℕ
-marks_of cs = map (mark cs) (range_with_len 1 (length cs / 64))
+abbrev pub index_entries : List ℕ → List ℕ
+index_entries cs = map (index_entry cs) (range_with_len 1 (length cs / 64))
 
 -- As many units follow character number `index` as follow an offset in a text of `units` units.
 abbrev pub IsMoved : List ℕ → ℕ → ℕ → ℕ → Type 0

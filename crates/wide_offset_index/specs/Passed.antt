@@ -23,8 +23,8 @@ pub record IsFew (us : List ℕ) (count units : ℕ) (range : Range16) : Type 0 
   pub added : length (chars Utf16 us) + range.to ≤ count + range.from + 31
 
 -- How many entries the offset index has both before and after an edit of `count` characters that leaves `total`.
-abbrev pub marks_left : ℕ → ℕ → ℕ
-marks_left count total = min (count / 64) (total / 64)
+abbrev pub entries_left : ℕ → ℕ → ℕ
+entries_left count total = min (count / 64) (total / 64)
 
 module _ (cs : List ℕ) (before after : Steps) where
   -- The steps of a search for character number `to` between those number `low` and `high`: none if the characters

@@ -9,7 +9,7 @@ ghost use Rattle.wide_utfstr.specs.View.{units_seen};
 ghost use Rattle.wide_utfstr.specs.Iter.{chars_left};
 ghost use Rattle.wide_offset_index.specs.Counted.{counted, AddsAtMost};
 ghost use Rattle.wide_offset_index.specs.Found.{IsFoundAt};
-ghost use Rattle.wide_offset_index.specs.Marks.{mark, marks_of};
+ghost use Rattle.wide_offset_index.specs.Marks.{index_entry, index_entries};
 
 use crate::counting::Steps;
 use crate::ticking::tick;
@@ -19,9 +19,9 @@ use wide_utfstr::{CharsUtf16, Utf16Str};
 // Returns the unit offset of entry number `number`, or 0 for number 0, and the characters from there on. The given
 // entries are the first ones of the text's index.
 fn seek<'a>(text: Utf16Str<'a>, marks: &[usize], number: usize) -> (usize, CharsUtf16<'a>)
-    requires some { marks.now ≡ take (length marks.now) (marks_of (chars Utf16 (units_seen text))) }
+    requires some { marks.now ≡ take (length marks.now) (index_entries (chars Utf16 (units_seen text))) }
     requires within { number ≤ length marks.now }
-    ensures at { result.0 ≡ mark (chars Utf16 (units_seen text.entry)) number }
+    ensures at { result.0 ≡ index_entry (chars Utf16 (units_seen text.entry)) number }
     ensures rest { chars_left Utf16 (λ u. u) result.1 ≡ drop (64 * number) (chars Utf16 (units_seen text.entry)) }
 {
     if number == 0 {
@@ -38,12 +38,12 @@ fn seek<'a>(text: Utf16Str<'a>, marks: &[usize], number: usize) -> (usize, Chars
 ///
 /// The entries are the first ones of the text's index, and there is capacity for all.
 pub fn append_missing(text: Utf16Str<'_>, marks: &mut Vec<usize>, steps: &mut Steps)
-    requires some { marks.old.items ≡ take (length marks.old.items) (marks_of (chars Utf16 (units_seen text))) }
+    requires some { marks.old.items ≡ take (length marks.old.items) (index_entries (chars Utf16 (units_seen text))) }
     requires space { length (chars Utf16 (units_seen text)) / 64 ≤ vec_capacity marks.old }
-    ensures marks { marks.new.items ≡ marks_of (chars Utf16 (units_seen text.entry)) }
+    ensures marks { marks.new.items ≡ index_entries (chars Utf16 (units_seen text.entry)) }
     ensures space { vec_capacity marks.new ≡ vec_capacity marks.old }
     ensures grows { counted steps.old ≤ counted steps.new }
-    ensures steps { counted steps.new + mark (chars Utf16 (units_seen text.entry)) (length marks.old.items) ≡ counted steps.old + length (units_seen text.entry) }
+    ensures steps { counted steps.new + index_entry (chars Utf16 (units_seen text.entry)) (length marks.old.items) ≡ counted steps.old + length (units_seen text.entry) }
 {
     // This call reads no unit. Its contract gives the proof that the units are well formed.
     let _units = text.len();
@@ -74,7 +74,7 @@ pub fn find_from(
     index: usize,
     steps: &mut Steps,
 ) -> Option<usize>
-    requires { marks.now ≡ marks_of (chars Utf16 (units_seen text)) }
+    requires { marks.now ≡ index_entries (chars Utf16 (units_seen text)) }
     ensures found { IsFoundAt Utf16 (units_seen text.entry) index result }
     ensures steps { AddsAtMost steps.old steps.new 126 }
 {
@@ -97,7 +97,7 @@ pub fn find_from(
 ///
 /// The entries are those of the text.
 pub fn count_from(text: Utf16Str<'_>, marks: &[usize], steps: &mut Steps) -> usize
-    requires { marks.now ≡ marks_of (chars Utf16 (units_seen text)) }
+    requires { marks.now ≡ index_entries (chars Utf16 (units_seen text)) }
     ensures count { result ≡ length (chars Utf16 (units_seen text.entry)) }
     ensures steps { AddsAtMost steps.old steps.new 126 }
 {
@@ -118,9 +118,9 @@ pub fn count_from(text: Utf16Str<'_>, marks: &[usize], steps: &mut Steps) -> usi
 ///
 /// The entries are those of the text, and there are at least `number`.
 pub fn units_from(text: Utf16Str<'_>, marks: &[usize], number: usize) -> usize
-    requires some { marks.now ≡ marks_of (chars Utf16 (units_seen text)) }
+    requires some { marks.now ≡ index_entries (chars Utf16 (units_seen text)) }
     requires within { number ≤ length marks.now }
-    ensures { result ≡ length (encode Utf16 (chars Utf16 (units_seen text.entry))) - mark (chars Utf16 (units_seen text.entry)) number }
+    ensures { result ≡ length (encode Utf16 (chars Utf16 (units_seen text.entry))) - index_entry (chars Utf16 (units_seen text.entry)) number }
 {
     let (at, _rest) = seek(text, marks, number);
     text.len() - at

@@ -6,8 +6,8 @@ ghost use Rattle.wide_forms.specs.EncodingForm.{Utf16};
 ghost use Rattle.wide_forms.specs.Items.{chars};
 ghost use Rattle.wide_utfstr.specs.View.{units_seen};
 ghost use Rattle.wide_offset_index.specs.Counted.{counted, AddsAtMost};
-ghost use Rattle.wide_offset_index.specs.Marks.{offset, mark, marks_of, IsEdited, AreMoved};
-ghost use Rattle.wide_offset_index.specs.Passed.{units_put, IsShort, IsFew, marks_left, AddsMoved};
+ghost use Rattle.wide_offset_index.specs.Marks.{offset, index_entry, index_entries, IsEdited, AreMoved};
+ghost use Rattle.wide_offset_index.specs.Passed.{units_put, IsShort, IsFew, entries_left, AddsMoved};
 
 use crate::counting::Steps;
 use crate::passing::{between, pass_back, pass_on};
@@ -116,9 +116,9 @@ fn moved_entry(
     requires less { count ≤ total + 31 }
     requires old { 64 * length entries.now ≤ count }
     requires new { 64 * length entries.now ≤ total }
-    requires before { slice_index entries.now (number - 1) ≡ mark (chars Utf16 (units_seen text)) number }
+    requires before { slice_index entries.now (number - 1) ≡ index_entry (chars Utf16 (units_seen text)) number }
     requires moved { AreMoved (chars Utf16 (units_seen text)) count units (64 * (number + 1)) entries.now }
-    ensures entry { result ≡ mark (chars Utf16 (units_seen text.entry)) (number + 1) }
+    ensures entry { result ≡ index_entry (chars Utf16 (units_seen text.entry)) (number + 1) }
     ensures passes { AddsMoved (chars Utf16 (units_seen text.entry)) steps.old steps.new (length entries.now) number count total }
     ensures steps { AddsAtMost steps.old steps.new 62 }
 {
@@ -154,9 +154,9 @@ fn next_entry(
     requires less { count ≤ total + 31 }
     requires old { 64 * length entries.now ≤ count }
     requires new { 64 * length entries.now ≤ total }
-    requires before { 0 < number → slice_index entries.now (number - 1) ≡ mark (chars Utf16 (units_seen text)) number }
+    requires before { 0 < number → slice_index entries.now (number - 1) ≡ index_entry (chars Utf16 (units_seen text)) number }
     requires moved { range.from / 64 < number → AreMoved (chars Utf16 (units_seen text)) count units (64 * (number + 1)) entries.now }
-    ensures entry { result ≡ mark (chars Utf16 (units_seen text.entry)) (number + 1) }
+    ensures entry { result ≡ index_entry (chars Utf16 (units_seen text.entry)) (number + 1) }
     ensures grows { counted steps.old ≤ counted steps.new }
     ensures first { number ≡ range.from / 64 → counted steps.new + range.start ≡ counted steps.old + result }
     ensures passes { range.from / 64 < number → AddsMoved (chars Utf16 (units_seen text.entry)) steps.old steps.new (length entries.now) number count total }
@@ -187,13 +187,13 @@ fn move_entries(
     requires old { 64 * length entries.old ≤ count }
     requires new { 64 * length entries.old ≤ total }
     requires unchanged { range.from / 64 ≤ length entries.old }
-    requires some { take (range.from / 64) entries.old ≡ map (mark (chars Utf16 (units_seen text))) (range_with_len 1 (range.from / 64)) }
+    requires some { take (range.from / 64) entries.old ≡ map (index_entry (chars Utf16 (units_seen text))) (range_with_len 1 (range.from / 64)) }
     requires moved { AreMoved (chars Utf16 (units_seen text)) count units range.to entries.old }
-    ensures entries { entries.new ≡ map (mark (chars Utf16 (units_seen text.entry))) (range_with_len 1 (length entries.old)) }
+    ensures entries { entries.new ≡ map (index_entry (chars Utf16 (units_seen text.entry))) (range_with_len 1 (length entries.old)) }
     ensures grows { counted steps.old ≤ counted steps.new }
     ensures none { length entries.old ≤ range.from / 64 → counted steps.new ≡ counted steps.old }
-    ensures least { range.from / 64 < length entries.old → counted steps.old + (length entries.old - range.from / 64) + mark (chars Utf16 (units_seen text.entry)) (range.from / 64 + 1) ≤ counted steps.new + range.start }
-    ensures steps { counted steps.new + range.start ≤ counted steps.old + 1 + max range.start (mark (chars Utf16 (units_seen text.entry)) (length entries.old)) }
+    ensures least { range.from / 64 < length entries.old → counted steps.old + (length entries.old - range.from / 64) + index_entry (chars Utf16 (units_seen text.entry)) (range.from / 64 + 1) ≤ counted steps.new + range.start }
+    ensures steps { counted steps.new + range.start ≤ counted steps.old + 1 + max range.start (index_entry (chars Utf16 (units_seen text.entry)) (length entries.old)) }
 {
     // This call reads no unit. Its contract gives the proof that the units are well formed.
     let _units = text.len();
@@ -207,13 +207,13 @@ fn move_entries(
 // Appends the last entry if it is missing. It is found by reading back from the end of a text of `total` characters.
 fn push_last(text: Utf16Str<'_>, marks: &mut Vec<usize>, total: usize, steps: &mut Steps)
     requires total { total ≡ length (chars Utf16 (units_seen text)) }
-    requires some { marks.old.items ≡ map (mark (chars Utf16 (units_seen text))) (range_with_len 1 (length marks.old.items)) }
+    requires some { marks.old.items ≡ map (index_entry (chars Utf16 (units_seen text))) (range_with_len 1 (length marks.old.items)) }
     requires within { length marks.old.items ≤ total / 64 }
     requires long { total / 64 ≤ length marks.old.items + 1 }
     requires space { total / 64 ≤ vec_capacity marks.old }
-    ensures marks { marks.new.items ≡ marks_of (chars Utf16 (units_seen text.entry)) }
+    ensures marks { marks.new.items ≡ index_entries (chars Utf16 (units_seen text.entry)) }
     ensures space { vec_capacity marks.new ≡ vec_capacity marks.old }
-    ensures missing { length marks.old.items < total / 64 → counted steps.new + mark (chars Utf16 (units_seen text.entry)) (length marks.old.items + 1) ≡ counted steps.old + length (units_seen text.entry) }
+    ensures missing { length marks.old.items < total / 64 → counted steps.new + index_entry (chars Utf16 (units_seen text.entry)) (length marks.old.items + 1) ≡ counted steps.old + length (units_seen text.entry) }
     ensures whole { total / 64 ≤ length marks.old.items → counted steps.new ≡ counted steps.old }
 {
     let len = text.len();
@@ -247,14 +247,14 @@ pub fn shift(
     requires total { total ≡ length (chars Utf16 (units_seen text)) }
     requires more { total ≤ count + 31 }
     requires long { length marks.old.items ≡ count / 64 }
-    requires some { take (range.from / 64) marks.old.items ≡ take (range.from / 64) (marks_of (chars Utf16 (units_seen text))) }
+    requires some { take (range.from / 64) marks.old.items ≡ take (range.from / 64) (index_entries (chars Utf16 (units_seen text))) }
     requires moved { AreMoved (chars Utf16 (units_seen text)) count units range.to marks.old.items }
     requires space { length (chars Utf16 (units_seen text)) / 64 ≤ vec_capacity marks.old }
-    ensures marks { marks.new.items ≡ marks_of (chars Utf16 (units_seen text.entry)) }
+    ensures marks { marks.new.items ≡ index_entries (chars Utf16 (units_seen text.entry)) }
     ensures space { vec_capacity marks.new ≡ vec_capacity marks.old }
     ensures grows { counted steps.old ≤ counted steps.new }
-    ensures least { range.from / 64 < marks_left count total → counted steps.old + (marks_left count total - range.from / 64) + mark (chars Utf16 (units_seen text.entry)) (range.from / 64 + 1) ≤ counted steps.new + range.start }
-    ensures missing { count / 64 < total / 64 → counted steps.old + (count / 64 - range.from / 64) + length (units_seen text.entry) ≤ counted steps.new + mark (chars Utf16 (units_seen text.entry)) (count / 64 + 1) }
+    ensures least { range.from / 64 < entries_left count total → counted steps.old + (entries_left count total - range.from / 64) + index_entry (chars Utf16 (units_seen text.entry)) (range.from / 64 + 1) ≤ counted steps.new + range.start }
+    ensures missing { count / 64 < total / 64 → counted steps.old + (count / 64 - range.from / 64) + length (units_seen text.entry) ≤ counted steps.new + index_entry (chars Utf16 (units_seen text.entry)) (count / 64 + 1) }
     ensures steps { counted steps.new + range.start ≤ counted steps.old + 1 + length (units_seen text.entry) }
 {
     // This call reads no unit. Its contract gives the proof that the units are well formed.

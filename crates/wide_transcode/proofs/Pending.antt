@@ -3,7 +3,7 @@ use Rattle.std.proofs.Common.{◌≡◌, ℕ, ◌+◌, ◌-◌, ◌%◌, ◌<◌
 use Rattle.std.proofs.lemmas.List.{take_all}
 use Rattle.std.specs.Prelude.{is_some}
 use Rattle.wide_bytes.specs.Bytes.{unit_in, units_in}
-use Rattle.wide_transcode.specs.Encoded.{IsCertainFault, IsCutShort, StopsAt, IsPending, HoldsAt, IsPendingOr}
+use Rattle.wide_transcode.specs.Encoded.{IsCertainFault, IsIncompleteTail, StopsAt, IsPending, HoldsAt, IsPendingOr}
 use Rattle.wide_bytes.specs.declared.order.BoM.{BoM}
 use Rattle.wide_bytes.specs.declared.order.BoM.TheVariants.{Little, Big}
 use Rattle.wide_utf16_to_utf8.proofs.UnitEncodings.{drop-split}
@@ -34,14 +34,14 @@ pub zero-unit : (order : BoM) → unit_in order 0 0 ≡ 0
 zero-unit Little = refl
 zero-unit Big = refl
 
-cut-or : (order : BoM) (bytes : List ℕ) → IsCutShort order bytes → IsPendingOr order bytes
+cut-or : (order : BoM) (bytes : List ℕ) → IsIncompleteTail order bytes → IsPendingOr order bytes
 cut-or order [] cut = tt
 cut-or order (a ∷ []) cut = tt
 cut-or order (a ∷ b ∷ []) cut = inl cut
 cut-or order (a ∷ b ∷ c ∷ []) cut = cut
 cut-or order (a ∷ b ∷ c ∷ d ∷ bytes) cut = absurd cut
 
-cut-or_zero : (order : BoM) (bytes : List ℕ) → length bytes % 2 ≡ 0 → IsCutShort order bytes → IsPendingOr order (bytes ++ 0 ∷ 0 ∷ [])
+cut-or_zero : (order : BoM) (bytes : List ℕ) → length bytes % 2 ≡ 0 → IsIncompleteTail order bytes → IsPendingOr order (bytes ++ 0 ∷ 0 ∷ [])
 cut-or_zero order [] even cut = inr (zero-unit order)
 cut-or_zero order (a ∷ []) even cut = absurd (omega arith)
 cut-or_zero order (a ∷ b ∷ []) even cut = (cut, refl, refl)
@@ -57,7 +57,7 @@ module _ (order : BoM) (bytes : List ℕ) (i n : ℕ) (low : i ≤ n) (high : n 
   pending-fault None some stop = absurd cc
   pending-fault (Some u) some stop = subst (λ bs. IsCertainFault order bs u) (sym (drop-split i n bytes low high)) (certain-append (drop n bytes) stop)
 
-  pending-or : i % 2 ≡ 0 → ZeroAfter bytes n → IsCutShort order (drop i (take n bytes)) → (n ≡ length bytes) ⊎ (n < length bytes) → IsPendingOr order (drop i bytes)
+  pending-or : i % 2 ≡ 0 → ZeroAfter bytes n → IsIncompleteTail order (drop i (take n bytes)) → (n ≡ length bytes) ⊎ (n < length bytes) → IsPendingOr order (drop i bytes)
   pending-or even zeros cut (inl all) = subst (λ bs. IsPendingOr order bs) (ap (λ bs. drop i bs) (take_all n bytes (omega arith))) (cut-or order (drop i (take n bytes)) cut)
   pending-or even zeros cut (inr some) =
       let z = zeros some in

@@ -5,7 +5,7 @@ use Rattle.wide_bytes.specs.Bytes.{unit_in, units_in}
 use Rattle.wide_bytes.specs.declared.order.BoM.{BoM}
 use Rattle.wide_bytes.proofs.UnitLists.{units_in-take, units_in-drop, units_in-half}
 use Rattle.wide_utf16_to_utf8.specs.Encoded.{BeginsWithFault, AreCutShort, EncodedUnits, StopsBefore}
-use Rattle.wide_transcode.specs.Encoded.{IsCertainFault, IsCutShort, StopsAt}
+use Rattle.wide_transcode.specs.Encoded.{IsCertainFault, IsIncompleteTail, StopsAt}
 use Rattle.wide_transcode.specs.Lossied.{IsText, Lossied}
 use Rattle.wide_transcode.proofs.Pending.{certain-low, certain-high}
 use Rattle.wide_transcode.proofs.Lossied.{block-no_zero, text-flag, text-well}
@@ -47,7 +47,7 @@ encoded-bytes order bytes us text r n same within e count none =
 
 -- ---- where encoding stops
 
-cut-bytes : (order : BoM) (bytes : List ℕ) → AreCutShort (units_in order bytes) → IsCutShort order bytes
+cut-bytes : (order : BoM) (bytes : List ℕ) → AreCutShort (units_in order bytes) → IsIncompleteTail order bytes
 unfolding units_in
 cut-bytes order [] cut = tt
 cut-bytes order (a ∷ []) cut = tt

@@ -10,16 +10,16 @@ pub record IsCertainFault (order : BoM) (bytes : List ℕ) (u : ℕ) : Type 0 wh
   pub with : (more : List ℕ) → (tail : List ℕ) × (units_in order (bytes ++ more) ≡ u ∷ tail) × IsUnpaired u tail
 
 -- The bytes have no whole unit, or only one high surrogate.
-abbrev pub IsCutShort : BoM → List ℕ → Type 0
-IsCutShort order [] = Unit {0}
-IsCutShort order (a ∷ []) = Unit {0}
-IsCutShort order (a ∷ b ∷ []) = IsHighSurrogate Utf16 (unit_in order a b)
-IsCutShort order (a ∷ b ∷ c ∷ []) = IsHighSurrogate Utf16 (unit_in order a b)
-IsCutShort order (a ∷ b ∷ c ∷ d ∷ rest) = ⊥
+abbrev pub IsIncompleteTail : BoM → List ℕ → Type 0
+IsIncompleteTail order [] = Unit {0}
+IsIncompleteTail order (a ∷ []) = Unit {0}
+IsIncompleteTail order (a ∷ b ∷ []) = IsHighSurrogate Utf16 (unit_in order a b)
+IsIncompleteTail order (a ∷ b ∷ c ∷ []) = IsHighSurrogate Utf16 (unit_in order a b)
+IsIncompleteTail order (a ∷ b ∷ c ∷ d ∷ rest) = ⊥
 
 -- Encoding stopped before these bytes: at a fault, or because no character was complete.
 abbrev pub StopsAt : BoM → List ℕ → Option ℕ → Type 0
-StopsAt order bytes None = IsCutShort order bytes
+StopsAt order bytes None = IsIncompleteTail order bytes
 StopsAt order bytes (Some u) = IsCertainFault order bytes u
 
 -- What may be left of a chunk before more is read: nothing or half a unit; one high surrogate, with or without half a

@@ -13,15 +13,15 @@ use std::alloc::Allocator;
 use wide_error::OutOfMemory;
 use wide_ucstr::UCStr;
 use wide_ustring::UString;
-use wide_ustring::extend::{Growing, Piece, extend, from_iter};
+use wide_ustring::extend::{Appendable, Growing, extend, from_iter};
 use wide_utferror::FaultUnit;
 
-/// The marker for the impls of `Piece` for C strings, which append their contents, without their NULs, to a string.
+/// The marker for the impls of `Appendable` for C strings, which append their contents, without their NULs, to a string.
 ///
 /// # Example
 ///
 /// ```
-/// use widestring::ustring::extend::Piece;
+/// use widestring::ustring::extend::Appendable;
 ///
 /// let mut text = U16String::from_str(rt.alloc(), "Hi")?;
 /// U16CStr::from_slice(&[0x21, 0])?.push_to(&mut text)?;
@@ -29,7 +29,7 @@ use wide_utferror::FaultUnit;
 /// ```
 pub struct OfCStrings;
 
-impl<C: FaultUnit, A: Allocator> Piece<UString<C, A>, OfCStrings> for UCStr<'_, C> {
+impl<C: FaultUnit, A: Allocator> Appendable<UString<C, A>, OfCStrings> for UCStr<'_, C> {
     ghost text = { λ s. map C.number (contents_seen s) };
 
     fn push_to(self, string: &mut UString<C, A>) -> Result<(), OutOfMemory> {
@@ -37,7 +37,8 @@ impl<C: FaultUnit, A: Allocator> Piece<UString<C, A>, OfCStrings> for UCStr<'_, 
     }
 }
 
-impl<C: FaultUnit, A: Allocator, B: Allocator> Piece<UString<C, A>, OfCStrings> for UCString<C, B> {
+impl<C: FaultUnit, A: Allocator, B: Allocator> Appendable<UString<C, A>, OfCStrings>
+    for UCString<C, B> {
     ghost text = { λ s. map C.number (contents s.units) };
 
     fn push_to(self, string: &mut UString<C, A>) -> Result<(), OutOfMemory> {

@@ -30,7 +30,7 @@ trait Test<C: Copy, const N: usize>: Copy {
 // Returns the index of the first 16-bit unit that passes, or the length if there is none, if none of the units before
 // the last sixteen passes.
 #[inline(always)]
-fn last_of_16<T: Test<u16, 16>>(units: &[u16], test: T) -> usize
+fn first_in_last_16<T: Test<u16, 16>>(units: &[u16], test: T) -> usize
     requires whole { 16 ≤ length units.now }
     requires before { length units.now - 16 ≤ first_offset (T.passes test) units.now }
     ensures { result ≡ first_offset (T.passes test) units.now }
@@ -56,7 +56,7 @@ fn first_of_16<T: Test<u16, 16>>(units: &[u16], test: T) -> usize
         }
     }
     if units.len() >= 16 && !rest.is_empty() {
-        return last_of_16(units, test);
+        return first_in_last_16(units, test);
     }
     for k in blocks.len() * 16..units.len() {
         if test.accepts(units[k]) {
@@ -69,7 +69,7 @@ fn first_of_16<T: Test<u16, 16>>(units: &[u16], test: T) -> usize
 // Returns the index of the first 32-bit unit that passes, or the length if there is none, if none of the units before
 // the last eight passes.
 #[inline(always)]
-fn last_of_32<T: Test<u32, 8>>(units: &[u32], test: T) -> usize
+fn first_in_last_32<T: Test<u32, 8>>(units: &[u32], test: T) -> usize
     requires whole { 8 ≤ length units.now }
     requires before { length units.now - 8 ≤ first_offset (T.passes test) units.now }
     ensures { result ≡ first_offset (T.passes test) units.now }
@@ -95,7 +95,7 @@ fn first_of_32<T: Test<u32, 8>>(units: &[u32], test: T) -> usize
         }
     }
     if units.len() >= 8 && !rest.is_empty() {
-        return last_of_32(units, test);
+        return first_in_last_32(units, test);
     }
     for k in blocks.len() * 8..units.len() {
         if test.accepts(units[k]) {

@@ -4,7 +4,7 @@ ghost use Rattle.wide_forms.specs.EncodingForm.{Utf16, Utf32};
 ghost use Rattle.wide_forms.specs.Segmentation.{Char, Fault};
 ghost use Rattle.wide_forms.specs.Items.{items, IsFirstFault};
 ghost use Rattle.wide_forms.specs.Lossy.{lossy};
-ghost use Rattle.wide_forms.specs.Statements.{SegmentationExists, SegmentationIsUnique, SegmentationIsLiteral16, SegmentationIsLiteral32, LooseSegmentationsDiffer, ItemsJoinAfter, ItemsJoinBefore, EncodingIsWellFormed, EncodingDecodes, WellFormedIsEncoded, BoundariesAreSeen, FirstFaultsAreAfterText, FirstFaultsAreCounted, WellFormedOrFaulty, OffsetsAreLengths, BoundariesAreOffsets, CutsAreWellFormed, PartsAreWellFormed, SplicesAreWellFormed, EncodingsAreCut, OffsetsGrow, EncodingsAreSpliced, FiltersAreWellFormed, EqualCharacters, Utf8IsStds, Units32AreItems, Items32Join, Items32Count, Items16Count, LossyIsScalars, LossyKeepsWellFormed, LossyIsWellFormed, LossyOnceIsEnough, LossyKeepsLength, LossyKeepsPrefix, EachIsLossy, CharactersPartLossy, RunsGiveOne, RunsGiveNone, RunsGoOn, LossyAfterNone, LossyGoesOn, PoliciesGiveScalars, PoliciesKeepWellFormed, PoliciesTwice, PoliciesNeverLengthen, CodePointOfText, CodePointOfNone, OrderAgreesWithEquality, NoUnitsNoLines, UnendedIsOneLine, FeedEndsLine};
+ghost use Rattle.wide_forms.specs.Statements.{SegmentationExists, SegmentationIsUnique, SegmentationIsLiteral16, SegmentationIsLiteral32, LooseSegmentationsDiffer, ItemsJoinAfter, ItemsJoinBefore, EncodingIsWellFormed, EncodingDecodes, WellFormedIsEncoded, BoundariesAreSeen, FirstFaultsAreAfterText, FirstFaultsAreCounted, WellFormedOrFaulty, OffsetsAreLengths, BoundariesAreOffsets, CutsAreWellFormed, PartsAreWellFormed, SplicesAreWellFormed, EncodingsAreCut, OffsetsGrow, EncodingsAreSpliced, FiltersAreWellFormed, EqualCharacters, Utf8IsStds, Units32AreItems, Items32Join, Items32Count, Items16Count, LossyIsScalars, LossyKeepsWellFormed, LossyIsWellFormed, LossyOnceIsEnough, LossyKeepsLength, LossyKeepsPrefix, EachIsLossy, CharactersPartLossy, RunsGiveOne, SkipGivesNone, RunsGoOn, LossyAfterNone, LossyGoesOn, PoliciesGiveScalars, PoliciesKeepWellFormed, PoliciesTwice, PoliciesNeverLengthen, CodePointOfText, CodePointOfNone, OrderAgreesWithEquality, NoUnitsNoLines, UnendedIsOneLine, FeedEndsLine};
 
 /// States that each list of code units has exactly one segmentation (Unicode Standard, D84a and D85a).
 pub fn one_segmentation()
@@ -66,7 +66,7 @@ pub fn lossy_text_by_policy()
     ensures each { EachIsLossy }
     ensures parts { CharactersPartLossy }
     ensures one { RunsGiveOne }
-    ensures none { RunsGiveNone }
+    ensures none { SkipGivesNone }
     ensures on { RunsGoOn }
     ensures after_none { LossyAfterNone }
     ensures beyond { LossyGoesOn }

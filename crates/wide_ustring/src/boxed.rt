@@ -6,7 +6,7 @@ ghost use Rattle.wide_ustr.specs.View.{units_seen};
 ghost use Rattle.wide_ustring.specs.Extended.{Adds, Collects, numbered};
 ghost use Rattle.wide_ustring.specs.Units.{ustring_len};
 
-use crate::extend::{Piece, Whole, extend, from_iter};
+use crate::extend::{Appendable, Whole, extend, from_iter};
 use crate::ustring::UString;
 use std::alloc::{Allocator, Global};
 use std::fmt;
@@ -143,7 +143,8 @@ impl<C: FaultUnit, A: Allocator> fmt::Debug for BoxedUStr<C, A> {
     }
 }
 
-impl<C: FaultUnit, A: Allocator, B: Allocator> Piece<UString<C, A>, Whole> for BoxedUStr<C, B> {
+impl<C: FaultUnit, A: Allocator, B: Allocator> Appendable<UString<C, A>, Whole>
+    for BoxedUStr<C, B> {
     ghost text = { map C.number };
 
     fn push_to(self, string: &mut UString<C, A>) -> Result<(), OutOfMemory> {

@@ -6,7 +6,7 @@ ghost use Rattle.wide_ustr.specs.View.{units_seen};
 ghost use Rattle.wide_ustring.specs.CowUnits.{cow_units, IfOwned};
 ghost use Rattle.wide_ustring.specs.Extended.{Adds, Collects, numbered};
 
-use crate::extend::{Piece, Whole, extend, from_iter};
+use crate::extend::{Appendable, Whole, extend, from_iter};
 use crate::ustring::UString;
 use crate::view::UStrInUstring;
 use std::alloc::{Allocator, Global};
@@ -81,7 +81,8 @@ impl<C: FaultUnit, A: Allocator> fmt::Debug for CowUStr<'_, C, A> {
     }
 }
 
-impl<C: FaultUnit, A: Allocator, B: Allocator> Piece<UString<C, A>, Whole> for CowUStr<'_, C, B> {
+impl<C: FaultUnit, A: Allocator, B: Allocator> Appendable<UString<C, A>, Whole>
+    for CowUStr<'_, C, B> {
     ghost text = { λ s. map C.number (cow_units s) };
 
     fn push_to(self, string: &mut UString<C, A>) -> Result<(), OutOfMemory> {

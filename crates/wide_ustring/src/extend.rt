@@ -46,14 +46,14 @@ impl<C: FaultUnit, A: Allocator> Growing for UString<C, A> {
 /// # Example
 ///
 /// ```
-/// use widestring::ustring::extend::Piece;
+/// use widestring::ustring::extend::Appendable;
 ///
 /// let mut string = U16String::new(rt.alloc());
 /// '😀'.push_to(&mut string)?;
 /// "!".push_to(&mut string)?;
 /// assert!(rt; string.as_slice() == [0xd83d, 0xde00, 0x21].as_slice());
 /// ```
-pub trait Piece<S: Growing, M> {
+pub trait Appendable<S: Growing, M> {
     // The numbers of the item's units.
     ghost text: { Self → List ℕ };
 
@@ -69,20 +69,20 @@ pub trait Piece<S: Growing, M> {
         ensures capacity { (S.seen string.old).capacity ≤ (S.seen string.new).capacity };
 }
 
-/// The marker for impls of [`Piece`] in the crate of their string, which need no marker of their own.
+/// The marker for impls of [`Appendable`] in the crate of their string, which need no marker of their own.
 ///
 /// # Example
 ///
 /// ```
-/// use widestring::ustring::extend::{Piece, Whole};
+/// use widestring::ustring::extend::{Appendable, Whole};
 ///
 /// let mut string = U16String::new(rt.alloc());
-/// <char as Piece<U16String, Whole>>::push_to('é', &mut string)?;
+/// <char as Appendable<U16String, Whole>>::push_to('é', &mut string)?;
 /// assert!(rt; string.as_slice() == [0xe9].as_slice());
 /// ```
 pub struct Whole;
 
-impl<C: FaultUnit, A: Allocator> Piece<UString<C, A>, Whole> for char {
+impl<C: FaultUnit, A: Allocator> Appendable<UString<C, A>, Whole> for char {
     ghost text = { code_units C.form };
 
     fn push_to(self, string: &mut UString<C, A>) -> Result<(), OutOfMemory> {
@@ -90,7 +90,7 @@ impl<C: FaultUnit, A: Allocator> Piece<UString<C, A>, Whole> for char {
     }
 }
 
-impl<C: FaultUnit, A: Allocator> Piece<UString<C, A>, Whole> for &char {
+impl<C: FaultUnit, A: Allocator> Appendable<UString<C, A>, Whole> for &char {
     ghost text = { λ c. code_units C.form c.now };
 
     fn push_to(self, string: &mut UString<C, A>) -> Result<(), OutOfMemory> {
@@ -98,7 +98,7 @@ impl<C: FaultUnit, A: Allocator> Piece<UString<C, A>, Whole> for &char {
     }
 }
 
-impl<C: FaultUnit, A: Allocator> Piece<UString<C, A>, Whole> for UStr<'_, C> {
+impl<C: FaultUnit, A: Allocator> Appendable<UString<C, A>, Whole> for UStr<'_, C> {
     ghost text = { λ s. map C.number (units_seen s) };
 
     fn push_to(self, string: &mut UString<C, A>) -> Result<(), OutOfMemory> {
@@ -106,7 +106,7 @@ impl<C: FaultUnit, A: Allocator> Piece<UString<C, A>, Whole> for UStr<'_, C> {
     }
 }
 
-impl<C: FaultUnit, A: Allocator> Piece<UString<C, A>, Whole> for &str {
+impl<C: FaultUnit, A: Allocator> Appendable<UString<C, A>, Whole> for &str {
     ghost text = { λ t. encode C.form (chars t.now) };
 
     fn push_to(self, string: &mut UString<C, A>) -> Result<(), OutOfMemory> {
@@ -114,7 +114,7 @@ impl<C: FaultUnit, A: Allocator> Piece<UString<C, A>, Whole> for &str {
     }
 }
 
-impl<C: FaultUnit, A: Allocator, B: Allocator> Piece<UString<C, A>, Whole> for UString<C, B> {
+impl<C: FaultUnit, A: Allocator, B: Allocator> Appendable<UString<C, A>, Whole> for UString<C, B> {
     ghost text = { λ s. map C.number s.units };
 
     fn push_to(self, string: &mut UString<C, A>) -> Result<(), OutOfMemory> {
@@ -122,7 +122,7 @@ impl<C: FaultUnit, A: Allocator, B: Allocator> Piece<UString<C, A>, Whole> for U
     }
 }
 
-impl<C: FaultUnit, A: Allocator, B: Allocator> Piece<UString<C, A>, Whole> for String<B> {
+impl<C: FaultUnit, A: Allocator, B: Allocator> Appendable<UString<C, A>, Whole> for String<B> {
     ghost text = { λ s. encode C.form (chars (string_bytes s)) };
 
     fn push_to(self, string: &mut UString<C, A>) -> Result<(), OutOfMemory> {
@@ -140,7 +140,7 @@ impl<C: FaultUnit, A: Allocator, B: Allocator> Piece<UString<C, A>, Whole> for S
 /// # Errors
 ///
 /// [`OutOfMemory`] if the allocation for an item fails. The string then holds the items before it.
-pub fn extend<S: Growing, M, P: Piece<S, M>, U: IntoIterator<Item = P>>(
+pub fn extend<S: Growing, M, P: Appendable<S, M>, U: IntoIterator<Item = P>>(
     string: &mut S,
     pieces: U,
 ) -> Result<(), OutOfMemory>
@@ -164,7 +164,7 @@ pub fn extend<S: Growing, M, P: Piece<S, M>, U: IntoIterator<Item = P>>(
 /// # Errors
 ///
 /// The allocation for an item failed. The error is the string of the items before it.
-pub fn from_iter<S: Growing, M, P: Piece<S, M>, U: IntoIterator<Item = P>>(
+pub fn from_iter<S: Growing, M, P: Appendable<S, M>, U: IntoIterator<Item = P>>(
     empty: S,
     pieces: U,
 ) -> Result<S, S>

@@ -10,27 +10,27 @@ ghost use Rattle.wide_utfstr.specs.View.{units_seen};
 use std::alloc::Allocator;
 use wide_error::OutOfMemory;
 use wide_ustring::UString;
-use wide_ustring::extend::{Growing, Piece, extend, from_iter};
+use wide_ustring::extend::{Appendable, Growing, extend, from_iter};
 use wide_utferror::FaultUnit;
 use wide_utfstr::UtfStr;
 use wide_utfstring::UtfString;
 
-/// The marker for the impls of `Piece` for well-formed text, which append its units to a string of any units.
+/// The marker for the impls of `Appendable` for well-formed text, which append its units to a string of any units.
 ///
 /// # Example
 ///
 /// ```
-/// use widestring::ustring::extend::Piece;
+/// use widestring::ustring::extend::Appendable;
 /// use widestring::utfstring::OfText;
 ///
 /// let mut string = U16String::new(rt.alloc());
 /// let text = Utf16Str::from_slice(&[0x48, 0x69])?;
-/// <Utf16Str as Piece<U16String, OfText>>::push_to(text, &mut string)?;
+/// <Utf16Str as Appendable<U16String, OfText>>::push_to(text, &mut string)?;
 /// assert!(rt; string.as_slice() == [0x48, 0x69].as_slice());
 /// ```
 pub struct OfText;
 
-impl<C: FaultUnit, A: Allocator> Piece<UString<C, A>, OfText> for UtfStr<'_, C> {
+impl<C: FaultUnit, A: Allocator> Appendable<UString<C, A>, OfText> for UtfStr<'_, C> {
     ghost text = { λ s. map C.number (units_seen s) };
 
     fn push_to(self, string: &mut UString<C, A>) -> Result<(), OutOfMemory> {
@@ -38,7 +38,8 @@ impl<C: FaultUnit, A: Allocator> Piece<UString<C, A>, OfText> for UtfStr<'_, C> 
     }
 }
 
-impl<C: FaultUnit, A: Allocator, B: Allocator> Piece<UString<C, A>, OfText> for UtfString<C, B> {
+impl<C: FaultUnit, A: Allocator, B: Allocator> Appendable<UString<C, A>, OfText>
+    for UtfString<C, B> {
     ghost text = { λ s. map C.number s.units };
 
     fn push_to(self, string: &mut UString<C, A>) -> Result<(), OutOfMemory> {

@@ -3,7 +3,7 @@
 
 mod ascii;
 mod boundaries;
-mod compared;
+mod compare;
 mod compared_units;
 mod display;
 mod escapes;

@@ -10,7 +10,7 @@ use std::alloc::{Allocator, Global};
 use std::marker::Model;
 use wide_error::OutOfMemory;
 use wide_ustring::BoxedUStr;
-use wide_ustring::extend::{Piece, Whole, extend, from_iter};
+use wide_ustring::extend::{Appendable, Whole, extend, from_iter};
 use wide_utferror::FaultUnit;
 use wide_utfstr::UtfStr;
 
@@ -73,7 +73,8 @@ impl<C: FaultUnit, A: Allocator> BoxedUtfStr<C, A> {
     }
 }
 
-impl<C: FaultUnit, A: Allocator, B: Allocator> Piece<UtfString<C, A>, Whole> for BoxedUtfStr<C, B> {
+impl<C: FaultUnit, A: Allocator, B: Allocator> Appendable<UtfString<C, A>, Whole>
+    for BoxedUtfStr<C, B> {
     ghost text = { λ s. map C.number s };
 
     fn push_to(self, string: &mut UtfString<C, A>) -> Result<(), OutOfMemory> {

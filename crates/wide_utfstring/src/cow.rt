@@ -9,7 +9,7 @@ use crate::UtfString;
 use crate::view::UtfStrInUtfstring;
 use std::alloc::{Allocator, Global};
 use wide_error::OutOfMemory;
-use wide_ustring::extend::{Piece, Whole, extend, from_iter};
+use wide_ustring::extend::{Appendable, Whole, extend, from_iter};
 use wide_utferror::FaultUnit;
 use wide_utfstr::UtfStr;
 
@@ -72,7 +72,7 @@ impl<'a, C: FaultUnit, A: Allocator> CowUtfStr<'a, C, A> {
     }
 }
 
-impl<C: FaultUnit, A: Allocator, B: Allocator> Piece<UtfString<C, A>, Whole>
+impl<C: FaultUnit, A: Allocator, B: Allocator> Appendable<UtfString<C, A>, Whole>
     for CowUtfStr<'_, C, B> {
     ghost text = { λ s. map C.number (cow_units s) };
 

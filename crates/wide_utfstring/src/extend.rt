@@ -12,7 +12,7 @@ ghost use Rattle.wide_utfstr.specs.View.{units_seen};
 use crate::UtfString;
 use std::alloc::Allocator;
 use wide_error::OutOfMemory;
-use wide_ustring::extend::{Growing, Piece, Whole, extend, from_iter};
+use wide_ustring::extend::{Appendable, Growing, Whole, extend, from_iter};
 use wide_utferror::FaultUnit;
 use wide_utfstr::UtfStr;
 
@@ -20,7 +20,7 @@ impl<C: FaultUnit, A: Allocator> Growing for UtfString<C, A> {
     ghost seen = { numbered C.number };
 }
 
-impl<C: FaultUnit, A: Allocator> Piece<UtfString<C, A>, Whole> for char {
+impl<C: FaultUnit, A: Allocator> Appendable<UtfString<C, A>, Whole> for char {
     ghost text = { code_units C.form };
 
     fn push_to(self, string: &mut UtfString<C, A>) -> Result<(), OutOfMemory> {
@@ -28,7 +28,7 @@ impl<C: FaultUnit, A: Allocator> Piece<UtfString<C, A>, Whole> for char {
     }
 }
 
-impl<C: FaultUnit, A: Allocator> Piece<UtfString<C, A>, Whole> for &char {
+impl<C: FaultUnit, A: Allocator> Appendable<UtfString<C, A>, Whole> for &char {
     ghost text = { λ c. code_units C.form c.now };
 
     fn push_to(self, string: &mut UtfString<C, A>) -> Result<(), OutOfMemory> {
@@ -36,7 +36,7 @@ impl<C: FaultUnit, A: Allocator> Piece<UtfString<C, A>, Whole> for &char {
     }
 }
 
-impl<C: FaultUnit, A: Allocator> Piece<UtfString<C, A>, Whole> for &str {
+impl<C: FaultUnit, A: Allocator> Appendable<UtfString<C, A>, Whole> for &str {
     ghost text = { λ t. encode C.form (chars t.now) };
 
     fn push_to(self, string: &mut UtfString<C, A>) -> Result<(), OutOfMemory> {
@@ -44,7 +44,7 @@ impl<C: FaultUnit, A: Allocator> Piece<UtfString<C, A>, Whole> for &str {
     }
 }
 
-impl<C: FaultUnit, A: Allocator, B: Allocator> Piece<UtfString<C, A>, Whole> for String<B> {
+impl<C: FaultUnit, A: Allocator, B: Allocator> Appendable<UtfString<C, A>, Whole> for String<B> {
     ghost text = { λ s. encode C.form (chars (string_bytes s)) };
 
     fn push_to(self, string: &mut UtfString<C, A>) -> Result<(), OutOfMemory> {
@@ -52,7 +52,7 @@ impl<C: FaultUnit, A: Allocator, B: Allocator> Piece<UtfString<C, A>, Whole> for
     }
 }
 
-impl<C: FaultUnit, A: Allocator> Piece<UtfString<C, A>, Whole> for UtfStr<'_, C> {
+impl<C: FaultUnit, A: Allocator> Appendable<UtfString<C, A>, Whole> for UtfStr<'_, C> {
     ghost text = { λ s. map C.number (units_seen s) };
 
     fn push_to(self, string: &mut UtfString<C, A>) -> Result<(), OutOfMemory> {
@@ -60,7 +60,8 @@ impl<C: FaultUnit, A: Allocator> Piece<UtfString<C, A>, Whole> for UtfStr<'_, C>
     }
 }
 
-impl<C: FaultUnit, A: Allocator, B: Allocator> Piece<UtfString<C, A>, Whole> for UtfString<C, B> {
+impl<C: FaultUnit, A: Allocator, B: Allocator> Appendable<UtfString<C, A>, Whole>
+    for UtfString<C, B> {
     ghost text = { λ s. map C.number s.units };
 
     fn push_to(self, string: &mut UtfString<C, A>) -> Result<(), OutOfMemory> {

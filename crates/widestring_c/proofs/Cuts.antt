@@ -6,7 +6,7 @@ use Rattle.wide_forms.specs.Searches.{is_high}
 use Rattle.wide_forms.specs.Laws.Forms.{IsPair-parts}
 use Rattle.wide_forms.specs.Laws.Items.{IsCut}
 use Rattle.wide_bytes.specs.Bytes.{unit_in, units_in}
-use Rattle.wide_transcode.specs.Encoded.{IsCutShort}
+use Rattle.wide_transcode.specs.Encoded.{IsIncompleteTail}
 use Rattle.wide_bytes.specs.declared.order.BoM.{BoM}
 use Rattle.wide_transcode.proofs.Certain.{high-cut, top-of_high}
 use Rattle.wide_bytes.proofs.Pairs.{length-units_in}
@@ -76,7 +76,7 @@ cut-after_plain order bytes n u even some within is plain vs =
 
 -- ---- what is left after such an offset
 
-cut-short : (order : BoM) (rest : List ℕ) → length rest < 4 → (2 ≤ length rest → IsHighSurrogate Utf16 (unit_in order (get_or rest 0 0) (get_or rest 1 0))) → IsCutShort order rest
+cut-short : (order : BoM) (rest : List ℕ) → length rest < 4 → (2 ≤ length rest → IsHighSurrogate Utf16 (unit_in order (get_or rest 0 0) (get_or rest 1 0))) → IsIncompleteTail order rest
 cut-short order [] short high = tt
 cut-short order (a ∷ []) short high = tt
 cut-short order (a ∷ b ∷ []) short high = high (omega arith)
@@ -84,7 +84,7 @@ cut-short order (a ∷ b ∷ c ∷ []) short high = high (omega arith)
 cut-short order (a ∷ b ∷ c ∷ d ∷ rest) short high = absurd (omega arith)
 
 pub cut-short_after : (order : BoM) (bytes : List ℕ) (n : ℕ) → n ≤ length bytes → length bytes < n + 4 → (n + 2 ≤ length bytes → IsHighSurrogate Utf16 (unit_in order (get_or bytes n 0) (get_or bytes (n + 1) 0)))
-    → IsCutShort order (drop n bytes)
+    → IsIncompleteTail order (drop n bytes)
 cut-short_after order bytes n within short high =
     let long = length-drop n bytes in
     let first : get_or bytes n 0 ≡ get_or (drop n bytes) 0 0 = ap (λ m. get_or bytes m 0) (omega arith) ∙ sym (get_or-drop n bytes 0 0) in

@@ -4,7 +4,7 @@ ghost use Rattle.std.specs.Prelude.{◌≡◌, ◌<◌, ◌≤◌, ◌+◌, ◌%
 ghost use Rattle.wide_forms.specs.EncodingForm.{Utf16, IsHighSurrogate};
 ghost use Rattle.wide_forms.specs.Laws.Items.{IsCut};
 ghost use Rattle.wide_bytes.specs.Bytes.{unit_in, units_in};
-ghost use Rattle.wide_transcode.specs.Encoded.{IsCutShort};
+ghost use Rattle.wide_transcode.specs.Encoded.{IsIncompleteTail};
 
 use wide_bytes::{BoM, unit_in};
 use wide_forms::is_high_surrogate;
@@ -34,7 +34,7 @@ pub(crate) fn len_before_high_surrogate(order: BoM, bytes: &[u8], prefix: usize)
 pub(crate) fn complete_len(order: BoM, bytes: &[u8]) -> usize
     ensures within { result ≤ length bytes.now }
     ensures even { result % 2 ≡ 0 }
-    ensures rest { IsCutShort order (drop result bytes.now) }
+    ensures rest { IsIncompleteTail order (drop result bytes.now) }
     ensures cut { (more : List ℕ) → IsCut Utf16 (units_in order (take result bytes.now)) (units_in order (drop result bytes.now ++ more)) }
 {
     len_before_high_surrogate(order, bytes, bytes.len() / 2 * 2)

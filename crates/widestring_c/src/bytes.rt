@@ -5,7 +5,7 @@ ghost use Rattle.wide_forms.specs.Items.{IsFirstFault, IsWellFormed, chars};
 ghost use Rattle.wide_forms.specs.Utf8.{utf8};
 ghost use Rattle.wide_forms.specs.Laws.Items.{IsCut};
 ghost use Rattle.wide_bytes.specs.Bytes.{bom_of, unit_in, units_in};
-ghost use Rattle.wide_transcode.specs.Encoded.{IsCutShort};
+ghost use Rattle.wide_transcode.specs.Encoded.{IsIncompleteTail};
 ghost use Rattle.widestring_c.specs.Buffers.{Wrote, WroteIf};
 ghost use Rattle.widestring_c.specs.Bytes.{IsWellFormedBy, IsWellFormedIn, bytes_end_in_fault, bytes_text, is_set, number_of_flag, number_of_bom, order_and_policy, order_named, text_in};
 ghost use Rattle.widestring_c.specs.Policies.{policy_of};
@@ -166,7 +166,7 @@ pub extern "C" fn wide_utf16_bytes_order(bytes: &[u8]) -> u32
 pub extern "C" fn wide_utf16_bytes_complete(bytes: &[u8], order: u32) -> usize
     ensures within { result ≤ length bytes.now }
     ensures even { result % 2 ≡ 0 }
-    ensures rest { IfSome (order_named order) (λ o. IsCutShort o (drop result bytes.now)) }
+    ensures rest { IfSome (order_named order) (λ o. IsIncompleteTail o (drop result bytes.now)) }
     ensures cut { IfSome (order_named order) (λ o. (more : List ℕ) → IsCut Utf16 (units_in o (take result bytes.now)) (units_in o (drop result bytes.now ++ more))) }
     ensures other { IfNone (order_named order) (result ≡ 0) }
 {

@@ -10,7 +10,7 @@ ghost use Rattle.widestring.specs.View.{units_seen};
 use std::alloc::Global;
 use widestring::error::OutOfMemory;
 use widestring::ustring::UStrInUstring;
-use widestring::ustring::extend::Piece;
+use widestring::ustring::extend::Appendable;
 use widestring::utfstring::UStringOverUtfstrs;
 use widestring::{U16Str, U16String, Utf16Str, Utf16String};
 

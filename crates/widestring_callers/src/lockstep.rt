@@ -3,10 +3,10 @@ ghost use Rattle.std.specs.Prelude.{◌≡◌, ◌<◌, ◌≤◌, ◌+◌, ◌�
 ghost use Rattle.std.specs.Str.{chars as str_chars};
 ghost use Rattle.widestring.specs.EncodingForm.{Utf16, Utf32, encode};
 ghost use Rattle.widestring.specs.Items.{chars};
-ghost use Rattle.widestring.specs.Step.{step, meaning, answer_of, Done, Char, BadPlace};
+ghost use Rattle.widestring.specs.Step.{step, meaning, reply_data, Done, Char, BadPlace};
 ghost use Rattle.widestring.specs.Counted.{AddsAtMost};
 ghost use Rattle.widestring.specs.Marked.{marked_text, units_after};
-ghost use Rattle.widestring.specs.Marks.{marks_of};
+ghost use Rattle.widestring.specs.Marks.{index_entries};
 
 use std::alloc::Global;
 use widestring::edit::{Edit, Marked16, Reply, Steps, Stopped, TextEdit, run, run_both};
@@ -31,8 +31,8 @@ pub fn edit_both(
     ensures second { OnOk result (chars Utf32 second.new.units ≡ 0x24B62 ∷ 0x62 ∷ []) }
     ensures units16 { OnOk result (first.new.units ≡ 0xD852 ∷ 0xDF62 ∷ 0x62 ∷ []) }
     ensures units32 { OnOk result (second.new.units ≡ 0x24B62 ∷ 0x62 ∷ []) }
-    ensures first_answers { OnOk result (map answer_of first_replies.new.items ≡ Done ∷ Char 0x1F600 ∷ Done ∷ BadPlace ∷ Done ∷ []) }
-    ensures second_answers { OnOk result (map answer_of second_replies.new.items ≡ Done ∷ Char 0x1F600 ∷ Done ∷ BadPlace ∷ Done ∷ []) }
+    ensures first_answers { OnOk result (map reply_data first_replies.new.items ≡ Done ∷ Char 0x1F600 ∷ Done ∷ BadPlace ∷ Done ∷ []) }
+    ensures second_answers { OnOk result (map reply_data second_replies.new.items ≡ Done ∷ Char 0x1F600 ∷ Done ∷ BadPlace ∷ Done ∷ []) }
     ensures stopped { IfErr result (λ stopped. stopped.done < 5) }
 {
     let edits = [
@@ -56,7 +56,7 @@ pub fn edit_one<T: TextEdit>(
     requires put { str_chars put.now ≡ 0x24B62 ∷ [] }
     requires replies { replies.old.items ≡ [] }
     ensures text { OnOk result (T.text text.new ≡ 0x24B62 ∷ 0x62 ∷ []) }
-    ensures answers { OnOk result (map answer_of replies.new.items ≡ Done ∷ Char 0x1F600 ∷ Done ∷ BadPlace ∷ Done ∷ []) }
+    ensures answers { OnOk result (map reply_data replies.new.items ≡ Done ∷ Char 0x1F600 ∷ Done ∷ BadPlace ∷ Done ∷ []) }
     ensures stopped { IfErr result (λ stopped. stopped.done < 5) }
 {
     let edits = [
@@ -80,7 +80,7 @@ pub fn edit_now<T: TextEdit>(
     edit: Edit<'_>,
 ) -> Result<Reply, OutOfMemory>
     ensures text { OnOk result (T.text text.new ≡ (step (T.text text.old) edit.entry).0) }
-    ensures reply { IfOk result (λ reply. answer_of reply ≡ (step (T.text text.old) edit.entry).1) }
+    ensures reply { IfOk result (λ reply. reply_data reply ≡ (step (T.text text.old) edit.entry).1) }
     ensures err { OnErr result (T.text text.new ≡ T.text text.old) }
 {
     let space = text.prepare(alloc, edit)?;
@@ -100,7 +100,7 @@ pub fn edits_keep_alike(
     requires first_replies { first_replies.old.items ≡ [] }
     requires second_replies { second_replies.old.items ≡ [] }
     ensures alike { chars Utf16 first.new.units ≡ chars Utf32 second.new.units }
-    ensures answers { map answer_of first_replies.new.items ≡ map answer_of second_replies.new.items }
+    ensures answers { map reply_data first_replies.new.items ≡ map reply_data second_replies.new.items }
 {
     run_both(alloc, first, second, edits, first_replies, second_replies)
 }
@@ -177,7 +177,7 @@ pub fn entries_after<'a>(
     marked: &'a mut Marked16,
     edit: Edit<'_>,
 ) -> Result<&'a [usize], OutOfMemory>
-    ensures { IfOk result (λ entries. entries.now ≡ marks_of (step (marked_text marked.old) edit.entry).0) }
+    ensures { IfOk result (λ entries. entries.now ≡ index_entries (step (marked_text marked.old) edit.entry).0) }
 {
     let space = marked.prepare(alloc, edit)?;
     marked.apply(edit, space);
@@ -197,7 +197,7 @@ pub fn edit_counted(
     steps: &mut Steps,
 ) -> Result<Reply, OutOfMemory>
     ensures text { OnOk result (marked_text marked.new ≡ (step (marked_text marked.old) edit.entry).0) }
-    ensures reply { IfOk result (λ reply. answer_of reply ≡ (step (marked_text marked.old) edit.entry).1) }
+    ensures reply { IfOk result (λ reply. reply_data reply ≡ (step (marked_text marked.old) edit.entry).1) }
     ensures err { OnErr result (marked_text marked.new ≡ marked_text marked.old) }
     ensures err_steps { OnErr result (steps.new ≡ steps.old) }
     ensures steps { OnOk result (AddsAtMost steps.old steps.new (512 + units_after (marked_text marked.old) (marked_text marked.new) edit.entry)) }

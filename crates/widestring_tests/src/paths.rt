@@ -123,7 +123,7 @@ pub mod ustring {
 }
 
 pub mod ustring_extend {
-    pub use widestring::ustring::extend::{Growing, Piece, Whole, extend, from_iter};
+    pub use widestring::ustring::extend::{Growing, Appendable, Whole, extend, from_iter};
 }
 
 pub mod utfstr {

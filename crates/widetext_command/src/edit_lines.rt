@@ -4,7 +4,7 @@ ghost use Rattle.std.specs.Str.{chars};
 ghost use Rattle.wide_forms.specs.EncodingForm.{Utf32};
 ghost use Rattle.wide_forms.specs.Offsets.{text_of};
 ghost use Rattle.wide_editable.specs.Marked.{marked_text, marked_units};
-ghost use Rattle.wide_edit.specs.Step.{answer_of};
+ghost use Rattle.wide_edit.specs.Step.{reply_data};
 ghost use Rattle.widetext_requests.specs.Lines as line;
 
 use std::alloc::{AllocError, Global};
@@ -41,7 +41,7 @@ fn push_lines(
     narrow: &Marked16,
     wide: &Utf32String,
 ) -> Result<(), AllocError>
-    ensures { OnOk result (string_bytes lines.new ≡ string_bytes lines.old ++ line.result_lines (map answer_of replies.now) (marked_text narrow.now) (marked_units narrow.now) wide.now.units) }
+    ensures { OnOk result (string_bytes lines.new ≡ string_bytes lines.old ++ line.result_lines (map reply_data replies.now) (marked_text narrow.now) (marked_units narrow.now) wide.now.units) }
 {
     push_replies(lines, replies)?;
     push_strings(lines, narrow, wide)
@@ -54,7 +54,7 @@ fn lines_of(
     narrow: &Marked16,
     wide: &Utf32String,
 ) -> Result<String, OutOfMemory>
-    ensures { IfOk result (λ lines. string_bytes lines ≡ line.result_lines (map answer_of replies.now) (marked_text narrow.now) (marked_units narrow.now) wide.now.units) }
+    ensures { IfOk result (λ lines. string_bytes lines ≡ line.result_lines (map reply_data replies.now) (marked_text narrow.now) (marked_units narrow.now) wide.now.units) }
 {
     let mut lines = String::new(alloc);
     push_lines(&mut lines, replies, narrow, wide)?;

@@ -31,7 +31,7 @@ abbrev pub escaped : List ℕ → List ℕ
 escaped cs = utf8 (flat_map escape_default cs)
 
 -- the line of an edit's reply
-abbrev pub reply_line : step.Answer → List ℕ
+abbrev pub reply_line : step.ReplyData → List ℕ
 reply_line step.Done = codes "done\n"
 reply_line (step.Char c) = codes "char " ++ (escaped (c ∷ []) ++ codes "\n")
 reply_line step.NoChar = codes "nochar\n"
@@ -55,11 +55,11 @@ abbrev pub string_lines : List ℕ → List ℕ → List ℕ → List ℕ
 string_lines cs narrow wide = text_line cs ++ (units_line (codes "utf16") 4 narrow ++ units_line (codes "utf32") 8 wide)
 
 -- the lines of replies, and then those of the text and of the units of two strings
-abbrev pub result_lines : List step.Answer → List ℕ → List ℕ → List ℕ → List ℕ
+abbrev pub result_lines : List step.ReplyData → List ℕ → List ℕ → List ℕ → List ℕ
 result_lines replies cs narrow wide = flat_map reply_line replies ++ string_lines cs narrow wide
 
 -- the lines of replies, and then those of a text and of its own units
-abbrev pub text_lines : List step.Answer → List ℕ → List ℕ
+abbrev pub text_lines : List step.ReplyData → List ℕ → List ℕ
 text_lines replies cs = result_lines replies cs (encode Utf16 cs) (encode Utf32 cs)
 
 -- the lines of the replies to the edits of a text, and then those of the resulting text

@@ -1,7 +1,7 @@
 //! Lines of the output of the subcommand `edit`.
 ghost use Rattle.std.specs.Prelude.{◌≡◌, [], ◌∷◌, ◌++◌, map, codes, string_bytes, OnOk};
 ghost use Rattle.std.specs.List.{flat_map};
-ghost use Rattle.wide_edit.specs.Step.{answer_of};
+ghost use Rattle.wide_edit.specs.Step.{reply_data};
 ghost use Rattle.widetext_requests.specs.Lines as line;
 
 use std::alloc::AllocError;
@@ -30,7 +30,7 @@ fn push_escaped(lines: &mut String, text: &[char]) -> Result<(), AllocError>
 
 // Appends a line for the reply of an edit.
 fn push_reply(lines: &mut String, reply: &Reply) -> Result<(), AllocError>
-    ensures { OnOk result (string_bytes lines.new ≡ string_bytes lines.old ++ line.reply_line (answer_of reply.now)) }
+    ensures { OnOk result (string_bytes lines.new ≡ string_bytes lines.old ++ line.reply_line (reply_data reply.now)) }
 {
     match reply {
         Reply::Done => writeln!(lines, "done"),
@@ -86,7 +86,7 @@ pub fn push_units32(lines: &mut String, units: &[u32]) -> Result<(), AllocError>
 ///
 /// [`AllocError`] if an allocation fails. What `lines` holds then is not specified.
 pub fn push_replies(lines: &mut String, replies: &[Reply]) -> Result<(), AllocError>
-    ensures { OnOk result (string_bytes lines.new ≡ string_bytes lines.old ++ flat_map line.reply_line (map answer_of replies.now)) }
+    ensures { OnOk result (string_bytes lines.new ≡ string_bytes lines.old ++ flat_map line.reply_line (map reply_data replies.now)) }
 {
     for reply in replies {
         push_reply(lines, reply)?;

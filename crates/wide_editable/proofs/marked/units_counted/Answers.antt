@@ -14,7 +14,7 @@ pub returns-in-Some : goal.returns-in-Some
 returns-in-Some c =
     let us = c.args.string.now.units in
     let i = c.in-SplitOff.field-0 in
-    let well = well-formed us c.recall.ensures.well_formed in
+    let well = well-formed us c.string_facts.ensures.well_formed in
     let found = found_some Utf16 us (first_index c.args.edit) c.args.start c.in-Some.at c.requires c.in-Some.is in
     let offset = subst (λ edit. IsOffsetOf Utf16 us (first_index edit) c.in-Some.at) c.in-SplitOff.is found.offset in
     rw c.in-SplitOff.is

@@ -4,7 +4,7 @@ use Rattle.wide_forms.specs.EncodingForm.{Utf16}
 use Rattle.wide_forms.specs.Items.{chars}
 use Rattle.wide_forms.specs.Laws.Encodings.{offsets-grow}
 use Rattle.wide_utfstr.specs.View.{units_seen}
-use Rattle.wide_offset_index.specs.Passed.{marks_left}
+use Rattle.wide_offset_index.specs.Passed.{entries_left}
 use Rattle.wide_offset_index.proofs.Passes.{is-some, is-none}
 use Rattle.wide_editable.proofs.marked.update.Goals as goal
 
@@ -21,10 +21,10 @@ returns-in-Some-clause-moved c =
     let cs = chars Utf16 (units_seen c.args.text) in
     let from = c.args.range.from in
     let count = c.in-Some.ensures.count in
-    λ few. elim (cases_lt (from / 64) (marks_left c.args.count c.in-Some.total)) [
+    λ few. elim (cases_lt (from / 64) (entries_left c.args.count c.in-Some.total)) [
       | inl some ↦ omega
-          (arith, c.count_if_few.ensures.read few.short, c.shift.ensures.least some, count, ap (marks_left c.args.count) count, offsets-grow Utf16 cs from (64 * (from / 64 + 1)) (omega arith), c.requires.edited.starts)
-      | inr none ↦ omega (arith, c.count_if_few.ensures.read few.short, c.shift.ensures.grows, count, ap (marks_left c.args.count) count, none)
+          (arith, c.count_if_few.ensures.read few.short, c.shift.ensures.least some, count, ap (entries_left c.args.count) count, offsets-grow Utf16 cs from (64 * (from / 64 + 1)) (omega arith), c.requires.edited.starts)
+      | inr none ↦ omega (arith, c.count_if_few.ensures.read few.short, c.shift.ensures.grows, count, ap (entries_left c.args.count) count, none)
     ]
 
 pub returns-in-Some-clause-many_removed : goal.returns-in-Some-clause-many_removed

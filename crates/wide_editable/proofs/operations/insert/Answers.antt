@@ -8,7 +8,7 @@ insert-fits-requires g c = boundary-there g.C.Unit.form (map g.C.Unit.number c.a
 pub returns-in-Some-clause-made : goal.returns-in-Some-clause-made
 returns-in-Some-clause-made g c =
     let done = c.insert-fits in
-    inserted g.C.Unit.form (map g.C.Unit.number c.args.s.now.units) c.args.index c.args.found c.requires.found c.in-Some.at c.in-Some.is (map g.C.Unit.number done.new.self.units) done.result (length c.args.s.now.units) c.args.s.now.capacity c.recall.ensures.count c.args.c
+    inserted g.C.Unit.form (map g.C.Unit.number c.args.s.now.units) c.args.index c.args.found c.requires.found c.in-Some.at c.in-Some.is (map g.C.Unit.number done.new.self.units) done.result (length c.args.s.now.units) c.args.s.now.capacity c.string_facts.ensures.count c.args.c
     c.requires.ready done.ensures.succeeds done.ensures.text
 
 pub returns-in-None-clause-made : goal.returns-in-None-clause-made

@@ -6,4 +6,4 @@ use Rattle.wide_editable.proofs.operations.push_str.Goals as goal
 pub returns-clause-made : goal.returns-clause-made
 returns-clause-made g c =
     let done = c.push_str-fits in
-    pushed_str g.C.Unit.form (text_of g.C.Unit.form g.C.Unit.number c.args.s.now.units) (text_of g.C.Unit.form g.C.Unit.number done.new.self.units) done.result (length c.args.s.now.units) c.args.s.now.capacity c.recall.ensures.count c.args.text c.requires done.ensures.succeeds done.ensures.text
+    pushed_str g.C.Unit.form (text_of g.C.Unit.form g.C.Unit.number c.args.s.now.units) (text_of g.C.Unit.form g.C.Unit.number done.new.self.units) done.result (length c.args.s.now.units) c.args.s.now.capacity c.string_facts.ensures.count c.args.text c.requires done.ensures.succeeds done.ensures.text

@@ -17,7 +17,7 @@ remove-requires-clause-below g c =
 pub returns-then-at-len-clause-made : goal.returns-then-at-len-clause-made
 returns-then-at-len-clause-made g c =
     let found = found_some g.C.Unit.form (map g.C.Unit.number c.args.s.now.units) c.args.index c.args.found c.in-Some.at c.requires c.in-Some.is in
-    rejected-remove (text_of g.C.Unit.form g.C.Unit.number c.args.s.now.units) c.args.index (end-all g.C.Unit.form g.C.Unit.number c.args.s.now.units c.recall.ensures.well_formed c.args.index c.in-Some.at found.offset (c.if-at-len.true ∙ c.len.ensures))
+    rejected-remove (text_of g.C.Unit.form g.C.Unit.number c.args.s.now.units) c.args.index (end-all g.C.Unit.form g.C.Unit.number c.args.s.now.units c.string_facts.ensures.well_formed c.args.index c.in-Some.at found.offset (c.if-at-len.true ∙ c.len.ensures))
 
 pub returns-else-at-len-clause-made : goal.returns-else-at-len-clause-made
 returns-else-at-len-clause-made g c =

@@ -18,7 +18,7 @@ pub returns-in-Some-clause-made : goal.returns-in-Some-clause-made
 returns-in-Some-clause-made g c =
     let both = split g.C.Unit.form g.C.Unit.number c.args.s.now.units c.args.index c.args.found c.requires.found c.in-Some.at c.in-Some.is c.split_at.result.1.units.now (c.split_at.ensures.back ∙ ap (drop c.in-Some.at) c.as_utfstr.ensures)
     (map g.C.Unit.number c.truncate.new.self.units) c.copy-taken.result.items c.copy-taken.ensures c.truncate.ensures.text in
-    record { text = both.0; answer = both.1 }
+    record { text = both.0; replied = both.1 }
 
 pub returns-in-None-clause-made : goal.returns-in-None-clause-made
 returns-in-None-clause-made g c = not-split g.C.Unit.form (map g.C.Unit.number c.args.s.now.units) c.args.index c.args.found c.requires.found c.in-None.is

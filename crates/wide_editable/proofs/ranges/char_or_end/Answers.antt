@@ -12,7 +12,7 @@ use Rattle.wide_editable.proofs.ranges.char_or_end.Goals as goal
 pub returns-in-Some-clause-found : goal.returns-in-Some-clause-found
 returns-in-Some-clause-found c =
     let us = c.args.string.now.units in
-    let well = well-formed us c.recall.ensures.well_formed in
+    let well = well-formed us c.string_facts.ensures.well_formed in
     let found = found_some Utf16 us c.args.index c.args.start c.in-Some.start c.requires.start c.in-Some.is in
     let starts = offset-IsOffsetOf Utf16 us well c.args.index c.in-Some.start found.offset in
     let ends : c.pass_on.result ≡ offset (chars Utf16 us) (c.args.index + 1) = c.pass_on.ensures.offset ∙ ap (λ vs. offset (chars Utf16 vs) (c.args.index + 1)) c.as_utfstr.ensures in
@@ -21,7 +21,7 @@ returns-in-Some-clause-found c =
 pub returns-in-Some-clause-steps : goal.returns-in-Some-clause-steps
 returns-in-Some-clause-steps c =
     let us = c.args.string.now.units in
-    let well = well-formed us c.recall.ensures.well_formed in
+    let well = well-formed us c.string_facts.ensures.well_formed in
     let found = found_some Utf16 us c.args.index c.args.start c.in-Some.start c.requires.start c.in-Some.is in
     let starts = offset-IsOffsetOf Utf16 us well c.args.index c.in-Some.start found.offset in
     let ends : c.pass_on.result ≡ offset (chars Utf16 us) (c.args.index + 1) = c.pass_on.ensures.offset ∙ ap (λ vs. offset (chars Utf16 vs) (c.args.index + 1)) c.as_utfstr.ensures in
@@ -31,7 +31,7 @@ returns-in-Some-clause-steps c =
 pub returns-in-Some-clause-read : goal.returns-in-Some-clause-read
 returns-in-Some-clause-read c =
     let us = c.args.string.now.units in
-    let well = well-formed us c.recall.ensures.well_formed in
+    let well = well-formed us c.string_facts.ensures.well_formed in
     let found = found_some Utf16 us c.args.index c.args.start c.in-Some.start c.requires.start c.in-Some.is in
     let starts = offset-IsOffsetOf Utf16 us well c.args.index c.in-Some.start found.offset in
     let ends : c.pass_on.result ≡ offset (chars Utf16 us) (c.args.index + 1) = c.pass_on.ensures.offset ∙ ap (λ vs. offset (chars Utf16 vs) (c.args.index + 1)) c.as_utfstr.ensures in

@@ -7,7 +7,7 @@ use Rattle.wide_forms.specs.EncodingForm.{Utf16}
 use Rattle.wide_forms.specs.Items.{chars}
 use Rattle.wide_utfstr.specs.View.{units_seen}
 use Rattle.wide_offset_index.specs.Counted.{counted}
-use Rattle.wide_offset_index.specs.Marks.{mark}
+use Rattle.wide_offset_index.specs.Marks.{index_entry}
 use Rattle.wide_offset_index.proofs.Lengths.{size}
 use Rattle.wide_offset_index.proofs.Marking.{next_char, some-length, some-marks, well-formed, whole-size, goes-within, none-left}
 use Rattle.wide_offset_index.proofs.marks.append_missing.Goals as goal
@@ -27,7 +27,7 @@ loop-c-init c =
       within = omega (arith, few);
       space = refl;
       grows = omega arith;
-      steps = ap (λ n. counted c.args.steps.now + n) (sym (c.seek-at.ensures.at ∙ ap (mark cs) number));
+      steps = ap (λ n. counted c.args.steps.now + n) (sym (c.seek-at.ensures.at ∙ ap (index_entry cs) number));
     }
 
 pub overflow_add-at : goal.overflow_add-at
@@ -68,10 +68,10 @@ loop-c-preserved c =
     let more : m + 1 ≡ length new = omega (arith, ap length c.push_reserved.ensures.items, length-append c.loop-c.marks.items (at ∷ [])) in
     let whole : read + 1 ≡ 64 * (m + 1) = omega (arith, i.few, c.if-gone-lt63.false) in
     let next : read + 1 ≡ 64 * length new + 0 = omega (arith, whole, more) in
-    let marked : at ≡ mark cs (m + 1) = omega (arith, goes.at, i.at, c.char_len-len.ensures.value, ap (λ n. size Utf16 (take n cs)) whole) in
+    let marked : at ≡ index_entry cs (m + 1) = omega (arith, goes.at, i.at, c.char_len-len.ensures.value, ap (λ n. size Utf16 (take n cs)) whole) in
     let after : 1 + m ≡ m + 1 = omega arith in
     record {
-      some = c.push_reserved.ensures.items ∙ ap (λ xs. xs ++ at ∷ []) i.some ∙ ap (λ n. map (mark cs) (range_with_len 1 m) ++ n ∷ []) marked ∙ sym (map-range_with_len_more (mark cs) 1 m (m + 1) after) ∙ ap (λ n. map (mark cs) (range_with_len 1 n)) more;
+      some = c.push_reserved.ensures.items ∙ ap (λ xs. xs ++ at ∷ []) i.some ∙ ap (λ n. map (index_entry cs) (range_with_len 1 m) ++ n ∷ []) marked ∙ sym (map-range_with_len_more (index_entry cs) 1 m (m + 1) after) ∙ ap (λ n. map (index_entry cs) (range_with_len 1 n)) more;
       rest = goes.left ∙ ap (λ n. drop n cs) next;
       at = omega (arith, goes.at, i.at, c.char_len-len.ensures.value, ap (λ n. size Utf16 (take n cs)) next);
       few = omega arith;
@@ -89,7 +89,7 @@ returns-clause-marks c =
     let m = length c.loop-c.marks.items in
     let done = none-left us (well-formed us c.args.text.well_formed) (64 * m + c.loop-c.gone) (sym i.rest ∙ c.in_default.ensures.steps.0) in
     let all : m ≡ length cs / 64 = omega (arith, done, i.within, i.few) in
-    i.some ∙ ap (λ n. map (mark cs) (range_with_len 1 n)) all
+    i.some ∙ ap (λ n. map (index_entry cs) (range_with_len 1 n)) all
 
 pub returns-clause-steps : goal.returns-clause-steps
 returns-clause-steps c =

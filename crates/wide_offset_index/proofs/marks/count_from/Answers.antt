@@ -3,7 +3,7 @@ use Rattle.std.proofs.lemmas.List.FromFn.{length-map-range_with_len}
 use Rattle.wide_forms.specs.EncodingForm.{Utf16}
 use Rattle.wide_forms.specs.Items.{chars}
 use Rattle.wide_utfstr.specs.View.{units_seen}
-use Rattle.wide_offset_index.specs.Marks.{mark}
+use Rattle.wide_offset_index.specs.Marks.{index_entry}
 use Rattle.wide_offset_index.proofs.Marking.{next_char, well-formed, whole-size, few-characters, none-left}
 use Rattle.wide_offset_index.proofs.marks.count_from.Goals as goal
 
@@ -11,7 +11,7 @@ pub overflow_mul-count : goal.overflow_mul-count
 overflow_mul-count c =
     let us = units_seen c.args.text in
     let cs = chars Utf16 us in
-    omega (arith, c.len-units.ensures, few-characters Utf16 cs, whole-size us (well-formed us c.args.text.well_formed), ap length c.requires, length-map-range_with_len (mark cs) 1 (length cs / 64))
+    omega (arith, c.len-units.ensures, few-characters Utf16 cs, whole-size us (well-formed us c.args.text.well_formed), ap length c.requires, length-map-range_with_len (index_entry cs) 1 (length cs / 64))
 
 pub overflow_add-count : goal.overflow_add-count
 overflow_add-count c =
@@ -25,7 +25,7 @@ loop-c-init c =
     let cs = chars Utf16 (units_seen c.args.text) in
     record {
       rest = c.seek-at.ensures.rest;
-      within = omega (arith, ap length c.requires, length-map-range_with_len (mark cs) 1 (length cs / 64));
+      within = omega (arith, ap length c.requires, length-map-range_with_len (index_entry cs) 1 (length cs / 64));
       grows = omega arith;
       steps = omega arith;
     }
@@ -51,4 +51,4 @@ pub returns-clause-steps : goal.returns-clause-steps
 returns-clause-steps c =
     let cs = chars Utf16 (units_seen c.args.text) in
     let i = c.loop-c.invariant in
-    omega (arith, i.steps, i.within, ap length c.requires, length-map-range_with_len (mark cs) 1 (length cs / 64))
+    omega (arith, i.steps, i.within, ap length c.requires, length-map-range_with_len (index_entry cs) 1 (length cs / 64))

@@ -3,7 +3,7 @@ use Rattle.std.proofs.lemmas.List.FromFn.{length-map-range_with_len}
 use Rattle.wide_forms.specs.EncodingForm.{Utf16}
 use Rattle.wide_forms.specs.Items.{chars}
 use Rattle.wide_utfstr.specs.View.{units_seen}
-use Rattle.wide_offset_index.specs.Marks.{mark}
+use Rattle.wide_offset_index.specs.Marks.{index_entry}
 use Rattle.wide_offset_index.proofs.Lengths.{size}
 use Rattle.wide_offset_index.proofs.Marking.{next_char, well-formed, goes-within, none-left, found-at, found-none}
 use Rattle.wide_offset_index.proofs.marks.find_from.Goals as goal
@@ -14,7 +14,7 @@ loop-number-init c =
     record {
       rest = c.seek-at.ensures.rest;
       at = c.seek-at.ensures.at;
-      within = omega (arith, c.min-first.ensures, ap length c.requires, length-map-range_with_len (mark cs) 1 (length cs / 64));
+      within = omega (arith, c.min-first.ensures, ap length c.requires, length-map-range_with_len (index_entry cs) 1 (length cs / 64));
       grows = omega arith;
       steps = omega arith;
     }
@@ -29,7 +29,7 @@ pub returns-in_err-c-clause-steps : goal.returns-in_err-c-clause-steps
 returns-in_err-c-clause-steps c =
     let cs = chars Utf16 (units_seen c.args.text) in
     let i = c.loop-number.invariant in
-    omega (arith, i.steps, i.within, c.loop-number-test.true, c.min-first.ensures, ap length c.requires, length-map-range_with_len (mark cs) 1 (length cs / 64))
+    omega (arith, i.steps, i.within, c.loop-number-test.true, c.min-first.ensures, ap length c.requires, length-map-range_with_len (index_entry cs) 1 (length cs / 64))
 
 pub overflow_add-at : goal.overflow_add-at
 overflow_add-at c =
@@ -63,4 +63,4 @@ returns-clause-steps c =
     let cs = chars Utf16 (units_seen c.args.text) in
     let i = c.loop-number.invariant in
     let last = c.loop-number.auto.number-end (omega (arith, c.min-first.ensures)) in
-    omega (arith, i.steps, i.within, last, c.min-first.ensures, ap length c.requires, length-map-range_with_len (mark cs) 1 (length cs / 64))
+    omega (arith, i.steps, i.within, last, c.min-first.ensures, ap length c.requires, length-map-range_with_len (index_entry cs) 1 (length cs / 64))

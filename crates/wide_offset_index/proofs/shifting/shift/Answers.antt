@@ -7,7 +7,7 @@ use Rattle.wide_forms.specs.EncodingForm.{Utf16}
 use Rattle.wide_forms.specs.Items.{chars}
 use Rattle.wide_forms.specs.Laws.Encodings.{offsets-grow}
 use Rattle.wide_utfstr.specs.View.{units_seen}
-use Rattle.wide_offset_index.specs.Marks.{mark}
+use Rattle.wide_offset_index.specs.Marks.{index_entry}
 use Rattle.wide_offset_index.proofs.Lengths.{size-take}
 use Rattle.wide_offset_index.proofs.Marking.{well-formed, whole-size}
 use Rattle.wide_offset_index.proofs.shifting.shift.Goals as goal
@@ -36,8 +36,8 @@ returns-clause-steps c =
     let from = c.args.range.from in
     let unchanged : from / 64 ≤ length c.as_mut_slice.result.now = grind (arith, common_steps, c.requires.edited.forward, c.requires.edited.within, c.requires.edited.fits) in
     elim (cases_lt m (c.args.total / 64)) [
-      | inl below ↦ omega (arith, c.move_entries.ensures.steps, ap (mark cs) same, c.requires.edited.starts, c.push_last.ensures.missing below, whole, size-take Utf16 cs (64 * (m + 1)), offsets-grow Utf16 cs (64 * m) (64 * (m + 1)) (omega arith), offsets-grow Utf16 cs from (64 * (m + 1)) (omega (arith, same, unchanged)))
-      | inr past ↦ omega (arith, c.move_entries.ensures.steps, ap (mark cs) same, c.requires.edited.starts, c.push_last.ensures.whole past, whole, size-take Utf16 cs (64 * m), size-take Utf16 cs from, c.requires.edited.starts)
+      | inl below ↦ omega (arith, c.move_entries.ensures.steps, ap (index_entry cs) same, c.requires.edited.starts, c.push_last.ensures.missing below, whole, size-take Utf16 cs (64 * (m + 1)), offsets-grow Utf16 cs (64 * m) (64 * (m + 1)) (omega arith), offsets-grow Utf16 cs from (64 * (m + 1)) (omega (arith, same, unchanged)))
+      | inr past ↦ omega (arith, c.move_entries.ensures.steps, ap (index_entry cs) same, c.requires.edited.starts, c.push_last.ensures.whole past, whole, size-take Utf16 cs (64 * m), size-take Utf16 cs from, c.requires.edited.starts)
     ]
 
 pub move_entries-requires-clause-some : goal.move_entries-requires-clause-some
@@ -47,7 +47,7 @@ move_entries-requires-clause-some c =
     let edited = c.requires.edited in
     let few : c.args.range.from ≤ length cs = omega (arith, edited.fits, edited.within) in
     ap (take k) (c.as_mut_slice.ensures.value ∙ c.truncate.ensures.items) ∙ take-take k (c.args.total / 64) c.args.marks.now.items (omega (arith, few, c.requires.total)) ∙ c.requires.some
-    ∙ take-map-range_with_len (mark cs) 1 (length cs / 64) k (omega (arith, few))
+    ∙ take-map-range_with_len (index_entry cs) 1 (length cs / 64) k (omega (arith, few))
 
 pub returns-clause-least : goal.returns-clause-least
 returns-clause-least c =
@@ -76,6 +76,6 @@ returns-clause-missing c =
     λ more. let all : m ≡ c.args.count / 64 = omega (arith, same, left, c.requires.long, more) in
     let last = c.push_last.ensures.missing (omega (arith, all, more)) in
     elim (cases_lt (from / 64) m) [
-      | inl some ↦ omega (arith, c.move_entries.ensures.least (omega (arith, some, same)), same, all, last, ap (λ k. mark cs (k + 1)) all, offsets-grow Utf16 cs from (64 * (from / 64 + 1)) (omega arith), c.requires.edited.starts)
-      | inr none ↦ omega (arith, c.move_entries.ensures.grows, none, all, last, ap (λ k. mark cs (k + 1)) all)
+      | inl some ↦ omega (arith, c.move_entries.ensures.least (omega (arith, some, same)), same, all, last, ap (λ k. index_entry cs (k + 1)) all, offsets-grow Utf16 cs from (64 * (from / 64 + 1)) (omega arith), c.requires.edited.starts)
+      | inr none ↦ omega (arith, c.move_entries.ensures.grows, none, all, last, ap (λ k. index_entry cs (k + 1)) all)
     ]

@@ -12,8 +12,8 @@ loop-i-preserved g c =
     let a = c.as_chunks in
     miss (g.T.Test.passes c.args.test) 8 (omega arith) c.args.units.now a.result.0.now a.ensures.front a.ensures.front_len (omega arith) c.loop-i.i _ c.bits-bits.result c.loop-i-test.true (omega (arith, a.ensures.front_len, c.loop-i-test.true)) (omega arith) c.bits-bits.ensures c.if-bits-ne0.false c.loop-i.invariant
 
-pub last_of_32-requires-clause-before : goal.last_of_32-requires-clause-before
-last_of_32-requires-clause-before g c =
+pub first_in_last_32-requires-clause-before : goal.first_in_last_32-requires-clause-before
+first_in_last_32-requires-clause-before g c =
     let us = c.args.units.now in
     offset_beyond (g.T.Test.passes c.args.test) us (length us - 8) (omega arith) (λ k l. c.loop-i.invariant k (omega (arith, l, c.as_chunks.ensures.front_len)))
 

@@ -1,6 +1,0 @@
-use Rattle.std.proofs.Common.{arith}
-use Rattle.std.proofs.lemmas.Grind.{common_steps}
-use Rattle.wide_utfstring.proofs.extend.StringPieceUtfStringWhole.push_to.Goals as goal
-
-pub returns-clause-full : goal.returns-clause-full
-returns-clause-full g c = grind (arith, common_steps)
