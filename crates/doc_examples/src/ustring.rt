@@ -106,7 +106,7 @@ fn example_of_growing(rt: HostRuntime) -> Result<(), Fail> {
 }
 
 #[test]
-fn example_of_piece(rt: HostRuntime) -> Result<(), Fail> {
+fn example_of_appendable(rt: HostRuntime) -> Result<(), Fail> {
     let mut string = U16String::new(rt.alloc());
     '😀'.push_to(&mut string)?;
     "!".push_to(&mut string)?;
