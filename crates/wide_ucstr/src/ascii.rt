@@ -4,9 +4,9 @@ ghost use Rattle.std.specs.Char.{to_ascii_lowercase};
 ghost use Rattle.wide_ucstr.specs.View.{contents_seen};
 
 use crate::view::UCStr;
-use wide_unit::Unit;
+use wide_utferror::FaultUnit;
 
-impl<C: Unit> UCStr<'_, C> {
+impl<C: FaultUnit> UCStr<'_, C> {
     /// Returns whether all units of the contents are ASCII, at most 7F. It stops at a unit that is not.
     ///
     /// # Example
