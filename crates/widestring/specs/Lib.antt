@@ -71,6 +71,7 @@ pub use Rattle.wide_utfstr.specs.Escapes
 pub use Rattle.wide_utfstring.specs.CowText
 pub use Rattle.wide_utfstring.specs.Drain
 pub use Rattle.wide_utfstring.specs.Faults
+pub use Rattle.wide_replace.specs.Replaced
 pub use Rattle.wide_edit.specs.Step
 pub use Rattle.wide_editable.specs.Edited
 pub use Rattle.wide_offset_index.specs.Counted

@@ -15,6 +15,7 @@ pub use wide_iter::{
     decode_utf16, decode_utf16_lossy, decode_utf16_lossy_with, decode_utf32, decode_utf32_lossy,
     decode_utf32_lossy_with, encode_utf8, encode_utf16, encode_utf32,
 };
+pub use wide_replace as replace;
 pub use wide_search as search;
 pub use wide_ucstr as ucstr;
 pub use wide_ucstr::{U16CStr, U32CStr, WideCStr};

@@ -1,0 +1,10 @@
+//! Texts with the occurrences of a needle replaced, in a new string. One loop serves any units and well-formed text
+//! (`replaced.rt`).
+#![tactic(auto)]
+
+mod replaced;
+mod text;
+mod units;
+
+pub use text::UtfStrReplace;
+pub use units::UStrReplace;

@@ -1,0 +1,56 @@
+//! Replaces occurrences of a needle in a view of any kind.
+ghost use Rattle.std.specs.Prelude.{◌≡◌, ◌++◌, ◌-◌, ℕ, length, min, OnOk};
+ghost use Rattle.wide_search.specs.Cut.{substrings};
+ghost use Rattle.wide_replace.specs.Replaced.{joined_first};
+
+use wide_error::OutOfMemory;
+use wide_ustr::SplitView;
+use wide_ustring::extend::{Growing, Appendable};
+
+// Returns how many occurrences of the needle are replaced: all that the view is split at, but at most `most`.
+pub(crate) fn count_cuts<P: Copy, V: SplitView<P>>(view: V, needle: P, most: usize) -> usize
+    ensures { result ≡ min most (length (substrings (V.needle_numbers needle) (V.numbers_seen view)) - 1) }
+{
+    let mut rest = view;
+    let mut found = 0;
+    while found < most {
+        let Some((_, after)) = rest.cut_first(needle) else {
+            return found;
+        };
+        rest = after;
+        found += 1;
+    }
+    found
+}
+
+// Appends a view to a string, with `with` in place of the first `most` occurrences of the needle.
+pub(crate) fn push_replaced<S: Growing, M, P: Copy, V: SplitView<P> + Appendable<S, M>>(
+    string: &mut S,
+    view: V,
+    needle: P,
+    with: V,
+    most: usize,
+) -> Result<(), OutOfMemory>
+    requires { (v : V) → V.numbers_seen v ≡ V.text v }
+    ensures { OnOk result ((S.seen string.new).units ≡ (S.seen string.old).units ++ joined_first most (V.numbers_seen with) (V.needle_numbers needle) (substrings (V.needle_numbers needle) (V.numbers_seen view))) }
+{
+    let mut rest = view;
+    let mut left = most;
+    while left > 0 {
+        let Some((before, after)) = rest.cut_first(needle) else {
+            return rest.push_to(string);
+        };
+        before.push_to(string)?;
+        with.push_to(string)?;
+        rest = after;
+        left -= 1;
+    }
+    rest.push_to(string)
+}
+
+// Returns the length of a text after `count` substrings of one length were replaced by as many of another, or `None`
+// if it exceeds `usize::MAX`.
+pub(crate) fn replaced_len(len: usize, count: usize, needle: usize, with: usize) -> Option<usize> {
+    len.checked_sub(count.checked_mul(needle)?)?
+        .checked_add(count.checked_mul(with)?)
+}
