@@ -1,8 +1,8 @@
 //! The examples of `widestring::bytes`.
 use std::test::Fail;
 use widestring::bytes::{
-    BoM, ByteSink, ByteSource, FromRead, FromWrite, Mode, byte_order, transcode, transcode_with,
-    units_of_bytes, utf16_of_bytes,
+    BoM, ByteSink, ByteSource, FromRead, FromWrite, Mode, byte_order, include_utf16str, put_all,
+    transcode, transcode_with, units_of_bytes, utf16_of_bytes,
 };
 use widestring::{Policy, U16Str};
 
@@ -91,6 +91,14 @@ fn example_of_utf16ofbytes(rt: HostRuntime) -> Result<(), Fail> {
 }
 
 #[test]
+fn example_of_put_all(rt: HostRuntime) -> Result<(), Fail> {
+    let mut sink = FromWrite::new(Vec::new(rt.alloc()));
+    put_all(&mut sink, "Hé".as_bytes())?;
+    assert!(rt; sink.into_inner().as_slice() == "Hé".as_bytes());
+    Ok(())
+}
+
+#[test]
 fn example_of_utf16_of_bytes(rt: HostRuntime) -> Result<(), Fail> {
     let file = utf16_of_bytes(b"\xff\xfeH\0\x3d\xd8\x00\xde");
     let units: Vec<u16> = file.units.collect(rt.alloc())?;
@@ -114,5 +122,12 @@ fn example_of_transcode_with(rt: HostRuntime) -> Result<(), Fail> {
     let mut sink = FromWrite::new(Vec::new(rt.alloc()));
     transcode_with(&mut source, &mut sink, Policy::Skip)?;
     assert!(rt; sink.into_inner().as_slice() == "Hi".as_bytes());
+    Ok(())
+}
+
+#[test]
+fn example_of_include_utf16str(rt: HostRuntime) -> Result<(), Fail> {
+    let text = include_utf16str(rt.alloc(), b"\xff\xfeH\0\x3d\xd8\x00\xde")?;
+    assert!(rt; text.as_utfstr().eq_str("H😀"));
     Ok(())
 }

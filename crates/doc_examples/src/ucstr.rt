@@ -28,6 +28,14 @@ fn example_of_ucstr_from_slice_truncate(rt: HostRuntime) -> Result<(), Fail> {
 }
 
 #[test]
+fn example_of_ucstr_as_slice_with_nul(rt: HostRuntime) -> Result<(), Fail> {
+    let buffer = [0x48, 0x69, 0, 0xffff];
+    let name = U16CStr::from_slice_truncate(&buffer)?;
+    assert!(rt; name.as_slice_with_nul() == [0x48, 0x69, 0].as_slice());
+    Ok(())
+}
+
+#[test]
 fn example_of_ucstr_is_ascii(rt: HostRuntime) -> Result<(), Fail> {
     let name = U16CStr::from_slice_truncate(&[0x52, 0x75, 0x6e, 0])?;
     assert!(rt; name.is_ascii());

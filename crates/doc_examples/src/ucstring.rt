@@ -49,10 +49,26 @@ fn example_of_ucstring_from_str(rt: HostRuntime) -> Result<(), Fail> {
 }
 
 #[test]
+fn example_of_ucstring_from_str_literal(rt: HostRuntime) -> Result<(), Fail> {
+    let name = U16CString::from_str_literal(rt.alloc(), "é😀")?;
+    assert!(rt; name.as_ucstr().as_slice_with_nul() == [0xe9, 0xd83d, 0xde00, 0].as_slice());
+    assert!(rt; U16CString::from_str_literal(rt.alloc(), "Hi\0").is_err());
+    Ok(())
+}
+
+#[test]
 fn example_of_ucstring_as_ucstr(rt: HostRuntime) -> Result<(), Fail> {
     let name = U16CString::from_str(rt.alloc(), "Заголовок")?;
     let text = name.as_ucstr().to_string(rt.alloc())?;
     assert!(rt; text.as_str() == "Заголовок");
+    Ok(())
+}
+
+#[test]
+fn example_of_ucstring_into_vec_with_nul(rt: HostRuntime) -> Result<(), Fail> {
+    let name = U16CString::from_str(rt.alloc(), "Hi")?;
+    let units = name.into_vec_with_nul();
+    assert!(rt; units.as_slice() == [0x48, 0x69, 0].as_slice());
     Ok(())
 }
 

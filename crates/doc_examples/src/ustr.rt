@@ -123,6 +123,15 @@ fn example_of_ustr_find(rt: HostRuntime) -> Result<(), Fail> {
 }
 
 #[test]
+fn example_of_ustr_strip_prefix(rt: HostRuntime) -> Result<(), Fail> {
+    let path = U16Str::from_slice(&[0x43, 0x3a, 0xd83d]);
+    let drive = U16Str::from_slice(&[0x43, 0x3a]);
+    assert!(rt; path.strip_prefix(drive) == Some(U16Str::from_slice(&[0xd83d])));
+    assert!(rt; drive.strip_prefix(path).is_none());
+    Ok(())
+}
+
+#[test]
 fn example_of_ustr_split(rt: HostRuntime) -> Result<(), Fail> {
     let row = U16Str::from_slice(&[0x61, 0x3b, 0xd800, 0x3b]);
     let mut fields = row.split(U16Str::from_slice(&[0x3b]));
@@ -172,6 +181,18 @@ fn example_of_ustr_to_le_bytes_with_bom(rt: HostRuntime) -> Result<(), Fail> {
 fn example_of_ustr_to_be_bytes_with_bom(rt: HostRuntime) -> Result<(), Fail> {
     let bytes = U32Str::from_slice(&[0x1f600]).to_be_bytes_with_bom(rt.alloc())?;
     assert!(rt; bytes.as_slice() == [0, 0, 0xfe, 0xff, 0, 0x1, 0xf6, 0].as_slice());
+    Ok(())
+}
+
+#[test]
+fn example_of_ustr_put_le_bytes(rt: HostRuntime) -> Result<(), Fail> {
+    let view = U16Str::from_slice(&[0x48, 0x20ac]);
+    let mut buffer = [0; 6];
+    if view.len() <= buffer.len() / 2 {
+        let len = view.put_le_bytes(&mut buffer);
+        assert!(rt; len == 4);
+    }
+    assert!(rt; buffer.as_slice() == [0x48, 0, 0xac, 0x20, 0, 0].as_slice());
     Ok(())
 }
 

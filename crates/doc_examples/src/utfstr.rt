@@ -20,6 +20,15 @@ fn example_of_utfstr_char_count(rt: HostRuntime) -> Result<(), Fail> {
 }
 
 #[test]
+fn example_of_utfstr_unit_offset(rt: HostRuntime) -> Result<(), Fail> {
+    let text = Utf16Str::from_slice(&[0x48, 0xd83d, 0xde00, 0x21])?;
+    assert!(rt; text.unit_offset(2) == Some(3));
+    assert!(rt; text.unit_offset(3) == Some(4));
+    assert!(rt; text.unit_offset(4).is_none());
+    Ok(())
+}
+
+#[test]
 fn example_of_utfstr_get(rt: HostRuntime) -> Result<(), Fail> {
     let text = Utf16Str::from_slice(&[0x48, 0xd83d, 0xde00])?;
     assert!(rt; text.get(1..).is_some_and(|emoji| emoji.eq_str("😀")));
@@ -139,10 +148,29 @@ fn example_of_utfstr_find_char(rt: HostRuntime) -> Result<(), Fail> {
 }
 
 #[test]
+fn example_of_utfstr_strip_prefix(rt: HostRuntime) -> Result<(), Fail> {
+    let path = Utf16Str::from_slice(&[0x43, 0x3a, 0xe9])?;
+    let drive = Utf16Str::from_slice(&[0x43, 0x3a])?;
+    assert!(rt; path.strip_prefix(drive).is_some_and(|rest| rest.eq_str("é")));
+    assert!(rt; drive.strip_prefix(path).is_none());
+    Ok(())
+}
+
+#[test]
 fn example_of_utfstr_split_once(rt: HostRuntime) -> Result<(), Fail> {
     let setting = Utf16Str::from_slice(&[0xe9, 0x3d, 0x31])?;
     let parts = setting.split_once(Utf16Str::from_slice(&[0x3d])?);
     assert!(rt; parts.is_some_and(|(name, value)| name.eq_str("é") && value.eq_str("1")));
+    Ok(())
+}
+
+#[test]
+fn example_of_utfstr_split(rt: HostRuntime) -> Result<(), Fail> {
+    let list = Utf16Str::from_slice(&[0xe9, 0x2c, 0x20, 0xd83d, 0xde00])?;
+    let mut parts = list.split(Utf16Str::from_slice(&[0x2c, 0x20])?);
+    assert!(rt; parts.next().is_some_and(|part| part.eq_str("é")));
+    assert!(rt; parts.next().is_some_and(|part| part.eq_str("😀")));
+    assert!(rt; parts.next().is_none());
     Ok(())
 }
 

@@ -16,6 +16,14 @@ use wide_error::TranscodeError;
 ///
 /// [`TranscodeError::Write`] if a call fails, or if it takes none of some bytes. A prefix of the bytes was put. There
 /// is no other error.
+///
+/// # Example
+///
+/// ```
+/// let mut sink = FromWrite::new(Vec::new(rt.alloc()));
+/// put_all(&mut sink, "Hé".as_bytes())?;
+/// assert!(rt; sink.into_inner().as_slice() == "Hé".as_bytes());
+/// ```
 pub fn put_all<K: ByteSink>(sink: &mut K, text: &[u8]) -> Result<(), TranscodeError>
     requires { K.has_failed sink.old ≡ false }
     ensures { PutOf (K.held sink.old) (K.held sink.new) (K.has_failed sink.new) result text.now }

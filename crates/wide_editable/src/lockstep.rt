@@ -52,10 +52,14 @@ fn make_all<T: TextEdit>(
 /// Makes the edits of a text in order, and appends a reply for each. An edit that is rejected changes nothing, and the
 /// run continues. The capacity of the text does not shrink.
 ///
+/// `alloc` allocates the vectors of characters that replies hold. The text and the list of replies grow by allocators
+/// of their own. An edit by index counts characters of a [`Utf16String`](wide_utfstring::Utf16String) from the start of
+/// the text, and of a [`Marked16`](crate::Marked16) from the last entry of its index, as [`TextEdit::prepare`] says.
+///
 /// # Errors
 ///
-/// [`Stopped`] if an allocation fails for an edit. The edits before it are made and have their replies; it has changed
-/// nothing.
+/// [`Stopped`] if an allocation fails for an edit. The edits before it are made and have their replies. It has changed
+/// no character and has no reply, but the capacities of the text and of the list of replies may have grown.
 pub fn run<T: TextEdit>(
     alloc: Global,
     text: &mut T,
@@ -134,10 +138,14 @@ fn make_all_both<T: TextEdit, U: TextEdit>(
 /// that an edit needs in both texts and for both replies is allocated before either text changes. The capacities of the
 /// texts do not shrink.
 ///
+/// `alloc` allocates the vectors of characters that replies hold. The texts and the lists of replies grow by allocators
+/// of their own. What an edit by index costs in each text is as for [`run`].
+///
 /// # Errors
 ///
-/// [`Stopped`] if an allocation fails for an edit. In both texts the edits before it are made and have their replies;
-/// it has changed nothing in either.
+/// [`Stopped`] if an allocation fails for an edit. In both texts the edits before it are made and have their replies.
+/// It has changed no character of either and has no reply, but the capacities of the texts and of the lists of replies
+/// may have grown.
 pub fn run_both<T: TextEdit, U: TextEdit>(
     alloc: Global,
     first: &mut T,

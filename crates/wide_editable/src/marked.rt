@@ -160,7 +160,8 @@ fn recount(text: Utf16Str<'_>, marks: &mut Vec<usize>, unchanged: usize, steps: 
 }
 
 // Updates the entries to a text whose characters in a range were replaced. The text had `count` characters and `units`
-// units before. If few characters were replaced by few, the entries after them are moved.
+// units before. If few characters were replaced by few, the entries after them are moved. Otherwise the first
+// `unchanged` entries are left, and the others are computed again.
 fn update(
     text: Utf16Str<'_>,
     marks: &mut Vec<usize>,
@@ -191,7 +192,7 @@ fn update(
     }
 }
 
-// Makes the edit, and updates the index entries after its first character.
+// Makes an edit of `string`, and updates the index entries past the first character that the edit can change.
 fn apply_to(
     string: &mut Utf16String,
     marks: &mut Vec<usize>,
@@ -289,7 +290,7 @@ impl Marked16 {
     /// Returns the offset, in units, at which the character at an index begins, which is the length in units of the
     /// first `index` characters. If the index is the number of characters, returns the offset of the end. If it is
     /// greater, returns `None`. It reads the characters from the last index entry that is not past it, which are fewer
-    /// than 64 and so at most 126 units, and counts these units.
+    /// than 64 and so at most 126 units, and counts these units. Pass `&mut Steps::new()` if the count does not matter.
     pub fn unit_offset(&self, index: usize, steps: &mut Steps) -> Option<usize>
         ensures some { IsSome result ↔ (index ≤ length (marked_text self.now)) }
         ensures offset { IfSome result (IsOffsetOf Utf16 (marked_units self.now) index) }
@@ -299,8 +300,9 @@ impl Marked16 {
         find_from(self.string.as_utfstr(), self.marks.as_slice(), index, steps)
     }
 
-    /// Allocates all memory that an edit needs, like [`TextEdit::prepare`]. It counts a step for each unit that may be
-    /// read: at most 252, and for a `SplitOff` the units from its offset on.
+    /// Allocates all memory that an edit needs, like [`TextEdit::prepare`], and returns an empty vector with capacity
+    /// for the characters of its reply. It counts a step for each unit that is read to find the edit's indices, at most
+    /// 252, and for a `SplitOff` a step for each unit from its offset on, whose characters it counts.
     ///
     /// # Errors
     ///

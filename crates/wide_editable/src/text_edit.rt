@@ -51,6 +51,12 @@ pub trait TextEdit {
     /// Allocates all memory that an edit needs: capacity in the text, and a vector for the characters of its reply,
     /// which is returned. The text keeps its units, and its capacity does not shrink.
     ///
+    /// `alloc` allocates that vector alone: the texts of this library grow by allocators of their own.
+    ///
+    /// To find an index of an edit, a [`Utf16String`](wide_utfstring::Utf16String) counts characters from the start of
+    /// the text, here and again in [`TextEdit::apply`]. [`Marked16`](crate::Marked16) counts from the last entry of its
+    /// index, fewer than 64 characters. In UTF-32 nothing is counted.
+    ///
     /// # Errors
     ///
     /// [`OutOfMemory`] if an allocation fails. The text keeps its units, and its capacity does not shrink.
@@ -62,6 +68,9 @@ pub trait TextEdit {
         ensures capacity { capacity self.old ≤ capacity self.new };
 
     /// Makes an edit in memory that was allocated for it, so that no allocation can fail. The capacity does not shrink.
+    ///
+    /// The texts of this library put the characters of the reply into `space`, which [`Reply::Chars`] then holds. If
+    /// the reply is another, they drop it.
     ///
     /// # Requires
     ///

@@ -206,9 +206,9 @@ impl From<OutOfMemory> for io::Error {
 pub enum TranscodeError {
     /// The unit at `index`, counted from 0, is an unpaired surrogate.
     Utf16 {
-        /// The number of units before it.
+        /// The number of units before the surrogate.
         index: usize,
-        /// The number of characters before it.
+        /// The number of characters before the surrogate.
         item: usize,
         /// The surrogate.
         unit: u16,

@@ -32,6 +32,13 @@ fn unit_vec<A: Allocator>(alloc: A, bytes: &[u8]) -> Result<Vec<u16, A>, AllocEr
 /// - [`Utf16BytesError::OutOfMemory`]: the allocation failed.
 /// - [`Utf16BytesError::Utf16`]: the first fault of the units. Its index is counted in units and its item number in
 ///   characters, both after the BOM. The error holds the vector of the units.
+///
+/// # Example
+///
+/// ```
+/// let text = include_utf16str(rt.alloc(), b"\xff\xfeH\0\x3d\xd8\x00\xde")?;
+/// assert!(rt; text.as_utfstr().eq_str("H😀"));
+/// ```
 pub fn include_utf16str<A: Allocator>(
     alloc: A,
     bytes: &[u8],

@@ -34,7 +34,7 @@ use wide_unit::Unit;
 #[derive(Debug, Drop)]
 pub struct DecodeUtf16<I> {
     source: Source<I>,
-    // The lookahead at each end: a unit that was read after, or before, a surrogate.
+    // The lookahead at each end: a unit that was read past an unpaired surrogate and is not yet decoded.
     front: Option<u16>,
     back: Option<u16>,
 }

@@ -22,7 +22,7 @@ pub(crate) struct Probe<C> {
 
 // The units of a needle.
 pub(crate) trait Needle<C: Unit>: Copy {
-    // The units.
+    // The needle's units.
     ghost sought: { Self → List C };
 
     // Returns the first unit, or `None` if there is none.

@@ -77,6 +77,8 @@ fn transcode_under<S: ByteSource, K: ByteSink>(
 ///   written.
 /// - [`TranscodeError::OutOfMemory`]: there are more units than an index can count. A prefix of the text was written.
 ///
+/// After a fault or a failed write, the rest of the chunk that was read has been taken from the source and is lost.
+///
 /// # Example
 ///
 /// ```
@@ -130,6 +132,8 @@ pub fn transcode<S: ByteSource, K: ByteSink>(
 /// - [`TranscodeError::Write`]: the sink failed in this call. A prefix of the text of the bytes that were read was
 ///   written.
 /// - [`TranscodeError::OutOfMemory`]: there are more units than an index can count. A prefix of the text was written.
+///
+/// After a failed write, the rest of the chunk that was read has been taken from the source and is lost.
 ///
 /// # Example
 ///

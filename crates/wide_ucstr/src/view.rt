@@ -141,6 +141,14 @@ impl<'a, C: FaultUnit> UCStr<'a, C> {
     }
 
     /// Returns the contents and the NUL as a slice.
+    ///
+    /// # Example
+    ///
+    /// ```
+    /// let buffer = [0x48, 0x69, 0, 0xffff];
+    /// let name = U16CStr::from_slice_truncate(&buffer)?;
+    /// assert!(rt; name.as_slice_with_nul() == [0x48, 0x69, 0].as_slice());
+    /// ```
     pub fn as_slice_with_nul(self) -> &'a [C]
         ensures units { result.now ≡ units_with_nul self.entry }
         ensures c_string { IsCString (map C.number result.now) }

@@ -358,6 +358,14 @@ impl<C: FaultUnit, A: Allocator> UCString<C, A> {
     ///
     /// Out of memory, without a vector, if the allocation for the units fails; or the offset of the first NUL, in
     /// units, if there is any, even at the end, with the vector of the units.
+    ///
+    /// # Example
+    ///
+    /// ```
+    /// let name = U16CString::from_str_literal(rt.alloc(), "é😀")?;
+    /// assert!(rt; name.as_ucstr().as_slice_with_nul() == [0xe9, 0xd83d, 0xde00, 0].as_slice());
+    /// assert!(rt; U16CString::from_str_literal(rt.alloc(), "Hi\0").is_err());
+    /// ```
     pub fn from_str_literal(alloc: A, text: &str) -> Result<Self, UCStringError<C, A>>
         ensures made { IfOk result (λ s. map C.number s.units ≡ encode C.form (chars text.now) ++ 0 ∷ []) }
         ensures read_back { IfOk result (λ s. utf8 (text_chars C.form (map C.number (contents s.units))) ≡ text.now) }
@@ -399,6 +407,14 @@ impl<C: FaultUnit, A: Allocator> UCString<C, A> {
     }
 
     /// Returns the vector of the contents and the NUL, without allocating.
+    ///
+    /// # Example
+    ///
+    /// ```
+    /// let name = U16CString::from_str(rt.alloc(), "Hi")?;
+    /// let units = name.into_vec_with_nul();
+    /// assert!(rt; units.as_slice() == [0x48, 0x69, 0].as_slice());
+    /// ```
     pub fn into_vec_with_nul(self) -> Vec<C, A>
         ensures units { result.items ≡ self.units }
         ensures c_string { IsCString (map C.number result.items) }

@@ -27,8 +27,7 @@ trait Test<C: Copy, const N: usize>: Copy {
         ensures { result ≡ mask_l (map (passes self) block.now) };
 }
 
-// Returns the index of the first 16-bit unit that passes, or the length if there is none, if none of the units before
-// the last sixteen passes.
+// Given that no unit before the last sixteen passes, returns the index of the first that passes, or the length.
 #[inline(always)]
 fn first_in_last_16<T: Test<u16, 16>>(units: &[u16], test: T) -> usize
     requires whole { 16 ≤ length units.now }
@@ -66,8 +65,7 @@ fn first_of_16<T: Test<u16, 16>>(units: &[u16], test: T) -> usize
     units.len()
 }
 
-// Returns the index of the first 32-bit unit that passes, or the length if there is none, if none of the units before
-// the last eight passes.
+// Given that no unit before the last eight passes, returns the index of the first that passes, or the length.
 #[inline(always)]
 fn first_in_last_32<T: Test<u32, 8>>(units: &[u32], test: T) -> usize
     requires whole { 8 ≤ length units.now }
@@ -136,7 +134,7 @@ impl Test<u32, 8> for NoScalar {
         is_no_scalar(unit)
     }
 
-    // Surrogates are replaced by the greatest number, so that one comparison finds both kinds.
+    // Surrogates become FFFFFFFF, so that one comparison with 10FFFF finds them and the units greater than 10FFFF.
     #[inline(always)]
     fn bits(self, block: &[u32]) -> u64 {
         let units = u32x8::from_slice(block);
@@ -234,8 +232,7 @@ fn low_bits(block: &[u16]) -> u64
     lanes.simd_eq(u16x16::splat(0xdc00)).to_bitmask()
 }
 
-/// Returns how many units at the beginning a vectorized check passes. All of them belong to characters, also to
-/// surrogate pairs.
+/// Returns the length of a prefix, checked in blocks, that consists of whole characters.
 ///
 /// The high surrogates of a block are compared with the low surrogates of the block one unit later. If they are at the
 /// same positions, a low surrogate follows each high one, and a high one precedes each low one except the first unit.

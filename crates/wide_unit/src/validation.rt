@@ -46,9 +46,9 @@ fn after_blocks<C: Unit>(units: &[C]) -> &[C]
 /// ```
 #[derive(Clone, Copy, Debug, PartialEq, Eq)]
 pub struct FirstFault<C> {
-    /// Its index: the number of units before it.
+    /// The fault's index: the number of units before it.
     pub index: usize,
-    /// Its item number: the number of characters before it.
+    /// The fault's item number: the number of characters before it.
     pub item: usize,
     /// The unit itself.
     pub unit: C,

@@ -120,6 +120,18 @@ impl<C: Unit> UStr<'_, C> {
     /// # Requires
     ///
     /// `bytes` has space for them: two bytes for each 16-bit unit, four for each 32-bit unit.
+    ///
+    /// # Example
+    ///
+    /// ```
+    /// let view = U16Str::from_slice(&[0x48, 0x20ac]);
+    /// let mut buffer = [0; 6];
+    /// if view.len() <= buffer.len() / 2 {
+    ///     let len = view.put_le_bytes(&mut buffer);
+    ///     assert!(rt; len == 4);
+    /// }
+    /// assert!(rt; buffer.as_slice() == [0x48, 0, 0xac, 0x20, 0, 0].as_slice());
+    /// ```
     pub fn put_le_bytes(self, bytes: &mut [u8]) -> usize
         requires { unit_width C.form * length (units_seen self) ≤ length bytes.old }
         ensures len { result ≡ unit_width C.form * length (units_seen self.entry) }

@@ -107,6 +107,15 @@ impl<C: Unit> UStr<'_, C> {
     }
 
     /// Returns the view without the given prefix, or `None` if it does not begin with it.
+    ///
+    /// # Example
+    ///
+    /// ```
+    /// let path = U16Str::from_slice(&[0x43, 0x3a, 0xd83d]);
+    /// let drive = U16Str::from_slice(&[0x43, 0x3a]);
+    /// assert!(rt; path.strip_prefix(drive) == Some(U16Str::from_slice(&[0xd83d])));
+    /// assert!(rt; drive.strip_prefix(path).is_none());
+    /// ```
     pub fn strip_prefix(self, needle: UStr<'_, C>) -> Option<Self>
         ensures some { IsSome result ↔ BeginsWith (units_seen needle.entry) (units_seen self.entry) }
         ensures rest { IfSome result (λ rest. units_seen self.entry ≡ units_seen needle.entry ++ units_seen rest) }

@@ -348,6 +348,14 @@ impl<C: FaultUnit, A: Allocator> UString<C, A> {
     /// # Errors
     ///
     /// The allocation for an item failed. The error is the string of the items before it.
+    ///
+    /// # Example
+    ///
+    /// ```
+    /// let words = [U16Str::from_slice(&[0x48, 0x69]), U16Str::from_slice(&[0xd83d])];
+    /// let joined = U16String::from_iter_ustrs(rt.alloc(), words)?;
+    /// assert!(rt; joined.as_slice() == [0x48, 0x69, 0xd83d].as_slice());
+    /// ```
     pub fn from_iter_ustrs<'a, U: IntoIterator<Item = UStr<'a, C>>>(
         alloc: A,
         items: U,

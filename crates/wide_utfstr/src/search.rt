@@ -115,6 +115,15 @@ impl<C: Unit> UtfStr<'_, C> {
     }
 
     /// Returns the view without the given prefix, or `None` if it does not begin with it.
+    ///
+    /// # Example
+    ///
+    /// ```
+    /// let path = Utf16Str::from_slice(&[0x43, 0x3a, 0xe9])?;
+    /// let drive = Utf16Str::from_slice(&[0x43, 0x3a])?;
+    /// assert!(rt; path.strip_prefix(drive).is_some_and(|rest| rest.eq_str("é")));
+    /// assert!(rt; drive.strip_prefix(path).is_none());
+    /// ```
     pub fn strip_prefix(self, needle: UtfStr<'_, C>) -> Option<Self>
         ensures some { IsSome result ↔ BeginsWith (units_seen needle.entry) (units_seen self.entry) }
         ensures rest { IfSome result (λ rest. units_seen self.entry ≡ units_seen needle.entry ++ units_seen rest) }
@@ -178,6 +187,16 @@ impl<C: Unit> UtfStr<'_, C> {
     /// front. Each occurrence is the first one after the one before, so occurrences do not overlap. If the separator
     /// occurs at the start, at the end, or twice in a row, the substring there is empty. If it does not occur, or is
     /// empty, the whole text is the only substring.
+    ///
+    /// # Example
+    ///
+    /// ```
+    /// let list = Utf16Str::from_slice(&[0xe9, 0x2c, 0x20, 0xd83d, 0xde00])?;
+    /// let mut parts = list.split(Utf16Str::from_slice(&[0x2c, 0x20])?);
+    /// assert!(rt; parts.next().is_some_and(|part| part.eq_str("é")));
+    /// assert!(rt; parts.next().is_some_and(|part| part.eq_str("😀")));
+    /// assert!(rt; parts.next().is_none());
+    /// ```
     pub fn split<'p>(self, needle: UtfStr<'p, C>) -> Split<Self, UtfStr<'p, C>>
         ensures left { text_substrings_left C.number result ≡ substrings (numbers_seen C.number needle.entry) (numbers_seen C.number self.entry) }
         ensures cut { 0 < length (units_seen needle.entry) → AreSubstrings (numbers_seen C.number needle.entry) (numbers_seen C.number self.entry) (text_substrings_left C.number result) }

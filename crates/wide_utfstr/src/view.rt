@@ -29,8 +29,9 @@ const FEW: usize = 16;
 /// A view of well-formed UTF-16 or UTF-32 (Unicode Standard, D85). Its type guarantees that the units are well formed:
 /// no call can make a view of ill-formed units.
 ///
-/// A view is a slice of units and can be copied. Equality and order of views are those of their units. Only calls that
-/// take an allocator allocate.
+/// A view is a slice of units and can be copied. Equality, order and hash of views are those of their units. The order
+/// is by the units' numbers, which in UTF-16 can differ from that of the characters. Only calls that take an allocator
+/// allocate.
 ///
 /// `{}` prints the characters. `{:?}` prints them between quotes, as [`char::escape_debug`] escapes them. Both ignore
 /// the format options, and return an error of the sink at once.
@@ -128,6 +129,15 @@ impl<'a, C: Unit> UtfStr<'a, C> {
     /// first `index` characters. If the index is the number of characters, returns the offset of the end. If it is
     /// greater, returns `None`. In UTF-16 it reads the units before the offset once, vectorized but for the last few;
     /// in UTF-32 it reads none.
+    ///
+    /// # Example
+    ///
+    /// ```
+    /// let text = Utf16Str::from_slice(&[0x48, 0xd83d, 0xde00, 0x21])?;
+    /// assert!(rt; text.unit_offset(2) == Some(3));
+    /// assert!(rt; text.unit_offset(3) == Some(4));
+    /// assert!(rt; text.unit_offset(4).is_none());
+    /// ```
     pub fn unit_offset(self, index: usize) -> Option<usize>
         ensures some { IsSome result ↔ (index ≤ length (text_seen self.entry)) }
         ensures offset { IfSome result (IsOffsetOf C.form (map C.number (units_seen self.entry)) index) }
@@ -168,6 +178,9 @@ impl<'a, C: Unit> UtfStr<'a, C> {
     /// Returns a view of the units in a range, whose ends are offsets in units. Returns `None` if the range starts
     /// after its end, ends past the end of the view, or has a bound past `usize::MAX`, or if one of its ends is no
     /// character boundary. [`range_check`] checks the range.
+    ///
+    /// For an inclusive range that was iterated to its end the contract does not say whether the result is a part or
+    /// `None`, nor which part.
     ///
     /// # Example
     ///

@@ -1,8 +1,8 @@
 /*
  * Conversions, checks and searches of UTF-16, UTF-32 and UTF-8 for C programs. The caller supplies all buffers.
  *
- * Each function is proved to do what its comment says, but for how long it takes, for all units and bytes, well formed
- * or ill-formed, if the caller keeps these rules. The functions do not check the rules:
+ * For all input, well formed or not, each function is proved to do what its comment says, except how long it takes, if
+ * the caller keeps these rules. The functions do not check the rules:
  *
  *  - A pointer and the length or capacity after it describe memory that may be read, or written if the pointer is not
  *    to `const`. If the length or capacity is 0, the pointer may be NULL.

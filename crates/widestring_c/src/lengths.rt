@@ -50,7 +50,7 @@ pub extern "C" fn wide_utf8_utf16_length(text: &[u8]) -> usize
     if !is_utf8(text) {
         return usize::MAX;
     }
-    // The bytes were checked above.
+    // `is_utf8` above has found the bytes well formed.
     length_as_utf16(unsafe { str::from_utf8_unchecked(text) })
 }
 
@@ -65,7 +65,7 @@ pub extern "C" fn wide_utf8_char_count(text: &[u8]) -> usize
     if !is_utf8(text) {
         return usize::MAX;
     }
-    // The bytes were checked above.
+    // `is_utf8` above has found the bytes well formed.
     length_as_utf32(unsafe { str::from_utf8_unchecked(text) })
 }
 
