@@ -11,6 +11,8 @@ mod error;
 #[cfg(test)]
 mod iter;
 #[cfg(test)]
+mod replace;
+#[cfg(test)]
 mod ucstr;
 #[cfg(test)]
 mod ucstring;

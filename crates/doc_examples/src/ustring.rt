@@ -72,7 +72,10 @@ fn example_of_ustring_make_ascii_uppercase(rt: HostRuntime) -> Result<(), Fail> 
 
 #[test]
 fn example_of_ustring_from_iter_ustrs(rt: HostRuntime) -> Result<(), Fail> {
-    let words = [U16Str::from_slice(&[0x48, 0x69]), U16Str::from_slice(&[0xd83d])];
+    let words = [
+        U16Str::from_slice(&[0x48, 0x69]),
+        U16Str::from_slice(&[0xd83d]),
+    ];
     let joined = U16String::from_iter_ustrs(rt.alloc(), words)?;
     assert!(rt; joined.as_slice() == [0x48, 0x69, 0xd83d].as_slice());
     Ok(())

@@ -151,7 +151,8 @@ fn example_of_utfstr_find_char(rt: HostRuntime) -> Result<(), Fail> {
 fn example_of_utfstr_strip_prefix(rt: HostRuntime) -> Result<(), Fail> {
     let path = Utf16Str::from_slice(&[0x43, 0x3a, 0xe9])?;
     let drive = Utf16Str::from_slice(&[0x43, 0x3a])?;
-    assert!(rt; path.strip_prefix(drive).is_some_and(|rest| rest.eq_str("é")));
+    let rest = path.strip_prefix(drive);
+    assert!(rt; rest.is_some_and(|rest| rest.eq_str("é")));
     assert!(rt; drive.strip_prefix(path).is_none());
     Ok(())
 }

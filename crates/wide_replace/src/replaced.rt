@@ -5,7 +5,7 @@ ghost use Rattle.wide_replace.specs.Replaced.{joined_first};
 
 use wide_error::OutOfMemory;
 use wide_ustr::SplitView;
-use wide_ustring::extend::{Growing, Appendable};
+use wide_ustring::extend::{Appendable, Growing};
 
 // Returns how many occurrences of the needle are replaced: all that the view is split at, but at most `most`.
 pub(crate) fn count_cuts<P: Copy, V: SplitView<P>>(view: V, needle: P, most: usize) -> usize

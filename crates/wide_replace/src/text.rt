@@ -67,7 +67,9 @@ pub trait UtfStrReplace<C: FaultUnit, P>: SplitView<P> {
     ///
     /// let path = Utf16String::from_str(rt.alloc(), "C:/temp/é")?;
     /// let with = Utf16String::from_str(rt.alloc(), "\\")?;
-    /// let path = path.as_utfstr().replacen(rt.alloc(), '/', with.as_utfstr(), 1)?;
+    /// let path = path
+    ///     .as_utfstr()
+    ///     .replacen(rt.alloc(), '/', with.as_utfstr(), 1)?;
     /// assert!(rt; path.as_utfstr().eq_str("C:\\temp/é"));
     /// ```
     fn replacen<A: Allocator>(

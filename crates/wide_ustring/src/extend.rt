@@ -352,7 +352,10 @@ impl<C: FaultUnit, A: Allocator> UString<C, A> {
     /// # Example
     ///
     /// ```
-    /// let words = [U16Str::from_slice(&[0x48, 0x69]), U16Str::from_slice(&[0xd83d])];
+    /// let words = [
+    ///     U16Str::from_slice(&[0x48, 0x69]),
+    ///     U16Str::from_slice(&[0xd83d]),
+    /// ];
     /// let joined = U16String::from_iter_ustrs(rt.alloc(), words)?;
     /// assert!(rt; joined.as_slice() == [0x48, 0x69, 0xd83d].as_slice());
     /// ```

@@ -121,7 +121,8 @@ impl<C: Unit> UtfStr<'_, C> {
     /// ```
     /// let path = Utf16Str::from_slice(&[0x43, 0x3a, 0xe9])?;
     /// let drive = Utf16Str::from_slice(&[0x43, 0x3a])?;
-    /// assert!(rt; path.strip_prefix(drive).is_some_and(|rest| rest.eq_str("é")));
+    /// let rest = path.strip_prefix(drive);
+    /// assert!(rt; rest.is_some_and(|rest| rest.eq_str("é")));
     /// assert!(rt; drive.strip_prefix(path).is_none());
     /// ```
     pub fn strip_prefix(self, needle: UtfStr<'_, C>) -> Option<Self>

@@ -45,6 +45,10 @@ pub mod iter {
     };
 }
 
+pub mod replace {
+    pub use widestring::replace::{UStrReplace, UtfStrReplace};
+}
+
 pub mod search {
     pub use widestring::search::{
         ends_with, find, find_char, find_unit, rfind, rfind_char, rfind_unit, rsplit_once,
@@ -123,7 +127,7 @@ pub mod ustring {
 }
 
 pub mod ustring_extend {
-    pub use widestring::ustring::extend::{Growing, Appendable, Whole, extend, from_iter};
+    pub use widestring::ustring::extend::{Appendable, Growing, Whole, extend, from_iter};
 }
 
 pub mod utfstr {
