@@ -123,4 +123,4 @@ allocate_spec 𝓤 𝓛 𝓜 𝓡 wired Row laws g dict drops met _ =
     (Goes-dropped 𝓛 2 (receiver B) yes (λ κs x w. refl), (number_goes, (number_goes, tt)))
     (key.name (bounded (a_type ∷ []) (Row, tt) (dcons dict (dcons drops dnil)))) (body B) (code.unfolded 𝓤 𝓛.H 𝓜 𝓡 wired (Row, tt) dict drops)
     (λ κs. (shr_vals, (uint_vals w64, (uint_vals w64, tt)))) (λ κs. ((λ x vs is. is.0), (uint_Tells w64, (uint_Tells w64, tt))))
-    (λ κs qs bounds a τ are. walk B 𝓛 𝓜 𝓡 κs.0 κs.1.0 qs.0 qs.1.0 bounds.0 a.0 a.1.0 a.1.1.0 τ are.1.0.1 are.1.1.0.1 (met.allocate drops) (ration_met.met 𝓤 𝓛 𝓜 𝓡 (code.calls-widestring_testing::limited::Ration::refuses 𝓡.env wired)))
+    (λ κs qs bounds a τ are. walk B 𝓛 𝓜 𝓡 κs.0 κs.1.0 qs.0 qs.1.0 bounds.0 a.0 a.1.0 a.1.1.0 τ are.1.0.1 are.1.1.0.1 (met.allocate drops) (ration_met.met 𝓤 𝓛 𝓜 𝓡 (code.calls-widestring_testing::limited::Ration::fails 𝓡.env wired)))
