@@ -42,8 +42,8 @@ fn example_of_bytesink(rt: HostRuntime) -> Result<(), Fail> {
 #[test]
 fn example_of_fromread(rt: HostRuntime) -> Result<(), Fail> {
     let mut source = FromRead::new(b"\xff\xfeH\0".as_slice());
-    let mut mark = [0; 2];
-    assert!(rt; source.take(&mut mark)? == 2);
+    let mut bom = [0; 2];
+    assert!(rt; source.take(&mut bom)? == 2);
     assert!(rt; source.into_inner() == "H\0".as_bytes());
     Ok(())
 }

@@ -47,7 +47,7 @@ pub utf8_items-divide : (bs : List ℕ) → AreUtf8Items bs (utf8_items bs)
 unfolding utf8_items
 utf8_items-divide bs = (items_by (suc (length bs)) bs (below_next (length bs))).1
 
--- There is no other such list.
+-- Bytes have only one list of items.
 same_items : (bs ds : List ℕ) (is js : List Item) → bs ≡ ds → AreUtf8Items bs is → AreUtf8Items ds js → is ≡ js
 same_items bs ds is js e none none = refl
 same_items bs ds is js e none (character d rest js' scalar more) = absurd (omega (arith, ap length e, shorter-char d rest))

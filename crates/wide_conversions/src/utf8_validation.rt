@@ -9,7 +9,7 @@ ghost use Rattle.wide_conversions.specs.Following.{CanFollow, IsWholeUpTo};
 
 use std::str;
 
-// How many bytes are checked in one step. A block has three more, the bytes before them: 67.
+// How many bytes are checked in one step. They are in a block of 67: the three bytes before them, then the 64.
 const BLOCK: usize = 64;
 
 // Returns how many rules of Table 3-7 a byte breaks after `third`, `second` and `first`, of which `first` directly

@@ -24,10 +24,10 @@ use wide_error::OutOfMemory;
 pub trait TextEdit {
     ghost use Rattle.wide_edit.specs.declared.edits.Edit.{Edit};
 
-    // The characters.
+    // The characters of the text.
     ghost text: { Self → List ℕ };
 
-    // The numbers of the code units.
+    // The numbers of the text's code units.
     ghost units: { Self → List ℕ };
 
     // The encoding form of the units.

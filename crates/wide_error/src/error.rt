@@ -210,7 +210,7 @@ pub enum TranscodeError {
         index: usize,
         /// The number of characters before the surrogate.
         item: usize,
-        /// The surrogate.
+        /// The unpaired surrogate.
         unit: u16,
     },
     /// An allocation failed, or an index of a unit does not fit into a `usize`.

@@ -18,7 +18,7 @@ module _ {I : Type 0} where
   abbrev pub chars32_of : DecodeUtf32LossyWith I → LossyWith (DecodeUtf32 I)
   chars32_of s = s.chars
 
-  -- The source of units.
+  -- The source of the units that a decoder reads.
   abbrev pub units16_of : DecodeUtf16LossyWith I → I
   units16_of s = inner_of (source_of (inner_of (lossy_source (chars16_of s))))
 
@@ -45,7 +45,7 @@ module _ {I : Type 0} where
   abbrev pub lossy32_with_count : (I → Count) → DecodeUtf32LossyWith I → Count
   lossy32_with_count count s = lossy_with_count (decoder32_count count) (chars32_of s)
 
-  -- Nothing was read yet.
+  -- The decoder has read nothing yet.
   abbrev pub IsNew16With : DecodeUtf16LossyWith I → Type 0
   IsNew16With s = IsUnread (chars16_of s) × IsNew (inner_of (lossy_source (chars16_of s)))
 

@@ -11,7 +11,7 @@ use crate::limits::{
 // What follows a try that failed in a search by two units.
 #[derive(Clone, Copy)]
 pub(crate) enum Turn {
-    // The search goes on.
+    // The search by two units continues.
     Pairs,
     // Some offsets are tried one by one.
     Each,

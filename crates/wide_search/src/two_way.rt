@@ -12,7 +12,7 @@ use crate::side::{Back, Front, Side};
 use wide_unit::Unit;
 
 // Returns the first index of the needle, from `from` to before `end`, whose unit differs from that of the text if the
-// needle is at `at`. Returns `end` if there is none.
+// needle is at `at`. Returns `end` if there is none. Indices and offsets are counted from the side `S`.
 #[inline(always)]
 fn first_difference<C: Unit, S: Side>(
     units: &[C],
@@ -40,7 +40,7 @@ fn first_difference<C: Unit, S: Side>(
 // From the back it does not occur from `at` on; if it was found, it occurs at `at - 1`.
 #[derive(Clone, Copy)]
 pub(crate) struct Stop {
-    // The offset.
+    // Where the search stopped, counted as its function says.
     pub(crate) at: usize,
     // Whether the needle was found.
     pub(crate) is_found: bool,

@@ -13,7 +13,7 @@ use Rattle.wide_error.specs.declared.error.TranscodeError.TheVariants.{Utf16, Ou
 abbrev pub IsAllButReplacement : List ℕ → List ℕ → Type 0
 IsAllButReplacement prefix whole = (whole ≡ prefix) ⊎ (whole ≡ prefix ++ utf8 (0xFFFD ∷ []))
 
--- These bytes were taken from the source, and these were put into the sink.
+-- The `bytes` were taken from the source, and the `written` ones were put into the sink.
 pub record Moves (left left' pending pending' : Option (List ℕ)) (bytes written : List ℕ) : Type 0 where
   pub given : Consumes left left' bytes
   pub put : Appends pending pending' written
@@ -47,8 +47,8 @@ MayBePaired Clean units = Unit {0}
 MayBePaired HalfUnit units = Unit {0}
 MayBePaired (Unpaired index item unit) units = (index + 1 ≡ length units) × IsHighSurrogate Utf16Form unit
 
--- A fault is reported before another read, as soon as no further unit can make a pair of it: no read that failed or
--- found the end followed such a fault. It depends on the ending of what was read, and on its units.
+-- Once no further unit can make a pair of it, a fault is reported before the next read: no read that failed or found the
+-- end followed such a fault. `ending` and `units` are those of the bytes that were read.
 abbrev pub ReportsFault : {T : Type 0} → Result T TranscodeError → Bool → Ending → List ℕ → Type 0
 ReportsFault (Ok u) ended ending units = Unit {0}
 ReportsFault (Err Read) ended ending units = MayBePaired ending units
@@ -61,7 +61,7 @@ ReportsFault (Err Write) ended ending units = Unit {0}
 abbrev pub ReportsAtOnce : {T : Type 0} → Result T TranscodeError → Bool → (List ℕ → Transcoded) → List ℕ → Type 0
 ReportsAtOnce r ended meaning bytes = ReportsFault r ended (meaning bytes).ending (whole_units bytes)
 
--- The result is a failure of the source, or of the sink.
+-- The run failed at a read.
 abbrev pub fails_to_read : {T : Type 0} → Result T TranscodeError → Bool
 fails_to_read (Ok u) = false
 fails_to_read (Err Read) = true
@@ -70,6 +70,7 @@ fails_to_read (Err (Utf16 index item unit)) = false
 fails_to_read (Err OutOfMemory) = false
 fails_to_read (Err OddLength) = false
 
+-- The run failed at a write.
 abbrev pub fails_to_write : {T : Type 0} → Result T TranscodeError → Bool
 fails_to_write (Ok u) = false
 fails_to_write (Err Read) = false

@@ -188,7 +188,7 @@ fn transcode_chunks<S: ByteSource, K: ByteSink>(
         if let Some(unit) = step.fault {
             return Err(fault_at(position.offset, position.item, unit));
         }
-        // There are more units than a `usize` can index, so a later fault could not be reported.
+        // Past as many units as a `usize` can index, a later fault could not be reported.
         if INDEX_LIMIT < position.offset {
             return Err(TranscodeError::OutOfMemory);
         }

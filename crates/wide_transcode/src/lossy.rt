@@ -49,7 +49,7 @@ fn encode_faulty(
     ensures within { result ≤ length out.new }
     ensures text { take result out.new ≡ lossy_text policy after_fault units.now }
 {
-    // It reads all units, since `spare` is as long.
+    // All units are read, since `spare` is as long as they are.
     let progress = lossy_prefix_16(units, policy, after_fault, spare);
     // Lossy text is well formed.
     checked_utf16_to_utf8(&spare[..progress.written], out).unwrap_or(0)

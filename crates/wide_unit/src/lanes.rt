@@ -146,7 +146,7 @@ impl Test<u32, 8> for NoScalar {
     }
 }
 
-// Passes one unit only.
+// Passes the units that are equal to one.
 #[derive(Clone, Copy)]
 struct Same<C> {
     unit: C,

@@ -50,7 +50,7 @@ pub struct FirstFault<C> {
     pub index: usize,
     /// The fault's item number: the number of characters before it.
     pub item: usize,
-    /// The unit itself.
+    /// The unit that is the fault.
     pub unit: C,
 }
 

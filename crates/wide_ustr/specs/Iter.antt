@@ -39,7 +39,7 @@ module _ {C : Type 0} where
   lossy_offset_of s = position_of s.offsets
 
   module _ (form : EncodingForm) (number : C → ℕ) where
-    -- What will be yielded.
+    -- The items that an iterator over characters and faults will yield.
     abbrev pub items_left : Chars C → List Item
     items_left s = items form (map number (chars_rest s))
 

@@ -22,7 +22,7 @@ module _ {C A : Type 0} where
   abbrev pub drain_lender : Drain C A → GName
   drain_lender d = d.string.ghost_name
 
-  -- Both drains are of the same string, and leave it with the same units and capacity.
+  -- Two drains are of one string, and leave it with the same units and capacity.
   pub record DrainKeeps (old new : Drain C A) : Type 0 where
     pub lender : drain_lender new ≡ drain_lender old
     pub leaves : drain_leaves new ≡ drain_leaves old

@@ -15,7 +15,7 @@ use Rattle.wide_utfstr.specs.declared.escapes.EscapeUnicode.{EscapeUnicode}
 use Rattle.wide_utfstr.specs.declared.escapes.EscapeDefault.{EscapeDefault}
 use Rattle.wide_utfstr.specs.declared.escapes.EscapeDebug.{EscapeDebug}
 
--- The bytes between quotes.
+-- The bytes, between quotes.
 abbrev pub in_quotes : List ℕ → List ℕ
 in_quotes bs = 34 ∷ (bs ++ 34 ∷ [])
 
@@ -24,8 +24,8 @@ module _ {C : Type 0} {g : Ghosts C} where
   abbrev pub escapes_rest : Escapes C g → List ℕ
   escapes_rest s = text_seen s.rest
 
-  -- The rest of the escape that was partly read, and the escapes of the characters after it, given the escape of each
-  -- character.
+  -- What is left of the escape that was partly read, and the escapes of the characters after it, where `escaped` gives
+  -- the escape of each character.
   abbrev pub escapes_left : (ℕ → List ℕ) → Escapes C g → List ℕ
   escapes_left escaped s = pending_rest escape_rest s.current ++ flat_map escaped (escapes_rest s)
 

@@ -13,21 +13,21 @@ BeginsWithText cs = (c : ℕ) (others : List ℕ) → cs ≡ c ∷ others → ¬
 abbrev pub EndsWithText : List ℕ → Type 0
 EndsWithText cs = (c : ℕ) (others : List ℕ) → cs ≡ others ++ c ∷ [] → ¬ (IsWhiteSpace c)
 
--- The rest of the characters after their longest prefix of White_Space.
+-- The characters `cs` without their longest prefix of White_Space are `rest`.
 pub record IsTrimmedStart (cs rest : List ℕ) : Type 0 where
   pub prefix : List ℕ
   pub joined : cs ≡ prefix ++ rest
   pub white : All IsWhiteSpace prefix
   pub longest : BeginsWithText rest
 
--- The rest of the characters before their longest suffix of White_Space.
+-- The characters `cs` without their longest suffix of White_Space are `rest`.
 pub record IsTrimmedEnd (cs rest : List ℕ) : Type 0 where
   pub back : List ℕ
   pub joined : cs ≡ rest ++ back
   pub white : All IsWhiteSpace back
   pub longest : EndsWithText rest
 
--- The rest of the characters between their longest prefix and their longest suffix of White_Space.
+-- The characters `cs` without their longest prefix and their longest suffix of White_Space are `rest`.
 pub record IsTrimmed (cs rest : List ℕ) : Type 0 where
   pub prefix : List ℕ
   pub back : List ℕ

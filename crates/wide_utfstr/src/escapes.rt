@@ -19,16 +19,16 @@ use std::iter::FusedIterator;
 use std::{char, fmt};
 use wide_unit::{Unit, write_escape};
 
-// One of the three ways to escape a character. The standard library has one type for the escapes of all three.
+// One of the three ways to escape a character. Rattle's standard library has one type for the escapes of all three.
 trait Escaping {
     // The escape of a character, and for which characters the contract specifies it.
     ghost escaped: { ℕ → List ℕ };
 
-    ghost is_reported: { ℕ → Bool };
+    ghost is_specified: { ℕ → Bool };
 
     // Returns the escape of a character.
     fn escape(c: char) -> char::EscapeUnicode
-        ensures rest { is_reported c ≡ true → escape_rest result ≡ escaped c }
+        ensures rest { is_specified c ≡ true → escape_rest result ≡ escaped c }
         ensures bound { escape_end result ≤ 10 }
         ensures some { 0 < escape_left result };
 }
@@ -39,20 +39,20 @@ struct AsUnicode;
 impl Escaping for AsUnicode {
     ghost escaped = { escape_unicode };
 
-    ghost is_reported = { λ _. true };
+    ghost is_specified = { λ _. true };
 
     fn escape(c: char) -> char::EscapeUnicode {
         c.escape_unicode()
     }
 }
 
-// Escapes like [`char::escape_default`].
+// Escapes each character as [`char::escape_default`] does.
 struct AsDefault;
 
 impl Escaping for AsDefault {
     ghost escaped = { escape_default };
 
-    ghost is_reported = { λ _. true };
+    ghost is_specified = { λ _. true };
 
     fn escape(c: char) -> char::EscapeUnicode {
         c.escape_default()
@@ -65,7 +65,7 @@ struct AsDebug;
 impl Escaping for AsDebug {
     ghost escaped = { escape_debug };
 
-    ghost is_reported = { is_ascii };
+    ghost is_specified = { is_ascii };
 
     fn escape(c: char) -> char::EscapeUnicode {
         c.escape_debug()
@@ -122,8 +122,8 @@ impl<'a, C: Unit> Escapes<'a, C> {
 
     // Returns the next character, with the characters that were not read yet escaped as `E` does it.
     fn next<E: Escaping>(&mut self) -> Option<char>
-        ensures first { list_all E.is_reported (escapes_rest self.old) ≡ true → YieldsFirst (escapes_left E.escaped) self.old result self.new }
-        ensures reported { list_all E.is_reported (escapes_rest self.old) ≡ true → list_all E.is_reported (escapes_rest self.new) ≡ true }
+        ensures first { list_all E.is_specified (escapes_rest self.old) ≡ true → YieldsFirst (escapes_left E.escaped) self.old result self.new }
+        ensures reported { list_all E.is_specified (escapes_rest self.old) ≡ true → list_all E.is_specified (escapes_rest self.new) ≡ true }
         ensures fewer { IfSome result (λ _. escapes_most self.new < escapes_most self.old) }
         ensures ended { IfNone result ((escapes_most self.old ≡ 0) × (escapes_most self.new ≡ 0)) }
     {
@@ -143,8 +143,8 @@ impl<'a, C: Unit> Escapes<'a, C> {
 
     // Writes the characters that were not read yet, escaped as `E` does it. It ignores the format options.
     fn write<E: Escaping, W: fmt::Write>(&self, f: &mut fmt::Formatter<W>) -> fmt::Result
-        ensures writes { list_all E.is_reported (escapes_rest self.now) ≡ true → WritesOnOk W.write_str_gives f.old result (utf8 (escapes_left E.escaped self.now)) f.new }
-        ensures styled { list_all E.is_reported (escapes_rest self.now) ≡ true → WritesStyledOnOk W.write_str_gives f.old result (utf8 (escapes_left E.escaped self.now)) f.new }
+        ensures writes { list_all E.is_specified (escapes_rest self.now) ≡ true → WritesOnOk W.write_str_gives f.old result (utf8 (escapes_left E.escaped self.now)) f.new }
+        ensures styled { list_all E.is_specified (escapes_rest self.now) ≡ true → WritesStyledOnOk W.write_str_gives f.old result (utf8 (escapes_left E.escaped self.now)) f.new }
     {
         write_pending(f, self.current)?;
         for c in self.rest.chars() {
@@ -155,7 +155,7 @@ impl<'a, C: Unit> Escapes<'a, C> {
 
     // Writes the characters that were not read yet, escaped as `E` does it, between quotes.
     fn write_quoted<E: Escaping, W: fmt::Write>(&self, f: &mut fmt::Formatter<W>) -> fmt::Result
-        ensures { list_all E.is_reported (escapes_rest self.now) ≡ true → WritesOnOk W.write_str_gives f.old result (in_quotes (utf8 (escapes_left E.escaped self.now))) f.new }
+        ensures { list_all E.is_specified (escapes_rest self.now) ≡ true → WritesOnOk W.write_str_gives f.old result (in_quotes (utf8 (escapes_left E.escaped self.now))) f.new }
     {
         f.write_str("\"")?;
         self.write::<E, W>(f)?;

@@ -30,7 +30,7 @@ module _ {C A F : Type 0} {f : Faults C F} {g : Ghosts C} where
   abbrev pub drain_lender : DrainUtf C A F f g → GName
   drain_lender d = d.string.ghost_name
 
-  -- Both drain the same string, and leave it with the same units and capacity.
+  -- Two drains are of one string, and leave it with the same units and capacity.
   pub record DrainKeeps (old new : DrainUtf C A F f g) : Type 0 where
     pub lender : drain_lender new ≡ drain_lender old
     pub leaves : drain_leaves new ≡ drain_leaves old

@@ -172,10 +172,10 @@ size_t wide_utf16_to_utf8_lossy_with(const uint16_t *units, size_t length, uint3
  *     memmove(buffer, buffer + complete, length - complete);
  *     length = length - complete;
  *
- * If `needed` is greater than the capacity and is not WIDE_FAULT, which an invalid order or policy gives, repeat the
- * second line with a larger buffer before the third line: it takes the old `after_fault`. At the end of the stream
- * convert all bytes that are left, at most three. The results, one after another, are the text of the whole stream. If
- * an odd number of bytes is left, the stream ends in half a unit.
+ * If `needed` is greater than the capacity and is not WIDE_FAULT, which an invalid order or policy gives, call the
+ * function of the second line again with a larger buffer, before the third line overwrites `after_fault`. At the end of
+ * the stream convert all bytes that are left, at most three. The results, one after another, are the text of the whole
+ * stream. If an odd number of bytes is left, the stream ends in half a unit.
  *
  * To know whether a chunk has ill-formed units, call wide_utf16_bytes_first_fault on its `complete` bytes before they
  * are moved: it has some if the result is less than complete / 2. The same call finds ill-formed units in the bytes

@@ -15,7 +15,8 @@ abbrev pub WroteIf : Type 0 → List ℕ → List ℕ → Option ℕ → List �
 WroteIf valid all before (Some count) after = valid × Wrote all before count after
 WroteIf valid all before None after = (valid → ⊥) × (after ≡ before)
 
--- Both for a buffer of units of either width.
+-- How a function that converts into a buffer of units of either width ends: with the length of the result, which the
+-- buffer got if it is long enough; its other units are unchanged.
 pub record WroteUnits {X : Type 0} (number : X → ℕ) (all : List ℕ) (before : List X) (count : ℕ) (after : List X) : Type 0 where
   pub len : count ≡ length all
   pub fits : count < 2 ^ 64 - 1

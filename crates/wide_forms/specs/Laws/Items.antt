@@ -77,7 +77,7 @@ chars-of_well_formed form us well = no_fault-chars (items form us) well.no_fault
 pub IsWellFormed-of_chars : (form : EncodingForm) (us cs : List ℕ) → items form us ≡ map Char cs → IsWellFormed form us
 IsWellFormed-of_chars form us cs e = record { no_fault = λ u at. let f = subst (λ is. Contains is (Fault u)) e at in chars-no_contained cs u f.0 f.1 f.2 }
 
--- One item.
+-- Items of no units, and of the units of one character.
 pub items-nil : (form : EncodingForm) → items form [] ≡ []
 items-nil form = items-of_chain form [] tt
 

@@ -110,7 +110,7 @@ module _ (form : EncodingForm) (us : List ℕ) (well : IsWellFormed form us) whe
     pub chars_before-within : chars_before form us offset ≤ length (chars form us)
     chars_before-within = omega (arith, ap length offset-items_before.prefix, length-take (length items_before) (chars form us))
 
-    -- Both slices are well formed.
+    -- The slices before and after a boundary are well formed.
     pub IsWellFormed-take : IsWellFormed form (take offset us)
     IsWellFormed-take = subst (λ vs. IsWellFormed form vs) (sym offset-items_before.encoded) (IsWellFormed-encode form (take (length items_before) (chars form us)) (prefix_scalars (length items_before)))
 

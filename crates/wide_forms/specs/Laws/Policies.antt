@@ -17,7 +17,7 @@ use Rattle.wide_forms.specs.Laws.Lossy.{lossy-chars, scalars-lossy}
 use Rattle.wide_forms.specs.declared.policy.Policy.{Policy}
 use Rattle.wide_forms.specs.declared.policy.Policy.TheVariants.{Each, Run, Skip}
 
--- Concatenated lists.
+-- The characters of concatenated lists of items.
 pub characters-append : (a b : List Item) → characters (a ++ b) ≡ characters a ++ characters b
 characters-append [] b = refl
 characters-append (Char c ∷ a) b = ap (λ l. c ∷ l) (characters-append a b)
@@ -49,7 +49,7 @@ runs-at_fault (Fault v ∷ []) b u = runs-from_fault b u
 runs-at_fault (Fault v ∷ Char d ∷ a) b u = ap (λ l. 0xFFFD ∷ l) (runs-at_fault (Char d ∷ a) b u)
 runs-at_fault (Fault v ∷ Fault w ∷ a) b u = runs-at_fault (Fault w ∷ a) b u
 
--- After other items.
+-- Lossy text of items that no fault precedes.
 pub lossy_after-none : (policy : Policy) (is : List Item) → lossy_after policy false is ≡ lossy_by policy is
 lossy_after-none Each is = refl
 lossy_after-none Run is = refl
@@ -144,7 +144,7 @@ pub characters-of_run : (us : List ℕ) → characters (map Fault us) ≡ []
 characters-of_run [] = refl
 characters-of_run (u ∷ us) = characters-of_run us
 
--- Well-formed text.
+-- Lossy text of characters alone is those characters.
 pub lossy_by-chars : (policy : Policy) (cs : List ℕ) → lossy_by policy (map Char cs) ≡ cs
 lossy_by-chars Each cs = lossy-chars cs
 lossy_by-chars Run [] = refl

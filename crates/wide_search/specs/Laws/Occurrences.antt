@@ -54,7 +54,7 @@ module _ {A : Type 0} where
       sym (take-append-drop (length needle) (drop at whole)) ∙ ap (λ xs. xs ++ drop (length needle) (drop at whole)) occurs.same in
       sym (take-append-drop at whole) ∙ ap (λ xs. take at whole ++ xs) (rest ∙ ap (λ xs. needle ++ xs) (drop-drop (length needle) at whole))
 
-  -- The joined substrings are the list.
+  -- The substrings, joined with the needle, are the list that was split.
   pub substrings-joined : (needle : List A) (substrings : List (List A)) (whole : List A) → AreSubstrings needle whole substrings → joined_with needle substrings ≡ whole
   substrings-joined needle [] whole are = absurd are
   substrings-joined needle (substring ∷ []) whole are = are.0
@@ -62,7 +62,7 @@ module _ {A : Type 0} where
       ap (λ xs. substring ++ (needle ++ xs)) (substrings-joined needle (next ∷ more) (drop (length substring + length needle) whole) are.2)
       ∙ ap (λ xs. xs ++ (needle ++ drop (length substring + length needle) whole)) are.1 ∙ sym (parted needle whole (length substring) are.0.here)
 
-  -- There is no other such list of substrings.
+  -- Only one list of substrings is that of a needle and a list.
   pub substrings-unique : (needle : List A) (some others : List (List A)) (whole : List A) → AreSubstrings needle whole some → AreSubstrings needle whole others → some ≡ others
   substrings-unique needle [] others whole a b = absurd a
   substrings-unique needle (p ∷ ps) [] whole a b = absurd b

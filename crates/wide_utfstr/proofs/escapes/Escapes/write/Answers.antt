@@ -21,14 +21,14 @@ loop-c-init g c = λ all flush.
     let whole = utf8 (escapes_left escaped c.args.self.now) in
     let left = chars_left form number c.into_iter-c-iterator.result in
     let same : cs ≡ left = sym (ap (chars_left form number) c.into_iter-c-iterator.ensures.into_iter_gives ∙ c.chars-c-items.ensures.characters) in (
-      subst (λ ds. list_all g.E.Escaping.is_reported ds ≡ true) same all,
+      subst (λ ds. list_all g.E.Escaping.is_specified ds ≡ true) same all,
       styled-more (encode_utf8_all xs) (utf8 (flat_map escaped left)) (styled-none whole whole flush (refl {a = whole})) (c.in_ok-write_pending.ensures.styled flush (refl {a = true}))
           (flat_map-append utf8_bytes xs (flat_map escaped cs) ∙ ap (λ bs. bs ++ utf8 (flat_map escaped cs)) (utf8-encode_utf8_all xs) ∙ ap (λ ds. encode_utf8_all xs ++ utf8 (flat_map escaped ds)) same),
     )
 
 pub loop-c-preserved : goal.loop-c-preserved
 loop-c-preserved g c = λ all flush.
-    let reported = g.E.Escaping.is_reported in
+    let reported = g.E.Escaping.is_specified in
     let escaped = g.E.Escaping.escaped in
     let cs = chars_left g.C.Unit.form g.C.Unit.number c.next.new.self in
     let rest = flat_map escaped cs in
