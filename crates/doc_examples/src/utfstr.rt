@@ -1,4 +1,5 @@
 //! The examples of `widestring::utfstr`.
+use std::cmp::Ordering;
 use std::test::Fail;
 use widestring::utfstr::{UCStrInUtfstr, UStrInUtfstr, Utf16Str, Utf32Str};
 use widestring::{U16CStr, U16Str, Utf16String};
@@ -205,6 +206,15 @@ fn example_of_utfstr_eq_str(rt: HostRuntime) -> Result<(), Fail> {
     let text = Utf16Str::from_slice(&[0x64, 0xe9, 0x6a, 0xe0])?;
     assert!(rt; text.eq_str("déjà"));
     assert!(rt; !text.eq_str("de\u{301}ja\u{300}"));
+    Ok(())
+}
+
+#[test]
+fn example_of_utfstr_cmp_code_points(rt: HostRuntime) -> Result<(), Fail> {
+    let emoji = Utf16Str::from_slice(&[0x61, 0xd83d, 0xde00])?;
+    let letter = Utf16Str::from_slice(&[0x61, 0xff21])?;
+    assert!(rt; emoji < letter);
+    assert!(rt; emoji.cmp_code_points(letter) == Ordering::Greater);
     Ok(())
 }
 

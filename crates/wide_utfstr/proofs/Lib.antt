@@ -9,3 +9,4 @@ mod Same
 mod SameChunks
 mod Escaped
 mod Displayed
+mod Ordered

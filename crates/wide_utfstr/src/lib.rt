@@ -9,6 +9,7 @@ mod display;
 mod escapes;
 mod iter;
 mod lines;
+mod order;
 mod search;
 mod text;
 mod trim;

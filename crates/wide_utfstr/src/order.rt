@@ -1,0 +1,62 @@
+//! Order of well-formed text by the code points of its characters.
+ghost use Rattle.std.specs.Prelude.{◌≡◌};
+ghost use Rattle.std.specs.Cmp.Lexicographic.{slice_cmp};
+ghost use Rattle.std.specs.Ordering.{nat_cmp};
+ghost use Rattle.wide_utfstr.specs.View.{text_seen};
+
+use crate::view::UtfStr;
+use std::cmp::Ordering;
+use wide_unit::{Unit, common_prefix};
+
+// Compares two texts character by character, up to the first difference.
+fn compare_chars<C: Unit>(left: UtfStr<'_, C>, right: UtfStr<'_, C>) -> Ordering
+    ensures { result ≡ slice_cmp nat_cmp (text_seen left.entry) (text_seen right.entry) }
+{
+    let mut theirs = right.chars();
+    for c in left.chars() {
+        match theirs.next() {
+            None => return Ordering::Greater,
+            Some(d) => {
+                if c != d {
+                    return c.cmp(&d);
+                }
+            }
+        }
+    }
+    match theirs.next() {
+        None => Ordering::Equal,
+        Some(_) => Ordering::Less,
+    }
+}
+
+impl<C: Unit> UtfStr<'_, C> {
+    /// Compares two texts by the code points of their characters, as UTF-8 and UTF-32 are ordered. `<` and `cmp` compare
+    /// units, which in UTF-16 puts characters past U+FFFF, whose first unit is a surrogate, before U+E000 to U+FFFF.
+    ///
+    /// What the texts have in common at their beginning is passed in vectors. Of what follows, only the first character
+    /// is decoded.
+    ///
+    /// # Example
+    ///
+    /// ```
+    /// use std::cmp::Ordering;
+    ///
+    /// let emoji = Utf16Str::from_slice(&[0x61, 0xd83d, 0xde00])?;
+    /// let letter = Utf16Str::from_slice(&[0x61, 0xff21])?;
+    /// assert!(rt; emoji < letter);
+    /// assert!(rt; emoji.cmp_code_points(letter) == Ordering::Greater);
+    /// ```
+    pub fn cmp_code_points(self, other: UtfStr<'_, C>) -> Ordering
+        ensures { result ≡ slice_cmp nat_cmp (text_seen self.entry) (text_seen other.entry) }
+    {
+        let shared = common_prefix(self.as_slice(), other.as_slice());
+        let at = self.floor_char_boundary(shared);
+        // A boundary of one text within what both share is one of the other too. This test takes the place of a proof.
+        if !other.is_char_boundary(at) {
+            return compare_chars(self, other);
+        }
+        let (_, ours) = self.split_at(at);
+        let (_, theirs) = other.split_at(at);
+        compare_chars(ours, theirs)
+    }
+}
