@@ -75,21 +75,21 @@ pub fn remove_number_wide<C: FaultUnit>(text: &mut UtfString<C>, index: usize) -
     Some(text.remove(at))
 }
 
-/// Inserts a character before the first one that equals `mark` in UTF-16, if there is one.
-pub fn insert_before(text: &mut Utf16String, mark: char, c: char) -> Result<(), OutOfMemory> {
-    match text.as_utfstr().char_indices().find(|at| at.1 == mark) {
+/// Inserts a character before the first one that equals `wanted` in UTF-16, if there is one.
+pub fn insert_before(text: &mut Utf16String, wanted: char, c: char) -> Result<(), OutOfMemory> {
+    match text.as_utfstr().char_indices().find(|at| at.1 == wanted) {
         Some((at, _)) => text.insert(at, c),
         None => Ok(()),
     }
 }
 
-/// Inserts a character before the first one that equals `mark` at any width, if there is one.
+/// Inserts a character before the first one that equals `wanted` at any width, if there is one.
 pub fn insert_before_wide<C: FaultUnit>(
     text: &mut UtfString<C>,
-    mark: char,
+    wanted: char,
     c: char,
 ) -> Result<(), OutOfMemory> {
-    match text.as_utfstr().char_indices().find(|at| at.1 == mark) {
+    match text.as_utfstr().char_indices().find(|at| at.1 == wanted) {
         Some((at, _)) => text.insert(at, c),
         None => Ok(()),
     }

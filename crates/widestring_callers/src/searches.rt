@@ -138,88 +138,92 @@ pub fn last_part<'a>(path: U16CStr<'a>, slash: char) -> U16Str<'a> {
     }
 }
 
-/// Returns the offset of the first line that equals `mark`.
-pub fn line_of(text: Utf16Str<'_>, mark: Utf16Str<'_>) -> Option<usize> {
+/// Returns the offset of the first line that equals `wanted`.
+pub fn line_of(text: Utf16Str<'_>, wanted: Utf16Str<'_>) -> Option<usize> {
     for (offset, line) in text.line_indices() {
-        if line == mark {
+        if line == wanted {
             return Some(offset);
         }
     }
     None
 }
 
-/// Returns the index of the first line that equals `mark`, from 0.
-pub fn number_of_line(text: Utf16Str<'_>, mark: Utf16Str<'_>) -> Option<usize> {
+/// Returns the index of the first line that equals `wanted`, from 0.
+pub fn number_of_line(text: Utf16Str<'_>, wanted: Utf16Str<'_>) -> Option<usize> {
     for (number, line) in text.lines().enumerate() {
-        if line == mark {
+        if line == wanted {
             return Some(number);
         }
     }
     None
 }
 
-/// Returns the index of the first line that equals `mark`, from 0, of units that may be ill-formed.
-pub fn number_of_any_line(units: U16Str<'_>, mark: U16Str<'_>) -> Option<usize> {
+/// Returns the index of the first line that equals `wanted`, from 0, of units that may be ill-formed.
+pub fn number_of_any_line(units: U16Str<'_>, wanted: U16Str<'_>) -> Option<usize> {
     for (number, line) in units.lines_lossy().enumerate() {
-        if line == mark {
+        if line == wanted {
             return Some(number);
         }
     }
     None
 }
 
-/// Returns the index of the first field of a row that equals `mark`.
-pub fn number_of_field(row: Utf16Str<'_>, mark: Utf16Str<'_>) -> Option<usize> {
+/// Returns the index of the first field of a row that equals `wanted`.
+pub fn number_of_field(row: Utf16Str<'_>, wanted: Utf16Str<'_>) -> Option<usize> {
     for (number, field) in row.split_char(',').enumerate() {
-        if field == mark {
+        if field == wanted {
             return Some(number);
         }
     }
     None
 }
 
-/// Returns the index of the first field of a row that equals `mark`, for units that may be ill-formed and a separator
+/// Returns the index of the first field of a row that equals `wanted`, for units that may be ill-formed and a separator
 /// of any length.
-pub fn number_of_any_field(row: U16Str<'_>, part: U16Str<'_>, mark: U16Str<'_>) -> Option<usize> {
+pub fn number_of_any_field(row: U16Str<'_>, part: U16Str<'_>, wanted: U16Str<'_>) -> Option<usize> {
     for (number, field) in row.split(part).enumerate() {
-        if field == mark {
+        if field == wanted {
             return Some(number);
         }
     }
     None
 }
 
-/// Returns the text before the first line that equals `mark`, and the text from that line on.
+/// Returns the text before the first line that equals `wanted`, and the text from that line on.
 pub fn parted_at_line<'a>(
     text: Utf16Str<'a>,
-    mark: Utf16Str<'_>,
+    wanted: Utf16Str<'_>,
 ) -> Option<(Utf16Str<'a>, Utf16Str<'a>)> {
     for (offset, line) in text.line_indices() {
-        if line == mark {
+        if line == wanted {
             return Some(text.split_at(offset));
         }
     }
     None
 }
 
-/// Inserts a character before the last one that equals `mark`.
-pub fn insert_before_last(text: &mut Utf16String, mark: char, c: char) -> Result<(), OutOfMemory> {
-    match text.as_utfstr().char_indices().rfind(|at| at.1 == mark) {
+/// Inserts a character before the last one that equals `wanted`.
+pub fn insert_before_last(
+    text: &mut Utf16String,
+    wanted: char,
+    c: char,
+) -> Result<(), OutOfMemory> {
+    match text.as_utfstr().char_indices().rfind(|at| at.1 == wanted) {
         Some((at, _)) => text.insert(at, c),
         None => Ok(()),
     }
 }
 
-/// Inserts a character before the last one that equals `mark`. A loop remembers its offset, so the code checks once
+/// Inserts a character before the last one that equals `wanted`. A loop remembers its offset, so the code checks once
 /// after the loop that it is a boundary.
 pub fn insert_before_remembered(
     text: &mut Utf16String,
-    mark: char,
+    wanted: char,
     c: char,
 ) -> Result<(), OutOfMemory> {
     let mut offset = None;
     for (at, found) in text.as_utfstr().char_indices() {
-        if found == mark {
+        if found == wanted {
             offset = Some(at);
         }
     }
@@ -230,8 +234,8 @@ pub fn insert_before_remembered(
 }
 
 /// Returns the text before the first occurrence of a character, and the text from it on.
-pub fn parted<'a>(text: Utf16Str<'a>, mark: char) -> (Utf16Str<'a>, Utf16Str<'a>) {
-    match text.find_char(mark) {
+pub fn parted<'a>(text: Utf16Str<'a>, wanted: char) -> (Utf16Str<'a>, Utf16Str<'a>) {
+    match text.find_char(wanted) {
         Some(at) => text.split_at(at),
         None => text.split_at(text.len()),
     }

@@ -17,7 +17,7 @@ pub struct Input<'a, C: FaultUnit> {
     pub needle: UStr<'a, C>,
 }
 
-/// The calls of a family.
+/// The calls of a group.
 pub trait Call: Copy {
     /// Returns the call of a name.
     fn named(name: &str) -> Option<Self>;
