@@ -5,7 +5,7 @@ use widestring::utfstring::{
     CowUtf16Str, OfText, UStringInUtfstring, UStringOverUtfstrs, Utf16String, Utf32String,
     UtfStrInUtfstring,
 };
-use widestring::{U16Str, U16String, Utf16Str};
+use widestring::{Policy, U16Str, U16String, Utf16Str};
 
 #[test]
 fn example_of_utfstring(rt: HostRuntime) -> Result<(), Fail> {
@@ -123,6 +123,14 @@ fn example_of_utfstring_from_chars(rt: HostRuntime) -> Result<(), Fail> {
 #[test]
 fn example_of_utfstring_from_slice_lossy(rt: HostRuntime) -> Result<(), Fail> {
     let text = Utf16String::from_slice_lossy(rt.alloc(), &[0x48, 0xd83d, 0x69])?;
+    assert!(rt; text.as_utfstr().eq_str("H\u{fffd}i"));
+    Ok(())
+}
+
+#[test]
+fn example_of_utfstring_from_slice_lossy_with(rt: HostRuntime) -> Result<(), Fail> {
+    let units = [0x48, 0xdc00, 0xdc00, 0x69];
+    let text = Utf16String::from_slice_lossy_with(rt.alloc(), &units, Policy::Run)?;
     assert!(rt; text.as_utfstr().eq_str("H\u{fffd}i"));
     Ok(())
 }

@@ -46,13 +46,20 @@ impl<C: FaultUnit, A: Allocator> UtfString<C, A> {
     }
 
     /// Makes well-formed text of any units. The [`Policy`] determines what replaces the units that belong to no
-    /// character. If the units are well formed (Unicode Standard, D85),
-    /// returns a view of the units themselves, without allocating. Otherwise returns a string with capacity for as many
-    /// units as there are, and allocates once.
+    /// character. If the units are well formed (Unicode Standard, D85), returns a view of the units themselves, without
+    /// allocating. Otherwise returns a string with capacity for as many units as there are, and allocates once.
     ///
     /// # Errors
     ///
     /// [`OutOfMemory`] if the allocation fails. It never fails if the units are well formed.
+    ///
+    /// # Example
+    ///
+    /// ```
+    /// let units = [0x48, 0xdc00, 0xdc00, 0x69];
+    /// let text = Utf16String::from_slice_lossy_with(rt.alloc(), &units, Policy::Run)?;
+    /// assert!(rt; text.as_utfstr().eq_str("H\u{fffd}i"));
+    /// ```
     pub fn from_slice_lossy_with<'a>(
         alloc: A,
         units: &'a [C],
