@@ -12,8 +12,9 @@ use wide_utferror::FaultUnit;
 use wide_utfstr::UtfStr;
 use wide_utfstring::UtfString;
 
-/// Calls of a view of well-formed text that make a string with occurrences of a needle replaced. The needle is a text or a character. They are in a
-/// trait because the view's crate does not know owned strings. The Rust crate has no such calls.
+/// Calls of a view of well-formed text that make a string with occurrences of a needle replaced. The needle is a text or
+/// a character. They are in a trait because the view's crate does not know owned strings. The Rust crate has no such
+/// calls.
 ///
 /// # Example
 ///
@@ -26,8 +27,8 @@ use wide_utfstring::UtfString;
 /// assert!(rt; text.as_utfstr().eq_str("a:)b:)"));
 /// ```
 pub trait UtfStrReplace<C: FaultUnit, P>: SplitView<P> {
-    /// Replaces each occurrence of the needle, in a new string. Each occurrence is the first one after the one before, so
-    /// occurrences do not overlap. If the needle does not occur, or is empty, the string is a copy.
+    /// Replaces each occurrence of the needle, in a new string. Each occurrence is the first one after the one before,
+    /// so occurrences do not overlap. If the needle does not occur, or is empty, the string is a copy.
     ///
     /// It searches twice, the first time for the length of the result, and allocates once, for just that length, or not
     /// at all if the result is empty.

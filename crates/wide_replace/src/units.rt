@@ -11,8 +11,8 @@ use wide_ustr::{SplitView, UStr};
 use wide_ustring::UString;
 use wide_utferror::FaultUnit;
 
-/// Calls of a view of units that make a string with occurrences of a needle replaced. The needle is units. They are in a
-/// trait because the view's crate does not know owned strings. The Rust crate has no such calls.
+/// Calls of a view of units that make a string with occurrences of a needle replaced. The needle is units. They are in
+/// a trait because the view's crate does not know owned strings. The Rust crate has no such calls.
 ///
 /// # Example
 ///
@@ -25,8 +25,8 @@ use wide_utferror::FaultUnit;
 /// assert!(rt; row.as_slice() == [0x61, 0x9, 0xd800, 0x9].as_slice());
 /// ```
 pub trait UStrReplace<C: FaultUnit, P>: SplitView<P> {
-    /// Replaces each occurrence of the needle, in a new string. Each occurrence is the first one after the one before, so
-    /// occurrences do not overlap. If the needle does not occur, or is empty, the string is a copy.
+    /// Replaces each occurrence of the needle, in a new string. Each occurrence is the first one after the one before,
+    /// so occurrences do not overlap. If the needle does not occur, or is empty, the string is a copy.
     ///
     /// It searches twice, the first time for the length of the result, and allocates once, for just that length, or not
     /// at all if the result is empty.
