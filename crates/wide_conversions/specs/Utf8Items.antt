@@ -22,7 +22,7 @@ pub data AreUtf8Items : List ℕ → List Item → Type 0 where
   character : (c : ℕ) (bs : List ℕ) (is : List Item) → IsScalar c → AreUtf8Items bs is → AreUtf8Items (utf8_bytes c ++ bs) (Char c ∷ is)
   part : (bs : List ℕ) (is : List Item) → 0 < length bs → StartsWithNoChar bs → AreUtf8Items (drop (utf8_invalid_len bs) bs) is → AreUtf8Items bs (Fault (slice_index bs 0) ∷ is)
 
--- The bytes have such a list of items.
+-- The bytes have a list of characters and faults.
 abbrev ItemsFor : List ℕ → Type 0
 ItemsFor bs = (is : List Item) × AreUtf8Items bs is
 
@@ -39,7 +39,8 @@ items_by : (steps : ℕ) (bs : List ℕ) → length bs < steps → ItemsFor bs
 items_by zero bs within = absurd (below_none (length bs) within)
 items_by (suc steps) bs within = with_first bs (λ ds less. items_by steps ds (below_more (length ds) (length bs) steps less within)) (first bs)
 
--- The only such list. It is opaque: all that is known about it is `utf8_items-divide`, and that there is no other.
+-- The only list of characters and faults of some bytes. It is opaque: all that is known about it is
+-- `utf8_items-divide`, and that there is no other.
 pub utf8_items : List ℕ → List Item
 utf8_items bs = (items_by (suc (length bs)) bs (below_next (length bs))).0
 

@@ -25,12 +25,12 @@ reply_data (reply.Chars cs) = Chars cs.items
 reply_data reply.BadPlace = BadPlace
 reply_data reply.BadRange = BadRange
 
--- The first of these characters, if there is one.
+-- The reply that holds the first character of a list, or says that there is none.
 abbrev pub first_char : List ℕ → ReplyData
 first_char [] = NoChar
 first_char (c ∷ cs) = Char c
 
--- Indices `a` and `b` are a range of so many characters: `a` is at most `b`, and `b` at most the count.
+-- Whether indices `a` and `b` are a range of `count` characters: `a` is at most `b`, and `b` at most `count`.
 abbrev pub is_range : ℕ → ℕ → ℕ → Bool
 is_range a b count = nat_le a b && nat_le b count
 

@@ -56,6 +56,7 @@ pub record Marked : Type 0 where
   pub string : Units ℕ
   pub index_capacity : ℕ
 
+-- A `Marked` coded as a pair: its string, and how many index entries fit.
 abbrev pub marked_code : Coded Marked
 marked_code =
     code_by (Units ℕ × ℕ) (coded× (units_code coded_ℕ) coded_ℕ) (λ m. (m.string, m.index_capacity))

@@ -3,6 +3,7 @@ use Rattle.std.specs.Prelude.{◌≡◌, ◌≢◌, ℕ, ◌+◌, ◌-◌, ◌/�
 use Rattle.std.specs.Char.{IsScalar}
 use Rattle.std.specs.List.{flat_map}
 
+-- UTF-16 or UTF-32.
 pub data EncodingForm : Type 0 where
   Utf16 : EncodingForm
   Utf32 : EncodingForm

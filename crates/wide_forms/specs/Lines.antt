@@ -5,12 +5,15 @@ use Rattle.wide_forms.specs.EncodingForm.{EncodingForm}
 use Rattle.wide_forms.specs.Segmentation.{Item, Char, Fault, units_of}
 use Rattle.wide_forms.specs.Items.{items, IsWellFormed}
 
+-- The character that ends a line.
 abbrev pub line_feed : ℕ
 line_feed = 0xA
 
+-- The character that belongs to a line end if it directly precedes the line feed.
 abbrev pub carriage_return : ℕ
 carriage_return = 0xD
 
+-- Whether an item is a line feed.
 abbrev pub is_line_feed : Item → Bool
 is_line_feed (Char c) = c == line_feed
 is_line_feed (Fault u) = false

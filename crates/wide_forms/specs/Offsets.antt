@@ -10,10 +10,10 @@ use Rattle.wide_forms.specs.Range.{IsWithin}
 -- The offset, in units, at which character number `index` begins, or the end if `index` is the number of characters.
 pub record IsOffsetOf (form : EncodingForm) (units : List ℕ) (index offset : ℕ) : Type 0 where
   pub boundary : IsBoundary form units offset
-  -- The characters before it, and those from it on.
+  -- The characters before the offset are the first `index` ones, and those from it on are the others.
   pub prefix : chars form (take offset units) ≡ take index (chars form units)
   pub rest : chars form (drop offset units) ≡ drop index (chars form units)
-  -- The units before it are the encoding of those characters.
+  -- The units before the offset are the encoding of the first `index` characters.
   pub encoded : take offset units ≡ encode form (take index (chars form units))
 
 -- The number of characters before the offset.
@@ -38,8 +38,9 @@ pub record IsCharRange (form : EncodingForm) (units : List ℕ) (from to : ℕ) 
   pub start : IsCharBoundary form units from
   pub end : IsCharBoundary form units to
 
--- The characters of units of any width, whose numbers `number` returns.
+-- The text of units of any type `C`, given the number of each unit.
 module _ {C : Type 0} (form : EncodingForm) (number : C → ℕ) where
+  -- The characters of units.
   abbrev pub text_of : List C → List ℕ
   text_of us = chars form (map number us)
 

@@ -10,6 +10,7 @@ pub data Item : Type 0 where
   Char : ℕ → Item
   Fault : ℕ → Item
 
+-- The units of an item.
 abbrev pub item_units : EncodingForm → Item → List ℕ
 item_units form (Char c) = code_units form c
 item_units form (Fault u) = u ∷ []
@@ -18,6 +19,7 @@ item_units form (Fault u) = u ∷ []
 abbrev pub units_of : EncodingForm → List Item → List ℕ
 units_of form items = flat_map (item_units form) items
 
+-- A character is a scalar value, and a fault encodes no scalar value by itself.
 abbrev pub IsItem : EncodingForm → Item → Type 0
 IsItem form (Char c) = IsScalar c
 IsItem form (Fault u) = IsFault form u

@@ -13,7 +13,7 @@ use Rattle.wide_forms.specs.Utf8.{utf8}
 abbrev pub display_text : EncodingForm → List ℕ → List ℕ
 display_text form us = utf8 (lossy (items form us))
 
--- Whether a character is not U+FFFD. `display_skipping` prints only these.
+-- Whether a character is not U+FFFD. `display_skipping` prints only the characters that are not.
 abbrev pub is_kept : ℕ → Bool
 is_kept c = not (c == 0xFFFD)
 
@@ -34,6 +34,7 @@ debug_item (Fault u) = codes "\\<" ++ (digits 16 true u ++ codes ">")
 abbrev pub quoted : List Item → List ℕ
 quoted is = 34 ∷ (flat_map debug_item is ++ 34 ∷ [])
 
+-- What `{:?}` writes for units whose characters are all ASCII.
 abbrev pub debug_text : EncodingForm → List ℕ → List ℕ
 debug_text form us = quoted (items form us)
 
@@ -42,13 +43,15 @@ abbrev pub is_plain : Item → Bool
 is_plain (Char c) = nat_lt c 0x80
 is_plain (Fault u) = true
 
--- What `{:?}` writes for items, for units, and for their lossy characters, if all characters are ASCII. For other
--- characters, it writes the character or its code, by std's tables of printable characters, and nothing is specified.
+-- What `{:?}` writes for items whose characters are all ASCII. For other characters it writes the character or its
+-- code, by std's tables of printable characters, and nothing is specified.
 abbrev pub quoted_output : List Item → Option (List ℕ)
 quoted_output is = if list_all is_plain is then Some (quoted is) else None
 
+-- What `{:?}` writes for units, if all their characters are ASCII.
 abbrev pub debug_output : EncodingForm → List ℕ → Option (List ℕ)
 debug_output form us = quoted_output (items form us)
 
+-- What `{:?}` writes for the lossy characters of units, if all are ASCII.
 abbrev pub lossy_debug_output : EncodingForm → List ℕ → Option (List ℕ)
 lossy_debug_output form us = quoted_output (map Char (lossy (items form us)))

@@ -18,10 +18,11 @@ abbrev pub big_bytes : EncodingForm → ℕ → List ℕ
 big_bytes Utf16 u = (u / 0x100) ∷ (u % 0x100) ∷ []
 big_bytes Utf32 u = (u / 0x100_0000) ∷ (u / 0x1_0000 % 0x100) ∷ (u / 0x100 % 0x100) ∷ (u % 0x100) ∷ []
 
--- The bytes of code units, one after another.
+-- The bytes of code units, one unit after another, the low byte of each first.
 abbrev pub little_bytes_of : EncodingForm → List ℕ → List ℕ
 little_bytes_of form units = flat_map (little_bytes form) units
 
+-- The bytes of code units, one unit after another, the high byte of each first.
 abbrev pub big_bytes_of : EncodingForm → List ℕ → List ℕ
 big_bytes_of form units = flat_map (big_bytes form) units
 

@@ -13,13 +13,15 @@ pub record IsDecoded (form : EncodingForm) (bytes : List ℕ) (offset : ℕ) (be
 abbrev pub LeadsThree : ℕ → Type 0
 LeadsThree byte = (0xE0 ≤ byte) × (byte < 0xF0)
 
--- The scalar value of two bytes, of three, and of four.
+-- The scalar value of two bytes.
 abbrev pub code_of_two : ℕ → ℕ → ℕ
 code_of_two a b = a % 0x20 * 0x40 + b % 0x40
 
+-- The scalar value of three bytes.
 abbrev pub code_of_three : ℕ → ℕ → ℕ → ℕ
 code_of_three a b c = a % 0x10 * 0x1000 + b % 0x40 * 0x40 + c % 0x40
 
+-- The scalar value of four bytes.
 abbrev pub code_of_four : ℕ → ℕ → ℕ → ℕ → ℕ
 code_of_four a b c d = a % 8 * 0x4_0000 + b % 0x40 * 0x1000 + c % 0x40 * 0x40 + d % 0x40
 

@@ -10,13 +10,15 @@ use Rattle.wide_iter.specs.declared.source.Source.{Source}
 use Rattle.wide_iter.specs.declared.decode16.DecodeUtf16.{DecodeUtf16}
 
 module _ {I : Type 0} where
-  -- The source, and the unit in the lookahead at each end.
+  -- The source of a decoder.
   abbrev pub source_of : DecodeUtf16 I → Source I
   source_of s = s.source
 
+  -- The unit in the lookahead at the front, if there is one.
   abbrev pub front_lookahead : DecodeUtf16 I → Option ℕ
   front_lookahead s = s.front
 
+  -- The unit in the lookahead at the back, if there is one.
   abbrev pub back_lookahead : DecodeUtf16 I → Option ℕ
   back_lookahead s = s.back
 

@@ -9,7 +9,7 @@ use Rattle.wide_iter.specs.declared.source.Source.{Source}
 use Rattle.wide_iter.specs.declared.decode32.DecodeUtf32.{DecodeUtf32}
 
 module _ {I : Type 0} where
-  -- The source. There is no lookahead.
+  -- The source of a decoder, which has no lookahead.
   abbrev pub source32_of : DecodeUtf32 I → Source I
   source32_of s = s.source
 

@@ -8,10 +8,11 @@ use Rattle.wide_iter.specs.declared.source.Source.{Source}
 use Rattle.wide_iter.specs.declared.encode16.EncodeUtf16.{EncodeUtf16}
 
 module _ {I : Type 0} where
-  -- The source, and the pending unit of a pair.
+  -- The source of an encoder.
   abbrev pub source_of : EncodeUtf16 I → Source I
   source_of s = s.source
 
+  -- The pending unit of a pair, if there is one.
   abbrev pub unit_in_lookahead : EncodeUtf16 I → Option ℕ
   unit_in_lookahead s = s.second
 

@@ -7,6 +7,7 @@ use Rattle.wide_iter.specs.declared.source.Source.{Source}
 use Rattle.wide_iter.specs.declared.encode32.EncodeUtf32.{EncodeUtf32}
 
 module _ {I : Type 0} where
+  -- The source of an encoder.
   abbrev pub source_of : EncodeUtf32 I → Source I
   source_of s = s.source
 

@@ -8,6 +8,7 @@ use Rattle.wide_iter.specs.declared.encode8.EncodeUtf8.{EncodeUtf8}
 use Rattle.wide_iter.specs.declared.encode8.Pending.{Pending}
 use Rattle.wide_iter.specs.declared.encode8.Pending.TheVariants.{Zero, One, Two, Three}
 
+-- The bytes of a character that are pending.
 abbrev pub pending_bytes : Pending → List ℕ
 pending_bytes Zero = []
 pending_bytes (One a) = a ∷ []
@@ -15,10 +16,11 @@ pending_bytes (Two a b) = a ∷ b ∷ []
 pending_bytes (Three a b c) = a ∷ b ∷ c ∷ []
 
 module _ {I : Type 0} where
-  -- The source, and the pending bytes of a character.
+  -- The source of an encoder.
   abbrev pub source_of : EncodeUtf8 I → Source I
   source_of s = s.source
 
+  -- The pending bytes of an encoder.
   abbrev pub bytes_in_lookahead : EncodeUtf8 I → List ℕ
   bytes_in_lookahead s = pending_bytes s.pending
 

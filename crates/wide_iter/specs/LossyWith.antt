@@ -16,9 +16,11 @@ module _ {D : Type 0} where
     pub asks : CanAsk can s
     pub ends : IsFinite (source_count count s)
 
+  -- The source of the items that are made lossy.
   abbrev pub lossy_source : LossyWith D → Source D
   lossy_source s = s.items
 
+  -- The policy that says what replaces faults.
   abbrev pub policy_of : LossyWith D → Policy
   policy_of s = s.policy
 
@@ -38,27 +40,28 @@ module _ {D : Type 0} where
   lossy_with_count count s = count_map (λ n. n + (option_len s.front + option_len s.back)) (source_count count s.items)
 
 module _ {D E : Type 0} (steps : D → Option (Result ℕ E) → D → Type 0) where
-  -- Each call of a decoder yields the first, or the last, of the items that `rest` returns. `number` returns the unit
-  -- of a fault.
+  -- Each call of a decoder yields the first of the items that `rest` returns. `number` returns the unit of a fault.
   pub record GivesFirstItem (number : E → ℕ) (rest : D → List Item) : Type 0 where
     pub at : (s : D) (r : Option (Result ℕ E)) (t : D) → steps s r t → YieldsFirstBy (item_of number) rest s r t
 
+  -- Each call of a decoder yields the last of the items that `rest` returns. `number` returns the unit of a fault.
   pub record GivesLastItem (number : E → ℕ) (rest : D → List Item) : Type 0 where
     pub at : (s : D) (r : Option (Result ℕ E)) (t : D) → steps s r t → YieldsLastBy (item_of number) rest s r t
 
-  -- A run of faults was read from the front, or the back, and then the character that was returned, or nothing.
+  -- A run of faults was read from the front, and then the character that was returned, or nothing.
   pub record TakesFirstCharacter (s : Source D) (r : Option ℕ) (t : Source D) : Type 0 where
     pub at : (number : E → ℕ) (rest : D → List Item) → GivesFirstItem number rest
         → (run : List ℕ) × MatchOption r ((left_in_source rest s ≡ map Fault run) × (left_in_source rest t ≡ [])) (λ c. left_in_source rest s ≡ map Fault run ++ Char c ∷ left_in_source rest t)
 
+  -- A run of faults was read from the back, and then the character that was returned, or nothing.
   pub record TakesLastCharacter (s : Source D) (r : Option ℕ) (t : Source D) : Type 0 where
     pub at : (number : E → ℕ) (rest : D → List Item) → GivesLastItem number rest
         → (run : List ℕ) × MatchOption r ((left_in_source rest s ≡ map Fault run) × (left_in_source rest t ≡ [])) (λ c. left_in_source rest s ≡ left_in_source rest t ++ Char c ∷ map Fault run)
 
-  -- For each function that returns the items of the decoder, a call yielded the first, or the last, of the characters
-  -- that were left.
+  -- For each function that returns the items of the decoder, a call yielded the first of the characters that were left.
   pub record LossyFirst (s : LossyWith D) (r : Option ℕ) (t : LossyWith D) : Type 0 where
     pub at : (number : E → ℕ) (rest : D → List Item) → GivesFirstItem number rest → YieldsFirst (lossy_with_left rest) s r t
 
+  -- For each function that returns the items of the decoder, a call yielded the last of the characters that were left.
   pub record LossyLast (s : LossyWith D) (r : Option ℕ) (t : LossyWith D) : Type 0 where
     pub at : (number : E → ℕ) (rest : D → List Item) → GivesLastItem number rest → YieldsLast (lossy_with_left rest) s r t

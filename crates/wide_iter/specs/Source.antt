@@ -5,10 +5,11 @@ use Rattle.std.specs.Iterator.{Count, count_unless}
 use Rattle.wide_iter.specs.declared.source.Source.{Source}
 
 module _ {I : Type 0} where
-  -- The source itself, and whether it has returned `None`.
+  -- The source itself, which may not be fused.
   abbrev pub inner_of : Source I → I
   inner_of s = s.inner
 
+  -- Whether the source has returned `None`.
   abbrev pub has_ended : Source I → Bool
   has_ended s = s.ended
 
@@ -20,6 +21,7 @@ module _ {I : Type 0} where
   abbrev pub CanAsk : (I → Type 0) → Source I → Type 0
   CanAsk can s = has_ended s ≡ false → can (inner_of s)
 
+  -- How many items are left: none after the source has ended, and otherwise as many as the source itself has left.
   abbrev pub source_count : (I → Count) → Source I → Count
   source_count count s = count_unless (has_ended s) (count (inner_of s))
 

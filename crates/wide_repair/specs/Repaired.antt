@@ -2,11 +2,11 @@
 use Rattle.std.specs.Prelude.{◌+◌, ℕ, List, ◌∷◌, Bool, not, ◌&&◌, ◌||◌, if◌then◌else◌, slice_index}
 use Rattle.wide_forms.specs.Searches.{is_high, is_low, is_no_scalar}
 
--- A high surrogate that no low one follows, or a low one that no high one precedes.
+-- Whether a unit is a high surrogate that no low one follows, or a low one that no high one precedes.
 abbrev pub is_alone : ℕ → ℕ → ℕ → Bool
 is_alone before u after = (is_high u && not (is_low after)) || (is_low u && not (is_high before))
 
--- In UTF-16, given the unit before and the one after.
+-- The repaired unit of UTF-16, given the unit before and the one after it.
 abbrev pub repaired_unit : ℕ → ℕ → ℕ → ℕ
 repaired_unit before u after = if is_alone before u after then 0xFFFD else u
 
@@ -14,6 +14,6 @@ repaired_unit before u after = if is_alone before u after then 0xFFFD else u
 abbrev pub repaired_at : List ℕ → ℕ → ℕ
 repaired_at us k = repaired_unit (slice_index (0 ∷ us) k) (slice_index us k) (slice_index us (k + 1))
 
--- In UTF-32, where the neighbours do not matter.
+-- The repaired unit of UTF-32, which does not depend on its neighbours.
 abbrev pub repaired_scalar : ℕ → ℕ
 repaired_scalar u = if is_no_scalar u then 0xFFFD else u

@@ -17,31 +17,32 @@ pub data Ending : Type 0 where
   HalfUnit : Ending
   Unpaired : ℕ → ℕ → ℕ → Ending
 
--- The text in UTF-8, and the ending.
+-- What bytes become: the text in UTF-8, and how the bytes end.
 pub record Transcoded : Type 0 where
   pub text : List ℕ
   pub ending : Ending
 
--- A fault takes precedence over half a unit.
+-- How bytes end, given the first fault and whether half a unit is left. A fault takes precedence.
 abbrev pub ending_of : Option (ℕ × ℕ × ℕ) → Bool → Ending
 ending_of (Some fault) odd = Unpaired fault.0 fault.1 fault.2
 ending_of None true = HalfUnit
 ending_of None false = Clean
 
--- All characters, and what the policy yields for faults: no fault is left.
+-- What bytes become under a policy: all characters, and what the policy yields for faults. No fault is left.
 abbrev pub transcoded_by : Policy → List ℕ → Transcoded
 transcoded_by policy bytes =
     let is = items Utf16 (units_of_bytes bytes) in
     record { text = utf8 (lossy_by policy is); ending = ending_of None (is_odd bytes) }
 
--- Strict: the characters before the first fault. Lossy: all characters, with U+FFFD for each fault.
+-- What bytes become in each mode. Strict: the characters before the first fault. Lossy: all characters, with U+FFFD for
+-- each fault.
 abbrev pub transcoded : Mode → List ℕ → Transcoded
 transcoded Strict bytes =
     let is = items Utf16 (units_of_bytes bytes) in
     record { text = utf8 (leading_characters is); ending = ending_of (first_fault Utf16 is) (is_odd bytes) }
 transcoded Lossy bytes = transcoded_by Each bytes
 
--- Under a policy, or strictly if there is none.
+-- What bytes become under a policy, or strictly if there is none.
 abbrev pub transcoded_under : Option Policy → List ℕ → Transcoded
 transcoded_under None bytes = transcoded Strict bytes
 transcoded_under (Some policy) bytes = transcoded_by policy bytes

@@ -5,11 +5,11 @@ use Rattle.std.specs.Cmp.Lexicographic.{slice_cmp}
 use Rattle.wide_unit.specs.Nul.{HasNoNul}
 use Rattle.wide_ucstr.specs.CString.{IsCString, contents}
 
--- A C string consists of contents without a NUL, and one NUL. Units without a NUL, followed by a NUL, are a C string
--- with these contents.
+-- A C string consists of contents without a NUL, and one NUL.
 abbrev pub CStringIsContents : Type 0
 CStringIsContents = (us : List ℕ) → IsCString us → HasNoNul (contents us) × (us ≡ contents us ++ 0 ∷ [])
 
+-- Units without a NUL, followed by a NUL, are a C string with these contents.
 abbrev pub ContentsMakeCString : Type 0
 ContentsMakeCString = (us : List ℕ) → HasNoNul us → IsCString (us ++ 0 ∷ []) × (contents (us ++ 0 ∷ []) ≡ us)
 

@@ -21,12 +21,12 @@ LacksSpace number units = HasNoNul (map number units.items) × (vec_capacity uni
 
 module _ {C A : Type 0} (number : C → ℕ) where
   module _ (units : Vec C A) where
-    -- A vector was passed, and the error holds it. `RejectsInnerNul` is for a constructor that rejects a NUL before the
-    -- last unit, `IsOutOfSpace` for one that rejects no NUL.
+    -- The error of a constructor that takes a vector and rejects a NUL before the last unit. It holds the vector.
     abbrev pub RejectsInnerNul : UCStringError C A → Type 0
     RejectsInnerNul (ContainsNul e) = IsInnerNul (map number units.items) (position_of e) × HandsBack units (vec_of e)
     RejectsInnerNul (OutOfMemory vec) = LacksSpace number units × HandsBack units vec
 
+    -- The error of a constructor that takes a vector and rejects no NUL. It holds the vector.
     abbrev pub IsOutOfSpace : UCStringError C A → Type 0
     IsOutOfSpace (ContainsNul e) = ⊥
     IsOutOfSpace (OutOfMemory vec) = LacksSpace number units × HandsBack units vec
@@ -37,18 +37,19 @@ module _ {C A : Type 0} (number : C → ℕ) where
     IsCopy None = ⊥
     IsCopy (Some vec) = map number vec.items ≡ us
 
-    -- No vector was passed. If a NUL was rejected, the error holds the copy that was made; if the allocation for the
-    -- copy failed, it holds no vector. `RejectsInnerNulOfCopy` is for a constructor that rejects a NUL before the last
-    -- unit, `RejectsNulOfCopy` for one that rejects any NUL.
+    -- The error of a constructor that copies units and rejects a NUL before the last unit. It holds the copy, or no
+    -- vector if the allocation for the copy failed.
     abbrev pub RejectsInnerNulOfCopy : UCStringError C A → Type 0
     RejectsInnerNulOfCopy (ContainsNul e) = IsInnerNul us (position_of e) × IsCopy (vec_of e)
     RejectsInnerNulOfCopy (OutOfMemory vec) = vec ≡ None
 
+    -- The error of a constructor that copies units and rejects any NUL. It holds the copy, or no vector if the
+    -- allocation for the copy failed.
     abbrev pub RejectsNulOfCopy : UCStringError C A → Type 0
     RejectsNulOfCopy (ContainsNul e) = IsFirstNul us (position_of e) × IsCopy (vec_of e)
     RejectsNulOfCopy (OutOfMemory vec) = vec ≡ None
 
--- No vector was passed, and no NUL is rejected: the only error is that the allocation failed, and it holds no vector.
+-- The error of a constructor that takes no vector and rejects no NUL: an allocation failed. It holds no vector.
 abbrev pub IsAllocationFailure : {C A : Type 0} → UCStringError C A → Type 0
 IsAllocationFailure (ContainsNul e) = ⊥
 IsAllocationFailure (OutOfMemory vec) = vec ≡ None

@@ -5,10 +5,11 @@ use Rattle.std.specs.Prelude.{◌≡◌, ℕ, ◌<◌, List, length, slice_index
 abbrev pub IsNulAt : List ℕ → ℕ → Type 0
 IsNulAt us offset = (offset < length us) × (slice_index us offset ≡ 0)
 
--- No NUL precedes this index, or is in the list at all.
+-- No NUL precedes this index.
 abbrev pub NoNulBefore : List ℕ → ℕ → Type 0
 NoNulBefore us offset = (earlier : ℕ) → earlier < offset → ¬ (IsNulAt us earlier)
 
+-- No unit of the list is a NUL.
 abbrev pub HasNoNul : List ℕ → Type 0
 HasNoNul us = NoNulBefore us (length us)
 

@@ -11,17 +11,19 @@ indexed form offset [] = []
 indexed form offset (i ∷ is) = (offset, i) ∷ indexed form (offset + length (item_units form i)) is
 
 module _ {C : Type 0} (number : C → ℕ) where
-  -- An item that an index iterator yields, and its length in units.
+  -- The offset and the item that an index iterator yielded.
   abbrev pub indexed_item : ℕ × Result ℕ C → ℕ × Item
   indexed_item r = (r.0, item_of number r.1)
 
+  -- The length in units of the item that an index iterator yielded, or 0 if it yielded none.
   abbrev pub taken_length : EncodingForm → Option (ℕ × Result ℕ C) → ℕ
   taken_length form None = 0
   taken_length form (Some r) = length (item_units form (item_of number r.1))
 
--- The items with their offsets, with U+FFFD for each fault.
+-- An item with its offset, with U+FFFD for a fault.
 abbrev pub lossy_at : ℕ × Item → ℕ × ℕ
 lossy_at r = (r.0, lossy_char r.1)
 
+-- The items with their offsets, with U+FFFD for each fault. The first is at `offset`.
 abbrev pub indexed_lossy : EncodingForm → ℕ → List Item → List (ℕ × ℕ)
 indexed_lossy form offset is = map lossy_at (indexed form offset is)

@@ -29,6 +29,7 @@ module _ {C : Type 0} where
   abbrev pub lossy_with_left : EncodingForm → (C → ℕ) → CharsLossyWith C → List ℕ
   lossy_with_left form number s = lossy_by s.policy (items form (map number (lossy_with_rest s)))
 
+  -- The policy that says what replaces faults.
   abbrev pub policy_of : CharsLossyWith C → Policy
   policy_of s = s.policy
 

@@ -5,6 +5,8 @@ use Rattle.wide_ustr.specs.View.{numbers_seen}
 use Rattle.wide_ustr.specs.declared.view.UStr.{UStr}
 use Rattle.wide_ustr.specs.declared.split.Split.{Split}
 
+-- The substrings of the view that is left, given the numbers of its units and of a separator, or none if no view is
+-- left.
 abbrev pub substrings_of_rest : {V : Type 0} → (V → List ℕ) → List ℕ → Option V → List (List ℕ)
 substrings_of_rest seen needle None = []
 substrings_of_rest seen needle (Some view) = substrings needle (seen view)

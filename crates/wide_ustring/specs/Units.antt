@@ -7,6 +7,7 @@ pub record Units (C : Type 0) : Type 0 where
   pub units : List C
   pub capacity : ℕ
 
+-- `Units` coded as a pair: the units, and how many fit.
 abbrev pub units_code : {C : Type 0} → Coded C → Coded (Units C)
 units_code {C} code =
     code_by (List C × ℕ) (coded× (coded_list code) coded_ℕ) (λ v. (v.units, v.capacity))

@@ -52,10 +52,11 @@ top_bits top zero us = 0
 top_bits top (suc n) [] = 0
 top_bits top (suc n) (u ∷ us) = (if nat_eq (u / 0x400) top then 1 else 0) + 2 * top_bits top n us
 
--- The first two UTF-8 bytes of a surrogate pair, which depend on its high surrogate only, and the last two.
+-- The first two UTF-8 bytes of a surrogate pair, as a number, low byte first. They depend on its high surrogate only.
 abbrev pub high_word : ℕ → ℕ
 high_word u = 0x80f0 + (u % 0x400 + 0x40) / 0x100 + (u % 0x400 + 0x40) / 4 % 0x40 * 0x100
 
+-- The last two UTF-8 bytes of a surrogate pair, as a number, low byte first.
 abbrev pub low_word : ℕ → ℕ → ℕ
 low_word before u = 0x8080 + before % 4 * 0x10 + u / 0x40 % 0x10 + u % 0x40 * 0x100
 

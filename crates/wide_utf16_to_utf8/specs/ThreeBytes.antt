@@ -7,10 +7,11 @@ pub data Size : Type 0 where
   Two : Size
   Three : Size
 
+-- The length in UTF-8 bytes of the unit with this number.
 abbrev pub size_of : ℕ → Size
 size_of u = if nat_lt u 0x80 then One else if nat_lt u 0x800 then Two else Three
 
--- The bytes that are used of the four from the index k on.
+-- The bytes of a unit of this size, which are the first ones from the index k on.
 abbrev pub compressed_bytes_of : Size → ℕ → List ℕ → List ℕ
 compressed_bytes_of One k words = slice_index words k ∷ []
 compressed_bytes_of Two k words = slice_index words k ∷ slice_index words (k + 1) ∷ []
@@ -20,6 +21,7 @@ compressed_bytes_of Three k words = slice_index words k ∷ slice_index words (k
 abbrev pub compressed_bytes : Size → Size → Size → Size → List ℕ → List ℕ
 compressed_bytes a b c d words = compressed_bytes_of a 0 words ++ compressed_bytes_of b 4 words ++ compressed_bytes_of c 8 words ++ compressed_bytes_of d 12 words
 
+-- The digit of a unit of this size in the number of a row of `ROWS`.
 abbrev pub digit_of : Size → ℕ
 digit_of One = 3
 digit_of Two = 2
@@ -43,13 +45,14 @@ pub record HoldsWord (words : List ℕ) (at lead back : ℕ) : Type 0 where
   pub second : slice_index words (at + 1) ≡ lead / 0x100
   pub third : slice_index words (at + 2) ≡ back % 0x100
 
--- The first bytes of `lead` and `back`, as many as the UTF-8 of the key has.
+-- The first bytes of `lead` and `back`: as many as the key, read as a unit, has in UTF-8.
 abbrev pub packed_unit : ℕ → ℕ → ℕ → List ℕ
 packed_unit key lead back =
     if nat_lt key 0x80 then lead % 0x100 ∷ []
     else if nat_lt key 0x800 then lead % 0x100 ∷ lead / 0x100 ∷ []
     else lead % 0x100 ∷ lead / 0x100 ∷ back % 0x100 ∷ []
 
+-- The bytes of all units, one unit after another, given the key and the bytes of each.
 abbrev pub packed : List ℕ → List ℕ → List ℕ → List ℕ
 packed [] leads backs = []
 packed (k ∷ keys) [] backs = []

@@ -33,9 +33,11 @@ module _ {C : Type 0} {g : Ghosts C} where
   abbrev pub escapes_most : Escapes C g → ℕ
   escapes_most s = pending_left escape_left s.current + 10 * length (escapes_rest s)
 
+  -- What an `EscapeUnicode` will yield.
   abbrev pub unicode_left : EscapeUnicode C g → List ℕ
   unicode_left s = escapes_left escape_unicode s.escapes
 
+  -- What an `EscapeDefault` will yield.
   abbrev pub default_left : EscapeDefault C g → List ℕ
   default_left s = escapes_left escape_default s.escapes
 
@@ -43,9 +45,11 @@ module _ {C : Type 0} {g : Ghosts C} where
   abbrev pub debug_left : EscapeDebug C g → List ℕ
   debug_left s = escapes_left escape_debug s.escapes
 
+  -- The characters whose escapes were not begun are ASCII.
   abbrev pub HasAsciiLeft : EscapeDebug C g → Type 0
   HasAsciiLeft s = list_all is_ascii (escapes_rest s.escapes) ≡ true
 
+  -- A bound on the number of characters that an `EscapeDebug` will yield.
   abbrev pub debug_most : EscapeDebug C g → ℕ
   debug_most s = escapes_most s.escapes
 
@@ -54,9 +58,10 @@ module _ {C : Type 0} {g : Ghosts C} where
   abbrev pub DebugGives : EscapeDebug C g → Option ℕ → EscapeDebug C g → Type 0
   DebugGives s r t = (HasAsciiLeft s → YieldsFirst debug_left s r t × HasAsciiLeft t) × IfNone r ((debug_most s ≡ 0) × (debug_most t ≡ 0))
 
-  -- What is printed, without and with quotes. Beyond ASCII nothing is specified.
+  -- What `{}` prints of an `EscapeDebug`. Beyond ASCII nothing is specified.
   abbrev pub debug_left_output : EscapeDebug C g → Option (List ℕ)
   debug_left_output s = if list_all is_ascii (escapes_rest s.escapes) then Some (utf8 (debug_left s)) else None
 
+  -- What `{:?}` prints of an `EscapeDebug`: the escapes between quotes. Beyond ASCII nothing is specified.
   abbrev pub debug_left_quoted : EscapeDebug C g → Option (List ℕ)
   debug_left_quoted s = if list_all is_ascii (escapes_rest s.escapes) then Some (in_quotes (utf8 (debug_left s))) else None

@@ -17,10 +17,11 @@ abbrev pub code_units_rest : CodeUnits → List ℕ
 code_units_rest s = s.rest.now
 
 module _ {C : Type 0} {g : Ghosts C} where
-  -- The units that were not read yet.
+  -- The units that a `Chars` has not read yet.
   abbrev pub chars_rest : Chars C g → List C
   chars_rest s = units_seen s.text
 
+  -- The units that a `CharIndices` has not read yet.
   abbrev pub indices_rest : CharIndices C g → List C
   indices_rest s = units_seen s.text
 
@@ -29,26 +30,27 @@ module _ {C : Type 0} {g : Ghosts C} where
   offset_of s = s.offset
 
   module _ (form : EncodingForm) (number : C → ℕ) where
-    -- What will be yielded: the characters of those units, and these characters with their offsets.
+    -- The characters that a `Chars` will yield.
     abbrev pub chars_left : Chars C g → List ℕ
     chars_left s = chars form (map number (chars_rest s))
 
+    -- The characters that a `CharIndices` will yield, each with its offset in units.
     abbrev pub indices_left : CharIndices C g → List (ℕ × ℕ)
     indices_left s = indexed_chars form (offset_of s) (chars form (map number (indices_rest s)))
 
-  -- A call returned the first character with its offset.
+  -- A call from the front returned the first character that was left, with its offset.
   abbrev pub IndicesGive : CharIndices C g → Option (ℕ × ℕ) → CharIndices C g → Type 0
   IndicesGive s r t = YieldsFirst (indices_left g.form g.number) s r t × (offset_of t ≡ offset_of s + given_length g.form r)
 
-  -- Successive calls return the characters that were not read yet.
+  -- Successive calls from the front return the characters that were not read yet.
   abbrev pub IndicesRun : CharIndices C g → Type 0
   IndicesRun _ = YieldsInOrder IndicesGive (indices_left g.form g.number)
 
-  -- A call from the back returned the last character with its offset, and did not change the offset of the next one
-  -- from the front.
+  -- A call from the back returned the last character that was left, with its offset, and did not change the offset of
+  -- the next one from the front.
   abbrev pub IndicesGiveBack : CharIndices C g → Option (ℕ × ℕ) → CharIndices C g → Type 0
   IndicesGiveBack s r t = YieldsLast (indices_left g.form g.number) s r t × (offset_of t ≡ offset_of s)
 
-  -- Successive calls from the back return those characters, the last one first.
+  -- Successive calls from the back return the characters that were not read yet, the last one first.
   abbrev pub IndicesRunBack : CharIndices C g → Type 0
   IndicesRunBack _ = YieldsInReverse IndicesGiveBack (indices_left g.form g.number)

@@ -3,13 +3,15 @@ use Rattle.std.specs.Prelude.{◌≡◌, ℕ, true, List, [], ◌∷◌, ◌++�
 use Rattle.std.specs.Char.{is_whitespace}
 use Rattle.std.specs.List.{All}
 
+-- The character has the property White_Space.
 abbrev pub IsWhiteSpace : ℕ → Type 0
 IsWhiteSpace c = is_whitespace c ≡ true
 
--- The first character, or the last one, is no White_Space, if there are any characters.
+-- The first character, if there is one, is no White_Space.
 abbrev pub BeginsWithText : List ℕ → Type 0
 BeginsWithText cs = (c : ℕ) (others : List ℕ) → cs ≡ c ∷ others → ¬ (IsWhiteSpace c)
 
+-- The last character, if there is one, is no White_Space.
 abbrev pub EndsWithText : List ℕ → Type 0
 EndsWithText cs = (c : ℕ) (others : List ℕ) → cs ≡ others ++ c ∷ [] → ¬ (IsWhiteSpace c)
 
@@ -37,12 +39,14 @@ pub record IsTrimmed (cs rest : List ℕ) : Type 0 where
   pub first : BeginsWithText rest
   pub last : EndsWithText rest
 
--- `rest` is a suffix of the units, a prefix of them, or a sublist between other units.
+-- `rest` is a suffix of the units.
 abbrev pub IsBackOf : {C : Type 0} → List C → List C → Type 0
 IsBackOf {C} us rest = (prefix : List C) × (us ≡ prefix ++ rest)
 
+-- `rest` is a prefix of the units.
 abbrev pub IsPrefixOf : {C : Type 0} → List C → List C → Type 0
 IsPrefixOf {C} us rest = (back : List C) × (us ≡ rest ++ back)
 
+-- `rest` is a sublist of the units, between a prefix and a suffix of them.
 abbrev pub IsMiddleOf : {C : Type 0} → List C → List C → Type 0
 IsMiddleOf {C} us rest = (prefix : List C) × (back : List C) × (us ≡ prefix ++ (rest ++ back))

@@ -19,10 +19,11 @@ module _ {C A F : Type 0} {f : Faults C F} {g : Ghosts C} where
   abbrev pub drain_rest : DrainUtf C A F f g → List ℕ
   drain_rest d = chars g.form (map g.number (drain_units d))
 
-  -- The units that the string has once the drain is dropped, and its capacity.
+  -- The units that the string has once the drain is dropped.
   abbrev pub drain_leaves : DrainUtf C A F f g → List C
   drain_leaves d = if nat_eq (length d.string.now.units) d.total then splice d.string.now.units d.start d.end [] else d.string.now.units
 
+  -- The capacity of the string that is drained.
   abbrev pub drain_capacity : DrainUtf C A F f g → ℕ
   drain_capacity d = d.string.now.capacity
 
@@ -36,11 +37,11 @@ module _ {C A F : Type 0} {f : Faults C F} {g : Ghosts C} where
     pub leaves : drain_leaves new ≡ drain_leaves old
     pub capacity : drain_capacity new ≡ drain_capacity old
 
-  -- A call returned the first character, or the last one, and did not change what the string will have once the drain
-  -- is dropped.
+  -- A call returned the first character, and did not change what the string will have once the drain is dropped.
   abbrev pub DrainGives : DrainUtf C A F f g → Option ℕ → DrainUtf C A F f g → Type 0
   DrainGives old c new = YieldsFirst drain_rest old c new × DrainKeeps old new
 
+  -- A call returned the last character, and did not change what the string will have once the drain is dropped.
   abbrev pub DrainGivesBack : DrainUtf C A F f g → Option ℕ → DrainUtf C A F f g → Type 0
   DrainGivesBack old c new = YieldsLast drain_rest old c new × DrainKeeps old new
 
@@ -48,9 +49,10 @@ module _ {C A F : Type 0} {f : Faults C F} {g : Ghosts C} where
   abbrev pub DrainStays : DrainUtf C A F f g → Type 0
   DrainStays first = (cs : List ℕ) (later : DrainUtf C A F f g) → Yields DrainGives first cs later → DrainKeeps first later
 
-  -- Successive calls return the characters that were not read yet, from the front and from the back.
+  -- Successive calls from the front return the characters that were not read yet.
   abbrev pub DrainRuns : DrainUtf C A F f g → Type 0
   DrainRuns _ = YieldsInOrder DrainGives drain_rest
 
+  -- Successive calls from the back return the characters that were not read yet, the last one first.
   abbrev pub DrainRunsBack : DrainUtf C A F f g → Type 0
   DrainRunsBack _ = YieldsInReverse DrainGivesBack drain_rest

@@ -15,14 +15,15 @@ abbrev pub WroteIf : Type 0 → List ℕ → List ℕ → Option ℕ → List �
 WroteIf valid all before (Some count) after = valid × Wrote all before count after
 WroteIf valid all before None after = (valid → ⊥) × (after ≡ before)
 
--- How a function that converts into a buffer of units of either width ends: with the length of the result, which the
--- buffer got if it is long enough; its other units are unchanged.
+-- The result has `count` units, fewer than the greatest number, whether it fits or not. If it fits, it is at the start
+-- of the buffer. The units after it are unchanged.
 pub record WroteUnits {X : Type 0} (number : X → ℕ) (all : List ℕ) (before : List X) (count : ℕ) (after : List X) : Type 0 where
   pub len : count ≡ length all
   pub fits : count < 2 ^ 64 - 1
   pub units : count ≤ length before → map number (take count after) ≡ all
   pub beyond : drop count after ≡ drop count before
 
+-- The input is valid, and its units were written, or it is not, and the buffer is unchanged.
 abbrev pub WroteUnitsIf : {X : Type 0} → Type 0 → (X → ℕ) → List ℕ → List X → Option ℕ → List X → Type 0
 WroteUnitsIf valid number all before (Some count) after = valid × WroteUnits number all before count after
 WroteUnitsIf valid number all before None after = (valid → ⊥) × (after ≡ before)

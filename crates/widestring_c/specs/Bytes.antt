@@ -35,11 +35,11 @@ abbrev pub number_of_flag : Bool → ℕ
 number_of_flag true = 1
 number_of_flag false = 0
 
--- the lossy text of the units in bytes, and whether the last unit is ill-formed; `after` says whether the unit before
--- the bytes is ill-formed
+-- the lossy text of the units in bytes; `after` says whether the unit before the bytes is ill-formed
 abbrev pub bytes_text : BoM → Policy → Bool → List ℕ → List ℕ
 bytes_text order policy after bytes = lossy_text policy after (units_in order bytes)
 
+-- whether the last unit in bytes is ill-formed; `after` says whether the unit before the bytes is ill-formed
 abbrev pub bytes_end_in_fault : BoM → Bool → List ℕ → Bool
 bytes_end_in_fault order after bytes = units_end_in_fault after (units_in order bytes)
 

@@ -68,17 +68,17 @@ abbrev pub IsOfTypes : Request → Type 0
 IsOfTypes (Ends units ends) = Unit {0}
 IsOfTypes (Edit text words) = All ArgumentHasTypes words.items
 
--- the request is one of `ends`, with the units and the ends that these two arguments name
+-- the request is one of `ends`, with the units that one argument names and the ends that the other names
 abbrev pub IsEndsOf : List ℕ → List ℕ → Request → Type 0
 IsEndsOf units calls (Ends us ends) = NamesUnits units us.items × (calls ≡ map end_letter ends.items)
 IsEndsOf units calls (Edit text edits) = ⊥
 
 module _ {A : Type 0} where
-  -- these were read from the arguments, one from each
+  -- the parsed arguments are those of the arguments, one from each
   abbrev pub AreRead : List (String A) → List EditArgument → Type 0
   AreRead words read = AreEach (λ word. NamesArgument (string_bytes word)) words read
 
-  -- the request is one of `edit`, with this text and the edits that these arguments name
+  -- the request is one of `edit`, with this text and the edits that the arguments name
   abbrev pub IsEditOf : List ℕ → List (String A) → Request → Type 0
   IsEditOf text words (Ends us ends) = ⊥
   IsEditOf text words (Edit t read) = (text ≡ t.now) × AreRead words read.items
@@ -91,7 +91,7 @@ module _ {A : Type 0} where
   AsksForEnds (word ∷ units ∷ calls ∷ []) = string_bytes word ≡ codes "ends"
   AsksForEnds (word ∷ units ∷ calls ∷ fourth ∷ others) = ⊥
 
-  -- the two arguments name the units, and the end of each call
+  -- the subcommand `ends`, an argument that names the units, and one that names the end of each call
   abbrev pub AsksForEndsOf : List ℕ → List End → List (String A) → Type 0
   AsksForEndsOf us ends [] = ⊥
   AsksForEndsOf us ends (word ∷ []) = ⊥
@@ -105,7 +105,7 @@ module _ {A : Type 0} where
   AsksForEdits (word ∷ []) = ⊥
   AsksForEdits (word ∷ text ∷ edits) = string_bytes word ≡ codes "edit"
 
-  -- the first argument is the text, and the others name the edits
+  -- the subcommand `edit`, the text, and arguments that name the edits
   abbrev pub AsksForEditOf : List ℕ → List EditArgument → List (String A) → Type 0
   AsksForEditOf text read [] = ⊥
   AsksForEditOf text read (word ∷ []) = ⊥
@@ -123,7 +123,7 @@ module _ {A : Type 0} where
     pub asked : AsksForEndsOf units ends words
     pub put : Appends held held' (ends_lines units ends)
 
-  -- `ends` wrote a prefix of these lines
+  -- `ends` wrote a prefix of the lines for the units and the calls that its arguments name
   pub record WritesEndsInPart (words : List (String A)) (held held' : Option (List ℕ)) : Type 0 where
     pub units : List ℕ
     pub ends : List End
@@ -137,7 +137,7 @@ module _ {A : Type 0} where
     pub asked : AsksForEditOf text read words
     pub edited : IsEdited text read held held'
 
-  -- `edit` wrote a prefix of these lines
+  -- `edit` wrote a prefix of the lines of the edits of its text
   pub record WritesEditsInPart (words : List (String A)) (held held' : Option (List ℕ)) : Type 0 where
     pub text : List ℕ
     pub read : List EditArgument

@@ -20,13 +20,15 @@ AreEach R [] (y ∷ ys) = ⊥
 AreEach R (x ∷ xs) [] = ⊥
 AreEach R (x ∷ xs) (y ∷ ys) = R x y × AreEach R xs ys
 
+-- the edits of parsed arguments, one of each
 abbrev pub AreEdits : List EditArgument → List edit.Edit → Type 0
 AreEdits words edits = AreEach IsEdit words edits
 
--- a decimal number; and one followed by a comma and more
+-- a decimal number
 abbrev pub IsNumber : List ℕ → ℕ → Type 0
 IsNumber digits n = IsNumeral 10 digits × (digits_value 10 digits ≡ n)
 
+-- a decimal number, a comma and more
 abbrev pub IsNumberThen : List ℕ → ℕ → List ℕ → Type 0
 IsNumberThen values n rest = (digits : List ℕ) × (values ≡ digits ++ 44 ∷ rest) × IsNumber digits n
 

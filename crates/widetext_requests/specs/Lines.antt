@@ -43,10 +43,11 @@ reply_line step.BadRange = codes "badrange\n"
 abbrev pub text_line : List ℕ → List ℕ
 text_line cs = codes "text " ++ (escaped cs ++ codes "\n")
 
--- a space, and a unit of a number of digits; the units of a line, after its name
+-- a space, and a unit of a number of digits
 abbrev pub spaced_unit : ℕ → ℕ → List ℕ
 spaced_unit width u = 32 ∷ padded_hex width u
 
+-- a line of units, after its name
 abbrev pub units_line : List ℕ → ℕ → List ℕ → List ℕ
 units_line name width us = name ++ (flat_map (spaced_unit width) us ++ codes "\n")
 

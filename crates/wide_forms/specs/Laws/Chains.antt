@@ -7,14 +7,15 @@ use Rattle.wide_forms.specs.EncodingForm.{EncodingForm, code_units, IsFault, IsP
 use Rattle.wide_forms.specs.Segmentation.{Item, Char, Fault, item_units, units_of, IsItem, IsSegmentation}
 use Rattle.wide_forms.specs.Laws.Forms.{code_units-cases, code_units-prefix, low-begins_nothing, unit-cases, pair-cases}
 
--- What may precede these items.
+-- The item may directly precede the items: it is not a fault that is a pair with a fault at their beginning.
 abbrev pub MayPrecede : EncodingForm → Item → List Item → Type 0
 MayPrecede form (Char c) items = Unit {0}
 MayPrecede form (Fault h) [] = Unit {0}
 MayPrecede form (Fault h) (Char c ∷ items) = Unit {0}
 MayPrecede form (Fault h) (Fault l ∷ items) = ¬ (IsPair form h l)
 
--- What `IsSegmentation` says of the items only.
+-- What `IsSegmentation` says of items without regard to units: each is a character or a fault, and no two adjacent
+-- faults are a pair.
 abbrev pub Chain : EncodingForm → List Item → Type 0
 Chain form [] = Unit {0}
 Chain form (i ∷ items) = IsItem form i × MayPrecede form i items × Chain form items

@@ -25,7 +25,7 @@ module _ (form : EncodingForm) (cs : List ℕ) where
       flat_map-append (code_units form) (take i cs) (new ++ drop j cs) ∙ ap (λ us. encode form (take i cs) ++ us) (flat_map-append (code_units form) new (drop j cs))
       ∙ ap (λ us. us ++ (encode form new ++ encode form (drop j cs))) (encode-take i) ∙ ap (λ us. take (offset i) (encode form cs) ++ (encode form new ++ us)) (encode-drop j)
 
--- A prefix of the first characters is followed by the rest of them.
+-- The first `j` characters have at least as many units as the first `i`, if `i` is at most `j`.
 pub offsets-grow : (form : EncodingForm) (cs : List ℕ) (i j : ℕ) → i ≤ j → length (encode form (take i cs)) ≤ length (encode form (take j cs))
 offsets-grow form cs i j less =
     let first = encode form (take i (take j cs)) in

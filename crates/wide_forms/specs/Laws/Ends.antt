@@ -84,7 +84,7 @@ items-append_left form a b well = items-append form a b (IsCut-after form a b we
 pub items-append_right : (form : EncodingForm) (a b : List ℕ) → IsWellFormed form b → items form (a ++ b) ≡ items form a ++ items form b
 items-append_right form a b well = items-append form a b (IsCut-before form a b well)
 
--- A decoder from the front: it reads a character, or a fault that is no pair with the next unit.
+-- A decoder from the front: it reads a character, or a fault that is no pair with the unit after it.
 pub IsWellFormed-code_units : (form : EncodingForm) (c : ℕ) → IsScalar c → IsWellFormed form (code_units form c)
 IsWellFormed-code_units form c hc = IsWellFormed-of_chars form (code_units form c) (c ∷ []) (items-code_units form c hc)
 
@@ -97,7 +97,7 @@ items-prefix_fault form u us hu apart =
     let cut : IsCut form (u ∷ []) us = λ prefix back h l e f. let same : u ≡ h = fault-push u h prefix e in rw same at (apart l back f) in
     items-append form (u ∷ []) us cut ∙ ap (λ is. is ++ items form us) (items-fault form u hu)
 
--- A decoder from the back.
+-- A decoder from the back: it reads a character, or a fault that is no pair with the unit before it.
 pub items-back_char : (form : EncodingForm) (us : List ℕ) (c : ℕ) → IsScalar c → items form (us ++ code_units form c) ≡ items form us ++ Char c ∷ []
 items-back_char form us c hc =
     items-append_right form us (code_units form c) (IsWellFormed-code_units form c hc) ∙ ap (λ is. items form us ++ is) (items-code_units form c hc)
@@ -107,21 +107,21 @@ items-back_fault form us u hu apart =
     let cut : IsCut form us (u ∷ []) = λ prefix back h l e f. let same : u ≡ l = cc in rw same at (apart prefix h e) in
     items-append form us (u ∷ []) cut ∙ ap (λ is. items form us ++ is) (items-fault form u hu)
 
--- By the first unit: a low surrogate, and a high one that no low one follows, are faults.
+-- What the first unit shows: a low surrogate is a fault, and so is a high one that no low one follows.
 pub items-prefix_low : (form : EncodingForm) (u : ℕ) (us : List ℕ) → IsLowSurrogate form u → items form (u ∷ us) ≡ Fault u ∷ items form us
 items-prefix_low form u us low = items-prefix_fault form u us (IsFault-low form u low) (λ l back e pair. high-no_low form u (IsPair-parts form u l pair).0 low)
 
 pub items-prefix_high : (form : EncodingForm) (u : ℕ) (us : List ℕ) → IsHighSurrogate form u → ((l : ℕ) (back : List ℕ) → us ≡ l ∷ back → ¬ (IsLowSurrogate form l)) → items form (u ∷ us) ≡ Fault u ∷ items form us
 items-prefix_high form u us high apart = items-prefix_fault form u us (IsFault-high form u high) (λ l back e pair. apart l back e (IsPair-parts form u l pair).1)
 
--- By the last unit: a high surrogate, and a low one that no high one precedes, are faults.
+-- What the last unit shows: a high surrogate is a fault, and so is a low one that no high one precedes.
 pub items-back_high : (form : EncodingForm) (us : List ℕ) (u : ℕ) → IsHighSurrogate form u → items form (us ++ u ∷ []) ≡ items form us ++ Fault u ∷ []
 items-back_high form us u high = items-back_fault form us u (IsFault-high form u high) (λ prefix h e pair. high-no_low form u high (IsPair-parts form h u pair).1)
 
 pub items-back_low : (form : EncodingForm) (us : List ℕ) (u : ℕ) → IsLowSurrogate form u → ((prefix : List ℕ) (h : ℕ) → us ≡ prefix ++ h ∷ [] → ¬ (IsHighSurrogate form h)) → items form (us ++ u ∷ []) ≡ items form us ++ Fault u ∷ []
 items-back_low form us u low apart = items-back_fault form us u (IsFault-low form u low) (λ prefix h e pair. apart prefix h e (IsPair-parts form h u pair).0)
 
--- What a decoder reads, by the first one or two units, or by the last: the items of `us` from those of the `rest`.
+-- The items of `us`, from those of the `rest` without the first item, or without the last item.
 module _ (form : EncodingForm) (us rest : List ℕ) where
   pub items-first_char : (u c : ℕ) → us ≡ u ∷ rest → IsScalar c → code_units form c ≡ u ∷ [] → items form us ≡ Char c ∷ items form rest
   items-first_char u c split hc e = ap (λ xs. items form xs) (split ∙ ap (λ xs. xs ++ rest) (sym e)) ∙ items-prefix_char form c rest hc

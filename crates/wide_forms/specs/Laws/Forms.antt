@@ -18,10 +18,11 @@ pub scalar_from : (c : ℕ) → Ranges c → IsScalar c
 scalar_from c h =
     elim (cases_lt c 0xD800) [ inl low ↦ low_scalar c low | inr from ↦ rw (le-ltb c 0xD800 from, le-leb 0xE000 c (h.no_surrogate from), lt-ltb c 0x11_0000 h.below) refl ]
 
--- The units of a pair in UTF-16.
+-- The first unit of a character that is a pair in UTF-16.
 abbrev pub high_of : ℕ → ℕ
 high_of c = 0xD800 + (c - 0x1_0000) / 0x400
 
+-- The second unit of a character that is a pair in UTF-16.
 abbrev pub low_of : ℕ → ℕ
 low_of c = 0xDC00 + (c - 0x1_0000) % 0x400
 
@@ -78,11 +79,12 @@ low-begins_nothing Utf16 h l d xs ys pair hd e =
     ]
 low-begins_nothing Utf32 h l d xs ys pair hd e = cc
 
--- The surrogate code units.
+-- A number is a high surrogate: D800 to DBFF.
 pub record IsHigh (u : ℕ) : Type 0 where
   pub from : 0xD800 ≤ u
   pub to : u < 0xDC00
 
+-- A number is a low surrogate: DC00 to DFFF.
 pub record IsLow (u : ℕ) : Type 0 where
   pub from : 0xDC00 ≤ u
   pub to : u < 0xE000

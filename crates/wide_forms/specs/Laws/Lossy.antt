@@ -54,7 +54,7 @@ lengths form (Fault u ∷ is) = omega (arith, length-append (code_units form 0xF
 pub length-lossy : (form : EncodingForm) (us : List ℕ) → length (encode form (lossy (items form us))) ≡ length us
 length-lossy form us = lengths form (items form us) ∙ ap length (units_of-items form us)
 
--- After well-formed units, which are unchanged.
+-- Lossy text begins with the well-formed units at the beginning, unchanged.
 pub lossy-after : (form : EncodingForm) (a b : List ℕ) → IsWellFormed form a → encode form (lossy (items form (a ++ b))) ≡ a ++ encode form (lossy (items form b))
 lossy-after form a b well =
     let xs = lossy (items form a) in

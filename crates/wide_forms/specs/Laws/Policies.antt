@@ -82,7 +82,7 @@ replacement-is Run true c e = absurd cc
 replacement-is Run false c e = cc
 replacement-is Skip after c e = absurd cc
 
--- Item by item: a character is unchanged, and what the policy yields replaces a fault.
+-- Lossy text item by item: a character is unchanged, and what the policy yields replaces a fault.
 pub lossy_after-none_left : (policy : Policy) (after : Bool) → lossy_after policy after [] ≡ []
 lossy_after-none_left Each after = refl
 lossy_after-none_left Run true = refl
@@ -115,7 +115,7 @@ lossy_after-fault policy after u is = by_replacement (replacement policy after) 
     by_replacement None e = lossy_after-dropped policy after u is e
     by_replacement (Some c) e = lossy_after-replaced policy after u c is e ∙ ap (λ d. d ∷ lossy_after policy true is) (replacement-is policy after c e)
 
--- A policy that replaces the first fault of a run, and each later one.
+-- If a policy replaces the first fault of a run and each later one, its lossy text has U+FFFD for each fault.
 pub lossy_after-all_replaced : (policy : Policy) → is_some (replacement policy false) ≡ true → is_some (replacement policy true) ≡ true → (after : Bool) (is : List Item) → lossy_after policy after is ≡ lossy is
 lossy_after-all_replaced policy first later after [] = lossy_after-none_left policy after
 lossy_after-all_replaced policy first later after (Char c ∷ is) = lossy_after-char policy after c is ∙ ap (λ l. c ∷ l) (lossy_after-all_replaced policy first later false is)
@@ -135,7 +135,7 @@ lossy_by-characters Each is e = absurd cc
 lossy_by-characters Run is e = absurd cc
 lossy_by-characters Skip is e = refl
 
--- A run of faults only.
+-- A run of faults alone has one U+FFFD under `Run`, and no characters.
 pub runs-of_run : (u : ℕ) (us : List ℕ) → lossy_runs (map Fault (u ∷ us)) ≡ 0xFFFD ∷ []
 runs-of_run u [] = refl
 runs-of_run u (v ∷ us) = runs-of_run v us
@@ -194,14 +194,14 @@ encode-lossy_by policy form us well = ap (λ cs. encode form cs) (lossy_by-well_
 pub well_formed-lossy_by : (policy : Policy) (form : EncodingForm) (us : List ℕ) → IsWellFormed form (encode form (lossy_by policy (items form us)))
 well_formed-lossy_by policy form us = IsWellFormed-encode form (lossy_by policy (items form us)) (scalars-lossy_by policy form us)
 
--- After characters, which are unchanged.
+-- Lossy text begins with the characters at the beginning, unchanged.
 pub beyond-chars : (policy : Policy) (cs : List ℕ) (is : List Item) → lossy_by policy (map Char cs ++ is) ≡ cs ++ lossy_by policy is
 beyond-chars policy [] is = refl
 beyond-chars Each (c ∷ cs) is = ap (λ l. c ∷ l) (beyond-chars Each cs is)
 beyond-chars Run (c ∷ cs) is = ap (λ l. c ∷ l) (beyond-chars Run cs is)
 beyond-chars Skip (c ∷ cs) is = ap (λ l. c ∷ l) (beyond-chars Skip cs is)
 
--- Whether a fault is last, after characters.
+-- Characters do not end in a fault, and their lossy text is these characters.
 pub ends_in_fault-chars : (after : Bool) (cs : List ℕ) → 0 < length cs → ends_in_fault after (map Char cs) ≡ false
 ends_in_fault-chars after [] some = absurd (omega arith)
 ends_in_fault-chars after (c ∷ []) some = refl
@@ -214,7 +214,7 @@ lossy_after-chars Run true (c ∷ cs) = lossy_by-chars Run (c ∷ cs)
 lossy_after-chars Run false cs = lossy_by-chars Run cs
 lossy_after-chars Skip after cs = lossy_by-chars Skip cs
 
--- The lossy text of units by their numbers, whose first units are well formed and are unchanged.
+-- Lossy text of units, by their numbers, begins with the well-formed units at the beginning, unchanged.
 pub lossy_by-split : {C : Type 0} (policy : Policy) (form : EncodingForm) (number : C → ℕ) (units prefix back : List C) → prefix ++ back ≡ units → IsWellFormed form (map number prefix)
     → map number prefix ++ encode form (lossy_by policy (items form (map number back))) ≡ encode form (lossy_by policy (items form (map number units)))
 lossy_by-split policy form number units prefix back e well =

@@ -44,14 +44,14 @@ module _ (form : EncodingForm) (us vs : List ℕ) where
       (items-append_left form us vs left ∙ ap (λ is. is ++ items form vs) (chars-of_well_formed form us left) ∙ ap (λ is. map Char (chars form us) ++ is) (chars-of_well_formed form vs right)
       ∙ sym (map-append Char (chars form us) (chars form vs)))
 
-  -- What precedes well-formed units within well-formed ones.
+  -- If a list of units and a suffix of it are well formed, so are the units before the suffix.
   pub IsWellFormed-before : IsWellFormed form (us ++ vs) → IsWellFormed form vs → IsWellFormed form us
   IsWellFormed-before whole right = record {
     no_fault = λ u at. whole.no_fault u (subst (λ is. Contains is (Fault u)) (sym (items-append_right form us vs right)) (contains-append (items form us) (items form vs) (Fault u) at));
   }
 
 module _ (form : EncodingForm) (us : List ℕ) (from to : ℕ) (well : IsWellFormed form us) (at_from : IsBoundary form us from) (at_to : IsBoundary form us to) where
-  -- The slice between two boundaries.
+  -- The slice between two boundaries is well formed, and its characters are those between them.
   pub IsWellFormed-part : from ≤ to → IsWellFormed form (slice_range us from to)
   IsWellFormed-part forward =
       IsWellFormed-before form (slice_range us from to) (drop to us)
@@ -72,7 +72,7 @@ module _ (form : EncodingForm) (us : List ℕ) (from to : ℕ) (well : IsWellFor
       in
       sym (ap (take (j - i)) joined ∙ ap (λ n. take n (part ++ drop j (chars form us))) (sym long) ∙ take-append_seam part (drop j (chars form us)))
 
-  -- Other units in place of a range of the units.
+  -- If well-formed units replace those between two boundaries, the result is well formed.
   module _ (new : List ℕ) (inserted : IsWellFormed form new) where
     back-well_formed : IsWellFormed form (new ++ drop to us)
     back-well_formed = IsWellFormed-append form new (drop to us) inserted (IsWellFormed-drop form us well to at_to)
@@ -87,7 +87,7 @@ module _ (form : EncodingForm) (us : List ℕ) (from to : ℕ) (well : IsWellFor
         chars-append form (take from us) (new ++ drop to us) (IsWellFormed-take form us well from at_from) ∙ ap (λ cs. cs ++ chars form (new ++ drop to us)) prefix
         ∙ ap (λ cs. take (chars_before form us from) (chars form us) ++ cs) (chars-append form new (drop to us) inserted ∙ ap (λ cs. chars form new ++ cs) rest)
 
--- Slices and splices of a list, element by element.
+-- Mapping a slice, or a list in which a slice was replaced, maps each element.
 module _ {X Y : Type 0} (f : X → Y) (xs : List X) (from to : ℕ) where
   map-slice_range : slice_range (map f xs) from to ≡ map f (slice_range xs from to)
   map-slice_range = ap (take (to - from)) (drop-map f from xs) ∙ take-map f (to - from) (drop from xs)
@@ -97,7 +97,7 @@ module _ {X Y : Type 0} (f : X → Y) (xs : List X) (from to : ℕ) where
       ap (λ us. take from (map f xs) ++ (map f ys ++ us)) (drop-map f to xs) ∙ ap (λ us. us ++ (map f ys ++ map f (drop to xs))) (take-map f from xs)
       ∙ ap (λ us. map f (take from xs) ++ us) (sym (map-append f ys (drop to xs))) ∙ sym (map-append f (take from xs) (ys ++ drop to xs))
 
--- For units of any type.
+-- Slices and splices of units of any type, by their numbers.
 module _ {X : Type 0} (form : EncodingForm) (number : X → ℕ) (xs : List X) where
   module _ (well : IsWellFormed form (map number xs)) where
     pub IsWellFormed-map_take : (offset : ℕ) → IsBoundary form (map number xs) offset → IsWellFormed form (map number (take offset xs))

@@ -16,7 +16,7 @@ pub utf8-encode_utf8_all : (cs : List ℕ) → utf8 cs ≡ encode_utf8_all cs
 utf8-encode_utf8_all [] = refl
 utf8-encode_utf8_all (c ∷ cs) = ap (λ bs. bs ++ utf8 cs) (utf8_bytes-encode_utf8 c) ∙ ap (λ bs. encode_utf8 c ++ bs) (utf8-encode_utf8_all cs)
 
--- The bytes of a character, by their number.
+-- The bytes of a character, by how many there are.
 pub one_byte : (c : ℕ) → c < 0x80 → utf8_bytes c ≡ c ∷ []
 unfolding utf8_bytes
 one_byte c h = rw (lt-ltb c 0x80 h)
@@ -33,7 +33,7 @@ pub four_bytes : (c : ℕ) → 0x1_0000 ≤ c → utf8_bytes c ≡ (0b1111_0000 
 unfolding utf8_bytes
 four_bytes c from = let from_80 : 0x80 ≤ c = omega arith in let from_800 : 0x800 ≤ c = omega arith in rw (le-ltb c 0x80 from_80, le-ltb c 0x800 from_800, le-ltb c 0x1_0000 from)
 
--- What the first byte says.
+-- What `code_point_at` reads, by how many bytes the first byte says.
 at_one : (a : ℕ) (rest : List ℕ) → a < 0x80 → code_point_at (a ∷ rest) ≡ Some (a, rest)
 at_one a rest h = rw (lt-ltb a 0x80 h)
 
@@ -48,7 +48,7 @@ at_three a b c d rest from to e = grind (arith, nat_tests)
 at_four : (a b c d e : ℕ) (rest : List ℕ) → 0xF0 ≤ a → ((a % 2 ^ 3 * 2 ^ 6 + b % 2 ^ 6) * 2 ^ 6 + c % 2 ^ 6) * 2 ^ 6 + d % 2 ^ 6 ≡ e → code_point_at (a ∷ b ∷ c ∷ d ∷ rest) ≡ Some (e, rest)
 at_four a b c d e rest from h = grind (arith, nat_tests)
 
--- For a text, they are its first character and the rest.
+-- At the beginning of a text `code_point_at` reads the first character, and leaves the bytes of the others.
 pub code_point_at-text : (c : ℕ) (cs : List ℕ) → IsScalar c → code_point_at (utf8 (c ∷ cs)) ≡ Some (c, utf8 cs)
 code_point_at-text c cs scalar =
     let bound = (ranges c scalar).below in

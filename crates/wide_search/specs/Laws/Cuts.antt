@@ -14,7 +14,7 @@ pub substrings-none : (needle whole : List ℕ) → OccursNowhere needle whole �
 substrings-none [] whole nowhere = substrings-whole whole
 substrings-none (p ∷ needle) whole nowhere = substrings-unique (p ∷ needle) (substrings (p ∷ needle) whole) (whole ∷ []) whole (substrings-are (p ∷ needle) whole (omega arith)) (refl, nowhere)
 
--- A first substring, and those of what follows the separator.
+-- The substring before the separator, and the substrings of what follows it, are those of the list.
 are-before : (needle whole prefix rest : List ℕ) (ps : List (List ℕ)) → IsFirstSplit needle whole prefix rest → AreSubstrings needle rest ps → AreSubstrings needle whole (prefix ∷ ps)
 are-before needle whole prefix rest [] split are = absurd are
 are-before needle whole prefix rest (p ∷ ps) split are =
@@ -28,7 +28,7 @@ pub substrings-first : (needle whole prefix rest : List ℕ) → 0 < length need
 substrings-first needle whole prefix rest some split =
     substrings-unique needle (substrings needle whole) (prefix ∷ substrings needle rest) whole (substrings-are needle whole some) (are-before needle whole prefix rest (substrings needle rest) split (substrings-are needle rest some))
 
--- For units of any width, by their numbers.
+-- The substrings of units of any type, by their numbers.
 module _ {X : Type 0} (number : X → ℕ) (same : (x y : X) → number x ≡ number y → x ≡ y) (needle us : List X) where
   pub substrings-nowhere : OccursNowhere needle us → substrings (map number needle) (map number us) ≡ map number us ∷ []
   substrings-nowhere nowhere = substrings-none (map number needle) (map number us) (nowhere-numbers number same needle us nowhere)

@@ -16,7 +16,7 @@ module _ {X : Type 0} (number : X → ℕ) where
     same = numbers-there needle us at ∙ ap (λ xs. map number xs) occurs.same;
   }
 
-  -- If equal numbers are equal units.
+  -- What holds if equal numbers are equal units.
   module _ (same : (x y : X) → number x ≡ number y → x ≡ y) where
     map-same : (xs ys : List X) → map number xs ≡ map number ys → xs ≡ ys
     map-same [] [] e = refl

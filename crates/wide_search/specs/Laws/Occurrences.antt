@@ -25,14 +25,14 @@ module _ {A : Type 0} where
     ]
   ]
 
-  -- One element more at the beginning.
+  -- An element before a list moves each occurrence by one index.
   pub occurs-on : (needle : List A) (x : A) (xs : List A) (at : ℕ) → OccursAt needle xs at → OccursAt needle (x ∷ xs) (suc at)
   occurs-on needle x xs at occurs = record { within = omega (arith, occurs.within); same = occurs.same }
 
   pub occurs-back : (needle : List A) (x : A) (xs : List A) (at : ℕ) → OccursAt needle (x ∷ xs) (suc at) → OccursAt needle xs at
   occurs-back needle x xs at occurs = record { within = omega (arith, occurs.within); same = occurs.same }
 
-  -- In what is left after an index.
+  -- An occurrence in a list without its first `n` elements is one in the list, `n` indices later.
   pub occurs-beyond : (needle whole : List A) (n at : ℕ) → n ≤ length whole → OccursAt needle (drop n whole) at → OccursAt needle whole (n + at)
   occurs-beyond needle whole zero at within occurs = let e : at ≡ 0 + at = omega arith in subst (λ k. OccursAt needle whole k) e occurs
   occurs-beyond needle [] (suc n) at within occurs = absurd (omega (arith, within))
@@ -113,7 +113,7 @@ first-or_none needle (x ∷ xs) = elim (starts needle (x ∷ xs)) [
   ]
 ]
 
--- A first substring before the others.
+-- The substring before the first occurrence, and the substrings of what follows it, are those of the list.
 substrings-before : (needle whole : List ℕ) (at : ℕ) (rest : List (List ℕ)) → IsFirstAt needle whole at → AreSubstrings needle (drop (at + length needle) whole) rest → AreSubstrings needle whole (take at whole ∷ rest)
 substrings-before needle whole at [] first are = absurd are
 substrings-before needle whole at (substring ∷ more) first are =
