@@ -19,7 +19,7 @@ fn is_ascii_block<C: Unit>(units: &[C]) -> bool
     is_ascii
 }
 
-/// Returns whether all units are ASCII, at most 7F. It stops at the first block of units that has another one.
+/// Returns whether all units are ASCII, at most 7F. It stops at the first block that has a unit past 7F.
 pub fn is_ascii<C: Unit>(units: &[C]) -> bool
     ensures { IsTrue result ↔ IsAscii (map C.number units.now) }
 {

@@ -15,7 +15,7 @@ use std::io;
 ///
 /// # Errors
 ///
-/// The error of [`ByteSource::take`]. Then no byte of a source whose contract describes its bytes is lost.
+/// The error of [`ByteSource::take`]. If the contract of the source specifies its bytes, none of them is lost then.
 pub fn take_after<S: ByteSource>(
     source: &mut S,
     bytes: &mut [u8],

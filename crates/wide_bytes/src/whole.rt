@@ -43,7 +43,7 @@ fn half_of(bytes: &[u8]) -> Option<u8>
 }
 
 /// Splits the bytes of UTF-16 (Unicode Standard, D98). A BOM at the beginning gives the byte order; without one the
-/// order is little-endian, like in [`units_of_bytes`](crate::units_of_bytes). Nothing is lost: the bytes of the BOM, of
+/// order is little-endian, as in [`units_of_bytes`](crate::units_of_bytes). Nothing is lost: the bytes of the BOM, of
 /// the units and of the half unit are all the bytes. It does not allocate. The Rust crate has no such call.
 ///
 /// # Example

@@ -4,8 +4,8 @@ use Rattle.wide_offset_index.specs.Marks.{offset}
 use Rattle.wide_edit.specs.declared.edits.Edit.{Edit}
 use Rattle.wide_edit.specs.declared.edits.Edit.TheVariants.{Push, PushStr, Pop, Truncate, Insert, InsertStr, Remove, Retain, Drain, Replace, SplitOff, Clear}
 
--- An edit replaces the characters from index `from` up to index `to`: those before them stay as they are, and those
--- after them are the last ones of the new characters.
+-- An edit replaces the characters from index `from` up to index `to`: the characters before them are unchanged, and
+-- those after them are the last ones of the new characters.
 pub record Replaces (old new : List ℕ) (from to : ℕ) : Type 0 where
   pub fits : length old + from ≤ length new + to
   pub prefix : take from new ≡ take from old

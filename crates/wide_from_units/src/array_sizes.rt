@@ -14,7 +14,8 @@ pub const MIDDLE_UNITS: usize = 256;
 /// The size of the array for at most `MIDDLE_UNITS` units, in bytes.
 pub const MIDDLE: usize = 3 * MIDDLE_UNITS + 4;
 
-/// The size of the array for more units, in bytes. Their text is made in chunks of at most 1,032 units.
+/// The size of the array for more than `MIDDLE_UNITS` units, in bytes. Their text is made in chunks of at most 1,032
+/// units.
 pub const LARGE: usize = 3 * 1032 + 4;
 
 /// The size of the array for repaired units, in units.

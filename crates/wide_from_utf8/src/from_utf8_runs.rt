@@ -26,13 +26,14 @@ fn alike_len(text: &[u8], masks: &[u8; 16], wanted: &[u8; 16]) -> usize
     }
 }
 
-// The mask of the bits by which a leading byte of three is recognized, at each third byte: the upper four bits (Unicode
-// Standard, Table 3-6). The other bytes are not looked at.
+// The mask of the bits by which the leading byte of a character of three bytes is recognized, at each third byte: the
+// upper four bits (Unicode Standard, Table 3-6). The other bytes are not looked at.
 const THREE_MASKS: [u8; 16] = [
     0xf0, 0, 0, 0xf0, 0, 0, 0xf0, 0, 0, 0xf0, 0, 0, 0xf0, 0, 0, 0,
 ];
 
-// What these bits are in a leading byte of three, at each third byte: 1110 (Unicode Standard, Table 3-6).
+// What the masked bits are in the leading byte of a character of three bytes, at each third byte: 1110 (Unicode
+// Standard, Table 3-6).
 const THREE_BITS: [u8; 16] = [
     0xe0, 0, 0, 0xe0, 0, 0, 0xe0, 0, 0, 0xe0, 0, 0, 0xe0, 0, 0, 0,
 ];
@@ -81,8 +82,9 @@ pub(crate) fn put_threes<C: Unit>(text: &[u8], units: &mut [C], at: usize)
     }
 }
 
-// The upper four bits of a leading byte of four, 1111, at each fourth byte (Unicode Standard, Table 3-6). They are also
-// the mask of the bits by which it is recognized, since all four are set. The other bytes are not looked at.
+// The upper four bits of the leading byte of a character of four bytes, 1111, at each fourth byte (Unicode Standard,
+// Table 3-6). They are also the mask of the bits by which it is recognized, since all four are set. The other bytes are
+// not looked at.
 const FOUR_BITS: [u8; 16] = [0xf0, 0, 0, 0, 0xf0, 0, 0, 0, 0xf0, 0, 0, 0, 0xf0, 0, 0, 0];
 
 /// Returns whether the text begins with four characters of four bytes each.

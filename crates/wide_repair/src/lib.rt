@@ -1,6 +1,6 @@
 //! Counts the characters of UTF-16, repairs units of either width, and makes their lossy text under a policy (Unicode
-//! Standard, section 3.9, "U+FFFD Substitution of Maximal Subparts"). The command `utf8` depends on it without
-//! `wide_unit`, which depends on it too. The loops are vectorized, but for lossy UTF-32.
+//! Standard, section 3.9, "U+FFFD Substitution of Maximal Subparts"). This crate is separate from `wide_unit`, which
+//! depends on it, so that the command `utf8` does not need `wide_unit`. The loops are vectorized, but for lossy UTF-32.
 #![tactic(auto)]
 
 mod compression;

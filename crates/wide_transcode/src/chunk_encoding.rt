@@ -32,8 +32,8 @@ pub(crate) struct ChunkProgress {
     pub(crate) fault: Option<u16>,
 }
 
-// Returns the fault with which the rest of a chunk begins, if it does: a high surrogate before a zero unit. The encoder
-// leaves at most a high surrogate, a zero unit and half a unit, so four bytes are these two units.
+// Returns the fault at the beginning of the rest of a chunk, or `None` if there is none: a high surrogate before a zero
+// unit. The encoder leaves at most a high surrogate, a zero unit and half a unit, so four bytes are these two units.
 fn fault_before_zero(order: BoM, rest: &[u8]) -> Option<u16>
     requires { IsPendingOr order rest.now }
     ensures { HoldsAt order rest.now result }

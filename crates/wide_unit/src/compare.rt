@@ -16,7 +16,7 @@ fn prefix_by_blocks<C: Unit>(left: &[C], right: &[C]) -> usize
     let (left, _) = left.split_at(len);
     let (right, _) = right.split_at(len);
     let mut at = same_blocks(left, right);
-    // In slices of at least one block this is the first difference. Shorter ones are compared unit by unit.
+    // If the slices have at least one block, `at` is the first difference. Shorter slices are compared unit by unit.
     while at < len && left[at].code() == right[at].code() {
         at += 1;
     }

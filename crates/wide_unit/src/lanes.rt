@@ -27,7 +27,8 @@ trait Test<C: Copy, const N: usize>: Copy {
         ensures { result ≡ mask_l (map (passes self) block.now) };
 }
 
-// Given that no unit before the last sixteen passes, returns the index of the first that passes, or the length.
+// Returns the index of the first unit that passes, or the length if there is none. The caller has found that no unit
+// before the last sixteen passes.
 #[inline(always)]
 fn first_in_last_16<T: Test<u16, 16>>(units: &[u16], test: T) -> usize
     requires whole { 16 ≤ length units.now }
@@ -65,7 +66,8 @@ fn first_of_16<T: Test<u16, 16>>(units: &[u16], test: T) -> usize
     units.len()
 }
 
-// Given that no unit before the last eight passes, returns the index of the first that passes, or the length.
+// Returns the index of the first unit that passes, or the length if there is none. The caller has found that no unit
+// before the last eight passes.
 #[inline(always)]
 fn first_in_last_32<T: Test<u32, 8>>(units: &[u32], test: T) -> usize
     requires whole { 8 ≤ length units.now }
@@ -146,7 +148,7 @@ impl Test<u32, 8> for NoScalar {
     }
 }
 
-// Passes the units that are equal to one.
+// Passes the units that are equal to a given unit.
 #[derive(Clone, Copy)]
 struct Same<C> {
     unit: C,

@@ -6,8 +6,8 @@ ghost use Rattle.std.specs.Fmt.{WritesOnOk, WritesStyledOnOk};
 use std::char::EscapeDebug;
 use std::fmt;
 
-// Writes a character, in one write as `write_char` of the formatter does. That one first tests whether its bytes are
-// UTF-8, and is a call wherever the compiler doesn't inline it.
+// Writes a character, in one write as the formatter's `write_char` does. The formatter's call first tests whether the
+// bytes are UTF-8, and is not always inlined.
 #[inline(always)]
 fn write_char<W: fmt::Write>(f: &mut fmt::Formatter<W>, c: char) -> fmt::Result
     ensures styled { WritesStyledOnOk W.write_str_gives f.old result (encode_utf8 c) f.new }

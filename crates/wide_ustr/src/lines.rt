@@ -30,9 +30,10 @@ pub trait LineView: Copy {
     // The characters of the view, and its units that belong to none.
     ghost items_seen: { Self → List Item };
 
-    // The encoding form of its units, and their number.
+    // The encoding form of the view's units.
     ghost form: { EncodingForm };
 
+    // The number of the view's units.
     ghost count: { Self → ℕ };
 
     /// Returns the length in units.

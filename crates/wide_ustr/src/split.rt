@@ -26,9 +26,10 @@ use wide_unit::Unit;
 /// assert!(rt; cut == Some((U16Str::from_slice(&[0x78]), U16Str::from_slice(&[0x31]))));
 /// ```
 pub trait SplitView<P>: Copy {
-    // The numbers of the view's units, and of the separator's.
+    // The numbers of the view's units.
     ghost numbers_seen: { Self → List ℕ };
 
+    // The numbers of the separator's units.
     ghost needle_numbers: { P → List ℕ };
 
     /// Splits the view at the first occurrence of the separator, into what is before it and what is after it. Returns

@@ -1,6 +1,6 @@
 //! Computes the UTF-8 bytes of eight UTF-16 units that are characters (Unicode Standard, section 3.9, D92, Table 3-6).
-//! Vectorized: one SIMD lane for each unit. A lane of sixteen bits holds the first two bytes, and another one the
-//! third.
+//! Vectorized: one SIMD lane for each unit. A lane of sixteen bits holds the first two bytes, and a lane of another
+//! vector holds the third.
 
 ghost use Rattle.std.specs.Prelude.{◌≡◌, ◌+◌, ◌%◌, ◌<◌, ℕ, slice_index};
 ghost use Rattle.wide_utf16_to_utf8.specs.Encoded.{IsLead};

@@ -64,8 +64,8 @@ fn words_of(leads: u16x8, backs: u16x8) -> (u8x16, u8x16)
 }
 
 /// Writes the bytes of eight units, and returns the offset in bytes after them. A unit has up to three bytes: the first
-/// two are in `leads` and the third is in `backs`. It gets as many of them as its key, read as a character, has in
-/// UTF-8. Up to twelve bytes after them may be overwritten.
+/// two are in `leads` and the third is in `backs`. Of these, as many are written as the UTF-8 of the unit's key, read
+/// as a character, is long. Up to twelve bytes after the text may be overwritten.
 ///
 /// # Requires
 ///

@@ -201,7 +201,7 @@ impl<C, A: Allocator> From<ContainsNul<C, A>> for NulError<C, A> {
 pub enum UCStringError<C, A: Allocator = Global> {
     /// There is a NUL before the last unit, or anywhere for a call that allows no NUL.
     ContainsNul(ContainsNul<C, A>),
-    /// An allocation failed. It holds the vector if one was passed in.
+    /// An allocation failed. The error holds the vector if one was passed in.
     OutOfMemory(Option<Vec<C, A>>),
 }
 

@@ -21,9 +21,10 @@ use wide_unit::{Unit, write_escape};
 
 // One of the three ways to escape a character. Rattle's standard library has one type for the escapes of all three.
 trait Escaping {
-    // The escape of a character, and for which characters the contract specifies it.
+    // The escape of a character.
     ghost escaped: { ℕ → List ℕ };
 
+    // Whether the contract specifies the escape of a character.
     ghost is_specified: { ℕ → Bool };
 
     // Returns the escape of a character.
@@ -59,7 +60,8 @@ impl Escaping for AsDefault {
     }
 }
 
-// Escapes like [`char::escape_debug`]. The standard library's contract specifies it for ASCII characters only.
+// Escapes each character as [`char::escape_debug`] does. The standard library's contract specifies it for ASCII
+// characters only.
 struct AsDebug;
 
 impl Escaping for AsDebug {
@@ -120,7 +122,7 @@ impl<'a, C: Unit> Escapes<'a, C> {
         }
     }
 
-    // Returns the next character, with the characters that were not read yet escaped as `E` does it.
+    // Returns the next character of what was not read yet, as `E` escapes it.
     fn next<E: Escaping>(&mut self) -> Option<char>
         ensures first { list_all E.is_specified (escapes_rest self.old) ≡ true → YieldsFirst (escapes_left E.escaped) self.old result self.new }
         ensures reported { list_all E.is_specified (escapes_rest self.old) ≡ true → list_all E.is_specified (escapes_rest self.new) ≡ true }
@@ -141,7 +143,7 @@ impl<'a, C: Unit> Escapes<'a, C> {
         first
     }
 
-    // Writes the characters that were not read yet, escaped as `E` does it. It ignores the format options.
+    // Writes what was not read yet, as `E` escapes it. It ignores the format options.
     fn write<E: Escaping, W: fmt::Write>(&self, f: &mut fmt::Formatter<W>) -> fmt::Result
         ensures writes { list_all E.is_specified (escapes_rest self.now) ≡ true → WritesOnOk W.write_str_gives f.old result (utf8 (escapes_left E.escaped self.now)) f.new }
         ensures styled { list_all E.is_specified (escapes_rest self.now) ≡ true → WritesStyledOnOk W.write_str_gives f.old result (utf8 (escapes_left E.escaped self.now)) f.new }
@@ -153,7 +155,7 @@ impl<'a, C: Unit> Escapes<'a, C> {
         Ok(())
     }
 
-    // Writes the characters that were not read yet, escaped as `E` does it, between quotes.
+    // Writes what was not read yet, as `E` escapes it, between quotes.
     fn write_quoted<E: Escaping, W: fmt::Write>(&self, f: &mut fmt::Formatter<W>) -> fmt::Result
         ensures { list_all E.is_specified (escapes_rest self.now) ≡ true → WritesOnOk W.write_str_gives f.old result (in_quotes (utf8 (escapes_left E.escaped self.now))) f.new }
     {

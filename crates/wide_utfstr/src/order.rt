@@ -33,8 +33,8 @@ impl<C: Unit> UtfStr<'_, C> {
     /// Compares two texts by the code points of their characters, as UTF-8 and UTF-32 are ordered. `<` and `cmp` compare
     /// units, which in UTF-16 puts characters past U+FFFF, whose first unit is a surrogate, before U+E000 to U+FFFF.
     ///
-    /// What the texts have in common at their beginning is passed in vectors. Of what follows, only the first character
-    /// is decoded.
+    /// The prefix that both texts share is passed in SIMD lanes. Of what follows it, only the first character is
+    /// decoded.
     ///
     /// # Example
     ///
@@ -51,7 +51,8 @@ impl<C: Unit> UtfStr<'_, C> {
     {
         let shared = common_prefix(self.as_slice(), other.as_slice());
         let at = self.floor_char_boundary(shared);
-        // A boundary of one text within what both share is one of the other too. This test takes the place of a proof.
+        // Within the prefix that both texts share, a boundary of one is a boundary of the other. The test saves a proof
+        // of that.
         if !other.is_char_boundary(at) {
             return compare_chars(self, other);
         }

@@ -137,9 +137,8 @@ impl<C: FaultUnit, A: Allocator> UtfString<C, A> {
     }
 
     /// Makes well-formed text of the units of a view. The [`Policy`] determines what replaces the units that belong to
-    /// no character. If the units are well formed, returns a
-    /// view of them, without allocating. Otherwise returns a string with capacity for as many units as there are, and
-    /// allocates once.
+    /// no character. If the units are well formed, returns a view of them, without allocating. Otherwise returns a
+    /// string with capacity for as many units as there are, and allocates once.
     ///
     /// # Errors
     ///

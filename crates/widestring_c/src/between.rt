@@ -9,11 +9,12 @@ use wide_forms::Progress;
 use wide_from_units::between_forms_prefix;
 use wide_unit::{Unit, find_fault};
 
-// The size of the array, in units, that the converted units of a short input are copied from. A small array takes less
-// time to clear.
+// The size of the array, in units, that the converted units of an input of at most as many units are copied from. A
+// small array takes less time to clear.
 const FEW: usize = 32;
 
-// The size of the array, in units, that the converted units of a longer input are copied from: 48 steps of sixteen.
+// The size of the array, in units, that the converted units of an input of more than `FEW` units are copied from: 48
+// steps of sixteen.
 const MANY: usize = 48 * 16;
 
 // Converts well-formed units to units of another width, chunk by chunk, at the start of the buffer. Returns how many

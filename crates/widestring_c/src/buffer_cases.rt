@@ -93,11 +93,13 @@ impl Way {
     }
 }
 
-// The calls that follow each policy.
+// The calls that are compared with the lossy text under the policy `Each`.
 static CALLS_OF_EACH: [Way; 4] = [Way::By(Some(0)), Way::Strict, Way::Lossy, Way::By(None)];
 
+// The calls that are compared with the lossy text under the policy `Run`.
 static CALLS_OF_RUN: [Way; 1] = [Way::By(Some(1))];
 
+// The calls that are compared with the lossy text under the policy `Skip`.
 static CALLS_OF_SKIP: [Way; 1] = [Way::By(Some(2))];
 
 // How long a buffer is: it fits exactly, is one element shorter, or five elements longer.

@@ -180,8 +180,9 @@ pub extern "C" fn wide_utf8_to_utf16_lossy(text: &[u8], units: &mut [u16]) -> us
     put_lossy_16(text, Policy::Each, units)
 }
 
-/// Converts any bytes to UTF-32. It writes U+FFFD for each maximal subpart of an ill-formed sequence, like
-/// `wide_utf8_to_utf16_lossy`.
+/// Converts any bytes to UTF-32. It writes U+FFFD for each maximal subpart of an ill-formed sequence: the longest
+/// prefix that begins a character of UTF-8 but does not continue as one, or a byte that begins none (Unicode Standard,
+/// section 3.9, "U+FFFD Substitution of Maximal Subparts").
 ///
 /// Returns how many units the result has. If `units` is at least that long, the result is at its start, and the units
 /// after the result are unchanged.

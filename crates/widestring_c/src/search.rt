@@ -80,7 +80,7 @@ pub extern "C" fn wide_utf32_first_nul(units: &[u32]) -> usize
     first_nul(units).unwrap_or(units.len())
 }
 
-/// Returns the offset of the first unit of UTF-16 that equals this one, or the length if there is none.
+/// Returns the offset of the first unit of UTF-16 that equals `unit`, or the length if there is none.
 #[unsafe(no_mangle)]
 pub extern "C" fn wide_utf16_find_unit(units: &[u16], unit: u16) -> usize
     ensures first { result < length units.now → IsFirstAt (unit ∷ []) units.now result }
@@ -100,7 +100,7 @@ pub extern "C" fn wide_utf16_find(units: &[u16], part: &[u16]) -> usize
     find(units, part).unwrap_or(usize::MAX)
 }
 
-/// Returns the offset of the first unit of UTF-32 that equals this one, or the length if there is none.
+/// Returns the offset of the first unit of UTF-32 that equals `unit`, or the length if there is none.
 #[unsafe(no_mangle)]
 pub extern "C" fn wide_utf32_find_unit(units: &[u32], unit: u32) -> usize
     ensures first { result < length units.now → IsFirstAt (unit ∷ []) units.now result }

@@ -92,11 +92,19 @@ pub fn command<S: ByteSource, K: ByteSink, F: ByteSink>(
     // A successful run writes nothing to the fault stream.
     ensures quiet { result ≡ 0 → faults.new ≡ faults.old }
 
-    // With other arguments nothing is read, and only the usage message is written.
+    // With arguments that are not those of `utf8` nothing is read.
     ensures reads { AsksForNoUtf8 words.now → source.new ≡ source.old }
+
+    // Arguments that are not those of `utf8` are a usage error.
     ensures unknown { AsksForNoUtf8 words.now → result ≡ 2 }
+
+    // After a usage error nothing was written to the sink.
     ensures wrong { result ≡ 2 → sink.new ≡ sink.old }
+
+    // After a usage error the fault stream got the usage message, or a prefix of it.
     ensures usage { result ≡ 2 → Says (F.held faults.old) (F.held faults.new) USAGE.now }
+
+    // The status is at most 2.
     ensures statuses { result ≤ 2 }
 {
     match parse_utf8(words) {

@@ -88,27 +88,39 @@ pub fn command<S: ByteSource, K: ByteSink, F: ByteSink>(
     // nothing else.
     ensures edit { AsksForEdits words.now → result ≡ 0 → WritesEdits words.now (K.held sink.old) (K.held sink.new) }
 
-    // If the sink fails, it got a prefix of these lines, and the status is 1.
+    // The subcommand `ends`: if the sink fails, it got a prefix of the lines for the units and the calls.
     ensures ends_begun { AsksForEnds words.now → K.has_failed sink.new ≡ true → WritesEndsInPart words.now (K.held sink.old) (K.held sink.new) }
+
+    // The subcommand `edit`: if the sink fails, it got a prefix of the lines of the edits.
     ensures edit_begun { AsksForEdits words.now → K.has_failed sink.new ≡ true → WritesEditsInPart words.now (K.held sink.old) (K.held sink.new) }
+
+    // If the sink fails, the status is 1.
     ensures sink_failed { K.has_failed sink.new ≡ true → result ≡ 1 }
 
-    // The other subcommands read nothing, and after a usage error only the usage message is written.
+    // The subcommands other than `utf8` read nothing.
     ensures reads { AsksForNoUtf8 words.now → source.new ≡ source.old }
+
+    // Arguments that name no subcommand are a usage error.
     ensures unknown { IsUnknown words.now → result ≡ 2 }
+
+    // After a usage error nothing was written to the sink.
     ensures wrong { result ≡ 2 → sink.new ≡ sink.old }
 
     // Arguments that ask for a request are not a usage error.
     ensures asked { (request : Request) → IsOfTypes request → IsAskedBy words.now request → result ≢ 2 }
 
-    // The other subcommands make all output before they write any: after an error nothing is written, unless the output
-    // itself failed.
+    // The subcommands other than `utf8` make all output before they write any: after an error nothing is written,
+    // unless the output itself failed.
     ensures whole { AsksForNoUtf8 words.now → result ≡ 1 → K.has_failed sink.new ≡ false → sink.new ≡ sink.old }
 
-    // The message of an error says that the output failed, or else that memory ran out. After a usage error it is the
-    // usage message.
+    // The subcommands other than `utf8`: the message of an error says that the output failed, or else that memory ran
+    // out.
     ensures failure { AsksForNoUtf8 words.now → result ≡ 1 → Says (F.held faults.old) (F.held faults.new) (transcode_error_text (failure_of (K.has_failed sink.new))) }
+
+    // After a usage error the fault stream got the usage message, or a prefix of it.
     ensures usage { result ≡ 2 → Says (F.held faults.old) (F.held faults.new) USAGE.now }
+
+    // The status is at most 2.
     ensures statuses { result ≤ 2 }
 {
     if let Some(policy) = parse_utf8(words) {
