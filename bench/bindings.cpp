@@ -41,8 +41,8 @@ template <class InC, class InCpp> void race(const char *call, const char *kind, 
     std::printf("%-16s %-22s %8zu units %10.0f ns %6.2f\n", call, kind, length, best_c, best_cpp / best_c);
 }
 
-// Words of two to ten letters: of ASCII, or half of them Chinese and the others with a sixth of their letters beyond
-// ASCII.
+// Returns words of two to ten letters: of ASCII, or half of them Chinese and the others with a sixth of their letters
+// beyond ASCII.
 std::u16string made(std::size_t length, bool is_mixed) {
     std::mt19937 numbers(2);
     const auto below = [&](unsigned bound) { return static_cast<unsigned>(numbers()) % bound; };

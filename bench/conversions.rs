@@ -51,7 +51,7 @@ impl<From, To: Clone> Conversion<From, To> {
 
 pub const TO_UTF8: Conversion<u16, u8> = Conversion {
     name: "UTF-16 to UTF-8",
-    // Each slice is memory of its length that may be read or written, here and below.
+    // In this and the other conversions, each slice is memory of its length that may be read or written.
     library: |units, text| unsafe { wide_utf16_to_utf8(units.as_ptr(), units.len(), text.as_mut_ptr(), text.len()) },
     rust_crate: |units, _| Some(Cow::Owned(U16Str::from_slice(units).to_string().ok()?.into_bytes())),
     std: |units, _| Some(Cow::Owned(String::from_utf16(units).ok()?.into_bytes())),
@@ -194,7 +194,7 @@ mod encoding {
     use encoding_rs::mem;
     use std::borrow::Cow;
 
-    /// Its one conversion is lossy, so a strict one validates first.
+    /// The one conversion of encoding_rs is lossy, so a strict one validates first.
     pub fn to_utf8<'a>(units: &[u16], text: &'a mut [u8]) -> Option<Cow<'a, [u8]>> {
         if mem::utf16_valid_up_to(units) == units.len() {
             to_utf8_lossy(units, text)
@@ -218,7 +218,7 @@ mod encoding {
         Some(Cow::Borrowed(&units[..length]))
     }
 
-    /// It repairs in place, so the units are copied first.
+    /// encoding_rs repairs in place, so the units are copied first.
     pub fn repaired<'a>(units: &[u16], buffer: &'a mut [u16]) -> Option<Cow<'a, [u16]>> {
         let repaired = &mut buffer[..units.len()];
         repaired.copy_from_slice(units);

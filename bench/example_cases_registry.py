@@ -250,7 +250,7 @@ INPUTS = [
     lines('@="', "[no key]", '"', '"t"="a\rb\nc"', '@=""'),
     lines("; no value", "[K\\[x]]", '"a\\\\b\\"c"="\U0001f41f \\"d\\\\"', "@=dword:1f"),
     lines('@=hex(2):41,00,0a,00,22,00,3d,d8,00,\\', "  00,5C", '"w"=hex(8000000a):0A'),
-    # A value that is cut off, and what follows it.
+    # A value that is cut off, and other lines after it.
     lines('"x"=hex:01,02,\\', "[K2]", '"y"="1"'),
     lines('"x"=hex:00,01,\\', '"y"=hex:02,\\', "@=-", '"z"=hex:03,\\', "", '"w"=hex:04,\\', "; 05"),
     lines('"x"=hex:00,01,\\', "  02,\\"),

@@ -254,7 +254,7 @@ INPUTS = [
 ]
 
 
-# Random questions.
+# Random inputs.
 
 VALID = ["", "a", "Zoë", "深", "🌊", "\0", '"', "\\", "\n", "\ufeff", "\u200b", "\ufffd", "\u0301", "\uffff", "\x85"]
 TEXTS = [*VALID * 8, "\ud83d", "\udc00"]

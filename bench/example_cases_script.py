@@ -6,7 +6,7 @@ import os
 NAMES = ["string", "indexOf", "isWellFormed", "toWellFormed", "codePointAt", "slice", "insert", "remove", "replace"]
 USAGE = b"usage: script FILE\n"
 ESCAPES = {"\0": "\\0", "\t": "\\t", "\r": "\\r", "\n": "\\n", "'": "\\'", '"': '\\"', "\\": "\\\\"}
-# Characters of questions that are not printed as they are.
+# Characters of random inputs that are not printed as they are.
 HIDDEN = "\x7f\u00ad\u0301\u200b"
 
 

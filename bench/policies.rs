@@ -12,9 +12,11 @@ extern "C" {
     fn wide_utf32_to_utf8_lossy_with(units: *const u32, length: usize, policy: u32, text: *mut u8, capacity: usize) -> usize;
 }
 
-/// U+FFFD for each fault, for each run of them, or for none.
+/// The policy that writes U+FFFD for each fault.
 const EACH: u32 = 0;
+/// The policy that writes one U+FFFD for each run of faults.
 const RUN: u32 = 1;
+/// The policy that writes nothing for faults.
 const SKIP: u32 = 2;
 /// A number that is not a policy.
 const OTHER: u32 = 3;

@@ -50,7 +50,8 @@ pub fn ascii(length: usize) -> Vec<u16> {
     text(length, || random.char_of(0x20, 95))
 }
 
-/// Words of two to ten letters, half of the words Chinese, the others with a sixth of their letters beyond ASCII.
+/// Returns words of two to ten letters: half of the words are Chinese, the others have a sixth of their letters beyond
+/// ASCII.
 pub fn european_and_chinese(length: usize) -> Vec<u16> {
     let mut random = Random::new(2);
     let (mut left, mut is_chinese) = (0, false);
@@ -74,13 +75,13 @@ pub fn chinese(length: usize) -> Vec<u16> {
     text(length, || random.chinese())
 }
 
-/// About every sixth character is a space.
+/// Returns Cyrillic letters. About every sixth character is a space.
 pub fn cyrillic(length: usize) -> Vec<u16> {
     let mut random = Random::new(3);
     text(length, || if random.below(6) == 0 { ' ' } else { random.char_of(0x410, 64) })
 }
 
-/// Every twentieth character is an emoji, a fourth of the others Chinese.
+/// Returns a text in which every twentieth character is an emoji, and a fourth of the others are Chinese.
 pub fn emoji_of_20(length: usize) -> Vec<u16> {
     let mut random = Random::new(4);
     let mut index = 0;

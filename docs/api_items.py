@@ -53,7 +53,7 @@ def first_sentence(doc):
 
 
 def markdown_of(doc):
-    """Returns a doc comment as it stands, its headings as words in bold, and its examples as Rust."""
+    """Returns a doc comment as it is, with its headings in bold, and its examples as Rust."""
     text = "\n".join(re.sub(r"^#+ (.*)", r"**\1**", line) for line in doc)
     return re.sub(r"^```\n(.*?)^```$", r"```rust\n\1```", text, flags=re.M | re.S)
 
@@ -78,12 +78,12 @@ def clause_text(clause):
 
 @functools.lru_cache(maxsize=None)
 def known_words():
-    """Returns the words that have a page: the crate, the file and the name of each definition."""
+    """Returns the terms that have a page: the crate, the file and the name of each definition."""
     return {(it.crate, it.file, name) for it in definitions.definition_files() for name in it.names}
 
 
 def definitions_used(clauses, words):
-    """Returns the line that links the words of clauses which the library defines."""
+    """Returns the line that links the terms of clauses which the library defines."""
     known = known_words()
     used = {word: words[word] for clause in clauses for word in re.findall(r"[^\s(){},.]+", clause) if word in words}
     listed = sorted((word, origin) for word, origin in used.items() if origin in known)
@@ -92,7 +92,7 @@ def definitions_used(clauses, words):
 
 
 def renamed(word, origin):
-    """Returns what a word is called where it is defined, if a contract calls it otherwise."""
+    """Returns what a term is called where it is defined, if a contract calls it otherwise."""
     return f" (there `{origin[2]}`)" if word != origin[2] else ""
 
 

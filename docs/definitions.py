@@ -26,7 +26,7 @@ class Definition(typing.NamedTuple):
 
 class DefinitionFile(typing.NamedTuple):
     """A file of definitions, by the name that `widestring` gives it: where it is, what its first comment says, its
-    names in order, its definitions, and where the words in them come from."""
+    names in order, its definitions, and where the terms in them come from."""
 
     name: str
     crate: str
@@ -101,7 +101,7 @@ def definition_files():
             sys.exit(f"docs/definitions.py: {listed} of {crate}/specs/{file}.antt are in no definition")
         comment = " ".join(line[3:] for line in lines[:first])
         words = {word: origin for line in lines for word, origin in words_of(line).items()}
-        # Fields are left out: a word of such a name is more often a variable.
+        # Fields are left out: the name of a field is more often a variable.
         words |= {it.name: (crate, file, it.name) for it in own}
         words |= {part: (crate, file, part) for it in own for part in it.parts if part[0].isupper()}
         found.append(DefinitionFile(name or file, crate, file, comment, names, own, words))

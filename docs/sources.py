@@ -57,7 +57,7 @@ class Entry(typing.NamedTuple):
     """A heading, a type, a call, a constant or a ghost member of a file.
 
     `kind` is `owner`, `type`, `call`, `const` or `ghost`. `more` holds the clauses of a call, or what a type derives.
-    `words` says where the words of clauses come from.
+    `words` says where the terms of clauses come from.
     """
 
     kind: str
@@ -296,7 +296,7 @@ class Reader:
         self.doc, self.notes, self.derives = [], [], ""
         # The heading of the impl or trait that the line is in, or was in if only functions of no type follow.
         self.owner, self.is_inside, self.is_public = "", False, False
-        # Where the words of clauses come from: those of the whole file, and those of the impl or trait alone.
+        # Where the terms of clauses come from: those of the whole file, and those of the impl or trait alone.
         self.words, self.words_inside = {}, {}
 
     def read(self):
@@ -387,8 +387,8 @@ class Reader:
 
 
 def words_of(line):
-    """Returns where the words come from that a `use` line of definitions imports: the crate, the file of definitions and
-    the name there of each, by the name that it has here."""
+    """Returns where the terms come from that a `use` line of definitions imports: the crate, the file of definitions and
+    the name there of each, by the name that it has in the file."""
     found = re.match(r"\s*(?:ghost )?use Rattle\.(\w+)\.specs\.([\w.]+)\.\{(.*)\};?$", line)
     pairs = (name.strip().partition(" as ") for name in found[3].split(",")) if found else ()
     return {new or name: (found[1], found[2], name) for name, _, new in pairs}

@@ -111,8 +111,8 @@ void set_length(std::wstring &string, std::size_t length);
 void set_length(std::u16string &string, std::size_t length);
 void set_length(std::u32string &string, std::size_t length);
 /*
- * Only declarations, since a program may define an instantiation only once. The friend is not a member, and each file
- * defines it, as it is inline.
+ * Declares the instantiations, and does not define them, since a program may define each only once. The friend
+ * `set_length` is not a member: each file defines it, as an inline function.
  */
 extern template struct SetLength<std::string, &std::string::_M_set_length>;
 extern template struct SetLength<std::wstring, &std::wstring::_M_set_length>;
@@ -200,7 +200,7 @@ inline std::uint32_t *elements(wchar_t *text) noexcept {
     return reinterpret_cast<std::uint32_t *>(text);
 }
 
-/* The type that views elements of this type. Numbers that are not characters only have spans. */
+/* The type that views elements of this type. Numbers that are not characters have spans only. */
 template <class Char> struct ViewOf {
     using Type = std::basic_string_view<Char>;
 };
@@ -423,7 +423,7 @@ template <class Put> std::optional<std::string> by_two_calls(Units<std::uint8_t>
 
 /*
  * Returns bytes of other types as a view of char, which may refer to elements of any type. Numbers of 16 and 32 bits
- * are only read as spans.
+ * are read as spans only.
  */
 #ifdef __cpp_lib_span
 inline std::string_view view(std::span<const std::uint8_t> text) noexcept {
@@ -517,8 +517,8 @@ inline std::optional<std::size_t> first_nul(Utf32Units units) noexcept {
 }
 
 /*
- * Returns the offset of the first unit that equals this one, or the first offset of a needle, or std::nullopt if there
- * is none. An empty needle occurs at offset 0.
+ * Returns the offset of the first unit that equals `unit`, or of the first occurrence of the needle, or std::nullopt if
+ * there is none. An empty needle occurs at offset 0.
  */
 inline std::optional<std::size_t> find(Utf16Units units, char16_t unit) noexcept {
     return detail::unless(units.size, wide_utf16_find_unit(units.data, units.size, unit));

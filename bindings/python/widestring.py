@@ -40,10 +40,11 @@ _NAME = "libwidestring.so.0.1"
 _SAMPLE = 128
 # What a function returns if it has no number to report.
 _NONE = ctypes.c_size_t(-1).value
-# The formats of buffer elements that are bytes, and of those that are units, by their size, after the prefixes of
-# native byte order.
+# The formats of buffer elements that are bytes.
 _BYTES = ("B", "b", "c")
+# The formats of buffer elements that are units, by their size.
 _UNITS = {1: (), 2: ("H",), 4: ("I", "L", "u", "w")}
+# The prefixes of formats in native byte order.
 _OWN_ORDER = ("@", "=", "<")
 # The types of texts and buffers, which are bytes objects, of lengths and offsets, and of units and other numbers.
 _TEXT, _SIZE, _U16, _U32 = ctypes.c_char_p, ctypes.c_size_t, ctypes.c_uint16, ctypes.c_uint32
@@ -94,7 +95,8 @@ _SIGNATURES = {
 
 
 class Fault(ValueError):
-    r"""Reports ill-formed text: the error of strict conversions. As a ValueError it is caught with those for arguments.
+    r"""Reports ill-formed text: the error of strict conversions. It is a ValueError, as is the error of an invalid
+    argument.
 
     `offset` is the offset of the first ill-formed sequence, in bytes of UTF-8, or in units of UTF-16 or UTF-32. For
     UTF-16 in bytes it counts units.
@@ -213,8 +215,8 @@ def _buffer(count, width):
 
 
 def _is_read_as(width, view):
-    """Returns whether the elements of a buffer are bytes, or units of this size. Those of an empty array of ctypes
-    have no size before 3.10."""
+    """Returns whether the elements of a buffer are bytes, or units of this size. Elements of an empty array of
+    ctypes have no size before Python 3.10."""
     code = view.format[1:] if view.format[:1] in _OWN_ORDER else view.format
     return (code in _BYTES and view.itemsize in (0, 1)) or (code in _UNITS[width] and view.itemsize in (0, width))
 
@@ -234,7 +236,7 @@ def _elements(data, width):
 
 
 def _number(call, data, width, *more):
-    """Returns the number that a function returns, or None for the number that stands for nothing."""
+    """Returns the number that a function returns, or None if it has no number to report."""
     data, length = _elements(data, width)
     result = call(data, length, *more)
     return None if result == _NONE else result
@@ -433,7 +435,7 @@ def utf16_char_count(units):
 
 
 def utf32_char_count(units):
-    """Returns how many characters the units have, or None if they are ill-formed. It is the number of units.
+    """Returns how many characters the units have, or None if they are ill-formed. Each unit is a character.
 
     Raises:
         TypeError: `units` is neither bytes nor a buffer of bytes or of units of 32 bits.

@@ -86,7 +86,7 @@ fn name_in(folder: &Path) -> Option<&'static str> {
 }
 
 /// Warns that no folder has the library, and passes the reason on to `lib.rs`, where it is an error for all but
-/// documentation. As files are watched that do not exist, the next build looks again.
+/// documentation. It also watches files that do not exist, so the next build looks again.
 fn report_missing(folders: &[PathBuf]) {
     let why = format!("no library of widestring in {folders:?}: set WIDESTRING_LIB_DIR, or run ./prove widestring_c in the repository");
     for folder in folders {

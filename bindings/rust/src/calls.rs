@@ -40,8 +40,8 @@ pub fn version() -> u32 {
     unsafe { raw::wide_version() }
 }
 
-/// Checks once that the linked library has this crate's version, since other versions may have other functions with
-/// these names.
+/// Checks once that the linked library has this crate's version, since another version may have other functions of the
+/// same names.
 fn check_version() {
     if !IS_OWN.load(Ordering::Relaxed) {
         compare_version();
@@ -60,8 +60,8 @@ fn compare_version() {
     IS_OWN.store(true, Ordering::Relaxed);
 }
 
-/// Returns a result that is at most what a text of this length can have. Panics for a greater one, which only a broken
-/// library returns, before anything is read by it.
+/// Returns the result if it is at most `most`, the greatest that a text can have. Panics if it is greater, before
+/// anything is read by it: only a broken library returns such a result.
 fn within(most: usize, result: usize) -> usize {
     assert!(
         result <= most,
@@ -141,7 +141,8 @@ pub const UTF32_SEARCH: Search<u32> = Search {
 };
 
 /// Returns a vector with what the call writes. The call gets a pointer and a capacity, and returns the length, which is
-/// at most `most`. If the first capacity is too small, it is called again. Returns `None` if the call returns a fault.
+/// at most `most`. If the first capacity is too small, the call is made again. Returns `None` if the call returns a
+/// fault.
 ///
 /// # Safety
 ///

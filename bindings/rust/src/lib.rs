@@ -295,7 +295,7 @@ pub fn utf16_char_count(units: &[u16]) -> Option<usize> {
     calls::UTF16_CHAR_COUNT.count(units)
 }
 
-/// Returns how many characters UTF-32 has, or `None` if it is ill-formed. It is the number of units.
+/// Returns how many characters UTF-32 has, or `None` if it is ill-formed. Each unit is a character.
 ///
 /// # Panics
 ///
@@ -332,8 +332,8 @@ pub fn utf32_first_nul(units: &[u32]) -> Option<usize> {
     calls::UTF32_FIRST_NUL.offset(units)
 }
 
-/// Returns the offset, in units, of the first unit of UTF-16 that equals this one, or `None` if there is none. Units
-/// are compared as numbers, also if they are ill-formed.
+/// Returns the offset, in units, of the first unit of UTF-16 that equals `unit`, or `None` if there is none. Units are
+/// compared as numbers, also if they are ill-formed.
 ///
 /// # Panics
 ///
@@ -351,8 +351,8 @@ pub fn utf16_find_unit(units: &[u16], unit: u16) -> Option<usize> {
     calls::UTF16_SEARCH.unit(units, unit)
 }
 
-/// Returns the offset, in units, of the first unit of UTF-32 that equals this one, or `None` if there is none. Units
-/// are compared as numbers, also if they are not scalar values.
+/// Returns the offset, in units, of the first unit of UTF-32 that equals `unit`, or `None` if there is none. Units are
+/// compared as numbers, also if they are not scalar values.
 ///
 /// # Panics
 ///
@@ -643,12 +643,12 @@ pub fn utf32_repair(units: &[u32]) -> Vec<u32> {
 }
 
 /// Converts well-formed UTF-16 to UTF-8, writes the result to the start of the buffer, and returns its length in bytes.
-/// The bytes after it are unchanged. An empty buffer can be used to get the length.
+/// The bytes after the result are unchanged. An empty buffer can be used to get the length.
 ///
 /// # Errors
 ///
 /// [`IntoError::Fault`] if the units are ill-formed; the buffer is unchanged. [`IntoError::Short`], with the needed
-/// length in bytes, if the buffer is shorter than the result; its content is unspecified.
+/// length in bytes, if the buffer is shorter than the result; the content of the buffer is unspecified.
 ///
 /// # Panics
 ///
@@ -671,12 +671,12 @@ pub fn utf16_to_utf8_into(units: &[u16], buffer: &mut [u8]) -> Result<usize, Int
 }
 
 /// Converts well-formed UTF-32 to UTF-8, writes the result to the start of the buffer, and returns its length in bytes.
-/// The bytes after it are unchanged. An empty buffer can be used to get the length.
+/// The bytes after the result are unchanged. An empty buffer can be used to get the length.
 ///
 /// # Errors
 ///
 /// [`IntoError::Fault`] if the units are ill-formed; the buffer is unchanged. [`IntoError::Short`], with the needed
-/// length in bytes, if the buffer is shorter than the result; its content is unspecified.
+/// length in bytes, if the buffer is shorter than the result; the content of the buffer is unspecified.
 ///
 /// # Panics
 ///
@@ -686,12 +686,12 @@ pub fn utf32_to_utf8_into(units: &[u32], buffer: &mut [u8]) -> Result<usize, Int
 }
 
 /// Converts well-formed UTF-8 to UTF-16, writes the result to the start of the buffer, and returns its length in units.
-/// The units after it are unchanged. An empty buffer can be used to get the length.
+/// The units after the result are unchanged. An empty buffer can be used to get the length.
 ///
 /// # Errors
 ///
 /// [`IntoError::Fault`] if the bytes are ill-formed; the buffer is unchanged. [`IntoError::Short`], with the needed
-/// length in units, if the buffer is shorter than the result; its content is unspecified.
+/// length in units, if the buffer is shorter than the result; the content of the buffer is unspecified.
 ///
 /// # Panics
 ///
@@ -711,12 +711,12 @@ pub fn utf8_to_utf16_into(text: &[u8], buffer: &mut [u16]) -> Result<usize, Into
 }
 
 /// Converts well-formed UTF-8 to UTF-32, writes the result to the start of the buffer, and returns its length in units.
-/// The units after it are unchanged. An empty buffer can be used to get the length.
+/// The units after the result are unchanged. An empty buffer can be used to get the length.
 ///
 /// # Errors
 ///
 /// [`IntoError::Fault`] if the bytes are ill-formed; the buffer is unchanged. [`IntoError::Short`], with the needed
-/// length in units, if the buffer is shorter than the result; its content is unspecified.
+/// length in units, if the buffer is shorter than the result; the content of the buffer is unspecified.
 ///
 /// # Panics
 ///
@@ -726,11 +726,12 @@ pub fn utf8_to_utf32_into(text: &[u8], buffer: &mut [u32]) -> Result<usize, Into
 }
 
 /// Converts any UTF-16 to UTF-8 under a policy, writes the result to the start of the buffer, and returns its length in
-/// bytes. The bytes after it are unchanged. An empty buffer can be used to get the length.
+/// bytes. The bytes after the result are unchanged. An empty buffer can be used to get the length.
 ///
 /// # Errors
 ///
-/// [`Short`], with the needed length in bytes, if the buffer is shorter than the result; its content is unspecified.
+/// [`Short`], with the needed length in bytes, if the buffer is shorter than the result; the content of the buffer is
+/// unspecified.
 ///
 /// # Panics
 ///
@@ -754,11 +755,12 @@ pub fn utf16_to_utf8_lossy_into(
 }
 
 /// Converts any UTF-32 to UTF-8 under a policy, writes the result to the start of the buffer, and returns its length in
-/// bytes. The bytes after it are unchanged. An empty buffer can be used to get the length.
+/// bytes. The bytes after the result are unchanged. An empty buffer can be used to get the length.
 ///
 /// # Errors
 ///
-/// [`Short`], with the needed length in bytes, if the buffer is shorter than the result; its content is unspecified.
+/// [`Short`], with the needed length in bytes, if the buffer is shorter than the result; the content of the buffer is
+/// unspecified.
 ///
 /// # Panics
 ///
@@ -772,14 +774,15 @@ pub fn utf32_to_utf8_lossy_into(
 }
 
 /// Converts any bytes to UTF-16 under a policy, writes the result to the start of the buffer, and returns its length in
-/// units. The units after it are unchanged. An empty buffer can be used to get the length.
+/// units. The units after the result are unchanged. An empty buffer can be used to get the length.
 ///
 /// It replaces maximal subparts of ill-formed sequences of UTF-8: the longest prefix that begins a character but does
 /// not continue as one, or a byte that begins none.
 ///
 /// # Errors
 ///
-/// [`Short`], with the needed length in units, if the buffer is shorter than the result; its content is unspecified.
+/// [`Short`], with the needed length in units, if the buffer is shorter than the result; the content of the buffer is
+/// unspecified.
 ///
 /// # Panics
 ///
@@ -793,14 +796,15 @@ pub fn utf8_to_utf16_lossy_into(
 }
 
 /// Converts any bytes to UTF-32 under a policy, writes the result to the start of the buffer, and returns its length in
-/// units. The units after it are unchanged. An empty buffer can be used to get the length.
+/// units. The units after the result are unchanged. An empty buffer can be used to get the length.
 ///
 /// It replaces maximal subparts of ill-formed sequences of UTF-8: the longest prefix that begins a character but does
 /// not continue as one, or a byte that begins none.
 ///
 /// # Errors
 ///
-/// [`Short`], with the needed length in units, if the buffer is shorter than the result; its content is unspecified.
+/// [`Short`], with the needed length in units, if the buffer is shorter than the result; the content of the buffer is
+/// unspecified.
 ///
 /// # Panics
 ///

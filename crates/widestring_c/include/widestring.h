@@ -49,8 +49,8 @@ uint32_t wide_version(void);
 
 /*
  * What wide_utf16_find and wide_utf32_find return if the needle does not occur, and what wide_utf16_first_fault_item
- * and wide_utf32_first_fault_item return if the text is well formed. The searches for a NUL or for one unit
- * return `length` if there is none. WIDE_NOT_FOUND is the same number as WIDE_FAULT; no function returns both.
+ * and wide_utf32_first_fault_item return if the text is well formed. The searches for a NUL or for one unit return
+ * `length` if there is none. WIDE_NOT_FOUND is the same number as WIDE_FAULT; no function returns both.
  */
 #define WIDE_NOT_FOUND SIZE_MAX
 
